@@ -1,7 +1,7 @@
 -- Varints, pieces of one length, and rows of them: read exactly where they stand.
-use Rattle.std.proofs.Common.{◌≡◌, ◌↔◌, ℕ, ◌≤◌, ◌<◌, ◌⊎◌, inl, inr, ⊎_elim, List, ◌++◌, length, flat_map, Ok, Err, subst, sym, ap, ◌∙◌, refl, arith}
+use Rattle.std.proofs.Common.{◌≡◌, ◌↔◌, ℕ, ◌≤◌, ◌<◌, ◌⊎◌, inl, inr, ⊎_elim, List, ◌++◌, length, flat_map, Ok, Err, ap, ◌∙◌, arith}
 use Rattle.std.specs.List.{AllByRecursion}
-use Rattle.pg_wire.specs.Reading.{Fault, Front, VarintTooLong, Truncated, exactly, row}
+use Rattle.pg_wire.specs.Reading.{Fault, VarintTooLong, Truncated, exactly, row}
 use Rattle.pg_wire.specs.Varint.{IsVarint, varint_at}
 use Rattle.pg_wire.specs.Faults.{IsTooLong, IsCutOff}
 use Rattle.pg_wire.proofs.FaultLaws.{varint_too_long, varint_cut, varint_at_fault, exactly_fault, too_few}
@@ -37,12 +37,14 @@ abbrev itself : List ℕ → List ℕ
 itself v = v
 
 pub varints_read : (bytes : List ℕ) (vs : List (List ℕ)) → (row varint_at bytes ≡ Ok vs) ↔ (AllByRecursion IsVarint vs × (bytes ≡ flat_map (λ (v : List ℕ). v) vs))
-varints_read bytes vs =
-    (row_takes varint_at itself IsVarint varint_at_takes bytes vs,
-     λ h. ap (row varint_at) h.1 ∙ row-joined varint_at itself IsVarint varint_at-append length-IsVarint vs h.0)
+varints_read bytes vs = (
+  row_takes varint_at itself IsVarint varint_at_takes bytes vs,
+  λ h. ap (row varint_at) h.1 ∙ row-joined varint_at itself IsVarint varint_at-append length-IsVarint vs h.0,
+)
 
 pub pieces_read : (n : ℕ) (bytes : List ℕ) (pieces : List (List ℕ)) → 1 ≤ n
     → (row (exactly n) bytes ≡ Ok pieces) ↔ (AllByRecursion (λ (piece : List ℕ). length piece ≡ n) pieces × (bytes ≡ flat_map (λ (piece : List ℕ). piece) pieces))
-pieces_read n bytes pieces some =
-    (row_takes (exactly n) itself (λ piece. length piece ≡ n) (exactly_takes n) bytes pieces,
-     λ h. ap (row (exactly n)) h.1 ∙ row-joined (exactly n) itself (λ piece. length piece ≡ n) (λ piece rest is. exactly-append piece rest n is) (λ piece is. omega (arith, is, some)) pieces h.0)
+pieces_read n bytes pieces some = (
+  row_takes (exactly n) itself (λ piece. length piece ≡ n) (exactly_takes n) bytes pieces,
+  λ h. ap (row (exactly n)) h.1 ∙ row-joined (exactly n) itself (λ piece. length piece ≡ n) (λ piece rest is. exactly-append piece rest n is) (λ piece is. omega (arith, is, some)) pieces h.0,
+)
