@@ -1,0 +1,13 @@
+pub mod Rows
+pub mod Check
+pub mod Classes
+pub mod Trees
+pub mod Law
+pub mod Choices
+pub mod Grammars
+pub mod Dues
+pub mod Files
+pub mod Messages
+pub mod Whole
+pub mod Joined
+pub mod OneTree

@@ -1,0 +1,7 @@
+pub mod Tree
+pub mod Grammar
+pub mod Reading
+pub mod Proto3
+pub mod Views
+pub mod Due
+pub mod Refusals
