@@ -239,7 +239,7 @@ utf8_front text head front rest utf8 split h (inr (before, b, e, low)) =
     get_or-seam [] b ys = refl
     get_or-seam (x ∷ xs) b ys = get_or-seam xs b ys
 
-mark_utf8 : IsUtf8 byte_order_mark
+pub mark_utf8 : IsUtf8 byte_order_mark
 unfolding encode
 mark_utf8 = (0xFEFF ∷ [], (refl, refl))
 
