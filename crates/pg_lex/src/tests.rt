@@ -211,6 +211,21 @@ fn fronts_and_orders(rt: HostRuntime) -> Result<(), Fail> {
     Ok(())
 }
 
+// With any allocation refused, the answers are the same or tell of memory.
+#[test]
+fn memory_refused(rt: HostRuntime) {
+    let alloc = rt.alloc();
+    match lex(alloc, b"a = 'b\\n'; 7 'long enough to grow, and to grow again'") {
+        Ok(tokens) => assert_eq!(rt; tokens.len(), 6),
+        Err(error) => assert_eq!(rt; error, LexError::Memory),
+    }
+    match lex(alloc, b"a = 'b\\q';") {
+        Ok(tokens) => assert_eq!(rt; tokens.len(), 0),
+        Err(LexError::Memory) => {}
+        Err(error) => assert_eq!(rt; error, LexError::BadEscape { at: 4 }),
+    }
+}
+
 #[test]
 fn longest_text(rt: HostRuntime) -> Result<(), Fail> {
     let mut text = Vec::new(rt.alloc());
