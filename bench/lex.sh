@@ -1,4 +1,4 @@
-#!/bin/sh
+#!/usr/bin/env bash
 # Times the lexer on a text of 4 MB, beside protoc on the same text.
 # usage: bench/lex.sh [FOLDER]    FOLDER keeps the built program for the next run; it is copied there from the crates.
 set -eu

@@ -21,7 +21,12 @@ fn main(rt: HostRuntime) -> io::Result<()> {
         let start = Instant::now(&rt)?;
         let (line, column) = place(&text, end);
         let placed = start.elapsed(&rt)?;
-        println!(rt; "lex: {} us, {} bytes, {} tokens", lexed.as_micros(), text.len(), tokens.len())?;
+        println!(rt;
+            "lex: {} us, {} bytes, {} tokens",
+            lexed.as_micros(),
+            text.len(),
+            tokens.len()
+        )?;
         println!(rt; "place: {} us, {line}:{column}", placed.as_micros())?;
     }
     Ok(())
