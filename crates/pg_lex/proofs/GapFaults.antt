@@ -1,5 +1,5 @@
 -- Where a reader of gaps comes to an open comment, one begins.
-use Rattle.std.proofs.Common.{◌≡◌, ℕ, ◌+◌, ◌<◌, ◌≤◌, Bool, true, false, cond, eqb, List, [], ◌∷◌, ◌++◌, length, refl, sym, ◌∙◌, ap, arith, Option, Some, None, ◌⊎◌, inl, inr, Result, Ok, Err, length-append, append_assoc, append-nil}
+use Rattle.std.proofs.Common.{◌≡◌, ℕ, ◌+◌, ◌<◌, ◌≤◌, Bool, true, false, cond, eqb, List, [], ◌∷◌, ◌++◌, length, refl, sym, ◌∙◌, ap, arith, Option, Some, None, ◌⊎◌, inl, inr, Err, length-append}
 use Rattle.std.specs.Prelude.{◌||◌, ◌==◌}
 use Rattle.pg_lex.specs.declared.error.LexError.{LexError}
 use Rattle.pg_lex.specs.declared.error.LexError.TheVariants as errors
@@ -94,7 +94,7 @@ begun b t bytes e h = elim (choice (is_blank b) _ _ e) [
   | inl (blank, k) ↦ absurd (let is : t ≡ Between = cc in rw is at h)
   | inr (other, k) ↦ elim (choice (eqb b 47) _ _ k) [
     | inl (slash, k) ↦ let is : t ≡ Slash = cc in let opened : StaysOpen Slash bytes = rw is at h in
-      (opened.0, ap (λ x. x ∷ bytes) (same b 47 slash) ∙ ap (λ x. 47 ∷ x) opened.1, opened.2)
+        (opened.0, ap (λ x. x ∷ bytes) (same b 47 slash) ∙ ap (λ x. 47 ∷ x) opened.1, opened.2)
     | inr (none, k) ↦ absurd (let wrong : ◌≡◌ {A = Option Stage} None (Some t) = k in cc)
   ]
 ]

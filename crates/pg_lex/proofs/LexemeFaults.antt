@@ -1,19 +1,18 @@
 -- Where the scanner reads no lexeme, what its fault names begins.
-use Rattle.std.proofs.Common.{◌≡◌, ℕ, zero, suc, ◌+◌, ◌^◌, ◌<◌, ◌≤◌, Bool, true, false, cond, eqb, ltb, List, [], ◌∷◌, ◌++◌, length, take, drop, refl, sym, ◌∙◌, ap, arith, ◌⊎◌, inl, inr, Result, Ok, Err, Option, Some, None, append_assoc, append-nil, length-append, eq-eqb, subst}
+use Rattle.std.proofs.Common.{◌≡◌, ℕ, zero, suc, ◌+◌, ◌^◌, ◌<◌, ◌≤◌, Bool, true, false, eqb, ltb, List, [], ◌∷◌, ◌++◌, length, take, drop, refl, sym, ◌∙◌, ap, arith, ◌⊎◌, inl, inr, Result, Ok, Err, Option, Some, None, append_assoc, eq-eqb, subst}
 use Rattle.std.proofs.Math.Seq.{take-append_seam, drop-append_seam}
 use Rattle.std.proofs.lemmas.List.{take-append-drop}
-use Rattle.std.proofs.lemmas.List.Folds.{length-prefix_len}
 use Rattle.std.proofs.lemmas.Bool.Decides.{nat_tests}
 use Rattle.std.specs.Prelude.{◌&&◌, ◌||◌, not}
 use Rattle.std.specs.List.{prefix_len, list_all}
 use Rattle.std.specs.Str.{is_utf8}
 use Rattle.pg_lex.specs.declared.error.LexError.{LexError}
 use Rattle.pg_lex.specs.declared.error.LexError.TheVariants.{BadCharacter, OpenString, BadEscape, NumberTooLarge, FloatLiteral}
-use Rattle.pg_lex.specs.Bytes.{is_letter, is_digit, is_octal_digit, is_hex_digit, is_word_byte, is_quote, is_mark, is_blank, is_dot, is_exponent, begins}
-use Rattle.pg_lex.specs.Faults.{Names, BadByte, BeginsNumber, BadNumber, BeginsFloat, OpensLiteral, BeginsBadLiteral}
+use Rattle.pg_lex.specs.Bytes.{is_letter, is_digit, is_octal_digit, is_hex_digit, is_word_byte, is_quote, is_mark, is_dot, is_exponent, begins}
+use Rattle.pg_lex.specs.Faults.{BeginsNumber}
 use Rattle.pg_lex.specs.Gap.{Between}
 use Rattle.pg_lex.specs.Literal.{Plain, IsBody, resolved}
-use Rattle.pg_lex.specs.Number.{value, IsPlain, IsDecimal, IsOctal, IsHexadecimal, after_x}
+use Rattle.pg_lex.specs.Number.{value, IsPlain, IsHexadecimal}
 use Rattle.pg_lex.specs.Run.{if_some, ◌>>=◌}
 use Rattle.pg_lex.specs.Scan.{skip, Rest, has_x, base_of, hexadecimal, plain, number, body_len, resolved_at, text_of, literal_at, mark_at, lexeme, word_len}
 use Rattle.pg_lex.specs.Symbol.{Symbol, Word, Whole, Text, Mark}
@@ -36,9 +35,10 @@ bind_err (Err d) f e h = inl (let k : d ≡ e = cc in ap Err k)
 -- The longest front of bytes that pass a test is one.
 front_unique : (p : ℕ → Bool) (a b x y : List ℕ) → list_all p a ≡ true → begins p b ≡ false → list_all p x ≡ true → begins p y ≡ false → a ++ b ≡ x ++ y → (a ≡ x) × (b ≡ y)
 front_unique p a b x y all stop every ends e =
-    let len : length a ≡ length x = sym (prefix_len-append p a b all stop) ∙ ap (prefix_len p) e ∙ prefix_len-append p x y every ends in
-    (sym (take-append_seam a b) ∙ ap (take (length a)) e ∙ ap (λ n. take n (x ++ y)) len ∙ take-append_seam x y,
-     sym (drop-append_seam a b) ∙ ap (drop (length a)) e ∙ ap (λ n. drop n (x ++ y)) len ∙ drop-append_seam x y)
+    let len : length a ≡ length x = sym (prefix_len-append p a b all stop) ∙ ap (prefix_len p) e ∙ prefix_len-append p x y every ends in (
+      sym (take-append_seam a b) ∙ ap (take (length a)) e ∙ ap (λ n. take n (x ++ y)) len ∙ take-append_seam x y,
+      sym (drop-append_seam a b) ∙ ap (drop (length a)) e ∙ ap (λ n. drop n (x ++ y)) len ∙ drop-append_seam x y,
+    )
 
 no_digit : (bytes : List ℕ) → begins is_word_byte bytes ≡ false → begins is_digit bytes ≡ false
 no_digit [] h = refl
@@ -188,20 +188,20 @@ module _ (at : ℕ) (rest : List ℕ) (stop : begins is_word_byte rest ≡ false
     plain_fault e h = elim (choice ((eqb (base_of digits) 8 && not (list_all is_octal_digit digits)) || not (eqb (length tail) 0 || begins is_exponent tail)) _ _ h) [
       | inl (bad, k) ↦ let is : BadCharacter at ≡ e = cc in rw (← is) (refl, inr (digit_first, spoiled_number bad))
       | inr (good, h) ↦
-        let known = sound _ _ _ good in
-        let is_number : IsPlain digits (value (base_of digits) digits) = is_plain digits some all known.0 in
-        let end = empty_or tail known.1 in
-        elim (choice (not (ltb (value (base_of digits) digits) (2 ^ 64))) _ _ h) [
-          | inl (large, k) ↦
-            let is : NumberTooLarge at ≡ e = cc in
-            rw (← is) (refl, (value (base_of digits) digits, is_large (value (base_of digits) digits) (2 ^ 64) (not_true (ltb (value (base_of digits) digits) (2 ^ 64)) large), (digits, tail ++ rest, append_assoc digits tail rest, inl (is_number, follows end))))
-          | inr (small, h) ↦ elim (choice (not (eqb (length tail) 0) || begins is_dot rest) _ _ h) [
-            | inl (float, k) ↦
-              let is : FloatLiteral at ≡ e = cc in
-              rw (← is) (refl, inr (digits, tail ++ rest, value (base_of digits) digits, append_assoc digits tail rest, is_number, below (value (base_of digits) digits) (2 ^ 64) (not_false (ltb (value (base_of digits) digits) (2 ^ 64)) small), float_behind end float))
-            | inr (whole, k) ↦ absurd (let wrong : ◌≡◌ {A = Result ℕ LexError} (Ok (value (base_of digits) digits)) (Err e) = k in cc)
+          let known = sound _ _ _ good in
+          let is_number : IsPlain digits (value (base_of digits) digits) = is_plain digits some all known.0 in
+          let end = empty_or tail known.1 in
+          elim (choice (not (ltb (value (base_of digits) digits) (2 ^ 64))) _ _ h) [
+            | inl (large, k) ↦
+                let is : NumberTooLarge at ≡ e = cc in
+                rw (← is) (refl, (value (base_of digits) digits, is_large (value (base_of digits) digits) (2 ^ 64) (not_true (ltb (value (base_of digits) digits) (2 ^ 64)) large), (digits, tail ++ rest, append_assoc digits tail rest, inl (is_number, follows end))))
+            | inr (small, h) ↦ elim (choice (not (eqb (length tail) 0) || begins is_dot rest) _ _ h) [
+              | inl (float, k) ↦
+                  let is : FloatLiteral at ≡ e = cc in
+                  rw (← is) (refl, inr (digits, tail ++ rest, value (base_of digits) digits, append_assoc digits tail rest, is_number, below (value (base_of digits) digits) (2 ^ 64) (not_false (ltb (value (base_of digits) digits) (2 ^ 64)) small), float_behind end float))
+              | inr (whole, k) ↦ absurd (let wrong : ◌≡◌ {A = Result ℕ LexError} (Ok (value (base_of digits) digits)) (Err e) = k in cc)
+            ]
           ]
-        ]
     ]
       where
         digit_first : begins is_digit ((digits ++ tail) ++ rest) ≡ true
@@ -219,8 +219,8 @@ module _ (at : ℕ) (rest : List ℕ) (stop : begins is_word_byte rest ≡ false
         | inr (good, h) ↦ elim (choice (ltb (value 16 ds) (2 ^ 64)) _ _ h) [
           | inl (fits, k) ↦ absurd (let wrong : ◌≡◌ {A = Result ℕ LexError} (Ok (value 16 ds)) (Err e) = k in cc)
           | inr (large, k) ↦
-            let is : NumberTooLarge at ≡ e = cc in
-            rw (← is) (refl, (value 16 ds, is_large (value 16 ds) (2 ^ 64) large, (a ∷ x ∷ ds, rest, refl, inr (hex ds (same a 48 prefix.0) prefix.1 good, refl, stop))))
+              let is : NumberTooLarge at ≡ e = cc in
+              rw (← is) (refl, (value 16 ds, is_large (value 16 ds) (2 ^ 64) large, (a ∷ x ∷ ds, rest, refl, inr (hex ds (same a 48 prefix.0) prefix.1 good, refl, stop))))
         ]
       ]
     where
@@ -251,12 +251,12 @@ unfolding number
 number_fault at run rest e digit letters stop h = elim (choice (has_x run) _ _ h) [
   | inl (x, k) ↦ hexadecimal_fault at rest stop run e x letters k
   | inr (other, k) ↦
-    let n = prefix_len is_digit run in
-    let digits = take n run in
-    let tail = drop n run in
-    let whole : digits ++ tail ≡ run = take-append-drop n run in
-    subst (λ x. Tells e at (x ++ rest)) whole (plain_fault at rest stop digits tail (some_prefix is_digit run digit) (list_all-prefix is_digit run) (tail_no_digit tail (begins-prefix is_digit run))
-        (ap (list_all is_word_byte) whole ∙ letters) (ap has_x whole ∙ other) (list_all-drop is_word_byte n run letters) e k)
+      let n = prefix_len is_digit run in
+      let digits = take n run in
+      let tail = drop n run in
+      let whole : digits ++ tail ≡ run = take-append-drop n run in
+      subst (λ x. Tells e at (x ++ rest)) whole (plain_fault at rest stop digits tail (some_prefix is_digit run digit) (list_all-prefix is_digit run) (tail_no_digit tail (begins-prefix is_digit run))
+      (ap (list_all is_word_byte) whole ∙ letters) (ap has_x whole ∙ other) (list_all-drop is_word_byte n run letters) e k)
 ]
   where
     tail_no_digit : (tail : List ℕ) → begins is_digit tail ≡ false → begins is_digit (tail ++ rest) ≡ false
@@ -316,9 +316,9 @@ mark_fault : (at b : ℕ) (bytes : List ℕ) (e : LexError) → mark_at at b byt
 unfolding mark_at
 mark_fault at b bytes e h = elim (choice (is_dot b && begins is_digit bytes) _ _ h) [
   | inl (float, k) ↦
-    let known = both (is_dot b) (begins is_digit bytes) float in
-    let is : FloatLiteral at ≡ e = cc in
-    rw (← is) (refl, inl (bytes, ap (λ x. x ∷ bytes) (same b 46 known.0), known.1))
+      let known = both (is_dot b) (begins is_digit bytes) float in
+      let is : FloatLiteral at ≡ e = cc in
+      rw (← is) (refl, inl (bytes, ap (λ x. x ∷ bytes) (same b 46 known.0), known.1))
   | inr (mark, k) ↦ absurd (let wrong : ◌≡◌ {A = Result (Symbol × ℕ) LexError} (Ok (Mark b, 1)) (Err e) = k in cc)
 ]
 
@@ -337,9 +337,9 @@ lexeme_fault at b bytes e settled h = elim (choice (is_letter b) _ _ h) [
       | inr (no_quote, h) ↦ elim (choice (is_mark b) _ _ h) [
         | inl (mark, k) ↦ mark_fault at b bytes e k
         | inr (no_mark, k) ↦
-          let known = settled_byte b bytes settled in
-          let is : BadCharacter at ≡ e = cc in
-          rw (← is) (refl, inl (b, bytes, refl, rw (no_letter, none, no_quote, no_mark) known.0, known.1))
+            let known = settled_byte b bytes settled in
+            let is : BadCharacter at ≡ e = cc in
+            rw (← is) (refl, inl (b, bytes, refl, rw (no_letter, none, no_quote, no_mark) known.0, known.1))
       ]
     ]
   ]

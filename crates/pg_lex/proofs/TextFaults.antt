@@ -3,14 +3,13 @@ use Rattle.std.proofs.Common.{◌≡◌, ℕ, zero, suc, ◌+◌, ◌-◌, ◌<�
 use lib.Utf8.{encode}
 use Rattle.std.proofs.Math.Seq.{take-append_seam}
 use Rattle.std.proofs.lemmas.Bool.Decides.{nat_tests}
-use Rattle.std.proofs.lemmas.List.{length-drop, take-append-drop}
-use Rattle.std.proofs.lemmas.Str.{IsUtf8-take, IsUtf8-nil, IsUtf8-from_is_utf8, IsCharBoundary-after_ascii}
-use Rattle.std.specs.Prelude.{IsUtf8, ◌&&◌, ◌||◌}
+use Rattle.std.proofs.lemmas.List.{length-drop}
+use Rattle.std.proofs.lemmas.Str.{IsUtf8-take, IsUtf8-nil, IsCharBoundary-after_ascii}
+use Rattle.std.specs.Prelude.{IsUtf8}
 use Rattle.std.specs.List.{list_all}
 use Rattle.pg_lex.specs.declared.error.LexError.{LexError}
 use Rattle.pg_lex.specs.declared.error.LexError.TheVariants as errors
 use Rattle.pg_lex.specs.Bytes.{is_digit, is_word_byte, is_quote, is_mark, is_blank, begins}
-use Rattle.pg_lex.specs.Faults.{Names, place_of}
 use Rattle.pg_lex.specs.Gap.{Stage, Between, Slash, Line, Block, Star, step, IsGap}
 use Rattle.pg_lex.specs.Lexes.{IsLexeme, Spells, byte_order_mark, lexes, Stands, Refuses, max_len}
 use Rattle.pg_lex.specs.Run.{run, ◌>>=◌, Fails}
@@ -215,8 +214,8 @@ unfolding scanned
 scanned_fault at bytes e h = elim (bind_err {Y = List Placed} (skipped at bytes) (λ next. lexemes (length bytes) next.0 next.1) e h) [
   | inl r ↦ skipped_in at bytes e r
   | inr (next, r, u) ↦
-    let still = settled bytes next.1 (skipped_ok at next.0 bytes next.1 r).0 in
-    skipped_then (length bytes) at next.0 bytes next.1 e r u (lexemes_fault (length bytes) next.0 next.1 e (skipped-shorter at next.0 bytes next.1 r) still u)
+      let still = settled bytes next.1 (skipped_ok at next.0 bytes next.1 r).0 in
+      skipped_then (length bytes) at next.0 bytes next.1 e r u (lexemes_fault (length bytes) next.0 next.1 e (skipped-shorter at next.0 bytes next.1 r) still u)
 ]
 
 -- ---- whole texts
@@ -232,7 +231,7 @@ utf8_front text head front rest utf8 split h (inr (before, b, e, low)) =
     let size : length text ≡ length first + suc (length rest) = ap length is ∙ length-append first (b ∷ rest) in
     let cut = IsUtf8-take text (length first + 1) utf8 (IsCharBoundary-after_ascii text (length first) utf8 (omega (arith, size)) (omega (arith, byte, low))) in
     let same_front : take (length first + 1) text ≡ head ++ front =
-        ap (λ x. take (length first + 1) x) (split ∙ ap (λ x. x ++ rest) whole) ∙ ap (λ n. take n ((first ++ b ∷ []) ++ rest)) (sym (length-append first (b ∷ []))) ∙ take-append_seam (first ++ b ∷ []) rest ∙ sym whole in
+    ap (λ x. take (length first + 1) x) (split ∙ ap (λ x. x ++ rest) whole) ∙ ap (λ n. take n ((first ++ b ∷ []) ++ rest)) (sym (length-append first (b ∷ []))) ∙ take-append_seam (first ++ b ∷ []) rest ∙ sym whole in
     rw same_front at cut
   where
     get_or-seam : (xs : List ℕ) (b : ℕ) (ys : List ℕ) → get_or (xs ++ b ∷ ys) (length xs) 0 ≡ b

@@ -1,5 +1,5 @@
 -- What each code of a refusal names, of the bytes from its place to the text's end.
-use Rattle.std.specs.Prelude.{◌≡◌, ◌⊎◌, ℕ, ◌^◌, ◌<◌, ◌≤◌, Bool, true, false, ◌||◌, ◌==◌, List, [], ◌∷◌, ◌++◌, Some}
+use Rattle.std.specs.Prelude.{◌≡◌, ◌⊎◌, ℕ, ◌^◌, ◌<◌, ◌≤◌, true, false, ◌||◌, ◌==◌, List, ◌∷◌, ◌++◌, Some}
 use Rattle.std.specs.Str.{is_utf8}
 use Rattle.pg_lex.specs.declared.error.LexError.{LexError}
 use Rattle.pg_lex.specs.declared.error.LexError.TheVariants as errors
@@ -42,7 +42,7 @@ abbrev pub BeginsFloat : List ℕ → Type 0
 BeginsFloat bytes =
     ((rest : List ℕ) × (bytes ≡ 46 ∷ rest) × (begins is_digit rest ≡ true))
     ⊎ ((digits rest : List ℕ) × (n : ℕ) × (bytes ≡ digits ++ rest) × IsPlain digits n × (n < 2 ^ 64)
-        × (begins (λ b. is_dot b || is_exponent b) rest ≡ true))
+    × (begins (λ b. is_dot b || is_exponent b) rest ≡ true))
 
 -- A quote behind which no body comes to its closing quote.
 abbrev pub OpensLiteral : List ℕ → Type 0

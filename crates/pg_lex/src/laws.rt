@@ -5,13 +5,11 @@ ghost use Rattle.pg_lex.specs.Laws.{EachEscape, OneReading, SmallFaults, SmallTe
 /// A text has one row of tokens at most.
 pub fn one_reading()
     ensures { OneReading }
-{
-}
+{}
 
 /// The tokens of small texts, each escape of a literal, and small texts that have no tokens.
 pub fn small_texts()
     ensures tokens { SmallTexts }
     ensures escapes { EachEscape }
     ensures faults { SmallFaults }
-{
-}
+{}

@@ -75,7 +75,10 @@ fn words_and_marks(rt: HostRuntime) -> Result<(), Fail> {
     let rows: [(&[u8], &str); 14] = [
         (b"_aZ9", "_aZ9@0-4"),
         (b"a.b", "a@0-1 .@1-2 b@2-3"),
-        (b";={}()[]", ";@0-1 =@1-2 {@2-3 }@3-4 (@4-5 )@5-6 [@6-7 ]@7-8"),
+        (
+            b";={}()[]",
+            ";@0-1 =@1-2 {@2-3 }@3-4 (@4-5 )@5-6 [@6-7 ]@7-8",
+        ),
         (b"<>,.-", "<@0-1 >@1-2 ,@2-3 .@3-4 -@4-5"),
         (b"-1", "-@0-1 1@1-2"),
         (b"..", ".@0-1 .@1-2"),
@@ -215,7 +218,10 @@ fn fronts_and_orders(rt: HostRuntime) -> Result<(), Fail> {
 #[test]
 fn memory_refused(rt: HostRuntime) {
     let alloc = rt.alloc();
-    match lex(alloc, b"a = 'b\\n'; 7 'long enough to grow, and to grow again'") {
+    match lex(
+        alloc,
+        b"a = 'b\\n'; 7 'long enough to grow, and to grow again'",
+    ) {
         Ok(tokens) => assert_eq!(rt; tokens.len(), 6),
         Err(error) => assert_eq!(rt; error, LexError::Memory),
     }
@@ -239,7 +245,14 @@ fn longest_text(rt: HostRuntime) -> Result<(), Fail> {
 
 #[test]
 fn places(rt: HostRuntime) {
-    for (offset, want) in [(0, (1, 1)), (1, (1, 2)), (2, (2, 1)), (3, (3, 1)), (5, (3, 3)), (9, (3, 3))] {
+    for (offset, want) in [
+        (0, (1, 1)),
+        (1, (1, 2)),
+        (2, (2, 1)),
+        (3, (3, 1)),
+        (5, (3, 3)),
+        (9, (3, 3)),
+    ] {
         assert_eq!(rt; place(b"a\n\n\xc3\xa9", offset), want, "at {offset}");
     }
 }
