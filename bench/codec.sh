@@ -1,0 +1,14 @@
+#!/usr/bin/env bash
+# Times encode and decode of the message of codec.proto, beside C++ DynamicMessage and python3-protobuf.
+# usage: bench/codec.sh [FOLDER]    FOLDER keeps the built program for the next run.
+# Wants Debian's libprotobuf-dev, protobuf-compiler, python3-protobuf and g++.
+set -eu
+top=$(cd "$(dirname "$0")/.." && pwd)
+work=${1:-$(mktemp -d)}
+. "$top/bench/build.sh"
+build_bench "$top" "$work" codec_time codec_main.rt.txt "pg_schema pg_dyn anyhow"
+g++ -O2 -o "$work/codec" "$top/bench/codec.cc" -lprotobuf -lpthread
+protoc --proto_path="$top/bench" --descriptor_set_out="$work/codec.pb" codec.proto
+"$work/crates/codec_time/out/codec_time"
+"$work/codec" "$top/bench"
+/usr/bin/python3 "$top/bench/codec.py" "$work/codec.pb"
