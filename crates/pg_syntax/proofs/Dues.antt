@@ -14,26 +14,40 @@ use Rattle.pg_syntax.proofs.Trees.{symbols-append, stands_spell}
 use Rattle.pg_syntax.proofs.Law.{Found, bind_err, refuted}
 use Rattle.pg_syntax.proofs.Grammars.{law}
 
--- The fault is 'unexpected', or it stands behind tokens behind which P holds.
-pub record Stops (P : List Symbol → Type 0) (p : Point) (f : Fault) : Type 0 where
+-- What is told of a reason, before the symbols w and behind the symbols v.
+abbrev pub Telling : Type 1
+Telling = Reason → List Symbol → List Symbol → Type 0
+
+-- The fault stands behind tokens and before others, between which that is told of its reason.
+pub record Stops (P : Telling) (p : Point) (f : Fault) : Type 0 where
   pub front : List Placed
   pub back : List Placed
   pub splits : p.rest ≡ front ++ back
   pub left : f.left ≡ length back
-  pub holds : P (symbols front)
+  pub holds : P f.reason (symbols back) (symbols front)
 
-abbrev pub Told : (Reason → List Symbol → Type 0) → Point → Fault → Type 0
-Told P p f = (f.reason ≡ reasons.Unexpected) ⊎ Stops (P f.reason) p f
+-- The fault is 'unexpected', or it stands so.
+abbrev pub Told : Telling → Point → Fault → Type 0
+Told P p f = (f.reason ≡ reasons.Unexpected) ⊎ Stops P p f
 
-told_here : (P : Reason → List Symbol → Type 0) (reason : Reason) (p : Point) → P reason [] → Told P p (fault reason p)
+told_here : (P : Telling) (reason : Reason) (p : Point) → P reason (symbols p.rest) [] → Told P p (fault reason p)
 told_here P reason p h = inr (record { front = []; back = p.rest; splits = refl; left = refl; holds = h })
 
-told_as : (P Q : Reason → List Symbol → Type 0) (p : Point) (f : Fault) → ((v : List Symbol) → P f.reason v → Q f.reason v) → Told P p f → Told Q p f
+told_as : (P Q : Telling) (p : Point) (f : Fault) → ((w v : List Symbol) → symbols p.rest ≡ v ++ w → P f.reason w v → Q f.reason w v) → Told P p f → Told Q p f
 told_as P Q p f turn (inl e) = inl e
-told_as P Q p f turn (inr h) = inr (record { front = h.front; back = h.back; splits = h.splits; left = h.left; holds = turn (symbols h.front) h.holds })
+told_as P Q p f turn (inr h) = inr (record {
+  front = h.front;
+  back = h.back;
+  splits = h.splits;
+  left = h.left;
+  holds = turn (symbols h.back) (symbols h.front) (ap symbols h.splits ∙ symbols-append h.front h.back) h.holds;
+})
+
+abbrev pub behind : (Tree → Type 0) → Telling → Telling
+behind D P r w = Behind D (P r w)
 
 -- what is told behind a tree that was found
-told_behind : (D : Tree → Type 0) (P : Reason → List Symbol → Type 0) (p : Point) (t : Tree) (q : Point) (f : Fault) → Found D p t q → Told P q f → Told (λ r. Behind D (P r)) p f
+told_behind : (D : Tree → Type 0) (P : Telling) (p : Point) (t : Tree) (q : Point) (f : Fault) → Found D p t q → Told P q f → Told (behind D P) p f
 told_behind D P p t q f found (inl e) = inl e
 told_behind D P p t q f found (inr h) = inr (record {
   front = found.front ++ h.front;
@@ -43,8 +57,11 @@ told_behind D P p t q f found (inr h) = inr (record {
   holds = (t, symbols h.front, found.derives, symbols-append found.front h.front ∙ ap (λ v. v ++ symbols h.front) (stands_spell t found.front found.stands), h.holds);
 })
 
+abbrev due_in : Grammar → Telling
+due_in g r w v = Due r g w v
+
 abbrev TellsDue : Grammar → Type 0
-TellsDue g = (p : Point) (f : Fault) → read g p ≡ Err f → Told (λ r. Due r g) p f
+TellsDue g = (p : Point) (f : Fault) → read g p ≡ Err f → Told (due_in g) p f
 
 ok_is_no_err : (x : Tree × Point) (f : Fault) → ◌≡◌ {A = Outcome} (Ok x) (Err f) → ⊥
 ok_is_no_err x f h = cc
@@ -66,11 +83,11 @@ unexpected_one c p (t ∷ ts) f e = go (is_in c t.symbol) e
 
 due_seq : (g h : Grammar) → check g ≡ true → TellsDue g → TellsDue h → TellsDue (Seq g h)
 due_seq g h k one two p f e = elim (bind_err (read g p) (λ t q. read h q >>= λ u end. Ok (Both t u, end)) f e) [
-  | inl a ↦ told_as (λ r. Due r g) (λ r. Due r (Seq g h)) p f (λ v d. inl d) (one p f a)
+  | inl a ↦ told_as (due_in g) (due_in (Seq g h)) p f (λ w v split d. inl d) (one p f a)
   | inr (t, m, b, c) ↦ elim (bind_err (read h m) (λ u end. Ok (Both t u, end)) f c) [
     | inl l ↦
-        let behind = told_behind (Derives g) (λ r. Due r h) p t m f ((law g k).found p t m b) (two m f l) in
-        told_as (λ r. Behind (Derives g) (Due r h)) (λ r. Due r (Seq g h)) p f (λ v d. inr d) behind
+        let later = told_behind (Derives g) (due_in h) p t m f ((law g k).found p t m b) (two m f l) in
+        told_as (behind (Derives g) (due_in h)) (due_in (Seq g h)) p f (λ w v split d. inr d) later
     | inr (u, end, l, n) ↦ cc
   ]
 ]
@@ -81,63 +98,63 @@ row_joined D P v (t, w, d, e, (u, x, f, i, p)) = (Both t u, x, (d, f), e ∙ ap 
 abbrev row_from : List Class → (Point → Outcome) → ℕ → Point → Bool → Outcome
 row_from cs r n p b = cond b (r p >>= λ t q. repeated n cs r q >>= λ u end. Ok (Both t u, end)) (Ok (Empty, p))
 
-row_turn : (cs : List Class) (g : Grammar) → check g ≡ true → TellsDue g → (n : ℕ) → ((m : Point) (f : Fault) → repeated n cs (read g) m ≡ Err f → Told (λ r. Behind (Row (Derives g)) (Due r g)) m f)
-    → (p : Point) (f : Fault) (b : Bool) → row_from cs (read g) n p b ≡ Err f → Told (λ r. Behind (Row (Derives g)) (Due r g)) p f
+row_turn : (cs : List Class) (g : Grammar) → check g ≡ true → TellsDue g → (n : ℕ) → ((m : Point) (f : Fault) → repeated n cs (read g) m ≡ Err f → Told (behind (Row (Derives g)) (due_in g)) m f)
+    → (p : Point) (f : Fault) (b : Bool) → row_from cs (read g) n p b ≡ Err f → Told (behind (Row (Derives g)) (due_in g)) p f
 row_turn cs g k one n more p f false e = absurd (ok_is_no_err _ f e)
 row_turn cs g k one n more p f true e = elim (bind_err (read g p) (λ t q. repeated n cs (read g) q >>= λ u end. Ok (Both t u, end)) f e) [
-  | inl a ↦ told_as (λ r. Due r g) (λ r. Behind (Row (Derives g)) (Due r g)) p f (λ v d. (Empty, v, tt, refl, d)) (one p f a)
+  | inl a ↦ told_as (due_in g) (behind (Row (Derives g)) (due_in g)) p f (λ w v split d. (Empty, v, tt, refl, d)) (one p f a)
   | inr (t, m, b, c) ↦ elim (bind_err (repeated n cs (read g) m) (λ u end. Ok (Both t u, end)) f c) [
     | inl l ↦
-        let behind = told_behind (Derives g) (λ r. Behind (Row (Derives g)) (Due r g)) p t m f ((law g k).found p t m b) (more m f l) in
-        told_as (λ r. Behind (Derives g) (Behind (Row (Derives g)) (Due r g))) (λ r. Behind (Row (Derives g)) (Due r g)) p f (λ v d. row_joined (Derives g) (Due f.reason g) v d) behind
+        let later = told_behind (Derives g) (behind (Row (Derives g)) (due_in g)) p t m f ((law g k).found p t m b) (more m f l) in
+        told_as (behind (Derives g) (behind (Row (Derives g)) (due_in g))) (behind (Row (Derives g)) (due_in g)) p f (λ w v split d. row_joined (Derives g) (Due f.reason g w) v d) later
     | inr (u, end, l, x) ↦ cc
   ]
 ]
 
-due_row : (cs : List Class) (g : Grammar) → check g ≡ true → TellsDue g → (n : ℕ) (p : Point) (f : Fault) → repeated n cs (read g) p ≡ Err f → Told (λ r. Behind (Row (Derives g)) (Due r g)) p f
+due_row : (cs : List Class) (g : Grammar) → check g ≡ true → TellsDue g → (n : ℕ) (p : Point) (f : Fault) → repeated n cs (read g) p ≡ Err f → Told (behind (Row (Derives g)) (due_in g)) p f
 due_row cs g k one zero p f e = absurd (ok_is_no_err (Empty, p) f e)
 due_row cs g k one (suc n) p f e = row_turn cs g k one n (due_row cs g k one n) p f (next_in cs p) e
 
 -- ---- choices
 
 due_pick : (look : Look) (g h : Grammar) → TellsDue g → TellsDue h → TellsDue (Pick look g h)
-due_pick look g h one two p f e = go (looks look (symbols p.rest)) e
+due_pick look g h one two p f e = go (looks look (symbols p.rest)) refl e
   where
-    go : (b : Bool) → cond b (read g p) (read h p) ≡ Err f → Told (λ r. Due r (Pick look g h)) p f
-    go true e = told_as (λ r. Due r g) (λ r. Due r (Pick look g h)) p f (λ v d. inl d) (one p f e)
-    go false e = told_as (λ r. Due r h) (λ r. Due r (Pick look g h)) p f (λ v d. inr d) (two p f e)
+    go : (b : Bool) → looks look (symbols p.rest) ≡ b → cond b (read g p) (read h p) ≡ Err f → Told (due_in (Pick look g h)) p f
+    go true is e = told_as (due_in g) (due_in (Pick look g h)) p f (λ w v split d. inl (ap (looks look) (sym split) ∙ is, d)) (one p f e)
+    go false is e = told_as (due_in h) (due_in (Pick look g h)) p f (λ w v split d. inr (ap (looks look) (sym split) ∙ is, d)) (two p f e)
 
 due_optional : (cs : List Class) (g : Grammar) → TellsDue g → TellsDue (Optional cs g)
 due_optional cs g one p f e = go (next_in cs p) e
   where
-    go : (b : Bool) → cond b (read g p) (Ok (Empty, p)) ≡ Err f → Told (λ r. Due r (Optional cs g)) p f
+    go : (b : Bool) → cond b (read g p) (Ok (Empty, p)) ≡ Err f → Told (due_in (Optional cs g)) p f
     go true e = one p f e
     go false e = absurd (ok_is_no_err (Empty, p) f e)
 
 due_node : (g : Grammar) → TellsDue g → TellsDue (Node g)
 due_node g one p f e = elim (bind_err (read g p) (λ t q. Ok (At (record { from = first_of p.rest; to = q.last }) t, q)) f e) [ inl a ↦ one p f a | inr (t, m, b, c) ↦ cc ]
 
-told_instead : (P : Reason → List Symbol → Type 0) (reason : Reason) (p : Point) (f : Fault) → ◌≡◌ {A = Outcome} (Err (fault reason p)) (Err f) → P reason [] → Told P p f
+told_instead : (P : Telling) (reason : Reason) (p : Point) (f : Fault) → ◌≡◌ {A = Outcome} (Err (fault reason p)) (Err f) → P reason (symbols p.rest) [] → Told P p f
 told_instead P reason p f e h = refuted (Told P p) (fault reason p) f e (told_here P reason p h)
 
 due_unless : (reason : Reason) (g : Grammar) → TellsDue g → TellsDue (Unless reason g)
-due_unless reason g one p f e = go (looks (look_of reason) (symbols p.rest)) e
+due_unless reason g one p f e = go (looks (look_of reason) (symbols p.rest)) refl e
   where
-    go : (b : Bool) → cond b (Err (fault reason p)) (read g p) ≡ Err f → Told (λ r. Due r (Unless reason g)) p f
-    go true e = told_instead (λ r. Due r (Unless reason g)) reason p f e (inl (refl, refl))
-    go false e = told_as (λ r. Due r g) (λ r. Due r (Unless reason g)) p f (λ v d. inr d) (one p f e)
+    go : (b : Bool) → looks (look_of reason) (symbols p.rest) ≡ b → cond b (Err (fault reason p)) (read g p) ≡ Err f → Told (due_in (Unless reason g)) p f
+    go true is e = told_instead (due_in (Unless reason g)) reason p f e (inl (refl, refl))
+    go false is e = told_as (due_in g) (due_in (Unless reason g)) p f (λ w v split d. inr (ap (looks (look_of reason)) (sym split) ∙ is, d)) (one p f e)
 
 due_checked : (reason : Reason) (test : List Symbol → Bool) (g : Grammar) → TellsDue (Checked reason test g)
 due_checked reason test g p f e = go (read g p) e
   where
-    told : ◌≡◌ {A = Outcome} (Err (fault reason p)) (Err f) → Told (λ r. Due r (Checked reason test g)) p f
-    told e = told_instead (λ r. Due r (Checked reason test g)) reason p f e (refl, refl)
+    told : ◌≡◌ {A = Outcome} (Err (fault reason p)) (Err f) → Told (due_in (Checked reason test g)) p f
+    told e = told_instead (due_in (Checked reason test g)) reason p f e (refl, refl)
 
-    passed : (x : Tree × Point) (b : Bool) → ◌≡◌ {A = Outcome} (cond b (Ok x) (Err (fault reason p))) (Err f) → Told (λ r. Due r (Checked reason test g)) p f
+    passed : (x : Tree × Point) (b : Bool) → ◌≡◌ {A = Outcome} (cond b (Ok x) (Err (fault reason p))) (Err f) → Told (due_in (Checked reason test g)) p f
     passed x true e = absurd (ok_is_no_err x f e)
     passed x false e = told e
 
-    go : (o : Outcome) → instead reason test p o ≡ Err f → Told (λ r. Due r (Checked reason test g)) p f
+    go : (o : Outcome) → instead reason test p o ≡ Err f → Told (due_in (Checked reason test g)) p f
     go (Ok x) e = passed x (test (spell x.0)) e
     go (Err other) e = told e
 
@@ -157,7 +174,7 @@ due (Optional cs g) k p f e = let a = and_parts (check g) _ k in due_optional cs
 due (Many cs g) k p f e = let a = and_parts (check g) _ k in due_row cs g a.0 (due g a.0) (length p.rest) p f e
 due (Node g) k p f e = let a = and_parts (check g) _ k in due_node g (due g a.0) p f e
 due (Unless reason g) k p f e = let a = and_parts (check g) _ k in due_unless reason g (due g a.0) p f e
-due (Refused reason) k p f e = told_instead (λ r. Due r (Refused reason)) reason p f e (refl, refl)
+due (Refused reason) k p f e = told_instead (due_in (Refused reason)) reason p f e (refl, refl)
 due (Checked reason test g) k p f e = due_checked reason test g p f e
 due (Closed cs g) k p f e = let a = and_parts (check g) _ k in due g a.0 p f e
 
@@ -172,10 +189,24 @@ same_front (x ∷ xs) (y ∷ ys) us vs e l =
     let rest : xs ++ us ≡ ys ++ vs = cc in
     rw (head, same_front xs ys us vs rest l) refl
 
+same_back : (xs ys us vs : List Placed) → xs ++ us ≡ ys ++ vs → length us ≡ length vs → us ≡ vs
+same_back [] [] us vs e l = e
+same_back [] (y ∷ ys) us vs e l = absurd (omega (arith, ap length e, length-append ys vs))
+same_back (x ∷ xs) [] us vs e l = absurd (omega (arith, ap length e, length-append xs us))
+same_back (x ∷ xs) (y ∷ ys) us vs e l =
+    let rest : xs ++ us ≡ ys ++ vs = cc in
+    same_back xs ys us vs rest l
+
 pub due_at : (g : Grammar) → check g ≡ true → (p : Point) (f : Fault) (front back : List Placed) → read g p ≡ Err f → p.rest ≡ front ++ back → f.left ≡ length back
-    → (f.reason ≡ reasons.Unexpected) ⊎ Due f.reason g (symbols front)
+    → (f.reason ≡ reasons.Unexpected) ⊎ Due f.reason g (symbols back) (symbols front)
 due_at g k p f front back e splits left = go (due g k p f e)
   where
-    go : Told (λ r. Due r g) p f → (f.reason ≡ reasons.Unexpected) ⊎ Due f.reason g (symbols front)
+    moved : (xs ys us vs : List Placed) → xs ≡ us → ys ≡ vs → Due f.reason g (symbols ys) (symbols xs) → Due f.reason g (symbols vs) (symbols us)
+    moved xs ys us vs a b d = subst (λ x. Due f.reason g (symbols vs) (symbols x)) a (subst (λ y. Due f.reason g (symbols y) (symbols xs)) b d)
+
+    go : Told (due_in g) p f → (f.reason ≡ reasons.Unexpected) ⊎ Due f.reason g (symbols back) (symbols front)
     go (inl u) = inl u
-    go (inr h) = inr (subst (λ x. Due f.reason g (symbols x)) (same_front h.front front h.back back (sym h.splits ∙ splits) (sym h.left ∙ left)) h.holds)
+    go (inr h) =
+        let same = sym h.splits ∙ splits in
+        let counts = sym h.left ∙ left in
+        inr (moved h.front h.back front back (same_front h.front front h.back back same counts) (same_back h.front front h.back back same counts) h.holds)

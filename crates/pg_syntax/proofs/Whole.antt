@@ -54,7 +54,7 @@ module _ (g : Grammar) (checks : check g ≡ true) (p : Point) where
       let all : p.rest ≡ read_it.front = read_it.splits ∙ ap (λ x. read_it.front ++ x) none ∙ append-nil read_it.front in
       (read_it.derives, subst (Stands t) (sym all) read_it.stands)
 
-  refused : (f : Fault) → (w : Wrong p f) → ((f.reason ≡ reasons.Unexpected) ⊎ Due f.reason g (symbols w.front)) → ((t : Tree) → Derives g t → Agree (rests f.reason f.left) p.rest (spell t) → ⊥) → Refused g f.reason f.left p.rest
+  refused : (f : Fault) → (w : Wrong p f) → ((f.reason ≡ reasons.Unexpected) ⊎ Due f.reason g (symbols w.back) (symbols w.front)) → ((t : Tree) → Derives g t → Agree (rests f.reason f.left) p.rest (spell t) → ⊥) → Refused g f.reason f.left p.rest
   refused f w due wrong = record {
     front = w.front;
     back = w.back;

@@ -29,7 +29,7 @@ pub record Refused (g : Grammar) (reason : Reason) (left : ℕ) (tokens : List P
   pub splits : tokens ≡ front ++ back
   pub left_is : left ≡ length back
   pub names : Names reason (symbols back)
-  pub due : (reason ≡ reasons.Unexpected) ⊎ Due reason g (symbols front)
+  pub due : (reason ≡ reasons.Unexpected) ⊎ Due reason g (symbols back) (symbols front)
   pub none : (t : Tree) → Derives g t → Alike reason (length front) (spell t) (symbols tokens) → ⊥
 
 -- where the first of the tokens begins, or the end
