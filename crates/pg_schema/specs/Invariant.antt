@@ -1,4 +1,5 @@
--- What holds of the parts of every schema.
+-- What holds of the parts of every schema (proto3 language specification, "Message definition", "Fields"). That fields are
+-- flat is this profile's choice as yet, and enums, services, options and reserved items aren't looked into.
 use Rattle.std.specs.Prelude.{◌≡◌, ℕ, List}
 use Rattle.std.specs.List.{AllByRecursion}
 use Rattle.pg_schema.specs.declared.field.Scalar.{Scalar}

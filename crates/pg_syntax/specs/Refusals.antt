@@ -1,4 +1,4 @@
--- What a refusal says of the tokens.
+-- What a refusal says of the tokens (this profile's choice).
 use Rattle.std.specs.Prelude.{◌≡◌, ◌⊎◌, ℕ, ◌+◌, List, [], ◌∷◌, ◌++◌, length, take}
 use Rattle.pg_lex.specs.Symbol.{Symbol, Placed}
 use Rattle.pg_syntax.specs.declared.error.Reason.{Reason}
