@@ -9,6 +9,14 @@ use Rattle.pg_lex.specs.Symbol.{Symbol, Word, Whole, Text, Mark, Placed}
 abbrev pub OneReading : Type 0
 OneReading = (text : List ℕ) (some others : List Placed) → lexes text some → lexes text others → some ≡ others
 
+-- A text has one fault at most, whose code and place are one.
+abbrev pub OneFault : Type 0
+OneFault = (text : List ℕ) (e f : LexError) → Stands e text → Stands f text → e ≡ f
+
+-- A text that has tokens has no fault.
+abbrev pub TokensOrFault : Type 0
+TokensOrFault = (text : List ℕ) (e : LexError) (tokens : List Placed) → Stands e text → ¬ (lexes text tokens)
+
 -- ---- small texts
 
 abbrev pub placed : Symbol → ℕ → ℕ → Placed
