@@ -33,7 +33,7 @@ bind_err (Err d) f e h = inl (let k : d ≡ e = cc in ap Err k)
 -- ---- fronts
 
 -- The longest front of bytes that pass a test is one.
-front_unique : (p : ℕ → Bool) (a b x y : List ℕ) → list_all p a ≡ true → begins p b ≡ false → list_all p x ≡ true → begins p y ≡ false → a ++ b ≡ x ++ y → (a ≡ x) × (b ≡ y)
+pub front_unique : (p : ℕ → Bool) (a b x y : List ℕ) → list_all p a ≡ true → begins p b ≡ false → list_all p x ≡ true → begins p y ≡ false → a ++ b ≡ x ++ y → (a ≡ x) × (b ≡ y)
 front_unique p a b x y all stop every ends e =
     let len : length a ≡ length x = sym (prefix_len-append p a b all stop) ∙ ap (prefix_len p) e ∙ prefix_len-append p x y every ends in (
       sym (take-append_seam a b) ∙ ap (take (length a)) e ∙ ap (λ n. take n (x ++ y)) len ∙ take-append_seam x y,
@@ -55,18 +55,18 @@ exponent_no_digit (b ∷ bytes) h = go b h
     go b h = grind (arith, nat_tests)
 
 -- what may follow decimal and octal digits is no digit
-ends_digits : (rest : List ℕ) → (begins is_word_byte rest ≡ false) ⊎ (begins is_exponent rest ≡ true) → begins is_digit rest ≡ false
+pub ends_digits : (rest : List ℕ) → (begins is_word_byte rest ≡ false) ⊎ (begins is_exponent rest ≡ true) → begins is_digit rest ≡ false
 ends_digits rest (inl h) = no_digit rest h
 ends_digits rest (inr h) = exponent_no_digit rest h
 
-plain_digits : (digits : List ℕ) (n : ℕ) → IsPlain digits n → list_all is_digit digits ≡ true
+pub plain_digits : (digits : List ℕ) (n : ℕ) → IsPlain digits n → list_all is_digit digits ≡ true
 plain_digits [] n h = refl
 plain_digits (b ∷ digits) n (inl (decimal, is)) = decimal.1
 plain_digits (b ∷ digits) n (inr (octal, is)) =
     let zero' : is_digit b ≡ true = ap is_digit octal.0 in
     rw (zero', list_all-weaker is_octal_digit is_digit digits octal_digit octal.1)
 
-hex_word : (digits : List ℕ) → IsHexadecimal digits → (list_all is_word_byte digits ≡ true) × (has_x digits ≡ true)
+pub hex_word : (digits : List ℕ) → IsHexadecimal digits → (list_all is_word_byte digits ≡ true) × (has_x digits ≡ true)
 hex_word [] h = absurd h
 hex_word (a ∷ []) h = absurd h
 hex_word (a ∷ x ∷ []) h = absurd h
@@ -154,10 +154,10 @@ not_true : (p : Bool) → not p ≡ true → p ≡ false
 not_true true h = cc
 not_true false h = refl
 
-one_digit : (a : ℕ) → is_digit a ≡ true → list_all is_digit (a ∷ []) ≡ true
+pub one_digit : (a : ℕ) → is_digit a ≡ true → list_all is_digit (a ∷ []) ≡ true
 one_digit a h = rw h
 
-not_x : (x : ℕ) → (eqb x 120 || eqb x 88) ≡ true → (is_digit x ≡ false) × (is_exponent x ≡ false)
+pub not_x : (x : ℕ) → (eqb x 120 || eqb x 88) ≡ true → (is_digit x ≡ false) × (is_exponent x ≡ false)
 not_x x h = (grind (arith, nat_tests), grind (arith, nat_tests))
 
 module _ (at : ℕ) (rest : List ℕ) (stop : begins is_word_byte rest ≡ false) where

@@ -11,7 +11,7 @@ use Rattle.pg_lex.specs.declared.error.LexError.{LexError}
 use Rattle.pg_lex.specs.declared.error.LexError.TheVariants as errors
 use Rattle.pg_lex.specs.Bytes.{is_digit, is_word_byte, is_quote, is_mark, is_blank, begins}
 use Rattle.pg_lex.specs.Gap.{Stage, Between, Slash, Line, Block, Star, step, IsGap}
-use Rattle.pg_lex.specs.Lexes.{IsLexeme, Spells, byte_order_mark, lexes, Stands, Refuses, max_len}
+use Rattle.pg_lex.specs.Lexes.{IsLexeme, Spells, SpellsBefore, byte_order_mark, lexes, Stands, Refuses, max_len}
 use Rattle.pg_lex.specs.Run.{run, ◌>>=◌, Fails}
 use Rattle.pg_lex.specs.Scan.{skip, Rest, skipped, lexeme, token, lexemes, scanned, has_mark, text_tokens}
 use Rattle.pg_lex.specs.Symbol.{Symbol, Word, Whole, Text, Mark, Placed}
@@ -20,7 +20,7 @@ use Rattle.pg_lex.proofs.GapFaults.{Tells, choice, skipped_fault, settled}
 use Rattle.pg_lex.proofs.GapLaws.{passes, Passes}
 use Rattle.pg_lex.proofs.LexemeFaults.{bind_err, lexeme_fault}
 use Rattle.pg_lex.proofs.LexemeLaws.{Reads, IsLexeme-read, bind_ok, whole_run}
-use Rattle.pg_lex.proofs.TextLaws.{Spells-behind, skipped_ok, skipped-shorter, first_byte, marked, no_tokens}
+use Rattle.pg_lex.proofs.TextLaws.{run-append, Spells-behind, skipped_ok, skipped-shorter, first_byte, marked, no_tokens}
 
 -- ---- fronts
 
@@ -108,29 +108,47 @@ low_gap s (b ∷ gap) h = go (step s b) refl h (λ t k. low_gap t gap k)
 
 -- ---- where a fault stands
 
+-- a gap in front of what is spelled before a rest
+before-gap : (at : ℕ) (gap bytes rest : List ℕ) (ts : List Placed) → IsGap gap → SpellsBefore (at + length gap) bytes ts rest → SpellsBefore at (gap ++ bytes) ts rest
+before-gap at gap bytes rest [] h (inner, split, is) =
+    (gap ++ inner, ap (λ x. gap ++ x) split ∙ sym (append_assoc gap inner rest), run-append gap Between inner Between h is)
+before-gap at gap bytes rest (t ∷ ts) h (inner, word, more, split, is_gap, is, low, high, later) = (
+  gap ++ inner,
+  word,
+  more,
+  ap (λ x. gap ++ x) split ∙ sym (append_assoc gap inner (word ++ more)),
+  run-append gap Between inner Between h is_gap,
+  is,
+  low ∙ omega (arith, length-append gap inner),
+  high,
+  later,
+)
+
 -- Bytes at a place have a front of tokens, behind which stands what the fault names.
 abbrev FaultIn : ℕ → List ℕ → LexError → Type 0
-FaultIn at bytes e = (front rest : List ℕ) × (ts : List Placed) × (bytes ≡ front ++ rest) × Spells at front ts × EndsLow front × Tells e (at + length front) rest
+FaultIn at bytes e = (front rest : List ℕ) × (ts : List Placed) × (bytes ≡ front ++ rest) × Spells at front ts × EndsLow front
+    × SpellsBefore at bytes ts rest × Tells e (at + length front) rest
 
 -- a gap in front
 FaultIn-gap : (at : ℕ) (gap left : List ℕ) (e : LexError) → IsGap gap → FaultIn (at + length gap) left e → FaultIn at (gap ++ left) e
-FaultIn-gap at gap left e is (front, rest, ts, split, spelled, low, (place, names)) = (
+FaultIn-gap at gap left e is (front, rest, ts, split, spelled, low, before, (place, names)) = (
   gap ++ front,
   rest,
   ts,
   ap (λ x. gap ++ x) split ∙ sym (append_assoc gap front rest),
   Spells-behind at gap front ts is spelled,
   low_append gap front (low_gap Between gap is) low,
+  before-gap at gap left rest ts is before,
   (omega (arith, place, length-append gap front), names),
 )
 
 -- no lexeme, or a comment without an end, right here
 FaultIn-here : (at : ℕ) (bytes : List ℕ) (e : LexError) → Tells e at bytes → FaultIn at bytes e
-FaultIn-here at bytes e (place, names) = ([], bytes, [], refl, inl refl, inl refl, (omega (arith, place), names))
+FaultIn-here at bytes e (place, names) = ([], bytes, [], refl, inl refl, inl refl, ([], refl, refl), (omega (arith, place), names))
 
 -- a lexeme in front
 FaultIn-lexeme : (at m : ℕ) (symbol : Symbol) (bytes : List ℕ) (e : LexError) → Reads bytes symbol m → FaultIn (at + m) (drop m bytes) e → FaultIn at bytes e
-FaultIn-lexeme at m symbol bytes e (left, split, back, len, is) (front, rest, ts, more, spelled, low, (place, names)) =
+FaultIn-lexeme at m symbol bytes e (left, split, back, len, is) (front, rest, ts, more, spelled, low, before, (place, names)) =
     let behind : left ≡ front ++ rest = back ∙ more in
     let cut : IsLexeme (take m bytes) symbol front = IsLexeme-cut (take m bytes) front rest symbol (rw (← behind) is) in (
       take m bytes ++ front,
@@ -139,6 +157,7 @@ FaultIn-lexeme at m symbol bytes e (left, split, back, len, is) (front, rest, ts
       split ∙ ap (λ x. take m bytes ++ x) behind ∙ sym (append_assoc (take m bytes) front rest),
       ([], take m bytes, front, refl, refl, cut, omega arith, omega (arith, len), spelled),
       low_append (take m bytes) front (low_lexeme (take m bytes) left symbol is) low,
+      ([], take m bytes, left, split, refl, is, omega arith, omega (arith, len), rw back before),
       (omega (arith, place, length-append (take m bytes) front, len), names),
     )
 
@@ -252,10 +271,11 @@ Stands-scan text e utf8 h = go (has_mark text) refl h
         let fault = scanned_fault 3 mark.0 e (ap (λ x. scanned 3 (drop 3 x)) (sym mark.1) ∙ read) in
         let front = fault.0 in
         let split : text ≡ (byte_order_mark ++ front) ++ fault.1 = mark.1 ∙ ap (λ x. byte_order_mark ++ x) fault.3 in
-        (byte_order_mark ++ front, fault.1, fault.2, split, omega (arith, fault.6.0), (utf8_front text byte_order_mark front fault.1 utf8 split mark_utf8 fault.5, inr (front, refl, fault.4)), fault.6.1)
+        (byte_order_mark ++ front, fault.1, fault.2, split, omega (arith, fault.7.0), (utf8_front text byte_order_mark front fault.1 utf8 split mark_utf8 fault.5, inr (front, refl, fault.4)), inr (mark.0, mark.1, fault.6), fault.7.1)
     go false k read =
         let fault = scanned_fault 0 text e read in
-        (fault.0, fault.1, fault.2, fault.3, omega (arith, fault.6.0), (utf8_front text [] fault.0 fault.1 utf8 fault.3 IsUtf8-nil fault.5, inl fault.4), fault.6.1)
+        let none : (more : List ℕ) → ¬ (text ≡ byte_order_mark ++ more) = λ more is. let wrong : has_mark text ≡ true = ap has_mark is in cc in
+        (fault.0, fault.1, fault.2, fault.3, omega (arith, fault.7.0), (utf8_front text [] fault.0 fault.1 utf8 fault.3 IsUtf8-nil fault.5, inl fault.4), inl (none, fault.6), fault.7.1)
 
 abbrev Refused : LexError → List ℕ → Type 0
 Refused e text = (length text ≤ max_len) × IsUtf8 text × ((tokens : List Placed) → ¬ (lexes text tokens)) × Stands e text
@@ -275,8 +295,8 @@ Refuses-scan text (errors.FloatLiteral at) fits utf8 h = refused text (errors.Fl
 Refuses-scan text (errors.NotUtf8 at) fits utf8 h = absurd (not_named (Stands-scan text (errors.NotUtf8 at) utf8 h))
   where
     not_named : Stands (errors.NotUtf8 at) text → ⊥
-    not_named (front, rest, tokens, split, place, lexed, names) = names
+    not_named (front, rest, tokens, split, place, lexed, comes, names) = names
 Refuses-scan text (errors.FileTooLong at) fits utf8 h = absurd (not_named (Stands-scan text (errors.FileTooLong at) utf8 h))
   where
     not_named : Stands (errors.FileTooLong at) text → ⊥
-    not_named (front, rest, tokens, split, place, lexed, names) = names
+    not_named (front, rest, tokens, split, place, lexed, comes, names) = names

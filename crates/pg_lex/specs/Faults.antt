@@ -1,4 +1,5 @@
 -- What each code of a refusal names, of the bytes from its place to the text's end.
+-- Source: this profile's choice, as the specification names no faults.
 use Rattle.std.specs.Prelude.{◌≡◌, ◌⊎◌, ℕ, ◌^◌, ◌<◌, ◌≤◌, true, false, ◌||◌, ◌==◌, List, ◌∷◌, ◌++◌, Some}
 use Rattle.std.specs.Str.{is_utf8}
 use Rattle.pg_lex.specs.declared.error.LexError.{LexError}
@@ -37,7 +38,8 @@ BeginsNumber bytes n = (digits rest : List ℕ) × (bytes ≡ digits ++ rest) ×
 abbrev pub BadNumber : List ℕ → Type 0
 BadNumber bytes = (begins is_digit bytes ≡ true) × ((n : ℕ) → ¬ (BeginsNumber bytes n))
 
--- A `.` before a digit, or decimal or octal digits before `.`, `e` or `E`.
+-- A `.` before a digit, or decimal or octal digits before `.`, `e` or `E`. The specification's "Floating-point
+-- Literals" are no lexemes here: this profile's choice.
 abbrev pub BeginsFloat : List ℕ → Type 0
 BeginsFloat bytes =
     ((rest : List ℕ) × (bytes ≡ 46 ∷ rest) × (begins is_digit rest ≡ true))

@@ -1,4 +1,5 @@
 -- Laws about the definition of tokens.
+-- Source: they follow from the definitions; the small texts read proto3 language specification, "Lexical Elements".
 use Rattle.std.specs.Prelude.{◌≡◌, ℕ, ◌+◌, List, [], ◌∷◌, ◌++◌, length, codes}
 use Rattle.pg_lex.specs.declared.error.LexError.{LexError}
 use Rattle.pg_lex.specs.declared.error.LexError.TheVariants.{BadCharacter, OpenString, BadEscape, OpenComment, NumberTooLarge, FloatLiteral}
@@ -8,6 +9,14 @@ use Rattle.pg_lex.specs.Symbol.{Symbol, Word, Whole, Text, Mark, Placed}
 -- A text has one row of tokens at most.
 abbrev pub OneReading : Type 0
 OneReading = (text : List ℕ) (some others : List Placed) → lexes text some → lexes text others → some ≡ others
+
+-- A text has one fault at most, whose code and place are one.
+abbrev pub OneFault : Type 0
+OneFault = (text : List ℕ) (e f : LexError) → Stands e text → Stands f text → e ≡ f
+
+-- A text that has tokens has no fault.
+abbrev pub TokensOrFault : Type 0
+TokensOrFault = (text : List ℕ) (e : LexError) (tokens : List Placed) → Stands e text → ¬ (lexes text tokens)
 
 -- ---- small texts
 
@@ -23,6 +32,7 @@ SmallTexts =
     × lexes (codes "; // end") (placed (Mark 59) 0 1 ∷ [])
     × lexes (codes "a/**/b") (placed (Word (codes "a")) 0 1 ∷ placed (Word (codes "b")) 5 6 ∷ [])
     × lexes (codes "/* / * **/-") (placed (Mark 45) 10 11 ∷ [])
+    × lexes byte_order_mark []
     × lexes (byte_order_mark ++ codes "_1") (placed (Word (codes "_1")) 3 5 ∷ [])
     × lexes (codes "0x1F") (placed (Whole 31) 0 4 ∷ [])
     × lexes (codes "017") (placed (Whole 15) 0 3 ∷ [])
@@ -45,16 +55,19 @@ EachEscape =
     × Escapes (codes "0") (0 ∷ []) × Escapes (codes "12") (10 ∷ []) × Escapes (codes "1013") (codes "A3")
     × Escapes (codes "x9") (9 ∷ []) × Escapes (codes "X412") (codes "A2") × Escapes (codes "u00412") (codes "A2") × Escapes (codes "U0010FFFF") (0xF4 ∷ 0x8F ∷ 0xBF ∷ 0xBF ∷ [])
 
--- The text has no tokens, and the fault is its first.
+-- The text has no tokens, and the fault stands in it.
 abbrev pub HasNone : LexError → List ℕ → Type 0
 HasNone e text = ((tokens : List Placed) → ¬ (lexes text tokens)) × Stands e text
 
 abbrev pub SmallFaults : Type 0
 SmallFaults =
     HasNone (FloatLiteral 0) (codes "1.")
+    × HasNone (FloatLiteral 0) (codes "1.5")
     × HasNone (FloatLiteral 1) (codes "a.5")
     × HasNone (FloatLiteral 0) (codes "01.5")
     × HasNone (FloatLiteral 3) (codes "0x1.5")
+    × HasNone (BadCharacter 4) (codes "a08 @")
+    × HasNone (BadCharacter 6) (codes "// 08" ++ 10 ∷ 64 ∷ [])
     × HasNone (BadCharacter 0) (codes "12a")
     × HasNone (BadCharacter 0) (codes "08.5")
     × HasNone (BadCharacter 2) (codes "; 0x")

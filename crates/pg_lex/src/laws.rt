@@ -1,10 +1,16 @@
 //! Laws about the definitions. Each is the contract of a function that does nothing.
 
-ghost use Rattle.pg_lex.specs.Laws.{EachEscape, OneReading, SmallFaults, SmallTexts};
+ghost use Rattle.pg_lex.specs.Laws.{EachEscape, OneFault, OneReading, SmallFaults, SmallTexts, TokensOrFault};
 
 /// A text has one row of tokens at most.
 pub fn one_reading()
     ensures { OneReading }
+{}
+
+/// A text has one lexical fault at most, of one kind at one place, and none where it has tokens.
+pub fn one_fault()
+    ensures one { OneFault }
+    ensures alone { TokensOrFault }
 {}
 
 /// The tokens of small texts, each escape of a literal, and small texts that have no tokens.

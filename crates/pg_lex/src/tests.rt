@@ -45,7 +45,7 @@ fn shown(alloc: Global, text: &[u8]) -> Result<String, AllocError> {
 
 #[test]
 fn blanks_and_comments(rt: HostRuntime) -> Result<(), Fail> {
-    let rows: [(&[u8], &str); 17] = [
+    let rows: [(&[u8], &str); 19] = [
         (b"", ""),
         (b" \t\n\r\x0b\x0c", ""),
         (b"a b", "a@0-1 b@2-3"),
@@ -60,6 +60,8 @@ fn blanks_and_comments(rt: HostRuntime) -> Result<(), Fail> {
         (b"a\n /* *", "open comment 2:2"),
         (b"a /", "bad character 1:3"),
         (b"/ /", "bad character 1:1"),
+        (b"\xef\xbb\xbf", ""),
+        (b"\xef\xbb\xbf\xef\xbb\xbf", "bad character 1:4"),
         (b"\xef\xbb\xbfa", "a@3-4"),
         (b"\xef\xbb\xbf$", "bad character 1:4"),
         (b" \xef\xbb\xbf", "bad character 1:2"),
@@ -189,7 +191,7 @@ fn literals(rt: HostRuntime) -> Result<(), Fail> {
 // Each front of one text; a fault that comes first is told first.
 #[test]
 fn fronts_and_orders(rt: HostRuntime) -> Result<(), Fail> {
-    let rows: [(&[u8], &str); 17] = [
+    let rows: [(&[u8], &str); 19] = [
         (b"a", "a@0-1"),
         (b"a=", "a@0-1 =@1-2"),
         (b"a='", "open string 1:3"),
@@ -202,6 +204,8 @@ fn fronts_and_orders(rt: HostRuntime) -> Result<(), Fail> {
         (b"a='\\n'/**/", "a@0-1 =@1-2 \"\\n\"@2-6"),
         (b"a='\\n'/**/0x", "bad character 1:11"),
         (b"a='\\n'/**/0x1", "a@0-1 =@1-2 \"\\n\"@2-6 1@10-13"),
+        (b"a08 @", "bad character 1:5"),
+        (b"// 08\n@", "bad character 2:1"),
         (b"1. $ \"", "float 1:1"),
         (b"$ 1.", "bad character 1:1"),
         (b"$ \xc3", "not UTF-8 1:3"),
