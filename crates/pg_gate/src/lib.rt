@@ -1,0 +1,25 @@
+//! The whole product: the words of a command line, an answer, its text in a sink and its status.
+#![tactic(auto)]
+
+mod answer;
+mod buffer;
+mod call;
+mod command_line;
+mod error;
+mod hex;
+mod program;
+mod refusal;
+mod reply;
+mod sink;
+mod standard_output;
+
+pub use buffer::Buffer;
+pub use call::{Call, Sides};
+pub use error::{Fault, GateError, Place, Side};
+pub use hex::{Digits, Hex};
+pub use pg_link::{Listed, SourceError, Sources};
+pub use program::run;
+pub use refusal::{Location, Refusal};
+pub use reply::{Finding, Reply, Report};
+pub use sink::{Sink, SinkError, write_all};
+pub use standard_output::StandardOutput;
