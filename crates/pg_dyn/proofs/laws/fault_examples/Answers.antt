@@ -1,0 +1,5 @@
+use Rattle.pg_dyn.proofs.FaultExamples as FaultExamples
+use Rattle.pg_dyn.proofs.laws.fault_examples.Goals as goal
+
+pub returns : goal.returns
+returns c = FaultExamples.fault_examples

@@ -1,0 +1,5 @@
+use Rattle.pg_dyn.proofs.Examples as Examples
+use Rattle.pg_dyn.proofs.laws.worked_examples.Goals as goal
+
+pub returns : goal.returns
+returns c = Examples.worked_examples

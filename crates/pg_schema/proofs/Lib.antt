@@ -1,0 +1,6 @@
+pub mod FlatFields
+pub mod FlatRows
+pub mod FlatTypes
+pub mod NameTables
+pub mod FieldSearch
+pub mod TypeSearch

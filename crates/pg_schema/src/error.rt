@@ -1,0 +1,24 @@
+//! Why parts make no schema.
+
+use std::error::Error;
+use std::fmt;
+
+/// Why parts make no schema.
+#[derive(Clone, Copy, Debug, PartialEq, Eq)]
+pub enum PartsError {
+    /// Memory was refused (E001).
+    Memory,
+    /// The parts don't meet what holds of every schema.
+    Invariant,
+}
+
+impl fmt::Display for PartsError {
+    fn fmt<W: fmt::Write>(&self, f: &mut fmt::Formatter<W>) -> fmt::Result {
+        match self {
+            PartsError::Memory => write!(f, "out of memory"),
+            PartsError::Invariant => write!(f, "the parts make no schema"),
+        }
+    }
+}
+
+impl Error for PartsError {}

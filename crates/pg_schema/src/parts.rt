@@ -1,0 +1,19 @@
+//! All that a schema declares, as plain data.
+
+use crate::enum_type::EnumType;
+use crate::file::File;
+use crate::message_type::MessageType;
+use crate::service::Service;
+
+/// All that a schema declares, in order of declaration.
+#[derive(Debug, PartialEq, Eq, Drop)]
+pub struct Parts {
+    /// The files, each after those that it imports.
+    pub files: Vec<File>,
+    /// The message types of all files. A `TypeId` is a place here.
+    pub types: Vec<MessageType>,
+    /// The enums of all files. An `EnumId` is a place here.
+    pub enums: Vec<EnumType>,
+    /// The services of all files. A `ServiceId` is a place here.
+    pub services: Vec<Service>,
+}
