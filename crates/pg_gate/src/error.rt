@@ -20,6 +20,29 @@ pub struct Place {
     pub column: usize,
 }
 
+/// What is wrong in a text.
+#[derive(Clone, Copy, Debug, PartialEq, Eq, Error)]
+pub enum TextError {
+    /// E201: the file doesn't begin with `syntax = "proto3"`.
+    #[error("not a proto3 file")]
+    NotProto3,
+    /// E202: no file goes on with this token.
+    #[error("unexpected token")]
+    Unexpected,
+    /// E304: the scope has the name already.
+    #[error("name declared twice")]
+    DuplicateName,
+    /// E401: a field number is from 1 to 536,870,911, and not from 19,000 to 19,999.
+    #[error("field number out of range")]
+    BadNumber,
+    /// E402: the message has the field number already.
+    #[error("field number used twice")]
+    DuplicateNumber,
+    /// E413: there are more than 4,096 message types.
+    #[error("too many message types")]
+    TooManyTypes,
+}
+
 /// Why a side does not compile.
 #[derive(Debug, PartialEq, Eq, Drop, Error)]
 pub enum Fault {
@@ -29,6 +52,9 @@ pub enum Fault {
     /// E309: the source failed.
     #[error("the file {file} could not be read")]
     SourceFailed { file: String },
+    /// A fault of a text, by its own code, at its place.
+    #[error("{place}: {error}")]
+    InText { error: TextError, place: Place },
 }
 
 /// Why the gate gives no answer.
