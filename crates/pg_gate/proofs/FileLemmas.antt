@@ -1,11 +1,11 @@
 -- Files of a side that are read one after the other.
-use Rattle.std.proofs.Common.{◌≡◌, ◌∙◌, ◌<◌, ℕ, zero, suc, arith, Bool, List, [], ◌∷◌, ◌++◌, All, Contains, length, map, get_or, sym, ap, subst, string_bytes, IsTrue}
+use Rattle.std.proofs.Common.{◌≡◌, ◌<◌, ℕ, zero, suc, arith, Bool, List, [], ◌∷◌, ◌++◌, All, Contains, length, get_or, sym, subst, IsTrue}
 use Rattle.std.specs.Borrow.{Bor}
 use Rattle.std.proofs.lemmas.List.{length-map, get_or-map}
 use Rattle.std.proofs.lemmas.List.Elements.{All-append}
 use Rattle.clap.specs.Words.{Text}
 use Rattle.pg_link.specs.Below.{path_below}
-use Rattle.pg_gate.specs.Files.{IsErrorOf, IsFaultAmong, IsFileAmong, IsFileError, IsFileFault, IsFileOf, IsSideError, paths_of}
+use Rattle.pg_gate.specs.Files.{IsFaultAmong, IsFileAmong, IsFileError, IsFileFault, IsFileOf, IsSideError, paths_of}
 use Rattle.pg_gate.specs.declared.error.Fault.{Fault}
 use Rattle.pg_gate.specs.declared.error.GateError.{GateError}
 use Rattle.pg_gate.specs.declared.error.GateError.TheVariants as gates
@@ -40,7 +40,7 @@ fault-among give then lack lacked folder paths path fault same_given same_lacked
   path = path;
   among = among;
   is_fault = subst (λ (l : Text → Bool). IsFileFault give l folder path fault) same_lacked
-    (subst (λ (g : Text → Text → Bool). IsFileFault g lacked folder path fault) same_given is_fault);
+      (subst (λ (g : Text → Text → Bool). IsFileFault g lacked folder path fault) same_given is_fault);
 }
 
 -- what is wrong with one of the files is wrong with the side

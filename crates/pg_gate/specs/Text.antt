@@ -57,7 +57,7 @@ side_before None = []
 
 abbrev pub location_of : Location → Text
 location_of location.Nowhere = []
-location_of (location.InText place) = codes " " ++ place_of place
+location_of (location.InPlace place) = codes " " ++ place_of place
 location_of (location.InFile file) = codes " " ++ string_bytes file
 
 -- `refused CODE`, and then where the fault is

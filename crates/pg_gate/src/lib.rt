@@ -2,6 +2,7 @@
 #![tactic(auto)]
 
 mod answer;
+mod breaking;
 mod buffer;
 mod call;
 mod command_line;
@@ -14,7 +15,9 @@ mod reply;
 mod sink;
 mod standard_output;
 mod text;
+mod trial;
 
+pub use breaking::{Answer, gate, gate_files};
 pub use buffer::Buffer;
 pub use call::{Call, Sides};
 pub use error::{Fault, GateError, Place, Side, TextError};

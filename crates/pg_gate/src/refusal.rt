@@ -1,22 +1,24 @@
 //! The line of a refusal.
 ghost use Rattle.std.specs.Prelude.{◌≡◌, Some};
 ghost use Rattle.pg_gate.specs.Printed as printed;
+ghost use Rattle.pg_gate.specs.Refusals as refusals;
 ghost use Rattle.pg_gate.specs.Text as spec;
+ghost use Rattle.pg_gate.specs.declared.error.GateError.TheVariants as errors;
 
-use crate::error::{Place, Side};
+use crate::error::{Fault, GateError, Place, Side, TextError};
 use std::fmt;
 
 /// The code of a file that a source does not have.
-pub const MISSING_FILE: u16 = 301;
+const MISSING_FILE: u16 = 301;
 
 /// The code of a source that failed.
-pub const SOURCE_FAILED: u16 = 309;
+const SOURCE_FAILED: u16 = 309;
 
 /// The code of a root type that the old schema does not have.
-pub const ROOT_MISSING_OLD: u16 = 901;
+const ROOT_MISSING_OLD: u16 = 901;
 
 /// The code of a root type that the new schema does not have.
-pub const ROOT_MISSING_NEW: u16 = 902;
+const ROOT_MISSING_NEW: u16 = 902;
 
 /// A refusal: the side that was compiled, the code's number, and where the fault is.
 #[derive(Debug, Drop)]
@@ -30,7 +32,7 @@ pub struct Refusal {
 #[derive(Debug, Drop)]
 pub enum Location {
     Nowhere,
-    InText(Place),
+    InPlace(Place),
     InFile(String),
 }
 
@@ -41,6 +43,54 @@ impl Refusal {
     {
         if self.code == SOURCE_FAILED { 3 } else { 2 }
     }
+}
+
+impl TextError {
+    fn code(self) -> u16
+        ensures { result ≡ refusals.code_of_text self }
+    {
+        match self {
+            TextError::NotProto3 => 201,
+            TextError::Unexpected => 202,
+            TextError::DuplicateName => 304,
+            TextError::BadNumber => 401,
+            TextError::DuplicateNumber => 402,
+            TextError::TooManyTypes => 413,
+        }
+    }
+}
+
+/// The refusal of a side that does not compile.
+fn refusal_of_side(side: Side, fault: Fault) -> Refusal
+    ensures { Some result ≡ refusals.refusal_of (errors.Compile side fault) }
+{
+    let (code, location) = match fault {
+        Fault::MissingFile { file } => (MISSING_FILE, Location::InFile(file)),
+        Fault::SourceFailed { file } => (SOURCE_FAILED, Location::InFile(file)),
+        Fault::InText { error, place } => (error.code(), Location::InPlace(place)),
+    };
+    Refusal {
+        side: Some(side),
+        code,
+        location,
+    }
+}
+
+/// The refusal that is printed for an error. Want of memory and a sink that failed have none.
+pub(crate) fn refusal_of(error: GateError) -> Option<Refusal>
+    ensures { result ≡ refusals.refusal_of error }
+{
+    let code = match error {
+        GateError::Compile(side, fault) => return Some(refusal_of_side(side, fault)),
+        GateError::RootMissingOld => ROOT_MISSING_OLD,
+        GateError::RootMissingNew => ROOT_MISSING_NEW,
+        GateError::Memory | GateError::WriteFailed => return None,
+    };
+    Some(Refusal {
+        side: None,
+        code,
+        location: Location::Nowhere,
+    })
 }
 
 impl fmt::Display for Place {
@@ -57,7 +107,7 @@ impl fmt::Display for Location {
     fn fmt<W: fmt::Write>(&self, f: &mut fmt::Formatter<W>) -> fmt::Result {
         match self {
             Location::Nowhere => Ok(()),
-            Location::InText(place) => write!(f, " {place}"),
+            Location::InPlace(place) => write!(f, " {place}"),
             Location::InFile(file) => write!(f, " {file}"),
         }
     }

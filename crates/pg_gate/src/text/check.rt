@@ -170,11 +170,7 @@ fn fields_of(
     Ok((fields, declared))
 }
 
-fn message_type(
-    alloc: Global,
-    tree: &MessageTree,
-    file: usize,
-) -> Result<MessageType, CheckError>
+fn message_type(alloc: Global, tree: &MessageTree, file: usize) -> Result<MessageType, CheckError>
     ensures { IfErr result (IsFaultOf file) }
 {
     let (fields, declared) = fields_of(alloc, &tree.fields, file)?;

@@ -150,11 +150,7 @@ fn field(
 }
 
 /// Reads the fields of a message and the brace behind them.
-fn fields(
-    alloc: Global,
-    text: &[u8],
-    behind: usize,
-) -> Result<(Vec<FieldTree>, usize), ReadError>
+fn fields(alloc: Global, text: &[u8], behind: usize) -> Result<(Vec<FieldTree>, usize), ReadError>
     requires { behind ≤ length text.now }
     ensures { IfOk result (λ read. (behind ≤ read.1) × (read.1 ≤ length text.now)) }
 {
@@ -175,11 +171,7 @@ fn fields(
 }
 
 /// Reads a message behind its word `message`.
-fn message(
-    alloc: Global,
-    text: &[u8],
-    behind: usize,
-) -> Result<(MessageTree, usize), ReadError>
+fn message(alloc: Global, text: &[u8], behind: usize) -> Result<(MessageTree, usize), ReadError>
     requires { behind ≤ length text.now }
     ensures { IfOk result (λ read. (behind < read.1) × (read.1 ≤ length text.now)) }
 {
