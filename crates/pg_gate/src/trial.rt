@@ -1,12 +1,16 @@
 //! The trial of messages with one field.
-ghost use Rattle.std.specs.Prelude.{◌≡◌, Err, IfErr, IfOk, IfSome};
-ghost use Rattle.pg_gate.specs.Breaking.{IsFound, IsFoundAt, IsRefusedRoot, Lacks};
+ghost use Rattle.std.specs.Prelude.{◌≡◌, ◌⊎◌, ◌<◌, length, Err, IfErr, IfOk, IfSome};
+ghost use Rattle.pg_schema.specs.Parts.{shape_of};
+ghost use Rattle.pg_gate.specs.Breaking.{AreThere, IsFound, IsFoundAt, IsRefusedRoot, IsShared, Lacks};
 ghost use Rattle.pg_gate.specs.declared.error.GateError.TheVariants as errors;
 
 use crate::error::GateError;
-use pg_dyn::Message;
-use pg_schema::{Schema, TypeId};
-use std::alloc::Global;
+use pg_dyn::{Message, Value};
+use pg_schema::{Element, Scalar, Schema, TypeId};
+use std::alloc::{AllocError, Global};
+
+/// The numbers that are tried of an integer or a bool, where they are in its range.
+const NUMBERS: [i128; 6] = [1, 2, -1, 0x8000_0000, 0x1_0000_0000, 0x8000_0000_0000_0000];
 
 /// A breaking message, and the bytes that are written of it.
 #[derive(Drop)]
@@ -15,22 +19,108 @@ pub(crate) struct Found {
     pub(crate) bytes: Vec<u8>,
 }
 
-/// The shortest breaking message with one field, of equal ones the first.
-fn shortest(
+/// The old and the new message type, each in its schema.
+#[derive(Clone, Copy)]
+pub(crate) struct Pair<'a> {
+    pub(crate) old: &'a Schema,
+    pub(crate) new: &'a Schema,
+    pub(crate) old_root: TypeId,
+    pub(crate) new_root: TypeId,
+}
+
+/// The values that are tried of a scalar type.
+fn values_of(alloc: Global, scalar: Scalar) -> Result<Vec<Value>, AllocError> {
+    let mut values = Vec::new(alloc);
+    match scalar {
+        Scalar::Float => values.push(Value::F32(1))?,
+        Scalar::Double => values.push(Value::F64(1))?,
+        Scalar::String => values.push(Value::Text(String::from_str(alloc, "a")?))?,
+        Scalar::Bytes => {
+            values.push(Value::Bytes(Vec::from_slice(alloc, &[0x80])?))?;
+            values.push(Value::Bytes(Vec::from_slice(alloc, &[0x61])?))?;
+        }
+        _ => {
+            for number in NUMBERS {
+                values.push(Value::Int(number))?;
+            }
+        }
+    }
+    Ok(values)
+}
+
+/// Of two findings the shorter, of equally short ones the first.
+fn shorter(first: Option<Found>, second: Option<Found>) -> Option<Found>
+    ensures { (result ≡ first) ⊎ (result ≡ second) }
+{
+    match (&first, &second) {
+        (Some(found), Some(other)) if found.bytes.len() <= other.bytes.len() => first,
+        (Some(_), None) => first,
+        _ => second,
+    }
+}
+
+/// The message that holds the value in the field, where it breaks.
+fn try_value(
     _alloc: Global,
-    _old: &Schema,
-    _new: &Schema,
-    _old_root: TypeId,
-    _new_root: TypeId,
+    pair: &Pair<'_>,
+    number: u32,
+    _value: Value,
 ) -> Result<Option<Found>, GateError>
-    ensures found { IfOk result (λ found. IfSome found (IsFoundAt _old.now _new.now _old_root _new_root)) }
+    requires there { AreThere pair.now }
+    requires shared { IsShared pair.now number }
+    ensures found { IfOk result (λ found. IfSome found (IsFoundAt pair.now)) }
     ensures refused { IfErr result (λ error. error ≡ errors.Memory) }
 {
     Ok(None)
 }
 
-/// The shortest breaking message with one field of the old type of this full name, of equal ones
-/// the first.
+/// The shorter of what was found and what the values of the field give.
+fn try_field(
+    alloc: Global,
+    pair: &Pair<'_>,
+    number: u32,
+    found: Option<Found>,
+) -> Result<Option<Found>, GateError>
+    requires there { AreThere pair.now }
+    requires found { IfSome found (IsFoundAt pair.now) }
+    ensures found { IfOk result (λ found. IfSome found (IsFoundAt pair.now)) }
+    ensures refused { IfErr result (λ error. error ≡ errors.Memory) }
+{
+    let (Some(old), Some(_)) = (
+        pair.old.field(pair.old_root, number),
+        pair.new.field(pair.new_root, number),
+    ) else {
+        return Ok(found);
+    };
+    let Element::Scalar(scalar) = old.element else {
+        return Ok(found);
+    };
+    let mut best = found;
+    for value in values_of(alloc, scalar)? {
+        best = shorter(best, try_value(alloc, pair, number, value)?);
+    }
+    Ok(best)
+}
+
+/// The shortest breaking message with one field, of equally short ones that of the first field,
+/// and of that the first.
+fn shortest(alloc: Global, pair: &Pair<'_>) -> Result<Option<Found>, GateError>
+    requires there { AreThere pair.now }
+    ensures found { IfOk result (λ found. IfSome found (IsFoundAt pair.now)) }
+    ensures refused { IfErr result (λ error. error ≡ errors.Memory) }
+{
+    let mut best = None;
+    let Some(old_type) = pair.old.message_type(pair.old_root) else {
+        return Ok(best);
+    };
+    for field in &old_type.fields {
+        best = try_field(alloc, pair, field.number, best)?;
+    }
+    Ok(best)
+}
+
+/// The shortest breaking message with one field of the old type of this full name, of equally
+/// short ones the first.
 pub(crate) fn search(
     alloc: Global,
     old: &Schema,
@@ -49,5 +139,11 @@ pub(crate) fn search(
     let Some(new_root) = new.message(root) else {
         return Err(GateError::RootMissingNew);
     };
-    shortest(alloc, old, new, old_root, new_root)
+    let pair = Pair {
+        old,
+        new,
+        old_root,
+        new_root,
+    };
+    shortest(alloc, &pair)
 }
