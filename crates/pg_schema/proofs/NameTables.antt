@@ -11,8 +11,12 @@ use Rattle.std.proofs.lemmas.Option.{same_Some, none-some, slice_get_within}
 use Rattle.std.proofs.lemmas.Slice.Eq.{bytes_eq-Decides}
 use Rattle.pg_schema.specs.declared.field.TypeId.{TypeId}
 use Rattle.pg_schema.specs.declared.message_type.MessageType.{MessageType}
-use Rattle.pg_schema.specs.Names.{IsTableOfFirst, IsTable}
+use Rattle.pg_schema.specs.Names.{IsTable}
 use Rattle.pg_schema.specs.Parts.{name_at, HasDistinctNames}
+
+-- the table has each name of the first n types, with its place, and no other
+abbrev pub IsTableOfFirst : {Y : Type 0} → ℕ → List MessageType → BTreeMap (String Y) TypeId → Type 0
+IsTableOfFirst n types table = (id : TypeId) (name : List ℕ) → (get_by_text table name ≡ Some id) ↔ ((id.index < n) × (name_at types id ≡ Some name))
 
 abbrev pub place : ℕ → TypeId
 place i = record { index = i }

@@ -1,13 +1,9 @@
 -- The table of full names.
-use Rattle.std.specs.Prelude.{◌≡◌, ◌<◌, ◌↔◌, ℕ, List, Some, String}
+use Rattle.std.specs.Prelude.{◌≡◌, ◌↔◌, ℕ, List, Some, String}
 use Rattle.std.specs.BTreeMap.{BTreeMap, get_by_text}
 use Rattle.pg_schema.specs.declared.field.TypeId.{TypeId}
 use Rattle.pg_schema.specs.declared.message_type.MessageType.{MessageType}
 use Rattle.pg_schema.specs.Parts.{name_at}
-
--- the table has each name of the first n types, with its place, and no other
-abbrev pub IsTableOfFirst : {Y : Type 0} → ℕ → List MessageType → BTreeMap (String Y) TypeId → Type 0
-IsTableOfFirst n types table = (id : TypeId) (name : List ℕ) → (get_by_text table name ≡ Some id) ↔ ((id.index < n) × (name_at types id ≡ Some name))
 
 -- the table has the name of each type, with its place, and no other
 abbrev pub IsTable : {Y : Type 0} → List MessageType → BTreeMap (String Y) TypeId → Type 0

@@ -1,5 +1,8 @@
 //! Why parts make no schema.
 
+ghost use Rattle.std.specs.Prelude.{Some};
+ghost use Rattle.pg_schema.specs.Told.{told};
+
 use std::error::Error;
 use std::fmt;
 
@@ -13,6 +16,8 @@ pub enum PartsError {
 }
 
 impl fmt::Display for PartsError {
+    ghost output = { λ e. Some (told e) };
+
     fn fmt<W: fmt::Write>(&self, f: &mut fmt::Formatter<W>) -> fmt::Result {
         match self {
             PartsError::Memory => write!(f, "out of memory"),

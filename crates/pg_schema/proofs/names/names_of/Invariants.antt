@@ -1,4 +1,4 @@
-use Rattle.pg_schema.specs.Names.{IsTableOfFirst}
+use Rattle.pg_schema.proofs.NameTables.{IsTableOfFirst}
 use Rattle.pg_schema.proofs.names.names_of.Given as goal
 
 abbrev pub invariant-loop-index : goal.invariant-loop-index

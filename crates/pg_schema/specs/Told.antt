@@ -1,0 +1,8 @@
+-- What an error says of itself (this profile's choice).
+use Rattle.std.specs.Prelude.{ℕ, List, codes}
+use Rattle.pg_schema.specs.declared.error.PartsError.{PartsError}
+use Rattle.pg_schema.specs.declared.error.PartsError.TheVariants.{Memory, Invariant}
+
+abbrev pub told : PartsError → List ℕ
+told Memory = codes "out of memory"
+told Invariant = codes "the parts make no schema"
