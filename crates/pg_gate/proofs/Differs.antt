@@ -16,6 +16,7 @@ use Rattle.pg_dyn.specs.Message as model
 use Rattle.pg_dyn.specs.Kept.{Kept, KeptItem, message_of, of_number, parts_of}
 use Rattle.pg_dyn.specs.Kept as kept
 use Rattle.pg_dyn.specs.Comparison.{numbers, Sought, Alike, is_zero_sought, is_zero_item, hides_zero, shown, alike_leaves, same_key, meets, same_content, sought}
+use Rattle.pg_gate.specs.Shows.{ShowsOther, another, is_leaf, none}
 use Rattle.pg_dyn.proofs.ByField.{kept_gives}
 use Rattle.pg_dyn.proofs.Splitting.{found_number}
 
@@ -72,19 +73,9 @@ alike_false (elements.Enum x) (elements.Enum y) (F32 m) b other = other
 alike_false (elements.Enum x) (elements.Enum y) (F64 m) b other = other
 alike_false (elements.Enum x) (elements.Enum y) (Bytes m) b other = other
 
--- an item other than the leaf
-abbrev pub IsOther : Leaf → KeptItem → Type 0
-IsOther leaf (kept.Plain l) = leaf_eq leaf l ≡ false
-IsOther leaf (kept.Msg m) = ⊤
-
-meets_false : (f g : FieldShape) (leaf : Leaf) (item : KeptItem) → IsOther leaf item → meets numbers f g (Alike leaf) (model_item item) ≡ false
+meets_false : (f g : FieldShape) (leaf : Leaf) (item : KeptItem) → is_leaf leaf item ≡ false → meets numbers f g (Alike leaf) (model_item item) ≡ false
 meets_false f g leaf (kept.Plain l) other = alike_false f.element g.element leaf l other
 meets_false f g leaf (kept.Msg m) other = refl
-
--- no part is shown, or just one, of another item
-pub data ShowsOther (leaf : Leaf) : List (Part KeptItem) → Type 0 where
-  none : ShowsOther leaf []
-  another : (p : Part KeptItem) → IsOther leaf p.item → ShowsOther leaf (p ∷ [])
 
 -- ---- the message of one field
 
@@ -95,7 +86,7 @@ module _ (f g : FieldShape) (leaf : Leaf) (n : ℕ) where
   abbrev asked : Part Sought
   asked = record { number = n; key = None; item = Alike leaf }
 
-  not_met : (p : Part KeptItem) → IsOther leaf p.item → meet asked (model_part p) ≡ false
+  not_met : (p : Part KeptItem) → is_leaf leaf p.item ≡ false → meet asked (model_part p) ≡ false
   not_met p other = ap (λ b. same_key None p.key && b) (meets_false f g leaf p.item other) ∙ and-false (same_key None p.key)
 
   pointwise_false : (keep : Part Item → Bool) (ps : List (Part KeptItem)) → ShowsOther leaf ps → pointwise meet (asked ∷ []) (filter keep (map model_part ps)) ≡ false

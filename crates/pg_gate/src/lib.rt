@@ -12,6 +12,7 @@ mod hex;
 mod program;
 mod refusal;
 mod reply;
+mod shows;
 mod sink;
 mod standard_output;
 mod text;
