@@ -1,5 +1,5 @@
 -- What the gate answers.
-use Rattle.std.specs.Prelude.{◌≡◌, ◌≢◌, ◌<◌, ℕ, length, Some}
+use Rattle.std.specs.Prelude.{◌≡◌, ◌≢◌, ◌<◌, ℕ, [], length, false, Some, None}
 use Rattle.clap.specs.Words.{Text}
 use Rattle.pg_schema.specs.declared.field.TypeId.{TypeId}
 use Rattle.pg_schema.specs.declared.parts.Parts.{Parts}
@@ -7,7 +7,9 @@ use Rattle.pg_schema.specs.Parts.{name_at, shape_of}
 use Rattle.pg_schema.specs.Shape.{FieldShape, field_at, fields}
 use Rattle.pg_dyn.specs.Breaking.{Breaks}
 use Rattle.pg_dyn.specs.Comparison.{numbers}
-use Rattle.pg_dyn.specs.Kept.{Kept, message_of, type_of}
+use Rattle.pg_dyn.specs.Belonging.{IsMessage}
+use Rattle.pg_dyn.specs.Kept.{Kept, ends, holds, message_of, type_of}
+use Rattle.pg_dyn.specs.Message.{Leaf, is_zero}
 use Rattle.pg_dyn.specs.Encoding.{enc}
 use Rattle.pg_gate.specs.declared.trial.Found.{Found}
 use Rattle.pg_gate.specs.declared.trial.Pair.{Pair}
@@ -62,6 +64,13 @@ pub record IsShared (pair : Pair) (number : ℕ) : Type 0 where
   pub new_field : FieldShape
   pub in_old : field_at (fields (shape_of pair.old.now) pair.old_root) number ≡ Some old_field
   pub in_new : field_at (fields (shape_of pair.new.now) pair.new_root) number ≡ Some new_field
+
+-- the message of the old type that holds one item in that field, and nothing else
+pub record IsSingle (pair : Pair) (number : ℕ) (message : Kept) : Type 0 where
+  pub leaf : Leaf
+  pub is : message ≡ holds number None leaf (ends pair.old_root [])
+  pub is_message : IsMessage (shape_of pair.old.now) pair.old_root (message_of message)
+  pub not_zero : is_zero leaf ≡ false
 
 -- a breaking message of the old type, and what is written of it
 pub record IsFoundAt (pair : Pair) (found : Found) : Type 0 where

@@ -1,9 +1,11 @@
 -- What a reader shows of a field, beside the one item that was written.
-use Rattle.std.specs.Prelude.{◌≡◌, ℕ, List, [], ◌∷◌, Bool, false, Option, Some, None}
+use Rattle.std.specs.Prelude.{◌≡◌, ⊤, ℕ, List, [], ◌∷◌, Bool, false, Option, Some, None}
 use Rattle.std.specs.Borrow.{Bor}
 use Rattle.pg_dyn.specs.Kept.{KeptItem, Plain, Msg}
 use Rattle.pg_dyn.specs.Message.{Leaf, Part, leaf_eq}
 use Rattle.pg_dyn.specs.Seen.{content_seen, item_seen}
+use Rattle.pg_dyn.specs.declared.error.DynError.{DynError}
+use Rattle.pg_dyn.specs.declared.error.DynError.TheVariants as errors
 use Rattle.pg_dyn.specs.declared.message.Content.{Content}
 use Rattle.pg_dyn.specs.declared.message.Value.{Value}
 
@@ -37,3 +39,16 @@ IsOtherThan item content = (number : ℕ) (leaf : Leaf) → item_seen item ≡ P
 -- where the first content is that leaf, the second shows something else
 abbrev pub Differ : Content → Option (Bor Content) → Type 0
 Differ first second = (number : ℕ) (leaf : Leaf) → content_seen number first ≡ holds_leaf number leaf → ShowsOther leaf (parts_seen number second)
+
+-- the bytes are at fault, and not memory or a limit
+abbrev pub IsFault : DynError → Type 0
+IsFault (errors.Wire fault) = ⊤
+IsFault (errors.NotUtf8 at) = ⊤
+IsFault errors.Memory = ⊥
+IsFault errors.NoSuchField = ⊥
+IsFault errors.WrongKind = ⊥
+IsFault errors.OutOfRange = ⊥
+IsFault errors.OneofTwice = ⊥
+IsFault errors.DuplicateKey = ⊥
+IsFault errors.TooLong = ⊥
+IsFault (errors.TooDeep at) = ⊥

@@ -10,6 +10,7 @@ mod compile;
 mod error;
 mod hex;
 mod program;
+mod reading;
 mod refusal;
 mod reply;
 mod shows;
