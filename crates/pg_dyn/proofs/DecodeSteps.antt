@@ -54,7 +54,7 @@ at_type P [] i none h = none
 at_type P (fs ∷ shape) zero none h = h.0
 at_type P (fs ∷ shape) (suc i) none h = at_type P shape i none h.1
 
-is_type : (parts : Parts) → IsSchema parts → (type : TypeId) → IsType (length (shape_of parts)) (fields (shape_of parts) type)
+pub is_type : (parts : Parts) → IsSchema parts → (type : TypeId) → IsType (length (shape_of parts)) (fields (shape_of parts) type)
 is_type parts h type = at_type (IsType (length (shape_of parts))) (shape_of parts) type.index (record { each = tt; rising = tt }) h.shape.each
 
 pub rising : (parts : Parts) → IsSchema parts → (type : TypeId) → Rising (fields (shape_of parts) type)

@@ -25,15 +25,21 @@ abbrev pub IsItemOf : Scalar → Value → Type 0
 IsItemOf s (values.Msg child) = ⊥
 IsItemOf s value = InRange (scalar_form s) (leaf_of value)
 
+-- texts and bytes are one kind
+abbrev pub HoldsBytes : Form → Type 0
+HoldsBytes (Integer whole) = ⊥
+HoldsBytes Single = ⊥
+HoldsBytes Double = ⊥
+HoldsBytes Text = ⊤
+HoldsBytes Raw = ⊤
+
 -- the item is of the scalar's kind, whatever its range; texts and bytes are one kind
 abbrev pub IsKindOf : Form → Value → Type 0
 IsKindOf (Integer whole) (values.Int n) = ⊤
 IsKindOf Single (values.F32 bits) = ⊤
 IsKindOf Double (values.F64 bits) = ⊤
-IsKindOf Text (values.Text text) = ⊤
-IsKindOf Text (values.Bytes bytes) = ⊤
-IsKindOf Raw (values.Text text) = ⊤
-IsKindOf Raw (values.Bytes bytes) = ⊤
+IsKindOf f (values.Text text) = HoldsBytes f
+IsKindOf f (values.Bytes bytes) = HoldsBytes f
 IsKindOf f value = ⊥
 
 -- What is wrong with an item, by the error: its kind; of a right kind the number's range; the bytes of a text.
