@@ -18,6 +18,7 @@ mod sink;
 mod standard_output;
 mod text;
 mod trial;
+mod tried;
 
 pub use breaking::{Answer, gate, gate_files};
 pub use buffer::Buffer;

@@ -1,16 +1,16 @@
 //! The trial of messages with one field.
-ghost use Rattle.std.specs.Prelude.{◌≡◌, ◌⊎◌, ◌<◌, length, Err, IfErr, IfOk, IfSome};
-ghost use Rattle.pg_schema.specs.Parts.{shape_of};
-ghost use Rattle.pg_gate.specs.Breaking.{AreThere, IsFound, IsFoundAt, IsRefusedRoot, IsShared, Lacks};
+ghost use Rattle.std.specs.Prelude.{◌≡◌, ◌⊎◌, false, Err, IfErr, IfOk, IfSome};
+ghost use Rattle.pg_dyn.specs.Message.{is_zero};
+ghost use Rattle.pg_dyn.specs.Seen.{IsKey, leaf_of};
+ghost use Rattle.pg_gate.specs.Breaking.{AreThere, IsFound, IsFoundAt, IsRefusedRoot, IsShared, IsSingle, Lacks};
 ghost use Rattle.pg_gate.specs.declared.error.GateError.TheVariants as errors;
 
 use crate::error::GateError;
-use pg_dyn::{Message, Value};
-use pg_schema::{Element, Scalar, Schema, TypeId};
-use std::alloc::{AllocError, Global};
-
-/// The numbers that are tried of an integer or a bool, where they are in its range.
-const NUMBERS: [i128; 6] = [1, 2, -1, 0x8000_0000, 0x1_0000_0000, 0x8000_0000_0000_0000];
+use crate::reading::is_lost;
+use crate::tried::{Tried, values_of};
+use pg_dyn::{DynError, Message, Value, encode};
+use pg_schema::{Element, Schema, TypeId};
+use std::alloc::Global;
 
 /// A breaking message, and the bytes that are written of it.
 #[derive(Drop)]
@@ -28,26 +28,6 @@ pub(crate) struct Pair<'a> {
     pub(crate) new_root: TypeId,
 }
 
-/// The values that are tried of a scalar type.
-fn values_of(alloc: Global, scalar: Scalar) -> Result<Vec<Value>, AllocError> {
-    let mut values = Vec::new(alloc);
-    match scalar {
-        Scalar::Float => values.push(Value::F32(1))?,
-        Scalar::Double => values.push(Value::F64(1))?,
-        Scalar::String => values.push(Value::Text(String::from_str(alloc, "a")?))?,
-        Scalar::Bytes => {
-            values.push(Value::Bytes(Vec::from_slice(alloc, &[0x80])?))?;
-            values.push(Value::Bytes(Vec::from_slice(alloc, &[0x61])?))?;
-        }
-        _ => {
-            for number in NUMBERS {
-                values.push(Value::Int(number))?;
-            }
-        }
-    }
-    Ok(values)
-}
-
 /// Of two findings the shorter, of equally short ones the first.
 fn shorter(first: Option<Found>, second: Option<Found>) -> Option<Found>
     ensures { (result ≡ first) ⊎ (result ≡ second) }
@@ -59,19 +39,66 @@ fn shorter(first: Option<Found>, second: Option<Found>) -> Option<Found>
     }
 }
 
-/// The message that holds the value in the field, where it breaks.
-fn try_value(
+/// The message of the old type that holds the value in the field, where the value is one of the
+/// field's.
+fn single(
     _alloc: Global,
     pair: &Pair<'_>,
     number: u32,
-    _value: Value,
+    value: Value,
+) -> Result<Option<Message>, GateError>
+    requires there { AreThere pair.now }
+    requires key { IsKey value }
+    requires not_zero { is_zero (leaf_of value) ≡ false }
+    ensures single { IfOk result (λ message. IfSome message (IsSingle pair.now number)) }
+    ensures refused { IfErr result (λ error. error ≡ errors.Memory) }
+{
+    let _value = value;
+    Ok(None)
+}
+
+/// The message with its bytes, where a reader of the new type doesn't keep it.
+fn try_message(
+    alloc: Global,
+    pair: &Pair<'_>,
+    number: u32,
+    message: Message,
+) -> Result<Option<Found>, GateError>
+    requires there { AreThere pair.now }
+    requires shared { IsShared pair.now number }
+    requires single { IsSingle pair.now number message }
+    ensures found { IfOk result (λ found. IfSome found (IsFoundAt pair.now)) }
+    ensures refused { IfErr result (λ error. error ≡ errors.Memory) }
+{
+    let bytes = match encode(alloc, pair.old, &message) {
+        Ok(bytes) => bytes,
+        Err(DynError::Memory) => return Err(GateError::Memory),
+        Err(_) => return Ok(None),
+    };
+    if is_lost(alloc, pair, number, &message, &bytes)? {
+        Ok(Some(Found { message, bytes }))
+    } else {
+        Ok(None)
+    }
+}
+
+/// The message that holds the value in the field, where a reader of the new type doesn't keep it.
+fn try_value(
+    alloc: Global,
+    pair: &Pair<'_>,
+    number: u32,
+    tried: Tried,
 ) -> Result<Option<Found>, GateError>
     requires there { AreThere pair.now }
     requires shared { IsShared pair.now number }
     ensures found { IfOk result (λ found. IfSome found (IsFoundAt pair.now)) }
     ensures refused { IfErr result (λ error. error ≡ errors.Memory) }
 {
-    Ok(None)
+    let value = tried.value(alloc)?;
+    match single(alloc, pair, number, value)? {
+        Some(message) => try_message(alloc, pair, number, message),
+        None => Ok(None),
+    }
 }
 
 /// The shorter of what was found and what the values of the field give.
@@ -96,8 +123,8 @@ fn try_field(
         return Ok(found);
     };
     let mut best = found;
-    for value in values_of(alloc, scalar)? {
-        best = shorter(best, try_value(alloc, pair, number, value)?);
+    for tried in values_of(scalar) {
+        best = shorter(best, try_value(alloc, pair, number, *tried)?);
     }
     Ok(best)
 }
