@@ -1,5 +1,5 @@
 -- An item that becomes the content of an implicit field, and a record that is kept.
-use Rattle.std.proofs.Common.{◌≡◌, ℕ, List, [], ◌∷◌, ◌++◌, length, map, drop, ◌-◌, true, false, cond, None, refl, ap, ap₂, sym, subst, ◌∙◌, arith, length-append, drop_at}
+use Rattle.std.proofs.Common.{Bool, true, false, ◌≡◌, ℕ, List, [], ◌∷◌, ◌++◌, length, map, drop, ◌-◌, cond, None, refl, ap, ap₂, sym, subst, ◌∙◌, arith, length-append, drop_at, filter, not}
 use Rattle.std.specs.List.{AllByRecursion}
 use Rattle.pg_schema.specs.declared.field.TypeId.{TypeId}
 use Rattle.pg_wire.specs.Records.{WireRecord, IsRecord}
@@ -8,9 +8,12 @@ use Rattle.pg_dyn.specs.declared.message.Content.{Content}
 use Rattle.pg_dyn.specs.declared.message.Content.TheVariants as contents
 use Rattle.pg_dyn.specs.declared.message.Value.{Value}
 use Rattle.pg_dyn.specs.declared.message.Value.TheVariants as values
-use Rattle.pg_dyn.specs.Message.{Leaf, is_zero}
+use Rattle.pg_dyn.specs.Message.{Leaf, Part, is_zero}
 use Rattle.pg_dyn.specs.Kept.{Kept, KeptItem, Plain}
 use Rattle.pg_dyn.specs.Seen.{leaf_of, item_seen, content_seen, IsKey, record_seen}
+use Rattle.pg_schema.specs.declared.field.Presence.TheVariants as presences
+use Rattle.pg_schema.specs.Shape.{FieldShape, is_implicit}
+use Rattle.pg_dyn.specs.Setting.{is_zero_kept, settled}
 use Rattle.pg_dyn.specs.FieldList.{put_field, remove_field}
 use Rattle.pg_dyn.specs.Replacing.{with_parts, with_unknown, implicit_part}
 use Rattle.pg_dyn.proofs.Lists.{each-append}
@@ -72,3 +75,15 @@ pub all_records : (us new : List UnknownRecord) (u : UnknownRecord) (r : WireRec
 all_records us new u r is same h each =
     subst (λ xs. AllByRecursion IsRecord xs) (sym (ap (map record_seen) is ∙ map-snoc record_seen us u))
     (each-append IsRecord (map record_seen us) (record_seen u ∷ []) each (subst IsRecord (sym same) h, tt))
+
+-- a content of one item, settled in an implicit field
+pub settled_one : (n : ℕ) (f : FieldShape) (v : Value) → f.presence ≡ presences.Implicit → IsKey v → settled f (content_seen n (contents.One v)) ≡ implicit_part n (leaf_of v)
+settled_one n f v is key =
+    let ps = content_seen n (contents.One v) in
+    ap (λ p. cond (is_implicit p) (filter (λ (p : Part KeptItem). not (is_zero_kept p.item)) ps) ps) is
+    ∙ ap (λ (item : KeptItem). filter (λ (p : Part KeptItem). not (is_zero_kept p.item)) (record { number = n; key = None; item = item } ∷ [])) (key_seen v key)
+    ∙ of (is_zero (leaf_of v)) refl
+  where
+    of : (b : Bool) → is_zero (leaf_of v) ≡ b → filter (λ (p : Part KeptItem). not (is_zero_kept p.item)) (record { number = n; key = None; item = Plain (leaf_of v) } ∷ []) ≡ implicit_part n (leaf_of v)
+    of true e = rw e
+    of false e = rw e

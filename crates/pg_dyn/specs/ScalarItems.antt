@@ -42,9 +42,19 @@ IsKindOf f (values.Text text) = HoldsBytes f
 IsKindOf f (values.Bytes bytes) = HoldsBytes f
 IsKindOf f value = ⊥
 
+-- an integer out of the scalar's range
+abbrev pub IsOutOfRange : Scalar → Value → Type 0
+IsOutOfRange s (values.Int n) = IsInteger (scalar_form s) × (IsIntegerOf (scalar_form s) n → ⊥)
+IsOutOfRange s value = ⊥
+
+-- bytes that are no text, for a text
+abbrev pub IsNoText : Scalar → Value → Type 0
+IsNoText s (values.Bytes bytes) = (scalar_form s ≡ Text) × (is_utf8 bytes.items ≡ false)
+IsNoText s value = ⊥
+
 -- What is wrong with an item, by the error: its kind; of a right kind the number's range; the bytes of a text.
 abbrev pub IsFaultOf : Scalar → Value → DynError → Type 0
 IsFaultOf s value errors.WrongKind = IsKindOf (scalar_form s) value → ⊥
-IsFaultOf s (values.Int n) errors.OutOfRange = IsInteger (scalar_form s) × (IsIntegerOf (scalar_form s) n → ⊥)
-IsFaultOf s (values.Bytes bytes) (errors.NotUtf8 None) = (scalar_form s ≡ Text) × (is_utf8 bytes.items ≡ false)
+IsFaultOf s value errors.OutOfRange = IsOutOfRange s value
+IsFaultOf s value (errors.NotUtf8 None) = IsNoText s value
 IsFaultOf s value e = ⊥

@@ -4,7 +4,6 @@ ghost use Rattle.pg_dyn.specs.FieldList.{put_field, remove_field};
 ghost use Rattle.pg_dyn.specs.Seen.{Rises};
 
 use crate::message::Content;
-use std::alloc::AllocFailed;
 
 // How many fields have lower numbers. A number above all is found at once.
 fn place_of(fields: &[(u32, Content)], number: u32) -> usize
@@ -19,22 +18,25 @@ fn place_of(fields: &[(u32, Content)], number: u32) -> usize
     }
 }
 
-/// Puts a content under the number, in place of the one that stands there.
+/// Puts a content under the number, in place of the one that stands there. Where memory is refused, it comes back.
 pub(crate) fn put(
     fields: &mut Vec<(u32, Content)>,
     number: u32,
     content: Content,
-) -> Result<(), AllocFailed<(u32, Content)>>
+) -> Result<(), Content>
     requires { Rises fields.old.items }
     ensures ok { OnOk result (fields.new.items ≡ put_field number content fields.old.items) }
-    ensures err { IfErr result (λ e. (fields.new.items ≡ fields.old.items) × (e.value ≡ (number, content))) }
+    ensures err { IfErr result (λ back. (fields.new.items ≡ fields.old.items) × (back ≡ content)) }
 {
     let place = place_of(fields, number);
     if place < fields.len() && fields[place].0 == number {
         fields[place].1 = content;
         return Ok(());
     }
-    fields.insert(place, (number, content))
+    match fields.insert(place, (number, content)) {
+        Ok(()) => Ok(()),
+        Err(failed) => Err(failed.value.1),
+    }
 }
 
 /// Takes out the content under the number, where there is one.

@@ -1,7 +1,7 @@
 -- The place of the number is that of its field, or one where none of it stands.
 use Rattle.std.proofs.Common.{◌≡◌, ◌<◌, ◌≢◌, ℕ, List, ◌∷◌, take, drop, length, ap, ◌∙◌, subst, arith}
 use Rattle.pg_dyn.specs.declared.message.Content.{Content}
-use Rattle.pg_dyn.proofs.FieldListLaws.{AllBelow, AllFrom, put_there, inserted, apart_past_end, apart_there, number_at, on_ok}
+use Rattle.pg_dyn.proofs.FieldListLaws.{AllBelow, AllFrom, put_there, inserted, apart_past_end, apart_there, number_at}
 use Rattle.pg_dyn.proofs.field_list.put.Goals.{else-place-len-via-then-place-len+else-index-number, else-place-len-via-else-place-len}
 use Rattle.pg_dyn.proofs.field_list.put.Goals as goal
 
@@ -16,8 +16,8 @@ returns-then-index-number-clause-ok c =
     let here = number_at fs place c.args.number c.index.result.now d inside c.index.ensures c.if-index-number.true in
     put_there fs place c.args.number c.requires low high inside d here d.0 c.args.content (ap (λ (f : ℕ × Content). f.0) c.index_mut.ensures.value ∙ here)
 
-pub returns-clause-ok : goal.returns-clause-ok
-returns-clause-ok c =
+pub returns-in-Ok-clause-ok : goal.returns-in-Ok-clause-ok
+returns-in-Ok-clause-ok c =
     let fs = c.args.fields.now.items in
     let place = c.place_of-place.result in
     let low = subst (λ (xs : List (ℕ × Content)). AllBelow c.args.number (take place xs)) c.deref.ensures.value c.place_of-place.ensures.below in
@@ -30,5 +30,4 @@ returns-clause-ok c =
       | else-place-len-via-else-place-len w ↦
           apart_past_end fs place c.args.number (omega (arith, w.if-place-len.false, c.len.ensures, c.args.fields.now.ok.0))
     ] in
-    let put = inserted fs place c.args.number c.requires low high apart c.args.content in
-    on_ok c.insert.result c.insert.new.self.items _ fs _ c.insert.ensures.items put
+    c.in-Ok.ensures.items ∙ inserted fs place c.args.number c.requires low high apart c.args.content

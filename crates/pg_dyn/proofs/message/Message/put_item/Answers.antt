@@ -6,7 +6,7 @@ use Rattle.pg_dyn.specs.declared.message.Content.TheVariants as contents
 use Rattle.pg_dyn.specs.Seen.{leaf_of, IsFilled, HasKeys, Rises, record_seen}
 use Rattle.pg_dyn.proofs.FieldListLaws.{rises_put, rises_remove, each_put, each_removed}
 use Rattle.pg_dyn.proofs.Holding.{held_none, held_one}
-use Rattle.pg_dyn.proofs.message.Message.hold.Goals as goal
+use Rattle.pg_dyn.proofs.message.Message.put_item.Goals as goal
 
 pub invariant_of-self : goal.invariant_of-self
 invariant_of-self c =
