@@ -8,7 +8,7 @@ ghost use Rattle.pg_gate.specs.declared.error.GateError.TheVariants as errors;
 use crate::error::GateError;
 use crate::reading::is_lost;
 use crate::tried::{Tried, values_of};
-use pg_dyn::{DynError, Message, Value, encode};
+use pg_dyn::{Content, DynError, Message, Value, encode};
 use pg_schema::{Element, Schema, TypeId};
 use std::alloc::Global;
 
@@ -42,7 +42,7 @@ fn shorter(first: Option<Found>, second: Option<Found>) -> Option<Found>
 /// The message of the old type that holds the value in the field, where the value is one of the
 /// field's.
 fn single(
-    _alloc: Global,
+    alloc: Global,
     pair: &Pair<'_>,
     number: u32,
     value: Value,
@@ -53,8 +53,12 @@ fn single(
     ensures single { IfOk result (λ message. IfSome message (IsSingle pair.now number)) }
     ensures refused { IfErr result (λ error. error ≡ errors.Memory) }
 {
-    let _value = value;
-    Ok(None)
+    let mut message = Message::empty(alloc, pair.old_root);
+    match message.set(pair.old, number, Content::One(value)) {
+        Ok(()) => Ok(Some(message)),
+        Err((DynError::Memory, _)) => Err(GateError::Memory),
+        Err(_) => Ok(None),
+    }
 }
 
 /// The message with its bytes, where a reader of the new type doesn't keep it.
