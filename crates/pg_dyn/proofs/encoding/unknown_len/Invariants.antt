@@ -1,0 +1,10 @@
+-- The records before the index are counted.
+use Rattle.std.proofs.Common.{◌≡◌, ◌≤◌, length, take, flat_map}
+use Rattle.pg_dyn.specs.EncodedFields.{record_bytes}
+use Rattle.pg_dyn.proofs.encoding.unknown_len.Given as goal
+
+abbrev pub invariant-loop-found : goal.invariant-loop-found
+invariant-loop-found l = record {
+  total : l.total ≡ length (flat_map record_bytes (take l.found-index l.fn.unknown));
+  most : l.total ≤ 2147483647;
+}
