@@ -1,0 +1,18 @@
+//! Sources and sinks that fail or go slowly, and the runs of the program over them.
+#![tactic(auto)]
+
+#[cfg(test)]
+mod answer_tests;
+mod failing_sink;
+mod failing_source;
+mod one_byte;
+#[cfg(test)]
+mod refusal_tests;
+#[cfg(test)]
+mod runs;
+#[cfg(test)]
+mod sink_tests;
+
+pub use failing_sink::FailingSink;
+pub use failing_source::FailingSource;
+pub use one_byte::OneByte;

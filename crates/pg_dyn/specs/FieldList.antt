@@ -1,0 +1,17 @@
+-- The fields of a message by rising number, as the program holds them.
+use Rattle.std.specs.Prelude.{ℕ, List, ◌∷◌, ◌++◌, filter, nat_lt}
+use Rattle.pg_dyn.specs.declared.message.Content.{Content}
+
+abbrev pub fields_below : ℕ → List (ℕ × Content) → List (ℕ × Content)
+fields_below number fields = filter (λ (f : ℕ × Content). nat_lt f.0 number) fields
+
+abbrev pub fields_above : ℕ → List (ℕ × Content) → List (ℕ × Content)
+fields_above number fields = filter (λ (f : ℕ × Content). nat_lt number f.0) fields
+
+-- with this content under the number, whatever stood there
+abbrev pub put_field : ℕ → Content → List (ℕ × Content) → List (ℕ × Content)
+put_field number content fields = fields_below number fields ++ (number, content) ∷ fields_above number fields
+
+-- without a content under the number
+abbrev pub remove_field : ℕ → List (ℕ × Content) → List (ℕ × Content)
+remove_field number fields = fields_below number fields ++ fields_above number fields

@@ -1,0 +1,44 @@
+-- Items of scalar fields, as the program holds them.
+use Rattle.std.specs.Prelude.{◌≡◌, ℕ, ⊤, List, length, None, false}
+use Rattle.std.specs.Str.{is_utf8}
+use Rattle.pg_schema.specs.declared.field.Scalar.{Scalar}
+use Rattle.pg_wire.specs.declared.record.WireType.{WireType}
+use Rattle.pg_wire.specs.declared.record.WireType.TheVariants.{Varint, I64, Len, I32}
+use Rattle.pg_wire.specs.Varint.{IsVarint}
+use Rattle.pg_dyn.specs.declared.message.Value.{Value}
+use Rattle.pg_dyn.specs.declared.message.Value.TheVariants as values
+use Rattle.pg_dyn.specs.Coding.{Form, Integer, Single, Double, Text, Raw, InRange, scalar_form}
+use Rattle.pg_dyn.specs.Seen.{leaf_of}
+use Rattle.pg_dyn.specs.WordOf.{IsInteger, IsIntegerOf}
+use Rattle.pg_dyn.specs.declared.error.DynError.{DynError}
+use Rattle.pg_dyn.specs.declared.error.DynError.TheVariants as errors
+
+-- the bytes have the shape of a body of this wire type
+abbrev pub HasShape : WireType → List ℕ → Type 0
+HasShape Varint body = IsVarint body
+HasShape I64 body = length body ≡ 8
+HasShape I32 body = length body ≡ 4
+HasShape Len body = ⊤
+
+-- the item is one of the scalar: of its kind, in its range, a text UTF-8
+abbrev pub IsItemOf : Scalar → Value → Type 0
+IsItemOf s (values.Msg child) = ⊥
+IsItemOf s value = InRange (scalar_form s) (leaf_of value)
+
+-- the item is of the scalar's kind, whatever its range; texts and bytes are one kind
+abbrev pub IsKindOf : Form → Value → Type 0
+IsKindOf (Integer whole) (values.Int n) = ⊤
+IsKindOf Single (values.F32 bits) = ⊤
+IsKindOf Double (values.F64 bits) = ⊤
+IsKindOf Text (values.Text text) = ⊤
+IsKindOf Text (values.Bytes bytes) = ⊤
+IsKindOf Raw (values.Text text) = ⊤
+IsKindOf Raw (values.Bytes bytes) = ⊤
+IsKindOf f value = ⊥
+
+-- What is wrong with an item, by the error: its kind; of a right kind the number's range; the bytes of a text.
+abbrev pub IsFaultOf : Scalar → Value → DynError → Type 0
+IsFaultOf s value errors.WrongKind = IsKindOf (scalar_form s) value → ⊥
+IsFaultOf s (values.Int n) errors.OutOfRange = IsInteger (scalar_form s) × (IsIntegerOf (scalar_form s) n → ⊥)
+IsFaultOf s (values.Bytes bytes) (errors.NotUtf8 None) = (scalar_form s ≡ Text) × (is_utf8 bytes.items ≡ false)
+IsFaultOf s value e = ⊥

@@ -1,0 +1,45 @@
+ghost use Rattle.std.specs.Prelude.{◌≡◌, ◌&&◌, ◌||◌};
+ghost use Rattle.pg_schema.specs.Parts.{field_shape};
+ghost use Rattle.pg_schema.specs.Shape.{is_packable, is_repeated};
+ghost use Rattle.pg_dyn.specs.Coding.{form, form_wire};
+ghost use Rattle.pg_dyn.specs.Content.{own_wire, same_wire};
+ghost use Rattle.pg_wire.specs.declared.record.WireType.TheVariants.{Len};
+
+use crate::body::wire_type_of;
+use pg_schema::{Element, Field, Presence, Scalar};
+use pg_wire::WireType;
+
+// The wire type of an element's own records.
+fn element_wire_type(element: Element) -> WireType
+    ensures { result ≡ form_wire (form element) }
+{
+    match element {
+        Element::Scalar(scalar) => wire_type_of(scalar),
+        Element::Enum(_) => WireType::Varint,
+        Element::Message(_) => WireType::Len,
+    }
+}
+
+// Whether a list of such elements can stand in one record.
+fn is_packable(element: Element) -> bool
+    ensures { result ≡ is_packable element }
+{
+    !matches!(
+        element,
+        Element::Scalar(Scalar::String | Scalar::Bytes) | Element::Message(_)
+    )
+}
+
+/// Whether the field accepts a record of the wire type.
+pub(crate) fn accepts(field: &Field, wire_type: WireType) -> bool
+    ensures { result ≡ (same_wire wire_type (own_wire (field_shape field.now)) || (same_wire wire_type Len && is_repeated field.now.presence && is_packable field.now.element)) }
+{
+    match field.presence {
+        Presence::Map { .. } => wire_type == WireType::Len,
+        Presence::Repeated { .. } => {
+            wire_type == element_wire_type(field.element)
+                || (wire_type == WireType::Len && is_packable(field.element))
+        }
+        Presence::Implicit | Presence::Explicit => wire_type == element_wire_type(field.element),
+    }
+}

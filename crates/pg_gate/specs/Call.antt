@@ -1,0 +1,59 @@
+-- What the words of a command line call for.
+use Rattle.std.specs.Prelude.{List, [], ◌∷◌, Option, None, codes}
+use Rattle.std.specs.Prelude.{unwrap_or, option_map}
+use Rattle.clap.specs.Words.{Kinds, Row, Text, fault_of, first_of, subcommand_of}
+use Rattle.pg_gate.specs.CommandLine.{whole_app}
+use Rattle.pg_gate.specs.declared.call.Call.{Call}
+use Rattle.pg_gate.specs.declared.call.Call.TheVariants as call
+use Rattle.pg_gate.specs.declared.call.Sides.{Sides}
+
+-- the texts of the two sides
+pub record SideTexts : Type 0 where
+  pub old_dir : Text
+  pub new_dir : Text
+  pub old : Text
+  pub new : Text
+
+-- a call, as texts
+pub data Request : Type 0 where
+  gate : (sides : SideTexts) (root : Text) → Request
+
+abbrev pub sides_of : Sides → SideTexts
+sides_of s = record {
+  old_dir = s.old_dir.now;
+  new_dir = s.new_dir.now;
+  old = s.old.now;
+  new = s.new.now;
+}
+
+abbrev pub request_of : Call → Request
+request_of (call.Gate sides root) = gate (sides_of sides) root.now
+
+-- ---- from clap's matches
+
+abbrev pub text_at : Text → List Row → Text
+text_at id rows = unwrap_or (first_of id rows) []
+
+abbrev pub sides_in : List Row → SideTexts
+sides_in rows = record {
+  old_dir = text_at (codes "old-dir") rows;
+  new_dir = text_at (codes "new-dir") rows;
+  old = text_at (codes "old") rows;
+  new = text_at (codes "new") rows;
+}
+
+abbrev pub gate_in : List Row → Request
+gate_in rows = gate (sides_in rows) (text_at (codes "type") rows)
+
+-- the call of a subcommand and its matches; clap has only this one
+abbrev pub request_in : Text × List Row → Request
+request_in met = gate_in met.1
+
+-- the call of a parse with these faults, at this subcommand
+abbrev pub call_by : Kinds → Option (Text × List Row) → Option Request
+call_by [] met = option_map request_in met
+call_by (kind ∷ kinds) met = None
+
+-- what the words call for, where clap takes them
+abbrev pub call_of : List Text → Option Request
+call_of words = call_by (fault_of whole_app words) (subcommand_of whole_app words)

@@ -1,0 +1,38 @@
+-- The command line, as clap's contracts see a command.
+use Rattle.std.specs.Prelude.{◌≡◌, List, [], ◌∷◌, Some, true, false, codes}
+use Rattle.clap.specs.Words.{App, Rule, Text, app_of, new_app, new_rule, with_rule, with_subcommand}
+use Rattle.clap.specs.declared.Command.{Command}
+use Rattle.clap.specs.declared.Command.TheViews.{out-Command}
+
+-- ---- arguments
+
+-- `--NAME D`, by default `.`
+abbrev pub folder : Text → Rule
+folder name =
+    record (new_rule name) { long = Some name; value_names = 1; defaults = codes "." ∷ [] }
+
+-- `--NAME VALUE`
+abbrev pub named : Text → Rule
+named name = record (new_rule name) { long = Some name; value_names = 1; required = true }
+
+-- ---- commands
+
+abbrev pub with_rules : App → List Rule → App
+with_rules app [] = app
+with_rules app (rule ∷ rules) = with_rules (with_rule app rule) rules
+
+abbrev pub gate_app : App
+gate_app = with_rules (new_app (codes "gate")) (folder (codes "old-dir") ∷ folder (codes "new-dir")
+    ∷ named (codes "old") ∷ named (codes "new") ∷ named (codes "type") ∷ [])
+
+abbrev pub top_app : App
+top_app = let app = new_app (codes "protogate") in
+    record app { top = record app.top { no_binary_name = true; subcommand_required = true } }
+
+abbrev pub whole_app : App
+whole_app = with_subcommand top_app gate_app.top
+
+-- a command of this shape, with no argument that is global
+pub record HasApp (app : App) (command : Command) : Type 0 where
+  pub shape : app_of command ≡ app
+  pub local : (out-Command command).has_globals ≡ false

@@ -1,0 +1,101 @@
+-- Where the faults of a side's texts are.
+use Rattle.std.specs.Prelude.{◌≡◌, ◌<◌, ℕ, Bool, List, IsTrue, Contains, map, take, string_bytes, Result, Ok, Err}
+use Rattle.std.specs.Borrow.{Bor}
+use Rattle.clap.specs.Words.{Text}
+use Rattle.pg_lex.specs.Place.{line, column}
+use Rattle.pg_link.specs.Below.{path_below}
+use Rattle.pg_gate.specs.declared.error.Fault.{Fault}
+use Rattle.pg_gate.specs.declared.error.Fault.TheVariants.{MissingFile, SourceFailed, InText}
+use Rattle.pg_gate.specs.declared.error.GateError.{GateError}
+use Rattle.pg_gate.specs.declared.error.GateError.TheVariants as gates
+use Rattle.pg_gate.specs.declared.error.Place.{Place}
+use Rattle.pg_gate.specs.declared.error.Side.{Side}
+use Rattle.pg_gate.specs.declared.text.check.CheckError.{CheckError}
+use Rattle.pg_gate.specs.declared.text.check.CheckError.TheVariants as checks
+use Rattle.pg_gate.specs.declared.text.check.TextFile.{TextFile}
+
+-- a fault of the file at that place in a list
+abbrev pub IsFaultOf : ℕ → CheckError → Type 0
+IsFaultOf index checks.Memory = Unit {0}
+IsFaultOf index (checks.Fault error file at) = file ≡ index
+
+-- a fault of one of that many files
+abbrev pub IsFaultIn : ℕ → CheckError → Type 0
+IsFaultIn count checks.Memory = Unit {0}
+IsFaultIn count (checks.Fault error file at) = file < count
+
+abbrev pub paths_of : List (Bor Text) → List Text
+paths_of = map (λ path. path.now)
+
+-- ---- places
+
+-- the place is that of a byte of the text, or of its end
+pub record IsPlaceIn (text : Text) (place : Place) : Type 0 where
+  pub offset : ℕ
+  pub line_is : place.line ≡ line (take offset text)
+  pub column_is : place.column ≡ column (take offset text)
+
+-- a fault in that text of the file
+abbrev pub IsFaultOfText : Text → Text → Fault → Type 0
+IsFaultOfText path text (MissingFile file) = ⊥
+IsFaultOfText path text (SourceFailed file) = ⊥
+IsFaultOfText path text (InText error place) = (string_bytes place.file ≡ path) × IsPlaceIn text place
+
+-- ---- one file of a side
+
+-- the file at the path, with a text that its source may give
+pub record IsFileOf (give : Text → Text → Bool) (folder path : Text) (file : TextFile) : Type 0 where
+  pub path_is : string_bytes file.path ≡ path
+  pub given : IsTrue (give (path_below folder path) file.text.items)
+
+-- what is wrong with the file at the path: the source may lack it, or failed, or a text that it may give has the fault
+abbrev pub IsFileFault : (Text → Text → Bool) → (Text → Bool) → Text → Text → Fault → Type 0
+IsFileFault give lack folder path (MissingFile file) = (string_bytes file ≡ path) × IsTrue (lack (path_below folder path))
+IsFileFault give lack folder path (SourceFailed file) = string_bytes file ≡ path
+IsFileFault give lack folder path (InText error place) =
+    (text : Text) × IsTrue (give (path_below folder path) text) × IsFaultOfText path text (InText error place)
+
+-- ---- a side
+
+-- a side ends in want of memory, or in a fault of one of its files
+abbrev pub IsErrorOf : (Fault → Type 0) → Side → GateError → Type 0
+IsErrorOf fault side gates.Memory = Unit {0}
+IsErrorOf fault side gates.RootMissingOld = ⊥
+IsErrorOf fault side gates.RootMissingNew = ⊥
+IsErrorOf fault side (gates.Compile of found) = (of ≡ side) × fault found
+IsErrorOf fault side gates.WriteFailed = ⊥
+
+abbrev pub IsFileError : (Text → Text → Bool) → (Text → Bool) → Side → Text → Text → GateError → Type 0
+IsFileError give lack side folder path = IsErrorOf (IsFileFault give lack folder path) side
+
+pub record IsFileAmong (give : Text → Text → Bool) (folder : Text) (paths : List Text) (file : TextFile) : Type 0 where
+  pub among : Contains paths (string_bytes file.path)
+  pub given : IsTrue (give (path_below folder (string_bytes file.path)) file.text.items)
+
+pub record IsFaultAmong (give : Text → Text → Bool) (lack : Text → Bool) (folder : Text) (paths : List Text) (fault : Fault) : Type 0 where
+  pub path : Text
+  pub among : Contains paths path
+  pub is_fault : IsFileFault give lack folder path fault
+
+abbrev pub IsSideError : (Text → Text → Bool) → (Text → Bool) → Side → Text → List Text → GateError → Type 0
+IsSideError give lack side folder paths = IsErrorOf (IsFaultAmong give lack folder paths) side
+
+-- a fault in the text of one of these files
+pub record IsDeclarationFault (files : List TextFile) (fault : Fault) : Type 0 where
+  pub file : TextFile
+  pub among : Contains files file
+  pub is_fault : IsFaultOfText (string_bytes file.path) file.text.items fault
+
+abbrev pub IsDeclarationError : Side → List TextFile → GateError → Type 0
+IsDeclarationError side files = IsErrorOf (IsDeclarationFault files) side
+
+-- the failures of its source that a side's answer tells of
+abbrev pub source_failures : {X : Type 0} → Result X GateError → ℕ
+source_failures (Ok x) = 0
+source_failures (Err gates.Memory) = 0
+source_failures (Err gates.RootMissingOld) = 0
+source_failures (Err gates.RootMissingNew) = 0
+source_failures (Err (gates.Compile side (MissingFile file))) = 0
+source_failures (Err (gates.Compile side (SourceFailed file))) = 1
+source_failures (Err (gates.Compile side (InText error place))) = 0
+source_failures (Err gates.WriteFailed) = 0

@@ -1,0 +1,87 @@
+-- What a call may be answered, by what its sources may give and lack.
+use Rattle.std.specs.Prelude.{◌≡◌, ◌+◌, ◌≤◌, ℕ, Bool, List, [], ◌∷◌, Some}
+use Rattle.clap.specs.Words.{Text}
+use Rattle.pg_dyn.specs.Encoding.{enc}
+use Rattle.pg_dyn.specs.Kept.{Kept, message_of, type_of}
+use Rattle.pg_schema.specs.declared.parts.Parts.{Parts}
+use Rattle.pg_schema.specs.Parts.{shape_of}
+use Rattle.pg_gate.specs.Call.{Request, gate}
+use Rattle.pg_gate.specs.Files.{IsFaultAmong}
+use Rattle.pg_gate.specs.Breaking.{IsBreaking}
+use Rattle.pg_gate.specs.Refusals.{refusal_of}
+use Rattle.pg_gate.specs.declared.error.Fault.{Fault}
+use Rattle.pg_gate.specs.declared.error.Fault.TheVariants.{MissingFile, SourceFailed, InText}
+use Rattle.pg_gate.specs.declared.error.GateError.{GateError}
+use Rattle.pg_gate.specs.declared.error.GateError.TheVariants as errors
+use Rattle.pg_gate.specs.declared.error.Side.TheVariants as sides
+use Rattle.pg_gate.specs.declared.refusal.Refusal.{Refusal}
+use Rattle.pg_gate.specs.declared.reply.Finding.{Finding}
+use Rattle.pg_gate.specs.declared.reply.Finding.TheVariants as findings
+use Rattle.pg_gate.specs.declared.reply.Reply.{Reply}
+use Rattle.pg_gate.specs.declared.reply.Reply.TheVariants as replies
+
+-- what a run knows of a source: what it may give and lack, and its failures before and after
+pub record Seen : Type 0 where
+  pub may_give : Text → Text → Bool
+  pub may_lack : Text → Bool
+  pub before : ℕ
+  pub after : ℕ
+
+abbrev pub seen : (Text → Text → Bool) → (Text → Bool) → ℕ → ℕ → Seen
+seen give lack before after = record {
+  may_give = give;
+  may_lack = lack;
+  before = before;
+  after = after;
+}
+
+-- a side's files: its folder, and their paths below it
+pub record SideFiles : Type 0 where
+  pub folder : Text
+  pub paths : List Text
+
+abbrev pub files_at : Text → List Text → SideFiles
+files_at folder paths = record { folder = folder; paths = paths }
+
+-- the failures of a source that a fault tells of
+abbrev pub fault_failures : Fault → ℕ
+fault_failures (MissingFile file) = 0
+fault_failures (SourceFailed file) = 1
+fault_failures (InText error place) = 0
+
+-- a fault of one of the side's files; a source failed only where it counted a failure
+pub record IsSideFault (s : Seen) (files : SideFiles) (fault : Fault) : Type 0 where
+  pub among : IsFaultAmong s.may_give s.may_lack files.folder files.paths fault
+  pub counted : s.before + fault_failures fault ≤ s.after
+
+-- why no answer comes of two sides
+abbrev pub IsGateError : Seen → Seen → SideFiles → SideFiles → GateError → Type 0
+IsGateError old new old_files new_files errors.Memory = Unit {0}
+IsGateError old new old_files new_files errors.RootMissingOld = Unit {0}
+IsGateError old new old_files new_files errors.RootMissingNew = Unit {0}
+IsGateError old new old_files new_files (errors.Compile sides.Old fault) = IsSideFault old old_files fault
+IsGateError old new old_files new_files (errors.Compile sides.New fault) = IsSideFault new new_files fault
+IsGateError old new old_files new_files errors.WriteFailed = ⊥
+
+-- the message breaks, between some schemas that have the root
+pub record IsWitness (root : Text) (bytes : List ℕ) : Type 0 where
+  pub old : Parts
+  pub new : Parts
+  pub message : Kept
+  pub breaks : IsBreaking old new root message
+  pub bytes_are : bytes ≡ enc (shape_of old) (type_of message) (message_of message)
+
+abbrev pub IsFinding : Text → Finding → Type 0
+IsFinding root (findings.Breaks witness) = IsWitness root witness.items
+IsFinding root findings.Undecided = Unit {0}
+
+-- a refusal that is printed for such an error
+pub record IsRefusal (errors : GateError → Type 0) (refusal : Refusal) : Type 0 where
+  pub error : GateError
+  pub is_error : errors error
+  pub printed : refusal_of error ≡ Some refusal
+
+abbrev pub Grants : Seen → Seen → Request → Reply → Type 0
+Grants old new (gate sides root) (replies.Found finding) = IsFinding root finding
+Grants old new (gate sides root) (replies.Refused refusal) =
+    IsRefusal (IsGateError old new (files_at sides.old_dir (sides.old ∷ [])) (files_at sides.new_dir (sides.new ∷ []))) refusal

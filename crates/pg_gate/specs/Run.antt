@@ -1,0 +1,39 @@
+-- What a run does to its sink.
+use Rattle.std.specs.Prelude.{◌≡◌, ◌⊎◌, ℕ, List, ◌++◌, take, Some, Result, Ok, Err}
+use Rattle.clap.specs.Words.{Text}
+use Rattle.pg_gate.specs.Call.{Request, call_of}
+use Rattle.pg_gate.specs.Printed.{printed}
+use Rattle.pg_gate.specs.declared.error.GateError.{GateError}
+use Rattle.pg_gate.specs.declared.error.GateError.TheVariants.{Memory, RootMissingOld, RootMissingNew, Compile, WriteFailed}
+use Rattle.pg_gate.specs.declared.reply.Reply.{Reply}
+
+-- the sink took what the words' call prints, with an answer granted to it, and nothing else
+pub record Prints (granted : Request → Reply → Type 0) (words : List Text) (status : ℕ) (old new : Text) : Type 0 where
+  pub call : Request
+  pub reply : Reply
+  pub called : call_of words ≡ Some call
+  pub answered : granted call reply
+  pub ended : status ≡ (printed call reply).status
+  pub written : new ≡ old ++ (printed call reply).text
+
+-- the sink took a beginning of it
+pub record Begins (granted : Request → Reply → Type 0) (words : List Text) (old new : Text) : Type 0 where
+  pub call : Request
+  pub reply : Reply
+  pub called : call_of words ≡ Some call
+  pub answered : granted call reply
+  pub count : ℕ
+  pub written : new ≡ old ++ take count (printed call reply).text
+
+-- a run ends without a status only where memory or its sink failed
+abbrev pub IsRunError : GateError → Type 0
+IsRunError error = (error ≡ Memory) ⊎ (error ≡ WriteFailed)
+
+-- the failures of the sink in a run
+abbrev pub failures_in : Result ℕ GateError → ℕ
+failures_in (Ok status) = 0
+failures_in (Err Memory) = 0
+failures_in (Err RootMissingOld) = 0
+failures_in (Err RootMissingNew) = 0
+failures_in (Err (Compile side fault)) = 0
+failures_in (Err WriteFailed) = 1

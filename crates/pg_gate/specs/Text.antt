@@ -1,0 +1,66 @@
+-- The lines of an answer.
+use Rattle.std.specs.Prelude.{ℕ, List, [], ◌∷◌, ◌++◌, ◌/◌, ◌%◌, Option, Some, None, false, codes, decimal}
+use Rattle.std.specs.Prelude.{length, string_bytes}
+use Rattle.std.specs.Fmt.{digits}
+use Rattle.std.specs.List.{flat_map}
+use Rattle.clap.specs.Words.{Text}
+use Rattle.pg_gate.specs.declared.error.Place.{Place}
+use Rattle.pg_gate.specs.declared.error.Side.{Side}
+use Rattle.pg_gate.specs.declared.error.Side.TheVariants as side
+use Rattle.pg_gate.specs.declared.refusal.Location.{Location}
+use Rattle.pg_gate.specs.declared.refusal.Location.TheVariants as location
+use Rattle.pg_gate.specs.declared.refusal.Refusal.{Refusal}
+use Rattle.pg_gate.specs.declared.reply.Finding.{Finding}
+use Rattle.pg_gate.specs.declared.reply.Finding.TheVariants as finding
+
+-- the end of a line
+abbrev pub line_end : Text
+line_end = 10 ∷ []
+
+-- ---- bytes
+
+-- a byte as two hexadecimal digits
+abbrev pub byte_digits : ℕ → Text
+byte_digits byte = digits 16 false (byte / 16) ++ digits 16 false (byte % 16)
+
+abbrev pub digits_of : List ℕ → Text
+digits_of bytes = flat_map byte_digits bytes
+
+-- no bytes are printed as `-`
+abbrev pub hex_of : List ℕ → Text
+hex_of [] = codes "-"
+hex_of (byte ∷ bytes) = digits_of (byte ∷ bytes)
+
+-- ---- what the gate finds
+
+-- `breaks NAME LENGTH` and `witness HEX`, or `undecided NAME`
+abbrev pub finding_of : Text → Finding → Text
+finding_of root finding.Undecided = codes "undecided " ++ (root ++ line_end)
+finding_of root (finding.Breaks witness) =
+    codes "breaks " ++ (root ++ (codes " " ++ (decimal (length witness.items) ++ (line_end
+    ++ (codes "witness " ++ (hex_of witness.items ++ line_end))))))
+
+-- ---- refusals
+
+-- `FILE:LINE:COLUMN`
+abbrev pub place_of : Place → Text
+place_of place = string_bytes place.file ++ (codes ":" ++ (decimal place.line
+    ++ (codes ":" ++ decimal place.column)))
+
+abbrev pub side_of : Side → Text
+side_of side.Old = codes "old"
+side_of side.New = codes "new"
+
+abbrev pub side_before : Option Side → Text
+side_before (Some s) = side_of s ++ codes " "
+side_before None = []
+
+abbrev pub location_of : Location → Text
+location_of location.Nowhere = []
+location_of (location.InPlace place) = codes " " ++ place_of place
+location_of (location.InFile file) = codes " " ++ string_bytes file
+
+-- `refused CODE`, and then where the fault is
+abbrev pub refusal_of : Refusal → Text
+refusal_of refusal = codes "refused " ++ (side_before refusal.side ++ (codes "E"
+    ++ (decimal refusal.code ++ (location_of refusal.location ++ line_end))))

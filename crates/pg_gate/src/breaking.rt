@@ -1,0 +1,67 @@
+//! The gate: a message of the old type that a reader of the new type doesn't keep.
+ghost use Rattle.std.specs.Prelude.{◌≡◌, Err, codes, IfErr, IfOk};
+ghost use Rattle.pg_gate.specs.Breaking.{IsAnswer, IsAnswerOfFiles, IsRefusedRoot, Lacks};
+ghost use Rattle.pg_gate.specs.Files.{paths_of};
+ghost use Rattle.pg_gate.specs.Grants.{IsGateError, files_at, seen};
+ghost use Rattle.pg_gate.specs.declared.error.GateError.TheVariants as errors;
+
+use crate::compile::compile;
+use crate::error::{GateError, Side};
+use crate::trial::search;
+use pg_dyn::Message;
+use pg_link::Sources;
+use pg_schema::Schema;
+use std::alloc::Global;
+
+/// What the gate says of two message types.
+#[derive(Drop)]
+pub enum Answer {
+    /// A message of the old type, without unknown records, that a reader of the new type doesn't
+    /// keep.
+    Breaks { witness: Message },
+    /// No such message was found; there may be one.
+    Undecided,
+}
+
+/// Tries messages of the old type of this full name, each with one field, on the new type of the
+/// name, and answers the shortest one that a reader of the new type doesn't keep; of equal ones
+/// the one of the least field number.
+///
+/// Refused are want of memory (`Memory`), an old schema without the name (`RootMissingOld`), and
+/// else a new one without it (`RootMissingNew`).
+pub fn gate(alloc: Global, old: &Schema, new: &Schema, root: &str) -> Result<Answer, GateError>
+    ensures answer { IfOk result (IsAnswer old.now new.now root.now) }
+    ensures old_missing { Lacks old.now root.now → result ≡ Err errors.RootMissingOld }
+    ensures new_missing { (Lacks old.now root.now → ⊥) → Lacks new.now root.now
+        → result ≡ Err errors.RootMissingNew }
+    ensures refused { IfErr result (IsRefusedRoot old.now new.now root.now) }
+{
+    match search(alloc, old, new, root)? {
+        Some(found) => Ok(Answer::Breaks {
+            witness: found.message,
+        }),
+        None => Ok(Answer::Undecided),
+    }
+}
+
+/// The same over two sources: the schemas are those of the texts at these paths, the old side
+/// compiled first. A side that does not compile is refused with its fault (`Compile`): a file
+/// that its source may lack, a source that failed, or a fault in a text.
+pub fn gate_files<S: Sources, T: Sources>(
+    alloc: Global,
+    old: &mut S,
+    new: &mut T,
+    old_roots: &[&str],
+    new_roots: &[&str],
+    root: &str,
+) -> Result<Answer, GateError>
+    ensures answer { IfOk result (IsAnswerOfFiles root.now) }
+    ensures refused { IfErr result (IsGateError
+        (seen (S.may_give old.old) (S.may_lack old.old) (S.failures old.old) (S.failures old.new))
+        (seen (T.may_give new.old) (T.may_lack new.old) (T.failures new.old) (T.failures new.new))
+        (files_at (codes ".") (paths_of old_roots.now)) (files_at (codes ".") (paths_of new_roots.now))) }
+{
+    let old_schema = compile(alloc, old, Side::Old, ".", old_roots)?;
+    let new_schema = compile(alloc, new, Side::New, ".", new_roots)?;
+    gate(alloc, &old_schema, &new_schema, root)
+}

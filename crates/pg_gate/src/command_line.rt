@@ -1,0 +1,109 @@
+//! The command line, read with `clap`.
+ghost use Rattle.std.specs.Prelude.{◌≡◌, ◌≢◌, Some, None, false, IfErr, IfOk};
+ghost use Rattle.clap.specs.Walk.{texts};
+ghost use Rattle.clap.specs.Words.{found_of, kind_of, rows_of, rule_of};
+ghost use Rattle.pg_gate.specs.CommandLine.{HasApp};
+ghost use Rattle.pg_gate.specs.Call as spec;
+ghost use Rattle.pg_gate.specs.CommandLine as command_line;
+
+use crate::call::{Call, Sides};
+use clap::error::ErrorKind;
+use clap::{Arg, ArgMatches, Command, Error};
+use std::alloc::{AllocError, Global};
+
+/// What help says of the statuses.
+const STATUSES: &str = "Statuses:
+  1  a breaking message was found
+  2  refused: a fault in a file, or the message type is missing
+  3  out of memory, or a file or the output failed
+  4  help, or words that are no call
+  5  undecided: no breaking message was found, and there may be one";
+
+/// A folder, by default the current one.
+fn folder<'a>(alloc: Global, name: &'a str, help: &'a str) -> Arg<'a>
+    ensures rule { rule_of result ≡ command_line.folder name.entry.now }
+    ensures local { result.global ≡ false }
+{
+    Arg::new(alloc, name)
+        .long(name)
+        .value_name("D")
+        .default_value(".")
+        .help(help)
+}
+
+/// An option that has to be there.
+fn named<'a>(alloc: Global, name: &'a str, value: &'a str, help: &'a str) -> Arg<'a>
+    ensures rule { rule_of result ≡ command_line.named name.entry.now }
+    ensures local { result.global ≡ false }
+{
+    Arg::new(alloc, name)
+        .long(name)
+        .value_name(value)
+        .required(true)
+        .help(help)
+}
+
+fn gate_command<'a>(alloc: Global) -> Result<Command<'a>, AllocError>
+    ensures { IfOk result (HasApp command_line.gate_app) }
+{
+    Command::new(alloc, "gate")
+        .about("Find a message of the old type that a reader of the new type doesn't keep")
+        .after_help(STATUSES)
+        .arg(folder(alloc, "old-dir", "The folder of the old file"))?
+        .arg(folder(alloc, "new-dir", "The folder of the new file"))?
+        .arg(named(alloc, "old", "F", "The old proto3 file"))?
+        .arg(named(alloc, "new", "F", "The new proto3 file"))?
+        .arg(named(alloc, "type", "NAME", "The message type, by its full name"))
+}
+
+/// The whole command line, but for the program's name.
+fn whole_command<'a>(alloc: Global) -> Result<Command<'a>, AllocError>
+    ensures { IfOk result (HasApp command_line.whole_app) }
+{
+    Command::new(alloc, "protogate")
+        .bin_name("protogate")?
+        .about("Compare proto3 message types before a changed file is released")
+        .after_help(STATUSES)
+        .no_binary_name(true)
+        .subcommand_required(true)
+        .subcommand(gate_command(alloc)?)
+}
+
+/// The value of an option.
+fn text<'a>(found: &ArgMatches<'a>, name: &str) -> &'a str
+    ensures { result.now ≡ spec.text_at name.now (rows_of (found_of found.now)) }
+{
+    found.get_str(name).unwrap_or("")
+}
+
+fn sides<'a>(found: &ArgMatches<'a>) -> Sides<'a>
+    ensures { spec.sides_of result ≡ spec.sides_in (rows_of (found_of found.now)) }
+{
+    Sides {
+        old_dir: text(found, "old-dir"),
+        new_dir: text(found, "new-dir"),
+        old: text(found, "old"),
+        new: text(found, "new"),
+    }
+}
+
+fn gate_call<'a>(found: &ArgMatches<'a>) -> Call<'a>
+    ensures { spec.request_of result ≡ spec.gate_in (rows_of (found_of found.now)) }
+{
+    Call::Gate {
+        sides: sides(found),
+        root: text(found, "type"),
+    }
+}
+
+/// What the words after the program's name call for, or why `clap` does not take them.
+pub(crate) fn call_of<'a>(alloc: Global, words: &'a [&'a str]) -> Result<Call<'a>, Error>
+    ensures call { IfOk result (λ call.
+        spec.call_of (texts words.entry.now) ≡ Some (spec.request_of call)) }
+    ensures refused { IfErr result (λ error. kind_of error ≢ ErrorKind.OutOfMemory
+        → spec.call_of (texts words.entry.now) ≡ None) }
+{
+    let matches = whole_command(alloc)?.try_get_matches_from(words)?;
+    let (_, found) = matches.subcommand().unwrap();
+    Ok(gate_call(found))
+}

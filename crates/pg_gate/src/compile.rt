@@ -1,0 +1,154 @@
+//! A side's schema, from the texts that its source gives.
+ghost use Rattle.std.specs.Prelude.{◌≡◌, ◌+◌, ◌<◌, ◌≤◌, length, All, IfErr, IfOk};
+ghost use Rattle.pg_gate.specs.Files.{IsDeclarationError, IsDeclarationFault, IsFaultOfText, IsFileAmong, IsFileError, IsFileOf, IsSideError, paths_of, source_failures};
+
+use crate::error::{Fault, GateError, Place, Side, TextError};
+use crate::text::{CheckError, ReadError, TextFile, messages_in, parts_of};
+use pg_lex::place;
+use pg_link::{SourceError, Sources, read_below};
+use pg_schema::{PartsError, Schema};
+use std::alloc::{AllocError, Global};
+use std::collections::BTreeSet;
+
+/// Why a text is refused, with its place.
+fn in_text(
+    alloc: Global,
+    path: &str,
+    text: &Vec<u8>,
+    error: TextError,
+    at: usize,
+) -> Result<Fault, AllocError>
+    ensures { IfOk result (IsFaultOfText path.now text.now.items) }
+{
+    let (line, column) = place(text, at);
+    let file = String::from_str(alloc, path)?;
+    Ok(Fault::InText {
+        error,
+        place: Place { file, line, column },
+    })
+}
+
+/// Reads a file of a side and its messages.
+fn read_file<S: Sources>(
+    alloc: Global,
+    source: &mut S,
+    side: Side,
+    folder: &str,
+    path: &str,
+) -> Result<TextFile, GateError>
+    ensures read { IfOk result (IsFileOf (S.may_give source.old) folder.now path.now) }
+    ensures refused { IfErr result (IsFileError (S.may_give source.old) (S.may_lack source.old) side folder.now path.now) }
+    ensures counted { S.failures source.old + source_failures result ≤ S.failures source.new }
+    ensures same_given { S.may_give source.new ≡ S.may_give source.old }
+    ensures same_lacked { S.may_lack source.new ≡ S.may_lack source.old }
+{
+    let text = match read_below(alloc, source, folder, path) {
+        Ok(text) => text,
+        Err(SourceError::Missing) => {
+            let file = String::from_str(alloc, path)?;
+            return Err(GateError::Compile(side, Fault::MissingFile { file }));
+        }
+        Err(SourceError::Failed) => {
+            let file = String::from_str(alloc, path)?;
+            return Err(GateError::Compile(side, Fault::SourceFailed { file }));
+        }
+        Err(SourceError::Memory) => return Err(GateError::Memory),
+    };
+    match messages_in(alloc, &text) {
+        Ok(messages) => {
+            let path = String::from_str(alloc, path)?;
+            Ok(TextFile {
+                path,
+                text,
+                messages,
+            })
+        }
+        Err(ReadError::Memory) => Err(GateError::Memory),
+        Err(ReadError::Fault { error, at }) => {
+            let fault = in_text(alloc, path, &text, error, at)?;
+            Err(GateError::Compile(side, fault))
+        }
+    }
+}
+
+/// Reads the files of a side, each path once, in order.
+fn read_files<S: Sources>(
+    alloc: Global,
+    source: &mut S,
+    side: Side,
+    folder: &str,
+    paths: &[&str],
+) -> Result<Vec<TextFile>, GateError>
+    ensures read { IfOk result (λ files.
+        All (IsFileAmong (S.may_give source.old) folder.now (paths_of paths.now)) files.items) }
+    ensures refused { IfErr result (IsSideError (S.may_give source.old) (S.may_lack source.old)
+        side folder.now (paths_of paths.now)) }
+    ensures counted { S.failures source.old + source_failures result ≤ S.failures source.new }
+    ensures same_given { S.may_give source.new ≡ S.may_give source.old }
+    ensures same_lacked { S.may_lack source.new ≡ S.may_lack source.old }
+{
+    let mut files = Vec::new(alloc);
+    let mut seen = BTreeSet::new(alloc);
+    for path in paths {
+        if !seen.insert(*path)? {
+            continue;
+        }
+        match read_file(alloc, source, side, folder, path) {
+            Ok(file) => files.push(file)?,
+            Err(error) => return Err(error),
+        }
+    }
+    Ok(files)
+}
+
+/// Why one of the files is refused, with its place.
+fn in_file(
+    alloc: Global,
+    files: &[TextFile],
+    index: usize,
+    error: TextError,
+    at: usize,
+) -> Result<Fault, AllocError>
+    requires { index < length files.now }
+    ensures { IfOk result (IsDeclarationFault files.now) }
+{
+    let file = &files[index];
+    in_text(alloc, &file.path, &file.text, error, at)
+}
+
+/// The schema that the files declare.
+fn schema_of(alloc: Global, side: Side, files: &[TextFile]) -> Result<Schema, GateError>
+    ensures refused { IfErr result (IsDeclarationError side files.now) }
+{
+    let parts = match parts_of(alloc, files) {
+        Ok(parts) => parts,
+        Err(CheckError::Memory) => return Err(GateError::Memory),
+        Err(CheckError::Fault { error, file, at }) => {
+            let fault = in_file(alloc, files, file, error, at)?;
+            return Err(GateError::Compile(side, fault));
+        }
+    };
+    match Schema::from_parts(alloc, parts) {
+        Ok(schema) => Ok(schema),
+        Err((PartsError::Memory, _)) => Err(GateError::Memory),
+        Err((PartsError::Invariant, _)) => Err(GateError::Memory),
+    }
+}
+
+/// The schema of a side's texts at these paths below the folder.
+pub(crate) fn compile<S: Sources>(
+    alloc: Global,
+    source: &mut S,
+    side: Side,
+    folder: &str,
+    paths: &[&str],
+) -> Result<Schema, GateError>
+    ensures refused { IfErr result (IsSideError (S.may_give source.old) (S.may_lack source.old)
+        side folder.now (paths_of paths.now)) }
+    ensures counted { S.failures source.old + source_failures result ≤ S.failures source.new }
+    ensures same_given { S.may_give source.new ≡ S.may_give source.old }
+    ensures same_lacked { S.may_lack source.new ≡ S.may_lack source.old }
+{
+    let files = read_files(alloc, source, side, folder, paths)?;
+    schema_of(alloc, side, &files)
+}

@@ -1,0 +1,30 @@
+//! The whole product: the words of a command line, an answer, its text in a sink and its status.
+#![tactic(auto)]
+
+mod answer;
+mod breaking;
+mod buffer;
+mod call;
+mod command_line;
+mod compile;
+mod error;
+mod hex;
+mod program;
+mod refusal;
+mod reply;
+mod sink;
+mod standard_output;
+mod text;
+mod trial;
+
+pub use breaking::{Answer, gate, gate_files};
+pub use buffer::Buffer;
+pub use call::{Call, Sides};
+pub use error::{Fault, GateError, Place, Side, TextError};
+pub use hex::{Digits, Hex};
+pub use pg_link::{Listed, SourceError, Sources};
+pub use program::run;
+pub use refusal::{Location, Refusal};
+pub use reply::{Finding, Reply, Report};
+pub use sink::{Sink, SinkError, write_all};
+pub use standard_output::StandardOutput;

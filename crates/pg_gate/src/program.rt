@@ -1,0 +1,91 @@
+//! The whole program: words, call, answer, text, sink and status.
+ghost use Rattle.std.specs.Prelude.{◌≡◌, ◌≢◌, ◌+◌, Some, None, IfErr, IfOk, IsErrOf, OnOk};
+ghost use Rattle.clap.specs.Walk.{texts};
+ghost use Rattle.clap.specs.Words.{kind_of};
+ghost use Rattle.pg_gate.specs.Call.{call_of, request_of};
+ghost use Rattle.pg_gate.specs.Grants.{Grants, seen};
+ghost use Rattle.pg_gate.specs.Printed.{root_of};
+ghost use Rattle.pg_gate.specs.Run.{Begins, IsRunError, Prints, failures_in};
+
+use crate::answer::answer;
+use crate::call::Call;
+use crate::command_line;
+use crate::error::GateError;
+use crate::sink::{Sink, write_all};
+use clap::error::ErrorKind;
+use pg_link::Sources;
+use std::alloc::Global;
+
+/// The status of words that `clap` does not take, and of help.
+const USAGE: u8 = 4;
+
+impl Call<'_> {
+    /// The name of the root types.
+    fn root(&self) -> &str
+        ensures { result.now ≡ root_of (request_of self.now) }
+    {
+        match self {
+            Call::Gate { root, .. } => root,
+        }
+    }
+}
+
+/// Writes what `clap` says of words that it does not take.
+fn usage<W: Sink>(alloc: Global, error: &clap::Error, sink: &mut W) -> Result<u8, GateError>
+    ensures usage { IfOk result (λ status.
+        (status ≡ USAGE) × (kind_of error.now ≢ ErrorKind.OutOfMemory)) }
+    ensures refused { IsErrOf result GateError.WriteFailed
+        → kind_of error.now ≢ ErrorKind.OutOfMemory }
+    ensures only { IfErr result IsRunError }
+    ensures untouched { IsErrOf result GateError.Memory → W.taken sink.new ≡ W.taken sink.old }
+    ensures counted { W.failures sink.new ≡ W.failures sink.old + failures_in result }
+{
+    if error.kind() == ErrorKind::OutOfMemory {
+        return Err(GateError::Memory);
+    }
+    let text = format!(in alloc; "{error}")?;
+    write_all(sink, text.as_bytes())?;
+    Ok(USAGE)
+}
+
+/// The whole program, on the words after its name: answers the call from its sources, writes the
+/// answer's text to the sink, and gives the exit status.
+///
+/// 1: a breaking message was found. 2: refused. 3: a source failed. 4: help, or words that are no
+/// call. 5: undecided. The only errors are `Memory`, with the sink untouched, and `WriteFailed`,
+/// after which the sink took a beginning of the text.
+pub fn run<S: Sources, T: Sources, W: Sink>(
+    alloc: Global,
+    words: &[&str],
+    old: &mut S,
+    new: &mut T,
+    sink: &mut W,
+) -> Result<u8, GateError>
+    // Only words that `clap` does not take end with the status of usage.
+    ensures usage { IfOk result (λ status. status ≡ USAGE → call_of (texts words.now) ≡ None) }
+
+    // Else the sink took exactly the text of the words' call and an answer granted to it.
+    ensures printed { IfOk result (λ status. status ≢ USAGE → Prints
+        (Grants (seen (S.may_give old.old) (S.may_lack old.old) (S.failures old.old) (S.failures old.new))
+        (seen (T.may_give new.old) (T.may_lack new.old) (T.failures new.old) (T.failures new.new)))
+        (texts words.now) status (W.taken sink.old) (W.taken sink.new)) }
+
+    // A sink that fails took a beginning of it, and memory that fails leaves the sink alone.
+    ensures begun { IsErrOf result GateError.WriteFailed → call_of (texts words.now) ≢ None → Begins
+        (Grants (seen (S.may_give old.old) (S.may_lack old.old) (S.failures old.old) (S.failures old.new))
+        (seen (T.may_give new.old) (T.may_lack new.old) (T.failures new.old) (T.failures new.new)))
+        (texts words.now) (W.taken sink.old) (W.taken sink.new) }
+    ensures only { IfErr result IsRunError }
+    ensures untouched { IsErrOf result GateError.Memory → W.taken sink.new ≡ W.taken sink.old }
+    ensures counted { W.failures sink.new ≡ W.failures sink.old + failures_in result }
+{
+    let call = match command_line::call_of(alloc, words) {
+        Ok(call) => call,
+        Err(error) => return usage(alloc, &error, sink),
+    };
+    let reply = answer(alloc, &call, old, new)?;
+    let status = reply.status();
+    let text = reply.into_text(alloc, call.root())?;
+    write_all(sink, &text)?;
+    Ok(status)
+}

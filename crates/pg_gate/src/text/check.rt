@@ -1,0 +1,247 @@
+//! The rules of names and numbers, and what the messages of texts declare.
+ghost use Rattle.std.specs.Prelude.{◌<◌, length, IfErr};
+ghost use Rattle.pg_gate.specs.Files.{IsFaultIn, IsFaultOf};
+
+use crate::error::TextError;
+use crate::text::grammar::{FieldTree, MessageTree};
+use pg_schema::{
+    Element, Field, FieldOptions, File, MessageOptions, MessageType, Parts, Presence, TypeId,
+};
+use std::alloc::{AllocError, AllocFailed, Global};
+use std::collections::BTreeSet;
+
+/// The most message types.
+const MOST_TYPES: usize = 4096;
+
+/// A file that was read, with its messages.
+#[derive(Drop)]
+pub(crate) struct TextFile {
+    pub(crate) path: String,
+    pub(crate) text: Vec<u8>,
+    pub(crate) messages: Vec<MessageTree>,
+}
+
+/// Why files declare nothing: a fault at a byte of one of them.
+#[derive(Clone, Copy, Debug)]
+pub(crate) enum CheckError {
+    Memory,
+    Fault {
+        error: TextError,
+        file: usize,
+        at: usize,
+    },
+}
+
+impl From<AllocError> for CheckError {
+    ghost use Rattle.std.specs.Prelude.{◌≡◌};
+    ghost use Rattle.pg_gate.specs.declared.text.check.CheckError.TheVariants.{Memory};
+
+    ghost from_gives = { λ _ error. error ≡ Memory };
+
+    fn from(_error: AllocError) -> CheckError {
+        CheckError::Memory
+    }
+}
+
+impl<T: Drop> From<AllocFailed<T>> for CheckError {
+    ghost use Rattle.std.specs.Prelude.{◌≡◌};
+    ghost use Rattle.pg_gate.specs.declared.text.check.CheckError.TheVariants.{Memory};
+
+    ghost from_gives = { λ _ error. error ≡ Memory };
+
+    fn from(_error: AllocFailed<T>) -> CheckError {
+        CheckError::Memory
+    }
+}
+
+/// Refuses a name that stands twice among the fields.
+fn check_field_names(alloc: Global, fields: &[FieldTree], file: usize) -> Result<(), CheckError>
+    ensures { IfErr result (IsFaultOf file) }
+{
+    let mut names = BTreeSet::new(alloc);
+    for field in fields {
+        if !names.insert(field.name.as_str())? {
+            return Err(CheckError::Fault {
+                error: TextError::DuplicateName,
+                file,
+                at: field.at,
+            });
+        }
+    }
+    Ok(())
+}
+
+/// Refuses a name that stands twice among the messages of all files, or among the fields of one,
+/// at the first declaration whose name was there before.
+fn check_names(alloc: Global, files: &[TextFile]) -> Result<(), CheckError>
+    ensures { IfErr result (IsFaultIn (length files.now)) }
+{
+    let mut names = BTreeSet::new(alloc);
+    for (index, file) in files.iter().enumerate() {
+        for message in &file.messages {
+            if !names.insert(message.name.as_str())? {
+                return Err(CheckError::Fault {
+                    error: TextError::DuplicateName,
+                    file: index,
+                    at: message.at,
+                });
+            }
+            check_field_names(alloc, &message.fields, index)?;
+        }
+    }
+    Ok(())
+}
+
+/// The field number, where it is one that a field may have.
+fn field_number(number: u64) -> Option<u32> {
+    match number {
+        1..=18_999 | 20_000..=536_870_911 => Some(number as u32),
+        _ => None,
+    }
+}
+
+/// The JSON name of a field that states none: without its underscores, and with the letter behind
+/// each in upper case.
+fn json_name(alloc: Global, name: &str) -> Result<String, AllocError> {
+    let mut json = String::new(alloc);
+    let mut behind_underscore = false;
+    for letter in name.chars() {
+        if letter == '_' {
+            behind_underscore = true;
+        } else {
+            json.push(if behind_underscore {
+                letter.to_ascii_uppercase()
+            } else {
+                letter
+            })?;
+            behind_underscore = false;
+        }
+    }
+    Ok(json)
+}
+
+fn field_of(alloc: Global, tree: &FieldTree, number: u32) -> Result<Field, AllocError> {
+    Ok(Field {
+        number,
+        name: tree.name.clone()?,
+        presence: Presence::Implicit,
+        element: Element::Scalar(tree.scalar),
+        oneof: None,
+        json_name: json_name(alloc, &tree.name)?,
+        states_optional: false,
+        options: FieldOptions {
+            packed: None,
+            deprecated: None,
+        },
+    })
+}
+
+/// The fields by rising number, and their numbers in order of declaration.
+fn fields_of(
+    alloc: Global,
+    trees: &[FieldTree],
+    file: usize,
+) -> Result<(Vec<Field>, Vec<u32>), CheckError>
+    ensures { IfErr result (IsFaultOf file) }
+{
+    let mut numbers = BTreeSet::new(alloc);
+    let mut fields = Vec::new(alloc);
+    let mut declared = Vec::new(alloc);
+    for tree in trees {
+        let at = tree.at;
+        let Some(number) = field_number(tree.number) else {
+            return Err(CheckError::Fault {
+                error: TextError::BadNumber,
+                file,
+                at,
+            });
+        };
+        if !numbers.insert(number)? {
+            return Err(CheckError::Fault {
+                error: TextError::DuplicateNumber,
+                file,
+                at,
+            });
+        }
+        declared.push(number)?;
+        fields.push(field_of(alloc, tree, number)?)?;
+    }
+    fields.sort_by_key(|field| field.number)?;
+    Ok((fields, declared))
+}
+
+fn message_type(alloc: Global, tree: &MessageTree, file: usize) -> Result<MessageType, CheckError>
+    ensures { IfErr result (IsFaultOf file) }
+{
+    let (fields, declared) = fields_of(alloc, &tree.fields, file)?;
+    Ok(MessageType {
+        name: tree.name.clone()?,
+        fields,
+        declared,
+        oneofs: Vec::new(alloc),
+        nested_types: Vec::new(alloc),
+        nested_enums: Vec::new(alloc),
+        reserved_numbers: Vec::new(alloc),
+        reserved_names: Vec::new(alloc),
+        options: MessageOptions { deprecated: None },
+    })
+}
+
+/// Adds the message types of a file, and gives their places.
+fn push_types(
+    alloc: Global,
+    messages: &[MessageTree],
+    file: usize,
+    types: &mut Vec<MessageType>,
+) -> Result<Vec<TypeId>, CheckError>
+    ensures { IfErr result (IsFaultOf file) }
+{
+    let mut places = Vec::new(alloc);
+    for message in messages {
+        let index = types.len();
+        if index >= MOST_TYPES {
+            return Err(CheckError::Fault {
+                error: TextError::TooManyTypes,
+                file,
+                at: message.at,
+            });
+        }
+        places.push(TypeId {
+            index: index as u32,
+        })?;
+        types.push(message_type(alloc, message, file)?)?;
+    }
+    Ok(places)
+}
+
+fn file_of(alloc: Global, path: &str, types: Vec<TypeId>) -> Result<File, AllocError> {
+    Ok(File {
+        name: String::from_str(alloc, path)?,
+        package: String::new(alloc),
+        imports: Vec::new(alloc),
+        types,
+        enums: Vec::new(alloc),
+        services: Vec::new(alloc),
+        options: Vec::new(alloc),
+    })
+}
+
+/// What the files declare. A fault is that of the first declaration that has one: first a name
+/// that was there before, then a number that may not stand or was there before, or one message
+/// type too many.
+pub(crate) fn parts_of(alloc: Global, files: &[TextFile]) -> Result<Parts, CheckError>
+    ensures { IfErr result (IsFaultIn (length files.now)) }
+{
+    check_names(alloc, files)?;
+    let mut parts = Parts {
+        files: Vec::new(alloc),
+        types: Vec::new(alloc),
+        enums: Vec::new(alloc),
+        services: Vec::new(alloc),
+    };
+    for (index, file) in files.iter().enumerate() {
+        let types = push_types(alloc, &file.messages, index, &mut parts.types)?;
+        parts.files.push(file_of(alloc, &file.path, types)?)?;
+    }
+    Ok(parts)
+}

@@ -1,0 +1,59 @@
+//! The program `protogate`: the words, the files and the standard output of its process.
+#![tactic(auto)]
+
+use pg_gate::{GateError, StandardOutput, run};
+use pg_link::Folder;
+use std::io::ErrorKind;
+use std::process::ExitCode;
+use std::{env, io};
+
+/// The status of words that are no call.
+const USAGE: u8 = 4;
+
+/// The status of memory or a device that fails.
+const DEVICE: u8 = 3;
+
+/// The words after the program's name.
+fn words(rt: &HostRuntime) -> io::Result<Vec<String>> {
+    let words = env::args(rt)?.skip(1).collect(rt.alloc())?;
+    Ok(words)
+}
+
+/// Runs on the words, over the system's files and its standard output.
+fn run_on(rt: &HostRuntime, words: &[String]) -> Result<u8, GateError> {
+    let words: Vec<&str> = words.iter().map(|word| word.as_str()).collect(rt.alloc())?;
+    run(
+        rt.alloc(),
+        &words,
+        &mut Folder::new(rt),
+        &mut Folder::new(rt),
+        &mut StandardOutput::new(rt),
+    )
+}
+
+/// The status of a whole run.
+fn status(rt: &HostRuntime) -> io::Result<u8> {
+    let words = match words(rt) {
+        Ok(words) => words,
+        Err(error) if error.kind() == ErrorKind::OutOfMemory => return refused(rt),
+        Err(_) => {
+            println!(rt; "error: invalid UTF-8 was detected in one or more arguments")?;
+            return Ok(USAGE);
+        }
+    };
+    match run_on(rt, &words) {
+        Ok(status) => Ok(status),
+        Err(GateError::Memory) => refused(rt),
+        Err(_) => Ok(DEVICE),
+    }
+}
+
+/// Says that memory was refused.
+fn refused(rt: &HostRuntime) -> io::Result<u8> {
+    println!(rt; "refused E001")?;
+    Ok(DEVICE)
+}
+
+fn main(rt: HostRuntime) -> ExitCode {
+    ExitCode::from(status(&rt).unwrap_or(DEVICE))
+}
