@@ -1,0 +1,2 @@
+pub mod ResolvesLaws
+pub mod SmallFiles

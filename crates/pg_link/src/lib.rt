@@ -1,17 +1,25 @@
-//! The source that files are read from: a list in memory, the files of the system, or a type of
-//! the caller's.
+//! The files of a schema and the names in them: the source that files are read from, the imports, and what a
+//! type name names.
 #![tactic(auto)]
 
 mod below;
 mod folder;
+mod index;
+mod laws;
 mod listed;
+mod names;
 mod record;
+mod resolve;
 mod sources;
 mod tally;
 
 pub use below::read_below;
 pub use folder::Folder;
+pub use index::Index;
+pub use laws::small_files;
 pub use listed::Listed;
+pub use names::{Kind, Named};
 pub use record::Record;
+pub use resolve::Unresolved;
 pub use sources::{SourceError, Sources};
 pub use tally::Tally;

@@ -1,0 +1,74 @@
+-- Full names and scopes, word by word.
+use Rattle.std.proofs.Common.{◌≡◌, ℕ, Bool, true, false, List, [], ◌∷◌, ◌++◌, map, Option, Some, refl, append_assoc}
+use Rattle.std.proofs.Common.{zero, suc, ◌+◌, ◌-◌, ◌<◌, ◌≤◌, ◌≢◌, String, length, take, slice_index_or, subst, sym, add-one, arith}
+use Rattle.std.proofs.lemmas.List.{map_more}
+use Rattle.std.proofs.lemmas.Slice.Eq.{bytes_eq-Decides}
+use Rattle.std.specs.Str.{bytes_eq}
+use Rattle.std.specs.Borrow.{Bor}
+use Rattle.std.specs.Global.{Global}
+use Rattle.std.specs.HashMap.{HashMap, get_by_text}
+use Rattle.pg_link.specs.declared.names.Named as nameds
+use Rattle.pg_link.specs.Index.{texts, is_seen, names_seen}
+use Rattle.std.specs.Option.{option_map}
+use Rattle.pg_link.specs.declared.names.Kind.{Kind}
+use Rattle.pg_link.specs.Names.{Text, Names, called, bears}
+use Rattle.pg_link.specs.Resolves.{scopes, innermost, borne}
+
+pub called-append : (words more : List Text) → called (words ++ more) ≡ called words ++ called more
+called-append [] more = refl
+called-append (word ∷ words) more = rw (called-append words more, append_assoc word (called words) (called more)) refl
+
+-- the innermost scope, and those around it
+pub scopes-around : (words : List Text) (word : Text) → scopes (words ++ word ∷ []) ≡ (words ++ word ∷ []) ∷ scopes words
+scopes-around [] word = refl
+scopes-around (w ∷ words) word = rw (scopes-around words word) refl
+
+pub innermost-around : (names : Names) (test : Kind → Bool) (part : Text) (words : List Text) (word : Text)
+    → bears names test (called (words ++ word ∷ []) ++ part) ≡ false → innermost names test part (words ++ word ∷ []) ≡ innermost names test part words
+innermost-around names test part words word none = rw (scopes-around words word, none) refl
+
+-- one more word
+pub called-more : {X : Type 0} (f : X → Text) (xs : List X) (i : ℕ) (d : X) → i < length xs
+    → called (map f (take (i + 1) xs)) ≡ called (map f (take i xs)) ++ called (f (slice_index_or xs i d) ∷ [])
+called-more f xs i d within = rw (map_more f xs i d within) (called-append (map f (take i xs)) (f (slice_index_or xs i d) ∷ []))
+
+-- the search begins with the innermost scope
+pub scopes-first : (words : List Text) → (around : List (List Text)) × (scopes words ≡ words ∷ around)
+scopes-first [] = ([], refl)
+scopes-first (word ∷ words) = let h = scopes-first words in (map (λ (inner : List Text). word ∷ inner) h.0 ++ [] ∷ [], rw h.1 refl)
+
+-- it ends there
+pub ends_here : (names : Names) (test : Kind → Bool) (part : Text) (scope around : List Text) (outer : Text)
+    → innermost names test part around ≡ innermost names test part scope → outer ≡ called around → bears names test (outer ++ part) ≡ true
+    → Some outer ≡ option_map called (innermost names test part scope)
+ends_here names test part scope around outer same is_called here =
+    let first = scopes-first around in
+    let at : bears names test (called around ++ part) ≡ true = subst (λ (t : Text). bears names test (t ++ part) ≡ true) is_called here in
+    let found : innermost names test part around ≡ Some around = rw (first.1, at) refl in
+    rw (← same, found, is_called) refl
+
+-- or it goes on outwards
+pub goes_outwards : (names : Names) (test : Kind → Bool) (part : Text) (scope : List (Bor Text)) (len : ℕ) → len ≤ length scope → len ≢ 0
+    → bears names test (called (texts (take len scope)) ++ part) ≡ false
+    → innermost names test part (texts (take (len - 1) scope)) ≡ innermost names test part (texts (take len scope))
+goes_outwards names test part scope zero within some none = absurd (some refl)
+goes_outwards names test part scope (suc n) within some none =
+    let word : Bor Text = slice_index_or scope n (record { ref_ptr = (0, 0); now = [] }) in
+    let less : suc n - 1 ≡ n = omega arith in
+    let split : texts (take (suc n) scope) ≡ texts (take n scope) ++ word.now ∷ [] =
+    rw (sym (add-one n)) (map_more (λ (w : Bor Text). w.now) scope n (record { ref_ptr = (0, 0); now = [] }) (omega arith)) in
+    let none_there : bears names test (called (texts (take n scope) ++ word.now ∷ []) ++ part) ≡ false = rw split at none in
+    rw (less, split) (sym (innermost-around names test part (texts (take n scope)) word.now none_there))
+
+-- what the index holds of a name that is seen
+pub is_borne : {S : Type 0} (index : HashMap (String Global) nameds.Named S) (sight : Option (List Bool)) (full name : Text) (named : nameds.Named)
+    → get_by_text index full ≡ Some named → is_seen sight named.files.items ≡ true → full ≡ name → Some (name, named.kind) ≡ borne (names_seen index sight) full
+is_borne index sight full name named held seen same = rw (held, seen, same) refl
+
+pub same_bytes : (a b : Text) → bytes_eq a b ≡ true → a ≡ b
+same_bytes a b same = (bytes_eq-Decides a b).0 same
+
+-- one more word behind a first one
+pub called-behind : {X : Type 0} (first : Text) (f : X → Text) (xs : List X) (i : ℕ) (d : X) → i < length xs
+    → called (first ∷ map f (take (i + 1) xs)) ≡ called (first ∷ map f (take i xs)) ++ called (f (slice_index_or xs i d) ∷ [])
+called-behind first f xs i d within = rw (map_more f xs i d within) (called-append (first ∷ map f (take i xs)) (f (slice_index_or xs i d) ∷ []))

@@ -1,0 +1,5 @@
+use Rattle.pg_link.proofs.SmallFiles as files
+use Rattle.pg_link.proofs.laws.small_files.Goals as goal
+
+pub returns : goal.returns
+returns c = files.small_files

@@ -1,0 +1,107 @@
+-- What names name on small files, and what small files declare.
+use Rattle.std.specs.Prelude.{◌≡◌, true, false, List, [], ◌∷◌, Some, None, codes}
+use Rattle.pg_link.specs.declared.names.Kind.{Kind}
+use Rattle.pg_link.specs.declared.names.Kind.TheVariants.{Message, Enum, Entry, Value, Field, Oneof, Service, Method}
+use Rattle.pg_link.specs.Names.{Text, Names}
+use Rattle.pg_link.specs.Resolves.{Reference, found}
+use Rattle.pg_link.specs.Files.{File, Import, Declared, visible_names, all_names, seen_paths}
+use Rattle.pg_link.specs.Declares.{Word, Declarations, Done, Alone, MapField, Within, Beside, names_of_file, entry_name}
+
+-- a name without a dot in front, and one with it
+abbrev pub part : Text → List Text → Reference
+part first more = record { is_full = false; first = first; more = more }
+
+abbrev pub full : Text → List Text → Reference
+full first more = record { is_full = true; first = first; more = more }
+
+abbrev pub declared : Kind → Text → Declared
+declared kind name = record { name = name; kind = kind; at = 0 }
+
+abbrev pub file : Text → List Import → List Declared → File
+file path imports names = record { path = path; imports = imports; declared = names }
+
+abbrev pub line : Text → Import
+line path = record { path = path; is_public = false; at = 0 }
+
+abbrev pub public_line : Text → Import
+public_line path = record { path = path; is_public = true; at = 0 }
+
+abbrev pub word : Text → Word
+word text = record { text = text; at = 0 }
+
+abbrev pub in_own_file : Declarations → List Word → Declarations → Names
+in_own_file front words behind = visible_names (file (codes "m.proto") [] (names_of_file front words behind) ∷ []) (codes "m.proto")
+
+-- package p; message A { message B { } } message C { message A { } }
+abbrev pub nested : Names
+nested = in_own_file Done (word (codes "p") ∷ [])
+    (Within Message (word (codes "A")) (Within Message (word (codes "B")) Done Done)
+    (Within Message (word (codes "C")) (Within Message (word (codes "A")) Done Done) Done))
+
+abbrev pub in_c : List Text
+in_c = codes "p" ∷ codes "C" ∷ []
+
+-- the first file has package q.p; and message M { }, and imports one with package p; message K { }
+abbrev pub shadowed : Names
+shadowed = visible_names
+    (file (codes "m.proto") (line (codes "a.proto") ∷ [])
+    (names_of_file Done (word (codes "q") ∷ word (codes "p") ∷ []) (Within Message (word (codes "M")) Done Done))
+    ∷ file (codes "a.proto") [] (names_of_file Done (word (codes "p") ∷ []) (Within Message (word (codes "K")) Done Done)) ∷ []) (codes "m.proto")
+
+-- a.proto (message M { }) imports b.proto, which imports c.proto by this line; c.proto (message K { }) imports
+-- d.proto (enum E) publicly
+abbrev pub chain : Import → List File
+chain last = file (codes "a.proto") (line (codes "b.proto") ∷ []) (declared Message (codes ".M") ∷ [])
+    ∷ file (codes "b.proto") (last ∷ []) []
+    ∷ file (codes "c.proto") (public_line (codes "d.proto") ∷ []) (declared Message (codes ".K") ∷ [])
+    ∷ file (codes "d.proto") [] (declared Enum (codes ".E") ∷ []) ∷ []
+
+abbrev pub seen_by : Text → Import → Names
+seen_by path last = visible_names (chain last) path
+
+abbrev pub in_m : List Text
+in_m = codes "M" ∷ []
+
+-- enum E { A = 0; } service S { rpc R } message M { int32 E = 1; map<int32, int32> foo_bar = 2; oneof o { int32 x = 3; } }
+abbrev pub mixed_tree : Declarations
+mixed_tree = Beside Enum (word (codes "E")) (Alone Value (word (codes "A")) Done)
+    (Within Service (word (codes "S")) (Alone Method (word (codes "R")) Done)
+    (Within Message (word (codes "M")) (Alone Field (word (codes "E")) (MapField (word (codes "foo_bar"))
+    (Beside Oneof (word (codes "o")) (Alone Field (word (codes "x")) Done) Done))) Done))
+
+abbrev pub mixed : Names
+mixed = in_own_file mixed_tree [] Done
+
+pub record SmallFiles : Type 0 where
+  -- in C, `A.B` is sought in the nearest A alone
+  pub first_part_decides : found nested in_c (part (codes "A") (codes "B" ∷ [])) ≡ None
+  pub leading_dot : found nested in_c (full (codes "p") (codes "A" ∷ codes "B" ∷ [])) ≡ Some (codes ".p.A.B", Message)
+  pub leading_dot_seeks_no_scope : found nested in_c (full (codes "A") []) ≡ None
+  pub package_is_a_first_part : found nested in_c (part (codes "p") (codes "A" ∷ codes "B" ∷ [])) ≡ Some (codes ".p.A.B", Message)
+  pub package_is_no_word : found nested in_c (part (codes "p") []) ≡ None
+  pub innermost_counts : found nested in_c (part (codes "A") []) ≡ Some (codes ".p.C.A", Message)
+  pub outwards : found nested in_c (part (codes "C") (codes "A" ∷ [])) ≡ Some (codes ".p.C.A", Message)
+  -- the inner package part shadows the outer one
+  pub package_shadows : found shadowed (codes "q" ∷ codes "M" ∷ []) (part (codes "p") (codes "K" ∷ [])) ≡ None
+  pub leading_dot_sees_behind : found shadowed (codes "q" ∷ codes "M" ∷ []) (full (codes "p") (codes "K" ∷ [])) ≡ Some (codes ".p.K", Message)
+  pub import_is_not_handed_on : found (seen_by (codes "a.proto") (line (codes "c.proto"))) in_m (part (codes "K") []) ≡ None
+  pub another_file_has_it : found (all_names (chain (line (codes "c.proto")))) in_m (part (codes "K") []) ≡ Some (codes ".K", Message)
+  pub public_import_is_handed_on : found (seen_by (codes "a.proto") (public_line (codes "c.proto"))) in_m (part (codes "K") []) ≡ Some (codes ".K", Message)
+  pub through_two_files : found (seen_by (codes "a.proto") (public_line (codes "c.proto"))) in_m (part (codes "E") []) ≡ Some (codes ".E", Enum)
+  pub importers_are_not_seen : found (seen_by (codes "b.proto") (public_line (codes "c.proto"))) in_m (part (codes "M") []) ≡ None
+  pub seen : seen_paths (chain (public_line (codes "c.proto"))) (codes "a.proto")
+      ≡ codes "a.proto" ∷ codes "b.proto" ∷ codes "c.proto" ∷ codes "d.proto" ∷ []
+  -- a name without a dot passes over fields and services, which a full name finds
+  pub field_is_passed_over : found mixed in_m (part (codes "E") []) ≡ Some (codes ".E", Enum)
+  pub service_is_passed_over : found mixed in_m (part (codes "S") []) ≡ None
+  pub full_name_of_a_service : found mixed in_m (full (codes "S") []) ≡ Some (codes ".S", Service)
+  pub method_is_in_its_service : found mixed in_m (full (codes "S") (codes "R" ∷ [])) ≡ Some (codes ".S.R", Method)
+  pub value_is_beside_its_enum : found mixed in_m (full (codes "A") []) ≡ Some (codes ".A", Value)
+  pub no_value_is_in_an_enum : found mixed in_m (part (codes "E") (codes "A" ∷ [])) ≡ None
+  pub member_is_beside_its_oneof : found mixed in_m (full (codes "M") (codes "x" ∷ [])) ≡ Some (codes ".M.x", Field)
+  pub entry_is_found : found mixed in_m (part (codes "FooBarEntry") []) ≡ Some (codes ".M.FooBarEntry", Entry)
+  pub nothing_is_in_an_entry : found mixed in_m (part (codes "FooBarEntry") (codes "key" ∷ [])) ≡ None
+  pub entry_of_two_words : entry_name (codes "foo_bar") ≡ codes "FooBarEntry"
+  pub entry_of_digit : entry_name (codes "_1a") ≡ codes "1aEntry"
+  pub entry_of_inner_digit : entry_name (codes "foo_1bar") ≡ codes "Foo1barEntry"
+  pub entry_of_underscores : entry_name (codes "__") ≡ codes "Entry"

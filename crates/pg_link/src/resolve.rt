@@ -1,0 +1,70 @@
+//! What a type name resolves to.
+ghost use Rattle.std.specs.Prelude.{◌≡◌, IfOk, IfErr, Some, None};
+ghost use Rattle.pg_link.specs.Index.{names_seen, texts};
+ghost use Rattle.pg_link.specs.Resolves.{Resolves, reference};
+ghost use Rattle.pg_link.specs.Unresolved.{Refuses, LeavesNone};
+
+use crate::index::Index;
+use pg_syntax::tree::TypeName;
+use std::alloc::{AllocError, Global};
+use thiserror::Error;
+
+/// Why a name doesn't resolve.
+#[derive(Clone, Copy, Debug, PartialEq, Eq, Error)]
+pub enum Unresolved {
+    #[error("the name is unknown")]
+    UnknownName,
+    #[error("the name is neither a message type nor an enum")]
+    NotAType,
+    #[error("the name stands in a file that isn't imported")]
+    NotImported,
+    #[error("out of memory")]
+    Memory,
+}
+
+impl From<AllocError> for Unresolved {
+    ghost use Rattle.pg_link.specs.declared.resolve.Unresolved.TheVariants.{Memory};
+
+    ghost from_gives = { λ _ error. error ≡ Memory };
+
+    fn from(_error: AllocError) -> Unresolved {
+        Unresolved::Memory
+    }
+}
+
+impl Index {
+    /// The full name of the message type or enum that a name names in a scope, by the names in the files that
+    /// are seen.
+    pub fn resolve(
+        &self,
+        alloc: Global,
+        sight: &[bool],
+        scope: &[&str],
+        name: &TypeName,
+    ) -> Result<&str, Unresolved>
+        ensures resolves { IfOk result (λ full. Resolves (names_seen self.now.names (Some sight.now)) (texts scope.now) (reference name.now) full.now) }
+        // Memory aside, a name is refused only where it resolves to none.
+        ensures refused { IfErr result (LeavesNone (names_seen self.now.names (Some sight.now)) (texts scope.now) (reference name.now)) }
+        ensures cause { IfErr result (Refuses (names_seen self.now.names (Some sight.now)) (names_seen self.now.names None) (texts scope.now) (reference name.now)) }
+    {
+        match self.found(alloc, Some(sight), scope, name)? {
+            Some((full, kind)) => {
+                if kind.is_type() {
+                    Ok(full)
+                } else {
+                    Err(Unresolved::NotAType)
+                }
+            }
+            None => match self.found(alloc, None, scope, name)? {
+                Some((_, kind)) => {
+                    if kind.is_type() {
+                        Err(Unresolved::NotImported)
+                    } else {
+                        Err(Unresolved::UnknownName)
+                    }
+                }
+                None => Err(Unresolved::UnknownName),
+            },
+        }
+    }
+}
