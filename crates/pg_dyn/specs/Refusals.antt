@@ -1,4 +1,4 @@
--- When bytes may be refused, and with what.
+-- When bytes may be refused, and with what (this profile's choice).
 use Rattle.std.specs.Prelude.{◌≡◌, ℕ, true, ⊤, List, Some, None}
 use Rattle.pg_schema.specs.declared.field.TypeId.{TypeId}
 use Rattle.pg_schema.specs.Shape.{Shape, FieldShape, fields, field_at}
