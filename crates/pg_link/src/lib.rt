@@ -25,3 +25,6 @@ pub use resolve::Unresolved;
 pub use sources::{SourceError, Sources};
 pub use tally::Tally;
 pub use walk::{MAX_FILES, SourceFile, Walk, WalkError, follow_imports};
+
+#[cfg(test)]
+mod tests;
