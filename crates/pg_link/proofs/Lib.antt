@@ -1,2 +1,3 @@
 pub mod ResolvesLaws
 pub mod SmallFiles
+pub mod WalkLaws

@@ -12,6 +12,7 @@ mod record;
 mod resolve;
 mod sources;
 mod tally;
+mod walk;
 
 pub use below::read_below;
 pub use folder::Folder;
@@ -23,3 +24,7 @@ pub use record::Record;
 pub use resolve::Unresolved;
 pub use sources::{SourceError, Sources};
 pub use tally::Tally;
+pub use walk::{MAX_FILES, SourceFile, Walk, WalkError, follow_imports};
+
+#[cfg(test)]
+mod tests;
