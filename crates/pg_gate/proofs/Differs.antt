@@ -1,6 +1,5 @@
 -- A message of one field, of which a reader of the new type shows something else, is not kept.
 use Rattle.std.proofs.Common.{◌≡◌, ◌∙◌, ℕ, ◌^◌, ◌<◌, ◌≤◌, List, [], ◌∷◌, map, filter, length, Bool, true, false, not, ◌&&◌, cond, nat_eq, Option, Some, None, refl, ap, ap₂, sym, subst, true≢false, arith, eq-eqb}
-use Rattle.std.specs.Bool.{⊤}
 use Rattle.std.proofs.lemmas.Bool.{and_from}
 use lib.Pointwise.{pointwise}
 use Rattle.pg_schema.specs.declared.field.TypeId.{TypeId}

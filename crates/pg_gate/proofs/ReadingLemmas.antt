@@ -1,6 +1,5 @@
 -- Bytes that are not read, or of which something else is shown.
-use Rattle.std.proofs.Common.{◌≡◌, ◌∙◌, ℕ, ◌≤◌, List, [], length, Bool, true, false, Option, Some, None, refl, ap, sym, subst, cond, eq-eqb, MatchOption}
-use Rattle.std.specs.Bool.{⊤}
+use Rattle.std.proofs.Common.{◌≡◌, ◌∙◌, ℕ, ◌≤◌, List, [], length, false, Option, Some, None, refl, ap, sym, subst, cond, eq-eqb, MatchOption}
 use Rattle.std.specs.Borrow.{Bor}
 use Rattle.pg_schema.specs.declared.field.TypeId.{TypeId}
 use Rattle.pg_schema.specs.Parts.{shape_of}
@@ -57,13 +56,13 @@ module _ (pair : Pair) (number : ℕ) (message : Kept) (bytes : List ℕ) (is_ol
   pub lost_unread : dec (shape_of pair.new.now) pair.new_root bytes ≡ None → Lost message
   lost_unread none =
       subst Lost (sym single.is) (unread_not_kept (shape_of pair.old.now) (shape_of pair.new.now) pair.old_root pair.new_root number single.leaf is_old is_new is_message_one short_one
-        (subst (λ (bs : List ℕ). dec (shape_of pair.new.now) pair.new_root bs ≡ None) written_one none))
+      (subst (λ (bs : List ℕ). dec (shape_of pair.new.now) pair.new_root bs ≡ None) written_one none))
 
   pub lost_other : IsShared pair number → (read : Kept) → dec (shape_of pair.new.now) pair.new_root bytes ≡ Some (message_of read) → ShowsOther single.leaf (of_number number read) → Lost message
   lost_other shared read is shows =
       subst Lost (sym single.is) (other_not_kept (shape_of pair.old.now) (shape_of pair.new.now) pair.old_root pair.new_root number single.leaf is_old is_new shared.old_field shared.new_field read
-        is_message_one short_one shared.in_old shared.in_new single.not_zero
-        (subst (λ (bs : List ℕ). dec (shape_of pair.new.now) pair.new_root bs ≡ Some (message_of read)) written_one is) shows)
+      is_message_one short_one shared.in_old shared.in_new single.not_zero
+      (subst (λ (bs : List ℕ). dec (shape_of pair.new.now) pair.new_root bs ≡ Some (message_of read)) written_one is) shows)
 
 -- a message of one item has just that part
 pub of_number_single : (number : ℕ) (leaf : Leaf) (type : TypeId) → of_number number (holds number None leaf (ends type [])) ≡ holds_leaf number leaf

@@ -1,14 +1,12 @@
 -- Contents that are told apart.
-use Rattle.std.proofs.Common.{◌≡◌, ◌∙◌, ℕ, List, [], ◌∷◌, Bool, true, false, not, Option, Some, None, refl, ap, sym, subst}
-use Rattle.std.specs.Borrow.{Bor}
-use Rattle.pg_dyn.specs.Kept.{KeptItem, Plain, Msg}
+use Rattle.std.proofs.Common.{◌≡◌, ℕ, List, [], ◌∷◌, Bool, true, false, not, None, refl, ap, sym, subst}
+use Rattle.pg_dyn.specs.Kept.{KeptItem, Plain}
 use Rattle.pg_dyn.specs.Message.{Leaf, Part}
 use Rattle.pg_dyn.specs.Seen.{content_seen, item_seen, leaf_of}
-use Rattle.pg_dyn.specs.declared.message.Content.{Content}
 use Rattle.pg_dyn.specs.declared.message.Content.TheVariants as contents
 use Rattle.pg_dyn.specs.declared.message.Value.{Value}
 use Rattle.pg_dyn.specs.declared.message.Value.TheVariants as values
-use Rattle.pg_gate.specs.Shows.{ShowsOther, another, none, holds_leaf, is_leaf}
+use Rattle.pg_gate.specs.Shows.{ShowsOther, another, holds_leaf, is_leaf}
 
 leaf_is : (v : Value) (leaf : Leaf) → item_seen v ≡ Plain leaf → leaf_of v ≡ leaf
 leaf_is (values.Int n) leaf is = cc

@@ -20,6 +20,6 @@ returns-in-Some-clause-lost c told =
 pub returns : goal.returns
 returns c = record {
   lost = λ told. lost_unread c.args.pair.now c.args.number c.args.message.now c.args.bytes.now c.parts.ensures.checked.shape c.parts-2.ensures.checked.shape c.requires.single c.requires.written c.requires.short
-    (unread _ c.args.pair.now.new_root _ c.args.bytes.now c.in-Err.error (c.is_fault.ensures told) c.in-Err.ensures.refused);
+      (unread _ c.args.pair.now.new_root _ c.args.bytes.now c.in-Err.error (c.is_fault.ensures told) c.in-Err.ensures.refused);
   refused = tt;
 }

@@ -1,4 +1,4 @@
-use Rattle.std.proofs.Common.{◌≡◌, ◌∙◌, ap, not, sym}
+use Rattle.std.proofs.Common.{◌∙◌, ap, not, sym}
 use Rattle.pg_gate.proofs.ShowsLemmas.{shows_another}
 use Rattle.pg_gate.proofs.shows.is_another.Goals as goal
 

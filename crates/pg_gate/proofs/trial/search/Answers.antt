@@ -10,8 +10,7 @@ returns-in_default-message-clause-old_missing c lacks =
 
 pub returns-in_default-message-clause-refused : goal.returns-in_default-message-clause-refused
 returns-in_default-message-clause-refused c =
-    let named = (c.in-Some.ensures c.in-Some.old_root).0 refl in
-    (
+    let named = (c.in-Some.ensures c.in-Some.old_root).0 refl in (
       (λ lacks. lacks c.in-Some.old_root named),
       (λ id new_named. c.in_default-message.not-Some id ((c.message-2.ensures id).1 new_named)),
     )
@@ -30,10 +29,12 @@ pub shortest-requires : goal.shortest-requires
 shortest-requires c =
     let old_named = (c.in-Some.ensures c.in-Some.old_root).0 refl in
     let new_named = (c.in-Some-message.ensures c.in-Some-message.new_root).0 refl in
-    record { there = record {
-      old_there = named_there c.args.old.now c.args.root.now c.in-Some.old_root old_named;
-      new_there = named_there c.args.new.now c.args.root.now c.in-Some-message.new_root new_named;
-    } }
+    record {
+      there = record {
+        old_there = named_there c.args.old.now c.args.root.now c.in-Some.old_root old_named;
+        new_there = named_there c.args.new.now c.args.root.now c.in-Some-message.new_root new_named;
+      };
+    }
 
 pub returns-clause-found : goal.returns-clause-found
 returns-clause-found c =
