@@ -3,6 +3,8 @@
 
 #[cfg(test)]
 mod answer_tests;
+#[cfg(test)]
+mod call_tests;
 mod failing_sink;
 mod failing_source;
 mod one_byte;

@@ -26,7 +26,7 @@ pub enum TextError {
     /// E201: the file doesn't begin with `syntax = "proto3"`.
     #[error("not a proto3 file")]
     NotProto3,
-    /// E202: no file goes on with this token.
+    /// E202: this reader goes on with no such token.
     #[error("unexpected token")]
     Unexpected,
     /// E304: the scope has the name already.

@@ -1,0 +1,83 @@
+//! The calls of the gate by themselves, beside the runs of the program.
+use crate::runs::file_of;
+use pg_gate::{Answer, GateError, gate, gate_files};
+use pg_link::Listed;
+use pg_schema::{
+    Element, Field, FieldOptions, MessageOptions, MessageType, Parts, Presence, Scalar, Schema,
+};
+use std::alloc::{AllocError, Global};
+use std::process::Abort;
+use std::test::Fail;
+
+/// The parts that `message M { SCALAR a = 1; }` declares.
+fn parts_of(alloc: Global, scalar: Scalar) -> Result<Parts, AllocError> {
+    let field = Field {
+        number: 1,
+        name: String::from_str(alloc, "a")?,
+        presence: Presence::Implicit,
+        element: Element::Scalar(scalar),
+        oneof: None,
+        json_name: String::from_str(alloc, "a")?,
+        states_optional: false,
+        options: FieldOptions {
+            packed: None,
+            deprecated: None,
+        },
+    };
+    let message_type = MessageType {
+        name: String::from_str(alloc, "M")?,
+        fields: vec![in alloc; field]?,
+        declared: vec![in alloc; 1]?,
+        oneofs: Vec::new(alloc),
+        nested_types: Vec::new(alloc),
+        nested_enums: Vec::new(alloc),
+        reserved_numbers: Vec::new(alloc),
+        reserved_names: Vec::new(alloc),
+        options: MessageOptions { deprecated: None },
+    };
+    Ok(Parts {
+        files: Vec::new(alloc),
+        types: vec![in alloc; message_type]?,
+        enums: Vec::new(alloc),
+        services: Vec::new(alloc),
+    })
+}
+
+fn schema_of(alloc: Global, scalar: Scalar) -> Result<Schema, Fail> {
+    let schema = Schema::from_parts(alloc, parts_of(alloc, scalar)?);
+    Ok(schema.ok().ok_or("the parts are a schema")?)
+}
+
+/// Whether the answer is a breaking message.
+fn breaks(answer: &Result<Answer, GateError>) -> bool {
+    matches!(answer, Ok(Answer::Breaks { .. }))
+}
+
+#[test]
+fn a_gate_finds_what_breaks(rt: HostRuntime) -> Result<(), Fail> {
+    let alloc = rt.alloc();
+    let old = schema_of(alloc, Scalar::Int32)?;
+    let new = schema_of(alloc, Scalar::Uint32)?;
+    assert_eq!(rt; breaks(&gate(alloc, &old, &new, "M")), true);
+    assert_eq!(rt; matches!(gate(alloc, &old, &old, "M"), Ok(Answer::Undecided)), true);
+    assert_eq!(rt; matches!(gate(alloc, &old, &new, "N"), Err(GateError::RootMissingOld)), true);
+    Ok(())
+}
+
+#[test]
+fn a_gate_over_files_finds_what_breaks(rt: HostRuntime) -> Result<(), Fail> {
+    let alloc = rt.alloc();
+    let old_text = file_of(alloc, "int32 a = 1;")?;
+    let new_text = file_of(alloc, "uint32 a = 1;")?;
+    let mut old = Listed {
+        files: &[("o.proto", old_text.as_bytes())],
+    };
+    let mut new = Listed {
+        files: &[("n.proto", new_text.as_bytes())],
+    };
+    let answer = gate_files(alloc, &mut old, &mut new, &["o.proto"], &["n.proto"], "M");
+    assert_eq!(rt; breaks(&answer), true);
+    let missing = gate_files(alloc, &mut old, &mut new, &["o.proto"], &["n.proto"], "N");
+    assert_eq!(rt; matches!(missing, Err(GateError::RootMissingOld)), true);
+    Ok(())
+}
