@@ -59,8 +59,14 @@ fn a_gate_finds_what_breaks(rt: HostRuntime) -> Result<(), Fail> {
     let old = schema_of(alloc, Scalar::Int32)?;
     let new = schema_of(alloc, Scalar::Uint32)?;
     assert_eq!(rt; breaks(&gate(alloc, &old, &new, "M")), true);
-    assert_eq!(rt; matches!(gate(alloc, &old, &old, "M"), Ok(Answer::Undecided)), true);
-    assert_eq!(rt; matches!(gate(alloc, &old, &new, "N"), Err(GateError::RootMissingOld)), true);
+    assert_eq!(rt;
+        matches!(gate(alloc, &old, &old, "M"), Ok(Answer::Undecided)),
+        true
+    );
+    assert_eq!(rt;
+        matches!(gate(alloc, &old, &new, "N"), Err(GateError::RootMissingOld)),
+        true
+    );
     Ok(())
 }
 
