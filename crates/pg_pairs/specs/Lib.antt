@@ -1,0 +1,10 @@
+pub mod Sight
+pub mod Likeness
+pub mod Gaps
+pub mod Costs
+pub mod Choices
+pub mod Covering
+pub mod Fields
+pub mod Settling
+pub mod Laws
+pub mod SmallPairs

@@ -1,0 +1,49 @@
+-- Small pairs of types with all their choices, and the children of one.
+use Rattle.std.specs.Prelude.{◌≡◌, true, false, List, [], ◌∷◌, Some, None}
+use Rattle.pg_schema.specs.declared.field.TypeId.{TypeId}
+use Rattle.pg_schema.specs.declared.field.Scalar.TheVariants.{Int32, Uint32, Fixed32, Sint32, String, Bytes}
+use Rattle.pg_schema.specs.declared.field.Scalar.TheVariants as scalars
+use Rattle.pg_schema.specs.declared.field.Element.TheVariants as elements
+use Rattle.pg_schema.specs.declared.field.Presence.TheVariants.{Implicit, Explicit, Repeated, Map}
+use Rattle.pg_schema.specs.Shape.{FieldShape}
+use Rattle.pg_dyn.specs.Examples.{first, second, field, scalar, member, of_fields, linked}
+use Rattle.pg_pairs.specs.declared.choice.Choice.{Choice}
+use Rattle.pg_pairs.specs.declared.choice.Pair.{Pair}
+use Rattle.pg_pairs.specs.Sight.{by_numbers}
+use Rattle.pg_pairs.specs.Choices.{Table, choices, choice}
+use Rattle.pg_pairs.specs.Covering.{children}
+
+abbrev pub both : TypeId → Pair
+both type = record { old = type; new = type }
+
+abbrev pub no_bounds : Table
+no_bounds pair = None
+
+abbrev pub HasChoices : List FieldShape → List FieldShape → List Choice → Type 0
+HasChoices fs gs cs = choices by_numbers no_bounds (of_fields fs) (of_fields gs) (both first) ≡ cs
+
+pub record SmallPairs : Type 0 where
+  pub int32_unchanged : HasChoices (scalar 1 Implicit Int32 ∷ []) (scalar 1 Implicit Int32 ∷ []) []
+  pub int32_to_uint32 : HasChoices (scalar 1 Implicit Int32 ∷ []) (scalar 1 Implicit Uint32 ∷ []) (choice 1 2 0 11 ∷ [])
+  pub uint32_to_int32 : HasChoices (scalar 1 Implicit Uint32 ∷ []) (scalar 1 Implicit Int32 ∷ []) (choice 1 2 0 6 ∷ [])
+  pub int32_to_bool : HasChoices (scalar 1 Implicit Int32 ∷ []) (scalar 1 Implicit scalars.Bool ∷ []) (choice 1 2 0 2 ∷ [])
+  pub optional_text_to_text : HasChoices (scalar 1 Explicit String ∷ []) (scalar 1 Implicit String ∷ []) []
+  pub optional_text_to_message : HasChoices (scalar 1 Explicit String ∷ []) (field 1 Explicit (elements.Message first) ∷ []) (choice 1 1 0 2 ∷ [])
+  pub bytes_to_text : HasChoices (scalar 1 Implicit Bytes ∷ []) (scalar 1 Implicit String ∷ []) (choice 1 2 0 3 ∷ [])
+  pub texts_to_optional_text : HasChoices (scalar 1 (Repeated false) String ∷ []) (scalar 1 Explicit String ∷ []) (choice 1 4 0 4 ∷ [])
+  pub texts_to_text : HasChoices (scalar 1 (Repeated false) String ∷ []) (scalar 1 Implicit String ∷ []) (choice 1 4 0 2 ∷ [])
+  pub packed_to_optional : HasChoices (scalar 1 (Repeated true) Int32 ∷ []) (scalar 1 Explicit Int32 ∷ []) (choice 1 4 0 3 ∷ [])
+  pub unpacked_to_optional : HasChoices (scalar 1 (Repeated false) Int32 ∷ []) (scalar 1 Explicit Int32 ∷ []) (choice 1 4 0 4 ∷ [])
+  pub two_into_one_oneof : HasChoices (scalar 1 Implicit Int32 ∷ scalar 2 Implicit Int32 ∷ []) (member 1 Int32 ∷ member 2 Int32 ∷ []) (choice 1 6 2 4 ∷ [])
+  pub two_optional_into_one_oneof : HasChoices (scalar 1 Explicit Int32 ∷ scalar 2 Explicit Int32 ∷ []) (member 1 Int32 ∷ member 2 Int32 ∷ []) (choice 1 6 2 4 ∷ [])
+  pub oneof_unchanged : HasChoices (member 1 Int32 ∷ member 2 Int32 ∷ []) (member 1 Int32 ∷ member 2 Int32 ∷ []) []
+  pub bool_to_sint32 : HasChoices (scalar 3 Implicit scalars.Bool ∷ []) (scalar 3 Implicit Sint32 ∷ []) (choice 3 2 0 2 ∷ [])
+  pub gap_at_number_16 : HasChoices (scalar 1 Implicit Uint32 ∷ scalar 16 Implicit Int32 ∷ []) (scalar 1 Implicit Int32 ∷ scalar 16 Implicit scalars.Bool ∷ []) (choice 1 2 0 6 ∷ choice 16 2 0 3 ∷ [])
+  pub gap_at_the_greatest_number : HasChoices (scalar 536870911 Implicit Int32 ∷ []) (scalar 536870911 Implicit scalars.Bool ∷ []) (choice 536870911 2 0 6 ∷ [])
+  pub map_key_to_int32 : HasChoices (scalar 1 (Map Uint32) String ∷ []) (scalar 1 (Map Int32) String ∷ []) (choice 1 5 1 10 ∷ [])
+  pub map_key_is_not_accepted : HasChoices (scalar 1 (Map Int32) scalars.Bool ∷ []) (scalar 1 (Map Fixed32) scalars.Bool ∷ []) (choice 1 5 0 6 ∷ [])
+  pub lacked_field_comes_back : HasChoices (scalar 1 Implicit Int32 ∷ scalar 2 Implicit String ∷ []) (scalar 1 Implicit Int32 ∷ []) []
+  -- a child whose least message has 6 bytes; and one of 128 bytes, whose length takes two
+  pub child_breaks : choices by_numbers (λ pair. Some (Some 6)) (linked Uint32) (linked Int32) (both second) ≡ choice 1 3 0 8 ∷ choice 2 3 0 8 ∷ []
+  pub child_of_two_length_bytes : choices by_numbers (λ pair. Some (Some 128)) (linked Uint32) (linked Int32) (both second) ≡ choice 1 3 0 131 ∷ choice 2 3 0 131 ∷ []
+  pub children_of_a_linked_type : children (linked Uint32) (linked Int32) (both second) ≡ both second ∷ both first ∷ []

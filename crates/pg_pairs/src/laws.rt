@@ -1,0 +1,48 @@
+//! Laws about the definitions. Each is the contract of a function that does nothing.
+
+ghost use Rattle.pg_pairs.specs.Gaps.{GapTable};
+ghost use Rattle.pg_pairs.specs.Laws.{CoveringBounds, ExactIsLeast, NoneIsCompatible};
+ghost use Rattle.pg_pairs.specs.SmallPairs.{SmallPairs};
+ghost use Rattle.pg_pairs.specs.Sight.{IsSight, by_numbers};
+ghost use Rattle.pg_pairs.specs.Settling.{OneSolution, SettledByInduction};
+
+/// Small pairs of types with all their choices.
+pub fn small_pairs()
+    ensures { SmallPairs }
+{}
+
+/// The table of gaps is true: each value is a shortest item that isn't seen, and where there is none each item is seen.
+pub fn gap_table()
+    ensures { GapTable }
+{}
+
+/// By their numbers all enum items are alike.
+pub fn numbers_sight()
+    ensures { IsSight by_numbers }
+{}
+
+/// A table that covers a pair bounds from below the messages that break, for each pair in it.
+pub fn covering_bounds()
+    ensures { CoveringBounds }
+{}
+
+/// A pair whose bound is 'none' in such a table is compatible.
+pub fn none_is_compatible()
+    ensures { NoneIsCompatible }
+{}
+
+/// A table of least costs over a graph, whose edges cost more than their children, is the only one.
+pub fn one_solution()
+    ensures { OneSolution }
+{}
+
+/// What holds of base costs, and through edges, holds of each least cost.
+pub fn settled_by_induction()
+    ensures { SettledByInduction }
+{}
+
+/// A table whose every bound is the least cost of its pair's choices says the least length of each pair's breaking messages, if
+/// each choice is reached.
+pub fn exact_is_least()
+    ensures { ExactIsLeast }
+{}

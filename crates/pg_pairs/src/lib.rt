@@ -1,0 +1,13 @@
+//! Pairs of an old and a new type: what of the one the other doesn't see, and how long the shortest message is that shows it.
+#![tactic(auto)]
+
+mod choice;
+mod gap;
+mod laws;
+
+pub use choice::{Choice, Pair};
+pub use gap::Gap;
+pub use laws::{
+    covering_bounds, exact_is_least, gap_table, none_is_compatible, numbers_sight, one_solution,
+    settled_by_induction, small_pairs,
+};
