@@ -25,6 +25,7 @@ pub mod Exact
 pub mod KindsRead
 pub mod CarryLists
 pub mod CarryUnlike
+pub mod CarryUnlikeMaps
 pub mod LeastContents
 pub mod Meeting
 pub mod CarryWires
@@ -33,3 +34,4 @@ pub mod EntriesRead
 pub mod CarryMaps
 pub mod CarryMapChild
 pub mod CarryTwo
+pub mod Reached

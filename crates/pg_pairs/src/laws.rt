@@ -1,7 +1,7 @@
 //! Laws about the definitions. Each is the contract of a function that does nothing.
 
 ghost use Rattle.pg_pairs.specs.Gaps.{GapTable};
-ghost use Rattle.pg_pairs.specs.Laws.{CoveringBounds, ExactIsLeast, NoneIsCompatible};
+ghost use Rattle.pg_pairs.specs.Laws.{CoveringBounds, EachChoiceIsReached, ExactIsLeast, NoneIsCompatible};
 ghost use Rattle.pg_pairs.specs.SmallPairs.{SmallPairs};
 ghost use Rattle.pg_pairs.specs.Sight.{IsSight, by_numbers};
 ghost use Rattle.pg_pairs.specs.Settling.{OneSolution, SettledByInduction};
@@ -41,8 +41,12 @@ pub fn settled_by_induction()
     ensures { SettledByInduction }
 {}
 
-/// A table whose every bound is the least cost of its pair's choices says the least length of each pair's breaking messages, if
-/// each choice is reached.
+/// Each choice of a pair is the length of a message that breaks, if for each smaller number in the table there is one.
+pub fn each_choice_is_reached()
+    ensures { EachChoiceIsReached }
+{}
+
+/// A table whose every bound is the least cost of its pair's choices says the least length of each pair's breaking messages.
 pub fn exact_is_least()
     ensures { ExactIsLeast }
 {}

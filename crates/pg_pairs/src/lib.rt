@@ -8,6 +8,6 @@ mod laws;
 pub use choice::{Choice, Pair};
 pub use gap::Gap;
 pub use laws::{
-    covering_bounds, exact_is_least, gap_table, none_is_compatible, numbers_sight, one_solution,
+    covering_bounds, each_choice_is_reached, exact_is_least, gap_table, none_is_compatible, numbers_sight, one_solution,
     settled_by_induction, small_pairs,
 };
