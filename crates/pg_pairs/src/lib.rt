@@ -2,11 +2,13 @@
 #![tactic(auto)]
 
 mod choice;
-mod gap;
+mod scalar_gap;
+mod gap_kind;
 mod laws;
 
 pub use choice::{Choice, Pair};
-pub use gap::Gap;
+pub use scalar_gap::gap;
+pub use gap_kind::Gap;
 pub use laws::{
     covering_bounds, each_choice_is_reached, exact_is_least, gap_table, none_is_compatible, numbers_sight, one_solution,
     settled_by_induction, small_pairs,
