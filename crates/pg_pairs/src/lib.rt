@@ -3,6 +3,8 @@
 
 mod choice;
 mod scalar_gap;
+mod table;
+mod view;
 mod gap_kind;
 mod laws;
 
@@ -13,3 +15,5 @@ pub use laws::{
     covering_bounds, each_choice_is_reached, exact_is_least, gap_table, none_is_compatible, numbers_sight, one_solution,
     settled_by_induction, small_pairs,
 };
+pub use table::Table;
+pub use view::{Numbers, View};

@@ -1,0 +1,15 @@
+//! Tables of bounds.
+
+ghost use Rattle.std.specs.Prelude.{◌≡◌};
+ghost use Rattle.pg_pairs.specs.Choices.{Table};
+
+use crate::choice::Pair;
+
+/// Bounds of pairs: how many bytes each breaking message has at least.
+pub trait Table {
+    ghost bounds: { Self → Table };
+
+    /// The pair's bound: `None` where the pair isn't there, `Some(None)` where no message of it breaks.
+    fn bound(&self, pair: Pair) -> Option<Option<u32>>
+        ensures { result ≡ bounds self.now pair };
+}

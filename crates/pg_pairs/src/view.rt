@@ -1,0 +1,50 @@
+//! Views: which numbers of an old enum are the same item in a new one.
+
+ghost use Rattle.std.specs.Prelude.{◌≡◌, ℤ, Bool, true, Option, None};
+ghost use Rattle.pg_schema.specs.declared.enum_type.EnumType.{EnumType};
+ghost use Rattle.pg_pairs.specs.Sight.{IsLeastOf};
+
+use pg_schema::EnumType;
+
+/// How the numbers of an old enum are compared with those of a new one.
+///
+/// The law `least_is`: `least` gives, of the numbers from -2,147,483,648 to 2,147,483,647 that aren't
+/// alike, one with the shortest body, without 0 where `zero` is false; none only where there is no
+/// such number.
+pub trait View {
+    ghost is_alike: { Self → EnumType → EnumType → ℤ → Bool };
+
+    ghost least_differing: { Self → EnumType → EnumType → Bool → Option ℤ };
+
+    /// Whether the number is the same item in both enums.
+    fn alike(&self, old: &EnumType, new: &EnumType, number: i32) -> bool
+        ensures { result ≡ is_alike self.now old.now new.now number };
+
+    /// A shortest number that isn't alike; 0 only where `zero` says that it counts.
+    fn least(&self, old: &EnumType, new: &EnumType, zero: bool) -> Option<i32>
+        ensures { result ≡ least_differing self.now old.now new.now zero };
+
+    ghost least_is: { (view : Self) (old new : EnumType) (zero : Bool) → IsLeastOf (is_alike view old new) zero (least_differing view old new zero) };
+}
+
+/// The view that finds every number alike.
+#[derive(Clone, Copy, Debug)]
+pub struct Numbers;
+
+impl View for Numbers {
+    ghost use Rattle.pg_pairs.specs.Sight.{none_differs};
+
+    ghost is_alike = { λ _ _ _ _. true };
+
+    ghost least_differing = { λ _ _ _ _. None };
+
+    ghost least_is = { λ _ _ _ zero. none_differs zero };
+
+    fn alike(&self, _old: &EnumType, _new: &EnumType, _number: i32) -> bool {
+        true
+    }
+
+    fn least(&self, _old: &EnumType, _new: &EnumType, _zero: bool) -> Option<i32> {
+        None
+    }
+}
