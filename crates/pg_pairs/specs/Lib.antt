@@ -1,4 +1,5 @@
 pub mod Sight
+pub mod Views
 pub mod Likeness
 pub mod Gaps
 pub mod Costs

@@ -2,9 +2,13 @@
 #![tactic(auto)]
 
 mod choice;
+mod cost;
+mod element;
 mod scalar_gap;
 mod table;
 mod view;
+mod field_choice;
+mod gap_cost;
 mod gap_kind;
 mod laws;
 

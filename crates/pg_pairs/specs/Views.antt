@@ -1,0 +1,23 @@
+-- The sight that a view has between two schemas.
+use Rattle.std.specs.Prelude.{ℤ, Bool, true, Option, Some, None}
+use Rattle.pg_schema.specs.declared.enum_type.EnumType.{EnumType}
+use Rattle.pg_schema.specs.declared.parts.Parts.{Parts}
+use Rattle.pg_schema.specs.Parts.{enum_at}
+use Rattle.pg_pairs.specs.Sight.{Sight}
+
+-- the view's answer about two enums that are there; without them every number is alike
+abbrev pub alike_at : (EnumType → EnumType → ℤ → Bool) → Option EnumType → Option EnumType → ℤ → Bool
+alike_at alike (Some old) (Some new) n = alike old new n
+alike_at alike (Some old) None n = true
+alike_at alike None new n = true
+
+abbrev pub least_at : (EnumType → EnumType → Bool → Option ℤ) → Option EnumType → Option EnumType → Bool → Option ℤ
+least_at least (Some old) (Some new) zero = least old new zero
+least_at least (Some old) None zero = None
+least_at least None new zero = None
+
+abbrev pub sight_of : (EnumType → EnumType → ℤ → Bool) → (EnumType → EnumType → Bool → Option ℤ) → Parts → Parts → Sight
+sight_of alike least old new = record {
+  alike = λ a b n. alike_at alike (enum_at old a) (enum_at new b) n;
+  least = λ a b zero. least_at least (enum_at old a) (enum_at new b) zero;
+}

@@ -1,0 +1,48 @@
+//! What elements have in common.
+
+ghost use Rattle.std.specs.Prelude.{◌≡◌};
+ghost use Rattle.pg_dyn.specs.Coding.{form, form_wire};
+ghost use Rattle.pg_pairs.specs.Likeness.{like};
+
+use crate::gap_kind::Gap;
+use crate::scalar_gap::gap;
+use pg_schema::{Element, Scalar};
+use pg_wire::WireType;
+
+/// The wire type of an element's own records (Protocol Buffers encoding guide, "Message Structure").
+pub(crate) fn wire_type(element: Element) -> WireType
+    ensures { result ≡ form_wire (form element) }
+{
+    match element {
+        Element::Enum(_) => WireType::Varint,
+        Element::Message(_) => WireType::Len,
+        Element::Scalar(scalar) => match scalar {
+            Scalar::Double | Scalar::Fixed64 | Scalar::Sfixed64 => WireType::I64,
+            Scalar::Float | Scalar::Fixed32 | Scalar::Sfixed32 => WireType::I32,
+            Scalar::String | Scalar::Bytes => WireType::Len,
+            _ => WireType::Varint,
+        },
+    }
+}
+
+// Whether the scalars' items are of one kind and stand in one wire type.
+fn scalars_are_like(old: Scalar, new: Scalar) -> bool
+    ensures { result ≡ like (Element.Scalar old) (Element.Scalar new) }
+{
+    !matches!(gap(old, new), Gap::Unlike)
+}
+
+/// Whether the elements' items are of one kind and stand in one wire type. An enum's stand as those
+/// of int32.
+pub(crate) fn are_like(old: Element, new: Element) -> bool
+    ensures { result ≡ like old new }
+{
+    match (old, new) {
+        (Element::Scalar(a), Element::Scalar(b)) => scalars_are_like(a, b),
+        (Element::Scalar(a), Element::Enum(_)) => scalars_are_like(a, Scalar::Int32),
+        (Element::Enum(_), Element::Scalar(b)) => scalars_are_like(Scalar::Int32, b),
+        (Element::Enum(_), Element::Enum(_)) => true,
+        (Element::Message(_), Element::Message(_)) => true,
+        _ => false,
+    }
+}

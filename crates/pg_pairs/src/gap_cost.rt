@@ -1,0 +1,105 @@
+//! The bodies of gaps and of children.
+
+ghost use Rattle.std.specs.Prelude.{◌≡◌, ◌<◌, ◌≤◌, ◌^◌, length, IfSome, option_map};
+ghost use Rattle.pg_wire.specs.Varint.{varint};
+ghost use Rattle.pg_wire.specs.Words.{twos_complement};
+ghost use Rattle.pg_schema.specs.declared.enum_type.EnumType.{EnumType};
+ghost use Rattle.pg_dyn.specs.Coding.{scalar_form};
+ghost use Rattle.pg_pairs.specs.Choices.{child_body, gap_body};
+ghost use Rattle.pg_pairs.specs.Gaps.{body_length, gap, item_of};
+ghost use Rattle.pg_pairs.specs.Views.{sight_of};
+
+use crate::choice::Pair;
+use crate::cost::{varint_bytes, with_length};
+use crate::gap_kind::Gap;
+use crate::scalar_gap::gap;
+use crate::table::Table;
+use crate::view::View;
+use pg_schema::{Element, EnumId, Scalar, Schema};
+
+// The body of the gap's item between two scalar types.
+fn scalar_gap_body(old: Scalar, new: Scalar) -> Option<u64>
+    ensures body { result ≡ option_map (body_length (scalar_form old)) (item_of (scalar_form old) (gap old new)) }
+    ensures few { IfSome result (λ body. body < 2 ^ 33) }
+{
+    match gap(old, new) {
+        Gap::Least { body, .. } => Some(u64::from(body)),
+        Gap::Unlike | Gap::None => None,
+    }
+}
+
+// The word of 64 bits in two's complement (Protocol Buffers encoding guide, "Signed Integers").
+fn complement(number: i32) -> u64
+    ensures { result ≡ twos_complement (2 ^ 64) number }
+{
+    let wide = i128::from(number);
+    if wide < 0 {
+        (wide + 0x1_0000_0000_0000_0000) as u64
+    } else {
+        wide as u64
+    }
+}
+
+// The bytes of an enum's number, which are few.
+fn number_bytes(number: i32) -> u64
+    ensures bytes { result ≡ length (varint (twos_complement (2 ^ 64) number)) }
+    ensures few { result ≤ 10 }
+{
+    varint_bytes(complement(number))
+}
+
+// The body of the least number that isn't alike in two enums.
+#[tactic(auto, unfolding(pg_dyn::specs::Coding::word_bytes))]
+fn enum_gap_body<V: View>(
+    view: &V,
+    old: &Schema,
+    new: &Schema,
+    zero: bool,
+    pair: (EnumId, EnumId),
+) -> Option<u64>
+    ensures body { result ≡ gap_body (sight_of (V.is_alike view.now) (V.least_differing view.now) old.now new.now) zero (Element.Enum pair.0) (Element.Enum pair.1) }
+    ensures few { IfSome result (λ body. body < 2 ^ 33) }
+{
+    let (Some(from), Some(to)) = (old.enum_type(pair.0), new.enum_type(pair.1)) else {
+        return None;
+    };
+    let number = view.least(from, to, zero)?;
+    Some(number_bytes(number))
+}
+
+/// The least body of an item that counts and that the new element's reader doesn't read as the same
+/// item; `None` where each is. A scalar beside an enum goes by int32.
+pub(crate) fn gap_body<V: View>(
+    view: &V,
+    old: &Schema,
+    new: &Schema,
+    zero: bool,
+    pair: (Element, Element),
+) -> Option<u64>
+    ensures body { result ≡ gap_body (sight_of (V.is_alike view.now) (V.least_differing view.now) old.now new.now) zero pair.0 pair.1 }
+    ensures few { IfSome result (λ body. body < 2 ^ 33) }
+{
+    match pair {
+        (Element::Scalar(from), Element::Scalar(to)) => scalar_gap_body(from, to),
+        (Element::Scalar(from), Element::Enum(_)) => scalar_gap_body(from, Scalar::Int32),
+        (Element::Enum(_), Element::Scalar(to)) => scalar_gap_body(Scalar::Int32, to),
+        (Element::Enum(from), Element::Enum(to)) => {
+            enum_gap_body(view, old, new, zero, (from, to))
+        }
+        _ => None,
+    }
+}
+
+/// A breaking child of its bound's length, as a body; `None` where the table has no number for it.
+pub(crate) fn child_body<T: Table>(table: &T, pair: (Element, Element)) -> Option<u64>
+    ensures body { result ≡ child_body (T.bounds table.now) pair.0 pair.1 }
+    ensures few { IfSome result (λ body. body < 2 ^ 33) }
+{
+    let (Element::Message(old), Element::Message(new)) = pair else {
+        return None;
+    };
+    match table.bound(Pair { old, new }) {
+        Some(Some(bound)) => Some(with_length(u64::from(bound))),
+        Some(None) | None => None,
+    }
+}
