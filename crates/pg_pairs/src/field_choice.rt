@@ -3,6 +3,7 @@
 ghost use Rattle.std.specs.Prelude.{◌≡◌, ◌++◌, ◌<◌, ◌^◌, OnOk, IfSome, option_map};
 ghost use Rattle.pg_schema.specs.Parts.{field_shape};
 ghost use Rattle.pg_pairs.specs.Choices.{affordable, choice_of, field_choices, map_choices, plain_choices, singular_cost, unlike_cost, zero_counts};
+ghost use Rattle.pg_pairs.specs.Costs.{entry_cost, least_body, one_item};
 ghost use Rattle.pg_pairs.specs.Views.{sight_of};
 
 use crate::choice::Choice;
@@ -57,6 +58,24 @@ fn singular_cost(old: &Field, new: &Field) -> Option<u64>
     }
 }
 
+// A content of one item with that body, where there is one.
+fn item_cost(field: &Field, body: Option<u64>) -> Option<u64>
+    requires number { field.now.number < 2 ^ 29 }
+    requires body { IfSome body (λ body. body < 2 ^ 33) }
+    ensures { result ≡ option_map (one_item (field_shape field.now)) body }
+{
+    Some(one_item(field, body?))
+}
+
+// An entry whose key has that body, where there is one, with a least value.
+fn key_cost(field: &Field, body: Option<u64>) -> Option<u64>
+    requires number { field.now.number < 2 ^ 29 }
+    requires body { IfSome body (λ body. body < 2 ^ 33) }
+    ensures { result ≡ option_map (λ body. entry_cost field.now.number body (least_body field.now.element)) body }
+{
+    Some(entry_cost(field.number, body?, least_body(field.element)))
+}
+
 // Puts a choice of that cost behind the others, where there is one that an encoding may have.
 fn offer(
     choices: &mut Vec<Choice>,
@@ -80,4 +99,82 @@ fn offer(
         cost: cost as u32,
     })?;
     Ok(())
+}
+
+/// Two schemas with the view and the table that their types are compared by.
+#[derive(Clone, Copy)]
+pub(crate) struct Between<'a, V, T> {
+    pub view: &'a V,
+    pub table: &'a T,
+    pub old: &'a Schema,
+    pub new: &'a Schema,
+}
+
+// The choices of a field that is no map in either type.
+fn offer_plain<V: View, T: Table>(
+    between: Between<'_, V, T>,
+    choices: &mut Vec<Choice>,
+    old: &Field,
+    new: &Field,
+) -> Result<(), AllocError>
+    requires { old.now.number < 2 ^ 29 }
+    ensures { OnOk result (choices.new.items ≡ choices.old.items ++ affordable (plain_choices (sight_of (V.is_alike between.entry.view.now) (V.least_differing between.entry.view.now) between.entry.old.now between.entry.new.now) (T.bounds between.entry.table.now) (field_shape old.now) (field_shape new.now))) }
+{
+    let number = old.number;
+    let elements = (old.element, new.element);
+    if !are_like(old.element, new.element) {
+        return offer(choices, number, 1, 0, Some(unlike_cost(old, new)));
+    }
+    let zero = zero_counts(old, new);
+    let gap = gap_body(between.view, between.old, between.new, zero, elements);
+    let child = child_body(between.table, elements);
+    offer(choices, number, 2, 0, item_cost(old, gap))?;
+    offer(choices, number, 3, 0, item_cost(old, child))?;
+    offer(choices, number, 4, 0, singular_cost(old, new))
+}
+
+// The choices of a field that is a map in both types, with those keys.
+fn offer_map<V: View, T: Table>(
+    between: Between<'_, V, T>,
+    choices: &mut Vec<Choice>,
+    old: &Field,
+    new: &Field,
+    keys: (Scalar, Scalar),
+) -> Result<(), AllocError>
+    requires { old.now.number < 2 ^ 29 }
+    ensures { OnOk result (choices.new.items ≡ choices.old.items ++ affordable (map_choices (sight_of (V.is_alike between.entry.view.now) (V.least_differing between.entry.view.now) between.entry.old.now between.entry.new.now) (T.bounds between.entry.table.now) (field_shape old.now) (field_shape new.now) keys.0 keys.1)) }
+{
+    let number = old.number;
+    let keys = (Element::Scalar(keys.0), Element::Scalar(keys.1));
+    let values = (old.element, new.element);
+    if !are_like(keys.0, keys.1) || !are_like(values.0, values.1) {
+        return offer(choices, number, 5, 0, Some(least_content(old)));
+    }
+    let key_gap = gap_body(between.view, between.old, between.new, true, keys);
+    let value_gap = gap_body(between.view, between.old, between.new, true, values);
+    let child = child_body(between.table, values);
+    offer(choices, number, 5, 1, key_cost(old, key_gap))?;
+    offer(choices, number, 5, 2, item_cost(old, value_gap))?;
+    offer(choices, number, 5, 2, item_cost(old, child))
+}
+
+/// Puts the choices of the field with one number behind the others, by case and part.
+pub(crate) fn offer_field<V: View, T: Table>(
+    between: Between<'_, V, T>,
+    choices: &mut Vec<Choice>,
+    old: &Field,
+    new: &Field,
+) -> Result<(), AllocError>
+    requires { old.now.number < 2 ^ 29 }
+    ensures { OnOk result (choices.new.items ≡ choices.old.items ++ affordable (field_choices (sight_of (V.is_alike between.entry.view.now) (V.least_differing between.entry.view.now) between.entry.old.now between.entry.new.now) (T.bounds between.entry.table.now) (field_shape old.now) (field_shape new.now))) }
+{
+    match (old.presence, new.presence) {
+        (Presence::Map { key: old_key }, Presence::Map { key: new_key }) => {
+            offer_map(between, choices, old, new, (old_key, new_key))
+        }
+        (Presence::Map { .. }, _) | (_, Presence::Map { .. }) => {
+            offer(choices, old.number, 1, 0, Some(unlike_cost(old, new)))
+        }
+        _ => offer_plain(between, choices, old, new),
+    }
 }
