@@ -35,3 +35,5 @@ pub mod CarryMaps
 pub mod CarryMapChild
 pub mod CarryTwo
 pub mod Reached
+pub mod FirstSeen
+pub mod ChildSteps

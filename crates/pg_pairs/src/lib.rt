@@ -3,6 +3,7 @@
 
 mod choice;
 mod cost;
+mod descent;
 mod element;
 mod scalar_gap;
 mod table;
@@ -13,6 +14,7 @@ mod gap_kind;
 mod laws;
 
 pub use choice::{Choice, Pair};
+pub use descent::children;
 pub use scalar_gap::gap;
 pub use gap_kind::Gap;
 pub use laws::{
