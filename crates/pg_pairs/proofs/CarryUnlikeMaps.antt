@@ -1,5 +1,5 @@
 -- Messages that reach the choice of two maps whose keys or values are unlike: one entry, whose unlike part isn't read as itself.
-use Rattle.std.proofs.Common.{◌≡◌, ℕ, pos, ◌+◌, ◌<◌, ◌≤◌, ◌^◌, List, [], ◌∷◌, ◌++◌, length, Bool, true, false, ◌&&◌, ◌||◌, nat_eq, Option, Some, None, ◌⊎◌, inl, inr, ⊎_elim, refl, ap, ap₂, sym, ◌∙◌, subst, arith, append-nil, option_map}
+use Rattle.std.proofs.Common.{◌≡◌, ℕ, pos, ◌+◌, ◌<◌, ◌≤◌, ◌^◌, List, [], ◌∷◌, ◌++◌, length, Bool, false, ◌&&◌, nat_eq, Option, Some, None, ◌⊎◌, inl, inr, ⊎_elim, refl, ap, sym, ◌∙◌, subst, arith, append-nil}
 use Rattle.std.specs.List.{AllByRecursion}
 use Rattle.std.proofs.lemmas.Bool.{and_left, and_right, cases_Bool}
 use Rattle.pg_schema.specs.declared.field.TypeId.{TypeId}
@@ -34,13 +34,13 @@ use Rattle.pg_pairs.specs.Fields.{Cell, is_field_kept}
 use Rattle.pg_pairs.specs.Laws.{IsReached}
 use Rattle.pg_pairs.proofs.Leaves.{leaf_eq-true, alike_equal}
 use Rattle.pg_pairs.proofs.GapItems.{IsLeafy}
-use Rattle.pg_pairs.proofs.Costs.{total, length-len_record}
+use Rattle.pg_pairs.proofs.Costs.{length-len_record}
 use Rattle.pg_pairs.proofs.Cells.{leafy_reader, length-entry_bytes}
 use Rattle.pg_pairs.proofs.Single.{single_length, single_broken}
 use Rattle.pg_pairs.proofs.Broken.{mapped}
-use Rattle.pg_pairs.proofs.KindsRead.{kind, form_kind, IsOfForm, range_kind, content_kind}
+use Rattle.pg_pairs.proofs.KindsRead.{kind, form_kind, IsOfForm, content_kind}
 use Rattle.pg_pairs.proofs.CarryWires.{unlike_leaves}
-use Rattle.pg_pairs.proofs.CarryLists.{zero_in_range, zero_length}
+use Rattle.pg_pairs.proofs.CarryLists.{zero_in_range}
 use Rattle.pg_pairs.proofs.CarryMaps.{nested, reach_entry}
 use Rattle.pg_pairs.proofs.CarryMapChild.{empty_length}
 use Rattle.pg_pairs.proofs.EntriesRead.{entry_broken, entry_parts}

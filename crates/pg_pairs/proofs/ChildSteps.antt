@@ -1,6 +1,5 @@
 -- One step of gathering children: the list and the set of what was seen.
-use Rattle.std.proofs.Common.{◌≡◌, ℕ, List, [], ◌∷◌, ◌++◌, map, flat_map, Bool, true, false, not, ◌&&◌, ◌||◌, nat_eq, cond, Option, Some, None, option_to_list, take, slice_index_or, length, ◌<◌, ◌+◌, zero, suc, get_or, slice_get, refl, ap, sym, ◌∙◌, subst}
-use Rattle.std.specs.List.{list_any}
+use Rattle.std.proofs.Common.{◌≡◌, ℕ, List, [], ◌∷◌, ◌++◌, map, Bool, true, false, ◌||◌, cond, Option, Some, None, option_to_list, take, slice_index_or, length, ◌<◌, ◌+◌, zero, suc, get_or, slice_get, refl, ap, sym, ◌∙◌, subst}
 use Rattle.std.specs.HashSet.{HashSet, contains, Updates}
 use Rattle.pg_schema.specs.declared.field.Field.{Field}
 use Rattle.pg_schema.specs.declared.message_type.MessageType.{MessageType}

@@ -1,8 +1,6 @@
 -- Lists in which each pair stands once, where it was first seen.
-use Rattle.std.proofs.Common.{◌≡◌, ℕ, List, [], ◌∷◌, ◌++◌, map, filter, flat_map, Bool, true, false, not, ◌&&◌, ◌||◌, nat_eq, cond, refl, ap, sym, ◌∙◌, subst, eqb-true, eq-eqb, append-nil, option_to_list, Option, Some, None, take, slice_index_or, length, ◌<◌, ◌+◌, zero, suc, arith, add-one}
+use Rattle.std.proofs.Common.{◌≡◌, ℕ, List, [], ◌∷◌, ◌++◌, map, filter, flat_map, Bool, true, false, not, ◌&&◌, ◌||◌, nat_eq, cond, refl, ap, sym, ◌∙◌, subst, append-nil, option_to_list, Option, Some, None, take, slice_index_or, length, ◌<◌, ◌+◌, zero, suc, arith, add-one}
 use Rattle.std.specs.List.{list_any}
-use Rattle.std.proofs.lemmas.Bool.{and_parts, and_from}
-use Rattle.std.specs.HashSet.{HashSet, contains}
 use Rattle.pg_dyn.proofs.Lists.{flat_map-append'}
 use Rattle.pg_pairs.specs.declared.choice.Pair.{Pair}
 use Rattle.pg_pairs.specs.Covering.{same_pair, distinct}

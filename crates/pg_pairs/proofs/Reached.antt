@@ -1,7 +1,7 @@
 -- Each choice of a pair is reached, if the smaller bounds in the table are.
 use Rattle.std.proofs.Common.{◌≡◌, ℕ, ◌+◌, ◌*◌, ◌<◌, ◌≤◌, List, [], ◌∷◌, ◌++◌, length, filter, Bool, true, false, not, ◌&&◌, cond, nat_le, if◌then◌else◌, Option, Some, None, option_map, option_and_then, ◌⊎◌, inl, inr, ⊎_elim, refl, ap, ap₂, sym, ◌∙◌, subst, arith}
 use Rattle.std.specs.List.{AllByRecursion}
-use Rattle.std.proofs.lemmas.Bool.{and_parts, and_left, cases_Bool, leb-true}
+use Rattle.std.proofs.lemmas.Bool.{and_parts, leb-true}
 use Rattle.pg_schema.specs.declared.field.TypeId.{TypeId}
 use Rattle.pg_schema.specs.declared.field.Scalar.{Scalar}
 use Rattle.pg_schema.specs.declared.field.Element.{Element}
@@ -9,7 +9,6 @@ use Rattle.pg_schema.specs.declared.field.Element.TheVariants as elements
 use Rattle.pg_schema.specs.declared.field.Presence.{Presence}
 use Rattle.pg_schema.specs.declared.field.Presence.TheVariants as presences
 use Rattle.pg_schema.specs.Shape.{Shape, FieldShape, PresenceFits, IsField, IsShape, Rising, fields, field_at, is_packable, is_singular}
-use Rattle.pg_wire.specs.Varint.{varint}
 use Rattle.pg_wire.specs.Records.{tag}
 use Rattle.pg_wire.proofs.Varints.{length-varint_positive}
 use Rattle.pg_dyn.specs.Message.{Leaf}
@@ -268,8 +267,7 @@ module _ (sight : Sight) (law : IsSight sight) (old new : Shape) (shape_old : Is
 
     plain_reached : (p q : Presence) → IsNoMap p → IsNoMap q → field_at (fields old pair.old) number ≡ Some (at_old p) → field_at (fields new pair.new) number ≡ Some (at_new q) → PresenceFits p e o → PresenceFits q d r → AllByRecursion ReachesChoice (plain_choices sight table (at_old p) (at_new q))
     plain_reached p q no_map_old no_map found at fits fits_new =
-        elim (like e d) as (λ b. like e d ≡ b → AllByRecursion ReachesChoice (if b then choice_of number 2 0 (option_map (one_item (at_old p)) (gap_body sight (zero_counts (at_old p) (at_new q)) e d)) ++ choice_of number 3 0 (option_map (one_item (at_old p)) (child_body table e d)) ++ choice_of number 4 0 (singular_cost (at_old p) (at_new q)) else choice number 1 0 (unlike_cost (at_old p) (at_new q)) ∷ []))
-        [
+        elim (like e d) as (λ b. like e d ≡ b → AllByRecursion ReachesChoice (if b then choice_of number 2 0 (option_map (one_item (at_old p)) (gap_body sight (zero_counts (at_old p) (at_new q)) e d)) ++ choice_of number 3 0 (option_map (one_item (at_old p)) (child_body table e d)) ++ choice_of number 4 0 (singular_cost (at_old p) (at_new q)) else choice number 1 0 (unlike_cost (at_old p) (at_new q)) ∷ [])) [
           | true ↦ λ is_like.
               each-append ReachesChoice
               (choice_of number 2 0 (option_map (one_item (at_old p)) (gap_body sight (zero_counts (at_old p) (at_new q)) e d)) ++ choice_of number 3 0 (option_map (one_item (at_old p)) (child_body table e d)))
@@ -369,8 +367,7 @@ module _ (sight : Sight) (law : IsSight sight) (old new : Shape) (shape_old : Is
 
       maps_reached : field_at (fields old pair.old) number ≡ Some old_map → field_at (fields new pair.new) number ≡ Some new_map → AllByRecursion ReachesChoice (map_choices sight table old_map new_map k l)
       maps_reached found at =
-          elim (like (elements.Scalar k) (elements.Scalar l) && like e d) as (λ b. (like (elements.Scalar k) (elements.Scalar l) && like e d) ≡ b → AllByRecursion ReachesChoice (if b then choice_of number 5 1 (option_map (λ body. entry_cost number body (least_body e)) (gap_body sight true (elements.Scalar k) (elements.Scalar l))) ++ choice_of number 5 2 (option_map (one_item old_map) (gap_body sight true e d)) ++ choice_of number 5 2 (option_map (one_item old_map) (child_body table e d)) else choice number 5 0 (least_content old_map) ∷ []))
-          [
+          elim (like (elements.Scalar k) (elements.Scalar l) && like e d) as (λ b. (like (elements.Scalar k) (elements.Scalar l) && like e d) ≡ b → AllByRecursion ReachesChoice (if b then choice_of number 5 1 (option_map (λ body. entry_cost number body (least_body e)) (gap_body sight true (elements.Scalar k) (elements.Scalar l))) ++ choice_of number 5 2 (option_map (one_item old_map) (gap_body sight true e d)) ++ choice_of number 5 2 (option_map (one_item old_map) (child_body table e d)) else choice number 5 0 (least_content old_map) ∷ [])) [
             | true ↦ λ both.
                 let (like_keys, like_values) = and_parts (like (elements.Scalar k) (elements.Scalar l)) (like e d) both in
                 each-append ReachesChoice
@@ -472,8 +469,7 @@ module _ (sight : Sight) (law : IsSight sight) (old new : Shape) (shape_old : Is
   joined_reached a found [] each below = tt
   joined_reached a found (b ∷ later) each below =
       each-append ReachesChoice (if joins (fields new pair.new) a b then choice a.number 6 b.number (least_content a + least_content b) ∷ [] else []) (joined_choices (fields new pair.new) a later)
-      (elim (joins (fields new pair.new) a b) as (λ c. joins (fields new pair.new) a b ≡ c → AllByRecursion ReachesChoice (if c then choice a.number 6 b.number (least_content a + least_content b) ∷ [] else []))
-      [
+      (elim (joins (fields new pair.new) a b) as (λ c. joins (fields new pair.new) a b ≡ c → AllByRecursion ReachesChoice (if c then choice a.number 6 b.number (least_content a + least_content b) ∷ [] else [])) [
         | true ↦ λ h.
             let m = meet a b h in
             (λ small smaller. reach_meeting sight old new shape_old shape_new pair a b m.first m.second found each.0 m.at_first m.at_second m.one m.not_old below.0 small, tt)

@@ -5,21 +5,24 @@ mod choice;
 mod cost;
 mod descent;
 mod element;
-mod scalar_gap;
-mod table;
-mod view;
 mod field_choice;
 mod gap_cost;
 mod gap_kind;
 mod laws;
+mod scalar_gap;
+mod table;
+mod view;
 
 pub use choice::{Choice, Pair};
 pub use descent::children;
-pub use scalar_gap::gap;
 pub use gap_kind::Gap;
 pub use laws::{
-    covering_bounds, each_choice_is_reached, exact_is_least, gap_table, none_is_compatible, numbers_sight, one_solution,
-    settled_by_induction, small_pairs,
+    covering_bounds, each_choice_is_reached, exact_is_least, gap_table, none_is_compatible,
+    numbers_sight, one_solution, settled_by_induction, small_pairs,
 };
+pub use scalar_gap::gap;
 pub use table::Table;
 pub use view::{Numbers, View};
+
+#[cfg(test)]
+mod tests;

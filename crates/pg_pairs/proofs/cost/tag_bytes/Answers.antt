@@ -1,6 +1,5 @@
 use Rattle.std.proofs.Common.{◌≤◌, ◌<◌, ◌^◌, ◌+◌, ◌*◌, ℕ, length, sym, subst, arith}
 use Rattle.pg_wire.specs.declared.record.WireType.TheVariants.{Varint}
-use Rattle.pg_wire.specs.Varint.{varint}
 use Rattle.pg_wire.specs.Records.{tag, wire_code}
 use Rattle.pg_wire.proofs.Varints.{length-varint}
 use Rattle.pg_pairs.proofs.cost.tag_bytes.Goals as goal

@@ -1,5 +1,4 @@
-use Rattle.std.proofs.Common.{◌≤◌, ◌<◌, ◌^◌, ℕ, length, sym, subst, arith}
-use Rattle.pg_wire.specs.Varint.{varint}
+use Rattle.std.proofs.Common.{◌≤◌, ◌<◌, ◌^◌, sym, subst, arith}
 use Rattle.pg_wire.proofs.Varints.{length-varint}
 use Rattle.pg_pairs.proofs.cost.varint_bytes.Goals as goal
 

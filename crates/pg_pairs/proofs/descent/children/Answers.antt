@@ -1,4 +1,4 @@
-use Rattle.std.proofs.Common.{◌≡◌, Option, None, sym, ◌∙◌}
+use Rattle.std.proofs.Common.{sym, ◌∙◌}
 use Rattle.pg_schema.specs.Parts.{shape_of}
 use Rattle.pg_pairs.proofs.ChildSteps.{no_children}
 use Rattle.pg_pairs.proofs.descent.children.Goals as goal

@@ -26,23 +26,20 @@ loop-field-preserved c =
     elim c.match-child_beside.branch [
       | in-Some+in_ok-insert+then-branch+in_ok-push w ↦
           let absent : has_pair c.loop-field.pairs.items w.in-Some.child ≡ false = sym (agrees w.in-Some.child) ∙ not_true _ (sym w.in_ok-insert.ensures.added ∙ w.if-branch.true) in
-          let items = ap (λ v. v.items) w.pairs-is ∙ w.in_ok-push.ensures.items in
-          (
+          let items = ap (λ v. v.items) w.pairs-is ∙ w.in_ok-push.ensures.items in (
             items ∙ sym (whole ∙ ap (grown c.loop-field.pairs.items) w.in-Some.is ∙ grown_new c.loop-field.pairs.items w.in-Some.child absent),
             subst (λ ps. Agrees ps c.match-child_beside.seen) (sym items)
-            (subst (Agrees _) (sym w.seen-is) (seen_new c.loop-field.pairs.items w.in-Some.child c.loop-field.seen w.insert.new.self agrees w.in_ok-insert.ensures.updates)),
+                (subst (Agrees _) (sym w.seen-is) (seen_new c.loop-field.pairs.items w.in-Some.child c.loop-field.seen w.insert.new.self agrees w.in_ok-insert.ensures.updates)),
           )
       | in-Some+in_ok-insert+else-branch w ↦
           let there : has_pair c.loop-field.pairs.items w.in-Some.child ≡ true = sym (agrees w.in-Some.child) ∙ not_false _ (sym w.in_ok-insert.ensures.added ∙ w.if-branch.false) in
-          let items = ap (λ v. v.items) w.pairs-is in
-          (
+          let items = ap (λ v. v.items) w.pairs-is in (
             items ∙ sym (whole ∙ ap (grown c.loop-field.pairs.items) w.in-Some.is ∙ grown_again c.loop-field.pairs.items w.in-Some.child there),
             subst (λ ps. Agrees ps c.match-child_beside.seen) (sym items)
-            (subst (Agrees _) (sym w.seen-is) (seen_again c.loop-field.pairs.items w.in-Some.child c.loop-field.seen w.insert.new.self agrees w.in_ok-insert.ensures.updates there)),
+                (subst (Agrees _) (sym w.seen-is) (seen_again c.loop-field.pairs.items w.in-Some.child c.loop-field.seen w.insert.new.self agrees w.in_ok-insert.ensures.updates there)),
           )
       | in_default w ↦
-          let items = ap (λ v. v.items) w.pairs-is in
-          (
+          let items = ap (λ v. v.items) w.pairs-is in (
             items ∙ sym (whole ∙ ap (grown c.loop-field.pairs.items) (none_is c.child_beside.result w.in_default.not-Some)),
             subst (λ ps. Agrees ps c.match-child_beside.seen) (sym items) (subst (Agrees c.loop-field.pairs.items) (sym w.seen-is) agrees),
           )
