@@ -55,7 +55,7 @@ pub grown_again : (ps : List Pair) (p : Pair) → has_pair ps p ≡ true → gro
 grown_again ps p h = rw h refl
 
 -- past the end of a list nothing is
-past : {X Y : Type 0} (f : X → Y) (d : Y) (xs : List X) (i : ℕ) → slice_get xs i ≡ None → get_or (map f xs) i d ≡ d
+pub past : {X Y : Type 0} (f : X → Y) (d : Y) (xs : List X) (i : ℕ) → slice_get xs i ≡ None → get_or (map f xs) i d ≡ d
 past f d [] i h = refl
 past f d (x ∷ xs) zero h = absurd (cc)
 past f d (x ∷ xs) (suc i) h = past f d xs i h

@@ -37,3 +37,6 @@ pub mod CarryTwo
 pub mod Reached
 pub mod FirstSeen
 pub mod ChildSteps
+pub mod Linking
+pub mod Joined
+pub mod OptionSteps

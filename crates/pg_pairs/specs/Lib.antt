@@ -5,6 +5,7 @@ pub mod Gaps
 pub mod Costs
 pub mod Choices
 pub mod Covering
+pub mod Members
 pub mod Fields
 pub mod Settling
 pub mod Laws

@@ -76,8 +76,8 @@ fn key_cost(field: &Field, body: Option<u64>) -> Option<u64>
     Some(entry_cost(field.number, body?, least_body(field.element)))
 }
 
-// Puts a choice of that cost behind the others, where there is one that an encoding may have.
-fn offer(
+/// Puts a choice of that cost behind the others, where there is one that an encoding may have.
+pub(crate) fn offer(
     choices: &mut Vec<Choice>,
     number: u32,
     case: u8,
@@ -102,7 +102,7 @@ fn offer(
 }
 
 /// Two schemas with the view and the table that their types are compared by.
-#[derive(Clone, Copy)]
+#[derive(Drop)]
 pub(crate) struct Between<'a, V, T> {
     pub view: &'a V,
     pub table: &'a T,
@@ -112,13 +112,13 @@ pub(crate) struct Between<'a, V, T> {
 
 // The choices of a field that is no map in either type.
 fn offer_plain<V: View, T: Table>(
-    between: Between<'_, V, T>,
+    between: &Between<'_, V, T>,
     choices: &mut Vec<Choice>,
     old: &Field,
     new: &Field,
 ) -> Result<(), AllocError>
     requires { old.now.number < 2 ^ 29 }
-    ensures { OnOk result (choices.new.items ≡ choices.old.items ++ affordable (plain_choices (sight_of (V.is_alike between.entry.view.now) (V.least_differing between.entry.view.now) between.entry.old.now between.entry.new.now) (T.bounds between.entry.table.now) (field_shape old.now) (field_shape new.now))) }
+    ensures { OnOk result (choices.new.items ≡ choices.old.items ++ affordable (plain_choices (sight_of (V.is_alike between.now.view.now) (V.least_differing between.now.view.now) between.now.old.now between.now.new.now) (T.bounds between.now.table.now) (field_shape old.now) (field_shape new.now))) }
 {
     let number = old.number;
     let elements = (old.element, new.element);
@@ -135,14 +135,14 @@ fn offer_plain<V: View, T: Table>(
 
 // The choices of a field that is a map in both types, with those keys.
 fn offer_map<V: View, T: Table>(
-    between: Between<'_, V, T>,
+    between: &Between<'_, V, T>,
     choices: &mut Vec<Choice>,
     old: &Field,
     new: &Field,
     keys: (Scalar, Scalar),
 ) -> Result<(), AllocError>
     requires { old.now.number < 2 ^ 29 }
-    ensures { OnOk result (choices.new.items ≡ choices.old.items ++ affordable (map_choices (sight_of (V.is_alike between.entry.view.now) (V.least_differing between.entry.view.now) between.entry.old.now between.entry.new.now) (T.bounds between.entry.table.now) (field_shape old.now) (field_shape new.now) keys.0 keys.1)) }
+    ensures { OnOk result (choices.new.items ≡ choices.old.items ++ affordable (map_choices (sight_of (V.is_alike between.now.view.now) (V.least_differing between.now.view.now) between.now.old.now between.now.new.now) (T.bounds between.now.table.now) (field_shape old.now) (field_shape new.now) keys.0 keys.1)) }
 {
     let number = old.number;
     let keys = (Element::Scalar(keys.0), Element::Scalar(keys.1));
@@ -160,13 +160,13 @@ fn offer_map<V: View, T: Table>(
 
 /// Puts the choices of the field with one number behind the others, by case and part.
 pub(crate) fn offer_field<V: View, T: Table>(
-    between: Between<'_, V, T>,
+    between: &Between<'_, V, T>,
     choices: &mut Vec<Choice>,
     old: &Field,
     new: &Field,
 ) -> Result<(), AllocError>
     requires { old.now.number < 2 ^ 29 }
-    ensures { OnOk result (choices.new.items ≡ choices.old.items ++ affordable (field_choices (sight_of (V.is_alike between.entry.view.now) (V.least_differing between.entry.view.now) between.entry.old.now between.entry.new.now) (T.bounds between.entry.table.now) (field_shape old.now) (field_shape new.now))) }
+    ensures { OnOk result (choices.new.items ≡ choices.old.items ++ affordable (field_choices (sight_of (V.is_alike between.now.view.now) (V.least_differing between.now.view.now) between.now.old.now between.now.new.now) (T.bounds between.now.table.now) (field_shape old.now) (field_shape new.now))) }
 {
     match (old.presence, new.presence) {
         (Presence::Map { key: old_key }, Presence::Map { key: new_key }) => {

@@ -8,7 +8,10 @@ mod element;
 mod field_choice;
 mod gap_cost;
 mod gap_kind;
+mod joint;
 mod laws;
+mod member;
+mod option_list;
 mod scalar_gap;
 mod table;
 mod view;
@@ -20,6 +23,7 @@ pub use laws::{
     covering_bounds, each_choice_is_reached, exact_is_least, gap_table, none_is_compatible,
     numbers_sight, one_solution, settled_by_induction, small_pairs,
 };
+pub use option_list::options;
 pub use scalar_gap::gap;
 pub use table::Table;
 pub use view::{Numbers, View};

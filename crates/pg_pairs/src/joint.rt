@@ -1,0 +1,63 @@
+//! The choices of two fields that come into one oneof of the new type.
+
+ghost use Rattle.std.specs.Prelude.{◌≡◌, ◌+◌, ◌++◌, ◌<◌, ◌^◌, [], ◌∷◌, List, if◌then◌else◌, length, map, not, OnOk};
+ghost use Rattle.std.specs.List.{AllByRecursion};
+ghost use Rattle.pg_schema.specs.declared.field.Field.{Field};
+ghost use Rattle.pg_schema.specs.Parts.{field_shape};
+ghost use Rattle.pg_schema.specs.Shape.{FieldShape};
+ghost use Rattle.pg_dyn.specs.Content.{same_oneof};
+ghost use Rattle.pg_pairs.specs.Choices.{affordable, choice};
+ghost use Rattle.pg_pairs.specs.Costs.{least_content};
+ghost use Rattle.pg_pairs.specs.Members.{JoinsWith, links, new_oneof};
+
+use crate::choice::Choice;
+use crate::cost::least_content;
+use crate::field_choice::offer;
+use pg_schema::Field;
+use std::alloc::AllocError;
+
+// Whether two fields are in one oneof.
+fn same_oneof(first: Option<u32>, second: Option<u32>) -> bool
+    ensures { result ≡ same_oneof first second }
+{
+    match (first, second) {
+        (Some(first), Some(second)) => first == second,
+        _ => false,
+    }
+}
+
+// The choice of two fields of one new oneof, which isn't one where they are in one old oneof too.
+fn offer_meeting(choices: &mut Vec<Choice>, first: &Field, second: &Field) -> Result<(), AllocError>
+    requires first { first.now.number < 2 ^ 29 }
+    requires second { second.now.number < 2 ^ 29 }
+    ensures { OnOk result (choices.new.items ≡ choices.old.items ++ affordable (if not (same_oneof first.now.oneof second.now.oneof) then choice first.now.number 6 second.now.number (least_content (field_shape first.now) + least_content (field_shape second.now)) ∷ [] else [])) }
+{
+    if same_oneof(first.oneof, second.oneof) {
+        return Ok(());
+    }
+    let cost = least_content(first) + least_content(second);
+    offer(choices, first.number, 6, second.number, Some(cost))
+}
+
+/// Puts the choices of a field with each later one of its new oneof behind the others. A link leads
+/// from each field to the next of its new oneof.
+pub(crate) fn offer_joined(
+    choices: &mut Vec<Choice>,
+    list: &[Field],
+    oneofs: &[Option<u32>],
+    next: &[usize],
+    at: usize,
+) -> Result<(), AllocError>
+    requires at { at < length list.now }
+    requires numbers { AllByRecursion (λ (f : Field). f.number < 2 ^ 29) list.now }
+    requires oneofs { length oneofs.now ≡ length list.now }
+    requires next { next.now ≡ links 0 oneofs.now }
+    ensures { OnOk result ((gs : List FieldShape) → oneofs.now ≡ map (λ f. new_oneof gs (field_shape f)) list.now → JoinsWith gs list.now at choices.old.items choices.new.items) }
+{
+    let mut place = next[at];
+    while place < list.len() {
+        offer_meeting(choices, &list[at], &list[place])?;
+        place = next[place];
+    }
+    Ok(())
+}
