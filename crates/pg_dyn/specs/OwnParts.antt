@@ -1,0 +1,65 @@
+-- What is known of the parts of a message of a type, field by field.
+use Rattle.std.specs.Prelude.{◌≡◌, ◌≢◌, ◌⊎◌, ⊤, ℕ, ◌<◌, ◌≤◌, List, [], ◌∷◌, map, filter, length, true, Option, Some}
+use Rattle.std.specs.List.{AllByRecursion}
+use Rattle.pg_schema.specs.declared.field.TypeId.{TypeId}
+use Rattle.pg_schema.specs.declared.field.Element.{Element}
+use Rattle.pg_schema.specs.declared.field.Presence.{Presence}
+use Rattle.pg_schema.specs.Shape.{Shape, FieldShape, IsShape, fields, field_at}
+use Rattle.pg_dyn.specs.Message.{Leaf, Message, Part, ends, holds, nests, is_of}
+use Rattle.pg_dyn.specs.Coding.{body, form}
+use Rattle.pg_dyn.specs.Bodies.{IsNestedLeaf, IsReadAs}
+use Rattle.pg_dyn.specs.Belonging.{IsMessage, KeyFits, MayBeZero, MayFollow}
+use Rattle.pg_dyn.specs.Comparison.{View, cells, writes}
+use Rattle.pg_dyn.specs.Content.{is_rival, same_oneof}
+use Rattle.pg_dyn.specs.Encoding.{cap, child_type, enc, encoded_parts}
+
+-- a part that a field of this number may hold
+pub record FitsField (number : ℕ) (p : Presence) (e : Element) (part : Part Leaf) : Type 0 where
+  pub number_is : part.number ≡ number
+  pub key_fits : KeyFits p part.key
+  pub reads : IsReadAs (form e) (body (form e) part.item) part.item
+  pub may_be_zero : MayBeZero p part.item
+  pub nested : IsNestedLeaf e part.item
+
+-- parts of one field in order: a singular field has at most one, a map's keys rise
+abbrev pub Ordered : Presence → List (Part Leaf) → Type 0
+Ordered p [] = ⊤
+Ordered p (q ∷ qs) = AllByRecursion (λ r. MayFollow p q.key r.key) qs × Ordered p qs
+
+-- The parts of a field fit it, and stand in order.
+abbrev pub OwnPartsFit : Type 0
+OwnPartsFit =
+    (shape : Shape) (type : TypeId) (m : Message) (f : FieldShape) → IsShape shape → IsMessage shape type m → field_at (fields shape type) f.number ≡ Some f →
+    AllByRecursion (FitsField f.number f.presence f.element) (filter (is_of f.number) (encoded_parts shape type m))
+    × Ordered f.presence (filter (is_of f.number) (encoded_parts shape type m))
+
+-- Of two members of one oneof one has no parts.
+abbrev pub OneIsEmpty : Type 0
+OneIsEmpty =
+    (shape : Shape) (type : TypeId) (m : Message) (f g : FieldShape) → IsShape shape → IsMessage shape type m →
+    field_at (fields shape type) f.number ≡ Some f → field_at (fields shape type) g.number ≡ Some g → is_rival f g ≡ true →
+    (filter (is_of f.number) (encoded_parts shape type m) ≡ []) ⊎ (filter (is_of g.number) (encoded_parts shape type m) ≡ [])
+
+-- Rivals are so either way round, and have two numbers.
+abbrev pub RivalsMutual : Type 0
+RivalsMutual =
+    ((a b : Option ℕ) → same_oneof a b ≡ true → same_oneof b a ≡ true)
+    × ((f g : FieldShape) → is_rival f g ≡ true → is_rival g f ≡ true)
+    × ((f g : FieldShape) → is_rival f g ≡ true → f.number ≢ g.number)
+
+-- each child has fewer bytes than that number
+abbrev pub ChildrenShorter : Shape → TypeId → ℕ → Message → Type 0
+ChildrenShorter shape type n (ends unknown) = ⊤
+ChildrenShorter shape type n (holds number key leaf later) = ChildrenShorter shape type n later
+ChildrenShorter shape type n (nests number key child later) =
+    (length (enc shape (child_type (fields shape type) number) child) < n) × ChildrenShorter shape type n later
+
+-- Each child of a message has fewer bytes than the message.
+abbrev pub ChildrenAreShorter : Type 0
+ChildrenAreShorter =
+    (shape : Shape) (type : TypeId) (m : Message) → IsShape shape → IsMessage shape type m → length (enc shape type m) ≤ cap →
+    ChildrenShorter shape type (length (enc shape type m)) m
+
+-- The cells of an old message, as they are written, are what the encoding is made of.
+abbrev pub CellsAreWritten : Type 0
+CellsAreWritten = (view : View) (old new : Shape) (a b : TypeId) (v : Message) → map writes (cells view old new a b v) ≡ encoded_parts old a v
