@@ -2,6 +2,7 @@
 //! does nothing.
 
 ghost use Rattle.pg_dyn.specs.Bodies.{BodiesReadAgain, EntryBodiesRead, PackedBodiesRead, SingleBodiesRead};
+ghost use Rattle.pg_dyn.specs.OwnParts.{ContentsRead};
 
 /// An item in the range of its element is read again from its own body.
 pub fn bodies_read_again()
@@ -21,4 +22,9 @@ pub fn single_bodies_read()
 /// An entry's body is read as its two records, and these as its key and value.
 pub fn entry_bodies_read()
     ensures { EntryBodiesRead }
+{}
+
+/// The content of a field is read from the records of its parts, whichever element's writer made their bodies.
+pub fn contents_read()
+    ensures { ContentsRead }
 {}
