@@ -1,8 +1,7 @@
 use crate::{
-    Element, EnumId, EnumOptions, EnumType, EnumValue, EnumValueOptions, Field, FieldOptions, File,
-    FileOption, Import, MessageOptions, MessageType, Method, MethodOptions, OptimizeMode,
-    OptionValue, Parts, PartsError, Presence, Scalar, Schema, Service, ServiceId, ServiceOptions,
-    TypeId,
+    Element, EnumId, EnumOptions, EnumType, Field, FieldOptions, File, FileOption, Import,
+    MessageOptions, MessageType, OptimizeMode, OptionValue, Parts, PartsError, Presence,
+    ReservedFields, Scalar, Schema, Service, ServiceOptions, TypeId,
 };
 use std::alloc::{AllocError, Global};
 use std::test::Fail;
@@ -48,62 +47,30 @@ fn message_type(
     })
 }
 
-fn parts(alloc: Global, types: Vec<MessageType>) -> Result<Parts, AllocError> {
-    let color = EnumType {
-        name: String::from_str(alloc, "p.Color")?,
-        values: vec![in alloc;
-            EnumValue {
-                name: String::from_str(alloc, "RED")?,
-                number: 0,
-                options: EnumValueOptions { deprecated: None },
-            },
-        ]?,
-        reserved_numbers: Vec::new(alloc),
-        reserved_names: Vec::new(alloc),
-        options: EnumOptions {
-            allow_alias: None,
-            deprecated: Some(false),
-        },
-    };
-    let service = Service {
-        name: String::from_str(alloc, "p.S")?,
-        methods: vec![in alloc;
-            Method {
-                name: String::from_str(alloc, "Get")?,
-                input: TypeId { index: 0 },
-                output: TypeId { index: 0 },
-                client_streaming: false,
-                server_streaming: true,
-                options: MethodOptions { deprecated: None },
-            },
-        ]?,
-        options: ServiceOptions { deprecated: None },
-    };
-    let file = File {
+// A file `package p;` with nothing else.
+fn file(alloc: Global) -> Result<File, AllocError> {
+    Ok(File {
         name: String::from_str(alloc, "m.proto")?,
         package: String::from_str(alloc, "p")?,
-        imports: vec![in alloc;
-            Import {
-                path: String::from_str(alloc, "n.proto")?,
-                is_public: true,
-            },
-        ]?,
+        imports: Vec::new(alloc),
         types: Vec::new(alloc),
-        enums: vec![in alloc; EnumId { index: 0 }]?,
-        services: vec![in alloc; ServiceId { index: 0 }]?,
-        options: vec![in alloc;
-            FileOption {
-                number: 9,
-                value: OptionValue::Mode(OptimizeMode::CodeSize),
-            },
-        ]?,
-    };
+        enums: Vec::new(alloc),
+        services: Vec::new(alloc),
+        options: Vec::new(alloc),
+    })
+}
+
+fn parts_of(alloc: Global, file: File, types: Vec<MessageType>) -> Result<Parts, AllocError> {
     Ok(Parts {
         files: vec![in alloc; file]?,
         types,
-        enums: vec![in alloc; color]?,
-        services: vec![in alloc; service]?,
+        enums: Vec::new(alloc),
+        services: Vec::new(alloc),
     })
+}
+
+fn parts(alloc: Global, types: Vec<MessageType>) -> Result<Parts, AllocError> {
+    parts_of(alloc, file(alloc)?, types)
 }
 
 // `message M { string b = 16; int32 a = 1; }` and `message N { }`, in package p.
@@ -120,44 +87,71 @@ fn two_types(alloc: Global) -> Result<Parts, AllocError> {
     parts(alloc, types)
 }
 
+fn schema(alloc: Global) -> Result<Schema, Fail> {
+    let schema = Schema::from_parts(alloc, two_types(alloc)?);
+    Ok(schema.ok().ok_or("refused")?)
+}
+
 #[test]
-fn look_ups(rt: HostRuntime) -> Result<(), Fail> {
+fn types_by_name(rt: HostRuntime) -> Result<(), Fail> {
     let alloc = rt.alloc();
-    let Ok(schema) = Schema::from_parts(alloc, two_types(alloc)?) else {
-        panic!(rt; "refused");
-    };
-    assert_eq!(rt; schema.parts(), &two_types(alloc)?);
-    let m = schema.message("p.M").ok_or("no p.M")?;
-    assert_eq!(rt; m, TypeId { index: 1 });
+    let schema = schema(alloc)?;
+    assert_eq!(rt; schema.message("p.M"), Some(TypeId { index: 1 }));
     assert_eq!(rt; schema.message("p.N"), Some(TypeId { index: 0 }));
-    for name in ["", ".p.M", "p", "M", "p.O", "p.Color"] {
+    for name in ["", ".p.M", "p", "M", "p.O"] {
         assert_eq!(rt; schema.message(name), None);
     }
-    assert!(rt; schema.has(m));
+    Ok(())
+}
+
+#[test]
+fn types_by_place(rt: HostRuntime) -> Result<(), Fail> {
+    let alloc = rt.alloc();
+    let schema = schema(alloc)?;
+    assert!(rt; schema.has(TypeId { index: 1 }));
     assert!(rt; !schema.has(TypeId { index: 2 }));
-    let found = schema.message_type(m).ok_or("no type")?;
+    let found = schema.message_type(TypeId { index: 1 }).ok_or("no type")?;
     assert_eq!(rt; found.name.as_str(), "p.M");
     assert!(rt; schema.message_type(TypeId { index: 2 }).is_none());
+    Ok(())
+}
+
+#[test]
+fn fields_by_number(rt: HostRuntime) -> Result<(), Fail> {
+    let alloc = rt.alloc();
+    let schema = schema(alloc)?;
+    let m = TypeId { index: 1 };
     let field = schema.field(m, 16).ok_or("no field")?;
     assert_eq!(rt; field.name.as_str(), "b");
     let field = schema.field(m, 1).ok_or("no field")?;
     assert_eq!(rt; field.name.as_str(), "a");
     assert!(rt; schema.field(m, 2).is_none());
     assert!(rt; schema.field(TypeId { index: 0 }, 1).is_none());
-    let color = schema.enum_type(EnumId { index: 0 }).ok_or("no enum")?;
-    assert_eq!(rt; color.name.as_str(), "p.Color");
-    assert!(rt; schema.enum_type(EnumId { index: 1 }).is_none());
     Ok(())
+}
+
+#[test]
+fn parts_and_enums(rt: HostRuntime) -> Result<(), Fail> {
+    let alloc = rt.alloc();
+    let schema = schema(alloc)?;
+    assert_eq!(rt; schema.parts(), &two_types(alloc)?);
+    assert!(rt; schema.enum_type(EnumId { index: 0 }).is_none());
+    Ok(())
+}
+
+// Whether the parts are refused for their invariant.
+fn are_refused(alloc: Global, parts: Parts) -> Result<bool, AllocError> {
+    match Schema::from_parts(alloc, parts) {
+        Ok(_) => Ok(false),
+        Err((PartsError::Invariant, _)) => Ok(true),
+        Err((PartsError::Memory, _)) => Err(AllocError),
+    }
 }
 
 // Whether a message of one such field is refused for its invariant.
 fn is_refused(alloc: Global, field: Field) -> Result<bool, AllocError> {
     let types = vec![in alloc; message_type(alloc, "M", vec![in alloc; field]?, Vec::new(alloc))?]?;
-    match Schema::from_parts(alloc, parts(alloc, types)?) {
-        Ok(_) => Ok(false),
-        Err((PartsError::Invariant, _)) => Ok(true),
-        Err((PartsError::Memory, _)) => Err(AllocError),
-    }
+    are_refused(alloc, parts(alloc, types)?)
 }
 
 #[test]
@@ -194,6 +188,109 @@ fn other_fields(rt: HostRuntime) -> Result<(), Fail> {
     let mut field = scalar_field(alloc, 1, "a", Scalar::Bytes)?;
     field.oneof = Some(0);
     assert!(rt; is_refused(alloc, field)?);
+    Ok(())
+}
+
+#[test]
+fn stated_words(rt: HostRuntime) -> Result<(), Fail> {
+    let alloc = rt.alloc();
+    let mut field = scalar_field(alloc, 1, "a", Scalar::Int32)?;
+    field.states_optional = true;
+    assert!(rt; is_refused(alloc, field)?);
+    let mut field = scalar_field(alloc, 1, "a", Scalar::Int32)?;
+    field.options.packed = Some(false);
+    assert!(rt; is_refused(alloc, field)?);
+    let mut field = scalar_field(alloc, 1, "a", Scalar::Int32)?;
+    field.options.deprecated = Some(false);
+    assert!(rt; is_refused(alloc, field)?);
+    Ok(())
+}
+
+// The default JSON names, as `protoc` makes them, and others.
+#[test]
+fn json_names(rt: HostRuntime) -> Result<(), Fail> {
+    let alloc = rt.alloc();
+    for (name, json_name, refused) in [
+        ("foo_bar", "fooBar", false),
+        ("_a__b_", "AB", false),
+        ("fooBar_1", "fooBar1", false),
+        ("foo_bar", "foo_bar", true),
+        ("foo_bar", "fooBa", true),
+        ("foo_bar", "fooBars", true),
+        ("a", "A", true),
+    ] {
+        let mut field = scalar_field(alloc, 1, name, Scalar::Int32)?;
+        field.json_name = String::from_str(alloc, json_name)?;
+        assert_eq!(rt; is_refused(alloc, field)?, refused);
+    }
+    Ok(())
+}
+
+#[test]
+fn enums_and_services(rt: HostRuntime) -> Result<(), Fail> {
+    let alloc = rt.alloc();
+    let mut with_enum = two_types(alloc)?;
+    with_enum.enums.push(EnumType {
+        name: String::from_str(alloc, "p.Color")?,
+        values: Vec::new(alloc),
+        reserved_numbers: Vec::new(alloc),
+        reserved_names: Vec::new(alloc),
+        options: EnumOptions {
+            allow_alias: None,
+            deprecated: None,
+        },
+    })?;
+    assert!(rt; are_refused(alloc, with_enum)?);
+    let mut with_service = two_types(alloc)?;
+    with_service.services.push(Service {
+        name: String::from_str(alloc, "p.S")?,
+        methods: Vec::new(alloc),
+        options: ServiceOptions { deprecated: None },
+    })?;
+    assert!(rt; are_refused(alloc, with_service)?);
+    Ok(())
+}
+
+#[test]
+fn files_with_more(rt: HostRuntime) -> Result<(), Fail> {
+    let alloc = rt.alloc();
+    let mut with_import = file(alloc)?;
+    with_import.imports.push(Import {
+        path: String::from_str(alloc, "n.proto")?,
+        is_public: true,
+    })?;
+    assert!(rt; are_refused(alloc, parts_of(alloc, with_import, Vec::new(alloc))?)?);
+    let mut with_option = file(alloc)?;
+    with_option.options.push(FileOption {
+        number: 9,
+        value: OptionValue::Mode(OptimizeMode::CodeSize),
+    })?;
+    assert!(rt; are_refused(alloc, parts_of(alloc, with_option, Vec::new(alloc))?)?);
+    Ok(())
+}
+
+// Whether the message type, alone in its file, is refused for the invariant.
+fn is_type_refused(alloc: Global, message_type: MessageType) -> Result<bool, AllocError> {
+    are_refused(alloc, parts(alloc, vec![in alloc; message_type]?)?)
+}
+
+#[test]
+fn types_with_more(rt: HostRuntime) -> Result<(), Fail> {
+    let alloc = rt.alloc();
+    let mut with_oneof = message_type(alloc, "M", Vec::new(alloc), Vec::new(alloc))?;
+    with_oneof.oneofs.push(String::from_str(alloc, "k")?)?;
+    assert!(rt; is_type_refused(alloc, with_oneof)?);
+    let mut with_nested = message_type(alloc, "M", Vec::new(alloc), Vec::new(alloc))?;
+    with_nested.nested_types.push(TypeId { index: 0 })?;
+    assert!(rt; is_type_refused(alloc, with_nested)?);
+    let mut with_reserved = message_type(alloc, "M", Vec::new(alloc), Vec::new(alloc))?;
+    with_reserved
+        .reserved_numbers
+        .push(ReservedFields { first: 2, last: 3 })?;
+    assert!(rt; is_type_refused(alloc, with_reserved)?);
+    let mut deprecated = message_type(alloc, "M", Vec::new(alloc), Vec::new(alloc))?;
+    deprecated.options.deprecated = Some(false);
+    assert!(rt; is_type_refused(alloc, deprecated)?);
     Ok(())
 }
 
