@@ -1,8 +1,8 @@
-ghost use Rattle.std.specs.Prelude.{◌≡◌, ◌↔◌, ◌⊎◌, false, None, IfErr, IfOk, IsOk, IsTrue};
+ghost use Rattle.std.specs.Prelude.{◌≡◌, ◌↔◌, ◌⊎◌, ◌<◌, false, None, IfErr, IfOk, IsOk, IsTrue};
 ghost use Rattle.pg_schema.specs.Invariant.{IsSchema};
 ghost use Rattle.pg_schema.specs.Parts.{shape_of};
 ghost use Rattle.pg_schema.specs.Shape.{fields};
-ghost use Rattle.pg_dyn.specs.ContentFaults.{ContentFault, IsLowest};
+ghost use Rattle.pg_dyn.specs.ContentFaults.{code, ContentFault, IsLowest};
 ghost use Rattle.pg_dyn.specs.Coding.{InRange, Text, scalar_form};
 ghost use Rattle.pg_dyn.specs.Message.{Bytes, F32, F64};
 ghost use Rattle.pg_dyn.specs.ScalarItems.{HoldsBytes, IsFaultOf, IsItemOf, TakesItem};
@@ -109,6 +109,7 @@ pub(crate) fn check_content(
     requires { IsSchema schema.now }
     ensures ok { IfOk result (λ s. TakesItem (fields (shape_of schema.now) type_id) s number content.now) }
     ensures err { IfErr result (IsLowest (ContentFault (shape_of schema.now) type_id number content.now)) }
+    ensures early { IfErr result (λ e. code e < 605) }
 {
     let Some(field) = schema.field(type_id, number) else {
         return Err(DynError::NoSuchField);

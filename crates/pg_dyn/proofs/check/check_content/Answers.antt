@@ -1,5 +1,5 @@
 -- In a flat schema a content is one item of a scalar.
-use Rattle.std.proofs.Common.{◌≡◌, sym, refl}
+use Rattle.std.proofs.Common.{◌≡◌, sym, refl, arith}
 use Rattle.pg_schema.specs.declared.field.Scalar.{Scalar}
 use Rattle.pg_schema.specs.declared.field.Element.{Element}
 use Rattle.pg_schema.specs.declared.field.Element.TheVariants as elements
@@ -19,6 +19,7 @@ pub returns-in_default-2 : goal.returns-in_default-2
 returns-in_default-2 c = record {
   ok = tt;
   err = wrong_shape c.args.schema.now c.requires c.args.type_id c.args.number c.args.content.now (field_shape c.in-Some.field.now) c.in-Some.ensures.shape c.in_default-2.not-One-1;
+  early = omega arith;
 }
 
 pub returns-in_default-2-2 : goal.returns-in_default-2-2
