@@ -6,8 +6,8 @@ ghost use Rattle.pg_dyn.specs.Seen.{Rises};
 use crate::message::Content;
 use std::alloc::AllocError;
 
-// How many fields have lower numbers. A number above all is found at once.
-fn place_of(fields: &[(u32, Content)], number: u32) -> usize
+/// How many fields have lower numbers. A number above all is found at once.
+pub(crate) fn place_of(fields: &[(u32, Content)], number: u32) -> usize
     requires { Rises fields.now }
     ensures inside { result ≤ length fields.now }
     ensures below { AllByRecursion (λ f. f.0 < number) (take result fields.now) }
