@@ -51,7 +51,7 @@ module _ {A : Type 0} (F : A → DynError → Type 0) where
     (
       ⊎_elim (λ is. subst (λ k. AnyOf (λ y. F y k) (xs ++ x ∷ [])) (sym is) (any_left (λ y. F y first) xs (x ∷ []) h.0.0)) (λ is. subst (λ k. AnyOf (λ y. F y k) (xs ++ x ∷ [])) (sym is) (any_last (λ y. F y e) xs x fault.0)) one,
       λ other below k.
-      ⊎_elim (λ a. let lower : code other < code first = omega arith in h.0.1 other lower a) (λ b. let lower : code other < code e = omega arith in fault.1 other lower b) (any_split (λ y. F y other) xs x k),
+          ⊎_elim (λ a. let lower : code other < code first = omega arith in h.0.1 other lower a) (λ b. let lower : code other < code e = omega arith in fault.1 other lower b) (any_split (λ y. F y other) xs x k),
     ),
     omega arith,
   )

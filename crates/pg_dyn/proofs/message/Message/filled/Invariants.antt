@@ -10,5 +10,5 @@ abbrev pub invariant-loop-number : goal.invariant-loop-number
 invariant-loop-number l = record {
   given : l.yielded ++ into_iter_items l.number-iterator ≡ l.fn.contents.items;
   whole : IsWhole (shape_of l.schema) l.fn.type_id l.yielded l.message;
-  fits : Fits (shape_of l.schema) l.message
+  fits : Fits (shape_of l.schema) l.message;
 }
