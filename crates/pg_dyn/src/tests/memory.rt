@@ -11,16 +11,15 @@ fn a_refused_set(rt: HostRuntime) -> Result<(), Fail> {
     let schema = schema_of(alloc, &[(1, Scalar::String), (2, Scalar::Bytes)])?;
     let mut message = Message::empty(alloc, M);
     let bytes = Content::One(Value::Bytes(Vec::from_slice(alloc, b"a")?));
-    match set(&schema, &mut message, 1, bytes) {
-        Ok(()) => assert!(rt; matches!(message.get(1), Some(Content::One(Value::Text(_))))),
-        Err((error, back)) => {
-            assert_eq!(rt; error, DynError::Memory);
-            assert!(rt;
-                matches!(back, Content::One(Value::Bytes(bytes)) if bytes.as_slice() == b"a".as_slice())
-            );
-            assert!(rt; message.get(1).is_none());
-        }
-    }
+    let Err((error, back)) = set(&schema, &mut message, 1, bytes) else {
+        assert!(rt; matches!(message.get(1), Some(Content::One(Value::Text(_)))));
+        return Ok(());
+    };
+    assert_eq!(rt; error, DynError::Memory);
+    assert!(rt;
+        matches!(&back, Content::One(Value::Bytes(bytes)) if bytes.as_slice() == b"a".as_slice())
+    );
+    assert!(rt; message.get(1).is_none());
     Ok(())
 }
 

@@ -103,15 +103,13 @@ fn refused_contents_come_back(rt: HostRuntime) -> Result<(), Fail> {
     let schema = three_fields(alloc)?;
     let mut message = Message::empty(alloc, M);
     assert!(rt; set(&schema, &mut message, 2, text_of(alloc, "a")?).is_ok());
-    let Err((_, Content::One(Value::Bytes(back)))) = set(
-        &schema,
-        &mut message,
-        2,
-        bytes_of(alloc, b"\x80")?,
-    ) else {
-        panic!(rt; "the bytes come back");
+    let Err((error, back)) = set(&schema, &mut message, 2, bytes_of(alloc, b"\x80")?) else {
+        panic!(rt; "bytes that are no text are taken");
     };
-    assert_eq!(rt; back.as_slice(), b"\x80".as_slice());
+    assert_eq!(rt; error, DynError::NotUtf8 { at: None });
+    assert!(rt;
+        matches!(&back, Content::One(Value::Bytes(bytes)) if bytes.as_slice() == b"\x80".as_slice())
+    );
     assert_eq!(rt;
         write(alloc, &schema, &message)?.as_slice(),
         b"\x12\x01a".as_slice()
