@@ -1,5 +1,5 @@
 -- Fields by rising number, around a place.
-use Rattle.std.proofs.Common.{Bool, Result, Ok, Err, is_ok, OnOk, cond, if◌then◌else◌, ◌≡◌, ◌≢◌, ℕ, zero, suc, ◌+◌, ◌-◌, ◌<◌, ◌≤◌, List, [], ◌∷◌, ◌++◌, length, filter, take, drop, get_or, slice_set, nat_lt, ltb, true, false, refl, ap, sym, ◌∙◌, subst, arith, add-one, lt-ltb, le-ltb}
+use Rattle.std.proofs.Common.{Bool, Result, Ok, Err, is_ok, OnErr, cond, if◌then◌else◌, ◌≡◌, ◌≢◌, ℕ, zero, suc, ◌+◌, ◌-◌, ◌<◌, ◌≤◌, List, [], ◌∷◌, ◌++◌, length, filter, take, drop, get_or, slice_set, nat_lt, ltb, true, false, refl, ap, sym, ◌∙◌, subst, arith, add-one, lt-ltb, le-ltb}
 use Rattle.pg_dyn.proofs.KeptParts.{at_index}
 use Rattle.std.proofs.lemmas.List.{append-nil, take-append-drop, take-set, drop-set, drop_all}
 use Rattle.std.proofs.Math.Seq.{drop-cons}
@@ -143,6 +143,17 @@ all_below_last fs n x rises last low =
     let number = ap (λ (f : ℕ × Content). f.0) (last d) in
     omega arith)
 
+-- whether a field of the number stands there
+pub none_there : (fs : List (ℕ × Content)) (i n : ℕ) → Rises fs → AllBelow n (take i fs) → AllFrom n (drop i fs) → ((y : ℕ × Content) (zs : List (ℕ × Content)) → drop i fs ≡ y ∷ zs → y.0 ≢ n) → AllByRecursion (λ (f : ℕ × Content). f.0 ≢ n) fs
+none_there fs i n rises low high apart =
+    subst (AllByRecursion (λ (f : ℕ × Content). f.0 ≢ n)) (take-append-drop i fs)
+    (each-append (λ (f : ℕ × Content). f.0 ≢ n) (take i fs) (drop i fs)
+    (each_weaker (λ (f : ℕ × Content). f.0 < n) (λ (f : ℕ × Content). f.0 ≢ n) (λ f below e. absurd (omega arith)) (take i fs) low)
+    (each_weaker (λ (f : ℕ × Content). n < f.0) (λ (f : ℕ × Content). f.0 ≢ n) (λ f above e. absurd (omega arith)) (drop i fs) (strictly_above n (drop i fs) (rises_drop i fs rises) high apart)))
+
+pub one_there : (fs : List (ℕ × Content)) (i n : ℕ) (d : ℕ × Content) → i < length fs → (get_or fs i d).0 ≡ n → AllByRecursion (λ (f : ℕ × Content). f.0 ≢ n) fs → ⊥
+one_there fs i n d inside here none = at_index (λ (f : ℕ × Content). f.0 ≢ n) fs i d inside none here
+
 -- a field within the list doesn't depend on the default
 pub same_at : (fs : List (ℕ × Content)) (i : ℕ) (d e : ℕ × Content) → i < length fs → get_or fs i d ≡ get_or fs i e
 same_at [] i d e inside = absurd (omega arith)
@@ -153,10 +164,10 @@ same_at (f ∷ fs) (suc i) d e inside = same_at fs i d e (omega arith)
 pub number_at : (fs : List (ℕ × Content)) (i n : ℕ) (x d : ℕ × Content) → i < length fs → x ≡ get_or fs i x → x.0 ≡ n → (get_or fs i d).0 ≡ n
 number_at fs i n x d inside is number = ap (λ (f : ℕ × Content). f.0) (same_at fs i d x inside ∙ sym is) ∙ number
 
--- a call that may fail, and what it leaves where it doesn't
-pub on_ok : {T E X : Type 0} (r : Result T E) (new done old want : X) → new ≡ (if is_ok r then done else old) → done ≡ want → OnOk r (new ≡ want)
-on_ok (Ok x) new done old want h same = h ∙ same
-on_ok (Err e) new done old want h same = tt
+-- a call that fails only without room
+pub with_room : {T E X : Type 0} {len cap : ℕ} {new done : X} (r : Result T E) (old : X) → OnErr r (cap ≤ len) → len < cap → new ≡ (if is_ok r then done else old) → new ≡ done
+with_room (Ok x) old full room h = h
+with_room (Err e) old full room h = absurd (omega arith)
 
 -- Fields put in and taken out still rise, and facts of all stay.
 

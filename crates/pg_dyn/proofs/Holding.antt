@@ -12,8 +12,7 @@ use Rattle.pg_dyn.specs.Message.{Leaf, Part, is_zero}
 use Rattle.pg_dyn.specs.Kept.{Kept, KeptItem, Plain}
 use Rattle.pg_dyn.specs.Seen.{leaf_of, item_seen, content_seen, IsKey, record_seen}
 use Rattle.pg_schema.specs.declared.field.Presence.TheVariants as presences
-use Rattle.pg_schema.specs.Shape.{FieldShape, is_implicit}
-use Rattle.pg_dyn.specs.Setting.{is_zero_kept, settled}
+use Rattle.pg_dyn.specs.Setting.{is_zero_kept, settled_by}
 use Rattle.pg_dyn.specs.FieldList.{put_field, remove_field}
 use Rattle.pg_dyn.specs.Replacing.{with_parts, with_unknown, implicit_part}
 use Rattle.pg_dyn.proofs.Lists.{each-append}
@@ -77,12 +76,9 @@ all_records us new u r is same h each =
     (each-append IsRecord (map record_seen us) (record_seen u ∷ []) each (subst IsRecord (sym same) h, tt))
 
 -- a content of one item, settled in an implicit field
-pub settled_one : (n : ℕ) (f : FieldShape) (v : Value) → f.presence ≡ presences.Implicit → IsKey v → settled f (content_seen n (contents.One v)) ≡ implicit_part n (leaf_of v)
-settled_one n f v is key =
-    let ps = content_seen n (contents.One v) in
-    ap (λ p. cond (is_implicit p) (filter (λ (p : Part KeptItem). not (is_zero_kept p.item)) ps) ps) is
-    ∙ ap (λ (item : KeptItem). filter (λ (p : Part KeptItem). not (is_zero_kept p.item)) (record { number = n; key = None; item = item } ∷ [])) (key_seen v key)
-    ∙ of (is_zero (leaf_of v)) refl
+pub settled_one : (n : ℕ) (v : Value) → IsKey v → settled_by presences.Implicit (content_seen n (contents.One v)) ≡ implicit_part n (leaf_of v)
+settled_one n v key =
+    ap (λ (item : KeptItem). filter (λ (p : Part KeptItem). not (is_zero_kept p.item)) (record { number = n; key = None; item = item } ∷ [])) (key_seen v key) ∙ of (is_zero (leaf_of v)) refl
   where
     of : (b : Bool) → is_zero (leaf_of v) ≡ b → filter (λ (p : Part KeptItem). not (is_zero_kept p.item)) (record { number = n; key = None; item = Plain (leaf_of v) } ∷ []) ≡ implicit_part n (leaf_of v)
     of true e = rw e

@@ -96,7 +96,7 @@ pub type_shown : (type : TypeId) (ms : List (ℕ × Content)) (us : List WireRec
 type_shown type ms us = ap type_of (fields_from ms (ends type us)) ∙ type_of-kept_onto (all_seen ms) (ends type us)
 
 -- the parts of a content are all of its number
-content_number : (n : ℕ) (c : Content) → AllByRecursion (λ (p : Part KeptItem). p.number ≡ n) (content_seen n c)
+pub content_number : (n : ℕ) (c : Content) → AllByRecursion (λ (p : Part KeptItem). p.number ≡ n) (content_seen n c)
 content_number n (contents.One v) = (refl, tt)
 content_number n (contents.Many vs) = each-map (λ (p : Part KeptItem). p.number ≡ n) (λ value. record { number = n; key = None; item = item_seen value }) vs.items (each_of_all (λ v. n ≡ n) (λ v. refl) vs.items)
 content_number n (contents.Map es) = each-map (λ (p : Part KeptItem). p.number ≡ n) (λ (e : Value × Value). record { number = n; key = Some (leaf_of e.0); item = item_seen e.1 }) es.items (each_of_all (λ (e : Value × Value). n ≡ n) (λ e. refl) es.items)

@@ -1,5 +1,7 @@
 -- The fields of a message by rising number, as the program holds them.
-use Rattle.std.specs.Prelude.{ℕ, List, ◌∷◌, ◌++◌, filter, nat_lt}
+use Rattle.std.specs.Prelude.{◌≢◌, ℕ, ◌<◌, List, ◌∷◌, ◌++◌, filter, nat_lt, Vec, vec_len, vec_capacity}
+use Rattle.std.specs.List.{AllByRecursion}
+use Rattle.std.specs.declared.alloc.Global.{Global}
 use Rattle.pg_dyn.specs.declared.message.Content.{Content}
 
 abbrev pub fields_below : ℕ → List (ℕ × Content) → List (ℕ × Content)
@@ -15,3 +17,7 @@ put_field number content fields = fields_below number fields ++ (number, content
 -- without a content under the number
 abbrev pub remove_field : ℕ → List (ℕ × Content) → List (ℕ × Content)
 remove_field number fields = fields_below number fields ++ fields_above number fields
+
+-- a content can be put under the number without memory: one stands there, or there is room for one more
+abbrev pub HasRoom : ℕ → Vec (ℕ × Content) Global → Type 0
+HasRoom number fields = AllByRecursion (λ (f : ℕ × Content). f.0 ≢ number) fields.items → vec_len fields < vec_capacity fields

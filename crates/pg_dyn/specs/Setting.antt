@@ -1,32 +1,43 @@
--- What a call that sets a content does, and when it may refuse.
-use Rattle.std.specs.Prelude.{◌≡◌, ℕ, ⊤, ◌⊎◌, List, [], ◌∷◌, map, filter, flat_map, not, Bool, false, if◌then◌else◌, Some, None}
+-- What calls that set contents make of a message.
+use Rattle.std.specs.Prelude.{◌≡◌, ℕ, List, [], ◌∷◌, filter, flat_map, nat_eq, not, Bool, false, if◌then◌else◌, Option, Some, None}
+use Rattle.std.specs.Ordering.{is_lt}
 use Rattle.pg_schema.specs.declared.field.TypeId.{TypeId}
-use Rattle.pg_schema.specs.declared.field.Scalar.TheVariants.{Int32}
-use Rattle.pg_schema.specs.declared.field.Element.{Element}
-use Rattle.pg_schema.specs.declared.field.Element.TheVariants as elements
 use Rattle.pg_schema.specs.declared.field.Presence.{Presence}
 use Rattle.pg_schema.specs.declared.field.Presence.TheVariants as presences
-use Rattle.pg_schema.specs.Shape.{Shape, FieldShape, fields, field_at, is_implicit}
-use Rattle.pg_dyn.specs.declared.error.DynError.{DynError}
-use Rattle.pg_dyn.specs.declared.error.DynError.TheVariants as errors
+use Rattle.pg_schema.specs.Shape.{Shape, FieldShape, fields, field_at}
 use Rattle.pg_dyn.specs.declared.message.Content.{Content}
-use Rattle.pg_dyn.specs.declared.message.Content.TheVariants as contents
-use Rattle.pg_dyn.specs.declared.message.Value.{Value}
-use Rattle.pg_dyn.specs.declared.message.Value.TheVariants as values
-use Rattle.pg_dyn.specs.Message.{Part, is_zero}
-use Rattle.pg_dyn.specs.Kept.{Kept, KeptItem, Plain, Msg, type_of}
+use Rattle.pg_dyn.specs.Message.{Leaf, Part, is_zero, key_cmp}
+use Rattle.pg_dyn.specs.Kept.{Kept, KeptItem, Plain, Msg, type_of, of_number, unknown_of}
 use Rattle.pg_dyn.specs.Seen.{content_seen}
-use Rattle.pg_dyn.specs.Fits.{Fits}
 use Rattle.pg_dyn.specs.Replacing.{with_content}
-use Rattle.pg_dyn.specs.ScalarItems.{IsFaultOf}
 
 abbrev pub is_zero_kept : KeptItem → Bool
 is_zero_kept (Plain leaf) = is_zero leaf
 is_zero_kept (Msg m) = false
 
--- what of a content a field holds: a zero in an implicit field is none
+-- entries by rising key
+abbrev pub is_key_below : Option Leaf → Option Leaf → Bool
+is_key_below (Some k) (Some l) = is_lt (key_cmp k l)
+is_key_below (Some k) None = false
+is_key_below None l = false
+
+abbrev pub put_entry : Part KeptItem → List (Part KeptItem) → List (Part KeptItem)
+put_entry p [] = p ∷ []
+put_entry p (q ∷ qs) = if is_key_below q.key p.key then q ∷ put_entry p qs else p ∷ q ∷ qs
+
+abbrev pub by_rising_key : List (Part KeptItem) → List (Part KeptItem)
+by_rising_key [] = []
+by_rising_key (p ∷ ps) = put_entry p (by_rising_key ps)
+
+-- what of a content a field holds: a zero in an implicit field is none, and a map's entries stand by rising key
+abbrev pub settled_by : Presence → List (Part KeptItem) → List (Part KeptItem)
+settled_by presences.Implicit ps = filter (λ p. not (is_zero_kept p.item)) ps
+settled_by presences.Explicit ps = ps
+settled_by (presences.Repeated packed) ps = ps
+settled_by (presences.Map key) ps = by_rising_key ps
+
 abbrev pub settled : FieldShape → List (Part KeptItem) → List (Part KeptItem)
-settled f ps = if is_implicit f.presence then filter (λ p. not (is_zero_kept p.item)) ps else ps
+settled f ps = settled_by f.presence ps
 
 -- The new message has the content in the field of the number, nothing in the other members of its oneof, and all else as before.
 abbrev pub IsSetTo : Shape → ℕ → Content → Kept → Kept → Type 0
@@ -34,54 +45,16 @@ IsSetTo shape number content old new =
     (f : FieldShape) × (field_at (fields shape (type_of old)) number ≡ Some f)
     × (new ≡ with_content (fields shape (type_of old)) f (settled f (content_seen number content)) old)
 
--- the content has the shape that its field's presence asks: one item, a list, or entries
-abbrev pub HasPresence : Presence → Content → Type 0
-HasPresence presences.Implicit (contents.One value) = ⊤
-HasPresence presences.Explicit (contents.One value) = ⊤
-HasPresence (presences.Repeated packed) (contents.Many vs) = ⊤
-HasPresence (presences.Map key) (contents.Map es) = ⊤
-HasPresence presence content = ⊥
+-- what a content leaves in the field of its number
+abbrev pub settled_parts : List FieldShape → ℕ × Content → List (Part KeptItem)
+settled_parts fs c = of (field_at fs c.0)
+  where
+    of : Option FieldShape → List (Part KeptItem)
+    of (Some f) = settled f (content_seen c.0 c.1)
+    of None = []
 
--- the items of a content, each with the element that it should be of
-abbrev pub key_element : Presence → Element
-key_element (presences.Map key) = elements.Scalar key
-key_element presences.Implicit = elements.Scalar Int32
-key_element presences.Explicit = elements.Scalar Int32
-key_element (presences.Repeated packed) = elements.Scalar Int32
-
-abbrev pub items_in : FieldShape → Content → List (Element × Value)
-items_in f (contents.One value) = (f.element, value) ∷ []
-items_in f (contents.Many vs) = map (λ value. (f.element, value)) vs.items
-items_in f (contents.Map es) = flat_map (λ (e : Value × Value). (key_element f.presence, e.0) ∷ (f.element, e.1) ∷ []) es.items
-
--- what is wrong with an item of an element; an enum takes the numbers of int32
-abbrev pub ElementFault : Shape → Element → Value → DynError → Type 0
-ElementFault shape (elements.Scalar s) value e = IsFaultOf s value e
-ElementFault shape (elements.Enum enum) value e = IsFaultOf Int32 value e
-ElementFault shape (elements.Message t) (values.Msg child) errors.WrongKind = Fits shape child.value × (type_of child.value ≡ t) → ⊥
-ElementFault shape (elements.Message t) value errors.WrongKind = ⊤
-ElementFault shape (elements.Message t) value e = ⊥
-
-abbrev pub AnyOf : {A : Type 0} → (A → Type 0) → List A → Type 0
-AnyOf P [] = ⊥
-AnyOf P (x ∷ xs) = P x ⊎ AnyOf P xs
-
-abbrev pub HasItemFault : Shape → FieldShape → Content → DynError → Type 0
-HasItemFault shape f content e = AnyOf (λ (x : Element × Value). ElementFault shape x.0 x.1 e) (items_in f content)
-
-abbrev pub HasWrongKind : Shape → FieldShape → Content → Type 0
-HasWrongKind shape f content = (HasPresence f.presence content → ⊥) ⊎ HasItemFault shape f content errors.WrongKind
-
--- what is wrong with the content of a field, by the lowest code
-abbrev pub ContentFault : Shape → FieldShape → Content → DynError → Type 0
-ContentFault shape f content errors.WrongKind = HasWrongKind shape f content
-ContentFault shape f content errors.OutOfRange = HasItemFault shape f content errors.OutOfRange × (HasWrongKind shape f content → ⊥)
-ContentFault shape f content (errors.NotUtf8 None) =
-    HasItemFault shape f content (errors.NotUtf8 None) × (HasItemFault shape f content errors.OutOfRange → ⊥) × (HasWrongKind shape f content → ⊥)
-ContentFault shape f content e = ⊥
-
--- memory was refused, the type has no field of the number, or the content holds what the error names
-abbrev pub MayRefuseContent : Shape → TypeId → ℕ → Content → DynError → Type 0
-MayRefuseContent shape type number content errors.Memory = ⊤
-MayRefuseContent shape type number content errors.NoSuchField = field_at (fields shape type) number ≡ None
-MayRefuseContent shape type number content e = (f : FieldShape) × (field_at (fields shape type) number ≡ Some f) × ContentFault shape f content e
+-- The message of the type without unknown records that has under each number just what is given there.
+pub record IsWhole (shape : Shape) (type : TypeId) (given : List (ℕ × Content)) (m : Kept) : Type 0 where
+  pub of_type : type_of m ≡ type
+  pub contents : (number : ℕ) → of_number number m ≡ flat_map (settled_parts (fields shape type)) (filter (λ (c : ℕ × Content). nat_eq c.0 number) given)
+  pub no_unknown : unknown_of m ≡ []

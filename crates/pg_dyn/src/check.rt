@@ -1,14 +1,18 @@
-ghost use Rattle.std.specs.Prelude.{◌≡◌, ◌↔◌, ◌⊎◌, false, None, IfErr, IsOk, IsTrue};
+ghost use Rattle.std.specs.Prelude.{◌≡◌, ◌↔◌, ◌⊎◌, ◌<◌, false, None, IfErr, IfOk, IsOk, IsTrue};
+ghost use Rattle.pg_schema.specs.Invariant.{IsSchema};
+ghost use Rattle.pg_schema.specs.Parts.{shape_of};
+ghost use Rattle.pg_schema.specs.Shape.{fields};
+ghost use Rattle.pg_dyn.specs.ContentFaults.{code, ContentFault, IsLowest};
 ghost use Rattle.pg_dyn.specs.Coding.{InRange, Text, scalar_form};
 ghost use Rattle.pg_dyn.specs.Message.{Bytes, F32, F64};
-ghost use Rattle.pg_dyn.specs.ScalarItems.{HoldsBytes, IsFaultOf, IsItemOf};
+ghost use Rattle.pg_dyn.specs.ScalarItems.{HoldsBytes, IsFaultOf, IsItemOf, TakesItem};
 ghost use Rattle.pg_dyn.specs.declared.error.DynError.TheVariants as errors;
 ghost use Rattle.std.specs.Str.{is_utf8};
 ghost use Rattle.pg_dyn.specs.WordOf.{IsInteger, IsIntegerOf};
 
 use crate::error::DynError;
-use crate::message::Value;
-use pg_schema::Scalar;
+use crate::message::{Content, Value};
+use pg_schema::{Element, Scalar, Schema, TypeId};
 
 // Whether the scalar's items are integers.
 fn is_integer(scalar: Scalar) -> bool
@@ -90,6 +94,31 @@ pub(crate) fn check_item(scalar: Scalar, value: &Value) -> Result<(), DynError>
         Value::F64(bits) if is_double(scalar, *bits) => Ok(()),
         Value::Text(text) => check_text(scalar, text),
         Value::Bytes(bytes) => check_bytes(scalar, bytes),
+        _ => Err(DynError::WrongKind),
+    }
+}
+
+/// The scalar of the field with the number, of which the content is to be one item. The error is the first of
+/// what is wrong with the content.
+pub(crate) fn check_content(
+    schema: &Schema,
+    type_id: TypeId,
+    number: u32,
+    content: &Content,
+) -> Result<Scalar, DynError>
+    requires { IsSchema schema.now }
+    ensures ok { IfOk result (λ s. TakesItem (fields (shape_of schema.now) type_id) s number content.now) }
+    ensures err { IfErr result (IsLowest (ContentFault (shape_of schema.now) type_id number content.now)) }
+    ensures early { IfErr result (λ e. code e < 605) }
+{
+    let Some(field) = schema.field(type_id, number) else {
+        return Err(DynError::NoSuchField);
+    };
+    match (field.element, content) {
+        (Element::Scalar(scalar), Content::One(value)) => match check_item(scalar, value) {
+            Ok(()) => Ok(scalar),
+            Err(error) => Err(error),
+        },
         _ => Err(DynError::WrongKind),
     }
 }

@@ -38,6 +38,29 @@ pub enum DynError {
     Wire(WireError),
 }
 
+impl DynError {
+    ghost use Rattle.std.specs.Prelude.{◌≡◌};
+    ghost use Rattle.pg_dyn.specs.ContentFaults.{code};
+
+    // The number after the E by which users know the error.
+    pub(crate) fn code(self) -> u16
+        ensures { result ≡ code self }
+    {
+        match self {
+            DynError::Memory => 1,
+            DynError::NoSuchField => 601,
+            DynError::WrongKind => 602,
+            DynError::OutOfRange => 603,
+            DynError::NotUtf8 { .. } => 604,
+            DynError::OneofTwice => 605,
+            DynError::DuplicateKey => 606,
+            DynError::TooLong => 607,
+            DynError::TooDeep { .. } => 608,
+            DynError::Wire(_) => 609,
+        }
+    }
+}
+
 impl<T: Drop> From<AllocFailed<T>> for DynError {
     ghost use Rattle.std.specs.Prelude.{◌≡◌};
     ghost use Rattle.pg_dyn.specs.declared.error.DynError.TheVariants.{Memory};

@@ -1,12 +1,13 @@
-ghost use Rattle.std.specs.Prelude.{◌≡◌, ◌<◌, ◌≤◌, length, take, drop, OnOk, IfErr};
+ghost use Rattle.std.specs.Prelude.{◌≡◌, ◌<◌, ◌≤◌, length, take, drop, OnOk};
 ghost use Rattle.std.specs.List.{AllByRecursion};
-ghost use Rattle.pg_dyn.specs.FieldList.{put_field, remove_field};
+ghost use Rattle.pg_dyn.specs.FieldList.{HasRoom, put_field, remove_field};
 ghost use Rattle.pg_dyn.specs.Seen.{Rises};
 
 use crate::message::Content;
+use std::alloc::AllocError;
 
-// How many fields have lower numbers. A number above all is found at once.
-fn place_of(fields: &[(u32, Content)], number: u32) -> usize
+/// How many fields have lower numbers. A number above all is found at once.
+pub(crate) fn place_of(fields: &[(u32, Content)], number: u32) -> usize
     requires { Rises fields.now }
     ensures inside { result ≤ length fields.now }
     ensures below { AllByRecursion (λ f. f.0 < number) (take result fields.now) }
@@ -18,25 +19,32 @@ fn place_of(fields: &[(u32, Content)], number: u32) -> usize
     }
 }
 
-/// Puts a content under the number, in place of the one that stands there. Where memory is refused, it comes back.
-pub(crate) fn put(
-    fields: &mut Vec<(u32, Content)>,
-    number: u32,
-    content: Content,
-) -> Result<(), Content>
+/// Makes room for a content under the number, where none stands there.
+pub(crate) fn reserve(fields: &mut Vec<(u32, Content)>, number: u32) -> Result<(), AllocError>
     requires { Rises fields.old.items }
-    ensures ok { OnOk result (fields.new.items ≡ put_field number content fields.old.items) }
-    ensures err { IfErr result (λ back. (fields.new.items ≡ fields.old.items) × (back ≡ content)) }
+    ensures items { fields.new.items ≡ fields.old.items }
+    ensures room { OnOk result (HasRoom number fields.new) }
+{
+    let place = place_of(fields, number);
+    if place < fields.len() && fields[place].0 == number {
+        return Ok(());
+    }
+    fields.reserve(1)
+}
+
+/// Puts a content under the number, in place of the one that stands there.
+pub(crate) fn put(fields: &mut Vec<(u32, Content)>, number: u32, content: Content)
+    requires rises { Rises fields.old.items }
+    requires room { HasRoom number fields.old }
+    ensures { fields.new.items ≡ put_field number content fields.old.items }
 {
     let place = place_of(fields, number);
     if place < fields.len() && fields[place].0 == number {
         fields[place].1 = content;
-        return Ok(());
+        return;
     }
-    match fields.insert(place, (number, content)) {
-        Ok(()) => Ok(()),
-        Err(failed) => Err(failed.value.1),
-    }
+    // There is room for one more.
+    let _inserted = fields.insert(place, (number, content));
 }
 
 /// Takes out the content under the number, where there is one.

@@ -1,12 +1,12 @@
 -- The place of the number is that of its field, or one where none of it stands.
 use Rattle.std.proofs.Common.{◌≡◌, ◌<◌, ◌≢◌, ℕ, List, ◌∷◌, take, drop, length, ap, ◌∙◌, subst, arith}
 use Rattle.pg_dyn.specs.declared.message.Content.{Content}
-use Rattle.pg_dyn.proofs.FieldListLaws.{AllBelow, AllFrom, put_there, inserted, apart_past_end, apart_there, number_at}
+use Rattle.pg_dyn.proofs.FieldListLaws.{AllBelow, AllFrom, put_there, inserted, apart_past_end, apart_there, none_there, number_at, with_room}
 use Rattle.pg_dyn.proofs.field_list.put.Goals.{else-place-len-via-then-place-len+else-index-number, else-place-len-via-else-place-len}
 use Rattle.pg_dyn.proofs.field_list.put.Goals as goal
 
-pub returns-then-index-number-clause-ok : goal.returns-then-index-number-clause-ok
-returns-then-index-number-clause-ok c =
+pub returns-then-index-number : goal.returns-then-index-number
+returns-then-index-number c =
     let fs = c.args.fields.now.items in
     let place = c.place_of-place.result in
     let low = subst (λ (xs : List (ℕ × Content)). AllBelow c.args.number (take place xs)) c.deref.ensures.value c.place_of-place.ensures.below in
@@ -14,10 +14,10 @@ returns-then-index-number-clause-ok c =
     let inside : place < length fs = omega (arith, c.if-place-len.true, c.len.ensures, c.args.fields.now.ok.0) in
     let d = c.index_mut.result.now in
     let here = number_at fs place c.args.number c.index.result.now d inside c.index.ensures c.if-index-number.true in
-    put_there fs place c.args.number c.requires low high inside d here d.0 c.args.content (ap (λ (f : ℕ × Content). f.0) c.index_mut.ensures.value ∙ here)
+    put_there fs place c.args.number c.requires.rises low high inside d here d.0 c.args.content (ap (λ (f : ℕ × Content). f.0) c.index_mut.ensures.value ∙ here)
 
-pub returns-in-Ok-clause-ok : goal.returns-in-Ok-clause-ok
-returns-in-Ok-clause-ok c =
+pub returns : goal.returns
+returns c =
     let fs = c.args.fields.now.items in
     let place = c.place_of-place.result in
     let low = subst (λ (xs : List (ℕ × Content)). AllBelow c.args.number (take place xs)) c.deref.ensures.value c.place_of-place.ensures.below in
@@ -30,4 +30,5 @@ returns-in-Ok-clause-ok c =
       | else-place-len-via-else-place-len w ↦
           apart_past_end fs place c.args.number (omega (arith, w.if-place-len.false, c.len.ensures, c.args.fields.now.ok.0))
     ] in
-    c.in-Ok.ensures.items ∙ inserted fs place c.args.number c.requires low high apart c.args.content
+    let room = c.requires.room (none_there fs place c.args.number c.requires.rises low high apart) in
+    with_room c.insert-inserted.result _ c.insert-inserted.ensures.full room c.insert-inserted.ensures.items ∙ inserted fs place c.args.number c.requires.rises low high apart c.args.content
