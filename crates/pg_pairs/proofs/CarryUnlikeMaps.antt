@@ -20,11 +20,11 @@ use Rattle.pg_dyn.specs.Writing.{item_record, entry_bytes, records_in, bytes_of}
 use Rattle.pg_dyn.specs.Encoding.{child_type, enc, cap}
 use Rattle.pg_dyn.specs.Decoding.{read_item, dec}
 use Rattle.pg_dyn.specs.Belonging.{IsMessage}
-use Rattle.pg_dyn.specs.Comparison.{View, Alike, Kept, meets, alike_leaves, same_message, unshared_bytes}
+use Rattle.pg_dyn.specs.Comparison.{View, Alike, meets, alike_leaves, same_message, unshared_bytes, Kept}
 use Rattle.pg_dyn.proofs.Lists.{filter_none}
 use Rattle.pg_dyn.proofs.Codings.{Reads, Reads-from_range}
-use Rattle.pg_dyn.proofs.Plain.{IsNestedLeaf}
-use Rattle.pg_dyn.proofs.Entries.{two_records}
+use Rattle.pg_dyn.specs.Bodies.{IsNestedLeaf}
+use Rattle.pg_pairs.proofs.EntryRecords.{two_records}
 use Rattle.pg_pairs.specs.declared.choice.Pair.{Pair}
 use Rattle.pg_pairs.specs.Sight.{Sight}
 use Rattle.pg_pairs.specs.Likeness.{like}
@@ -281,8 +281,8 @@ module _ (sight : Sight) (old new : Shape) (shape_old : IsShape old) (shape_new 
           subst (λ w. is_field_kept sight.alike (dec new) f beside (record { number = number; key = Some key; written = w; sought = Kept test } ∷ []) ≡ false) (sym written_is)
           (entry_broken sight.alike (dec new) f beside k l refl refl literal key refl refl refl
           (λ x y h.
-          let parts = entry_parts k l (elements.Message s) d key (Bytes []) (Reads-from_range (elements.Scalar k) key range) (record { again = refl; shape = tt }) refl number fits x y h in
+          let parts = entry_parts k l (elements.Message s) d key (Bytes []) (Reads-from_range (elements.Scalar k) key range) (record { read = refl; shape = tt }) refl number fits x y h in
           ⊎_elim
-          (λ (unlike, far_key). inl (unlike_key k l (elements.Message s) d key (Bytes []) (Reads-from_range (elements.Scalar k) key range) (record { again = refl; shape = tt }) refl unlike far_key x parts.0))
+          (λ (unlike, far_key). inl (unlike_key k l (elements.Message s) d key (Bytes []) (Reads-from_range (elements.Scalar k) key range) (record { read = refl; shape = tt }) refl unlike far_key x parts.0))
           (λ unlike. inr (unmet unlike y))
           far))

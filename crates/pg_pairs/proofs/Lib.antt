@@ -40,3 +40,4 @@ pub mod ChildSteps
 pub mod Linking
 pub mod Joined
 pub mod OptionSteps
+pub mod EntryRecords
