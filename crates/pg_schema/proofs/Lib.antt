@@ -4,3 +4,5 @@ pub mod FlatTypes
 pub mod NameTables
 pub mod FieldSearch
 pub mod TypeSearch
+pub mod PairLemmas
+pub mod TextSetLemmas

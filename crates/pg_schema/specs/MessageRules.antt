@@ -1,0 +1,40 @@
+-- What holds of each message type, taken by itself (proto3 language guide, "Message definition", "Oneof", "Reserved Fields").
+use Rattle.std.specs.Prelude.{◌≡◌, ℕ, zero, suc, Bool, true, false, nat_eq, nat_lt, ◌&&◌, List, map, Option, Some, None, is_some, vec_len}
+use Rattle.std.specs.List.{list_all, list_any}
+use Rattle.std.specs.String.{string_bytes}
+use Rattle.pg_schema.specs.declared.field.Field.{Field}
+use Rattle.pg_schema.specs.declared.message_type.MessageType.{MessageType}
+use Rattle.pg_schema.specs.FieldRules.{is_field_number, has_presence, is_packed, is_known, is_oneof}
+use Rattle.pg_schema.specs.Pairs.{is_rising, are_distinct}
+use Rattle.pg_schema.specs.TextSets.{are_named_once}
+use Rattle.pg_schema.specs.UsedNumbers.{message_uses, is_used_once, is_reserved_range}
+use Rattle.pg_schema.specs.Words.{is_word}
+
+-- the field by itself, in a message with so many oneofs, among so many message types and enums
+abbrev pub is_field : (oneofs types enums : ℕ) → Field → Bool
+is_field oneofs types enums f =
+    is_field_number f.number && is_word (string_bytes f.name) && has_presence f.presence f.element (is_some f.oneof) f.states_optional
+    && is_packed f.presence f.element f.options.packed && is_known types enums f.element && is_oneof oneofs f.oneof
+
+abbrev pub numbers : List Field → List ℕ
+numbers fields = map (λ (f : Field). f.number) fields
+
+abbrev pub field_names : List Field → List (List ℕ)
+field_names fields = map (λ (f : Field). string_bytes f.name) fields
+
+-- JSON names, given or default
+abbrev pub json_names : List Field → List (List ℕ)
+json_names fields = map (λ (f : Field). string_bytes f.json_name) fields
+
+abbrev pub is_place : ℕ → Option ℕ → Bool
+is_place place None = false
+is_place place (Some other) = nat_eq other place
+
+-- the field is a member of the oneof at that place
+abbrev pub is_member : ℕ → Field → Bool
+is_member place f = is_place place f.oneof
+
+-- the oneofs at the places below that have a member each
+abbrev pub have_members : ℕ → List Field → Bool
+have_members zero fields = true
+have_members (suc place) fields = list_any (is_member place) fields && have_members place fields
