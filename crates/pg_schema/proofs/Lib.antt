@@ -5,4 +5,6 @@ pub mod NameTables
 pub mod FieldSearch
 pub mod TypeSearch
 pub mod PairLemmas
+pub mod UseLemmas
+pub mod MessageLemmas
 pub mod TextSetLemmas

@@ -1,5 +1,5 @@
 -- What holds of each message type, taken by itself (proto3 language guide, "Message definition", "Oneof", "Reserved Fields").
-use Rattle.std.specs.Prelude.{◌≡◌, ℕ, zero, suc, Bool, true, false, nat_eq, nat_lt, ◌&&◌, List, map, Option, Some, None, is_some, vec_len}
+use Rattle.std.specs.Prelude.{◌≡◌, ℕ, zero, suc, Bool, true, false, nat_eq, nat_lt, ◌&&◌, List, map, Option, Some, None, is_some, length, ◌<◌, slice_index_or}
 use Rattle.std.specs.List.{list_all, list_any}
 use Rattle.std.specs.String.{string_bytes}
 use Rattle.pg_schema.specs.declared.field.Field.{Field}
@@ -38,3 +38,8 @@ is_member place f = is_place place f.oneof
 abbrev pub have_members : ℕ → List Field → Bool
 have_members zero fields = true
 have_members (suc place) fields = list_any (is_member place) fields && have_members place fields
+
+-- the flag at each of so many places says whether the oneof there has a member
+pub record AreMarks (fields : List Field) (oneofs : ℕ) (marks : List Bool) : Type 0 where
+  pub all : length marks ≡ oneofs
+  pub each : (place : ℕ) → place < oneofs → slice_index_or marks place false ≡ list_any (is_member place) fields

@@ -1,9 +1,9 @@
 //! What holds of each message type, taken by itself.
 
-ghost use Rattle.std.specs.Prelude.{◌≡◌, IfOk, map, nat_lt, true};
+ghost use Rattle.std.specs.Prelude.{◌≡◌, ◌∷◌, IfOk, map};
 ghost use Rattle.std.specs.List.{list_all};
 ghost use Rattle.std.specs.String.{string_bytes};
-ghost use Rattle.pg_schema.specs.MessageRules.{field_names, is_field, json_names, numbers};
+ghost use Rattle.pg_schema.specs.MessageRules.{AreMarks, field_names, have_members, is_field, json_names, numbers};
 ghost use Rattle.pg_schema.specs.Pairs.{are_distinct, is_rising};
 ghost use Rattle.pg_schema.specs.UsedNumbers.{is_reserved_range};
 ghost use Rattle.pg_schema.specs.Words.{is_word};
@@ -42,7 +42,7 @@ pub(crate) fn are_fields(fields: &[Field], oneofs: usize, types: usize, enums: u
 
 /// Each text is a word.
 pub(crate) fn are_words(texts: &[String]) -> bool
-    ensures { result ≡ list_all is_word (map string_bytes texts.now) }
+    ensures { result ≡ list_all (λ text. is_word (string_bytes text)) texts.now }
 {
     for text in texts {
         if !is_word(text.as_bytes()) {
@@ -66,8 +66,7 @@ pub(crate) fn are_reserved_ranges(ranges: &[ReservedFields]) -> bool
 
 /// The fields stand by rising number, from 1 on.
 pub(crate) fn is_rising(fields: &[Field]) -> bool
-    requires { list_all (nat_lt 0) (numbers fields.now) ≡ true }
-    ensures { result ≡ is_rising (numbers fields.now) }
+    ensures { result ≡ is_rising (0 ∷ numbers fields.now) }
 {
     let mut below = 0;
     for field in fields {
@@ -77,6 +76,41 @@ pub(crate) fn is_rising(fields: &[Field]) -> bool
         below = field.number;
     }
     true
+}
+
+/// Whether each oneof has a member, by its place.
+fn members(alloc: Global, fields: &[Field], oneofs: usize) -> Result<Vec<bool>, AllocError>
+    ensures { IfOk result (λ marks. AreMarks fields.now oneofs marks.items) }
+{
+    let mut marks = vec![in alloc; false; oneofs]?;
+    for field in fields {
+        if let Some(place) = field.oneof {
+            if (place as usize) < marks.len() {
+                marks[place as usize] = true;
+            }
+        }
+    }
+    Ok(marks)
+}
+
+/// Each of these flags is set.
+fn are_set(flags: &[bool]) -> bool
+    ensures { result ≡ list_all (λ flag. flag) flags.now }
+{
+    for flag in flags {
+        if !*flag {
+            return false;
+        }
+    }
+    true
+}
+
+/// Each oneof has a member.
+pub(crate) fn have_members(alloc: Global, fields: &[Field], oneofs: usize) -> Result<bool, AllocError>
+    ensures { IfOk result (λ b. b ≡ have_members oneofs fields.now) }
+{
+    let marks = members(alloc, fields, oneofs)?;
+    Ok(are_set(&marks))
 }
 
 /// The names of the fields.

@@ -5,4 +5,4 @@ use Rattle.pg_schema.specs.Words.{is_word}
 use Rattle.pg_schema.proofs.message_rules.are_words.Given as goal
 
 abbrev pub invariant-loop-text : goal.invariant-loop-text
-invariant-loop-text l = list_all (λ t. is_word (string_bytes t)) (take l.text-index l.texts) ≡ true
+invariant-loop-text l = list_all (λ text. is_word (string_bytes text)) (take l.text-index l.texts) ≡ true
