@@ -1,5 +1,5 @@
 -- What holds of each message type, taken by itself (proto3 language guide, "Message definition", "Oneof", "Reserved Fields").
-use Rattle.std.specs.Prelude.{◌≡◌, ℕ, zero, suc, Bool, true, false, nat_eq, nat_lt, ◌&&◌, List, map, Option, Some, None, is_some, length, ◌<◌, slice_index_or}
+use Rattle.std.specs.Prelude.{◌≡◌, ℕ, zero, suc, Bool, true, false, nat_eq, nat_lt, ◌&&◌, List, ◌∷◌, map, Option, Some, None, is_some, length, ◌<◌, slice_index_or}
 use Rattle.std.specs.List.{list_all, list_any}
 use Rattle.std.specs.String.{string_bytes}
 use Rattle.pg_schema.specs.declared.field.Field.{Field}
@@ -43,3 +43,28 @@ have_members (suc place) fields = list_any (is_member place) fields && have_memb
 pub record AreMarks (fields : List Field) (oneofs : ℕ) (marks : List Bool) : Type 0 where
   pub all : length marks ≡ oneofs
   pub each : (place : ℕ) → place < oneofs → slice_index_or marks place false ≡ list_any (is_member place) fields
+
+-- the fields' numbers in order of declaration are as many as the fields, with that of each
+abbrev pub is_declared : List ℕ → List Field → Bool
+is_declared declared fields = nat_eq (length declared) (length fields) && list_all (λ (f : Field). list_any (nat_eq f.number) declared) fields
+
+-- the fields by themselves and in their order, by rising number from above 0
+abbrev pub has_fields : (types enums : ℕ) → MessageType → Bool
+has_fields types enums t =
+    list_all (is_field (length t.oneofs.items) types enums) t.fields.items && is_rising (0 ∷ numbers t.fields.items)
+    && is_declared t.declared.items t.fields.items
+
+-- each oneof is a word and has a member
+abbrev pub has_oneofs : MessageType → Bool
+has_oneofs t = list_all (λ text. is_word (string_bytes text)) t.oneofs.items && have_members (length t.oneofs.items) t.fields.items
+
+-- no number is used twice, and no name; no field has a reserved name
+abbrev pub has_reserved : MessageType → Bool
+has_reserved t =
+    list_all is_reserved_range t.reserved_numbers.items && is_used_once false (message_uses t.fields.items t.reserved_numbers.items)
+    && are_named_once (field_names t.fields.items) (map string_bytes t.reserved_names.items)
+
+-- That two fields of one JSON name are refused, given or default, byte by byte, is this profile's choice.
+abbrev pub is_message_type : (types enums : ℕ) → MessageType → Bool
+is_message_type types enums t =
+    has_fields types enums t && has_oneofs t && has_reserved t && are_distinct (json_names t.fields.items)
