@@ -1,5 +1,5 @@
 -- Uses by rising first numbers: each comes before the next exactly where no two clash.
-use Rattle.std.proofs.Common.{◌≡◌, ℕ, zero, suc, ◌+◌, ◌<◌, ◌≤◌, Bool, true, false, not, ◌&&◌, ◌||◌, nat_lt, nat_le, nat_eq, cond, List, [], ◌∷◌, ◌++◌, length, map, get_or, arith, sym, ◌∙◌, ap, subst, refl}
+use Rattle.std.proofs.Common.{◌≡◌, ℕ, zero, suc, ◌+◌, ◌^◌, ◌<◌, ◌≤◌, Bool, true, false, not, ◌&&◌, ◌||◌, nat_lt, nat_le, nat_eq, cond, List, [], ◌∷◌, ◌++◌, length, map, get_or, arith, sym, ◌∙◌, ap, subst, refl}
 use Rattle.std.specs.List.{list_all, swap, All}
 use Rattle.std.specs.List.Sorted.{IsPermutation, IsNonDecreasingBy}
 use Rattle.std.proofs.lemmas.Bool.{false≢true}
@@ -9,7 +9,11 @@ use Rattle.std.proofs.lemmas.List.Edits.{length-swap}
 use Rattle.std.proofs.lemmas.Grind.{elements, common_steps}
 use Rattle.pg_schema.specs.declared.uses.Use.{Use}
 use Rattle.pg_schema.specs.Pairs.{all_pairs, all_neighbours}
-use Rattle.pg_schema.specs.UsedNumbers.{are_apart, are_aliases, is_used_once, is_whole, comes_before}
+use Rattle.pg_schema.specs.declared.enum_type.EnumValue.{EnumValue}
+use Rattle.pg_schema.specs.declared.enum_type.ReservedValues.{ReservedValues}
+use Rattle.pg_schema.specs.declared.field.Field.{Field}
+use Rattle.pg_schema.specs.declared.message_type.ReservedFields.{ReservedFields}
+use Rattle.pg_schema.specs.UsedNumbers.{are_apart, are_aliases, comes_before, enum_uses, field_use, from_lowest, is_reserved_range, is_used_once, is_value_range, is_whole, message_uses, reserved_use, reserved_values_use, value_use}
 use Rattle.pg_schema.proofs.PairLemmas.{and_left, and_right, and_both}
 
 abbrev pub fits : Bool → Use → Use → Bool
@@ -130,3 +134,39 @@ used_once_is al xs ys whole moved up =
     same_tests (all_neighbours (comes_before al) ys) (is_used_once al xs)
       (λ h. pairs_moved al ys xs (IsPermutation-sym xs ys moved) (pairs_fit al ys (pairs_from_neighbours al ys whole_ys h)))
       (λ h. neighbours_from_pairs al ys whole_ys up (pairs_moved al xs ys moved h))
+
+all_of_append : (test : Use → Bool) (xs ys : List Use) → list_all test xs ≡ true → list_all test ys ≡ true → list_all test (xs ++ ys) ≡ true
+all_of_append test [] ys h k = k
+all_of_append test (x ∷ xs) ys h k = and_both _ _ (and_left _ _ h) (all_of_append test xs ys (and_right (test x) _ h) k)
+
+one_is_whole : (n : ℕ) → (nat_le n n && (false || nat_le n n)) ≡ true
+one_is_whole n = grind (arith, nat_tests)
+
+fields_whole : (fs : List Field) → list_all is_whole (map field_use fs) ≡ true
+fields_whole [] = refl
+fields_whole (f ∷ fs) = and_both _ _ (one_is_whole f.number) (fields_whole fs)
+
+values_whole : (vs : List EnumValue) → list_all is_whole (map value_use vs) ≡ true
+values_whole [] = refl
+values_whole (v ∷ vs) = and_both _ _ (one_is_whole (from_lowest v.number)) (values_whole vs)
+
+range_is_whole : (a b : ℕ) → (nat_le 1 a && nat_le a b && nat_lt b (2 ^ 29)) ≡ true → (nat_le a b && (true || nat_le b a)) ≡ true
+range_is_whole a b h = grind (arith, nat_tests)
+
+value_range_is_whole : (a b : ℕ) → nat_le a b ≡ true → (nat_le a b && (true || nat_le b a)) ≡ true
+value_range_is_whole a b h = and_both _ _ h refl
+
+ranges_whole : (rs : List ReservedFields) → list_all is_reserved_range rs ≡ true → list_all is_whole (map reserved_use rs) ≡ true
+ranges_whole [] h = refl
+ranges_whole (r ∷ rs) h = and_both _ _ (range_is_whole r.first r.last (and_left _ _ h)) (ranges_whole rs (and_right (is_reserved_range r) _ h))
+
+value_ranges_whole : (rs : List ReservedValues) → list_all is_value_range rs ≡ true → list_all is_whole (map reserved_values_use rs) ≡ true
+value_ranges_whole [] h = refl
+value_ranges_whole (r ∷ rs) h = and_both _ _ (value_range_is_whole (from_lowest r.first) (from_lowest r.last) (and_left _ _ h)) (value_ranges_whole rs (and_right (is_value_range r) _ h))
+
+-- what fields and reserved items use is whole where no item falls
+pub message_whole : (fs : List Field) (rs : List ReservedFields) → list_all is_reserved_range rs ≡ true → list_all is_whole (message_uses fs rs) ≡ true
+message_whole fs rs h = all_of_append is_whole (map field_use fs) (map reserved_use rs) (fields_whole fs) (ranges_whole rs h)
+
+pub enum_whole : (vs : List EnumValue) (rs : List ReservedValues) → list_all is_value_range rs ≡ true → list_all is_whole (enum_uses vs rs) ≡ true
+enum_whole vs rs h = all_of_append is_whole (map value_use vs) (map reserved_values_use rs) (values_whole vs) (value_ranges_whole rs h)

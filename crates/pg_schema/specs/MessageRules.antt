@@ -1,6 +1,8 @@
 -- What holds of each message type, taken by itself (proto3 language guide, "Message definition", "Oneof", "Reserved Fields").
 use Rattle.std.specs.Prelude.{◌≡◌, ℕ, zero, suc, Bool, true, false, nat_eq, nat_lt, ◌&&◌, List, ◌∷◌, map, Option, Some, None, is_some, length, ◌<◌, slice_index_or}
 use Rattle.std.specs.List.{list_all, list_any}
+use Rattle.std.specs.BTreeSet.{BTreeSet, contains}
+use Rattle.std.specs.Ordering.{nat_cmp}
 use Rattle.std.specs.String.{string_bytes}
 use Rattle.pg_schema.specs.declared.field.Field.{Field}
 use Rattle.pg_schema.specs.declared.message_type.MessageType.{MessageType}
@@ -68,3 +70,7 @@ has_reserved t =
 abbrev pub is_message_type : (types enums : ℕ) → MessageType → Bool
 is_message_type types enums t =
     has_fields types enums t && has_oneofs t && has_reserved t && are_distinct (json_names t.fields.items)
+
+-- the set has these numbers and no other
+abbrev pub IsNumberSet : List ℕ → BTreeSet ℕ → Type 0
+IsNumberSet numbers set = (n : ℕ) → contains nat_cmp set n ≡ list_any (nat_eq n) numbers
