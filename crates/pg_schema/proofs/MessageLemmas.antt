@@ -1,12 +1,14 @@
 -- Rising numbers, and oneofs with a member each.
-use Rattle.std.proofs.Common.{◌≡◌, ℕ, zero, suc, ◌+◌, ◌<◌, ◌≤◌, Bool, true, false, ◌&&◌, nat_lt, List, [], ◌∷◌, ◌++◌, length, map, take, drop, get_or, add-one, arith, sym, ◌∙◌, ap, subst, refl}
+use Rattle.std.proofs.Common.{◌≡◌, ℕ, zero, suc, ◌+◌, ◌<◌, ◌≤◌, Bool, true, false, ◌&&◌, ◌||◌, cond, nat_eq, nat_lt, List, [], ◌∷◌, ◌++◌, length, map, take, drop, get_or, add-one, arith, sym, ◌∙◌, ap, subst, refl}
 use Rattle.std.specs.List.{list_all, list_any}
 use Rattle.std.proofs.Math.Seq.{drop-cons}
 use Rattle.std.proofs.lemmas.List.{take_all}
-use Rattle.std.proofs.lemmas.List.Folds.{list_all_more}
+use Rattle.std.proofs.lemmas.List.Folds.{list_all_more, list_any_more}
 use Rattle.std.proofs.lemmas.Bool.Decides.{nat_tests}
 use Rattle.pg_schema.specs.declared.field.Field.{Field}
-use Rattle.pg_schema.specs.MessageRules.{numbers, is_member, have_members, AreMarks}
+use Rattle.std.specs.BTreeSet.{BTreeSet, contains}
+use Rattle.std.specs.Ordering.{is_eq, nat_cmp}
+use Rattle.pg_schema.specs.MessageRules.{numbers, is_member, have_members, AreMarks, IsNumberSet}
 use Rattle.pg_schema.specs.Pairs.{all_pairs, is_rising}
 
 all_above : (b n : ℕ) (ns : List ℕ) → b < n → list_all (nat_lt n) ns ≡ true → list_all (nat_lt b) ns ≡ true
@@ -51,3 +53,20 @@ flags_are fields oneofs marks is =
     subst (λ n. list_all (λ flag. flag) marks ≡ have_members n fields) is.all
     (subst (λ ms. list_all (λ flag. flag) ms ≡ have_members (length marks) fields) (take_all (length marks) marks (omega arith))
     (flags_below fields marks (length marks) (omega arith) (λ k h. is.each k (subst (λ n. k < n) is.all h))))
+
+found_or : (a b : Bool) (x : Bool) → a ≡ x → cond a true b ≡ (b || x)
+found_or true true x e = subst (λ y. true ≡ (true || y)) e refl
+found_or true false x e = e
+found_or false true x e = refl
+found_or false false x e = e
+
+equal_tests : (m n : ℕ) → is_eq (nat_cmp m n) ≡ nat_eq n m
+equal_tests m n = grind (arith, nat_tests)
+
+-- one more number
+pub number_more : (numbers : List ℕ) (i x : ℕ) (old new : BTreeSet ℕ) → i < length numbers → x ≡ get_or numbers i 0
+    → ((q : ℕ) → contains nat_cmp new q ≡ cond (is_eq (nat_cmp x q)) true (contains nat_cmp old q)) → IsNumberSet (take i numbers) old → IsNumberSet (take (i + 1) numbers) new
+number_more numbers i x old new h is step set n =
+    step n ∙ (ap (λ b. cond (is_eq (nat_cmp x n)) true b) (set n)
+    ∙ (found_or (is_eq (nat_cmp x n)) (list_any (nat_eq n) (take i numbers)) (nat_eq n x) (equal_tests x n)
+    ∙ (ap (λ y. list_any (nat_eq n) (take i numbers) || nat_eq n y) is ∙ sym (list_any_more (nat_eq n) numbers i 0 h))))
