@@ -5,6 +5,7 @@ pub mod NameTables
 pub mod FieldSearch
 pub mod TypeSearch
 pub mod PairLemmas
+pub mod WordLemmas
 pub mod UseLemmas
 pub mod MessageLemmas
 pub mod TextSetLemmas

@@ -1,7 +1,7 @@
 //! Words.
 
 ghost use Rattle.std.specs.Prelude.{◌≡◌};
-ghost use Rattle.pg_schema.specs.Words.{is_letter, is_word, is_word_byte};
+ghost use Rattle.pg_schema.specs.Words.{is_letter, is_package, is_word, is_word_byte, may_stand, parts_at_dots};
 ghost use Rattle.std.specs.List.{list_all};
 
 /// The byte is a letter or `_`.
@@ -38,4 +38,38 @@ pub(crate) fn is_word(text: &[u8]) -> bool
         [first, others @ ..] => is_letter(*first) && are_word_bytes(others),
         [] => false,
     }
+}
+
+/// The byte may stand here, where a word begins or in the midst of one. A dot ends a word.
+fn may_stand(begins: bool, byte: u8) -> bool
+    ensures { result ≡ may_stand begins byte }
+{
+    if byte == b'.' {
+        !begins
+    } else if begins {
+        is_letter(byte)
+    } else {
+        is_word_byte(byte)
+    }
+}
+
+/// The text is words with one dot between.
+fn are_dotted_words(bytes: &[u8]) -> bool
+    ensures { result ≡ list_all is_word (parts_at_dots bytes.now) }
+{
+    let mut begins = true;
+    for byte in bytes {
+        if !may_stand(begins, *byte) {
+            return false;
+        }
+        begins = *byte == b'.';
+    }
+    !begins
+}
+
+/// The text is a package: empty, or words with one dot between.
+pub(crate) fn is_package(bytes: &[u8]) -> bool
+    ensures { result ≡ is_package bytes.now }
+{
+    bytes.is_empty() || are_dotted_words(bytes)
 }
