@@ -9,6 +9,7 @@ use Rattle.std.proofs.lemmas.List.Edits.{length-swap}
 use Rattle.std.proofs.lemmas.Grind.{elements, common_steps}
 use Rattle.pg_schema.specs.declared.uses.Use.{Use}
 use Rattle.pg_schema.specs.Pairs.{all_pairs, all_neighbours}
+use Rattle.pg_schema.specs.Scopes.{place_use}
 use Rattle.pg_schema.specs.declared.enum_type.EnumValue.{EnumValue}
 use Rattle.pg_schema.specs.declared.enum_type.ReservedValues.{ReservedValues}
 use Rattle.pg_schema.specs.declared.field.Field.{Field}
@@ -170,3 +171,28 @@ message_whole fs rs h = all_of_append is_whole (map field_use fs) (map reserved_
 
 pub enum_whole : (vs : List EnumValue) (rs : List ReservedValues) → list_all is_value_range rs ≡ true → list_all is_whole (enum_uses vs rs) ≡ true
 enum_whole vs rs h = all_of_append is_whole (map value_use vs) (map reserved_values_use rs) (values_whole vs) (value_ranges_whole rs h)
+
+pub places_whole : (places : List ℕ) → list_all is_whole (map place_use places) ≡ true
+places_whole [] = refl
+places_whole (n ∷ ns) = and_both _ _ (one_is_whole n) (places_whole ns)
+
+places_differ : (m n : ℕ) → ((nat_lt m n || nat_lt n m) || false) ≡ not (nat_eq m n)
+places_differ m n = grind (arith, nat_tests)
+
+each_differs : (m : ℕ) (ns : List ℕ) → list_all (λ (u : Use). fits false (place_use m) u) (map place_use ns) ≡ list_all (λ n. not (nat_eq m n)) ns
+each_differs m [] = refl
+each_differs m (n ∷ ns) =
+    ap (λ b. b && list_all (λ (u : Use). fits false (place_use m) u) (map place_use ns)) (places_differ m n)
+    ∙ ap (λ b. not (nat_eq m n) && b) (each_differs m ns)
+
+-- places are used once exactly where no two are equal
+pub places_once : (places : List ℕ) → is_used_once false (map place_use places) ≡ all_pairs (λ a b. not (nat_eq a b)) places
+places_once [] = refl
+places_once (n ∷ ns) =
+    ap (λ b. b && is_used_once false (map place_use ns)) (each_differs n ns)
+    ∙ ap (λ b. list_all (λ m. not (nat_eq n m)) ns && b) (places_once ns)
+
+pub all_three : (a b c : Bool) → a ≡ true → b ≡ true → c ≡ (a && b && c)
+all_three true true c h k = refl
+all_three true false c h k = absurd (false≢true k)
+all_three false b c h k = absurd (false≢true h)

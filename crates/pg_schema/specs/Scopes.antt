@@ -12,6 +12,7 @@ use Rattle.pg_schema.specs.declared.message_type.MessageType.{MessageType}
 use Rattle.pg_schema.specs.declared.parts.Parts.{Parts}
 use Rattle.pg_schema.specs.declared.service.Service.{Service}
 use Rattle.pg_schema.specs.declared.service.ServiceId.{ServiceId}
+use Rattle.pg_schema.specs.declared.uses.Use.{Use}
 use Rattle.pg_schema.specs.Pairs.{all_pairs}
 use Rattle.pg_schema.specs.Words.{is_word}
 
@@ -79,3 +80,13 @@ declared_enums files types = flat_map (λ (f : File). enum_places f.enums.items)
 
 abbrev pub declared_services : List File → List ℕ
 declared_services files = flat_map (λ (f : File). service_places f.services.items) files
+
+-- each message type, enum and service is declared once
+abbrev pub are_declared_once : List File → List MessageType → (enums services : ℕ) → Bool
+are_declared_once files types enums services =
+    are_each_once (length types) (declared_types files types) && are_each_once enums (declared_enums files types)
+    && are_each_once services (declared_services files)
+
+-- a place, as a number that is used
+abbrev pub place_use : ℕ → Use
+place_use place = record { first = place; last = place; is_reserved = false }
