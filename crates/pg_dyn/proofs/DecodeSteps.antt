@@ -1,19 +1,22 @@
 -- A decoder's step on types with implicit scalars alone.
 use Rattle.std.proofs.Common.{Result, Ok, Err, OnOk, ◌≡◌, ◌≢◌, ℕ, zero, suc, ◌<◌, List, [], ◌∷◌, ◌++◌, length, map, filter, get_or, nat_eq, nat_lt, Bool, true, false, cond, not, ◌&&◌, ◌||◌, Option, Some, None, refl, ap, sym, subst, ◌∙◌, arith, ⊎_elim, eq-eqb, ne_eqb}
-use Rattle.std.specs.List.{AllByRecursion}
+use Rattle.std.specs.List.{All, AllByRecursion}
 use Rattle.std.specs.Str.{is_utf8}
 use Rattle.std.proofs.lemmas.Bool.{cases_eq}
 use Rattle.std.proofs.Math.Bool.{and-false}
 use Rattle.pg_schema.specs.declared.field.Scalar.{Scalar}
+use Rattle.pg_schema.specs.declared.field.Field.{Field}
 use Rattle.pg_schema.specs.declared.field.TypeId.{TypeId}
+use Rattle.pg_schema.specs.declared.message_type.MessageType.{MessageType}
 use Rattle.pg_schema.specs.declared.field.Element.{Element}
 use Rattle.pg_schema.specs.declared.field.Element.TheVariants as elements
 use Rattle.pg_schema.specs.declared.field.Presence.{Presence}
 use Rattle.pg_schema.specs.declared.field.Presence.TheVariants as presences
 use Rattle.pg_schema.specs.declared.parts.Parts.{Parts}
-use Rattle.pg_schema.specs.Parts.{shape_of}
-use Rattle.pg_schema.specs.Invariant.{IsScalar, IsFlatField, IsSchema}
-use Rattle.pg_schema.specs.Shape.{Shape, FieldShape, PresenceFits, IsField, IsType, fields, field_at, Rising, is_map, is_packable}
+use Rattle.pg_schema.specs.Parts.{field_shape, shape_of}
+use Rattle.pg_schema.specs.Flat.{IsFlatField, IsFlatType}
+use Rattle.pg_schema.specs.Invariant.{IsSchema}
+use Rattle.pg_schema.specs.Shape.{Shape, FieldShape, IsType, fields, field_at, Rising, is_map, is_packable}
 use Rattle.pg_wire.specs.declared.record.WireType.{WireType}
 use Rattle.pg_wire.specs.declared.record.WireType.TheVariants.{Varint, I64, Len, I32}
 use Rattle.pg_wire.specs.Records.{WireRecord, IsRecord, IsBody}
@@ -39,7 +42,7 @@ use Rattle.pg_dyn.specs.Refusals.{HasNoText}
 use Rattle.pg_dyn.specs.Replacing.{with_parts, with_unknown, implicit_part}
 use Rattle.pg_dyn.proofs.Fields.{field_of}
 use Rattle.pg_dyn.proofs.Flat.{each_at}
-use Rattle.pg_dyn.proofs.Lists.{each_both, each_weaker, list_any_none, each-append}
+use Rattle.pg_dyn.proofs.Lists.{each_weaker, list_any_none, each-append}
 use Rattle.pg_dyn.proofs.Splitting.{found_first, found_later, found_number}
 use Rattle.pg_dyn.proofs.DecodesOn.{scalar_decodes_on, unknown_decodes_on}
 use Rattle.pg_dyn.proofs.FieldListLaws.{rises_put, rises_remove, each_put, each_removed}
@@ -60,22 +63,19 @@ is_type parts h type = at_type (IsType (length (shape_of parts))) (shape_of part
 pub rising : (parts : Parts) → IsSchema parts → (type : TypeId) → Rising (fields (shape_of parts) type)
 rising parts h type = (is_type parts h type).rising
 
-outside_oneof : (p : Presence) (e : Element) (o : Option ℕ) → p ≡ presences.Implicit → IsScalar e → PresenceFits p e o → o ≡ None
-outside_oneof p e o is (s, scalar) fits = subst (λ x. PresenceFits presences.Implicit x o) scalar (subst (λ x. PresenceFits x e o) is fits)
+implicit_scalar : (f : Field) → IsFlatField f → IsImplicitScalar (field_shape f)
+implicit_scalar f flat = record { implicit = flat.implicit; scalar = flat.scalar.0; scalar_is = flat.scalar.1; alone = flat.alone }
 
-implicit_scalar : (types : ℕ) (f : FieldShape) → IsField types f → IsFlatField f → IsImplicitScalar f
-implicit_scalar types f fits flat = record {
-  implicit = flat.implicit;
-  scalar = flat.scalar.0;
-  scalar_is = flat.scalar.1;
-  alone = outside_oneof f.presence f.element f.oneof flat.implicit flat.scalar fits.presence_fits;
-}
+flat_shapes : (fs : List Field) → All IsFlatField fs → AllByRecursion IsImplicitScalar (map field_shape fs)
+flat_shapes [] flat = tt
+flat_shapes (f ∷ fs) flat = (implicit_scalar f (flat 0 f (omega arith)), flat_shapes fs (λ k d below. flat (suc k) d (omega (arith, below))))
+
+flat_types : (types : List MessageType) → All IsFlatType types → AllByRecursion (AllByRecursion IsImplicitScalar) (map (λ (t : MessageType). map field_shape t.fields.items) types)
+flat_types [] flat = tt
+flat_types (t ∷ types) flat = (flat_shapes t.fields.items (flat 0 t (omega arith)).fields, flat_types types (λ k d below. flat (suc k) d (omega (arith, below))))
 
 pub flat_fields : (parts : Parts) → IsSchema parts → (type : TypeId) → AllByRecursion IsImplicitScalar (fields (shape_of parts) type)
-flat_fields parts h type =
-    let types = length (shape_of parts) in
-    each_weaker (λ f. IsField types f × IsFlatField f) IsImplicitScalar (λ f k. implicit_scalar types f k.0 k.1) (fields (shape_of parts) type)
-    (each_both (IsField types) IsFlatField (fields (shape_of parts) type) (is_type parts h type).each (at_type (AllByRecursion IsFlatField) (shape_of parts) type.index tt h.flat))
+flat_fields parts h type = at_type (AllByRecursion IsImplicitScalar) (shape_of parts) type.index tt (flat_types parts.types.items h.flat.types)
 
 pub flat_at : (parts : Parts) → IsSchema parts → (type : TypeId) (n : ℕ) (f : FieldShape) → field_at (fields (shape_of parts) type) n ≡ Some f → IsImplicitScalar f
 flat_at parts h type n f found = each_at IsImplicitScalar (fields (shape_of parts) type) n f found (flat_fields parts h type)

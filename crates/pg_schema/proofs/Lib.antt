@@ -1,6 +1,6 @@
-pub mod FlatFields
-pub mod FlatRows
-pub mod FlatTypes
+pub mod NumberRows
+pub mod NumberTypes
+pub mod FlatSchemas
 pub mod NameTables
 pub mod FieldSearch
 pub mod TypeSearch

@@ -1,26 +1,14 @@
-//! What every schema's message types keep to.
+//! Whether parts hold flat messages and nothing else.
 
-ghost use Rattle.std.specs.Prelude.{◌≡◌, ◌↔◌, ◌≤◌, ◌<◌, ◌^◌, ◌⊎◌, map, IsTrue};
-ghost use Rattle.std.specs.List.{AllByRecursion};
+ghost use Rattle.std.specs.Prelude.{◌≡◌, ◌↔◌, All, IsTrue};
 ghost use Rattle.pg_schema.specs.declared.field.Presence.TheVariants.{Implicit};
-ghost use Rattle.pg_schema.specs.declared.message_type.MessageType.{MessageType};
-ghost use Rattle.pg_schema.specs.Invariant.{IsScalar, IsFlat, IsFlatType, IsFlatShape};
-ghost use Rattle.pg_schema.specs.Parts.{field_shape, shape_of};
-ghost use Rattle.pg_schema.specs.Shape.{IsShape};
+ghost use Rattle.pg_schema.specs.Flat.{HasFieldsAlone, IsFlat, IsFlatField, IsFlatFile, IsFlatType, IsScalar};
 
 use crate::field::{Element, Field, Presence};
+use crate::file::File;
+use crate::json_name::is_default_json_name;
 use crate::message_type::MessageType;
 use crate::parts::Parts;
-
-/// The most message types that a schema may have.
-const MOST_TYPES: usize = 4096;
-
-/// The field number is allowed (proto3 language guide, "Assigning Field Numbers").
-fn is_field_number(number: u32) -> bool
-    ensures { IsTrue result ↔ ((1 ≤ number) × (number < 2 ^ 29) × ((number < 19000) ⊎ (20000 ≤ number))) }
-{
-    1 <= number && number < 0x2000_0000 && (number < 19_000 || 20_000 <= number)
-}
 
 /// The field is singular without `optional`.
 fn is_implicit(presence: Presence) -> bool
@@ -42,48 +30,72 @@ fn is_scalar(element: Element) -> bool
     }
 }
 
-/// The field is a singular scalar without `optional`, in no oneof.
+/// The field is a singular scalar without `optional`, in no oneof, with no option stated.
 fn is_flat_field(field: &Field) -> bool
-    ensures { IsTrue result ↔ IsFlat (field_shape field.now) }
+    ensures { IsTrue result ↔ IsFlatField field.now }
 {
-    if !is_implicit(field.presence) || !is_scalar(field.element) {
-        return false;
-    }
-    field.oneof.is_none() && is_field_number(field.number)
+    is_implicit(field.presence)
+        && is_scalar(field.element)
+        && field.oneof.is_none()
+        && !field.states_optional
+        && field.options.packed.is_none()
+        && field.options.deprecated.is_none()
+        && is_default_json_name(&field.json_name, &field.name)
 }
 
-/// The fields are such ones, by rising number.
 fn are_flat_fields(fields: &[Field]) -> bool
-    ensures { IsTrue result ↔ IsFlatType (map field_shape fields.now) }
+    ensures { IsTrue result ↔ All IsFlatField fields.now }
 {
-    let mut below = 0;
-    for field in fields {
-        if field.number <= below || !is_flat_field(field) {
-            return false;
-        }
-        below = field.number;
-    }
-    true
+    fields.iter().all(is_flat_field)
 }
 
-/// The fields of each message type are such ones.
+/// Nothing stands in the message type but fields.
+fn has_fields_alone(message_type: &MessageType) -> bool
+    ensures { IsTrue result ↔ HasFieldsAlone message_type.now }
+{
+    message_type.oneofs.is_empty()
+        && message_type.nested_types.is_empty()
+        && message_type.nested_enums.is_empty()
+        && message_type.reserved_numbers.is_empty()
+        && message_type.reserved_names.is_empty()
+        && message_type.options.deprecated.is_none()
+}
+
+/// The message type has flat fields and nothing else.
+fn is_flat_type(message_type: &MessageType) -> bool
+    ensures { IsTrue result ↔ IsFlatType message_type.now }
+{
+    has_fields_alone(message_type) && are_flat_fields(&message_type.fields)
+}
+
 fn are_flat_types(types: &[MessageType]) -> bool
-    ensures { IsTrue result ↔ AllByRecursion (λ (t : MessageType). IsFlatType (map field_shape t.fields.items)) types.now }
+    ensures { IsTrue result ↔ All IsFlatType types.now }
 {
-    for message_type in types {
-        if !are_flat_fields(&message_type.fields) {
-            return false;
-        }
-    }
-    true
+    types.iter().all(is_flat_type)
 }
 
-/// The message types keep to what every schema's do, but for their names.
-pub(crate) fn is_flat(parts: &Parts) -> bool
-    ensures { IsTrue result ↔ (IsShape (shape_of parts.now) × IsFlatShape (shape_of parts.now)) }
+/// The file has message types and nothing else.
+fn is_flat_file(file: &File) -> bool
+    ensures { IsTrue result ↔ IsFlatFile file.now }
 {
-    if parts.types.len() > MOST_TYPES {
-        return false;
-    }
-    are_flat_types(&parts.types)
+    file.imports.is_empty()
+        && file.enums.is_empty()
+        && file.services.is_empty()
+        && file.options.is_empty()
+}
+
+fn are_flat_files(files: &[File]) -> bool
+    ensures { IsTrue result ↔ All IsFlatFile files.now }
+{
+    files.iter().all(is_flat_file)
+}
+
+/// The parts hold flat messages and nothing else.
+pub(crate) fn is_flat(parts: &Parts) -> bool
+    ensures { IsTrue result ↔ IsFlat parts.now }
+{
+    parts.enums.is_empty()
+        && parts.services.is_empty()
+        && are_flat_files(&parts.files)
+        && are_flat_types(&parts.types)
 }

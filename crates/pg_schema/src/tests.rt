@@ -1,8 +1,7 @@
 use crate::{
-    Element, EnumId, EnumOptions, EnumType, EnumValue, EnumValueOptions, Field, FieldOptions, File,
-    FileOption, Import, MessageOptions, MessageType, Method, MethodOptions, OptimizeMode,
-    OptionValue, Parts, PartsError, Presence, Scalar, Schema, Service, ServiceId, ServiceOptions,
-    TypeId,
+    Element, EnumId, EnumOptions, EnumType, Field, FieldOptions, File, FileOption, Import,
+    MessageOptions, MessageType, OptimizeMode, OptionValue, Parts, PartsError, Presence,
+    ReservedFields, Scalar, Schema, Service, ServiceOptions, TypeId,
 };
 use std::alloc::{AllocError, Global};
 use std::test::Fail;
@@ -48,61 +47,22 @@ fn message_type(
     })
 }
 
+// The parts of a file `package p;` with these message types and nothing else.
 fn parts(alloc: Global, types: Vec<MessageType>) -> Result<Parts, AllocError> {
-    let color = EnumType {
-        name: String::from_str(alloc, "p.Color")?,
-        values: vec![in alloc;
-            EnumValue {
-                name: String::from_str(alloc, "RED")?,
-                number: 0,
-                options: EnumValueOptions { deprecated: None },
-            },
-        ]?,
-        reserved_numbers: Vec::new(alloc),
-        reserved_names: Vec::new(alloc),
-        options: EnumOptions {
-            allow_alias: None,
-            deprecated: Some(false),
-        },
-    };
-    let service = Service {
-        name: String::from_str(alloc, "p.S")?,
-        methods: vec![in alloc;
-            Method {
-                name: String::from_str(alloc, "Get")?,
-                input: TypeId { index: 0 },
-                output: TypeId { index: 0 },
-                client_streaming: false,
-                server_streaming: true,
-                options: MethodOptions { deprecated: None },
-            },
-        ]?,
-        options: ServiceOptions { deprecated: None },
-    };
     let file = File {
         name: String::from_str(alloc, "m.proto")?,
         package: String::from_str(alloc, "p")?,
-        imports: vec![in alloc;
-            Import {
-                path: String::from_str(alloc, "n.proto")?,
-                is_public: true,
-            },
-        ]?,
+        imports: Vec::new(alloc),
         types: Vec::new(alloc),
-        enums: vec![in alloc; EnumId { index: 0 }]?,
-        services: vec![in alloc; ServiceId { index: 0 }]?,
-        options: vec![in alloc;
-            FileOption {
-                number: 9,
-                value: OptionValue::Mode(OptimizeMode::CodeSize),
-            },
-        ]?,
+        enums: Vec::new(alloc),
+        services: Vec::new(alloc),
+        options: Vec::new(alloc),
     };
     Ok(Parts {
         files: vec![in alloc; file]?,
         types,
-        enums: vec![in alloc; color]?,
-        services: vec![in alloc; service]?,
+        enums: Vec::new(alloc),
+        services: Vec::new(alloc),
     })
 }
 
@@ -144,20 +104,23 @@ fn look_ups(rt: HostRuntime) -> Result<(), Fail> {
     assert_eq!(rt; field.name.as_str(), "a");
     assert!(rt; schema.field(m, 2).is_none());
     assert!(rt; schema.field(TypeId { index: 0 }, 1).is_none());
-    let color = schema.enum_type(EnumId { index: 0 }).ok_or("no enum")?;
-    assert_eq!(rt; color.name.as_str(), "p.Color");
-    assert!(rt; schema.enum_type(EnumId { index: 1 }).is_none());
+    assert!(rt; schema.enum_type(EnumId { index: 0 }).is_none());
     Ok(())
+}
+
+// Whether the parts are refused for their invariant.
+fn are_refused(alloc: Global, parts: Parts) -> Result<bool, AllocError> {
+    match Schema::from_parts(alloc, parts) {
+        Ok(_) => Ok(false),
+        Err((PartsError::Invariant, _)) => Ok(true),
+        Err((PartsError::Memory, _)) => Err(AllocError),
+    }
 }
 
 // Whether a message of one such field is refused for its invariant.
 fn is_refused(alloc: Global, field: Field) -> Result<bool, AllocError> {
     let types = vec![in alloc; message_type(alloc, "M", vec![in alloc; field]?, Vec::new(alloc))?]?;
-    match Schema::from_parts(alloc, parts(alloc, types)?) {
-        Ok(_) => Ok(false),
-        Err((PartsError::Invariant, _)) => Ok(true),
-        Err((PartsError::Memory, _)) => Err(AllocError),
-    }
+    are_refused(alloc, parts(alloc, types)?)
 }
 
 #[test]
@@ -194,6 +157,105 @@ fn other_fields(rt: HostRuntime) -> Result<(), Fail> {
     let mut field = scalar_field(alloc, 1, "a", Scalar::Bytes)?;
     field.oneof = Some(0);
     assert!(rt; is_refused(alloc, field)?);
+    Ok(())
+}
+
+#[test]
+fn stated_words(rt: HostRuntime) -> Result<(), Fail> {
+    let alloc = rt.alloc();
+    let mut field = scalar_field(alloc, 1, "a", Scalar::Int32)?;
+    field.states_optional = true;
+    assert!(rt; is_refused(alloc, field)?);
+    let mut field = scalar_field(alloc, 1, "a", Scalar::Int32)?;
+    field.options.packed = Some(false);
+    assert!(rt; is_refused(alloc, field)?);
+    let mut field = scalar_field(alloc, 1, "a", Scalar::Int32)?;
+    field.options.deprecated = Some(false);
+    assert!(rt; is_refused(alloc, field)?);
+    Ok(())
+}
+
+// The default JSON names, as `protoc` makes them, and others.
+#[test]
+fn json_names(rt: HostRuntime) -> Result<(), Fail> {
+    let alloc = rt.alloc();
+    for (name, json_name, refused) in [
+        ("foo_bar", "fooBar", false),
+        ("_a__b_", "AB", false),
+        ("fooBar_1", "fooBar1", false),
+        ("foo_bar", "foo_bar", true),
+        ("foo_bar", "fooBa", true),
+        ("foo_bar", "fooBars", true),
+        ("a", "A", true),
+    ] {
+        let mut field = scalar_field(alloc, 1, name, Scalar::Int32)?;
+        field.json_name = String::from_str(alloc, json_name)?;
+        assert_eq!(rt; is_refused(alloc, field)?, refused);
+    }
+    Ok(())
+}
+
+#[test]
+fn enums_and_services(rt: HostRuntime) -> Result<(), Fail> {
+    let alloc = rt.alloc();
+    let mut with_enum = two_types(alloc)?;
+    with_enum.enums.push(EnumType {
+        name: String::from_str(alloc, "p.Color")?,
+        values: Vec::new(alloc),
+        reserved_numbers: Vec::new(alloc),
+        reserved_names: Vec::new(alloc),
+        options: EnumOptions {
+            allow_alias: None,
+            deprecated: None,
+        },
+    })?;
+    assert!(rt; are_refused(alloc, with_enum)?);
+    let mut with_service = two_types(alloc)?;
+    with_service.services.push(Service {
+        name: String::from_str(alloc, "p.S")?,
+        methods: Vec::new(alloc),
+        options: ServiceOptions { deprecated: None },
+    })?;
+    assert!(rt; are_refused(alloc, with_service)?);
+    Ok(())
+}
+
+#[test]
+fn files_with_more(rt: HostRuntime) -> Result<(), Fail> {
+    let alloc = rt.alloc();
+    let mut with_import = two_types(alloc)?;
+    with_import.files[0].imports.push(Import {
+        path: String::from_str(alloc, "n.proto")?,
+        is_public: true,
+    })?;
+    assert!(rt; are_refused(alloc, with_import)?);
+    let mut with_option = two_types(alloc)?;
+    with_option.files[0].options.push(FileOption {
+        number: 9,
+        value: OptionValue::Mode(OptimizeMode::CodeSize),
+    })?;
+    assert!(rt; are_refused(alloc, with_option)?);
+    Ok(())
+}
+
+#[test]
+fn types_with_more(rt: HostRuntime) -> Result<(), Fail> {
+    let alloc = rt.alloc();
+    let mut with_oneof = two_types(alloc)?;
+    let oneof = String::from_str(alloc, "k")?;
+    with_oneof.types[1].oneofs.push(oneof)?;
+    assert!(rt; are_refused(alloc, with_oneof)?);
+    let mut with_nested = two_types(alloc)?;
+    with_nested.types[1].nested_types.push(TypeId { index: 0 })?;
+    assert!(rt; are_refused(alloc, with_nested)?);
+    let mut with_reserved = two_types(alloc)?;
+    with_reserved.types[1]
+        .reserved_numbers
+        .push(ReservedFields { first: 2, last: 3 })?;
+    assert!(rt; are_refused(alloc, with_reserved)?);
+    let mut deprecated = two_types(alloc)?;
+    deprecated.types[1].options.deprecated = Some(false);
+    assert!(rt; are_refused(alloc, deprecated)?);
     Ok(())
 }
 

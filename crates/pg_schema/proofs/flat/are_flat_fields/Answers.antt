@@ -1,29 +1,25 @@
-use Rattle.std.proofs.Common.{sym, ◌∙◌, arith, refl}
-use Rattle.pg_schema.proofs.FlatRows.{type_from_row, row_from_type, rows_on, rows_back, rows_end}
+use Rattle.std.proofs.Common.{refl, Bool, true, false, List, [], ◌∷◌, length, arith, ◌<◌, ℕ}
+use Rattle.std.specs.Bool.{MatchBool, IsTrue}
+use Rattle.std.specs.List.{All, AllWithin, HoldsAt}
+use Rattle.std.proofs.lemmas.Iterator.{cases_from_all, YieldsList-from_slice}
+use Rattle.pg_schema.specs.declared.field.Field.{Field}
+use Rattle.pg_schema.specs.Flat.{IsFlatField}
 use Rattle.pg_schema.proofs.flat.are_flat_fields.Goals as goal
-use Rattle.pg_schema.proofs.flat.are_flat_fields.Goals.{then-field-below-via-then-field-below, then-field-below-via-else-field-below+then-not-is_flat_field}
 
-pub returns-then-field-below : goal.returns-then-field-below
-returns-then-field-below c = (
-  λ no. absurd (cc (no)),
-  λ flat.
-      let row = c.loop-field.invariant.back (row_from_type _ flat) in
-      let head = rows_back c.loop-field.below c.loop-field.field-index c.args.fields.now c.field-item.result c.loop-field-test.true c.field-item.is row in
-      elim c.then-field-below.branch [
-        | then-field-below-via-then-field-below w ↦ absurd (let above = head.0 in omega (arith, above, w.if-field-below))
-        | then-field-below-via-else-field-below+then-not-is_flat_field w ↦ sym w.if-not-is_flat_field.true ∙ w.is_flat_field.ensures.1 head.1
-      ],
-)
+abbrev Other : List Field → Type 0
+Other fs = (k : ℕ) × (k < length fs) × HoldsAt (λ f. IsFlatField f → ⊥) fs k
 
-pub loop-field-preserved : goal.loop-field-preserved
-loop-field-preserved c = record {
-  on = λ row. c.loop-field.invariant.on (rows_on c.loop-field.below c.loop-field.field-index c.args.fields.now c.field-item.result c.loop-field-test.true c.field-item.is
-      (c.if-field-below.false, c.is_flat_field.ensures.0 c.if-not-is_flat_field.false, row));
-  back = λ row. (rows_back c.loop-field.below c.loop-field.field-index c.args.fields.now c.field-item.result c.loop-field-test.true c.field-item.is (c.loop-field.invariant.back row)).2;
-}
+-- a field that isn't flat stands at no place where each is
+none_other : (fs : List Field) → Other fs → All IsFlatField fs → ⊥
+none_other [] other flat = omega (arith, other.1)
+none_other (f ∷ fs) other flat = other.2 f (flat other.0 f other.1)
+
+decided : (r : Bool) (fs : List Field) → MatchBool r (AllWithin IsFlatField fs 0 (length fs)) (Other fs) → (IsTrue r → All IsFlatField fs) × (All IsFlatField fs → IsTrue r)
+decided true fs h = (λ _ k d below. h k d (omega arith) below, λ _. refl)
+decided false fs h = (λ no. absurd (cc (no)), λ flat. absurd (none_other fs h flat))
 
 pub returns : goal.returns
-returns c = (
-  λ yes. type_from_row 0 _ (c.loop-field.invariant.on (rows_end c.loop-field.below c.loop-field.field-index c.args.fields.now c.loop-field-test.false)),
-  λ flat. refl,
-)
+returns c =
+    decided c.all.result c.args.fields.now
+    (cases_from_all _ _ _ IsFlatField (λ f. IsFlatField f → ⊥) c.all.ensures.ran (YieldsList-from_slice c.args.fields.now cc)
+    (λ x q k. (refl, k.met.0 refl)) (λ x q k. λ flat. absurd (let yes = k.met.1 flat in cc (yes))))
