@@ -1,13 +1,14 @@
-//! What holds of each service, taken by itself.
+//! What holds of each file and service, taken by itself.
 
 ghost use Rattle.std.specs.Prelude.{◌≡◌, ◌∷◌};
 ghost use Rattle.std.specs.List.{list_all};
-ghost use Rattle.pg_schema.specs.FileRules.{is_file_option, is_method, is_of_kind, is_service, option_numbers};
+ghost use Rattle.pg_schema.specs.FileRules.{is_file, is_file_option, is_method, is_of_kind, is_service, option_numbers};
 ghost use Rattle.pg_schema.specs.Pairs.{is_rising};
 
+use crate::file::File;
 use crate::options::{FileOption, OptionValue};
 use crate::service::{Method, Service};
-use crate::words::is_word;
+use crate::words::{is_package, is_word};
 
 /// The option of that number is in the table of a file's options, and takes such a value.
 fn is_of_kind(number: u32, value: &OptionValue) -> bool
@@ -21,7 +22,7 @@ fn is_of_kind(number: u32, value: &OptionValue) -> bool
 }
 
 /// Each option takes a value of its kind.
-pub(crate) fn are_file_options(options: &[FileOption]) -> bool
+fn are_file_options(options: &[FileOption]) -> bool
     ensures { result ≡ list_all is_file_option options.now }
 {
     for option in options {
@@ -33,7 +34,7 @@ pub(crate) fn are_file_options(options: &[FileOption]) -> bool
 }
 
 /// The options stand by rising number.
-pub(crate) fn are_in_order(options: &[FileOption]) -> bool
+fn are_in_order(options: &[FileOption]) -> bool
     ensures { result ≡ is_rising (0 ∷ option_numbers options.now) }
 {
     let mut below = 0;
@@ -65,6 +66,21 @@ pub(crate) fn are_services(services: &[Service], types: usize) -> bool
 {
     for service in services {
         if !are_methods(&service.methods, types) {
+            return false;
+        }
+    }
+    true
+}
+
+/// Each file has a package of words, or none, and options of their kinds by rising number.
+pub(crate) fn are_files(files: &[File]) -> bool
+    ensures { result ≡ list_all is_file files.now }
+{
+    for file in files {
+        if !is_package(file.package.as_bytes())
+            || !are_in_order(&file.options)
+            || !are_file_options(&file.options)
+        {
             return false;
         }
     }
