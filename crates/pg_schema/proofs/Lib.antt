@@ -9,3 +9,4 @@ pub mod WordLemmas
 pub mod UseLemmas
 pub mod MessageLemmas
 pub mod TextSetLemmas
+pub mod SoundShapes
