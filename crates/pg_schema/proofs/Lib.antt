@@ -10,3 +10,4 @@ pub mod UseLemmas
 pub mod MessageLemmas
 pub mod TextSetLemmas
 pub mod SoundShapes
+pub mod NameWords

@@ -3,9 +3,11 @@
 use Rattle.std.specs.Prelude.{◌≡◌, ℕ, ◌≤◌, Bool, true, ◌&&◌, List, length}
 use Rattle.std.specs.List.{list_all}
 use Rattle.pg_schema.specs.declared.parts.Parts.{Parts}
+use Rattle.pg_schema.specs.DeclaredNames.{declared_names}
 use Rattle.pg_schema.specs.EnumRules.{is_enum}
 use Rattle.pg_schema.specs.FileRules.{is_file, is_service}
 use Rattle.pg_schema.specs.MessageRules.{is_message_type}
+use Rattle.pg_schema.specs.Pairs.{are_distinct}
 use Rattle.pg_schema.specs.Scopes.{are_declared_once, is_file_scope, is_type_scope}
 
 -- each file, message type, enum and service by itself
@@ -30,3 +32,5 @@ pub record IsSound (parts : Parts) : Type 0 where
   pub declared_once : are_declared_once parts.files.items parts.types.items (length parts.enums.items) (length parts.services.items) ≡ true
   pub file_scopes : list_all (is_file_scope parts.types.items parts.enums.items parts.services.items) parts.files.items ≡ true
   pub type_scopes : list_all (is_type_scope parts.types.items parts.enums.items) parts.types.items ≡ true
+  -- in all files, also those that don't see each other
+  pub names : are_distinct (declared_names parts) ≡ true

@@ -1,13 +1,18 @@
 //! What holds of all that a schema declares.
 
-ghost use Rattle.std.specs.Prelude.{◌≡◌, ◌↔◌, IfOk, IsTrue};
+ghost use Rattle.std.specs.Prelude.{◌≡◌, ◌↔◌, IfOk, IsTrue, true};
+ghost use Rattle.std.specs.List.{list_all};
+ghost use Rattle.pg_schema.specs.DeclaredNames.{declared_names, have_words};
+ghost use Rattle.pg_schema.specs.Pairs.{are_distinct};
 ghost use Rattle.pg_schema.specs.Sound.{are_placed, IsSound, keep_rules};
 
+use crate::declared_names::declared_names;
 use crate::enum_rules::are_enums;
 use crate::file_rules::{are_files, are_services};
 use crate::message_rules::are_message_types;
 use crate::parts::Parts;
 use crate::scopes::{are_declared_once, are_file_scopes, are_type_scopes};
+use crate::text_sets::set_of;
 use std::alloc::{AllocError, Global};
 
 /// The most message types that a schema may have.
@@ -40,6 +45,16 @@ fn are_placed(alloc: Global, parts: &Parts) -> Result<bool, AllocError>
     are_declared_once(alloc, &parts.files, &parts.types, enums, parts.services.len())
 }
 
+/// No full name is declared twice, in whichever files.
+fn are_named_apart(alloc: Global, parts: &Parts) -> Result<bool, AllocError>
+    requires { list_all have_words parts.now.types.items ≡ true }
+    ensures { IfOk result (λ b. b ≡ are_distinct (declared_names parts.now)) }
+{
+    let names = declared_names(alloc, parts)?;
+    let set = set_of(alloc, &names)?;
+    Ok(set.is_some())
+}
+
 /// The parts keep to all rules of what a schema declares.
 pub(crate) fn is_sound(alloc: Global, parts: &Parts) -> Result<bool, AllocError>
     ensures { IfOk result (λ b. IsTrue b ↔ IsSound parts.now) }
@@ -47,5 +62,8 @@ pub(crate) fn is_sound(alloc: Global, parts: &Parts) -> Result<bool, AllocError>
     if parts.types.len() > MOST_TYPES || !keep_rules(alloc, parts)? {
         return Ok(false);
     }
-    are_placed(alloc, parts)
+    if !are_placed(alloc, parts)? {
+        return Ok(false);
+    }
+    are_named_apart(alloc, parts)
 }
