@@ -49,11 +49,17 @@ fn message_type(
 
 // The parts of a file `package p;` with these message types and nothing else.
 fn parts(alloc: Global, types: Vec<MessageType>) -> Result<Parts, AllocError> {
+    let mut ids = Vec::new(alloc);
+    for index in 0..types.len() {
+        ids.push(TypeId {
+            index: index as u32,
+        })?;
+    }
     let file = File {
         name: String::from_str(alloc, "m.proto")?,
         package: String::from_str(alloc, "p")?,
         imports: Vec::new(alloc),
-        types: Vec::new(alloc),
+        types: ids,
         enums: Vec::new(alloc),
         services: Vec::new(alloc),
         options: Vec::new(alloc),
@@ -119,7 +125,8 @@ fn are_refused(alloc: Global, parts: Parts) -> Result<bool, AllocError> {
 
 // Whether a message of one such field is refused for its invariant.
 fn is_refused(alloc: Global, field: Field) -> Result<bool, AllocError> {
-    let types = vec![in alloc; message_type(alloc, "M", vec![in alloc; field]?, Vec::new(alloc))?]?;
+    let declared = vec![in alloc; field.number]?;
+    let types = vec![in alloc; message_type(alloc, "p.M", vec![in alloc; field]?, declared)?]?;
     are_refused(alloc, parts(alloc, types)?)
 }
 
@@ -275,7 +282,8 @@ fn refused_parts_come_back(rt: HostRuntime) -> Result<(), Fail> {
         scalar_field(alloc, 2, "a", Scalar::Int32)?,
         scalar_field(alloc, 1, "b", Scalar::Int32)?,
     ]?;
-    let types = vec![in alloc; message_type(alloc, "M", falling, Vec::new(alloc))?]?;
+    let declared = vec![in alloc; 2, 1]?;
+    let types = vec![in alloc; message_type(alloc, "p.M", falling, declared)?]?;
     let Err((error, _)) = Schema::from_parts(alloc, parts(alloc, types)?) else {
         panic!(rt; "taken");
     };
