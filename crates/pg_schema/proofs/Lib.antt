@@ -8,3 +8,4 @@ pub mod MessageLemmas
 pub mod TextSetLemmas
 pub mod SoundShapes
 pub mod NameWords
+pub mod PackageLemmas
