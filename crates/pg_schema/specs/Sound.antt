@@ -7,6 +7,7 @@ use Rattle.pg_schema.specs.DeclaredNames.{declared_names}
 use Rattle.pg_schema.specs.EnumRules.{is_enum}
 use Rattle.pg_schema.specs.FileRules.{is_file, is_service}
 use Rattle.pg_schema.specs.MessageRules.{is_message_type}
+use Rattle.pg_schema.specs.PackageNames.{are_free_of}
 use Rattle.pg_schema.specs.Pairs.{are_distinct}
 use Rattle.pg_schema.specs.Scopes.{are_declared_once, is_file_scope, is_type_scope}
 
@@ -23,6 +24,10 @@ are_placed parts =
     && list_all (is_file_scope parts.types.items parts.enums.items parts.services.items) parts.files.items
     && list_all (is_type_scope parts.types.items parts.enums.items) parts.types.items
 
+-- each full name once in all files, also those that don't see each other, and no part of a package among them
+abbrev pub are_named_apart : Parts → Bool
+are_named_apart parts = are_distinct (declared_names parts) && are_free_of (declared_names parts) parts.files.items
+
 pub record IsSound (parts : Parts) : Type 0 where
   pub few_types : length parts.types.items ≤ 4096
   pub files : list_all is_file parts.files.items ≡ true
@@ -32,5 +37,5 @@ pub record IsSound (parts : Parts) : Type 0 where
   pub declared_once : are_declared_once parts.files.items parts.types.items (length parts.enums.items) (length parts.services.items) ≡ true
   pub file_scopes : list_all (is_file_scope parts.types.items parts.enums.items parts.services.items) parts.files.items ≡ true
   pub type_scopes : list_all (is_type_scope parts.types.items parts.enums.items) parts.types.items ≡ true
-  -- in all files, also those that don't see each other
   pub names : are_distinct (declared_names parts) ≡ true
+  pub packages : are_free_of (declared_names parts) parts.files.items ≡ true

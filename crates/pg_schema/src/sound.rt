@@ -2,14 +2,15 @@
 
 ghost use Rattle.std.specs.Prelude.{◌≡◌, ◌↔◌, IfOk, IsTrue, true};
 ghost use Rattle.std.specs.List.{list_all};
-ghost use Rattle.pg_schema.specs.DeclaredNames.{declared_names, have_words};
-ghost use Rattle.pg_schema.specs.Pairs.{are_distinct};
-ghost use Rattle.pg_schema.specs.Sound.{are_placed, IsSound, keep_rules};
+ghost use Rattle.pg_schema.specs.DeclaredNames.{have_words};
+ghost use Rattle.pg_schema.specs.FileRules.{is_file};
+ghost use Rattle.pg_schema.specs.Sound.{are_named_apart, are_placed, IsSound, keep_rules};
 
 use crate::declared_names::declared_names;
 use crate::enum_rules::are_enums;
 use crate::file_rules::{are_files, are_services};
 use crate::message_rules::are_message_types;
+use crate::packages::are_free;
 use crate::parts::Parts;
 use crate::scopes::{are_declared_once, are_file_scopes, are_type_scopes};
 use crate::text_sets::set_of;
@@ -45,14 +46,17 @@ fn are_placed(alloc: Global, parts: &Parts) -> Result<bool, AllocError>
     are_declared_once(alloc, &parts.files, &parts.types, enums, parts.services.len())
 }
 
-/// No full name is declared twice, in whichever files.
+/// No full name is declared twice, in whichever files, and none is a part of a package.
 fn are_named_apart(alloc: Global, parts: &Parts) -> Result<bool, AllocError>
-    requires { list_all have_words parts.now.types.items ≡ true }
-    ensures { IfOk result (λ b. b ≡ are_distinct (declared_names parts.now)) }
+    requires words { list_all have_words parts.now.types.items ≡ true }
+    requires files { list_all is_file parts.now.files.items ≡ true }
+    ensures { IfOk result (λ b. b ≡ are_named_apart parts.now) }
 {
     let names = declared_names(alloc, parts)?;
-    let set = set_of(alloc, &names)?;
-    Ok(set.is_some())
+    match set_of(alloc, &names)? {
+        Some(set) => are_free(alloc, &set, &parts.files),
+        None => Ok(false),
+    }
 }
 
 /// The parts keep to all rules of what a schema declares.
