@@ -60,8 +60,8 @@ neighbours_from_pairs al [] whole up h = refl
 neighbours_from_pairs al (x ∷ []) whole up h = refl
 neighbours_from_pairs al (x ∷ y ∷ ys) whole up h =
     and_both _ _
-      (fits_before al x y (and_left _ _ whole) (and_left (is_whole y) _ (and_right (is_whole x) _ whole)) (up 0 1 x (omega arith) (omega arith)) (and_left (fits al x y) _ (and_left (list_all (fits al x) (y ∷ ys)) _ h)))
-      (neighbours_from_pairs al (y ∷ ys) (and_right (is_whole x) _ whole) (λ i j d le lt. up (suc i) (suc j) d (omega (arith, le)) (omega (arith, lt))) (and_right (list_all (fits al x) (y ∷ ys)) _ h))
+    (fits_before al x y (and_left _ _ whole) (and_left (is_whole y) _ (and_right (is_whole x) _ whole)) (up 0 1 x (omega arith) (omega arith)) (and_left (fits al x y) _ (and_left (list_all (fits al x) (y ∷ ys)) _ h)))
+    (neighbours_from_pairs al (y ∷ ys) (and_right (is_whole x) _ whole) (λ i j d le lt. up (suc i) (suc j) d (omega (arith, le)) (omega (arith, lt))) (and_right (list_all (fits al x) (y ∷ ys)) _ h))
 
 -- the test holds of each two places
 abbrev EachTwo : (Use → Use → Bool) → List Use → Type 0
@@ -133,8 +133,8 @@ pub used_once_is : (al : Bool) (xs ys : List Use) → list_all is_whole xs ≡ t
 used_once_is al xs ys whole moved up =
     let whole_ys = whole_moved xs ys moved whole in
     same_tests (all_neighbours (comes_before al) ys) (is_used_once al xs)
-      (λ h. pairs_moved al ys xs (IsPermutation-sym xs ys moved) (pairs_fit al ys (pairs_from_neighbours al ys whole_ys h)))
-      (λ h. neighbours_from_pairs al ys whole_ys up (pairs_moved al xs ys moved h))
+    (λ h. pairs_moved al ys xs (IsPermutation-sym xs ys moved) (pairs_fit al ys (pairs_from_neighbours al ys whole_ys h)))
+    (λ h. neighbours_from_pairs al ys whole_ys up (pairs_moved al xs ys moved h))
 
 all_of_append : (test : Use → Bool) (xs ys : List Use) → list_all test xs ≡ true → list_all test ys ≡ true → list_all test (xs ++ ys) ≡ true
 all_of_append test [] ys h k = k

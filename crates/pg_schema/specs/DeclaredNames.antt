@@ -50,7 +50,7 @@ method_names methods = map (λ (m : Method). string_bytes m.name) methods
 abbrev pub type_names : List EnumType → MessageType → List (List ℕ)
 type_names enums t =
     string_bytes t.name ∷ map (within (string_bytes t.name))
-      (field_names t.fields.items ++ map string_bytes t.oneofs.items ++ entry_names t.fields.items ++ values_at enums t.nested_enums.items)
+    (field_names t.fields.items ++ map string_bytes t.oneofs.items ++ entry_names t.fields.items ++ values_at enums t.nested_enums.items)
 
 abbrev pub service_names : Service → List (List ℕ)
 service_names s = string_bytes s.name ∷ map (within (string_bytes s.name)) (method_names s.methods.items)

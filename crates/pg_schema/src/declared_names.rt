@@ -12,8 +12,8 @@ ghost use Rattle.pg_schema.specs.Words.{is_word_byte};
 
 use crate::enum_type::{EnumType, EnumValue};
 use crate::field::{EnumId, Field, Presence};
-use crate::message_type::MessageType;
 use crate::file::File;
+use crate::message_type::MessageType;
 use crate::parts::Parts;
 use crate::service::{Method, Service};
 use std::alloc::{AllocError, Global};

@@ -52,7 +52,8 @@ fn are_methods(methods: &[Method], types: usize) -> bool
     ensures { result ≡ list_all (is_method types) methods.now }
 {
     for method in methods {
-        let is_known = (method.input.index as usize) < types && (method.output.index as usize) < types;
+        let is_known = (method.input.index as usize) < types
+            && (method.output.index as usize) < types;
         if !is_word(method.name.as_bytes()) || !is_known {
             return false;
         }

@@ -27,7 +27,12 @@ fn is_field(field: &Field, oneofs: usize, types: usize, enums: usize) -> bool
 {
     is_field_number(field.number)
         && is_word(field.name.as_bytes())
-        && has_presence(field.presence, field.element, field.oneof.is_some(), field.states_optional)
+        && has_presence(
+            field.presence,
+            field.element,
+            field.oneof.is_some(),
+            field.states_optional,
+        )
         && is_packed(field.presence, field.element, field.options.packed)
         && is_known(types, enums, field.element)
         && is_oneof(oneofs, field.oneof)
@@ -111,7 +116,11 @@ fn are_set(flags: &[bool]) -> bool
 }
 
 /// Each oneof has a member.
-pub(crate) fn have_members(alloc: Global, fields: &[Field], oneofs: usize) -> Result<bool, AllocError>
+pub(crate) fn have_members(
+    alloc: Global,
+    fields: &[Field],
+    oneofs: usize,
+) -> Result<bool, AllocError>
     ensures { IfOk result (λ b. b ≡ have_members oneofs fields.now) }
 {
     let marks = members(alloc, fields, oneofs)?;

@@ -44,7 +44,15 @@ fn fields(alloc: Global) -> Result<Vec<Field>, AllocError> {
     let message = Element::Message(TypeId { index: 0 });
     let color = Element::Enum(EnumId { index: 0 });
     let mut fields = Vec::new(alloc);
-    push_field(alloc, &mut fields, 1, "x", Presence::Explicit, int32, Some(0))?;
+    push_field(
+        alloc,
+        &mut fields,
+        1,
+        "x",
+        Presence::Explicit,
+        int32,
+        Some(0),
+    )?;
     push_field(alloc, &mut fields, 3, "r", list, int32, None)?;
     push_field(alloc, &mut fields, 4, "m_n", map, message, None)?;
     push_field(alloc, &mut fields, 5, "c", Presence::Explicit, color, None)?;
@@ -153,9 +161,20 @@ fn parts(
 fn is_taken(alloc: Global, number: u32, name: &str, packed: bool) -> Result<bool, AllocError> {
     let mut all = fields(alloc)?;
     let presence = Presence::Repeated { packed };
-    push_field(alloc, &mut all, number, name, presence, Element::Scalar(Scalar::Bytes), None)?;
+    push_field(
+        alloc,
+        &mut all,
+        number,
+        name,
+        presence,
+        Element::Scalar(Scalar::Bytes),
+        None,
+    )?;
     let outer = outer_type(alloc, all, ReservedFields { first: 7, last: 9 })?;
-    is_sound(alloc, &parts(alloc, "p.q", outer, color(alloc, 0, 0, true)?)?)
+    is_sound(
+        alloc,
+        &parts(alloc, "p.q", outer, color(alloc, 0, 0, true)?)?,
+    )
 }
 
 #[test]
@@ -218,7 +237,12 @@ fn values_of_enums(rt: HostRuntime) -> Result<(), Fail> {
 #[test]
 fn packages(rt: HostRuntime) -> Result<(), Fail> {
     let alloc = rt.alloc();
-    for (name, taken) in [("p.q", true), ("p", false), ("p.q.r", false), ("p..q", false)] {
+    for (name, taken) in [
+        ("p.q", true),
+        ("p", false),
+        ("p.q.r", false),
+        ("p..q", false),
+    ] {
         let outer = outer_type(alloc, fields(alloc)?, ReservedFields { first: 7, last: 9 })?;
         let all = parts(alloc, name, outer, color(alloc, 0, 1, false)?)?;
         assert_eq!(rt; is_sound(alloc, &all)?, taken);

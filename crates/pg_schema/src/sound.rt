@@ -43,7 +43,13 @@ fn are_placed(alloc: Global, parts: &Parts) -> Result<bool, AllocError>
         return Ok(false);
     }
     let enums = parts.enums.len();
-    are_declared_once(alloc, &parts.files, &parts.types, enums, parts.services.len())
+    are_declared_once(
+        alloc,
+        &parts.files,
+        &parts.types,
+        enums,
+        parts.services.len(),
+    )
 }
 
 /// No full name is declared twice, in whichever files, and none is a part of a package.

@@ -47,29 +47,37 @@ fn message_type(
     })
 }
 
-// The parts of a file `package p;` with these message types and nothing else.
-fn parts(alloc: Global, types: Vec<MessageType>) -> Result<Parts, AllocError> {
-    let mut ids = Vec::new(alloc);
-    for index in 0..types.len() {
-        ids.push(TypeId {
-            index: index as u32,
-        })?;
-    }
-    let file = File {
+// A file `package p;` with nothing else.
+fn file(alloc: Global) -> Result<File, AllocError> {
+    Ok(File {
         name: String::from_str(alloc, "m.proto")?,
         package: String::from_str(alloc, "p")?,
         imports: Vec::new(alloc),
-        types: ids,
+        types: Vec::new(alloc),
         enums: Vec::new(alloc),
         services: Vec::new(alloc),
         options: Vec::new(alloc),
-    };
+    })
+}
+
+fn parts_of(alloc: Global, file: File, types: Vec<MessageType>) -> Result<Parts, AllocError> {
     Ok(Parts {
         files: vec![in alloc; file]?,
         types,
         enums: Vec::new(alloc),
         services: Vec::new(alloc),
     })
+}
+
+// The parts of that file, which declares all the message types.
+fn parts(alloc: Global, types: Vec<MessageType>) -> Result<Parts, AllocError> {
+    let mut file = file(alloc)?;
+    for index in 0..types.len() {
+        file.types.push(TypeId {
+            index: index as u32,
+        })?;
+    }
+    parts_of(alloc, file, types)
 }
 
 // `message M { string b = 16; int32 a = 1; }` and `message N { }`, in package p.
@@ -86,30 +94,54 @@ fn two_types(alloc: Global) -> Result<Parts, AllocError> {
     parts(alloc, types)
 }
 
+fn schema(alloc: Global) -> Result<Schema, Fail> {
+    let schema = Schema::from_parts(alloc, two_types(alloc)?);
+    Ok(schema.ok().ok_or("refused")?)
+}
+
 #[test]
-fn look_ups(rt: HostRuntime) -> Result<(), Fail> {
+fn types_by_name(rt: HostRuntime) -> Result<(), Fail> {
     let alloc = rt.alloc();
-    let Ok(schema) = Schema::from_parts(alloc, two_types(alloc)?) else {
-        panic!(rt; "refused");
-    };
-    assert_eq!(rt; schema.parts(), &two_types(alloc)?);
-    let m = schema.message("p.M").ok_or("no p.M")?;
-    assert_eq!(rt; m, TypeId { index: 1 });
+    let schema = schema(alloc)?;
+    assert_eq!(rt; schema.message("p.M"), Some(TypeId { index: 1 }));
     assert_eq!(rt; schema.message("p.N"), Some(TypeId { index: 0 }));
-    for name in ["", ".p.M", "p", "M", "p.O", "p.Color"] {
+    for name in ["", ".p.M", "p", "M", "p.O"] {
         assert_eq!(rt; schema.message(name), None);
     }
-    assert!(rt; schema.has(m));
+    Ok(())
+}
+
+#[test]
+fn types_by_place(rt: HostRuntime) -> Result<(), Fail> {
+    let alloc = rt.alloc();
+    let schema = schema(alloc)?;
+    assert!(rt; schema.has(TypeId { index: 1 }));
     assert!(rt; !schema.has(TypeId { index: 2 }));
-    let found = schema.message_type(m).ok_or("no type")?;
+    let found = schema.message_type(TypeId { index: 1 }).ok_or("no type")?;
     assert_eq!(rt; found.name.as_str(), "p.M");
     assert!(rt; schema.message_type(TypeId { index: 2 }).is_none());
+    Ok(())
+}
+
+#[test]
+fn fields_by_number(rt: HostRuntime) -> Result<(), Fail> {
+    let alloc = rt.alloc();
+    let schema = schema(alloc)?;
+    let m = TypeId { index: 1 };
     let field = schema.field(m, 16).ok_or("no field")?;
     assert_eq!(rt; field.name.as_str(), "b");
     let field = schema.field(m, 1).ok_or("no field")?;
     assert_eq!(rt; field.name.as_str(), "a");
     assert!(rt; schema.field(m, 2).is_none());
     assert!(rt; schema.field(TypeId { index: 0 }, 1).is_none());
+    Ok(())
+}
+
+#[test]
+fn parts_and_enums(rt: HostRuntime) -> Result<(), Fail> {
+    let alloc = rt.alloc();
+    let schema = schema(alloc)?;
+    assert_eq!(rt; schema.parts(), &two_types(alloc)?);
     assert!(rt; schema.enum_type(EnumId { index: 0 }).is_none());
     Ok(())
 }
@@ -230,39 +262,43 @@ fn enums_and_services(rt: HostRuntime) -> Result<(), Fail> {
 #[test]
 fn files_with_more(rt: HostRuntime) -> Result<(), Fail> {
     let alloc = rt.alloc();
-    let mut with_import = two_types(alloc)?;
-    with_import.files[0].imports.push(Import {
+    let mut with_import = file(alloc)?;
+    with_import.imports.push(Import {
         path: String::from_str(alloc, "n.proto")?,
         is_public: true,
     })?;
-    assert!(rt; are_refused(alloc, with_import)?);
-    let mut with_option = two_types(alloc)?;
-    with_option.files[0].options.push(FileOption {
+    assert!(rt; are_refused(alloc, parts_of(alloc, with_import, Vec::new(alloc))?)?);
+    let mut with_option = file(alloc)?;
+    with_option.options.push(FileOption {
         number: 9,
         value: OptionValue::Mode(OptimizeMode::CodeSize),
     })?;
-    assert!(rt; are_refused(alloc, with_option)?);
+    assert!(rt; are_refused(alloc, parts_of(alloc, with_option, Vec::new(alloc))?)?);
     Ok(())
+}
+
+// Whether the message type, alone in its file, is refused for the invariant.
+fn is_type_refused(alloc: Global, message_type: MessageType) -> Result<bool, AllocError> {
+    are_refused(alloc, parts(alloc, vec![in alloc; message_type]?)?)
 }
 
 #[test]
 fn types_with_more(rt: HostRuntime) -> Result<(), Fail> {
     let alloc = rt.alloc();
-    let mut with_oneof = two_types(alloc)?;
-    let oneof = String::from_str(alloc, "k")?;
-    with_oneof.types[1].oneofs.push(oneof)?;
-    assert!(rt; are_refused(alloc, with_oneof)?);
-    let mut with_nested = two_types(alloc)?;
-    with_nested.types[1].nested_types.push(TypeId { index: 0 })?;
-    assert!(rt; are_refused(alloc, with_nested)?);
-    let mut with_reserved = two_types(alloc)?;
-    with_reserved.types[1]
+    let mut with_oneof = message_type(alloc, "p.M", Vec::new(alloc), Vec::new(alloc))?;
+    with_oneof.oneofs.push(String::from_str(alloc, "k")?)?;
+    assert!(rt; is_type_refused(alloc, with_oneof)?);
+    let mut with_nested = message_type(alloc, "p.M", Vec::new(alloc), Vec::new(alloc))?;
+    with_nested.nested_types.push(TypeId { index: 0 })?;
+    assert!(rt; is_type_refused(alloc, with_nested)?);
+    let mut with_reserved = message_type(alloc, "p.M", Vec::new(alloc), Vec::new(alloc))?;
+    with_reserved
         .reserved_numbers
         .push(ReservedFields { first: 2, last: 3 })?;
-    assert!(rt; are_refused(alloc, with_reserved)?);
-    let mut deprecated = two_types(alloc)?;
-    deprecated.types[1].options.deprecated = Some(false);
-    assert!(rt; are_refused(alloc, deprecated)?);
+    assert!(rt; is_type_refused(alloc, with_reserved)?);
+    let mut deprecated = message_type(alloc, "p.M", Vec::new(alloc), Vec::new(alloc))?;
+    deprecated.options.deprecated = Some(false);
+    assert!(rt; is_type_refused(alloc, deprecated)?);
     Ok(())
 }
 
@@ -282,8 +318,7 @@ fn refused_parts_come_back(rt: HostRuntime) -> Result<(), Fail> {
         scalar_field(alloc, 2, "a", Scalar::Int32)?,
         scalar_field(alloc, 1, "b", Scalar::Int32)?,
     ]?;
-    let declared = vec![in alloc; 2, 1]?;
-    let types = vec![in alloc; message_type(alloc, "p.M", falling, declared)?]?;
+    let types = vec![in alloc; message_type(alloc, "p.M", falling, vec![in alloc; 2, 1]?)?]?;
     let Err((error, _)) = Schema::from_parts(alloc, parts(alloc, types)?) else {
         panic!(rt; "taken");
     };

@@ -11,7 +11,10 @@ use std::alloc::{AllocError, Global};
 use std::collections::BTreeSet;
 
 /// The set of these texts. `None` where one stands twice.
-pub(crate) fn set_of(alloc: Global, texts: &[String]) -> Result<Option<BTreeSet<String>>, AllocError>
+pub(crate) fn set_of(
+    alloc: Global,
+    texts: &[String],
+) -> Result<Option<BTreeSet<String>>, AllocError>
     ensures distinct { IfOk result (λ set. is_some set ≡ are_distinct (map string_bytes texts.now)) }
     ensures held { IfOk result (λ found. IfSome found (IsSetOf (map string_bytes texts.now))) }
 {

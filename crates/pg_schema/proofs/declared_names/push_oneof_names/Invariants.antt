@@ -1,7 +1,6 @@
 use Rattle.std.proofs.Common.{◌≡◌, ◌++◌, take, map}
 use Rattle.std.specs.String.{string_bytes}
 use Rattle.pg_schema.specs.DeclaredNames.{within}
-
 use Rattle.pg_schema.proofs.declared_names.push_oneof_names.Given as goal
 
 abbrev pub invariant-loop-oneof : goal.invariant-loop-oneof

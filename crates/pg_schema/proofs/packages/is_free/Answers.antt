@@ -13,7 +13,7 @@ returns-then-ends_part c =
     let both = sym c.ends_part.ensures ∙ c.if-ends_part.true in
     let dot = dot_and_held byte (contains_text c.args.set.now c.deref.result.now) both in
     part_held i byte c.args.set.now c.args.path.now front c.loop-byte-test.true refl c.loop-byte.invariant.written dot.0
-        (ap (contains_text c.args.set.now) (sym c.deref.ensures) ∙ dot.1)
+    (ap (contains_text c.args.set.now) (sym c.deref.ensures) ∙ dot.1)
 
 pub loop-byte-preserved : goal.loop-byte-preserved
 loop-byte-preserved c =

@@ -12,7 +12,7 @@ returns-then-not-is_new-clause-distinct c =
     let done = map string_bytes (take c.loop-text.text-index c.args.texts.now) in
     let old : not (is_among done key) ≡ false = ap not (sym (c.loop-text.invariant.held key)) ∙ (sym c.in_ok-is_new.ensures.added ∙ c.if-not-is_new.true) in
     sym (subst (λ ts. are_distinct ts ≡ false) (texts_whole c.args.texts.now c.loop-text.text-index c.text-item.result key c.loop-text-test.true c.text-item.is c.in_ok-clone.ensures.cases)
-        (twice done (map string_bytes (drop (c.loop-text.text-index + 1) c.args.texts.now)) key old))
+    (twice done (map string_bytes (drop (c.loop-text.text-index + 1) c.args.texts.now)) key old))
 
 pub loop-text-preserved : goal.loop-text-preserved
 loop-text-preserved c =

@@ -11,4 +11,4 @@ returns c =
     let sorted = c.sort_unstable_by_key.new.self.items in
     c.are_in_order.ensures ∙ (ap (all_neighbours (comes_before c.args.aliases)) c.deref.ensures.value
     ∙ used_once_is c.args.aliases c.args.uses.items sorted c.requires c.sort_unstable_by_key.ensures.permutation
-        (IsNonDecreasingBy-from_sort_by_key (λ (u : Use). u.first) sorted c.sort_unstable_by_key.ensures.sorted (λ a r q k. search rules)))
+    (IsNonDecreasingBy-from_sort_by_key (λ (u : Use). u.first) sorted c.sort_unstable_by_key.ensures.sorted (λ a r q k. search rules)))
