@@ -69,13 +69,13 @@ fn parts_of(alloc: Global, file: File, types: Vec<MessageType>) -> Result<Parts,
     })
 }
 
-// The parts of that file, which declares all the message types.
+// The parts of that file, which declares the message types: two at most.
 fn parts(alloc: Global, types: Vec<MessageType>) -> Result<Parts, AllocError> {
     let mut file = file(alloc)?;
-    for index in 0..types.len() {
-        file.types.push(TypeId {
-            index: index as u32,
-        })?;
+    for index in 0..2 {
+        if (index as usize) < types.len() {
+            file.types.push(TypeId { index })?;
+        }
     }
     parts_of(alloc, file, types)
 }
