@@ -3,7 +3,8 @@ use crate::runs::file_of;
 use pg_gate::{Answer, GateError, gate, gate_files};
 use pg_link::Listed;
 use pg_schema::{
-    Element, Field, FieldOptions, MessageOptions, MessageType, Parts, Presence, Scalar, Schema,
+    Element, Field, FieldOptions, File, MessageOptions, MessageType, Parts, Presence, Scalar, Schema,
+    TypeId,
 };
 use std::alloc::{AllocError, Global};
 use std::process::Abort;
@@ -35,8 +36,17 @@ fn parts_of(alloc: Global, scalar: Scalar) -> Result<Parts, AllocError> {
         reserved_names: Vec::new(alloc),
         options: MessageOptions { deprecated: None },
     };
+    let file = File {
+        name: String::from_str(alloc, "m.proto")?,
+        package: String::new(alloc),
+        imports: Vec::new(alloc),
+        types: vec![in alloc; TypeId { index: 0 }]?,
+        enums: Vec::new(alloc),
+        services: Vec::new(alloc),
+        options: Vec::new(alloc),
+    };
     Ok(Parts {
-        files: Vec::new(alloc),
+        files: vec![in alloc; file]?,
         types: vec![in alloc; message_type]?,
         enums: Vec::new(alloc),
         services: Vec::new(alloc),

@@ -1,6 +1,11 @@
-pub mod NumberRows
-pub mod NumberTypes
-pub mod FlatSchemas
 pub mod NameTables
 pub mod FieldSearch
 pub mod TypeSearch
+pub mod PairLemmas
+pub mod WordLemmas
+pub mod UseLemmas
+pub mod MessageLemmas
+pub mod TextSetLemmas
+pub mod SoundShapes
+pub mod NameWords
+pub mod PackageLemmas

@@ -9,8 +9,10 @@ use Rattle.pg_schema.specs.declared.field.Field.{Field}
 use Rattle.pg_schema.specs.declared.message_type.MessageType.{MessageType}
 use Rattle.pg_schema.specs.Parts.{field_shape}
 use Rattle.pg_schema.specs.Shape.{FieldShape, IsType, IsShape, Rising, field_at}
-use Rattle.pg_schema.proofs.FlatSchemas.{shape_in}
 use Rattle.pg_schema.proofs.FieldSearch.{has_number, shape_found}
+
+abbrev pub shape_in : MessageType → List FieldShape
+shape_in t = map field_shape t.fields.items
 
 pub fields_at : (types : List MessageType) (i : ℕ) (t : MessageType) → slice_get types i ≡ Some t → get_or (map shape_in types) i [] ≡ shape_in t
 fields_at [] i t is = absurd (none-some t is)

@@ -69,8 +69,15 @@ fn parts_of(alloc: Global, file: File, types: Vec<MessageType>) -> Result<Parts,
     })
 }
 
+// The parts of that file, which declares the message types: two at most.
 fn parts(alloc: Global, types: Vec<MessageType>) -> Result<Parts, AllocError> {
-    parts_of(alloc, file(alloc)?, types)
+    let mut file = file(alloc)?;
+    for index in 0..2 {
+        if (index as usize) < types.len() {
+            file.types.push(TypeId { index })?;
+        }
+    }
+    parts_of(alloc, file, types)
 }
 
 // `message M { string b = 16; int32 a = 1; }` and `message N { }`, in package p.
@@ -150,7 +157,8 @@ fn are_refused(alloc: Global, parts: Parts) -> Result<bool, AllocError> {
 
 // Whether a message of one such field is refused for its invariant.
 fn is_refused(alloc: Global, field: Field) -> Result<bool, AllocError> {
-    let types = vec![in alloc; message_type(alloc, "M", vec![in alloc; field]?, Vec::new(alloc))?]?;
+    let declared = vec![in alloc; field.number]?;
+    let types = vec![in alloc; message_type(alloc, "p.M", vec![in alloc; field]?, declared)?]?;
     are_refused(alloc, parts(alloc, types)?)
 }
 
@@ -277,18 +285,18 @@ fn is_type_refused(alloc: Global, message_type: MessageType) -> Result<bool, All
 #[test]
 fn types_with_more(rt: HostRuntime) -> Result<(), Fail> {
     let alloc = rt.alloc();
-    let mut with_oneof = message_type(alloc, "M", Vec::new(alloc), Vec::new(alloc))?;
+    let mut with_oneof = message_type(alloc, "p.M", Vec::new(alloc), Vec::new(alloc))?;
     with_oneof.oneofs.push(String::from_str(alloc, "k")?)?;
     assert!(rt; is_type_refused(alloc, with_oneof)?);
-    let mut with_nested = message_type(alloc, "M", Vec::new(alloc), Vec::new(alloc))?;
+    let mut with_nested = message_type(alloc, "p.M", Vec::new(alloc), Vec::new(alloc))?;
     with_nested.nested_types.push(TypeId { index: 0 })?;
     assert!(rt; is_type_refused(alloc, with_nested)?);
-    let mut with_reserved = message_type(alloc, "M", Vec::new(alloc), Vec::new(alloc))?;
+    let mut with_reserved = message_type(alloc, "p.M", Vec::new(alloc), Vec::new(alloc))?;
     with_reserved
         .reserved_numbers
         .push(ReservedFields { first: 2, last: 3 })?;
     assert!(rt; is_type_refused(alloc, with_reserved)?);
-    let mut deprecated = message_type(alloc, "M", Vec::new(alloc), Vec::new(alloc))?;
+    let mut deprecated = message_type(alloc, "p.M", Vec::new(alloc), Vec::new(alloc))?;
     deprecated.options.deprecated = Some(false);
     assert!(rt; is_type_refused(alloc, deprecated)?);
     Ok(())
@@ -310,7 +318,7 @@ fn refused_parts_come_back(rt: HostRuntime) -> Result<(), Fail> {
         scalar_field(alloc, 2, "a", Scalar::Int32)?,
         scalar_field(alloc, 1, "b", Scalar::Int32)?,
     ]?;
-    let types = vec![in alloc; message_type(alloc, "M", falling, Vec::new(alloc))?]?;
+    let types = vec![in alloc; message_type(alloc, "p.M", falling, vec![in alloc; 2, 1]?)?]?;
     let Err((error, _)) = Schema::from_parts(alloc, parts(alloc, types)?) else {
         panic!(rt; "taken");
     };

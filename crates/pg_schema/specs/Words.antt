@@ -1,0 +1,43 @@
+-- Words and packages (proto3 language specification, "Identifiers", "Package"; that a word may begin with `_` is this
+-- profile's choice). Texts are lists of bytes.
+use Rattle.std.specs.Prelude.{ℕ, Bool, true, false, not, nat_le, nat_lt, ◌&&◌, ◌||◌, ◌==◌, List, [], ◌∷◌, if◌then◌else◌}
+use Rattle.std.specs.List.{list_all}
+
+-- `A` to `Z`, `a` to `z`, `_`
+abbrev pub is_letter : ℕ → Bool
+is_letter byte = (nat_le 65 byte && nat_le byte 90) || (nat_le 97 byte && nat_le byte 122) || byte == 95
+
+-- `0` to `9`
+abbrev pub is_digit : ℕ → Bool
+is_digit byte = nat_le 48 byte && nat_le byte 57
+
+-- what may stand behind the first letter
+abbrev pub is_word_byte : ℕ → Bool
+is_word_byte byte = is_letter byte || is_digit byte
+
+-- a letter, then letters and digits
+abbrev pub is_word : List ℕ → Bool
+is_word [] = false
+is_word (first ∷ others) = is_letter first && list_all is_word_byte others
+
+abbrev pub before_first : ℕ → List (List ℕ) → List (List ℕ)
+before_first byte [] = (byte ∷ []) ∷ []
+before_first byte (part ∷ parts) = (byte ∷ part) ∷ parts
+
+-- what stands between the dots of a text
+abbrev pub parts_at_dots : List ℕ → List (List ℕ)
+parts_at_dots [] = [] ∷ []
+parts_at_dots (byte ∷ bytes) = if byte == 46 then [] ∷ parts_at_dots bytes else before_first byte (parts_at_dots bytes)
+
+-- empty, or words with one dot between
+abbrev pub is_package : List ℕ → Bool
+is_package [] = true
+is_package (byte ∷ bytes) = list_all is_word (parts_at_dots (byte ∷ bytes))
+
+-- a dot ends a word; a word begins with a letter and goes on with letters and digits
+abbrev pub may_stand : (begins : Bool) → ℕ → Bool
+may_stand begins byte = if byte == 46 then not begins else (if begins then is_letter byte else is_word_byte byte)
+
+-- a byte that is a character by itself
+abbrev pub is_ascii : ℕ → Bool
+is_ascii byte = nat_lt byte 128

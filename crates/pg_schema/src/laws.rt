@@ -1,0 +1,8 @@
+//! Laws over the definitions alone.
+
+ghost use Rattle.pg_schema.specs.Examples.{WorkedRules};
+
+/// What the rules of a schema take and what they refuse, by small examples.
+pub fn worked_rules()
+    ensures { WorkedRules }
+{}
