@@ -38,13 +38,11 @@ pub IsFound-at : (pair : Pair) (root : Text) → IsNamed pair.old.now root pair.
     → (o : Option Found) → IfSome o (IsFoundAt pair) → IfSome o (IsFound pair.old.now pair.new.now root)
 IsFound-at pair root old_named new_named None at = tt
 IsFound-at pair root old_named new_named (Some found) at = record {
-  breaking = record {
-    new_root = pair.new_root;
-    old_named = subst (λ (t : TypeId). IsNamed pair.old.now root t) (sym at.type_is) old_named;
-    new_named = new_named;
-    breaks = subst (λ (t : TypeId). Breaks numbers (shape_of pair.old.now) (shape_of pair.new.now) t pair.new_root (message_of found.message)) (sym at.type_is) at.breaks;
-  };
-  bytes_are = at.bytes_are ∙ ap (λ (t : TypeId). enc (shape_of pair.old.now) t (message_of found.message)) (sym at.type_is);
+  new_root = pair.new_root;
+  fits = at.fits;
+  old_named = subst (λ (t : TypeId). IsNamed pair.old.now root t) (sym at.type_is) old_named;
+  new_named = new_named;
+  breaks = subst (λ (t : TypeId). Breaks numbers (shape_of pair.old.now) (shape_of pair.new.now) t pair.new_root (message_of found.message)) (sym at.type_is) at.breaks;
 }
 
 pub memory_is_refused : (old new : Parts) (root : Text) (error : GateError) → error ≡ errors.Memory → IsRefusedRoot old new root error

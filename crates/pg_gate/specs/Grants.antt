@@ -63,16 +63,24 @@ IsGateError old new old_files new_files (errors.Compile sides.Old fault) = IsSid
 IsGateError old new old_files new_files (errors.Compile sides.New fault) = IsSideFault new new_files fault
 IsGateError old new old_files new_files errors.WriteFailed = ⊥
 
--- the message breaks, between some schemas that have the root
-pub record IsWitness (root : Text) (bytes : List ℕ) : Type 0 where
-  pub old : Parts
-  pub new : Parts
+-- the bytes are those of a message that breaks between the schemas
+pub record IsWitness (old new : Parts) (root : Text) (bytes : List ℕ) : Type 0 where
   pub message : Kept
   pub breaks : IsBreaking old new root message
   pub bytes_are : bytes ≡ enc (shape_of old) (type_of message) (message_of message)
 
+abbrev pub IsFindingOf : Parts → Parts → Text → Finding → Type 0
+IsFindingOf old new root (findings.Breaks witness) = IsWitness old new root witness.items
+IsFindingOf old new root findings.Undecided = Unit {0}
+
+-- the same between some schemas that have the root
+pub record IsWitnessOfFiles (root : Text) (bytes : List ℕ) : Type 0 where
+  pub old : Parts
+  pub new : Parts
+  pub is_witness : IsWitness old new root bytes
+
 abbrev pub IsFinding : Text → Finding → Type 0
-IsFinding root (findings.Breaks witness) = IsWitness root witness.items
+IsFinding root (findings.Breaks witness) = IsWitnessOfFiles root witness.items
 IsFinding root findings.Undecided = Unit {0}
 
 -- a refusal that is printed for such an error

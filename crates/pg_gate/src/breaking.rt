@@ -63,5 +63,8 @@ pub fn gate_files<S: Sources, T: Sources>(
 {
     let old_schema = compile(alloc, old, Side::Old, ".", old_roots)?;
     let new_schema = compile(alloc, new, Side::New, ".", new_roots)?;
-    gate(alloc, &old_schema, &new_schema, root)
+    let (Some(old_schema), Some(new_schema)) = (&old_schema, &new_schema) else {
+        return Ok(Answer::Undecided);
+    };
+    gate(alloc, old_schema, new_schema, root)
 }

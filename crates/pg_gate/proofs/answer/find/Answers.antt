@@ -1,12 +1,7 @@
+use Rattle.std.proofs.lemmas.Result.{IfOk-weaker}
+use Rattle.pg_gate.proofs.AnswerLemmas.{finding_of_files}
 use Rattle.pg_gate.proofs.answer.find.Goals as goal
 
-pub returns-in-Some-clause-found : goal.returns-in-Some-clause-found
-returns-in-Some-clause-found g c =
-    let found = rw c.in-Some.is at c.in_ok-found.ensures.found in
-    record {
-      old = c.in_ok-old_schema.old_schema;
-      new = c.in_ok-new_schema.new_schema;
-      message = c.in-Some.found.message;
-      breaks = found.breaking;
-      bytes_are = found.bytes_are;
-    }
+pub returns-clause-found : goal.returns-clause-found
+returns-clause-found g c =
+    IfOk-weaker c.between.result _ _ (λ finding is. finding_of_files c.in-Some-Some.old_schema c.in-Some-Some.new_schema c.args.root.now finding is) c.between.ensures.found
