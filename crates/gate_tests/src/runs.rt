@@ -2,6 +2,8 @@
 use pg_gate::{Buffer, GateError, Sink, run};
 use pg_link::Listed;
 use std::alloc::{AllocError, Global};
+use std::process::Abort;
+use std::test::Fail;
 
 /// The words of a gate on `o.proto` and `n.proto`.
 pub(crate) static WORDS: [&str; 7] = [
@@ -32,4 +34,34 @@ pub(crate) fn run_on<W: Sink>(
         files: &[("n.proto", new)],
     };
     run(alloc, &WORDS, &mut old, &mut new, sink)
+}
+
+/// A text whose second line is this one.
+pub(crate) fn text_of(alloc: Global, line: &str) -> Result<String, AllocError> {
+    format!(in alloc; "syntax = \"proto3\";\n{line}\n")
+}
+
+/// Runs the gate on two texts at `m.proto`, and expects what it prints and its status.
+pub(crate) fn answer_of<R: Abort + AllocGlobal>(
+    rt: &R,
+    old: &[u8],
+    new: &[u8],
+    root: &str,
+    printed: &str,
+    status: u8,
+) -> Result<(), Fail> {
+    let words = [
+        "gate", "--old", "m.proto", "--new", "m.proto", "--type", root,
+    ];
+    let mut old = Listed {
+        files: &[("m.proto", old)],
+    };
+    let mut new = Listed {
+        files: &[("m.proto", new)],
+    };
+    let mut sink = buffer(rt.alloc())?;
+    let ended = run(rt.alloc(), &words, &mut old, &mut new, &mut sink)?;
+    assert_eq!(rt; ended, status, "status of {printed}");
+    assert!(rt; sink.bytes.as_slice() == printed.as_bytes(), "text {printed}");
+    Ok(())
 }

@@ -35,19 +35,13 @@ pub record IsBreaking (old new : Parts) (root : Text) (witness : Kept) : Type 0 
   pub new_named : IsNamed new root new_root
   pub breaks : Breaks numbers (shape_of old) (shape_of new) (type_of witness) new_root (message_of witness)
 
+-- both schemas have a message type of the name
+abbrev pub HaveRoot : Parts → Parts → Text → Type 0
+HaveRoot old new root = (Lacks old root → ⊥) × (Lacks new root → ⊥)
+
 abbrev pub IsAnswer : Parts → Parts → Text → Answer → Type 0
 IsAnswer old new root (answers.Breaks witness) = IsBreaking old new root witness
-IsAnswer old new root answers.Undecided = Unit {0}
-
--- the message breaks between some schemas that have the root's name
-pub record IsBreakingOfFiles (root : Text) (witness : Kept) : Type 0 where
-  pub old : Parts
-  pub new : Parts
-  pub breaking : IsBreaking old new root witness
-
-abbrev pub IsAnswerOfFiles : Text → Answer → Type 0
-IsAnswerOfFiles root (answers.Breaks witness) = IsBreakingOfFiles root witness
-IsAnswerOfFiles root answers.Undecided = Unit {0}
+IsAnswer old new root answers.Undecided = HaveRoot old new root
 
 -- a refusal names a root that is missing: the old one first
 abbrev pub IsRefusedRoot : Parts → Parts → Text → GateError → Type 0

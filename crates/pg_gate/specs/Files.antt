@@ -1,5 +1,5 @@
 -- Where the faults of a side's texts are.
-use Rattle.std.specs.Prelude.{◌≡◌, ◌⊎◌, ◌<◌, ℕ, Bool, List, IsTrue, Contains, map, take, string_bytes, Option, Some, None, Result, Ok, Err, Vec}
+use Rattle.std.specs.Prelude.{◌≡◌, ◌⊎◌, ◌<◌, ℕ, Bool, List, [], IsTrue, true, All, Contains, map, flat_map, is_some, take, string_bytes, Option, Some, None, Result, Ok, Err, Vec}
 use Rattle.std.specs.Borrow.{Bor}
 use Rattle.std.specs.declared.alloc.Global.{Global}
 use Rattle.clap.specs.Words.{Text}
@@ -14,10 +14,14 @@ use Rattle.pg_gate.specs.declared.error.Side.{Side}
 use Rattle.pg_gate.specs.declared.text.check.CheckError.{CheckError}
 use Rattle.pg_gate.specs.declared.text.check.CheckError.TheVariants as checks
 use Rattle.pg_gate.specs.declared.text.flat.FlatFile.{FlatFile}
+use Rattle.pg_gate.specs.declared.text.flat.FlatMessage.{FlatMessage}
 use Rattle.pg_gate.specs.declared.compile.TextFile.{TextFile}
 use Rattle.pg_gate.specs.declared.error.TextError.{TextError}
 use Rattle.pg_gate.specs.declared.error.TextError.TheVariants as texts
-use Rattle.pg_gate.specs.Flat.{flat_file, seen_message}
+use Rattle.pg_gate.specs.Flat.{DeclaredMessage, flat_file, seen_message}
+use Rattle.pg_schema.specs.Invariant.{IsSchema}
+use Rattle.pg_schema.specs.declared.message_type.MessageType.{MessageType}
+use Rattle.pg_schema.specs.declared.parts.Parts.{Parts}
 use Rattle.pg_gate.specs.Reading.{IsLexFault, IsSyntaxFault, IsTreeOf}
 
 -- a name or a number that breaks a rule: it was there before, or the number is out of range, or there are too many types
@@ -107,10 +111,61 @@ pub record IsFaultAmong (give : Text → Text → Bool) (lack : Text → Bool) (
 abbrev pub IsSideError : (Text → Text → Bool) → (Text → Bool) → Side → Text → List Text → GateError → Type 0
 IsSideError give lack side folder paths = IsErrorOf (IsFaultAmong give lack folder paths) side
 
+abbrev pub message_name : FlatMessage → Text
+message_name m = m.name.now
+
+-- the names of the messages of files in which all are flat
+abbrev pub flat_names : List FlatFile → List Text
+flat_names files = flat_map (λ (f : FlatFile). map message_name f.messages.items) files
+
 -- the messages of the files, in their order, where all of them are flat
 abbrev pub IsFlatSide : List TextFile → Option (Vec FlatFile Global) → Type 0
 IsFlatSide files None = (file : TextFile) × Contains files file × (flat_file file.tree ≡ None)
 IsFlatSide files (Some flat) = map (λ (f : FlatFile). Some (map seen_message f.messages.items)) flat.items ≡ map (λ (f : TextFile). flat_file f.tree) files
+
+-- ---- what a side declares
+
+abbrev pub path_of : TextFile → Text
+path_of file = string_bytes file.path
+
+-- the names of the messages of a flat file
+abbrev pub names_in : Option (List DeclaredMessage) → List Text
+names_in None = []
+names_in (Some messages) = map (λ (m : DeclaredMessage). m.name) messages
+
+abbrev pub declared_names : List TextFile → List Text
+declared_names files = flat_map (λ (f : TextFile). names_in (flat_file f.tree)) files
+
+abbrev pub type_name : MessageType → Text
+type_name t = string_bytes t.name
+
+abbrev pub type_names : Parts → List Text
+type_names parts = map type_name parts.types.items
+
+-- the files are flat, and the schema has the message types that they declare
+pub record IsDeclared (files : List TextFile) (parts : Parts) : Type 0 where
+  pub flat : All (λ (f : TextFile). is_some (flat_file f.tree) ≡ true) files
+  pub names_are : type_names parts ≡ declared_names files
+
+-- one of the files isn't flat, or what they declare is no schema
+abbrev pub IsOtherThanFlat : List TextFile → Type 0
+IsOtherThanFlat files = ((file : TextFile) × Contains files file × (flat_file file.tree ≡ None))
+    ⊎ ((parts : Parts) × IsDeclared files parts × (IsSchema parts → ⊥))
+
+abbrev pub IsDeclaredBy : List TextFile → Option Parts → Type 0
+IsDeclaredBy files None = IsOtherThanFlat files
+IsDeclaredBy files (Some parts) = IsDeclared files parts
+
+-- the files of the side, each path read: its texts are such as its source may give
+pub record AreRead (give : Text → Text → Bool) (folder : Text) (paths : List Text) (files : List TextFile) : Type 0 where
+  pub each : All (IsFileAmong give folder paths) files
+  pub whole : All (λ (path : Text). Contains (map path_of files) path) paths
+
+-- the schema of a side, or none where its files aren't flat
+pub record IsCompiled (give : Text → Text → Bool) (folder : Text) (paths : List Text) (found : Option Parts) : Type 0 where
+  pub files : List TextFile
+  pub are_read : AreRead give folder paths files
+  pub declared : IsDeclaredBy files found
 
 -- a fault in the text of one of these files
 pub record IsDeclarationFault (files : List TextFile) (fault : Fault) : Type 0 where

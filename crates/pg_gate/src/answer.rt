@@ -63,16 +63,27 @@ fn find<S: Sources, T: Sources>(
     old: &mut S,
     new: &mut T,
 ) -> Result<Finding, GateError>
-    ensures found { IfOk result (IsFinding root.now) }
-    ensures refused { IfErr result (IsGateError
+    ensures found { IfOk result (IsFinding root.now
         (seen (S.may_give old.old) (S.may_lack old.old) (S.failures old.old) (S.failures old.new))
         (seen (T.may_give new.old) (T.may_lack new.old) (T.failures new.old) (T.failures new.new))
         (files_at sides.now.old_dir.now (sides.now.old.now ∷ []))
         (files_at sides.now.new_dir.now (sides.now.new.now ∷ []))) }
+    ensures refused { IfErr result (IsGateError root.now
+        (seen (S.may_give old.old) (S.may_lack old.old) (S.failures old.old) (S.failures old.new))
+        (seen (T.may_give new.old) (T.may_lack new.old) (T.failures new.old) (T.failures new.new))
+        (files_at sides.now.old_dir.now (sides.now.old.now ∷ []))
+        (files_at sides.now.new_dir.now (sides.now.new.now ∷ []))) }
+    ensures old_given { S.may_give old.new ≡ S.may_give old.old }
+    ensures old_lacked { S.may_lack old.new ≡ S.may_lack old.old }
+    ensures new_given { T.may_give new.new ≡ T.may_give new.old }
+    ensures new_lacked { T.may_lack new.new ≡ T.may_lack new.old }
 {
     let old_schema = compile(alloc, old, Side::Old, sides.old_dir, &[sides.old])?;
     let new_schema = compile(alloc, new, Side::New, sides.new_dir, &[sides.new])?;
-    let (Some(old_schema), Some(new_schema)) = (&old_schema, &new_schema) else {
+    let Some(old_schema) = &old_schema else {
+        return Ok(Finding::Undecided);
+    };
+    let Some(new_schema) = &new_schema else {
         return Ok(Finding::Undecided);
     };
     between(alloc, old_schema, new_schema, root)
@@ -85,10 +96,14 @@ pub(crate) fn answer<S: Sources, T: Sources>(
     old: &mut S,
     new: &mut T,
 ) -> Result<Reply, AllocError>
-    ensures { IfOk result (Grants
+    ensures granted { IfOk result (Grants
         (seen (S.may_give old.old) (S.may_lack old.old) (S.failures old.old) (S.failures old.new))
         (seen (T.may_give new.old) (T.may_lack new.old) (T.failures new.old) (T.failures new.new))
         (request_of call.now)) }
+    ensures old_given { S.may_give old.new ≡ S.may_give old.old }
+    ensures old_lacked { S.may_lack old.new ≡ S.may_lack old.old }
+    ensures new_given { T.may_give new.new ≡ T.may_give new.old }
+    ensures new_lacked { T.may_lack new.new ≡ T.may_lack new.old }
 {
     let found = match call {
         Call::Gate { sides, root } => find(alloc, sides, root, old, new),

@@ -1,6 +1,6 @@
 //! A side's schema, from the texts that its source gives.
-ghost use Rattle.std.specs.Prelude.{◌≡◌, ◌+◌, ◌<◌, ◌≤◌, length, All, IfErr, IfOk, IfSome};
-ghost use Rattle.pg_gate.specs.Files.{IsDeclarationError, IsDeclarationFault, IsFaultAt, IsFileAmong, IsFileError, IsFileOf, IsFileText, IsFlatSide, IsRule, IsSideError, paths_of, source_failures};
+ghost use Rattle.std.specs.Prelude.{◌≡◌, ◌+◌, ◌<◌, ◌≤◌, length, IfErr, IfOk, IfSome};
+ghost use Rattle.pg_gate.specs.Files.{AreRead, IsCompiled, IsDeclarationError, IsDeclarationFault, IsDeclaredBy, IsFaultAt, IsFileError, IsFileOf, IsFileText, IsFlatSide, IsRule, IsSideError, paths_of, source_failures};
 
 use crate::error::{Fault, GateError, Place, Side, TextError};
 use crate::text::{CheckError, FlatFile, ReadError, messages_in, parts_of, tree_of};
@@ -101,8 +101,7 @@ fn read_files<S: Sources>(
     folder: &str,
     paths: &[&str],
 ) -> Result<Vec<TextFile>, GateError>
-    ensures read { IfOk result (λ files.
-        All (IsFileAmong (S.may_give source.old) folder.now (paths_of paths.now)) files.items) }
+    ensures read { IfOk result (λ files. AreRead (S.may_give source.old) folder.now (paths_of paths.now) files.items) }
     ensures refused { IfErr result (IsSideError (S.may_give source.old) (S.may_lack source.old)
         side folder.now (paths_of paths.now)) }
     ensures counted { S.failures source.old + source_failures result ≤ S.failures source.new }
@@ -161,6 +160,7 @@ fn in_file(
 
 /// The schema that the files declare, where all of them are flat.
 fn schema_of(alloc: Global, side: Side, files: &[TextFile]) -> Result<Option<Schema>, GateError>
+    ensures declared { IfOk result (IsDeclaredBy files.now) }
     ensures refused { IfErr result (IsDeclarationError side files.now) }
 {
     let Some(flat) = flat_files(alloc, files)? else {
@@ -177,7 +177,7 @@ fn schema_of(alloc: Global, side: Side, files: &[TextFile]) -> Result<Option<Sch
     match Schema::from_parts(alloc, parts) {
         Ok(schema) => Ok(Some(schema)),
         Err((PartsError::Memory, _)) => Err(GateError::Memory),
-        Err((PartsError::Invariant, _)) => Err(GateError::Memory),
+        Err((PartsError::Invariant, _)) => Ok(None),
     }
 }
 
@@ -190,6 +190,7 @@ pub(crate) fn compile<S: Sources>(
     folder: &str,
     paths: &[&str],
 ) -> Result<Option<Schema>, GateError>
+    ensures compiled { IfOk result (IsCompiled (S.may_give source.old) folder.now (paths_of paths.now)) }
     ensures refused { IfErr result (IsSideError (S.may_give source.old) (S.may_lack source.old)
         side folder.now (paths_of paths.now)) }
     ensures counted { S.failures source.old + source_failures result ≤ S.failures source.new }

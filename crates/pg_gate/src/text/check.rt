@@ -1,6 +1,6 @@
 //! The rules of names and numbers, and what the messages of flat files declare.
-ghost use Rattle.std.specs.Prelude.{◌<◌, length, IfErr};
-ghost use Rattle.pg_gate.specs.Files.{IsFaultIn, IsFaultOf};
+ghost use Rattle.std.specs.Prelude.{◌≡◌, ◌<◌, ◌++◌, length, map, string_bytes, IfErr, IfOk, OnOk};
+ghost use Rattle.pg_gate.specs.Files.{IsFaultIn, IsFaultOf, flat_names, message_name, type_name, type_names};
 
 use crate::error::TextError;
 use crate::text::flat::{FlatField, FlatFile, FlatMessage};
@@ -167,7 +167,8 @@ fn message_type(
     message: &FlatMessage<'_>,
     file: usize,
 ) -> Result<MessageType, CheckError>
-    ensures { IfErr result (IsFaultOf file) }
+    ensures named { IfOk result (λ t. string_bytes t.name ≡ message.now.name.now) }
+    ensures refused { IfErr result (IsFaultOf file) }
 {
     let (fields, declared) = fields_of(alloc, &message.fields, file)?;
     Ok(MessageType {
@@ -190,7 +191,8 @@ fn push_types(
     file: usize,
     types: &mut Vec<MessageType>,
 ) -> Result<Vec<TypeId>, CheckError>
-    ensures { IfErr result (IsFaultOf file) }
+    ensures named { OnOk result (map type_name types.new.items ≡ map type_name types.old.items ++ map message_name messages.now) }
+    ensures refused { IfErr result (IsFaultOf file) }
 {
     let mut places = Vec::new(alloc);
     for message in messages {
@@ -226,7 +228,8 @@ fn file_of(alloc: Global, path: &str, types: Vec<TypeId>) -> Result<File, AllocE
 /// that was there before, then a number that may not stand or was there before, or one message
 /// type too many.
 pub(crate) fn parts_of(alloc: Global, files: &[FlatFile<'_>]) -> Result<Parts, CheckError>
-    ensures { IfErr result (IsFaultIn (length files.now)) }
+    ensures named { IfOk result (λ parts. type_names parts ≡ flat_names files.now) }
+    ensures refused { IfErr result (IsFaultIn (length files.now)) }
 {
     check_names(alloc, files)?;
     let mut parts = Parts {
