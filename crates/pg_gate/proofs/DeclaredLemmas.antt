@@ -1,5 +1,5 @@
 -- What flat files declare.
-use Rattle.std.proofs.Common.{◌≡◌, ◌∙◌, ℕ, zero, suc, ◌<◌, true, List, [], ◌∷◌, ◌++◌, All, length, map, Some, is_some, refl, ap, ap₂, sym, arith}
+use Rattle.std.proofs.Common.{◌≡◌, ◌∙◌, zero, suc, true, List, [], ◌∷◌, ◌++◌, All, map, Some, is_some, refl, ap, ap₂, sym, arith}
 use Rattle.pg_schema.specs.declared.parts.Parts.{Parts}
 use Rattle.pg_gate.specs.Files.{IsDeclared, declared_names, flat_names, message_name, names_in, type_names}
 use Rattle.pg_gate.specs.Flat.{DeclaredMessage, flat_file, seen_message}

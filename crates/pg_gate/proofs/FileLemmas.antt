@@ -21,12 +21,14 @@ pub fault_of_text : (path text : Text) (error : TextError) (at : ℕ) (fault : F
 fault_of_text path text error at (faults.MissingFile file) is fault = absurd is
 fault_of_text path text error at (faults.SourceFailed file) is fault = absurd is
 fault_of_text path text error at (faults.InText told place) is fault =
-    let same = sym is.0 in
-    (is.1, record {
-      at = at;
-      place_is = is.2;
-      is_fault = subst (λ (e : TextError). (IsLexFault text e at ⊎ IsSyntaxFault text e at) ⊎ IsRule e) same fault;
-    })
+    let same = sym is.0 in (
+      is.1,
+      record {
+        at = at;
+        place_is = is.2;
+        is_fault = subst (λ (e : TextError). (IsLexFault text e at ⊎ IsSyntaxFault text e at) ⊎ IsRule e) same fault;
+      },
+    )
 
 -- a path in the list, as a text
 pub Contains-paths_of : (paths : List (Bor Text)) (k : ℕ) (d : Bor Text) → k < length paths → Contains (paths_of paths) (get_or paths k d).now

@@ -1,6 +1,6 @@
 -- All of a list, or none, as far as a loop has come.
-use Rattle.std.proofs.Common.{◌≡◌, ◌∙◌, ℕ, ◌+◌, ◌<◌, List, [], ◌∷◌, ◌++◌, Option, Some, None, refl, ap, sym, length, drop, get_or, append_assoc, suc, drop-cons, add-one}
-use Rattle.pg_gate.specs.Flat.{all_of, beside, beside_one}
+use Rattle.std.proofs.Common.{◌≡◌, ℕ, ◌+◌, ◌<◌, List, [], ◌∷◌, ◌++◌, Option, Some, None, refl, ap, sym, length, drop, get_or, append_assoc, suc, drop-cons, add-one}
+use Rattle.pg_gate.specs.Flat.{all_of, beside}
 
 -- these, and then those of the others
 abbrev pub behind : {X : Type 0} → List X → Option (List X) → Option (List X)

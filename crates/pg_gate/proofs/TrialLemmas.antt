@@ -1,5 +1,5 @@
 -- What the trial finds.
-use Rattle.std.proofs.Common.{◌≡◌, ◌∙◌, ◌⊎◌, ◌<◌, length, map, Option, Some, None, inl, inr, ap, sym, subst, IfSome, string_bytes}
+use Rattle.std.proofs.Common.{◌≡◌, ◌⊎◌, ◌<◌, length, map, Option, Some, None, inl, inr, sym, subst, IfSome, string_bytes}
 use Rattle.std.specs.Option.{option_map}
 use Rattle.std.proofs.lemmas.List.{length-map}
 use Rattle.std.proofs.lemmas.Option.{slice_get_within}
@@ -10,7 +10,6 @@ use Rattle.pg_schema.specs.declared.parts.Parts.{Parts}
 use Rattle.pg_schema.specs.Parts.{field_shape, shape_of}
 use Rattle.pg_dyn.specs.Breaking.{Breaks}
 use Rattle.pg_dyn.specs.Comparison.{numbers}
-use Rattle.pg_dyn.specs.Encoding.{enc}
 use Rattle.pg_dyn.specs.Kept.{message_of}
 use Rattle.pg_gate.specs.Breaking.{IsFound, IsFoundAt, IsNamed, IsRefusedRoot}
 use Rattle.pg_gate.specs.declared.error.GateError.{GateError}

@@ -1,6 +1,6 @@
 -- Flat files: messages of singular scalar fields without labels and options, and nothing else (proto3 language specification,
 -- "Message definition", "Normal field"). That the gate takes no others yet is this profile's choice.
-use Rattle.std.specs.Prelude.{ℕ, Bool, true, false, List, [], ◌∷◌, map, Option, Some, None, codes, string_bytes, is_some}
+use Rattle.std.specs.Prelude.{ℕ, Bool, true, false, List, [], ◌∷◌, map, Option, Some, None, codes, string_bytes}
 use Rattle.std.specs.Option.{option_map}
 use Rattle.std.specs.Str.{bytes_eq}
 use Rattle.clap.specs.Words.{Text}

@@ -37,12 +37,7 @@ fn written(alloc: Global, schema: &Schema, message: &Message) -> Result<Vec<u8>,
 }
 
 /// What the gate finds between two schemas.
-fn between(
-    alloc: Global,
-    old: &Schema,
-    new: &Schema,
-    root: &str,
-) -> Result<Finding, GateError>
+fn between(alloc: Global, old: &Schema, new: &Schema, root: &str) -> Result<Finding, GateError>
     ensures found { IfOk result (IsFindingOf old.now new.now root.now) }
     ensures refused { IfErr result (IsRefusedRoot old.now new.now root.now) }
 {

@@ -1,4 +1,4 @@
-use Rattle.std.proofs.Common.{◌≡◌, false, None, ap, sym, refl, codes}
+use Rattle.std.proofs.Common.{◌≡◌, false, ap, sym, refl, codes}
 use Rattle.std.specs.Str.{bytes_eq}
 use Rattle.pg_gate.specs.Flat.{scalar_of}
 use Rattle.pg_gate.proofs.CallLemmas.{bytes_eq-other}
