@@ -41,18 +41,25 @@ pub(crate) fn text_of(alloc: Global, line: &str) -> Result<String, AllocError> {
     format!(in alloc; "syntax = \"proto3\";\n{line}\n")
 }
 
+/// The words of a gate on the message `M` of `m.proto`.
+pub(crate) static OF_M: [&str; 7] = [
+    "gate", "--old", "m.proto", "--new", "m.proto", "--type", "M",
+];
+
+/// The same on the message `Z`.
+pub(crate) static OF_Z: [&str; 7] = [
+    "gate", "--old", "m.proto", "--new", "m.proto", "--type", "Z",
+];
+
 /// Runs the gate on two texts at `m.proto`, and expects what it prints and its status.
 pub(crate) fn answer_of<R: Abort + AllocGlobal>(
     rt: &R,
     old: &[u8],
     new: &[u8],
-    root: &str,
+    words: &[&str],
     printed: &str,
     status: u8,
 ) -> Result<(), Fail> {
-    let words = [
-        "gate", "--old", "m.proto", "--new", "m.proto", "--type", root,
-    ];
     let mut old = Listed {
         files: &[("m.proto", old)],
     };
@@ -60,8 +67,11 @@ pub(crate) fn answer_of<R: Abort + AllocGlobal>(
         files: &[("m.proto", new)],
     };
     let mut sink = buffer(rt.alloc())?;
-    let ended = run(rt.alloc(), &words, &mut old, &mut new, &mut sink)?;
+    let ended = run(rt.alloc(), words, &mut old, &mut new, &mut sink)?;
     assert_eq!(rt; ended, status, "status of {printed}");
-    assert!(rt; sink.bytes.as_slice() == printed.as_bytes(), "text {printed}");
+    assert!(rt;
+        sink.bytes.as_slice() == printed.as_bytes(),
+        "text {printed}"
+    );
     Ok(())
 }

@@ -1,5 +1,5 @@
 //! What the whole grammar refuses, and texts of more than flat messages.
-use crate::runs::{answer_of, text_of};
+use crate::runs::{OF_M, OF_Z, answer_of, text_of};
 use std::process::Abort;
 use std::test::Fail;
 
@@ -8,7 +8,10 @@ static ONE: &str = "syntax = \"proto3\";\nmessage M { int32 a = 1; }\n";
 
 /// The second line of an old text, and what it is refused for.
 static REFUSED: [(&str, &str); 13] = [
-    ("message M { repeated group G = 1 { } }", "E203 m.proto:2:22"),
+    (
+        "message M { repeated group G = 1 { } }",
+        "E203 m.proto:2:22",
+    ),
     ("extend M { }", "E204 m.proto:2:1"),
     ("message M { extensions 1; }", "E204 m.proto:2:13"),
     ("option (x) = 1;", "E205 m.proto:2:8"),
@@ -31,7 +34,7 @@ fn refuses_what_the_grammar_leaves_out(rt: HostRuntime) -> Result<(), Fail> {
     for (line, refusal) in REFUSED {
         let old = text_of(rt.alloc(), line)?;
         let printed = format!(in rt.alloc(); "refused old {refusal}\n")?;
-        answer_of(&rt, old.as_bytes(), ONE.as_bytes(), "M", &printed, 2)?;
+        answer_of(&rt, old.as_bytes(), ONE.as_bytes(), &OF_M, &printed, 2)?;
     }
     Ok(())
 }
@@ -51,7 +54,7 @@ static TEXTS: [(&[u8], &str); 4] = [
 fn refuses_texts_without_a_tree(rt: HostRuntime) -> Result<(), Fail> {
     for (text, refusal) in TEXTS {
         let printed = format!(in rt.alloc(); "refused old {refusal}\n")?;
-        answer_of(&rt, text, ONE.as_bytes(), "M", &printed, 2)?;
+        answer_of(&rt, text, ONE.as_bytes(), &OF_M, &printed, 2)?;
     }
     Ok(())
 }
@@ -63,7 +66,7 @@ fn refuses_a_text_that_is_too_long(rt: HostRuntime) -> Result<(), Fail> {
         text.push_str("// the same line, again and again, until the text is too long\n")?;
     }
     let printed = "refused old E108 m.proto:1:1\n";
-    answer_of(&rt, text.as_bytes(), ONE.as_bytes(), "M", printed, 2)
+    answer_of(&rt, text.as_bytes(), ONE.as_bytes(), &OF_M, printed, 2)
 }
 
 /// Lines that hold something else than messages of scalar fields without labels.
@@ -96,8 +99,22 @@ static OTHER: [&str; 21] = [
 fn leaves_other_files_undecided(rt: HostRuntime) -> Result<(), Fail> {
     for line in OTHER {
         let other = text_of(rt.alloc(), line)?;
-        answer_of(&rt, other.as_bytes(), ONE.as_bytes(), "Z", "undecided Z\n", 5)?;
-        answer_of(&rt, ONE.as_bytes(), other.as_bytes(), "Z", "undecided Z\n", 5)?;
+        answer_of(
+            &rt,
+            other.as_bytes(),
+            ONE.as_bytes(),
+            &OF_Z,
+            "undecided Z\n",
+            5,
+        )?;
+        answer_of(
+            &rt,
+            ONE.as_bytes(),
+            other.as_bytes(),
+            &OF_Z,
+            "undecided Z\n",
+            5,
+        )?;
     }
     Ok(())
 }
@@ -110,18 +127,25 @@ fn tells_faults_before_it_is_undecided(rt: HostRuntime) -> Result<(), Fail> {
     let twice = text_of(rt.alloc(), "message M { int32 a = 1; int32 b = 1; }")?;
     let (other, open, twice) = (other.as_bytes(), open.as_bytes(), twice.as_bytes());
     let refused = "refused new E103 m.proto:2:12\n";
-    answer_of(&rt, other, open, "M", refused, 2)?;
+    answer_of(&rt, other, open, &OF_M, refused, 2)?;
     let refused = "refused new E402 m.proto:2:32\n";
-    answer_of(&rt, other, twice, "M", refused, 2)?;
+    answer_of(&rt, other, twice, &OF_M, refused, 2)?;
     let refused = "refused old E402 m.proto:2:32\n";
-    answer_of(&rt, twice, other, "M", refused, 2)
+    answer_of(&rt, twice, other, &OF_M, refused, 2)
 }
 
 /// Messages of a name that stands twice are told only of flat files.
 #[test]
 fn leaves_the_names_of_other_files(rt: HostRuntime) -> Result<(), Fail> {
     let other = text_of(rt.alloc(), "message M { } message M { } enum E { A = 0; }")?;
-    answer_of(&rt, other.as_bytes(), ONE.as_bytes(), "M", "undecided M\n", 5)
+    answer_of(
+        &rt,
+        other.as_bytes(),
+        ONE.as_bytes(),
+        &OF_M,
+        "undecided M\n",
+        5,
+    )
 }
 
 #[test]
@@ -129,10 +153,17 @@ fn takes_messages_64_deep(rt: HostRuntime) -> Result<(), Fail> {
     let deep = "message M { ".repeat(rt.alloc(), 64)?;
     let ends = "} ".repeat(rt.alloc(), 64)?;
     let text = format!(in rt.alloc(); "syntax = \"proto3\";\n{deep}{ends}\n")?;
-    answer_of(&rt, text.as_bytes(), ONE.as_bytes(), "M", "undecided M\n", 5)?;
+    answer_of(
+        &rt,
+        text.as_bytes(),
+        ONE.as_bytes(),
+        &OF_M,
+        "undecided M\n",
+        5,
+    )?;
     let text = format!(in rt.alloc(); "syntax = \"proto3\";\n{deep}message M {{ }} {ends}\n")?;
     let printed = "refused old E207 m.proto:2:769\n";
-    answer_of(&rt, text.as_bytes(), ONE.as_bytes(), "M", printed, 2)
+    answer_of(&rt, text.as_bytes(), ONE.as_bytes(), &OF_M, printed, 2)
 }
 
 /// Numbers are taken in each of their forms, and comments and a byte order mark are blanks.
@@ -141,5 +172,5 @@ fn takes_all_spellings_of_a_flat_text(rt: HostRuntime) -> Result<(), Fail> {
     let old = "\u{feff}syntax = 'pro' \"to3\"; // C\nmessage M { int32 message = 0x10; /* */ }";
     let new = text_of(rt.alloc(), "message M { bool stream = 020; }")?;
     let printed = "breaks M 3\nwitness 800102\n";
-    answer_of(&rt, old.as_bytes(), new.as_bytes(), "M", printed, 1)
+    answer_of(&rt, old.as_bytes(), new.as_bytes(), &OF_M, printed, 1)
 }

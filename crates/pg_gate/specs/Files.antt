@@ -161,7 +161,7 @@ pub record AreRead (give : Text → Text → Bool) (folder : Text) (paths : List
   pub each : All (IsFileAmong give folder paths) files
   pub whole : All (λ (path : Text). Contains (map path_of files) path) paths
 
--- the schema of a side, or none where its files aren't flat
+-- the schema of a side, or none where its files aren't flat or declare none
 pub record IsCompiled (give : Text → Text → Bool) (folder : Text) (paths : List Text) (found : Option Parts) : Type 0 where
   pub files : List TextFile
   pub are_read : AreRead give folder paths files
