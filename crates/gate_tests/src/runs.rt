@@ -2,8 +2,6 @@
 use pg_gate::{Buffer, GateError, Sink, run};
 use pg_link::Listed;
 use std::alloc::{AllocError, Global};
-use std::process::Abort;
-use std::test::Fail;
 
 /// The words of a gate on `o.proto` and `n.proto`.
 pub(crate) static WORDS: [&str; 7] = [
@@ -41,37 +39,23 @@ pub(crate) fn text_of(alloc: Global, line: &str) -> Result<String, AllocError> {
     format!(in alloc; "syntax = \"proto3\";\n{line}\n")
 }
 
-/// The words of a gate on the message `M` of `m.proto`.
-pub(crate) static OF_M: [&str; 7] = [
-    "gate", "--old", "m.proto", "--new", "m.proto", "--type", "M",
+/// The words of a gate on a message that no text declares.
+static MISSING: [&str; 7] = [
+    "gate", "--old", "o.proto", "--new", "n.proto", "--type", "Z",
 ];
 
-/// The same on the message `Z`.
-pub(crate) static OF_Z: [&str; 7] = [
-    "gate", "--old", "m.proto", "--new", "m.proto", "--type", "Z",
-];
-
-/// Runs the gate on two texts at `m.proto`, and expects what it prints and its status.
-pub(crate) fn answer_of<R: Abort + AllocGlobal>(
-    rt: &R,
+/// Runs the gate on the two texts, and asks for a message that none of them declares.
+pub(crate) fn run_missing<W: Sink>(
+    alloc: Global,
     old: &[u8],
     new: &[u8],
-    words: &[&str],
-    printed: &str,
-    status: u8,
-) -> Result<(), Fail> {
+    sink: &mut W,
+) -> Result<u8, GateError> {
     let mut old = Listed {
-        files: &[("m.proto", old)],
+        files: &[("o.proto", old)],
     };
     let mut new = Listed {
-        files: &[("m.proto", new)],
+        files: &[("n.proto", new)],
     };
-    let mut sink = buffer(rt.alloc())?;
-    let ended = run(rt.alloc(), words, &mut old, &mut new, &mut sink)?;
-    assert_eq!(rt; ended, status, "status of {printed}");
-    assert!(rt;
-        sink.bytes.as_slice() == printed.as_bytes(),
-        "text {printed}"
-    );
-    Ok(())
+    run(alloc, &MISSING, &mut old, &mut new, sink)
 }
