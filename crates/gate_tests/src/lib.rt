@@ -14,6 +14,8 @@ mod refusal_tests;
 mod runs;
 #[cfg(test)]
 mod sink_tests;
+#[cfg(test)]
+mod text_tests;
 
 pub use failing_sink::FailingSink;
 pub use failing_source::FailingSource;

@@ -9,37 +9,32 @@ use std::test::Fail;
 static ONE: &[u8] = b"syntax = \"proto3\";\nmessage M { int32 a = 1; }\n";
 
 /// A text, and the code and place of its fault.
-static FAULTS: [(&str, &str); 24] = [
+static FAULTS: [(&str, &str); 22] = [
     ("", "E201 m:1:1"),
     ("\n \n", "E201 m:3:1"),
     ("\n  message M { }", "E201 m:2:3"),
     ("syntax = \"proto2\";", "E201 m:1:1"),
-    ("syntax = \"proto3;\n", "E201 m:1:1"),
+    ("syntax = \"proto3;\n", "E103 m:1:10"),
     ("syntax \"proto3\";", "E201 m:1:1"),
     ("syntax = \"proto3\"", "E202 m:1:18"),
     ("syntax = \"proto3\" message M { }", "E202 m:1:19"),
-    ("syntax = \"proto3\";\nenum E { }", "E202 m:2:1"),
     ("syntax = \"proto3\";\nmessage M", "E202 m:2:10"),
     ("syntax = \"proto3\";\nmessage M { } }", "E202 m:2:15"),
     (
-        "syntax = \"proto3\";\nmessage M { K a = 1; }",
-        "E202 m:2:13",
-    ),
-    (
         "syntax = \"proto3\";\nmessage M { message a = 1; }",
-        "E202 m:2:13",
+        "E202 m:2:23",
     ),
     (
         "syntax = \"proto3\";\nmessage M { int32 1 = 1; }",
         "E202 m:2:19",
     ),
     (
-        "syntax = \"proto3\";\nmessage M { int32 a = 01; }",
-        "E202 m:2:23",
+        "syntax = \"proto3\";\nmessage M { int32 a = 08; }",
+        "E102 m:2:23",
     ),
     (
         "syntax = \"proto3\";\nmessage M { int32 a = 1x; }",
-        "E202 m:2:23",
+        "E102 m:2:23",
     ),
     (
         "syntax = \"proto3\";\nmessage M { int32 a = -1; }",

@@ -33,3 +33,29 @@ pub(crate) fn run_on<W: Sink>(
     };
     run(alloc, &WORDS, &mut old, &mut new, sink)
 }
+
+/// A text whose second line is this one.
+pub(crate) fn text_of(alloc: Global, line: &str) -> Result<String, AllocError> {
+    format!(in alloc; "syntax = \"proto3\";\n{line}\n")
+}
+
+/// The words of a gate on a message that no text declares.
+static MISSING: [&str; 7] = [
+    "gate", "--old", "o.proto", "--new", "n.proto", "--type", "Z",
+];
+
+/// Runs the gate on the two texts, and asks for a message that none of them declares.
+pub(crate) fn run_missing<W: Sink>(
+    alloc: Global,
+    old: &[u8],
+    new: &[u8],
+    sink: &mut W,
+) -> Result<u8, GateError> {
+    let mut old = Listed {
+        files: &[("o.proto", old)],
+    };
+    let mut new = Listed {
+        files: &[("n.proto", new)],
+    };
+    run(alloc, &MISSING, &mut old, &mut new, sink)
+}

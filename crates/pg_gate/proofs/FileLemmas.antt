@@ -1,16 +1,34 @@
 -- Files of a side that are read one after the other.
-use Rattle.std.proofs.Common.{◌≡◌, ◌<◌, ℕ, zero, suc, arith, Bool, List, [], ◌∷◌, ◌++◌, All, Contains, length, get_or, sym, subst, IsTrue}
+use Rattle.std.proofs.Common.{◌≡◌, ◌<◌, ℕ, zero, suc, arith, Bool, List, [], ◌∷◌, ◌++◌, All, Contains, length, get_or, sym, subst, IsTrue, ◌⊎◌}
 use Rattle.std.specs.Borrow.{Bor}
 use Rattle.std.proofs.lemmas.List.{length-map, get_or-map}
 use Rattle.std.proofs.lemmas.List.Elements.{All-append}
 use Rattle.clap.specs.Words.{Text}
 use Rattle.pg_link.specs.Below.{path_below}
-use Rattle.pg_gate.specs.Files.{IsFaultAmong, IsFileAmong, IsFileError, IsFileFault, IsFileOf, IsSideError, paths_of}
+use Rattle.pg_gate.specs.Reading.{IsLexFault, IsSyntaxFault}
+use Rattle.pg_gate.specs.declared.error.Fault.TheVariants as faults
+use Rattle.pg_gate.specs.declared.error.TextError.{TextError}
+use Rattle.pg_gate.specs.Files.{IsFaultAt, IsFaultOfText, IsRule, IsFaultAmong, IsFileAmong, IsFileError, IsFileFault, IsFileOf, IsSideError, paths_of}
 use Rattle.pg_gate.specs.declared.error.Fault.{Fault}
 use Rattle.pg_gate.specs.declared.error.GateError.{GateError}
 use Rattle.pg_gate.specs.declared.error.GateError.TheVariants as gates
 use Rattle.pg_gate.specs.declared.error.Side.{Side}
-use Rattle.pg_gate.specs.declared.text.check.TextFile.{TextFile}
+use Rattle.pg_gate.specs.declared.compile.TextFile.{TextFile}
+
+-- a fault at a byte of a text, where there is one
+pub fault_of_text : (path text : Text) (error : TextError) (at : ℕ) (fault : Fault) → IsFaultAt path text error at fault
+    → (IsLexFault text error at ⊎ IsSyntaxFault text error at) ⊎ IsRule error → IsFaultOfText path text fault
+fault_of_text path text error at (faults.MissingFile file) is fault = absurd is
+fault_of_text path text error at (faults.SourceFailed file) is fault = absurd is
+fault_of_text path text error at (faults.InText told place) is fault =
+    let same = sym is.0 in (
+      is.1,
+      record {
+        at = at;
+        place_is = is.2;
+        is_fault = subst (λ (e : TextError). (IsLexFault text e at ⊎ IsSyntaxFault text e at) ⊎ IsRule e) same fault;
+      },
+    )
 
 -- a path in the list, as a text
 pub Contains-paths_of : (paths : List (Bor Text)) (k : ℕ) (d : Bor Text) → k < length paths → Contains (paths_of paths) (get_or paths k d).now
@@ -31,6 +49,7 @@ All-more give then folder paths files path file same_given among all of =
     let here : IsFileAmong give folder paths file = record {
       among = subst (λ (p : Text). Contains paths p) same among;
       given = subst (λ (p : Text). IsTrue (give (path_below folder p) file.text.items)) same given;
+      is_tree = of.is_tree;
     } in
     All-append (IsFileAmong give folder paths) files (file ∷ []) all (λ k d below. All-one (IsFileAmong give folder paths) file here k d below)
 

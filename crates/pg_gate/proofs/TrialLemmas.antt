@@ -1,5 +1,5 @@
 -- What the trial finds.
-use Rattle.std.proofs.Common.{◌≡◌, ◌∙◌, ◌⊎◌, ◌<◌, length, map, Option, Some, None, inl, inr, ap, sym, subst, IfSome, string_bytes}
+use Rattle.std.proofs.Common.{◌≡◌, ◌⊎◌, ◌<◌, length, map, Option, Some, None, inl, inr, sym, subst, IfSome, string_bytes}
 use Rattle.std.specs.Option.{option_map}
 use Rattle.std.proofs.lemmas.List.{length-map}
 use Rattle.std.proofs.lemmas.Option.{slice_get_within}
@@ -10,7 +10,6 @@ use Rattle.pg_schema.specs.declared.parts.Parts.{Parts}
 use Rattle.pg_schema.specs.Parts.{field_shape, shape_of}
 use Rattle.pg_dyn.specs.Breaking.{Breaks}
 use Rattle.pg_dyn.specs.Comparison.{numbers}
-use Rattle.pg_dyn.specs.Encoding.{enc}
 use Rattle.pg_dyn.specs.Kept.{message_of}
 use Rattle.pg_gate.specs.Breaking.{IsFound, IsFoundAt, IsNamed, IsRefusedRoot}
 use Rattle.pg_gate.specs.declared.error.GateError.{GateError}
@@ -38,13 +37,11 @@ pub IsFound-at : (pair : Pair) (root : Text) → IsNamed pair.old.now root pair.
     → (o : Option Found) → IfSome o (IsFoundAt pair) → IfSome o (IsFound pair.old.now pair.new.now root)
 IsFound-at pair root old_named new_named None at = tt
 IsFound-at pair root old_named new_named (Some found) at = record {
-  breaking = record {
-    new_root = pair.new_root;
-    old_named = subst (λ (t : TypeId). IsNamed pair.old.now root t) (sym at.type_is) old_named;
-    new_named = new_named;
-    breaks = subst (λ (t : TypeId). Breaks numbers (shape_of pair.old.now) (shape_of pair.new.now) t pair.new_root (message_of found.message)) (sym at.type_is) at.breaks;
-  };
-  bytes_are = at.bytes_are ∙ ap (λ (t : TypeId). enc (shape_of pair.old.now) t (message_of found.message)) (sym at.type_is);
+  new_root = pair.new_root;
+  fits = at.fits;
+  old_named = subst (λ (t : TypeId). IsNamed pair.old.now root t) (sym at.type_is) old_named;
+  new_named = new_named;
+  breaks = subst (λ (t : TypeId). Breaks numbers (shape_of pair.old.now) (shape_of pair.new.now) t pair.new_root (message_of found.message)) (sym at.type_is) at.breaks;
 }
 
 pub memory_is_refused : (old new : Parts) (root : Text) (error : GateError) → error ≡ errors.Memory → IsRefusedRoot old new root error

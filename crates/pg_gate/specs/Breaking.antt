@@ -8,6 +8,7 @@ use Rattle.pg_schema.specs.Shape.{FieldShape, field_at, fields}
 use Rattle.pg_dyn.specs.Breaking.{Breaks}
 use Rattle.pg_dyn.specs.Comparison.{numbers}
 use Rattle.pg_dyn.specs.Belonging.{IsMessage}
+use Rattle.pg_dyn.specs.Fits.{Fits}
 use Rattle.pg_dyn.specs.Kept.{Kept, ends, holds, message_of, type_of}
 use Rattle.pg_dyn.specs.Message.{Leaf, is_zero}
 use Rattle.pg_dyn.specs.Encoding.{enc}
@@ -26,22 +27,21 @@ IsNamed parts name id = name_at parts.types.items id ≡ Some name
 abbrev pub Lacks : Parts → Text → Type 0
 Lacks parts name = (id : TypeId) → name_at parts.types.items id ≢ Some name
 
--- The message is one of the old type of that name, without unknown records, and a reader of the new type of that name doesn't keep it.
+-- The message is one of the old schema and its type of that name, without unknown records, and a reader of the new type of that name doesn't keep it.
 pub record IsBreaking (old new : Parts) (root : Text) (witness : Kept) : Type 0 where
   pub new_root : TypeId
+  pub fits : Fits (shape_of old) witness
   pub old_named : IsNamed old root (type_of witness)
   pub new_named : IsNamed new root new_root
   pub breaks : Breaks numbers (shape_of old) (shape_of new) (type_of witness) new_root (message_of witness)
 
+-- both schemas have a message type of the name
+abbrev pub HaveRoot : Parts → Parts → Text → Type 0
+HaveRoot old new root = (Lacks old root → ⊥) × (Lacks new root → ⊥)
+
 abbrev pub IsAnswer : Parts → Parts → Text → Answer → Type 0
 IsAnswer old new root (answers.Breaks witness) = IsBreaking old new root witness
-IsAnswer old new root answers.Undecided = Unit {0}
-
--- the answer of two schemas that have the root's name
-pub record IsAnswerOfFiles (root : Text) (answer : Answer) : Type 0 where
-  pub old : Parts
-  pub new : Parts
-  pub is_answer : IsAnswer old new root answer
+IsAnswer old new root answers.Undecided = HaveRoot old new root
 
 -- a refusal names a root that is missing: the old one first
 abbrev pub IsRefusedRoot : Parts → Parts → Text → GateError → Type 0
@@ -75,9 +75,9 @@ pub record IsSingle (pair : Pair) (number : ℕ) (message : Kept) : Type 0 where
 -- a breaking message of the old type, and what is written of it
 pub record IsFoundAt (pair : Pair) (found : Found) : Type 0 where
   pub type_is : type_of found.message ≡ pair.old_root
+  pub fits : Fits (shape_of pair.old.now) found.message
   pub breaks : Breaks numbers (shape_of pair.old.now) (shape_of pair.new.now) pair.old_root pair.new_root (message_of found.message)
   pub bytes_are : found.bytes.items ≡ enc (shape_of pair.old.now) pair.old_root (message_of found.message)
 
-pub record IsFound (old new : Parts) (root : Text) (found : Found) : Type 0 where
-  pub breaking : IsBreaking old new root found.message
-  pub bytes_are : found.bytes.items ≡ enc (shape_of old) (type_of found.message) (message_of found.message)
+abbrev pub IsFound : Parts → Parts → Text → Found → Type 0
+IsFound old new root found = IsBreaking old new root found.message

@@ -5,18 +5,31 @@ use Rattle.pg_gate.specs.declared.error.Fault.TheVariants.{MissingFile, SourceFa
 use Rattle.pg_gate.specs.declared.error.GateError.{GateError}
 use Rattle.pg_gate.specs.declared.error.GateError.TheVariants.{Memory, RootMissingOld, RootMissingNew, Compile, WriteFailed}
 use Rattle.pg_gate.specs.declared.error.TextError.{TextError}
-use Rattle.pg_gate.specs.declared.error.TextError.TheVariants.{NotProto3, Unexpected, DuplicateName, BadNumber, DuplicateNumber, TooManyTypes}
+use Rattle.pg_gate.specs.declared.error.TextError.TheVariants as texts
 use Rattle.pg_gate.specs.declared.refusal.Location.{Location}
 use Rattle.pg_gate.specs.declared.refusal.Location.TheVariants.{Nowhere, InPlace, InFile}
 use Rattle.pg_gate.specs.declared.refusal.Refusal.{Refusal}
 
 abbrev pub code_of_text : TextError → ℕ
-code_of_text NotProto3 = 201
-code_of_text Unexpected = 202
-code_of_text DuplicateName = 304
-code_of_text BadNumber = 401
-code_of_text DuplicateNumber = 402
-code_of_text TooManyTypes = 413
+code_of_text texts.NotUtf8 = 101
+code_of_text texts.BadCharacter = 102
+code_of_text texts.OpenString = 103
+code_of_text texts.BadEscape = 104
+code_of_text texts.OpenComment = 105
+code_of_text texts.NumberTooLarge = 106
+code_of_text texts.FloatLiteral = 107
+code_of_text texts.FileTooLong = 108
+code_of_text texts.NotProto3 = 201
+code_of_text texts.Unexpected = 202
+code_of_text texts.Group = 203
+code_of_text texts.Extension = 204
+code_of_text texts.CustomOption = 205
+code_of_text texts.WeakImport = 206
+code_of_text texts.NestedTooDeep = 207
+code_of_text texts.DuplicateName = 304
+code_of_text texts.BadNumber = 401
+code_of_text texts.DuplicateNumber = 402
+code_of_text texts.TooManyTypes = 413
 
 abbrev pub code_of : Fault → ℕ
 code_of (MissingFile file) = 301

@@ -1,17 +1,54 @@
 //! What a call is answered, from its sources.
-ghost use Rattle.std.specs.Prelude.{[], ◌∷◌, IfErr, IfOk};
+ghost use Rattle.std.specs.Prelude.{◌≡◌, ◌≤◌, [], ◌∷◌, length, IfErr, IfOk};
+ghost use Rattle.pg_dyn.specs.Encoding.{cap, enc};
+ghost use Rattle.pg_dyn.specs.Fits.{Fits};
+ghost use Rattle.pg_dyn.specs.Kept.{message_of, type_of};
+ghost use Rattle.pg_schema.specs.Parts.{shape_of};
+ghost use Rattle.pg_gate.specs.Breaking.{IsRefusedRoot};
 ghost use Rattle.pg_gate.specs.Call.{request_of, sides_of};
 ghost use Rattle.pg_gate.specs.Files.{paths_of};
-ghost use Rattle.pg_gate.specs.Grants.{Grants, IsFinding, IsGateError, files_at, seen};
+ghost use Rattle.pg_gate.specs.Grants.{Grants, IsFinding, IsFindingOf, IsGateError, files_at, seen};
+ghost use Rattle.pg_gate.specs.declared.error.GateError.TheVariants as errors;
 
+use crate::breaking::{Answer, gate};
 use crate::call::{Call, Sides};
 use crate::compile::compile;
 use crate::error::{GateError, Side};
 use crate::refusal::refusal_of;
 use crate::reply::{Finding, Reply};
-use crate::trial::search;
+use pg_dyn::{DynError, Message, encode};
 use pg_link::Sources;
+use pg_schema::Schema;
 use std::alloc::{AllocError, Global};
+
+/// The bytes of a message that has an encoding.
+fn written(alloc: Global, schema: &Schema, message: &Message) -> Result<Vec<u8>, GateError>
+    requires fits { Fits (shape_of schema.now) message.now }
+    requires short { length (enc (shape_of schema.now) (type_of message.now) (message_of message.now)) ≤ cap }
+    ensures written { IfOk result (λ bytes.
+        bytes.items ≡ enc (shape_of schema.now) (type_of message.now) (message_of message.now)) }
+    ensures refused { IfErr result (λ error. error ≡ errors.Memory) }
+{
+    match encode(alloc, schema, message) {
+        Ok(bytes) => Ok(bytes),
+        Err(DynError::Memory) => Err(GateError::Memory),
+        Err(_) => unreachable!(),
+    }
+}
+
+/// What the gate finds between two schemas.
+fn between(alloc: Global, old: &Schema, new: &Schema, root: &str) -> Result<Finding, GateError>
+    ensures found { IfOk result (IsFindingOf old.now new.now root.now) }
+    ensures refused { IfErr result (IsRefusedRoot old.now new.now root.now) }
+{
+    match gate(alloc, old, new, root)? {
+        Answer::Breaks { witness } => {
+            let witness = written(alloc, old, &witness)?;
+            Ok(Finding::Breaks { witness })
+        }
+        Answer::Undecided => Ok(Finding::Undecided),
+    }
+}
 
 /// What the gate finds between the two sides.
 fn find<S: Sources, T: Sources>(
@@ -21,21 +58,30 @@ fn find<S: Sources, T: Sources>(
     old: &mut S,
     new: &mut T,
 ) -> Result<Finding, GateError>
-    ensures found { IfOk result (IsFinding root.now) }
-    ensures refused { IfErr result (IsGateError
+    ensures found { IfOk result (IsFinding root.now
         (seen (S.may_give old.old) (S.may_lack old.old) (S.failures old.old) (S.failures old.new))
         (seen (T.may_give new.old) (T.may_lack new.old) (T.failures new.old) (T.failures new.new))
         (files_at sides.now.old_dir.now (sides.now.old.now ∷ []))
         (files_at sides.now.new_dir.now (sides.now.new.now ∷ []))) }
+    ensures refused { IfErr result (IsGateError root.now
+        (seen (S.may_give old.old) (S.may_lack old.old) (S.failures old.old) (S.failures old.new))
+        (seen (T.may_give new.old) (T.may_lack new.old) (T.failures new.old) (T.failures new.new))
+        (files_at sides.now.old_dir.now (sides.now.old.now ∷ []))
+        (files_at sides.now.new_dir.now (sides.now.new.now ∷ []))) }
+    ensures old_given { S.may_give old.new ≡ S.may_give old.old }
+    ensures old_lacked { S.may_lack old.new ≡ S.may_lack old.old }
+    ensures new_given { T.may_give new.new ≡ T.may_give new.old }
+    ensures new_lacked { T.may_lack new.new ≡ T.may_lack new.old }
 {
     let old_schema = compile(alloc, old, Side::Old, sides.old_dir, &[sides.old])?;
     let new_schema = compile(alloc, new, Side::New, sides.new_dir, &[sides.new])?;
-    match search(alloc, &old_schema, &new_schema, root)? {
-        Some(found) => Ok(Finding::Breaks {
-            witness: found.bytes,
-        }),
-        None => Ok(Finding::Undecided),
-    }
+    let Some(old_schema) = &old_schema else {
+        return Ok(Finding::Undecided);
+    };
+    let Some(new_schema) = &new_schema else {
+        return Ok(Finding::Undecided);
+    };
+    between(alloc, old_schema, new_schema, root)
 }
 
 /// The answer to a call, from its sources.
@@ -45,10 +91,14 @@ pub(crate) fn answer<S: Sources, T: Sources>(
     old: &mut S,
     new: &mut T,
 ) -> Result<Reply, AllocError>
-    ensures { IfOk result (Grants
+    ensures granted { IfOk result (Grants
         (seen (S.may_give old.old) (S.may_lack old.old) (S.failures old.old) (S.failures old.new))
         (seen (T.may_give new.old) (T.may_lack new.old) (T.failures new.old) (T.failures new.new))
         (request_of call.now)) }
+    ensures old_given { S.may_give old.new ≡ S.may_give old.old }
+    ensures old_lacked { S.may_lack old.new ≡ S.may_lack old.old }
+    ensures new_given { T.may_give new.new ≡ T.may_give new.old }
+    ensures new_lacked { T.may_lack new.new ≡ T.may_lack new.old }
 {
     let found = match call {
         Call::Gate { sides, root } => find(alloc, sides, root, old, new),

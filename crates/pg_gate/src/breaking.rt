@@ -1,8 +1,8 @@
 //! The gate: a message of the old type that a reader of the new type doesn't keep.
 ghost use Rattle.std.specs.Prelude.{◌≡◌, Err, codes, IfErr, IfOk};
-ghost use Rattle.pg_gate.specs.Breaking.{IsAnswer, IsAnswerOfFiles, IsRefusedRoot, Lacks};
+ghost use Rattle.pg_gate.specs.Breaking.{IsAnswer, IsRefusedRoot, Lacks};
 ghost use Rattle.pg_gate.specs.Files.{paths_of};
-ghost use Rattle.pg_gate.specs.Grants.{IsGateError, files_at, seen};
+ghost use Rattle.pg_gate.specs.Grants.{IsAnswerOfFiles, IsGateError, files_at, seen};
 ghost use Rattle.pg_gate.specs.declared.error.GateError.TheVariants as errors;
 
 use crate::compile::compile;
@@ -44,9 +44,13 @@ pub fn gate(alloc: Global, old: &Schema, new: &Schema, root: &str) -> Result<Ans
     }
 }
 
-/// The same over two sources: the schemas are those of the texts at these paths, the old side
-/// compiled first. A side that does not compile is refused with its fault (`Compile`): a file
-/// that its source may lack, a source that failed, or a fault in a text.
+/// The same over two sources: the schemas are those of the texts at these paths, each read once, the
+/// old side first. A side whose texts hold anything but messages of scalar fields without labels is
+/// `Undecided`, after the faults of both sides and before a missing root.
+///
+/// Refused are want of memory (`Memory`); a side with its first fault (`Compile`): a file that its
+/// source lacks, a source that failed, or a fault in a text, which stands at a byte of it; and a
+/// missing root, as `gate` refuses it.
 pub fn gate_files<S: Sources, T: Sources>(
     alloc: Global,
     old: &mut S,
@@ -55,13 +59,28 @@ pub fn gate_files<S: Sources, T: Sources>(
     new_roots: &[&str],
     root: &str,
 ) -> Result<Answer, GateError>
-    ensures answer { IfOk result (IsAnswerOfFiles root.now) }
-    ensures refused { IfErr result (IsGateError
+    // The answer is that of texts that the sources may give, and so is each refusal.
+    ensures answer { IfOk result (IsAnswerOfFiles root.now
         (seen (S.may_give old.old) (S.may_lack old.old) (S.failures old.old) (S.failures old.new))
         (seen (T.may_give new.old) (T.may_lack new.old) (T.failures new.old) (T.failures new.new))
         (files_at (codes ".") (paths_of old_roots.now)) (files_at (codes ".") (paths_of new_roots.now))) }
+    ensures refused { IfErr result (IsGateError root.now
+        (seen (S.may_give old.old) (S.may_lack old.old) (S.failures old.old) (S.failures old.new))
+        (seen (T.may_give new.old) (T.may_lack new.old) (T.failures new.old) (T.failures new.new))
+        (files_at (codes ".") (paths_of old_roots.now)) (files_at (codes ".") (paths_of new_roots.now))) }
+    // The sources' reads leave what they may give and lack.
+    ensures old_given { S.may_give old.new ≡ S.may_give old.old }
+    ensures old_lacked { S.may_lack old.new ≡ S.may_lack old.old }
+    ensures new_given { T.may_give new.new ≡ T.may_give new.old }
+    ensures new_lacked { T.may_lack new.new ≡ T.may_lack new.old }
 {
     let old_schema = compile(alloc, old, Side::Old, ".", old_roots)?;
     let new_schema = compile(alloc, new, Side::New, ".", new_roots)?;
-    gate(alloc, &old_schema, &new_schema, root)
+    let Some(old_schema) = &old_schema else {
+        return Ok(Answer::Undecided);
+    };
+    let Some(new_schema) = &new_schema else {
+        return Ok(Answer::Undecided);
+    };
+    gate(alloc, old_schema, new_schema, root)
 }

@@ -1,16 +1,25 @@
 //! A side's schema, from the texts that its source gives.
-ghost use Rattle.std.specs.Prelude.{◌≡◌, ◌+◌, ◌<◌, ◌≤◌, length, All, IfErr, IfOk};
-ghost use Rattle.pg_gate.specs.Files.{IsDeclarationError, IsDeclarationFault, IsFaultOfText, IsFileAmong, IsFileError, IsFileOf, IsSideError, paths_of, source_failures};
+ghost use Rattle.std.specs.Prelude.{◌≡◌, ◌+◌, ◌<◌, ◌≤◌, length, IfErr, IfOk, IfSome};
+ghost use Rattle.pg_gate.specs.Files.{AreRead, IsCompiled, IsDeclarationError, IsDeclarationFault, IsDeclaredBy, IsFaultAt, IsFileError, IsFileOf, IsFileText, IsFlatSide, IsRule, IsSideError, paths_of, source_failures};
 
 use crate::error::{Fault, GateError, Place, Side, TextError};
-use crate::text::{CheckError, ReadError, TextFile, messages_in, parts_of};
+use crate::text::{CheckError, FlatFile, ReadError, messages_in, parts_of, tree_of};
 use pg_lex::place;
 use pg_link::{SourceError, Sources, read_below};
 use pg_schema::{PartsError, Schema};
+use pg_syntax::tree::FileTree;
 use std::alloc::{AllocError, Global};
 use std::collections::BTreeSet;
 
-/// Why a text is refused, with its place.
+/// A file that was read, with its tree.
+#[derive(Drop)]
+pub(crate) struct TextFile {
+    pub(crate) path: String,
+    pub(crate) text: Vec<u8>,
+    pub(crate) tree: FileTree,
+}
+
+/// A fault of a text, with its place.
 fn in_text(
     alloc: Global,
     path: &str,
@@ -18,7 +27,7 @@ fn in_text(
     error: TextError,
     at: usize,
 ) -> Result<Fault, AllocError>
-    ensures { IfOk result (IsFaultOfText path.now text.now.items) }
+    ensures { IfOk result (IsFaultAt path.now text.now.items error at) }
 {
     let (line, column) = place(text, at);
     let file = String::from_str(alloc, path)?;
@@ -28,7 +37,35 @@ fn in_text(
     })
 }
 
-/// Reads a file of a side and its messages.
+/// Reads the text of a file of a side.
+fn read_text<S: Sources>(
+    alloc: Global,
+    source: &mut S,
+    side: Side,
+    folder: &str,
+    path: &str,
+) -> Result<Vec<u8>, GateError>
+    ensures read { IfOk result (λ text. IsFileText (S.may_give source.old) folder.now path.now text.items) }
+    ensures refused { IfErr result (IsFileError (S.may_give source.old) (S.may_lack source.old) side folder.now path.now) }
+    ensures counted { S.failures source.old + source_failures result ≤ S.failures source.new }
+    ensures same_given { S.may_give source.new ≡ S.may_give source.old }
+    ensures same_lacked { S.may_lack source.new ≡ S.may_lack source.old }
+{
+    match read_below(alloc, source, folder, path) {
+        Ok(text) => Ok(text),
+        Err(SourceError::Missing) => {
+            let file = String::from_str(alloc, path)?;
+            Err(GateError::Compile(side, Fault::MissingFile { file }))
+        }
+        Err(SourceError::Failed) => {
+            let file = String::from_str(alloc, path)?;
+            Err(GateError::Compile(side, Fault::SourceFailed { file }))
+        }
+        Err(SourceError::Memory) => Err(GateError::Memory),
+    }
+}
+
+/// Reads a file of a side, and its tree.
 fn read_file<S: Sources>(
     alloc: Global,
     source: &mut S,
@@ -42,26 +79,11 @@ fn read_file<S: Sources>(
     ensures same_given { S.may_give source.new ≡ S.may_give source.old }
     ensures same_lacked { S.may_lack source.new ≡ S.may_lack source.old }
 {
-    let text = match read_below(alloc, source, folder, path) {
-        Ok(text) => text,
-        Err(SourceError::Missing) => {
-            let file = String::from_str(alloc, path)?;
-            return Err(GateError::Compile(side, Fault::MissingFile { file }));
-        }
-        Err(SourceError::Failed) => {
-            let file = String::from_str(alloc, path)?;
-            return Err(GateError::Compile(side, Fault::SourceFailed { file }));
-        }
-        Err(SourceError::Memory) => return Err(GateError::Memory),
-    };
-    match messages_in(alloc, &text) {
-        Ok(messages) => {
+    let text = read_text(alloc, source, side, folder, path)?;
+    match tree_of(alloc, &text) {
+        Ok(tree) => {
             let path = String::from_str(alloc, path)?;
-            Ok(TextFile {
-                path,
-                text,
-                messages,
-            })
+            Ok(TextFile { path, text, tree })
         }
         Err(ReadError::Memory) => Err(GateError::Memory),
         Err(ReadError::Fault { error, at }) => {
@@ -79,8 +101,7 @@ fn read_files<S: Sources>(
     folder: &str,
     paths: &[&str],
 ) -> Result<Vec<TextFile>, GateError>
-    ensures read { IfOk result (λ files.
-        All (IsFileAmong (S.may_give source.old) folder.now (paths_of paths.now)) files.items) }
+    ensures read { IfOk result (λ files. AreRead (S.may_give source.old) folder.now (paths_of paths.now) files.items) }
     ensures refused { IfErr result (IsSideError (S.may_give source.old) (S.may_lack source.old)
         side folder.now (paths_of paths.now)) }
     ensures counted { S.failures source.old + source_failures result ≤ S.failures source.new }
@@ -101,6 +122,26 @@ fn read_files<S: Sources>(
     Ok(files)
 }
 
+/// The messages of the files, where all of them are flat.
+fn flat_files<'a>(
+    alloc: Global,
+    files: &'a [TextFile],
+) -> Result<Option<Vec<FlatFile<'a>>>, AllocError>
+    ensures { IfOk result (IsFlatSide files.now) }
+{
+    let mut flat = Vec::new(alloc);
+    for file in files {
+        let Some(messages) = messages_in(alloc, &file.tree)? else {
+            return Ok(None);
+        };
+        flat.push(FlatFile {
+            path: &file.path,
+            messages,
+        })?;
+    }
+    Ok(Some(flat))
+}
+
 /// Why one of the files is refused, with its place.
 fn in_file(
     alloc: Global,
@@ -109,18 +150,23 @@ fn in_file(
     error: TextError,
     at: usize,
 ) -> Result<Fault, AllocError>
-    requires { index < length files.now }
+    requires within { index < length files.now }
+    requires rule { IsRule error }
     ensures { IfOk result (IsDeclarationFault files.now) }
 {
     let file = &files[index];
     in_text(alloc, &file.path, &file.text, error, at)
 }
 
-/// The schema that the files declare.
-fn schema_of(alloc: Global, side: Side, files: &[TextFile]) -> Result<Schema, GateError>
+/// The schema that the files declare, where all of them are flat.
+fn schema_of(alloc: Global, side: Side, files: &[TextFile]) -> Result<Option<Schema>, GateError>
+    ensures declared { IfOk result (IsDeclaredBy files.now) }
     ensures refused { IfErr result (IsDeclarationError side files.now) }
 {
-    let parts = match parts_of(alloc, files) {
+    let Some(flat) = flat_files(alloc, files)? else {
+        return Ok(None);
+    };
+    let parts = match parts_of(alloc, &flat) {
         Ok(parts) => parts,
         Err(CheckError::Memory) => return Err(GateError::Memory),
         Err(CheckError::Fault { error, file, at }) => {
@@ -129,20 +175,22 @@ fn schema_of(alloc: Global, side: Side, files: &[TextFile]) -> Result<Schema, Ga
         }
     };
     match Schema::from_parts(alloc, parts) {
-        Ok(schema) => Ok(schema),
+        Ok(schema) => Ok(Some(schema)),
         Err((PartsError::Memory, _)) => Err(GateError::Memory),
-        Err((PartsError::Invariant, _)) => Err(GateError::Memory),
+        Err((PartsError::Invariant, _)) => Ok(None),
     }
 }
 
-/// The schema of a side's texts at these paths below the folder.
+/// The schema of a side's texts at these paths below the folder. None where they declare anything
+/// but messages of scalar fields without labels.
 pub(crate) fn compile<S: Sources>(
     alloc: Global,
     source: &mut S,
     side: Side,
     folder: &str,
     paths: &[&str],
-) -> Result<Schema, GateError>
+) -> Result<Option<Schema>, GateError>
+    ensures compiled { IfOk result (IsCompiled (S.may_give source.old) folder.now (paths_of paths.now)) }
     ensures refused { IfErr result (IsSideError (S.may_give source.old) (S.may_lack source.old)
         side folder.now (paths_of paths.now)) }
     ensures counted { S.failures source.old + source_failures result ≤ S.failures source.new }

@@ -23,12 +23,51 @@ pub struct Place {
 /// What is wrong in a text.
 #[derive(Clone, Copy, Debug, PartialEq, Eq, Error)]
 pub enum TextError {
+    /// E101: the longest front that is UTF-8 ends here.
+    #[error("not UTF-8")]
+    NotUtf8,
+    /// E102: a byte that begins no token, blank or comment, or a digit that begins no number.
+    #[error("no token begins here")]
+    BadCharacter,
+    /// E103: a string literal that doesn't end on its line.
+    #[error("the string does not end on its line")]
+    OpenString,
+    /// E104: a string literal with an escape that there is none of, or whose text isn't UTF-8.
+    #[error("the string has a bad escape")]
+    BadEscape,
+    /// E105: a `/*` without its `*/`.
+    #[error("the comment does not end")]
+    OpenComment,
+    /// E106: a number above 2^64 - 1.
+    #[error("the number is too large")]
+    NumberTooLarge,
+    /// E107: a float literal.
+    #[error("float literals are not supported")]
+    FloatLiteral,
+    /// E108: the text has more than 4,194,304 bytes.
+    #[error("the file is too long")]
+    FileTooLong,
     /// E201: the file doesn't begin with `syntax = "proto3"`.
     #[error("not a proto3 file")]
     NotProto3,
-    /// E202: this reader goes on with no such token.
+    /// E202: no proto3 file goes on with this token, or none ends here.
     #[error("unexpected token")]
     Unexpected,
+    /// E203: a group.
+    #[error("groups are not supported")]
+    Group,
+    /// E204: an `extend` or `extensions` statement.
+    #[error("extensions are not supported")]
+    Extension,
+    /// E205: a custom option.
+    #[error("custom options are not supported")]
+    CustomOption,
+    /// E206: a weak import.
+    #[error("weak imports are not supported")]
+    WeakImport,
+    /// E207: a message below 64 others.
+    #[error("messages nested too deep")]
+    NestedTooDeep,
     /// E304: the scope has the name already.
     #[error("name declared twice")]
     DuplicateName,

@@ -78,6 +78,12 @@ pub fn run<S: Sources, T: Sources, W: Sink>(
     ensures only { IfErr result IsRunError }
     ensures untouched { IsErrOf result GateError.Memory → W.taken sink.new ≡ W.taken sink.old }
     ensures counted { W.failures sink.new ≡ W.failures sink.old + failures_in result }
+
+    // The sources' reads leave what they may give and lack.
+    ensures old_given { S.may_give old.new ≡ S.may_give old.old }
+    ensures old_lacked { S.may_lack old.new ≡ S.may_lack old.old }
+    ensures new_given { T.may_give new.new ≡ T.may_give new.old }
+    ensures new_lacked { T.may_lack new.new ≡ T.may_lack new.old }
 {
     let call = match command_line::call_of(alloc, words) {
         Ok(call) => call,

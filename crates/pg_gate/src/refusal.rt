@@ -50,8 +50,21 @@ impl TextError {
         ensures { result ≡ refusals.code_of_text self }
     {
         match self {
+            TextError::NotUtf8 => 101,
+            TextError::BadCharacter => 102,
+            TextError::OpenString => 103,
+            TextError::BadEscape => 104,
+            TextError::OpenComment => 105,
+            TextError::NumberTooLarge => 106,
+            TextError::FloatLiteral => 107,
+            TextError::FileTooLong => 108,
             TextError::NotProto3 => 201,
             TextError::Unexpected => 202,
+            TextError::Group => 203,
+            TextError::Extension => 204,
+            TextError::CustomOption => 205,
+            TextError::WeakImport => 206,
+            TextError::NestedTooDeep => 207,
             TextError::DuplicateName => 304,
             TextError::BadNumber => 401,
             TextError::DuplicateNumber => 402,

@@ -1,8 +1,9 @@
-//! The reader of texts: `syntax = "proto3";` and messages of scalar fields, divided by blanks.
+//! The texts of files: their trees, and what those of flat messages declare.
 
 mod check;
-mod grammar;
-mod token;
+mod flat;
+mod read;
 
-pub(crate) use check::{CheckError, TextFile, parts_of};
-pub(crate) use grammar::{FieldTree, MessageTree, ReadError, messages_in};
+pub(crate) use check::{CheckError, parts_of};
+pub(crate) use flat::{FlatFile, FlatMessage, messages_in};
+pub(crate) use read::{ReadError, tree_of};

@@ -1,9 +1,9 @@
-//! The rules of names and numbers, and what the messages of texts declare.
-ghost use Rattle.std.specs.Prelude.{◌<◌, length, IfErr};
-ghost use Rattle.pg_gate.specs.Files.{IsFaultIn, IsFaultOf};
+//! The rules of names and numbers, and what the messages of flat files declare.
+ghost use Rattle.std.specs.Prelude.{◌≡◌, ◌<◌, ◌++◌, length, map, string_bytes, IfErr, IfOk, OnOk};
+ghost use Rattle.pg_gate.specs.Files.{IsFaultIn, IsFaultOf, flat_names, message_name, type_name, type_names};
 
 use crate::error::TextError;
-use crate::text::grammar::{FieldTree, MessageTree};
+use crate::text::flat::{FlatField, FlatFile, FlatMessage};
 use pg_schema::{
     Element, Field, FieldOptions, File, MessageOptions, MessageType, Parts, Presence, TypeId,
 };
@@ -12,14 +12,6 @@ use std::collections::BTreeSet;
 
 /// The most message types.
 const MOST_TYPES: usize = 4096;
-
-/// A file that was read, with its messages.
-#[derive(Drop)]
-pub(crate) struct TextFile {
-    pub(crate) path: String,
-    pub(crate) text: Vec<u8>,
-    pub(crate) messages: Vec<MessageTree>,
-}
 
 /// Why files declare nothing: a fault at a byte of one of them.
 #[derive(Clone, Copy, Debug)]
@@ -55,12 +47,12 @@ impl<T: Drop> From<AllocFailed<T>> for CheckError {
 }
 
 /// Refuses a name that stands twice among the fields.
-fn check_field_names(alloc: Global, fields: &[FieldTree], file: usize) -> Result<(), CheckError>
+fn check_field_names(alloc: Global, fields: &[FlatField<'_>], file: usize) -> Result<(), CheckError>
     ensures { IfErr result (IsFaultOf file) }
 {
     let mut names = BTreeSet::new(alloc);
     for field in fields {
-        if !names.insert(field.name.as_str())? {
+        if !names.insert(field.name)? {
             return Err(CheckError::Fault {
                 error: TextError::DuplicateName,
                 file,
@@ -73,13 +65,13 @@ fn check_field_names(alloc: Global, fields: &[FieldTree], file: usize) -> Result
 
 /// Refuses a name that stands twice among the messages of all files, or among the fields of one,
 /// at the first declaration whose name was there before.
-fn check_names(alloc: Global, files: &[TextFile]) -> Result<(), CheckError>
+fn check_names(alloc: Global, files: &[FlatFile<'_>]) -> Result<(), CheckError>
     ensures { IfErr result (IsFaultIn (length files.now)) }
 {
     let mut names = BTreeSet::new(alloc);
     for (index, file) in files.iter().enumerate() {
         for message in &file.messages {
-            if !names.insert(message.name.as_str())? {
+            if !names.insert(message.name)? {
                 return Err(CheckError::Fault {
                     error: TextError::DuplicateName,
                     file: index,
@@ -120,14 +112,14 @@ fn json_name(alloc: Global, name: &str) -> Result<String, AllocError> {
     Ok(json)
 }
 
-fn field_of(alloc: Global, tree: &FieldTree, number: u32) -> Result<Field, AllocError> {
+fn field_of(alloc: Global, field: &FlatField<'_>, number: u32) -> Result<Field, AllocError> {
     Ok(Field {
         number,
-        name: tree.name.clone()?,
+        name: String::from_str(alloc, field.name)?,
         presence: Presence::Implicit,
-        element: Element::Scalar(tree.scalar),
+        element: Element::Scalar(field.scalar),
         oneof: None,
-        json_name: json_name(alloc, &tree.name)?,
+        json_name: json_name(alloc, field.name)?,
         states_optional: false,
         options: FieldOptions {
             packed: None,
@@ -139,7 +131,7 @@ fn field_of(alloc: Global, tree: &FieldTree, number: u32) -> Result<Field, Alloc
 /// The fields by rising number, and their numbers in order of declaration.
 fn fields_of(
     alloc: Global,
-    trees: &[FieldTree],
+    flat: &[FlatField<'_>],
     file: usize,
 ) -> Result<(Vec<Field>, Vec<u32>), CheckError>
     ensures { IfErr result (IsFaultOf file) }
@@ -147,9 +139,9 @@ fn fields_of(
     let mut numbers = BTreeSet::new(alloc);
     let mut fields = Vec::new(alloc);
     let mut declared = Vec::new(alloc);
-    for tree in trees {
-        let at = tree.at;
-        let Some(number) = field_number(tree.number) else {
+    for field in flat {
+        let at = field.at;
+        let Some(number) = field_number(field.number) else {
             return Err(CheckError::Fault {
                 error: TextError::BadNumber,
                 file,
@@ -164,18 +156,23 @@ fn fields_of(
             });
         }
         declared.push(number)?;
-        fields.push(field_of(alloc, tree, number)?)?;
+        fields.push(field_of(alloc, field, number)?)?;
     }
     fields.sort_by_key(|field| field.number)?;
     Ok((fields, declared))
 }
 
-fn message_type(alloc: Global, tree: &MessageTree, file: usize) -> Result<MessageType, CheckError>
-    ensures { IfErr result (IsFaultOf file) }
+fn message_type(
+    alloc: Global,
+    message: &FlatMessage<'_>,
+    file: usize,
+) -> Result<MessageType, CheckError>
+    ensures named { IfOk result (λ t. string_bytes t.name ≡ message.now.name.now) }
+    ensures refused { IfErr result (IsFaultOf file) }
 {
-    let (fields, declared) = fields_of(alloc, &tree.fields, file)?;
+    let (fields, declared) = fields_of(alloc, &message.fields, file)?;
     Ok(MessageType {
-        name: tree.name.clone()?,
+        name: String::from_str(alloc, message.name)?,
         fields,
         declared,
         oneofs: Vec::new(alloc),
@@ -190,11 +187,12 @@ fn message_type(alloc: Global, tree: &MessageTree, file: usize) -> Result<Messag
 /// Adds the message types of a file, and gives their places.
 fn push_types(
     alloc: Global,
-    messages: &[MessageTree],
+    messages: &[FlatMessage<'_>],
     file: usize,
     types: &mut Vec<MessageType>,
 ) -> Result<Vec<TypeId>, CheckError>
-    ensures { IfErr result (IsFaultOf file) }
+    ensures named { OnOk result (map type_name types.new.items ≡ map type_name types.old.items ++ map message_name messages.now) }
+    ensures refused { IfErr result (IsFaultOf file) }
 {
     let mut places = Vec::new(alloc);
     for message in messages {
@@ -229,8 +227,9 @@ fn file_of(alloc: Global, path: &str, types: Vec<TypeId>) -> Result<File, AllocE
 /// What the files declare. A fault is that of the first declaration that has one: first a name
 /// that was there before, then a number that may not stand or was there before, or one message
 /// type too many.
-pub(crate) fn parts_of(alloc: Global, files: &[TextFile]) -> Result<Parts, CheckError>
-    ensures { IfErr result (IsFaultIn (length files.now)) }
+pub(crate) fn parts_of(alloc: Global, files: &[FlatFile<'_>]) -> Result<Parts, CheckError>
+    ensures named { IfOk result (λ parts. type_names parts ≡ flat_names files.now) }
+    ensures refused { IfErr result (IsFaultIn (length files.now)) }
 {
     check_names(alloc, files)?;
     let mut parts = Parts {
@@ -241,7 +240,7 @@ pub(crate) fn parts_of(alloc: Global, files: &[TextFile]) -> Result<Parts, Check
     };
     for (index, file) in files.iter().enumerate() {
         let types = push_types(alloc, &file.messages, index, &mut parts.types)?;
-        parts.files.push(file_of(alloc, &file.path, types)?)?;
+        parts.files.push(file_of(alloc, file.path, types)?)?;
     }
     Ok(parts)
 }

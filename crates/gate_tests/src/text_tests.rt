@@ -1,0 +1,172 @@
+//! What the whole grammar refuses, and texts of more than flat messages.
+use crate::runs::{buffer, run_missing, run_on, text_of};
+use std::process::Abort;
+use std::test::Fail;
+
+/// A flat text with the message `M`.
+static ONE: &str = "syntax = \"proto3\";\nmessage M { int32 a = 1; }\n";
+
+/// Expects what the gate on the two texts prints, and its status.
+fn answer_of<R: Abort + AllocGlobal>(
+    rt: &R,
+    old: &[u8],
+    new: &[u8],
+    printed: &str,
+    status: u8,
+) -> Result<(), Fail> {
+    let mut sink = buffer(rt.alloc())?;
+    let ended = run_on(rt.alloc(), old, new, &mut sink)?;
+    assert_eq!(rt; ended, status, "status of {printed}");
+    assert!(rt;
+        sink.bytes.as_slice() == printed.as_bytes(),
+        "text {printed}"
+    );
+    Ok(())
+}
+
+/// The second line of an old text, and what it is refused for.
+static REFUSED: [(&str, &str); 13] = [
+    (
+        "message M { repeated group G = 1 { } }",
+        "E203 o.proto:2:22",
+    ),
+    ("extend M { }", "E204 o.proto:2:1"),
+    ("message M { extensions 1; }", "E204 o.proto:2:13"),
+    ("option (x) = 1;", "E205 o.proto:2:8"),
+    ("import weak \"a.proto\";", "E206 o.proto:2:8"),
+    ("message M { message a = 1; }", "E202 o.proto:2:23"),
+    ("option x = 1.5;", "E107 o.proto:2:12"),
+    ("message M { } $", "E102 o.proto:2:15"),
+    ("option x = \"\\q\";", "E104 o.proto:2:12"),
+    ("message M { } /* ", "E105 o.proto:2:15"),
+    (
+        "message M { int32 a = 18446744073709551616; }",
+        "E106 o.proto:2:23",
+    ),
+    ("option x = \"a;", "E103 o.proto:2:12"),
+    ("message M { int32 a = 1 }", "E202 o.proto:2:25"),
+];
+
+#[test]
+fn refuses_what_the_grammar_leaves_out(rt: HostRuntime) -> Result<(), Fail> {
+    for (line, refusal) in REFUSED {
+        let old = text_of(rt.alloc(), line)?;
+        let printed = format!(in rt.alloc(); "refused old {refusal}\n")?;
+        answer_of(&rt, old.as_bytes(), ONE.as_bytes(), &printed, 2)?;
+    }
+    Ok(())
+}
+
+/// Whole texts, and what they are refused for.
+static TEXTS: [(&[u8], &str); 4] = [
+    (b"syntax = \"proto3;\n", "E103 o.proto:1:10"),
+    (b"", "E201 o.proto:1:1"),
+    (
+        b"syntax = \"proto3\";\nmessage M { } \xff",
+        "E101 o.proto:2:15",
+    ),
+    (b"\xef\xbb\xbf", "E201 o.proto:1:4"),
+];
+
+#[test]
+fn refuses_texts_without_a_tree(rt: HostRuntime) -> Result<(), Fail> {
+    for (text, refusal) in TEXTS {
+        let printed = format!(in rt.alloc(); "refused old {refusal}\n")?;
+        answer_of(&rt, text, ONE.as_bytes(), &printed, 2)?;
+    }
+    Ok(())
+}
+
+#[test]
+fn refuses_a_text_that_is_too_long(rt: HostRuntime) -> Result<(), Fail> {
+    let text = "// one of the lines that make the text too long\n".repeat(rt.alloc(), 90_000)?;
+    let printed = "refused old E108 o.proto:1:1\n";
+    answer_of(&rt, text.as_bytes(), ONE.as_bytes(), printed, 2)
+}
+
+/// Lines that hold something else than messages of scalar fields without labels.
+static OTHER: [&str; 21] = [
+    "import \"a.proto\";",
+    "import public \"a.proto\";",
+    "package p;",
+    "option java_package = \"x\";",
+    "enum E { A = 0; }",
+    "service S { }",
+    ";",
+    "message N { message O { } }",
+    "message N { enum E { A = 0; } }",
+    "message N { oneof k { int32 a = 1; } }",
+    "message N { map<int32, int32> a = 1; }",
+    "message N { reserved 2; }",
+    "message N { option deprecated = true; }",
+    "message N { ; }",
+    "message N { repeated int32 a = 1; }",
+    "message N { optional int32 a = 1; }",
+    "message N { int32 a = 1 [deprecated = true]; }",
+    "message N { N a = 1; }",
+    "message N { .int32 a = 1; }",
+    "message N { int32.b a = 1; }",
+    "message N { Int32 a = 1; }",
+];
+
+/// Expects that the gate on the two texts is undecided of a message that none declares.
+fn is_undecided<R: Abort + AllocGlobal>(rt: &R, old: &[u8], new: &[u8]) -> Result<(), Fail> {
+    let mut sink = buffer(rt.alloc())?;
+    let ended = run_missing(rt.alloc(), old, new, &mut sink)?;
+    assert_eq!(rt; ended, 5);
+    assert!(rt; sink.bytes.as_slice() == b"undecided Z\n".as_slice());
+    Ok(())
+}
+
+/// That is told on either side, before a missing root is.
+#[test]
+fn leaves_other_files_undecided(rt: HostRuntime) -> Result<(), Fail> {
+    for line in OTHER {
+        let other = text_of(rt.alloc(), line)?;
+        is_undecided(&rt, other.as_bytes(), ONE.as_bytes())?;
+        is_undecided(&rt, ONE.as_bytes(), other.as_bytes())?;
+    }
+    Ok(())
+}
+
+/// The faults of both texts come before that, also of a flat text its names and numbers.
+#[test]
+fn tells_faults_before_it_is_undecided(rt: HostRuntime) -> Result<(), Fail> {
+    let other = text_of(rt.alloc(), "enum E { A = 0; }")?;
+    let open = text_of(rt.alloc(), "option x = \"a;")?;
+    let twice = text_of(rt.alloc(), "message M { int32 a = 1; int32 b = 1; }")?;
+    let (other, open, twice) = (other.as_bytes(), open.as_bytes(), twice.as_bytes());
+    let refused = "refused new E103 n.proto:2:12\n";
+    answer_of(&rt, other, open, refused, 2)?;
+    let refused = "refused new E402 n.proto:2:32\n";
+    answer_of(&rt, other, twice, refused, 2)?;
+    let refused = "refused old E402 o.proto:2:32\n";
+    answer_of(&rt, twice, other, refused, 2)
+}
+
+/// Messages of a name that stands twice are told only of flat files.
+#[test]
+fn leaves_the_names_of_other_files(rt: HostRuntime) -> Result<(), Fail> {
+    let other = text_of(rt.alloc(), "message M { } message M { } enum E { A = 0; }")?;
+    answer_of(&rt, other.as_bytes(), ONE.as_bytes(), "undecided M\n", 5)
+}
+
+#[test]
+fn takes_messages_64_deep(rt: HostRuntime) -> Result<(), Fail> {
+    let deep = "message M { ".repeat(rt.alloc(), 64)?;
+    let ends = "} ".repeat(rt.alloc(), 64)?;
+    let text = format!(in rt.alloc(); "syntax = \"proto3\";\n{deep}{ends}\n")?;
+    answer_of(&rt, text.as_bytes(), ONE.as_bytes(), "undecided M\n", 5)?;
+    let text = format!(in rt.alloc(); "syntax = \"proto3\";\n{deep}message M {{ }} {ends}\n")?;
+    let printed = "refused old E207 o.proto:2:769\n";
+    answer_of(&rt, text.as_bytes(), ONE.as_bytes(), printed, 2)
+}
+
+/// Numbers are taken in each of their forms, and comments and a byte order mark are blanks.
+#[test]
+fn takes_all_spellings_of_a_flat_text(rt: HostRuntime) -> Result<(), Fail> {
+    let old = "\u{feff}syntax = 'pro' \"to3\"; // C\nmessage M { int32 message = 0x10; /* */ }";
+    let new = text_of(rt.alloc(), "message M { bool stream = 020; }")?;
+    let printed = "breaks M 3\nwitness 800102\n";
+    answer_of(&rt, old.as_bytes(), new.as_bytes(), printed, 1)
+}

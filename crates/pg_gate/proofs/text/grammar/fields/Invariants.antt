@@ -1,8 +1,0 @@
-use Rattle.std.proofs.Common.{◌≤◌, length, ◌-◌}
-use Rattle.pg_gate.proofs.text.grammar.fields.Given as goal
-
-abbrev pub invariant-loop-next : goal.invariant-loop-next
-invariant-loop-next l = (l.behind ≤ l.next.from) × (l.next.from ≤ l.next.to) × (l.next.to ≤ length l.text)
-
-abbrev pub decreases-loop-next : goal.decreases-loop-next
-decreases-loop-next l = length l.text - l.next.from
