@@ -1,3 +1,5 @@
+pub mod OrderLaws
+pub mod PathLaws
 pub mod ResolvesLaws
 pub mod SmallFiles
 pub mod WalkLaws
