@@ -1,3 +1,5 @@
+pub mod DeclareLaws
+pub mod EntryLaws
 pub mod OrderLaws
 pub mod PathLaws
 pub mod ResolvesLaws

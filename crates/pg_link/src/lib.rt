@@ -3,6 +3,7 @@
 #![tactic(auto)]
 
 mod below;
+mod declares;
 mod error;
 mod folder;
 mod imports;
@@ -18,6 +19,7 @@ mod tally;
 mod walk;
 
 pub use below::read_below;
+pub use declares::{DeclaredName, declared_names};
 pub use error::{LinkError, Place};
 pub use folder::Folder;
 pub use index::Index;

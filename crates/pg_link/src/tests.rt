@@ -1,2 +1,3 @@
+mod declares_tests;
 mod failing_source;
 mod walk_tests;
