@@ -4,4 +4,5 @@ pub mod OrderLaws
 pub mod PathLaws
 pub mod ResolvesLaws
 pub mod SmallFiles
+pub mod StandingLaws
 pub mod WalkLaws

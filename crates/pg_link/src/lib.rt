@@ -4,6 +4,7 @@
 
 mod below;
 mod declares;
+mod declaring;
 mod error;
 mod folder;
 mod imports;
@@ -20,6 +21,7 @@ mod walk;
 
 pub use below::read_below;
 pub use declares::{DeclaredName, declared_names};
+pub use declaring::{NameError, index_names};
 pub use error::{LinkError, Place};
 pub use folder::Folder;
 pub use index::Index;
