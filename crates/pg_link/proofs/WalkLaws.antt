@@ -1,147 +1,348 @@
--- One more file that is kept, and its imports.
-use Rattle.std.proofs.Common.{◌≡◌, ◌⊎◌, inl, inr, ℕ, ◌≤◌, Bool, true, false, List, [], ◌∷◌, Some, None, Option, length, map, take, cond, refl, sym, is_some, true≢false, ap, subst, ◌∙◌, string_bytes, All, IsTrue, arith}
-use Rattle.std.proofs.lemmas.List.{take_all}
-use Rattle.std.proofs.lemmas.List.Elements.{All-map}
+-- A walk over imports, step by step.
+use Rattle.std.proofs.Common.{◌≡◌, ◌∙◌, ◌⊎◌, inl, inr, ℕ, ◌≤◌, ◌<◌, ◌+◌, Bool, true, false, ◌||◌, List, [], ◌∷◌, ◌++◌, Some, None, Option, length, map, reverse, take, drop, refl, sym, ap, subst, String, string_bytes, slice_index_or, All, IsTrue, length-append, arith, drop-cons, add-one, true≢false}
+use Rattle.std.proofs.lemmas.List.{map-append, reverse-append, take-append-drop, length-reverse, length-map, get_or-map}
+use Rattle.std.proofs.lemmas.List.Elements.{All-push, All-append, All-map, All-cons, All-head, All-tail}
+use Rattle.std.proofs.lemmas.List.Folds.{list_any-append}
 use Rattle.std.proofs.lemmas.Slice.Eq.{bytes_eq-Decides}
-use Rattle.std.specs.Map.{update}
+use Rattle.std.specs.Borrow.{Bor}
+use Rattle.std.specs.Global.{Global}
+use Rattle.std.specs.List.{list_any, Contains}
 use Rattle.std.specs.Str.{bytes_eq}
-use Rattle.std.specs.HashMap.{get_by_text}
+use Rattle.pg_syntax.specs.declared.tree as tree
+use Rattle.pg_link.specs.declared.error.LinkError as errors
+use Rattle.pg_link.specs.declared.error.LinkError.TheVariants as error
+use Rattle.pg_link.specs.declared.error.Place as places
+use Rattle.pg_link.specs.declared.imports.ImportLine as lines
+use Rattle.pg_link.specs.declared.walk.Asking as askings
 use Rattle.pg_link.specs.declared.walk.SourceFile as kept
-use Rattle.pg_link.specs.declared.walk.ImportLine as lines
-use Rattle.pg_link.specs.Below.{path_below}
-use Rattle.pg_link.specs.Files.{Import}
+use Rattle.pg_link.specs.declared.walk.Walk as walks
+use Rattle.pg_link.specs.Files.{File, Import, Differ, InOrder, is_path_of, paths_of, import_paths}
 use Rattle.pg_link.specs.Imports.{line_of}
+use Rattle.pg_link.specs.Index.{texts}
 use Rattle.pg_link.specs.Names.{Text}
 use Rattle.pg_link.specs.Outline.{file_imports}
-use Rattle.pg_link.specs.Walk.{Kept, AllGiven, AllParsed, IsParsed, Comes, Keeps, FollowsNew, IsClosed, ImportsAmong, has_path}
+use Rattle.pg_link.specs.Walk.{World, world, Gives, MayBe, ImportsAt, Comes, Reached, MayLead, Stays, Onwards, Entry, IsEntry, path_of, outline, outlines, entries, open_paths, has_path, IsSound, Follows, Asks, IsAsked, IsAskedAt, IsPlace, IsWhole, IsBeyond, IsReadFault, IsTextFault, IsImportFault, IsLinked, Refuses}
+use Rattle.pg_link.proofs.OrderLaws.{no_cycle}
 
-by_case : {X : Type 0} (b : Bool) (path other : Text) (x y z : X) → bytes_eq path other ≡ b → x ≡ cond b y z → (path ≡ other) ⊎ (x ≡ z)
-by_case true path other x y z same is = inl ((bytes_eq-Decides path other).0 same)
-by_case false path other x y z same is = inr is
+-- ---- who asks
 
-pub comes : {S : Type 0} (old new : Kept S) (bs path : Text) (file : kept.SourceFile) → bs ≡ path
-    → ((cs : Text) → get_by_text new cs ≡ update bytes_eq (get_by_text old) bs (Some file) cs) → Comes path file old new
-comes old new bs path file same is =
-    let now = subst (λ (t : Text). (cs : Text) → get_by_text new cs ≡ update bytes_eq (get_by_text old) t (Some file) cs) same is in (
-      now path ∙ rw ((bytes_eq-Decides path path).1 refl) refl,
-      λ other. by_case (bytes_eq path other) path other (get_by_text new other) (Some file) (get_by_text old other) refl (now other),
+pub comes_of : (w : World) (ps : List Text) (a : Option askings.Asking) (path : Text) → Asks w ps a path → Comes w ps path
+comes_of w [] None path asks = asks
+comes_of w [] (Some a) path asks = absurd asks
+comes_of w (p ∷ ps) None path asks = absurd asks
+comes_of w (p ∷ ps) (Some a) path asks = ((a.text.now, a.at, asks.1), asks.2)
+
+pub reached_of : (w : World) (ps : List Text) (a : Option askings.Asking) (path : Text) → Asks w ps a path → Reached w path
+reached_of w ps a path asks = (ps, comes_of w ps a path asks)
+
+asked_of : (w : World) (ps : List Text) (a : Option askings.Asking) (path : Text) (place : places.Place) → Asks w ps a path → IsAsked place a path → IsAskedAt w place path
+asked_of w [] None path place asks at = inl (asks, at)
+asked_of w [] (Some a) path place asks at = absurd asks
+asked_of w (p ∷ ps) None path place asks at = absurd asks
+asked_of w (p ∷ ps) (Some a) path place asks at =
+    inr (p, a.text.now, a.at, asks.1, (ps, asks.2), subst (λ (f : Text). IsPlace place f a.text.now a.at) asks.0 at)
+
+-- ---- refusals
+
+pub read_refused : (w : World) (ps : List Text) (a : Option askings.Asking) (path : Text) (e : errors.LinkError) → Asks w ps a path
+    → IsReadFault w.may_lack w.folder a path e → Refuses w e
+read_refused w ps a path (error.MissingFile place) asks fault = (path, asked_of w ps a path place asks fault.0, fault.1)
+read_refused w ps a path (error.SourceFailed place) asks fault = (path, reached_of w ps a path asks, fault)
+read_refused w ps a path error.Memory asks fault = tt
+read_refused w ps a path (error.Lex e place) asks fault = absurd fault
+read_refused w ps a path (error.Syntax e place) asks fault = absurd fault
+read_refused w ps a path (error.ImportCycle place) asks fault = absurd fault
+read_refused w ps a path (error.DuplicateImport place) asks fault = absurd fault
+read_refused w ps a path (error.TooManyFiles place) asks fault = absurd fault
+
+pub text_refused : (w : World) (path text : Text) (e : errors.LinkError) → Gives w path text → Reached w path → IsTextFault path text e → Refuses w e
+text_refused w path text (error.Lex e place) given reached fault =
+    record { path = path; text = text; is_given = given; reached = reached; is_place = fault.0; holds = fault.1 }
+text_refused w path text (error.Syntax e place) given reached fault =
+    record { path = path; text = text; is_given = given; reached = reached; is_place = fault.0; holds = fault.1 }
+text_refused w path text error.Memory given reached fault = tt
+text_refused w path text (error.MissingFile place) given reached fault = absurd fault
+text_refused w path text (error.SourceFailed place) given reached fault = absurd fault
+text_refused w path text (error.ImportCycle place) given reached fault = absurd fault
+text_refused w path text (error.DuplicateImport place) given reached fault = absurd fault
+text_refused w path text (error.TooManyFiles place) given reached fault = absurd fault
+
+same_path : (a b : Text) → bytes_eq a b ≡ true → a ≡ b
+same_path a b is = (bytes_eq-Decides a b).0 is
+
+-- the paths that come to a path lead to it
+leads_by : (w : World) (b : Bool) (p : Text) (ps : List Text) (from path : Text) → bytes_eq from p ≡ b → (b || is_path_of ps from) ≡ true
+    → Comes w (p ∷ ps) path → (is_path_of ps from ≡ true → MayLead w from p) → MayLead w from path
+leads_by w true p ps from path is among comes before = Onwards (subst (λ (t : Text). MayLead w from t) (same_path from p is) Stays) comes.0
+leads_by w false p ps from path is among comes before = Onwards (before among) comes.0
+
+pub leads : (w : World) (ps : List Text) (from path : Text) → Comes w ps path → is_path_of ps from ≡ true → MayLead w from path
+leads w [] from path comes among = absurd (true≢false (sym among))
+leads w (p ∷ ps) from path comes among =
+    leads_by w (bytes_eq from p) p ps from path refl among comes (λ inner. leads w ps from p comes.1 inner)
+
+-- a path that is open leads to the last of those
+leads_last : (w : World) (b : Bool) (p : Text) (ps : List Text) (from : Text) → bytes_eq from p ≡ b → (b || is_path_of ps from) ≡ true
+    → Comes w ps p → MayLead w from p
+leads_last w true p ps from is among comes = subst (λ (t : Text). MayLead w from t) (same_path from p is) Stays
+leads_last w false p ps from is among comes = leads w ps from p comes among
+
+pub import_refused : (w : World) (ps : List Text) (path : Text) (here : askings.Asking) (next : Text) (before : List Text) (e : errors.LinkError)
+    → here.file.now ≡ path → (i : ImportsAt w path here.text.now here.at next) → Comes w ps path → import_paths i.front ≡ before
+    → IsImportFault (path ∷ ps) before here next e → Refuses w e
+import_refused w ps path here next before (error.ImportCycle place) file i comes fronts fault = record {
+  from = path;
+  text = here.text.now;
+  at = here.at;
+  path = next;
+  imports = i;
+  reached = (ps, comes);
+  is_place = subst (λ (f : Text). IsPlace place f here.text.now here.at) file fault.0;
+  holds = leads_last w (bytes_eq next path) path ps next refl fault.1 comes;
+}
+import_refused w ps path here next before (error.DuplicateImport place) file i comes fronts fault = record {
+  from = path;
+  text = here.text.now;
+  at = here.at;
+  path = next;
+  imports = i;
+  reached = (ps, comes);
+  is_place = subst (λ (f : Text). IsPlace place f here.text.now here.at) file fault.0;
+  holds = subst (λ (xs : List Text). is_path_of xs next ≡ true) (sym fronts) fault.1;
+}
+import_refused w ps path here next before error.Memory file i comes fronts fault = tt
+import_refused w ps path here next before (error.MissingFile place) file i comes fronts fault = absurd fault
+import_refused w ps path here next before (error.SourceFailed place) file i comes fronts fault = absurd fault
+import_refused w ps path here next before (error.Lex e place) file i comes fronts fault = absurd fault
+import_refused w ps path here next before (error.Syntax e place) file i comes fronts fault = absurd fault
+import_refused w ps path here next before (error.TooManyFiles place) file i comes fronts fault = absurd fault
+
+-- ---- more than 1,024 files
+
+abbrev IsThere : World → Text → Type 0
+IsThere w other = Reached w other × ((t : Text) × Gives w other t)
+
+opened_there : (w : World) (ps : List Text) (path : Text) → Comes w ps path → All (IsThere w) ps
+opened_there w [] path comes = λ k d within. absurd (omega (arith, within))
+opened_there w (p ∷ ps) path comes =
+    All-cons (IsThere w) p ps ((ps, comes.1), (comes.0.0, comes.0.2.may_be.is_given)) (opened_there w ps p comes.1)
+
+abbrev there_at : World → File → Type 0
+there_at w f = IsThere w f.path
+
+files_there : (w : World) (es : List Entry) → All (IsEntry w) es → All (IsThere w) (paths_of (map outline es))
+files_there w es each =
+    All-map (IsThere w) (λ (f : File). f.path) (map outline es)
+    (All-map (there_at w) outline es (λ k d within. let e = each k d within in (e.1, ((slice_index_or es k d).1.bytes.items, e.0.is_given))))
+
+all_reversed : {X : Type 0} (P : X → Type 0) (xs : List X) → All P xs → All P (reverse xs)
+all_reversed P [] all = all
+all_reversed P (x ∷ xs) all =
+    subst (λ l. All P l) (sym (reverse-append (x ∷ []) xs))
+    (All-push P (reverse xs) x (all_reversed P xs (All-tail P x xs all)) (All-head P x xs all))
+
+map-reverse : {X Y : Type 0} (f : X → Y) (xs : List X) → map f (reverse xs) ≡ reverse (map f xs)
+map-reverse f [] = refl
+map-reverse f (x ∷ xs) =
+    ap (map f) (reverse-append (x ∷ []) xs) ∙ (map-append f (reverse xs) (x ∷ [])
+    ∙ (ap (λ l. l ++ f x ∷ []) (map-reverse f xs) ∙ sym (reverse-append (f x ∷ []) (map f xs))))
+
+entries_there : (w : World) (es : List Entry) → All (IsEntry w) es → All (IsThere w) (paths_of (outlines es))
+entries_there w es each =
+    subst (λ l. All (IsThere w) l) (sym (map-reverse (λ (f : File). f.path) (map outline es)))
+    (all_reversed (IsThere w) (paths_of (map outline es)) (files_there w es each))
+
+path_count : (es : List Entry) → length (paths_of (outlines es)) ≡ length es
+path_count es =
+    length-map (outlines es) (λ (f : File). f.path) ∙ (length-reverse (map outline es)
+    ∙ length-map es outline)
+
+none_both : (a b : Bool) → a ≡ false → b ≡ false → (a || b) ≡ false
+none_both true b none other = absurd (true≢false none)
+none_both false b none other = other
+
+pub apart_from : (w : World) (ps : List Text) (es : List Entry) (path : Text) → IsSound w ps es → is_path_of ps path ≡ false
+    → is_path_of (paths_of (outlines es)) path ≡ false → Differ (path ∷ (ps ++ paths_of (outlines es)))
+apart_from w ps es path sound open_none none =
+    (list_any-append (bytes_eq path) ps (paths_of (outlines es)) ∙ none_both (is_path_of ps path) (is_path_of (paths_of (outlines es)) path) open_none none, sound.apart)
+
+pub beyond : (w : World) (ps : List Text) (es : List Entry) (a : Option askings.Asking) (path text : Text) (place : places.Place) → IsSound w ps es → Asks w ps a path
+    → is_path_of ps path ≡ false → is_path_of (paths_of (outlines es)) path ≡ false → Gives w path text
+    → 1024 ≤ length ps + length es → IsAsked place a path → Refuses w (error.TooManyFiles place)
+beyond w ps es a path text place sound asks open_none none given many at =
+    let others = ps ++ paths_of (outlines es) in
+    let same : length (paths_of (outlines es)) ≡ length es = path_count es in (
+      path,
+      asked_of w ps a path place asks at,
+      record {
+        text = text;
+        is_given = given;
+        others = others;
+        many = omega (arith, length-append ps (paths_of (outlines es)), same, many);
+        apart = apart_from w ps es path sound open_none none;
+        each = All-append (IsThere w) ps (paths_of (outlines es)) (opened_there w ps path (comes_of w ps a path asks)) (entries_there w es sound.each);
+      },
     )
 
-abbrev or_else : {X : Type 0} → Option X → X → X
-or_else None d = d
-or_else (Some x) d = x
+-- ---- the imports of a file, one by one
 
--- what stands at a path now is the file that has come, or stood there before
-by_path : {S : Type 0} (old new : Kept S) (path : Text) (file : kept.SourceFile) → get_by_text new path ≡ Some file → (p : Text) (f : kept.SourceFile)
-    → get_by_text new p ≡ Some f → (path ≡ p) ⊎ (get_by_text new p ≡ get_by_text old p) → ((path ≡ p) × (file ≡ f)) ⊎ (get_by_text old p ≡ Some f)
-by_path old new path file here p f at (inl same) =
-    inl (same, ap (λ o. or_else o f) (sym here ∙ (ap (λ (t : Text). get_by_text new t) same ∙ at)))
-by_path old new path file here p f at (inr is) = inr (sym is ∙ at)
+abbrev pub line_path : lines.ImportLine → Text
+line_path l = string_bytes l.path
 
-pub came : {S : Type 0} (old new : Kept S) (path : Text) (file : kept.SourceFile) → Comes path file old new → (p : Text) (f : kept.SourceFile)
-    → get_by_text new p ≡ Some f → ((path ≡ p) × (file ≡ f)) ⊎ (get_by_text old p ≡ Some f)
-came old new path file comes p f at = by_path old new path file comes.0 p f at (comes.1 p)
+pub split_at : {X Y : Type 0} (f : X → Y) (xs : List X) (i : ℕ) (d : X) → i < length xs
+    → map f xs ≡ map f (take i xs) ++ f (slice_index_or xs i d) ∷ map f (drop (i + 1) xs)
+split_at f xs i d within =
+    ap (map f) (sym (take-append-drop i xs)) ∙ (map-append f (take i xs) (drop i xs)
+    ∙ ap (λ l. map f (take i xs) ++ map f l) (drop-cons xs i d within ∙ ap (λ n. slice_index_or xs i d ∷ drop n xs) (sym (add-one i))))
 
-given_by : {S : Type 0} (give : Text → Text → Bool) (folder : Text) (old : Kept S) (path : Text) (file : kept.SourceFile) (p : Text) (f : kept.SourceFile)
-    → IsTrue (give (path_below folder path) file.bytes.items) → AllGiven give folder old
-    → ((path ≡ p) × (file ≡ f)) ⊎ (get_by_text old p ≡ Some f) → IsTrue (give (path_below folder p) f.bytes.items)
-given_by give folder old path file p f is before (inl same) =
-    subst (λ (q : Text). IsTrue (give (path_below folder q) f.bytes.items)) same.0
-    (subst (λ (x : kept.SourceFile). IsTrue (give (path_below folder path) x.bytes.items)) same.1 is)
-given_by give folder old path file p f is before (inr at) = before p f at
+paths_of_lines : (ls : List lines.ImportLine) → import_paths (map line_of ls) ≡ map line_path ls
+paths_of_lines [] = refl
+paths_of_lines (l ∷ ls) = ap (λ t. string_bytes l.path ∷ t) (paths_of_lines ls)
 
-pub given_more : {S : Type 0} (give : Text → Text → Bool) (folder : Text) (old new : Kept S) (path : Text) (file : kept.SourceFile) → Comes path file old new
-    → IsTrue (give (path_below folder path) file.bytes.items) → AllGiven give folder old → AllGiven give folder new
-given_more give folder old new path file comes is before =
-    λ p f at. given_by give folder old path file p f is before (came old new path file comes p f at)
+pub next_import : (w : World) (path text now next : Text) (file : tree.FileTree.FileTree) (ls : List lines.ImportLine) (i : ℕ) (l : lines.ImportLine)
+    → MayBe w path text file → now ≡ text → next ≡ string_bytes l.path → map line_of ls ≡ file_imports file → i < length ls → l ≡ slice_index_or ls i l
+    → (h : ImportsAt w path now l.at next) × (import_paths h.front ≡ map line_path (take i ls))
+next_import w path text now next file ls i l may_be same to its within is = (
+  record {
+    file = file;
+    may_be = subst (λ (t : Text). MayBe w path t file) (sym same) may_be;
+    front = map line_of (take i ls);
+    line = line_of l;
+    back = map line_of (drop (i + 1) ls);
+    splits = sym its ∙ (split_at line_of ls i l within ∙ ap (λ (x : lines.ImportLine). map line_of (take i ls) ++ line_of x ∷ map line_of (drop (i + 1) ls)) (sym is));
+    is_at = refl;
+    is_path = sym to;
+  },
+  paths_of_lines (take i ls),
+)
 
--- a source that may give the same gives the same texts
-pub given_of : {S : Type 0} (give first : Text → Text → Bool) (folder : Text) (old new : Kept S) → give ≡ first
-    → (AllGiven give folder old → AllGiven give folder new) → AllGiven first folder old → AllGiven first folder new
-given_of give first folder old new same keeps before =
-    subst (λ (g : Text → Text → Bool). AllGiven g folder new) same (keeps (subst (λ (g : Text → Text → Bool). AllGiven g folder old) (sym same) before))
+pub follows_next : (w : World) (walk : walks.Walk) (path : Text) (ps : List Text) (here : askings.Asking) (next : Text) → open_paths walk ≡ path ∷ ps
+    → IsSound w (path ∷ ps) (entries walk) → here.file.now ≡ path → ImportsAt w path here.text.now here.at next → Comes w ps path → Follows w walk (Some here) next
+follows_next w walk path ps here next opened sound file imports comes = record {
+  is_sound = subst (λ (xs : List Text). IsSound w xs (entries walk)) (sym opened) sound;
+  asks = subst (λ (xs : List Text). Asks w xs (Some here) next) (sym opened) (file, imports, comes);
+}
 
-parsed_by : {S : Type 0} (old : Kept S) (path : Text) (file : kept.SourceFile) (p : Text) (f : kept.SourceFile)
-    → IsParsed file.bytes.items file.tree → AllParsed old → ((path ≡ p) × (file ≡ f)) ⊎ (get_by_text old p ≡ Some f) → IsParsed f.bytes.items f.tree
-parsed_by old path file p f is before (inl same) = subst (λ (x : kept.SourceFile). IsParsed x.bytes.items x.tree) same.1 is
-parsed_by old path file p f is before (inr at) = before p f at
+pub open_count : (walk : walks.Walk) → length (open_paths walk) ≡ length walk.opened.keys
+open_count walk = length-reverse (map string_bytes walk.opened.keys) ∙ length-map walk.opened.keys string_bytes
 
-pub parsed_more : {S : Type 0} (old new : Kept S) (path : Text) (file : kept.SourceFile) → Comes path file old new
-    → IsParsed file.bytes.items file.tree → AllParsed old → AllParsed new
-parsed_more old new path file comes is before = λ p f at. parsed_by old path file p f is before (came old new path file comes p f at)
-
-keeps_by : {S : Type 0} (old new : Kept S) (path p : Text) (f : kept.SourceFile) → get_by_text old path ≡ None → get_by_text old p ≡ Some f
-    → (path ≡ p) ⊎ (get_by_text new p ≡ get_by_text old p) → get_by_text new p ≡ Some f
-keeps_by old new path p f none at (inl same) =
-    absurd (true≢false (sym (ap is_some (sym none ∙ (ap (λ (t : Text). get_by_text old t) same ∙ at)))))
-keeps_by old new path p f none at (inr is) = is ∙ at
-
-pub keeps_more : {S : Type 0} (old new : Kept S) (path : Text) (file : kept.SourceFile) → Comes path file old new → get_by_text old path ≡ None → Keeps old new
-keeps_more old new path file comes none = λ p f at. keeps_by old new path p f none at (comes.1 p)
-
-has_by : {X : Type 0} (o n : Option X) → ((x : X) → o ≡ Some x → n ≡ Some x) → is_some o ≡ true → is_some n ≡ true
-has_by None n keeps has = absurd (true≢false (sym has))
-has_by (Some x) n keeps has = rw (keeps x refl) refl
-
-pub has_more : {S : Type 0} (old new : Kept S) → Keeps old new → (p : Text) → has_path old p ≡ true → has_path new p ≡ true
-has_more old new keeps p has = has_by (get_by_text old p) (get_by_text new p) (keeps p) has
-
--- But for the file whose import lines are these, the imports of each file that has come are among the files.
-abbrev pub FollowsBut : {S : Type 0} → List lines.ImportLine → Kept S → Kept S → Type 0
-FollowsBut ls old new = (p : Text) (f : kept.SourceFile) → get_by_text new p ≡ Some f
-    → (get_by_text old p ≡ Some f) ⊎ (ImportsAmong new f ⊎ (map line_of ls ≡ file_imports f.tree))
-
-but_one : {S : Type 0} (ls : List lines.ImportLine) (old new : Kept S) (path : Text) (file : kept.SourceFile) (p : Text) (f : kept.SourceFile)
-    → map line_of ls ≡ file_imports file.tree → ((path ≡ p) × (file ≡ f)) ⊎ (get_by_text old p ≡ Some f)
-    → (get_by_text old p ≡ Some f) ⊎ (ImportsAmong new f ⊎ (map line_of ls ≡ file_imports f.tree))
-but_one ls old new path file p f its (inl same) = inr (inr (its ∙ ap (λ (x : kept.SourceFile). file_imports x.tree) same.1))
-but_one ls old new path file p f its (inr at) = inl at
-
-pub follows_first : {S : Type 0} (ls : List lines.ImportLine) (old new : Kept S) (path : Text) (file : kept.SourceFile) → Comes path file old new
-    → map line_of ls ≡ file_imports file.tree → FollowsBut ls old new
-follows_first ls old new path file comes its = λ p f at. but_one ls old new path file p f its (came old new path file comes p f at)
-
-goes_on : {S : Type 0} (ls : List lines.ImportLine) (old mid new : Kept S) (f : kept.SourceFile) (p : Text) → Keeps mid new
-    → (get_by_text old p ≡ Some f) ⊎ (ImportsAmong mid f ⊎ (map line_of ls ≡ file_imports f.tree))
-    → (get_by_text old p ≡ Some f) ⊎ (ImportsAmong new f ⊎ (map line_of ls ≡ file_imports f.tree))
-goes_on ls old mid new f p keeps (inl at) = inl at
-goes_on ls old mid new f p keeps (inr (inl among)) = inr (inl (λ k d within. has_more mid new keeps _ (among k d within)))
-goes_on ls old mid new f p keeps (inr (inr its)) = inr (inr its)
-
-step : {S : Type 0} (ls : List lines.ImportLine) (old mid new : Kept S) (f : kept.SourceFile) (p : Text) → FollowsBut ls old mid → Keeps mid new
-    → (get_by_text mid p ≡ Some f) ⊎ ImportsAmong new f → (get_by_text old p ≡ Some f) ⊎ (ImportsAmong new f ⊎ (map line_of ls ≡ file_imports f.tree))
-step ls old mid new f p but keeps (inl at) = goes_on ls old mid new f p keeps (but p f at)
-step ls old mid new f p but keeps (inr among) = inr (inl among)
-
-pub follows_more : {S : Type 0} (ls : List lines.ImportLine) (old mid new : Kept S) → FollowsBut ls old mid → Keeps mid new → FollowsNew mid new → FollowsBut ls old new
-follows_more ls old mid new but keeps follows = λ p f at. step ls old mid new f p but keeps (follows p f at)
-
-last : {S : Type 0} (ls : List lines.ImportLine) (old new : Kept S) (f : kept.SourceFile) (p : Text)
-    → All (λ (l : lines.ImportLine). has_path new (string_bytes l.path) ≡ true) ls
-    → (get_by_text old p ≡ Some f) ⊎ (ImportsAmong new f ⊎ (map line_of ls ≡ file_imports f.tree)) → (get_by_text old p ≡ Some f) ⊎ ImportsAmong new f
-last ls old new f p all (inl at) = inl at
-last ls old new f p all (inr (inl among)) = inr among
-last ls old new f p all (inr (inr its)) =
-    inr (subst (λ (xs : List Import). All (λ (line : Import). has_path new line.path ≡ true) xs) its (All-map (λ (line : Import). has_path new line.path ≡ true) line_of ls all))
-
-pub follows_last : {S : Type 0} (ls : List lines.ImportLine) (n : ℕ) (old new : Kept S) → length ls ≤ n
-    → All (λ (l : lines.ImportLine). has_path new (string_bytes l.path) ≡ true) (take n ls) → FollowsBut ls old new → FollowsNew old new
-follows_last ls n old new whole all but =
-    let each = subst (λ (xs : List lines.ImportLine). All (λ (l : lines.ImportLine). has_path new (string_bytes l.path) ≡ true) xs) (take_all n ls whole) all in
-    λ p f at. last ls old new f p each (but p f at)
-
-pub none_of : {X : Type 0} (o : Option X) → is_some o ≡ false → o ≡ None
-none_of None none = refl
-none_of (Some x) none = absurd (true≢false none)
+pub take_none : {X : Type 0} (xs : List X) → take 0 xs ≡ []
+take_none [] = refl
+take_none (x ∷ xs) = refl
 
 pub none_yet : {X : Type 0} (P : X → Type 0) (xs : List X) → All P (take 0 xs)
 none_yet P [] = λ k d within. absurd (omega (arith, within))
 none_yet P (x ∷ xs) = λ k d within. absurd (omega (arith, within))
 
-closed_by : {S : Type 0} (mid new : Kept S) (p : Text) (f : kept.SourceFile) → Keeps mid new → IsClosed mid
-    → (get_by_text mid p ≡ Some f) ⊎ ImportsAmong new f → ImportsAmong new f
-closed_by mid new p f keeps closed (inl at) = λ k d within. has_more mid new keeps _ (closed p f at k d within)
-closed_by mid new p f keeps closed (inr among) = among
+pub open_one : (w : World) (path : Text) (ps : List Text) (es new : List Entry) → IsSound w ps es → new ≡ es → is_path_of ps path ≡ false
+    → is_path_of (paths_of (outlines es)) path ≡ false → length ps + length es < 1024 → IsSound w (path ∷ ps) new
+open_one w path ps es new sound same open_none none room =
+    subst (λ (xs : List Entry). IsSound w (path ∷ ps) xs) (sym same)
+    record { each = sound.each; in_order = sound.in_order; apart = apart_from w ps es path sound open_none none; few = omega (arith, room) }
 
-pub closed_more : {S : Type 0} (mid new : Kept S) → Keeps mid new → FollowsNew mid new → IsClosed mid → IsClosed new
-closed_more mid new keeps follows closed = λ p f at. closed_by mid new p f keeps closed (follows p f at)
+-- ---- a file comes behind the others
+
+moved : (ps fs : List Text) (path : Text) → is_path_of (ps ++ fs) path ≡ false → Differ (ps ++ fs) → Differ (ps ++ path ∷ fs)
+moved [] fs path none apart = (none, apart)
+moved (p ∷ ps) fs path none apart = (
+  kept_out p ps fs path (turned p path (left_out (bytes_eq path p) (is_path_of (ps ++ fs) path) none)) apart.0,
+  moved ps fs path (right_out (bytes_eq path p) (is_path_of (ps ++ fs) path) none) apart.1,
+)
+  where
+    left_out : (a b : Bool) → (a || b) ≡ false → a ≡ false
+    left_out true b is = absurd (true≢false is)
+    left_out false b is = refl
+
+    right_out : (a b : Bool) → (a || b) ≡ false → b ≡ false
+    right_out true b is = absurd (true≢false is)
+    right_out false b is = is
+
+    turned_by : (b : Bool) (p q : Text) → bytes_eq p q ≡ b → bytes_eq q p ≡ false → bytes_eq p q ≡ false
+    turned_by true p q is none = absurd (true≢false (sym ((bytes_eq-Decides q p).1 (sym ((bytes_eq-Decides p q).0 is))) ∙ none))
+    turned_by false p q is none = is
+
+    turned : (p q : Text) → bytes_eq q p ≡ false → bytes_eq p q ≡ false
+    turned p q none = turned_by (bytes_eq p q) p q refl none
+
+    three : (a b c : Bool) → b ≡ false → (a || c) ≡ false → (a || (b || c)) ≡ false
+    three true b c none rest = absurd (true≢false rest)
+    three false true c none rest = absurd (true≢false none)
+    three false false c none rest = rest
+
+    kept_out : (p : Text) (ps fs : List Text) (path : Text) → bytes_eq p path ≡ false → is_path_of (ps ++ fs) p ≡ false → is_path_of (ps ++ path ∷ fs) p ≡ false
+    kept_out p ps fs path other none =
+        list_any-append (bytes_eq p) ps (path ∷ fs) ∙ three (is_path_of ps p) (bytes_eq p path) (is_path_of fs p) other (sym (list_any-append (bytes_eq p) ps fs) ∙ none)
+
+outlines-push : (es : List Entry) (e : Entry) → outlines (es ++ e ∷ []) ≡ outline e ∷ outlines es
+outlines-push es e = ap reverse (map-append outline es (e ∷ [])) ∙ reverse-append (map outline es) (outline e ∷ [])
+
+pub not_read : (w : World) (path : Text) (ps : List Text) (es : List Entry) → IsSound w (path ∷ ps) es → is_path_of (paths_of (outlines es)) path ≡ false
+not_read w path ps es sound = out (is_path_of ps path) (is_path_of (paths_of (outlines es)) path) (sym (list_any-append (bytes_eq path) ps (paths_of (outlines es))) ∙ sound.apart.0)
+  where
+    out : (a b : Bool) → (a || b) ≡ false → b ≡ false
+    out true b is = absurd (true≢false is)
+    out false b is = is
+
+pub one_more : (w : World) (path : Text) (ps : List Text) (es new : List Entry) (name : String Global) (file : kept.SourceFile) (ls : List lines.ImportLine)
+    → IsSound w (path ∷ ps) es → string_bytes name ≡ path → new ≡ es ++ (name, file) ∷ [] → MayBe w path file.bytes.items file.tree → Reached w path
+    → map line_of ls ≡ file_imports file.tree → All (λ (l : lines.ImportLine). is_path_of (paths_of (outlines es)) (string_bytes l.path) ≡ true) ls
+    → Differ (map line_path ls) → IsSound w ps new
+one_more w path ps es new name file ls sound same is may_be reached its among differ =
+    let e : Entry = (name, file) in
+    let grown : outlines new ≡ outline e ∷ outlines es = ap outlines is ∙ outlines-push es e in
+    let own : IsEntry w e = (subst (λ (p : Text). MayBe w p file.bytes.items file.tree) (sym same) may_be, subst (λ (p : Text). Reached w p) (sym same) reached) in
+    let paths : map line_path ls ≡ import_paths (file_imports file.tree) = sym (paths_of_lines ls) ∙ ap import_paths its in
+    let has = λ (p : Text). is_path_of (paths_of (outlines es)) p ≡ true in
+    let first : InOrder (outline e ∷ outlines es) = (
+      subst (λ (xs : List Text). All has xs) paths (All-map has line_path ls among),
+      subst Differ paths differ,
+      sound.in_order,
+    ) in
+    let apart : Differ (ps ++ paths_of (outline e ∷ outlines es)) =
+    subst (λ (p : Text). Differ (ps ++ p ∷ paths_of (outlines es))) (sym same) (moved ps (paths_of (outlines es)) path sound.apart.0 sound.apart.1) in
+    record {
+      each = subst (λ (xs : List Entry). All (IsEntry w) xs) (sym is) (All-push (IsEntry w) es e sound.each own);
+      in_order = subst InOrder (sym grown) first;
+      apart = subst (λ (fs : List File). Differ (ps ++ paths_of fs)) (sym grown) apart;
+      few = omega (arith, sound.few, ap length is, length-append es (e ∷ []));
+    }
+
+-- ---- another moment of the source
+
+pub same_world : (give first : Text → Text → Bool) (lack other : Text → Bool) (folder : Text) (roots : List Text) → give ≡ first → lack ≡ other
+    → world give lack folder roots ≡ world first other folder roots
+same_world give first lack other folder roots given lacked =
+    ap (λ (g : Text → Text → Bool). world g lack folder roots) given ∙ ap (λ (l : Text → Bool). world first l folder roots) lacked
+
+-- ---- the roots
+
+pub contains_root : (roots : List (Bor Text)) (k : ℕ) (d : Bor Text) → k < length roots → Contains (texts roots) (slice_index_or roots k d).now
+contains_root roots k d within = (
+  k,
+  omega (arith, within, length-map roots (λ (r : Bor Text). r.now)),
+  get_or-map (λ (r : Bor Text). r.now) roots k d (slice_index_or roots k d).now within,
+)
+
+pub first_sound : (w : World) (es : List Entry) → es ≡ [] → IsSound w [] es
+first_sound w es none = subst (λ (xs : List Entry). IsSound w [] xs) (sym none) record {
+  each = λ k d within. absurd (omega (arith, within));
+  in_order = tt;
+  apart = tt;
+  few = omega arith;
+}
+
+pub follows_root : (w : World) (walk : walks.Walk) (root : Text) → open_paths walk ≡ [] → IsSound w [] (entries walk) → Contains w.roots root → Follows w walk None root
+follows_root w walk root opened sound is_root = record {
+  is_sound = subst (λ (xs : List Text). IsSound w xs (entries walk)) (sym opened) sound;
+  asks = subst (λ (xs : List Text). Asks w xs None root) (sym opened) is_root;
+}
+
+pub linked : (w : World) (es : List Entry) → IsSound w [] es → All (λ root. is_path_of (paths_of (outlines es)) root ≡ true) w.roots → IsLinked w es
+linked w es sound has = record {
+  each = sound.each;
+  in_order = sound.in_order;
+  apart = sound.apart;
+  few = omega (arith, sound.few);
+  has_roots = has;
+  no_cycle = no_cycle (outlines es) sound.in_order sound.apart;
+}

@@ -1,7 +1,7 @@
 -- What files declare and see (proto3 language guide, "Importing Definitions").
-use Rattle.std.specs.Prelude.{◌≡◌, ◌⊎◌, ℕ, Bool, true, false, List, [], ◌∷◌, if◌then◌else◌, flat_map}
+use Rattle.std.specs.Prelude.{◌≡◌, ◌⊎◌, ℕ, Bool, true, false, List, [], ◌∷◌, if◌then◌else◌, map, flat_map}
 use Rattle.std.specs.Option.{option_map}
-use Rattle.std.specs.List.{find, filter, IsAmong}
+use Rattle.std.specs.List.{find, filter, list_any, All, IsAmong}
 use Rattle.std.specs.Str.{bytes_eq}
 use Rattle.pg_link.specs.declared.names.Kind.{Kind}
 use Rattle.pg_link.specs.Names.{Text, Names}
@@ -70,8 +70,7 @@ abbrev pub kind_in : List Declared → Names
 kind_in declared full = option_map (λ d. d.kind) (find (λ d. bytes_eq d.name full) declared)
 
 abbrev pub is_path_of : List Text → Text → Bool
-is_path_of [] path = false
-is_path_of (p ∷ paths) path = if bytes_eq p path then true else is_path_of paths path
+is_path_of paths path = list_any (bytes_eq path) paths
 
 -- the names that stand in the files of these paths
 abbrev pub names_at : List Text → List File → Names
@@ -82,3 +81,30 @@ visible_names files path = names_at (seen_paths files path) files
 
 abbrev pub all_names : List File → Names
 all_names files = kind_in (flat_map (λ file. file.declared) files)
+
+-- ---- the order of files
+
+-- none stands twice
+abbrev pub Differ : List Text → Type 0
+Differ [] = Unit {0}
+Differ (path ∷ paths) = (is_path_of paths path ≡ false) × Differ paths
+
+abbrev pub paths_of : List File → List Text
+paths_of = map (λ file. file.path)
+
+abbrev pub import_paths : List Import → List Text
+import_paths = map (λ line. line.path)
+
+-- Each file imports no path twice, and stands before all that it imports.
+abbrev pub InOrder : List File → Type 0
+InOrder [] = Unit {0}
+InOrder (file ∷ files) = All (λ path. is_path_of (paths_of files) path ≡ true) (import_paths file.imports)
+    × Differ (import_paths file.imports) × InOrder files
+
+-- going by imports, a path leads to another
+pub data Leads (files : List File) : Text → Text → Type 0 where
+  Next : {path other : Text} → Imports files path other → Leads files path other
+  Further : {path next other : Text} → Imports files path next → Leads files next other → Leads files path other
+
+abbrev pub HasNoCycle : List File → Type 0
+HasNoCycle files = (path : Text) → Leads files path path → ⊥

@@ -1,6 +1,6 @@
 -- The import lines that the code makes of a tree.
 use Rattle.std.specs.Prelude.{string_bytes}
-use Rattle.pg_link.specs.declared.walk.ImportLine as lines
+use Rattle.pg_link.specs.declared.imports.ImportLine as lines
 use Rattle.pg_link.specs.Files.{Import}
 
 abbrev pub line_of : lines.ImportLine → Import

@@ -28,6 +28,17 @@ is_type Oneof = false
 is_type Service = false
 is_type Method = false
 
+abbrev pub is_package : Kind → Bool
+is_package Package = true
+is_package Message = false
+is_package Enum = false
+is_package Entry = false
+is_package Value = false
+is_package Field = false
+is_package Oneof = false
+is_package Service = false
+is_package Method = false
+
 -- what a name without a dot is sought among: types and map entries
 abbrev pub ends_word : Kind → Bool
 ends_word Message = true

@@ -10,10 +10,15 @@ use Rattle.pg_syntax.specs.declared.tree.Statement.TheVariants as statements
 use Rattle.pg_syntax.specs.Proto3.{joined}
 use Rattle.pg_syntax.specs.Tree.{spell}
 use Rattle.pg_syntax.specs.Views as view
+use Rattle.pg_link.specs.declared.declares.DeclaredName as made
 use Rattle.pg_link.specs.declared.names.Kind.TheVariants as kinds
 use Rattle.pg_link.specs.Names.{Text}
 use Rattle.pg_link.specs.Files.{Declared, Import}
 use Rattle.pg_link.specs.Declares.{Word, Declarations, Done, Alone, MapField, Within, Beside, names_of_file}
+
+-- a name that the code makes of a tree
+abbrev pub declared_of : made.DeclaredName → Declared
+declared_of d = record { name = string_bytes d.name; kind = d.kind; at = d.at }
 
 abbrev pub word : tree.Name.Name → Word
 word name = record { text = string_bytes name.text; at = name.span.from }
@@ -64,17 +69,23 @@ abbrev mutual
   of_row end_of-Part = Done
   of_row (more_of-Part p rest) = of_part p (of_row rest)
 
+abbrev pub of_message : tree.Message.Message → Declarations → Declarations
+of_message m rest = Within kinds.Message (word m.name) (all_of of_part m.parts.items Done) rest
+
 abbrev pub of_statement : tree.Statement.Statement → Declarations → Declarations
 of_statement (statements.Empty span) rest = rest
 of_statement (statements.Import i) rest = rest
 of_statement (statements.Option o) rest = rest
-of_statement (statements.Message m) rest = Within kinds.Message (word m.name) (all_of of_part m.parts.items Done) rest
+of_statement (statements.Message m) rest = of_message m rest
 of_statement (statements.Enum e) rest = of_enum e rest
 of_statement (statements.Service s) rest = of_service s rest
 
+abbrev pub dotted_words : tree.Dotted.Dotted → List Word
+dotted_words name = word name.first ∷ map word name.more.items
+
 abbrev pub package_words : Option tree.Packaged.Packaged → List Word
 package_words None = []
-package_words (Some p) = word p.package.name.first ∷ map word p.package.name.more.items
+package_words (Some p) = dotted_words p.package.name
 
 abbrev pub statements_behind : Option tree.Packaged.Packaged → List tree.Statement.Statement
 statements_behind None = []

@@ -1,29 +1,48 @@
--- The files that are kept when imports are followed (proto3 language guide, "Importing Definitions").
-use Rattle.std.specs.Prelude.{ℕ, ◌≡◌, ◌⊎◌, Bool, true, List, Result, Ok, Err, Some, IsTrue, is_some}
-use Rattle.std.specs.List.{All}
-use Rattle.std.specs.HashMap.{HashMap, get_by_text}
+-- What is read when imports are followed, and why it may be refused (proto3 language guide, "Importing Definitions").
+use Rattle.std.specs.Prelude.{ℕ, ◌≡◌, ◌≤◌, ◌+◌, ◌⊎◌, Bool, true, false, List, [], ◌∷◌, ◌++◌, map, reverse, length, take, Result, Ok, Err, Option, Some, None, IsTrue, String, string_bytes}
+use Rattle.std.specs.List.{All, Contains}
 use Rattle.std.specs.Global.{Global}
-use Rattle.std.specs.Prelude.{String}
-use Rattle.pg_lex.specs.Lexes.{lexes}
+use Rattle.pg_lex.specs.Lexes.{lexes, Refuses as LexRefuses}
+use Rattle.pg_lex.specs.Faults.{place_of as lex_place}
+use Rattle.pg_lex.specs.Place.{line, column}
 use Rattle.pg_lex.specs.Symbol.{Placed}
 use Rattle.pg_syntax.specs.declared.tree as tree
+use Rattle.pg_syntax.specs.declared.error.SyntaxError.{SyntaxError}
+use Rattle.pg_syntax.specs.declared.error.SyntaxError.TheVariants as syntax
 use Rattle.pg_syntax.specs.Grammar.{Derives}
 use Rattle.pg_syntax.specs.Proto3 as grammar
+use Rattle.pg_syntax.specs.Refusals.{Tells}
 use Rattle.pg_syntax.specs.Tree.{Stands}
 use Rattle.pg_syntax.specs.Views as view
 use Rattle.pg_link.specs.Below.{path_below}
 use Rattle.pg_link.specs.Names.{Text}
-use Rattle.pg_link.specs.Files.{Import}
-use Rattle.pg_link.specs.Outline.{file_imports}
-use Rattle.pg_link.specs.declared.sources.SourceError as sources
-use Rattle.pg_link.specs.declared.sources.SourceError.TheVariants as source
+use Rattle.pg_link.specs.Files.{Import, File, Differ, InOrder, HasNoCycle, is_path_of, import_paths, paths_of}
+use Rattle.pg_link.specs.Outline.{file_imports, file_names}
+use Rattle.pg_link.specs.declared.error.Place as places
+use Rattle.pg_link.specs.declared.error.LinkError as errors
+use Rattle.pg_link.specs.declared.error.LinkError.TheVariants as error
 use Rattle.pg_link.specs.declared.walk.SourceFile as kept
-use Rattle.pg_link.specs.declared.walk.WalkError as walks
-use Rattle.pg_link.specs.declared.walk.WalkError.TheVariants as walk
+use Rattle.pg_link.specs.declared.walk.Asking as askings
+use Rattle.pg_link.specs.declared.walk.Walk as walks
 
--- files by their paths
-abbrev pub Kept : Type 0 → Type 0
-Kept S = HashMap (String Global) kept.SourceFile S
+-- ---- what may be read
+
+-- a source, a folder in it, and the paths at which a walk begins
+pub record World : Type 0 where
+  pub may_give : Text → Text → Bool
+  pub may_lack : Text → Bool
+  pub folder : Text
+  pub roots : List Text
+
+abbrev pub world : (Text → Text → Bool) → (Text → Bool) → Text → List Text → World
+world give lack folder roots = record { may_give = give; may_lack = lack; folder = folder; roots = roots }
+
+-- the source may give this text for the path
+abbrev pub Gives : World → Text → Text → Type 0
+Gives w path text = IsTrue (w.may_give (path_below w.folder path) text)
+
+abbrev pub Lacks : World → Text → Type 0
+Lacks w path = IsTrue (w.may_lack (path_below w.folder path))
 
 -- the tree stands at the tokens of the text
 pub record IsParsed (text : Text) (file : tree.FileTree.FileTree) : Type 0 where
@@ -32,81 +51,227 @@ pub record IsParsed (text : Text) (file : tree.FileTree.FileTree) : Type 0 where
   pub derives : Derives (grammar.file 64) (view.file file)
   pub stands : Stands (view.file file) tokens
 
--- a file of the path is kept
-abbrev pub has_path : {S : Type 0} → Kept S → Text → Bool
-has_path files path = is_some (get_by_text files path)
+-- the path may have this text, and the text this tree
+pub record MayBe (w : World) (path text : Text) (file : tree.FileTree.FileTree) : Type 0 where
+  pub is_given : Gives w path text
+  pub is_parsed : IsParsed text file
 
--- each text that is kept is one that the source may give for its path
-abbrev pub AllGiven : {S : Type 0} → (Text → Text → Bool) → Text → Kept S → Type 0
-AllGiven give folder files = (path : Text) (file : kept.SourceFile) → get_by_text files path ≡ Some file
-    → IsTrue (give (path_below folder path) file.bytes.items)
+-- the path may have this text, which imports another path; the literal of that import begins at this byte
+pub record ImportsAt (w : World) (path text : Text) (at : ℕ) (other : Text) : Type 0 where
+  pub file : tree.FileTree.FileTree
+  pub may_be : MayBe w path text file
+  pub front : List Import
+  pub line : Import
+  pub back : List Import
+  pub splits : file_imports file ≡ front ++ line ∷ back
+  pub is_at : line.at ≡ at
+  pub is_path : line.path ≡ other
 
--- each tree that is kept is that of its text
-abbrev pub AllParsed : {S : Type 0} → Kept S → Type 0
-AllParsed files = (path : Text) (file : kept.SourceFile) → get_by_text files path ≡ Some file → IsParsed file.bytes.items file.tree
+abbrev pub MayImport : World → Text → Text → Type 0
+MayImport w path other = (text : Text) × (at : ℕ) × ImportsAt w path text at other
 
--- each import of the file is among the files
-abbrev pub ImportsAmong : {S : Type 0} → Kept S → kept.SourceFile → Type 0
-ImportsAmong files file = All (λ (line : Import). has_path files line.path ≡ true) (file_imports file.tree)
+-- The path is reached by these, the last first: a root, and then each by an import of the one before.
+abbrev pub Comes : World → List Text → Text → Type 0
+Comes w [] path = Contains w.roots path
+Comes w (p ∷ ps) path = MayImport w p path × Comes w ps p
 
--- so it is for each file
-abbrev pub IsClosed : {S : Type 0} → Kept S → Type 0
-IsClosed files = (path : Text) (file : kept.SourceFile) → get_by_text files path ≡ Some file → ImportsAmong files file
+abbrev pub Reached : World → Text → Type 0
+Reached w path = (by : List Text) × Comes w by path
 
--- the imports of each file that has come are among the files
-abbrev pub FollowsNew : {S : Type 0} → Kept S → Kept S → Type 0
-FollowsNew old new = (path : Text) (file : kept.SourceFile) → get_by_text new path ≡ Some file
-    → (get_by_text old path ≡ Some file) ⊎ ImportsAmong new file
+-- going by imports, a path comes to another or stays
+pub data MayLead (w : World) (path : Text) : Text → Type 0 where
+  Stays : MayLead w path path
+  Onwards : {last other : Text} → MayLead w path last → MayImport w last other → MayLead w path other
 
--- what was kept still is
-abbrev pub Keeps : {S : Type 0} → Kept S → Kept S → Type 0
-Keeps old new = (path : Text) (file : kept.SourceFile) → get_by_text old path ≡ Some file → get_by_text new path ≡ Some file
+-- ---- what was read
 
--- the file has come at the path, and nothing else has changed
-abbrev pub Comes : {S : Type 0} → Text → kept.SourceFile → Kept S → Kept S → Type 0
-Comes path file old new = (get_by_text new path ≡ Some file)
-    × ((other : Text) → (path ≡ other) ⊎ (get_by_text new other ≡ get_by_text old other))
+-- a path, and the text and tree of its file
+abbrev pub Entry : Type 0
+Entry = String Global × kept.SourceFile
 
--- the source may lack a path below the folder
-abbrev pub LacksOne : (Text → Bool) → Text → Type 0
-LacksOne lack folder = (path : Text) × IsTrue (lack (path_below folder path))
+abbrev pub path_of : Entry → Text
+path_of e = string_bytes e.0
 
--- what becomes of a source's refusal
-abbrev pub of_source : sources.SourceError → walks.WalkError
-of_source source.Missing = walk.MissingFile
-of_source source.Failed = walk.SourceFailed
-of_source source.Memory = walk.Memory
+-- what a file imports and declares
+abbrev pub outline : Entry → File
+outline e = record { path = path_of e; imports = file_imports e.1.tree; declared = file_names e.1.tree }
+
+-- the last first
+abbrev pub outlines : List Entry → List File
+outlines entries = reverse (map outline entries)
+
+abbrev pub IsEntry : World → Entry → Type 0
+IsEntry w e = MayBe w (path_of e) e.1.bytes.items e.1.tree × Reached w (path_of e)
+
+-- files that were read, while the imports of these paths are followed
+pub record IsSound (w : World) (open_paths : List Text) (entries : List Entry) : Type 0 where
+  pub each : All (IsEntry w) entries
+  pub in_order : InOrder (outlines entries)
+  pub apart : Differ (open_paths ++ paths_of (outlines entries))
+  pub few : length open_paths + length entries ≤ 1024
+
+-- The files of the roots and of all that they import, each path once, at most 1,024. Each text is one that the source may
+-- give for its path, each tree is that of its text, and each file stands behind those that it imports, none of them twice.
+pub record IsLinked (w : World) (entries : List Entry) : Type 0 where
+  pub each : All (IsEntry w) entries
+  pub in_order : InOrder (outlines entries)
+  pub apart : Differ (paths_of (outlines entries))
+  pub few : length entries ≤ 1024
+  pub has_roots : All (λ root. is_path_of (paths_of (outlines entries)) root ≡ true) w.roots
+  pub no_cycle : HasNoCycle (outlines entries)
+
+abbrev pub entries : walks.Walk → List Entry
+entries walk = walk.files.entries
+
+abbrev pub open_paths : walks.Walk → List Text
+open_paths walk = reverse (map string_bytes walk.opened.keys)
+
+abbrev pub has_path : walks.Walk → Text → Bool
+has_path walk path = is_path_of (paths_of (outlines (entries walk))) path
+
+-- what was read is still there
+abbrev pub Keeps : walks.Walk → walks.Walk → Type 0
+Keeps old new = (path : Text) → has_path old path ≡ true → has_path new path ≡ true
+
+-- ---- places
+
+-- the place of this byte of the text
+abbrev pub IsPlace : places.Place → Text → Text → ℕ → Type 0
+IsPlace place path text at = (string_bytes place.file ≡ path) × (place.line ≡ line (take at text)) × (place.column ≡ column (take at text))
+
+-- the place of the file as a whole
+abbrev pub IsWhole : places.Place → Text → Type 0
+IsWhole place path = (string_bytes place.file ≡ path) × (place.line ≡ 0) × (place.column ≡ 0)
+
+-- who asks for a path: an import of the file whose imports are followed, or the list of roots
+abbrev pub Asks : World → List Text → Option askings.Asking → Text → Type 0
+Asks w [] None path = Contains w.roots path
+Asks w [] (Some a) path = ⊥
+Asks w (p ∷ ps) None path = ⊥
+Asks w (p ∷ ps) (Some a) path = (a.file.now ≡ p) × ImportsAt w p a.text.now a.at path × Comes w ps p
+
+-- the place at which a path is asked for
+abbrev pub IsAsked : places.Place → Option askings.Asking → Text → Type 0
+IsAsked place None path = IsWhole place path
+IsAsked place (Some a) path = IsPlace place a.file.now a.text.now a.at
+
+-- a path is asked for: as a root, by its file's name, or at the literal of an import
+abbrev pub IsAskedAt : World → places.Place → Text → Type 0
+IsAskedAt w place path = (Contains w.roots path × IsWhole place path)
+    ⊎ ((from text : Text) × (at : ℕ) × ImportsAt w from text at path × Reached w from × IsPlace place from text at)
+
+-- ---- refusals
+
+-- the source may give the path and 1,024 others that are reached
+pub record IsBeyond (w : World) (path : Text) : Type 0 where
+  pub text : Text
+  pub is_given : Gives w path text
+  pub others : List Text
+  pub many : 1024 ≤ length others
+  pub apart : Differ (path ∷ others)
+  pub each : All (λ other. Reached w other × ((t : Text) × Gives w other t)) others
+
+-- an import, at its place, of a path that this holds of
+pub record StandsAt (w : World) (place : places.Place) (P : Text → Text → List Import → Type 0) : Type 0 where
+  pub from : Text
+  pub text : Text
+  pub at : ℕ
+  pub path : Text
+  pub imports : ImportsAt w from text at path
+  pub reached : Reached w from
+  pub is_place : IsPlace place from text at
+  pub holds : P from path imports.front
+
+-- a text that is read, with a byte in it
+pub record StandsIn (w : World) (place : places.Place) (at : ℕ) (P : Text → Type 0) : Type 0 where
+  pub path : Text
+  pub text : Text
+  pub is_given : Gives w path text
+  pub reached : Reached w path
+  pub is_place : IsPlace place path text at
+  pub holds : P text
+
+-- the byte at which the fault stands
+abbrev pub syntax_place : SyntaxError → ℕ
+syntax_place syntax.Memory = 0
+syntax_place (syntax.NotProto3 at) = at
+syntax_place (syntax.Unexpected at) = at
+syntax_place (syntax.Group at) = at
+syntax_place (syntax.Extension at) = at
+syntax_place (syntax.CustomOption at) = at
+syntax_place (syntax.WeakImport at) = at
+syntax_place (syntax.NestedTooDeep at) = at
+
+-- no tree spells the text's tokens
+abbrev pub HasNoTree : SyntaxError → Text → Type 0
+HasNoTree e text = (tokens : List Placed) × lexes text tokens × Tells (grammar.file 64) (length text) tokens e
+
+-- a text's own fault
+abbrev pub IsTextFault : Text → Text → errors.LinkError → Type 0
+IsTextFault path text (error.Lex e place) = IsPlace place path text (lex_place e) × LexRefuses e text
+IsTextFault path text (error.Syntax e place) = IsPlace place path text (syntax_place e) × HasNoTree e text
+IsTextFault path text error.Memory = Unit {0}
+IsTextFault path text (error.MissingFile place) = ⊥
+IsTextFault path text (error.ImportCycle place) = ⊥
+IsTextFault path text (error.DuplicateImport place) = ⊥
+IsTextFault path text (error.TooManyFiles place) = ⊥
+IsTextFault path text (error.SourceFailed place) = ⊥
+
+-- a fault of reading a path
+abbrev pub IsReadFault : (Text → Bool) → Text → Option askings.Asking → Text → errors.LinkError → Type 0
+IsReadFault lack folder asking path (error.MissingFile place) = IsAsked place asking path × IsTrue (lack (path_below folder path))
+IsReadFault lack folder asking path (error.SourceFailed place) = IsWhole place path
+IsReadFault lack folder asking path error.Memory = Unit {0}
+IsReadFault lack folder asking path (error.Lex e place) = ⊥
+IsReadFault lack folder asking path (error.Syntax e place) = ⊥
+IsReadFault lack folder asking path (error.ImportCycle place) = ⊥
+IsReadFault lack folder asking path (error.DuplicateImport place) = ⊥
+IsReadFault lack folder asking path (error.TooManyFiles place) = ⊥
+
+-- a fault of an import of this path, behind imports of these
+abbrev pub IsImportFault : List Text → List Text → askings.Asking → Text → errors.LinkError → Type 0
+IsImportFault opened before a path (error.ImportCycle place) = IsPlace place a.file.now a.text.now a.at × (is_path_of opened path ≡ true)
+IsImportFault opened before a path (error.DuplicateImport place) = IsPlace place a.file.now a.text.now a.at × (is_path_of before path ≡ true)
+IsImportFault opened before a path error.Memory = Unit {0}
+IsImportFault opened before a path (error.MissingFile place) = ⊥
+IsImportFault opened before a path (error.SourceFailed place) = ⊥
+IsImportFault opened before a path (error.Lex e place) = ⊥
+IsImportFault opened before a path (error.Syntax e place) = ⊥
+IsImportFault opened before a path (error.TooManyFiles place) = ⊥
+
+-- Each refusal comes only where what it names is there, at its place.
+abbrev pub Refuses : World → errors.LinkError → Type 0
+-- the source may lack a path that is asked for
+Refuses w (error.MissingFile place) = (path : Text) × IsAskedAt w place path × Lacks w path
+-- an import of a file that leads back to the one with the import
+Refuses w (error.ImportCycle place) = StandsAt w place (λ from path front. MayLead w path from)
+-- an import of a path that an import before it in its file has
+Refuses w (error.DuplicateImport place) = StandsAt w place (λ from path front. is_path_of (import_paths front) path ≡ true)
+Refuses w (error.TooManyFiles place) = (path : Text) × IsAskedAt w place path × IsBeyond w path
+Refuses w (error.SourceFailed place) = (path : Text) × Reached w path × IsWhole place path
+Refuses w (error.Lex e place) = StandsIn w place (lex_place e) (LexRefuses e)
+Refuses w (error.Syntax e place) = StandsIn w place (syntax_place e) (HasNoTree e)
+Refuses w error.Memory = Unit {0}
 
 -- the source's failures in an answer
-abbrev pub failures_of : {X : Type 0} → Result X walks.WalkError → ℕ
+abbrev pub failures_of : {X : Type 0} → Result X errors.LinkError → ℕ
 failures_of (Ok x) = 0
-failures_of (Err walk.SourceFailed) = 1
-failures_of (Err walk.MissingFile) = 0
-failures_of (Err walk.ImportCycle) = 0
-failures_of (Err walk.DuplicateImport) = 0
-failures_of (Err walk.TooManyFiles) = 0
-failures_of (Err (walk.Lex e)) = 0
-failures_of (Err (walk.Syntax e)) = 0
-failures_of (Err walk.Memory) = 0
+failures_of (Err (error.SourceFailed place)) = 1
+failures_of (Err (error.MissingFile place)) = 0
+failures_of (Err (error.ImportCycle place)) = 0
+failures_of (Err (error.DuplicateImport place)) = 0
+failures_of (Err (error.TooManyFiles place)) = 0
+failures_of (Err (error.Lex e place)) = 0
+failures_of (Err (error.Syntax e place)) = 0
+failures_of (Err error.Memory) = 0
 
--- a fault of a text, and none of the walk itself
-abbrev pub IsTextFault : walks.WalkError → Type 0
-IsTextFault walk.MissingFile = ⊥
-IsTextFault walk.ImportCycle = ⊥
-IsTextFault walk.DuplicateImport = ⊥
-IsTextFault walk.TooManyFiles = ⊥
-IsTextFault walk.SourceFailed = ⊥
-IsTextFault (walk.Lex e) = Unit {0}
-IsTextFault (walk.Syntax e) = Unit {0}
-IsTextFault walk.Memory = Unit {0}
+-- the file has come behind the others, where it wasn't there; what was there still is
+pub record ComesLast (old new : walks.Walk) (path : Text) (file : kept.SourceFile) : Type 0 where
+  pub is_there : has_path new path ≡ true
+  pub keeps : Keeps old new
+  pub is_last : has_path old path ≡ false → (name : String Global) × (string_bytes name ≡ path) × (entries new ≡ entries old ++ (name, file) ∷ [])
 
--- a fault of an import statement, or want of memory
-abbrev pub IsImportFault : walks.WalkError → Type 0
-IsImportFault walk.MissingFile = ⊥
-IsImportFault walk.ImportCycle = Unit {0}
-IsImportFault walk.DuplicateImport = Unit {0}
-IsImportFault walk.TooManyFiles = ⊥
-IsImportFault walk.SourceFailed = ⊥
-IsImportFault (walk.Lex e) = ⊥
-IsImportFault (walk.Syntax e) = ⊥
-IsImportFault walk.Memory = Unit {0}
+-- what was read is sound, and the path is asked for where the walk stands
+pub record Follows (w : World) (walk : walks.Walk) (asking : Option askings.Asking) (path : Text) : Type 0 where
+  pub is_sound : IsSound w (open_paths walk) (entries walk)
+  pub asks : Asks w (open_paths walk) asking path

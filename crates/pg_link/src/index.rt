@@ -36,7 +36,7 @@ fn ends_at(kind: Kind, parts: &[Name]) -> bool
 }
 
 /// Puts a dot and the word behind the text.
-fn push_word(text: &mut String, word: &str) -> Result<(), AllocError>
+pub(crate) fn push_word(text: &mut String, word: &str) -> Result<(), AllocError>
     ensures { OnOk result (string_bytes text.new ≡ string_bytes text.old ++ names.called (word.now ∷ [])) }
 {
     text.push_str(".")?;

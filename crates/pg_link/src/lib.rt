@@ -3,11 +3,16 @@
 #![tactic(auto)]
 
 mod below;
+mod declares;
+mod declaring;
+mod error;
 mod folder;
+mod imports;
 mod index;
 mod laws;
 mod listed;
 mod names;
+mod reading;
 mod record;
 mod resolve;
 mod sources;
@@ -15,6 +20,9 @@ mod tally;
 mod walk;
 
 pub use below::read_below;
+pub use declares::{DeclaredName, declared_names};
+pub use declaring::{NameError, index_names};
+pub use error::{LinkError, Place};
 pub use folder::Folder;
 pub use index::Index;
 pub use laws::small_files;
@@ -24,7 +32,7 @@ pub use record::Record;
 pub use resolve::Unresolved;
 pub use sources::{SourceError, Sources};
 pub use tally::Tally;
-pub use walk::{MAX_FILES, SourceFile, Walk, WalkError, follow_imports};
+pub use walk::{MAX_FILES, SourceFile, Walk, follow_imports};
 
 #[cfg(test)]
 mod tests;

@@ -1,62 +1,178 @@
-use Rattle.std.proofs.Common.{◌≡◌, ◌∙◌, ℕ, List, None, All, true, sym, subst, take, refl, string_bytes, arith}
+use Rattle.std.proofs.Common.{◌≡◌, ◌∙◌, ◌+◌, ◌<◌, ◌≤◌, ℕ, List, [], ◌∷◌, ◌++◌, Some, All, true, false, sym, ap, subst, take, map, length, refl, string_bytes, arith, slice_index_or}
+use Rattle.std.proofs.lemmas.List.{map_more, take_all}
 use Rattle.std.proofs.lemmas.List.Elements.{All-more}
-use Rattle.std.specs.HashMap.{get_by_text}
+use Rattle.std.proofs.lemmas.Result.{err_from_is_err_and}
+use Rattle.pg_link.specs.declared.imports.ImportLine as lines
+use Rattle.pg_link.specs.declared.walk.Asking as askings
 use Rattle.pg_link.specs.declared.walk.SourceFile as kept
-use Rattle.pg_link.specs.declared.walk.ImportLine as lines
-use Rattle.pg_link.specs.Walk.{IsParsed, has_path}
-use Rattle.pg_link.proofs.WalkLaws.{given_more, given_of, parsed_more, keeps_more, has_more, follows_first, follows_more, follows_last, none_of, none_yet}
+use Rattle.pg_link.specs.declared.walk.Walk as walks
+use Rattle.pg_link.specs.Files.{Differ, is_path_of, paths_of, import_paths}
+use Rattle.pg_link.specs.Walk.{World, world, Entry, Asks, Comes, ImportsAt, IsSound, Follows, IsTextFault, IsParsed, IsImportFault, MayBe, Refuses, entries, open_paths, outlines, has_path}
+use Rattle.pg_link.proofs.OrderLaws.{apart_more}
+use Rattle.pg_link.proofs.PathLaws.{has_found}
+use Rattle.pg_link.proofs.WalkLaws.{beyond, comes_of, follows_next, import_refused, line_path, next_import, none_yet, not_read, one_more, open_count, open_one, reached_of, read_refused, same_world, take_none, text_refused}
 use Rattle.pg_link.proofs.walk.+visit.Goals as goal
+
+pub returns-then-contains_key-clause-has : goal.returns-then-contains_key-clause-has
+returns-then-contains_key-clause-has g t c = has_found c.args.walk.now c.args.path.now ∙ (sym c.contains_key.ensures ∙ c.if-contains_key.true)
+
+pub returns-in_err-bytes-clause-refused : goal.returns-in_err-bytes-clause-refused
+returns-in_err-bytes-clause-refused g t c =
+    let w = λ (roots : List (List ℕ)). world (g.S.Sources.may_give c.args.source.now) (g.S.Sources.may_lack c.args.source.now) c.args.folder.now roots in
+    let p = err_from_is_err_and c.from_residual.result c.from_residual.ensures.1 in
+    rw (p.1, p.2) (λ roots f. read_refused (w roots) (open_paths c.args.walk.now) c.args.asking c.args.path.now c.in_err-bytes.field-0.0 f.asks c.in_err-bytes.ensures.fault)
+
+pub returns-then-len-ge-MAX_FILES-clause-refused : goal.returns-then-len-ge-MAX_FILES-clause-refused
+returns-then-len-ge-MAX_FILES-clause-refused g t c =
+    let walk = c.args.walk.now in
+    let w = λ (roots : List (List ℕ)). world (g.S.Sources.may_give c.args.source.now) (g.S.Sources.may_lack c.args.source.now) c.args.folder.now roots in
+    let none : has_path walk c.args.path.now ≡ false = has_found walk c.args.path.now ∙ (sym c.contains_key.ensures ∙ c.if-contains_key.false) in
+    let many : 1024 ≤ length (open_paths walk) + length (entries walk) = omega (arith, open_count walk, c.len.ensures.len, c.len-2.ensures.len) in
+    λ roots f. beyond (w roots) (open_paths walk) (entries walk) c.args.asking c.args.path.now c.in_ok-bytes.bytes.items c.in_ok-asked_at.field-0 f.is_sound f.asks
+    c.requires.1.1.1 none c.in_ok-bytes.ensures.given many c.in_ok-asked_at.ensures
+
+pub returns-in_err-tree-clause-refused : goal.returns-in_err-tree-clause-refused
+returns-in_err-tree-clause-refused g t c =
+    let w = λ (roots : List (List ℕ)). world (g.S.Sources.may_give c.args.source.now) (g.S.Sources.may_lack c.args.source.now) c.args.folder.now roots in
+    let p = err_from_is_err_and c.from_residual-in_err-tree.result c.from_residual-in_err-tree.ensures.1 in
+    let fault : IsTextFault c.args.path.now c.in_ok-bytes.bytes.items c.in_err-tree.field-0.0 =
+    subst (λ (t : List ℕ). IsTextFault c.args.path.now t c.in_err-tree.field-0.0) c.deref.ensures.value c.in_err-tree.ensures.fault in
+    rw (p.1, p.2) (λ roots f. text_refused (w roots) c.args.path.now c.in_ok-bytes.bytes.items c.in_err-tree.field-0.0 c.in_ok-bytes.ensures.given
+    (reached_of (w roots) (open_paths c.args.walk.now) c.args.asking c.args.path.now f.asks) fault)
 
 pub lines-init : goal.lines-init
 lines-init g t c =
-    let old = c.args.walk.now.files in
-    let new = c.open.new.self.files in
+    let walk = c.args.walk.now in
+    let new = c.begin.new.self in
     let path : List ℕ = c.args.path.now in
-    let file : kept.SourceFile = record { bytes = c.in_ok-bytes.bytes; tree = c.in_ok-tree.tree } in
-    let comes = c.in_ok-open.ensures.comes in
-    let absent : get_by_text old path ≡ None = none_of (get_by_text old path) (sym c.contains_key.ensures ∙ c.if-contains_key.false) in
+    let ls : List lines.ImportLine = c.in_ok-lines.lines.items in
+    let w = λ (roots : List (List ℕ)). world (g.S.Sources.may_give c.args.source.now) (g.S.Sources.may_lack c.args.source.now) c.args.folder.now roots in
+    let none : has_path walk path ≡ false = has_found walk path ∙ (sym c.contains_key.ensures ∙ c.if-contains_key.false) in
+    let room : length (open_paths walk) + length (entries walk) < 1024 = omega (arith, open_count walk, c.len.ensures.len, c.len-2.ensures.len) in
+    let same : entries new ≡ entries walk = c.in_ok-begin.ensures.same in
+    let opened : open_paths new ≡ path ∷ open_paths walk = c.in_ok-begin.ensures.opened in
     record {
-      given = given_more (g.S.Sources.may_give c.args.source.now) c.args.folder.now old new path file comes c.in_ok-bytes.ensures.given;
-      parsed = parsed_more old new path file comes (subst (λ (text : List ℕ). IsParsed text c.in_ok-tree.tree) c.deref.ensures.value c.in_ok-tree.ensures.parsed);
-      follows = follows_first c.in_ok-lines.lines.items old new path file comes c.in_ok-lines.ensures;
-      so_far = none_yet (λ (line : lines.ImportLine). has_path new (string_bytes line.path) ≡ true) c.in_ok-lines.lines.items;
-      kept = keeps_more old new path file comes absent;
-      has = rw comes.0 refl;
+      sound = λ roots f. open_one (w roots) path (open_paths walk) (entries walk) (entries new) f.is_sound same c.requires.1.1.1 none room;
+      opened = opened;
+      so_far = none_yet (λ (line : lines.ImportLine). has_path new (string_bytes line.path) ≡ true) ls;
+      before_is = ap (map string_bytes) c.new-before.ensures.empty ∙ ap (map line_path) (sym (take_none ls));
+      differ = subst Differ (ap (map line_path) (sym (take_none ls))) tt;
+      kept = λ p has. subst (λ (es : List Entry). is_path_of (paths_of (outlines es)) p ≡ true) (sym same) has;
       counted = omega (arith, c.in_ok-bytes.ensures.counted);
       same_given = c.in_ok-bytes.ensures.same_given;
       same_lacked = c.in_ok-bytes.ensures.same_lacked;
-      rises = omega (arith, c.in_ok-open.ensures.longer);
-      room = omega (arith, c.len-number.ensures.len);
+      rises = omega (arith, ap length same, ap length opened);
+      grows = omega (arith, ap length same);
+      room = room;
     }
+
+pub returns-in_err-check-clause-refused : goal.returns-in_err-check-clause-refused
+returns-in_err-check-clause-refused g t c =
+    let walk = c.args.walk.now in
+    let path : List ℕ = c.args.path.now in
+    let inv = c.lines.invariant in
+    let line : lines.ImportLine = c.index-line.result.now in
+    let here : askings.Asking = record { file = c.args.path; text = c.deref-in-lines.result; at = line.at } in
+    let next : List ℕ = c.as_str-next.result.now in
+    let before : List (List ℕ) = map string_bytes c.lines.before.keys in
+    let e = c.in_err-check.field-0.0 in
+    let w = λ (roots : List (List ℕ)). world (g.S.Sources.may_give c.args.source.now) (g.S.Sources.may_lack c.args.source.now) c.args.folder.now roots in
+    let p = err_from_is_err_and c.from_residual-in_err-check.result c.from_residual-in_err-check.ensures.1 in
+    let parsed : IsParsed c.in_ok-bytes.bytes.items c.in_ok-tree.tree = subst (λ (text : List ℕ). IsParsed text c.in_ok-tree.tree) c.deref.ensures.value c.in_ok-tree.ensures.parsed in
+    let fault : IsImportFault (path ∷ open_paths walk) before here next e =
+    subst (λ (ps : List (List ℕ)). IsImportFault ps before here next e) inv.opened c.in_err-check.ensures.fault in
+    rw (p.1, p.2) (λ roots f.
+    let i = next_import (w roots) path c.in_ok-bytes.bytes.items here.text.now next c.in_ok-tree.tree c.in_ok-lines.lines.items c.lines.index line
+    record { is_given = c.in_ok-bytes.ensures.given; is_parsed = parsed } c.deref-in-lines.ensures.value c.as_str-next.ensures.value c.in_ok-lines.ensures
+    (omega arith) c.index-line.ensures in
+    import_refused (w roots) (open_paths walk) path here next before e refl i.0 (comes_of (w roots) (open_paths walk) c.args.asking path f.asks)
+    (i.1 ∙ sym inv.before_is) fault)
+
+pub returns-in_err-visit-clause-refused : goal.returns-in_err-visit-clause-refused
+returns-in_err-visit-clause-refused g t c =
+    let walk = c.args.walk.now in
+    let path : List ℕ = c.args.path.now in
+    let inv = c.lines.invariant in
+    let line : lines.ImportLine = c.index-line.result.now in
+    let here : askings.Asking = record { file = c.args.path; text = c.deref-in-lines.result; at = line.at } in
+    let next : List ℕ = c.as_str-next.result.now in
+    let e = c.in_err-visit.field-0.0 in
+    let w = λ (roots : List (List ℕ)). world (g.S.Sources.may_give c.args.source.now) (g.S.Sources.may_lack c.args.source.now) c.args.folder.now roots in
+    let p = err_from_is_err_and c.from_residual-in_err-visit.result c.from_residual-in_err-visit.ensures.1 in
+    let parsed : IsParsed c.in_ok-bytes.bytes.items c.in_ok-tree.tree = subst (λ (text : List ℕ). IsParsed text c.in_ok-tree.tree) c.deref.ensures.value c.in_ok-tree.ensures.parsed in
+    rw (p.1, p.2) (λ roots f.
+    let now = same_world (g.S.Sources.may_give c.lines.source) (g.S.Sources.may_give c.args.source.now) (g.S.Sources.may_lack c.lines.source) (g.S.Sources.may_lack c.args.source.now)
+    c.args.folder.now roots inv.same_given inv.same_lacked in
+    let i = next_import (w roots) path c.in_ok-bytes.bytes.items here.text.now next c.in_ok-tree.tree c.in_ok-lines.lines.items c.lines.index line
+    record { is_given = c.in_ok-bytes.ensures.given; is_parsed = parsed } c.deref-in-lines.ensures.value c.as_str-next.ensures.value c.in_ok-lines.ensures
+    (omega arith) c.index-line.ensures in
+    let follows = follows_next (w roots) c.lines.walk path (open_paths walk) here next inv.opened (inv.sound roots f) refl i.0
+    (comes_of (w roots) (open_paths walk) c.args.asking path f.asks) in
+    subst (λ (x : World). Refuses x e) now
+    (c.in_err-visit.ensures.refused roots (subst (λ (x : World). Follows x c.lines.walk (Some here) next) (sym now) follows)))
 
 pub lines-preserved : goal.lines-preserved
 lines-preserved g t c =
-    let before = c.lines.invariant in
+    let walk = c.args.walk.now in
+    let path : List ℕ = c.args.path.now in
+    let inv = c.lines.invariant in
     let after = c.in_ok-visit.ensures in
-    let old = c.args.walk.now.files in
-    let mid = c.lines.walk.files in
-    let new = c.visit.new.walk.files in
+    let new = c.visit.new.walk in
     let ls : List lines.ImportLine = c.in_ok-lines.lines.items in
-    let line : lines.ImportLine = c.index.result.now in
+    let line : lines.ImportLine = c.index-line.result.now in
+    let here : askings.Asking = record { file = c.args.path; text = c.deref-in-lines.result; at = line.at } in
+    let next : List ℕ = c.as_str-next.result.now in
+    let w = λ (roots : List (List ℕ)). world (g.S.Sources.may_give c.args.source.now) (g.S.Sources.may_lack c.args.source.now) c.args.folder.now roots in
+    let parsed : IsParsed c.in_ok-bytes.bytes.items c.in_ok-tree.tree = subst (λ (text : List ℕ). IsParsed text c.in_ok-tree.tree) c.deref.ensures.value c.in_ok-tree.ensures.parsed in
     let has = λ (l : lines.ImportLine). has_path new (string_bytes l.path) ≡ true in
-    let this : has line = subst (λ (p : List ℕ). has_path new p ≡ true) c.as_str-next.ensures.value after.has in
-    let those : All has (take c.lines.index ls) = λ k d within. has_more mid new after.kept _ (before.so_far k d within) in
+    let this : has line = subst (λ (q : List ℕ). has_path new q ≡ true) c.as_str-next.ensures.value after.has in
+    let those : All has (take c.lines.index ls) = λ k d within. after.kept _ (inv.so_far k d within) in
+    let within : c.lines.index < length ls = omega arith in
+    let at : next ≡ line_path (slice_index_or ls c.lines.index line) = c.as_str-next.ensures.value ∙ ap line_path c.index-line.ensures in
+    let more : map line_path (take (c.lines.index + 1) ls) ≡ map line_path (take c.lines.index ls) ++ next ∷ [] =
+    map_more line_path ls c.lines.index line within ∙ ap (λ (q : List ℕ). map line_path (take c.lines.index ls) ++ q ∷ []) (sym at) in
+    let first : is_path_of (map line_path (take c.lines.index ls)) next ≡ false =
+    subst (λ (qs : List (List ℕ)). is_path_of qs next ≡ false) inv.before_is c.in_ok-check.ensures.first in
     record {
-      given = λ all. given_of (g.S.Sources.may_give c.lines.source) (g.S.Sources.may_give c.args.source.now) c.args.folder.now mid new
-          before.same_given after.given (before.given all);
-      parsed = λ all. after.parsed (before.parsed all);
-      follows = follows_more ls old mid new before.follows after.kept after.follows;
-      so_far = All-more has ls c.lines.index line (omega arith) those (subst has c.index.ensures this);
-      kept = λ p f at. after.kept p f (before.kept p f at);
-      has = has_more mid new after.kept c.args.path.now before.has;
-      counted = omega (arith, after.counted, before.counted);
-      same_given = after.same_given ∙ before.same_given;
-      same_lacked = after.same_lacked ∙ before.same_lacked;
-      rises = omega (arith, after.grows, before.rises);
-      room = before.room;
+      sound = λ roots f.
+          let now = same_world (g.S.Sources.may_give c.lines.source) (g.S.Sources.may_give c.args.source.now) (g.S.Sources.may_lack c.lines.source) (g.S.Sources.may_lack c.args.source.now)
+          c.args.folder.now roots inv.same_given inv.same_lacked in
+          let i = next_import (w roots) path c.in_ok-bytes.bytes.items here.text.now next c.in_ok-tree.tree ls c.lines.index line
+          record { is_given = c.in_ok-bytes.ensures.given; is_parsed = parsed } c.deref-in-lines.ensures.value c.as_str-next.ensures.value c.in_ok-lines.ensures
+          within c.index-line.ensures in
+          let follows = follows_next (w roots) c.lines.walk path (open_paths walk) here next inv.opened (inv.sound roots f) refl i.0
+          (comes_of (w roots) (open_paths walk) c.args.asking path f.asks) in
+          subst (λ (x : World). IsSound x (path ∷ open_paths walk) (entries new)) now
+          (subst (λ (ps : List (List ℕ)). IsSound (world (g.S.Sources.may_give c.lines.source) (g.S.Sources.may_lack c.lines.source) c.args.folder.now roots) ps (entries new)) inv.opened
+          (after.sound roots (subst (λ (x : World). Follows x c.lines.walk (Some here) next) (sym now) follows)));
+      opened = after.opened ∙ inv.opened;
+      so_far = All-more has ls c.lines.index line within those (subst has c.index-line.ensures this);
+      before_is = c.in_ok-check.ensures.noted ∙ (ap (λ (qs : List (List ℕ)). qs ++ next ∷ []) inv.before_is ∙ sym more);
+      differ = subst Differ (sym more) (apart_more (map line_path (take c.lines.index ls)) next inv.differ first);
+      kept = λ q has. after.kept q (inv.kept q has);
+      counted = omega (arith, after.counted, inv.counted);
+      same_given = after.same_given ∙ inv.same_given;
+      same_lacked = after.same_lacked ∙ inv.same_lacked;
+      rises = omega (arith, after.grows, ap length after.opened, inv.rises);
+      grows = omega (arith, after.grows, inv.grows);
+      room = inv.room;
     }
 
-pub returns-clause-follows : goal.returns-clause-follows
-returns-clause-follows g t c =
-    follows_last c.in_ok-lines.lines.items c.lines.index c.args.walk.now.files c.lines.walk.files (omega arith)
-    c.lines.invariant.so_far c.lines.invariant.follows
+pub returns-clause-sound : goal.returns-clause-sound
+returns-clause-sound g t c = λ roots f.
+    let walk = c.args.walk.now in
+    let path : List ℕ = c.args.path.now in
+    let inv = c.lines.invariant in
+    let mid = c.lines.walk in
+    let new = c.end.new.self in
+    let ls : List lines.ImportLine = c.in_ok-lines.lines.items in
+    let file : kept.SourceFile = record { bytes = c.in_ok-bytes.bytes; tree = c.in_ok-tree.tree } in
+    let w = world (g.S.Sources.may_give c.args.source.now) (g.S.Sources.may_lack c.args.source.now) c.args.folder.now roots in
+    let parsed : IsParsed c.in_ok-bytes.bytes.items c.in_ok-tree.tree = subst (λ (text : List ℕ). IsParsed text c.in_ok-tree.tree) c.deref.ensures.value c.in_ok-tree.ensures.parsed in
+    let sound : IsSound w (path ∷ open_paths walk) (entries mid) = inv.sound roots f in
+    let last = c.in_ok-end.ensures.comes.is_last (not_read w path (open_paths walk) (entries mid) sound) in
+    let whole : take c.lines.index ls ≡ ls = take_all c.lines.index ls (omega arith) in
+    let has = λ (l : lines.ImportLine). has_path mid (string_bytes l.path) ≡ true in
+    one_more w path (open_paths walk) (entries mid) (entries new) last.0 file ls sound last.1 last.2
+    record { is_given = c.in_ok-bytes.ensures.given; is_parsed = parsed } (reached_of w (open_paths walk) c.args.asking path f.asks) c.in_ok-lines.ensures
+    (subst (λ (xs : List lines.ImportLine). All has xs) whole inv.so_far) (subst (λ (xs : List lines.ImportLine). Differ (map line_path xs)) whole inv.differ)

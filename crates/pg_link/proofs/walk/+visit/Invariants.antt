@@ -1,27 +1,29 @@
-use Rattle.std.proofs.Common.{◌≡◌, true, ◌-◌, ◌<◌, All, take, length, string_bytes}
-use Rattle.indexmap.specs.IndexMap.{index_map_len}
-use Rattle.pg_link.specs.declared.walk.ImportLine as lines
-use Rattle.pg_link.specs.Walk.{AllGiven, AllParsed, Keeps, has_path}
-use Rattle.pg_link.proofs.WalkLaws.{FollowsBut}
+use Rattle.std.proofs.Common.{◌≡◌, ◌-◌, ◌+◌, ◌<◌, ℕ, List, ◌∷◌, All, take, true, length, map, string_bytes}
+use Rattle.pg_link.specs.declared.imports.ImportLine as lines
+use Rattle.pg_link.specs.Files.{Differ}
+use Rattle.pg_link.specs.Walk.{World, world, IsSound, Follows, Keeps, entries, open_paths, has_path}
+use Rattle.pg_link.proofs.WalkLaws.{line_path}
 use Rattle.pg_link.proofs.walk.+visit.Given as goal
 
 -- each visit that goes on reads one more file
 abbrev pub decreases-visit : goal.decreases-visit
-decreases-visit g l = 1024 - index_map_len l.walk.now.files
+decreases-visit g l = 1024 - (length (open_paths l.walk.now) + length (entries l.walk.now))
 
 abbrev pub invariant-lines : goal.invariant-lines
 invariant-lines g l = record {
-  given : AllGiven (g.S.Sources.may_give l.fn.source) l.folder l.fn.walk.files → AllGiven (g.S.Sources.may_give l.fn.source) l.folder l.walk.files;
-  parsed : AllParsed l.fn.walk.files → AllParsed l.walk.files;
-  follows : FollowsBut l.lines.items l.fn.walk.files l.walk.files;
-  so_far : All (λ (line : lines.ImportLine). has_path l.walk.files (string_bytes line.path) ≡ true) (take l.index l.lines.items);
-  kept : Keeps l.fn.walk.files l.walk.files;
-  has : has_path l.walk.files l.fn.path ≡ true;
+  sound : (roots : List (List ℕ)) → Follows (world (g.S.Sources.may_give l.fn.source) (g.S.Sources.may_lack l.fn.source) l.folder roots) l.fn.walk l.asking l.path
+      → IsSound (world (g.S.Sources.may_give l.fn.source) (g.S.Sources.may_lack l.fn.source) l.folder roots) (l.path ∷ open_paths l.fn.walk) (entries l.walk);
+  opened : open_paths l.walk ≡ l.path ∷ open_paths l.fn.walk;
+  so_far : All (λ (line : lines.ImportLine). has_path l.walk (string_bytes line.path) ≡ true) (take l.index l.lines.items);
+  before_is : map string_bytes l.before.keys ≡ map line_path (take l.index l.lines.items);
+  differ : Differ (map line_path (take l.index l.lines.items));
+  kept : Keeps l.fn.walk l.walk;
   counted : g.S.Sources.failures l.source ≡ g.S.Sources.failures l.fn.source;
   same_given : g.S.Sources.may_give l.source ≡ g.S.Sources.may_give l.fn.source;
   same_lacked : g.S.Sources.may_lack l.source ≡ g.S.Sources.may_lack l.fn.source;
-  rises : index_map_len l.fn.walk.files < index_map_len l.walk.files;
-  room : index_map_len l.fn.walk.files < 1024;
+  rises : length (open_paths l.fn.walk) + length (entries l.fn.walk) < length (open_paths l.walk) + length (entries l.walk);
+  grows : length (entries l.fn.walk) < length (entries l.walk) + 1;
+  room : length (open_paths l.fn.walk) + length (entries l.fn.walk) < 1024;
 }
 
 abbrev pub decreases-lines : goal.decreases-lines

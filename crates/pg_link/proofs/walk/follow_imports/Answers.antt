@@ -1,34 +1,62 @@
-use Rattle.std.proofs.Common.{◌≡◌, ◌∙◌, ℕ, List, [], All, take, true, subst, arith}
+use Rattle.std.proofs.Common.{◌≡◌, ◌∙◌, ℕ, List, [], None, All, take, true, sym, ap, subst, slice_index_or, arith}
 use Rattle.std.proofs.lemmas.List.{take_all}
-use Rattle.std.proofs.lemmas.List.Elements.{All-more}
+use Rattle.std.proofs.lemmas.List.Elements.{All-more, All-map}
+use Rattle.std.proofs.lemmas.Result.{err_from_is_err_and}
 use Rattle.std.specs.Borrow.{Bor}
-use Rattle.pg_link.specs.Walk.{has_path}
-use Rattle.pg_link.proofs.WalkLaws.{given_of, closed_more, has_more}
+use Rattle.pg_link.specs.Files.{is_path_of, paths_of}
+use Rattle.pg_link.specs.Index.{texts}
+use Rattle.pg_link.specs.Walk.{World, world, IsSound, Follows, Refuses, entries, open_paths, outlines, has_path}
+use Rattle.pg_link.proofs.WalkLaws.{contains_root, follows_root, linked, same_world}
 use Rattle.pg_link.proofs.walk.follow_imports.Goals as goal
+
+pub returns-in_err-visit-clause-refused : goal.returns-in_err-visit-clause-refused
+returns-in_err-visit-clause-refused g c =
+    let inv = c.loop-root.invariant in
+    let roots = c.args.roots.now in
+    let none : Bor (List ℕ) = record { ref_ptr = (0, 0); now = [] } in
+    let root : List ℕ = (slice_index_or roots c.loop-root.root-index none).now in
+    let e = c.in_err-visit.field-0.0 in
+    let w = world (g.S.Sources.may_give c.args.source.now) (g.S.Sources.may_lack c.args.source.now) c.args.folder.now (texts roots) in
+    let p = err_from_is_err_and c.from_residual.result c.from_residual.ensures.1 in
+    let now = same_world (g.S.Sources.may_give c.loop-root.source) (g.S.Sources.may_give c.args.source.now) (g.S.Sources.may_lack c.loop-root.source) (g.S.Sources.may_lack c.args.source.now)
+    c.args.folder.now (texts roots) inv.same_given inv.same_lacked in
+    let follows = follows_root w c.loop-root.walk root inv.opened inv.sound (contains_root roots c.loop-root.root-index none c.loop-root-test.true) in
+    rw (p.1, p.2) (subst (λ (x : World). Refuses x e) now
+    (c.in_err-visit.ensures.refused (texts roots) (subst (λ (x : World). Follows x c.loop-root.walk None root) (sym now) follows)))
 
 pub loop-root-preserved : goal.loop-root-preserved
 loop-root-preserved g c =
-    let before = c.loop-root.invariant in
+    let inv = c.loop-root.invariant in
     let after = c.in_ok-visit.ensures in
     let roots = c.args.roots.now in
     let none : Bor (List ℕ) = record { ref_ptr = (0, 0); now = [] } in
-    let mid = c.loop-root.walk.files in
-    let new = c.visit.new.walk.files in
+    let root : List ℕ = (slice_index_or roots c.loop-root.root-index none).now in
+    let new = c.visit.new.walk in
+    let w = world (g.S.Sources.may_give c.args.source.now) (g.S.Sources.may_lack c.args.source.now) c.args.folder.now (texts roots) in
+    let mid = world (g.S.Sources.may_give c.loop-root.source) (g.S.Sources.may_lack c.loop-root.source) c.args.folder.now (texts roots) in
+    let now = same_world (g.S.Sources.may_give c.loop-root.source) (g.S.Sources.may_give c.args.source.now) (g.S.Sources.may_lack c.loop-root.source) (g.S.Sources.may_lack c.args.source.now)
+    c.args.folder.now (texts roots) inv.same_given inv.same_lacked in
+    let follows = follows_root w c.loop-root.walk root inv.opened inv.sound (contains_root roots c.loop-root.root-index none c.loop-root-test.true) in
     let has = λ (root : Bor (List ℕ)). has_path new root.now ≡ true in
-    let those : All has (take c.loop-root.root-index roots) = λ k d within. has_more mid new after.kept _ (before.roots k d within) in
+    let those : All has (take c.loop-root.root-index roots) = λ k d within. after.kept _ (inv.has_roots k d within) in
+    let sound : IsSound mid [] (entries new) = subst (λ (ps : List (List ℕ)). IsSound mid ps (entries new)) inv.opened
+    (after.sound (texts roots) (subst (λ (x : World). Follows x c.loop-root.walk None root) (sym now) follows)) in
     record {
-      given = given_of (g.S.Sources.may_give c.loop-root.source) (g.S.Sources.may_give c.args.source.now) c.args.folder.now mid new
-          before.same_given after.given before.given;
-      parsed = after.parsed before.parsed;
-      closed = closed_more mid new after.kept after.follows before.closed;
-      roots = All-more has roots c.loop-root.root-index none c.loop-root-test.true those after.has;
-      counted = omega (arith, after.counted, before.counted);
-      same_given = after.same_given ∙ before.same_given;
-      same_lacked = after.same_lacked ∙ before.same_lacked;
+      sound = subst (λ (x : World). IsSound x [] (entries new)) now sound;
+      opened = after.opened ∙ inv.opened;
+      has_roots = All-more has roots c.loop-root.root-index none c.loop-root-test.true those after.has;
+      counted = omega (arith, after.counted, inv.counted);
+      same_given = after.same_given ∙ inv.same_given;
+      same_lacked = after.same_lacked ∙ inv.same_lacked;
     }
 
-pub returns-clause-roots : goal.returns-clause-roots
-returns-clause-roots g c =
-    let has = λ (root : Bor (List ℕ)). has_path c.loop-root.walk.files root.now ≡ true in
-    subst (λ (xs : List (Bor (List ℕ))). All has xs) (take_all c.loop-root.root-index c.args.roots.now (omega (arith, c.loop-root-test.false)))
-    c.loop-root.invariant.roots
+pub returns-clause-linked : goal.returns-clause-linked
+returns-clause-linked g c =
+    let inv = c.loop-root.invariant in
+    let roots = c.args.roots.now in
+    let w = world (g.S.Sources.may_give c.args.source.now) (g.S.Sources.may_lack c.args.source.now) c.args.folder.now (texts roots) in
+    let has = λ (root : Bor (List ℕ)). has_path c.loop-root.walk root.now ≡ true in
+    let all : All has roots =
+    subst (λ (xs : List (Bor (List ℕ))). All has xs) (take_all c.loop-root.root-index roots (omega (arith, c.loop-root-test.false))) inv.has_roots in
+    linked w (entries c.loop-root.walk) inv.sound
+    (All-map (λ (root : List ℕ). is_path_of (paths_of (outlines (entries c.loop-root.walk))) root ≡ true) (λ (root : Bor (List ℕ)). root.now) roots all)

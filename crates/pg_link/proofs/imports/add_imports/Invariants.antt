@@ -1,7 +1,7 @@
 use Rattle.std.proofs.Common.{◌≡◌, ◌++◌, map, flat_map, drop}
 use Rattle.pg_link.specs.Outline.{imports_in}
 use Rattle.pg_link.specs.Imports.{line_of}
-use Rattle.pg_link.proofs.walk.add_imports.Given as goal
+use Rattle.pg_link.proofs.imports.add_imports.Given as goal
 
 -- the lines so far, and the imports that are left, are those of all
 abbrev pub invariant-loop-statement : goal.invariant-loop-statement

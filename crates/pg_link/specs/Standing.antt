@@ -1,0 +1,117 @@
+-- The names of all files, each where it stands (proto3 language specification, "Package", "Message definition").
+use Rattle.std.specs.Prelude.{◌≡◌, ◌⊎◌, ◌&&◌, ℕ, Bool, true, false, List, [], ◌∷◌, ◌++◌, ◌+◌, slice_get, Option, Some, None, map, reverse}
+use Rattle.std.specs.List.{filter}
+use Rattle.std.specs.Option.{option_map}
+use Rattle.std.specs.Str.{bytes_eq}
+use Rattle.std.specs.HashMap.{HashMap, get_by_text}
+use Rattle.std.specs.Global.{Global}
+use Rattle.std.specs.Prelude.{String}
+use Rattle.pg_link.specs.declared.names.Kind.{Kind}
+use Rattle.pg_link.specs.declared.names.Named as nameds
+use Rattle.pg_link.specs.declared.declaring.NameError as faults
+use Rattle.pg_link.specs.declared.declaring.NameError.TheVariants as fault
+use Rattle.pg_link.specs.Files.{Declared}
+use Rattle.pg_link.specs.Names.{Text, is_package}
+use Rattle.pg_link.specs.Outline.{file_names}
+use Rattle.pg_link.specs.Walk.{Entry, IsPlace, path_of}
+use Rattle.pg_syntax.specs.declared.tree as tree
+
+-- a declared name, and the number of its file
+pub record Standing : Type 0 where
+  pub file : ℕ
+  pub declared : Declared
+
+-- what stands under one name: as what, at which byte of which file first, and in which files
+pub record Bearer : Type 0 where
+  pub kind : Kind
+  pub at : ℕ
+  pub files : List ℕ
+
+-- those that declare the name
+abbrev pub bearers : List Standing → Text → List Standing
+bearers all full = filter (λ s. bytes_eq full s.declared.name) all
+
+abbrev pub first_of : List Standing → Option Bearer
+first_of [] = None
+first_of (s ∷ more) = Some (record { kind = s.declared.kind; at = s.declared.at; files = s.file ∷ map (λ t. t.file) more })
+
+-- what bears a name
+abbrev pub bearer : List Standing → Text → Option Bearer
+bearer all full = first_of (bearers all full)
+
+abbrev pub kind_of : Option Bearer → Option Kind
+kind_of = option_map (λ b. b.kind)
+
+-- both are parts of packages
+abbrev pub may_share : Kind → Kind → Bool
+may_share old new = is_package old && is_package new
+
+-- A name may stand behind others where none of them has it, or where all that have it are parts of packages, as it is.
+abbrev pub MayStand : List Standing → Standing → Type 0
+MayStand before s = (bearer before s.declared.name ≡ None)
+    ⊎ ((b : Bearer) × (bearer before s.declared.name ≡ Some b) × (may_share b.kind s.declared.kind ≡ true))
+
+-- It stands twice: it is among those before it, and not both are parts of packages.
+abbrev pub StandsTwice : List Standing → Standing → Type 0
+StandsTwice before s = (b : Bearer) × (bearer before s.declared.name ≡ Some b) × (may_share b.kind s.declared.kind ≡ false)
+
+-- none stands twice, but for parts of packages; the last first
+abbrev pub AllMayStand : List Standing → Type 0
+AllMayStand [] = Unit {0}
+AllMayStand (s ∷ before) = MayStand (reverse before) s × AllMayStand before
+
+abbrev pub NoneTwice : List Standing → Type 0
+NoneTwice all = AllMayStand (reverse all)
+
+abbrev pub view : nameds.Named → Bearer
+view n = record { kind = n.kind; at = n.at; files = n.files.items }
+
+-- an index holds just these names
+abbrev pub Holds : {S : Type 0} → HashMap (String Global) nameds.Named S → List Standing → Type 0
+Holds index all = (full : Text) → option_map view (get_by_text index full) ≡ bearer all full
+
+-- what bears a name once this one stands behind the others
+abbrev pub added : Standing → Option Bearer → Bearer
+added s None = record { kind = s.declared.kind; at = s.declared.at; files = s.file ∷ [] }
+added s (Some b) = record { kind = b.kind; at = b.at; files = b.files ++ s.file ∷ [] }
+
+-- what is to stand under a name, or none where it stands twice
+abbrev pub Joins : {S : Type 0} → HashMap (String Global) nameds.Named S → Standing → Option nameds.Named → Type 0
+Joins index s None = (all : List Standing) → Holds index all → StandsTwice all s
+Joins index s (Some n) = (all : List Standing) → Holds index all → MayStand all s × (view n ≡ added s (bearer all s.declared.name))
+
+-- the name has come behind the others, or stands twice
+abbrev pub Adds : {S : Type 0} → HashMap (String Global) nameds.Named S → HashMap (String Global) nameds.Named S → Standing → Bool → Type 0
+Adds old new s true = (all : List Standing) → Holds old all → MayStand all s × Holds new (all ++ s ∷ [])
+Adds old new s false = (all : List Standing) → Holds old all → StandsTwice all s
+
+abbrev pub standing : ℕ → Declared → Standing
+standing file declared = record { file = file; declared = declared }
+
+-- the names that a file declares
+abbrev pub standings : ℕ → tree.FileTree.FileTree → List Standing
+standings file t = map (standing file) (file_names t)
+
+-- the names have come behind the others, none twice
+abbrev pub AddsAll : {S : Type 0} → HashMap (String Global) nameds.Named S → HashMap (String Global) nameds.Named S → List Standing → Type 0
+AddsAll old new more = (all : List Standing) → Holds old all → Holds new (all ++ more) × (NoneTwice all → NoneTwice (all ++ more))
+
+-- one of the names stands twice, at this place in the file
+abbrev pub IsTwice : {S : Type 0} → HashMap (String Global) nameds.Named S → ℕ → Text → Text → List Standing → faults.NameError → Type 0
+IsTwice old number path text more (fault.DuplicateName place) = (front back : List Standing) × (d : Declared) × (more ≡ front ++ standing number d ∷ back)
+    × IsPlace place path text d.at × ((all : List Standing) → Holds old all → StandsTwice (all ++ front) (standing number d))
+IsTwice old number path text more fault.Memory = Unit {0}
+
+-- the names of these files, numbered from this on
+abbrev pub standings_from : ℕ → List Entry → List Standing
+standings_from number [] = []
+standings_from number (e ∷ es) = standings number e.1.tree ++ standings_from (number + 1) es
+
+abbrev pub all_standings : List Entry → List Standing
+all_standings = standings_from 0
+
+-- one of the names of the files stands twice, at its place
+abbrev pub IsTwiceIn : List Entry → faults.NameError → Type 0
+IsTwiceIn entries (fault.DuplicateName place) = (front back : List Standing) × (s : Standing) × (all_standings entries ≡ front ++ s ∷ back)
+    × StandsTwice front s × ((e : Entry) × (slice_get entries s.file ≡ Some e) × IsPlace place (path_of e) e.1.bytes.items s.declared.at)
+IsTwiceIn entries fault.Memory = Unit {0}

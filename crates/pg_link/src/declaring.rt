@@ -1,0 +1,157 @@
+//! The names of files, put into an index one by one.
+ghost use Rattle.std.specs.Prelude.{◌≡◌, IfErr, IfOk, OnOk, Some, None};
+ghost use Rattle.pg_link.specs.Files.{Declared};
+ghost use Rattle.pg_link.specs.Outline.{declared_of};
+ghost use Rattle.pg_link.specs.Standing as spec;
+
+use crate::declares::{DeclaredName, declared_names};
+use crate::error::{Place, place_in};
+use crate::index::Index;
+use crate::names::{Kind, Named};
+use crate::walk::SourceFile;
+use indexmap::IndexMap;
+use std::alloc::{AllocError, Global};
+use thiserror::Error;
+
+/// What stands under a name that this file declares first.
+fn first(alloc: Global, file: usize, declared: &DeclaredName) -> Result<Named, AllocError>
+    ensures { IfOk result (λ n. spec.view n ≡ spec.added (spec.standing file (declared_of declared.now)) None) }
+{
+    let mut files = Vec::new(alloc);
+    files.push(file)?;
+    Ok(Named {
+        kind: declared.kind,
+        at: declared.at,
+        files,
+    })
+}
+
+/// What stands under a name once this file declares it too.
+fn again(alloc: Global, file: usize, named: &Named) -> Result<Named, AllocError>
+    ensures { IfOk result (λ n. (d : Declared) → spec.view n ≡ spec.added (spec.standing file d) (Some (spec.view named.now))) }
+{
+    let mut files = Vec::from_slice(alloc, &named.files)?;
+    files.push(file)?;
+    Ok(Named {
+        kind: named.kind,
+        at: named.at,
+        files,
+    })
+}
+
+/// Whether both are parts of packages, which one name may be of several files.
+fn may_share(old: Kind, new: Kind) -> bool
+    ensures { result ≡ spec.may_share old new }
+{
+    old.is_package() && new.is_package()
+}
+
+impl Index {
+    /// What is to stand under a name once this file declares it. None where the name stands twice.
+    fn joined(
+        &self,
+        alloc: Global,
+        file: usize,
+        declared: &DeclaredName,
+    ) -> Result<Option<Named>, AllocError>
+        ensures { IfOk result (λ n. spec.Joins self.now.names (spec.standing file (declared_of declared.now)) n) }
+    {
+        match self.names.get(declared.name.as_str()) {
+            None => {
+                let named = first(alloc, file, declared)?;
+                Ok(Some(named))
+            }
+            Some(named) => {
+                if !may_share(named.kind, declared.kind) {
+                    return Ok(None);
+                }
+                let more = again(alloc, file, named)?;
+                Ok(Some(more))
+            }
+        }
+    }
+
+    /// Puts a name that a file declares behind the others. False where the name stands twice.
+    pub(crate) fn add(
+        &mut self,
+        alloc: Global,
+        file: usize,
+        declared: &DeclaredName,
+    ) -> Result<bool, AllocError>
+        ensures { IfOk result (λ may. spec.Adds self.old.names self.new.names (spec.standing file (declared_of declared.now)) may) }
+    {
+        let Some(named) = self.joined(alloc, file, declared)? else {
+            return Ok(false);
+        };
+        let name = String::from_str(alloc, declared.name.as_str())?;
+        self.names.insert(name, named)?;
+        Ok(true)
+    }
+}
+
+/// Why the names of files can't stand beside each other.
+#[derive(Debug, Drop, Error)]
+pub enum NameError {
+    /// E304: a name stands twice, and not both times as a part of a package. At the later of the two.
+    #[error("the name is declared twice")]
+    DuplicateName(Place),
+    /// E001: a growth was refused.
+    #[error("out of memory")]
+    Memory,
+}
+
+impl From<AllocError> for NameError {
+    ghost use Rattle.pg_link.specs.declared.declaring.NameError.TheVariants.{Memory};
+
+    ghost from_gives = { λ _ error. error ≡ Memory };
+
+    fn from(_error: AllocError) -> NameError {
+        NameError::Memory
+    }
+}
+
+impl Index {
+    /// Puts the names that a file declares behind the others. `number` is the file's.
+    fn add_file(
+        &mut self,
+        alloc: Global,
+        number: usize,
+        path: &str,
+        file: &SourceFile,
+    ) -> Result<(), NameError>
+        ensures holds { OnOk result (spec.AddsAll self.old.names self.new.names (spec.standings number file.now.tree)) }
+        ensures twice { IfErr result (spec.IsTwice self.old.names number path.now file.now.bytes.items (spec.standings number file.now.tree)) }
+    {
+        let names = declared_names(alloc, &file.tree)?;
+        for declared in &names {
+            if !self.add(alloc, number, declared)? {
+                let place = place_in(alloc, path, &file.bytes, declared.at)?;
+                return Err(NameError::DuplicateName(place));
+            }
+        }
+        Ok(())
+    }
+}
+
+/// The names of all files, by their full names and in the order in which they are declared. `files` stand in the order
+/// in which their names are looked at; each is numbered by its place.
+///
+/// E304 where a name is declared twice, and not both times as a part of a package: at the later of the two.
+pub fn index_names(alloc: Global, files: &IndexMap<String, SourceFile>) -> Result<Index, NameError>
+    // The index holds just the names that the files declare, and none stands twice.
+    ensures holds { IfOk result (λ index. spec.Holds index.names (spec.all_standings files.now.entries)) }
+    ensures once { OnOk result (spec.NoneTwice (spec.all_standings files.now.entries)) }
+    // A name is refused only where it stands twice, at its place.
+    ensures twice { IfErr result (spec.IsTwiceIn files.now.entries) }
+{
+    let mut index = Index {
+        names: IndexMap::new(alloc),
+    };
+    for number in 0..files.len() {
+        let Some((path, file)) = files.get_index(number) else {
+            continue;
+        };
+        index.add_file(alloc, number, path.as_str(), file)?;
+    }
+    Ok(index)
+}

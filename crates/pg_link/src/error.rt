@@ -1,0 +1,80 @@
+//! Why files can't be linked.
+ghost use Rattle.std.specs.Prelude.{◌≡◌, IfOk};
+ghost use Rattle.pg_link.specs.Walk as spec;
+
+use pg_lex::{LexError, place};
+use pg_syntax::SyntaxError;
+use std::alloc::{AllocError, AllocFailed, Global};
+use thiserror::Error;
+
+/// A place in a file. The line and the column, which counts bytes, are from 1; both are 0 where the file as a whole
+/// is meant.
+#[derive(Debug, Drop)]
+pub struct Place {
+    pub file: String,
+    pub line: usize,
+    pub column: usize,
+}
+
+/// The place of a byte of the file's text.
+pub(crate) fn place_in(
+    alloc: Global,
+    file: &str,
+    text: &[u8],
+    at: usize,
+) -> Result<Place, AllocError>
+    ensures { IfOk result (λ place. spec.IsPlace place file.now text.now at) }
+{
+    let file = String::from_str(alloc, file)?;
+    let (line, column) = place(text, at);
+    Ok(Place { file, line, column })
+}
+
+/// Why files can't be linked.
+#[derive(Debug, Drop, Error)]
+pub enum LinkError {
+    /// E301: there is no file of a path, at the literal of its import or for a root as a whole.
+    #[error("there is no such file")]
+    MissingFile(Place),
+    /// E302: a file imports itself, if only by way of others. At the import that closes the circle.
+    #[error("the file imports itself, if only by way of others")]
+    ImportCycle(Place),
+    /// E303: a file imports one path twice. At the second import.
+    #[error("the file imports one path twice")]
+    DuplicateImport(Place),
+    /// E308: more than 1,024 files, at the import of the first beyond.
+    #[error("more than 1,024 files")]
+    TooManyFiles(Place),
+    /// E309: the source failed to give the file.
+    #[error("the file could not be read")]
+    SourceFailed(Place),
+    /// E101 to E108: a text has no tokens.
+    #[error("{0}")]
+    Lex(LexError, Place),
+    /// E201 to E207: the tokens of a text spell no file.
+    #[error("{0}")]
+    Syntax(SyntaxError, Place),
+    /// E001: a growth was refused. It may come in place of any other.
+    #[error("out of memory")]
+    Memory,
+}
+
+impl From<AllocError> for LinkError {
+    ghost use Rattle.pg_link.specs.declared.error.LinkError.TheVariants.{Memory};
+
+    ghost from_gives = { λ _ error. error ≡ Memory };
+
+    fn from(_error: AllocError) -> LinkError {
+        LinkError::Memory
+    }
+}
+
+impl<T: Drop> From<AllocFailed<T>> for LinkError {
+    ghost use Rattle.pg_link.specs.declared.error.LinkError.TheVariants.{Memory};
+
+    ghost from_gives = { λ _ error. error ≡ Memory };
+
+    fn from(_error: AllocFailed<T>) -> LinkError {
+        LinkError::Memory
+    }
+}

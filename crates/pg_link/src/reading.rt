@@ -1,0 +1,125 @@
+//! A file's text and tree, with the places of the faults in them.
+ghost use Rattle.std.specs.Prelude.{◌≡◌, ◌+◌, IfErr, IfOk, IsTrue};
+ghost use Rattle.pg_link.specs.Below.{path_below};
+ghost use Rattle.pg_lex.specs.Lexes.{lexes};
+ghost use Rattle.pg_lex.specs.Symbol.{placed};
+ghost use Rattle.pg_lex.specs.Faults as lex;
+ghost use Rattle.pg_link.specs.Walk as spec;
+
+use crate::error::{LinkError, Place, place_in};
+use crate::walk::Asking;
+use crate::{SourceError, Sources, read_below};
+use pg_lex::{LexError, Token};
+use pg_syntax::SyntaxError;
+use pg_syntax::tree::FileTree;
+use std::alloc::{AllocError, Global};
+
+/// The byte at which a lexical fault stands.
+fn lex_place(error: LexError) -> usize
+    ensures { result ≡ lex.place_of error }
+{
+    match error {
+        LexError::Memory => 0,
+        LexError::NotUtf8 { at } => at,
+        LexError::BadCharacter { at } => at,
+        LexError::OpenString { at } => at,
+        LexError::BadEscape { at } => at,
+        LexError::OpenComment { at } => at,
+        LexError::NumberTooLarge { at } => at,
+        LexError::FloatLiteral { at } => at,
+        LexError::FileTooLong { at } => at,
+    }
+}
+
+/// The byte at which a syntax fault stands.
+fn syntax_place(error: SyntaxError) -> usize
+    ensures { result ≡ spec.syntax_place error }
+{
+    match error {
+        SyntaxError::Memory => 0,
+        SyntaxError::NotProto3 { at } => at,
+        SyntaxError::Unexpected { at } => at,
+        SyntaxError::Group { at } => at,
+        SyntaxError::Extension { at } => at,
+        SyntaxError::CustomOption { at } => at,
+        SyntaxError::WeakImport { at } => at,
+        SyntaxError::NestedTooDeep { at } => at,
+    }
+}
+
+/// The tokens of a file's text.
+fn tokens_of<'a>(alloc: Global, path: &str, text: &'a [u8]) -> Result<Vec<Token<'a>>, LinkError>
+    ensures tokens { IfOk result (λ tokens. lexes text.now (placed tokens.items)) }
+    ensures fault { IfErr result (spec.IsTextFault path.now text.now) }
+{
+    match pg_lex::lex(alloc, text) {
+        Ok(tokens) => Ok(tokens),
+        Err(LexError::Memory) => Err(LinkError::Memory),
+        Err(error) => {
+            let place = place_in(alloc, path, text, lex_place(error))?;
+            Err(LinkError::Lex(error, place))
+        }
+    }
+}
+
+/// The tree of a file's text.
+pub(crate) fn tree_of(alloc: Global, path: &str, text: &[u8]) -> Result<FileTree, LinkError>
+    ensures parsed { IfOk result (λ file. spec.IsParsed text.now file) }
+    ensures fault { IfErr result (spec.IsTextFault path.now text.now) }
+{
+    let tokens = tokens_of(alloc, path, text)?;
+    match pg_syntax::parse(alloc, &tokens, text.len()) {
+        Ok(file) => Ok(file),
+        Err(SyntaxError::Memory) => Err(LinkError::Memory),
+        Err(error) => {
+            let place = place_in(alloc, path, text, syntax_place(error))?;
+            Err(LinkError::Syntax(error, place))
+        }
+    }
+}
+
+/// The place at which a path is asked for: the literal of the import, or the file as a whole where it is a root.
+pub(crate) fn asked_at(
+    alloc: Global,
+    asking: Option<Asking<'_>>,
+    path: &str,
+) -> Result<Place, AllocError>
+    ensures { IfOk result (λ place. spec.IsAsked place asking.entry path.now) }
+{
+    match asking {
+        Some(asking) => place_in(alloc, asking.file, asking.text, asking.at),
+        None => Ok(Place {
+            file: String::from_str(alloc, path)?,
+            line: 0,
+            column: 0,
+        }),
+    }
+}
+
+/// The text of a file. Where the source fails, the place is the file as a whole, whoever asks for it.
+pub(crate) fn text_of<S: Sources>(
+    alloc: Global,
+    source: &mut S,
+    folder: &str,
+    path: &str,
+    asking: Option<Asking<'_>>,
+) -> Result<Vec<u8>, LinkError>
+    ensures given { IfOk result (λ bytes. IsTrue (S.may_give source.old (path_below folder.now path.now) bytes.items)) }
+    ensures fault { IfErr result (spec.IsReadFault (S.may_lack source.old) folder.now asking.entry path.now) }
+    ensures counted { S.failures source.new ≡ S.failures source.old + spec.failures_of result }
+    ensures same_given { S.may_give source.new ≡ S.may_give source.old }
+    ensures same_lacked { S.may_lack source.new ≡ S.may_lack source.old }
+{
+    // Made before the read, so that a failure of the source is told even where no more memory is there.
+    let file = String::from_str(alloc, path)?;
+    match read_below(alloc, source, folder, path) {
+        Ok(bytes) => Ok(bytes),
+        Err(SourceError::Missing) => Err(LinkError::MissingFile(asked_at(alloc, asking, path)?)),
+        Err(SourceError::Failed) => Err(LinkError::SourceFailed(Place {
+            file,
+            line: 0,
+            column: 0,
+        })),
+        Err(SourceError::Memory) => Err(LinkError::Memory),
+    }
+}
