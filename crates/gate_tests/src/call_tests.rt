@@ -3,8 +3,8 @@ use crate::runs::file_of;
 use pg_gate::{Answer, GateError, gate, gate_files};
 use pg_link::Listed;
 use pg_schema::{
-    Element, Field, FieldOptions, File, MessageOptions, MessageType, Parts, Presence, Scalar, Schema,
-    TypeId,
+    Element, Field, FieldOptions, File, MessageOptions, MessageType, Parts, Presence, Scalar,
+    Schema, TypeId,
 };
 use std::alloc::{AllocError, Global};
 use std::process::Abort;
