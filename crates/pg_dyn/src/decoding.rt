@@ -18,8 +18,9 @@ use pg_schema::{Field, Schema, TypeId};
 use pg_wire::{Record, Records};
 use std::alloc::Global;
 
-/// The message that bytes are read as, by the type. Records that no field of the type accepts are kept as they
-/// stand. Messages nested deeper than `limit` are refused; the message itself has depth 1.
+/// The message that bytes are read as, by the type, which the schema has (Protocol Buffers encoding guide,
+/// "Message Structure", "Last One Wins"). Records that no field of the type accepts are kept as they stand.
+/// Messages nested deeper than `limit` are refused; the message itself has depth 1.
 ///
 /// The errors are `Wire` and `NotUtf8`, with the place of the record that has the fault, `TooDeep`, and `Memory`.
 pub fn decode(

@@ -269,7 +269,8 @@ impl Message {
 }
 
 /// The encoding of a message that fits the schema: the records of its fields by rising number with the shortest
-/// varints, and then its unknown records as they were read.
+/// varints, and then its unknown records as they were read (Protocol Buffers encoding guide, "Message
+/// Structure").
 ///
 /// The errors are `TooLong`, only where the encoding has more than 2,147,483,647 bytes, and `Memory`.
 pub fn encode(alloc: Global, schema: &Schema, message: &Message) -> Result<Vec<u8>, DynError>

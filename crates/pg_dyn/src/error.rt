@@ -5,35 +5,35 @@ use thiserror::Error;
 /// Why a message can't be made, written or read.
 #[derive(Clone, Copy, Debug, PartialEq, Eq, Drop, Error)]
 pub enum DynError {
-    /// Memory was refused.
+    /// E001: memory was refused.
     #[error("out of memory")]
     Memory,
-    /// The message type has no field of the number.
+    /// E601: the message type has no field of the number.
     #[error("no such field")]
     NoSuchField,
-    /// A content isn't of its field's kind, or holds a message that isn't one of its type.
+    /// E602: a content isn't of its field's kind, or holds a message that isn't one of its type.
     #[error("an item of a wrong kind")]
     WrongKind,
-    /// An integer is out of the range of its field's type.
+    /// E603: an integer is out of the range of its field's type.
     #[error("a number out of range")]
     OutOfRange,
-    /// The bytes of a text aren't UTF-8. In bytes that are read, `at` is the first byte of the record that
+    /// E604: the bytes of a text aren't UTF-8. In bytes that are read, `at` is the first byte of the record that
     /// holds the text.
     #[error("a text that isn't UTF-8")]
     NotUtf8 { at: Option<usize> },
-    /// Two contents are of one field, or of two members of one oneof.
+    /// E605: two contents are of one field, or of two members of one oneof.
     #[error("two members of a oneof, or a field twice")]
     OneofTwice,
-    /// Two entries of a map have one key.
+    /// E606: two entries of a map have one key.
     #[error("a key twice")]
     DuplicateKey,
-    /// The encoding has more than 2,147,483,647 bytes.
+    /// E607: the encoding has more than 2,147,483,647 bytes.
     #[error("an encoding of more than 2147483647 bytes")]
     TooLong,
-    /// A message stands deeper than the limit; `at` is the first byte of its record, and 0 for the root.
+    /// E608: a message stands deeper than the limit; `at` is the first byte of its record, and 0 for the root.
     #[error("a message nested too deep at byte {at}")]
     TooDeep { at: usize },
-    /// The bytes aren't those of records.
+    /// E501 to E505: the bytes aren't those of records.
     #[error(transparent)]
     Wire(WireError),
 }

@@ -6,8 +6,8 @@ mod setting;
 
 use crate::{Content, DynError, Message, Value, decode, encode, fits};
 use pg_schema::{
-    Element, Field, FieldOptions, MessageOptions, MessageType, Parts, Presence, Scalar, Schema,
-    TypeId,
+    Element, Field, FieldOptions, File, MessageOptions, MessageType, Parts, Presence, Scalar,
+    Schema, TypeId,
 };
 use std::alloc::{AllocError, Global};
 use std::test::Fail;
@@ -31,16 +31,31 @@ fn field(alloc: Global, number: u32, scalar: Scalar) -> Result<Field, AllocError
     })
 }
 
+/// A file without a package that declares the type of `schema_of`.
+fn file(alloc: Global) -> Result<File, AllocError> {
+    Ok(File {
+        name: String::from_str(alloc, "m.proto")?,
+        package: String::new(alloc),
+        imports: Vec::new(alloc),
+        types: vec![in alloc; M]?,
+        enums: Vec::new(alloc),
+        services: Vec::new(alloc),
+        options: Vec::new(alloc),
+    })
+}
+
 /// The schema of one message type with a field for each of these numbers, which rise.
 fn schema_of(alloc: Global, scalars: &[(u32, Scalar)]) -> Result<Schema, Fail> {
     let mut fields = Vec::new(alloc);
+    let mut declared = Vec::new(alloc);
     for (number, scalar) in scalars {
         fields.push(field(alloc, *number, *scalar)?)?;
+        declared.push(*number)?;
     }
     let message_type = MessageType {
         name: String::from_str(alloc, "M")?,
         fields,
-        declared: Vec::new(alloc),
+        declared,
         oneofs: Vec::new(alloc),
         nested_types: Vec::new(alloc),
         nested_enums: Vec::new(alloc),
@@ -49,7 +64,7 @@ fn schema_of(alloc: Global, scalars: &[(u32, Scalar)]) -> Result<Schema, Fail> {
         options: MessageOptions { deprecated: None },
     };
     let parts = Parts {
-        files: Vec::new(alloc),
+        files: vec![in alloc; file(alloc)?]?,
         types: vec![in alloc; message_type]?,
         enums: Vec::new(alloc),
         services: Vec::new(alloc),

@@ -31,7 +31,10 @@ fn refused_calls(rt: HostRuntime) -> Result<(), Fail> {
     let one = (2, Content::One(Value::Bytes(Vec::from_slice(alloc, b"b")?)));
     let contents = vec![in alloc; one]?;
     match whole(alloc, &schema, contents) {
-        Ok(message) => assert!(rt; write(alloc, &schema, &message) != Err(DynError::WrongKind)),
+        Ok(message) => match write(alloc, &schema, &message) {
+            Ok(bytes) => assert_eq!(rt; bytes.as_slice(), b"\x12\x01b".as_slice()),
+            Err(error) => assert_eq!(rt; error, DynError::Memory),
+        },
         Err(error) => assert_eq!(rt; error, DynError::Memory),
     }
     match read(alloc, &schema, b"\x0a\x01a\x12\x01b\x18\x05") {

@@ -201,17 +201,43 @@ fn numbers_out_of_range(rt: HostRuntime) -> Result<(), Fail> {
 #[test]
 fn floats(rt: HostRuntime) -> Result<(), Fail> {
     let schema = schema_of(rt.alloc(), &[(1, Scalar::Float), (2, Scalar::Double)])?;
-    let rows: [&[u8]; 4] = [
+    let rows: [&[u8]; 12] = [
+        b"\x0d\x00\x00\x80\x3f",
+        b"\x0d\x00\x00\x80\xbf",
+        b"\x0d\xff\xff\x7f\x7f",
+        b"\x0d\xff\xff\x7f\xff",
         b"\x0d\x00\x00\x00\x80",
         b"\x0d\x01\x00\xc0\x7f",
-        b"\x11\x00\x00\x00\x00\x00\x00\x00\x80",
+        b"\x11\x00\x00\x00\x00\x00\x00\xf0\x3f",
+        b"\x11\x00\x00\x00\x00\x00\x00\xf0\xbf",
         b"\x11\xff\xff\xff\xff\xff\xff\xef\x7f",
+        b"\x11\xff\xff\xff\xff\xff\xff\xef\xff",
+        b"\x11\x00\x00\x00\x00\x00\x00\x00\x80",
+        b"\x11\x01\x00\x00\x00\x00\x00\xf8\x7f",
     ];
     for bytes in rows {
         assert_eq!(rt; again(rt.alloc(), &schema, bytes)?.as_slice(), bytes);
     }
     let zeros = b"\x0d\x00\x00\x00\x00\x11\x00\x00\x00\x00\x00\x00\x00\x00";
     assert!(rt; again(rt.alloc(), &schema, zeros)?.is_empty());
+    Ok(())
+}
+
+// The bits of 1 and of -1, as the Python runtime writes them.
+#[test]
+fn floats_that_are_set(rt: HostRuntime) -> Result<(), Fail> {
+    let alloc = rt.alloc();
+    let schema = schema_of(alloc, &[(1, Scalar::Float), (2, Scalar::Double)])?;
+    let mut message = Message::empty(alloc, M);
+    let one = Content::One(Value::F32(0x3f80_0000));
+    assert!(rt; set(&schema, &mut message, 1, one).is_ok());
+    let minus_one = Content::One(Value::F64(0xbff0_0000_0000_0000));
+    assert!(rt; set(&schema, &mut message, 2, minus_one).is_ok());
+    let bytes = write(alloc, &schema, &message)?;
+    assert_eq!(rt;
+        bytes.as_slice(),
+        b"\x0d\x00\x00\x80\x3f\x11\x00\x00\x00\x00\x00\x00\xf0\xbf".as_slice()
+    );
     Ok(())
 }
 
