@@ -1,7 +1,7 @@
 #!/usr/bin/env python3
 """Writes a proto3 text of ordinary declarations with comments, of about the bytes that are asked for.
 
-usage: lex_text.py BYTES > FILE
+usage: text.py BYTES > FILE
 """
 import sys
 

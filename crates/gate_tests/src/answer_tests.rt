@@ -4,7 +4,7 @@ use std::process::Abort;
 use std::test::Fail;
 
 /// The fields of the old and the new type, the printed text and the status.
-static ANSWERS: [(&str, &str, &str, u8); 15] = [
+static ANSWERS: [(&str, &str, &str, u8); 16] = [
     (
         "int32 a = 1;",
         "uint32 a = 1;",
@@ -15,6 +15,12 @@ static ANSWERS: [(&str, &str, &str, u8); 15] = [
         "uint32 a = 1;",
         "int32 a = 1;",
         "breaks M 6\nwitness 088080808008\n",
+        1,
+    ),
+    (
+        "int64 a = 1;",
+        "uint32 a = 1;",
+        "breaks M 6\nwitness 088080808010\n",
         1,
     ),
     (

@@ -253,6 +253,27 @@ fn ends_with_usage(rt: HostRuntime) -> Result<(), Fail> {
     Ok(())
 }
 
+/// What the program prints of these words, on sources without files.
+fn printed_of<R: Abort + AllocGlobal>(rt: &R, words: &[&str]) -> Result<String, Fail> {
+    let mut old = Listed { files: &[] };
+    let mut new = old;
+    let mut sink = buffer(rt.alloc())?;
+    run(rt.alloc(), words, &mut old, &mut new, &mut sink)?;
+    Ok(String::from_str(rt.alloc(), std::str::from_utf8(&sink.bytes)?)?)
+}
+
+#[test]
+fn names_what_is_missing(rt: HostRuntime) -> Result<(), Fail> {
+    let printed = printed_of(&rt, &["gate", "--old", "m", "--new", "m"])?;
+    assert!(rt; printed.contains("--type <NAME>"), "{printed}");
+    let printed = printed_of(&rt, &["--help"])?;
+    assert!(rt;
+        printed.contains("Find a message of the old type"),
+        "{printed}"
+    );
+    Ok(())
+}
+
 /// Help names the subcommand, its options and each status.
 static HELP: [&str; 11] = [
     "gate",

@@ -129,6 +129,17 @@ fn leaves_other_files_undecided(rt: HostRuntime) -> Result<(), Fail> {
     Ok(())
 }
 
+/// So are fields of one JSON name, which are no schema.
+#[test]
+fn leaves_one_json_name_undecided(rt: HostRuntime) -> Result<(), Fail> {
+    let clash = text_of(
+        rt.alloc(),
+        "message M { int32 foo_bar = 1; int32 fooBar = 2; }",
+    )?;
+    is_undecided(&rt, clash.as_bytes(), ONE.as_bytes())?;
+    is_undecided(&rt, ONE.as_bytes(), clash.as_bytes())
+}
+
 /// The faults of both texts come before that, also of a flat text its names and numbers.
 #[test]
 fn tells_faults_before_it_is_undecided(rt: HostRuntime) -> Result<(), Fail> {

@@ -182,7 +182,7 @@ fn schema_of(alloc: Global, side: Side, files: &[TextFile]) -> Result<Option<Sch
 }
 
 /// The schema of a side's texts at these paths below the folder. None where they declare anything
-/// but messages of scalar fields without labels.
+/// but messages of scalar fields without labels, or two fields of a message with one JSON name.
 pub(crate) fn compile<S: Sources>(
     alloc: Global,
     source: &mut S,

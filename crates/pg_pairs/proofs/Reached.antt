@@ -417,12 +417,6 @@ module _ (sight : Sight) (law : IsSight sight) (old new : Shape) (shape_old : Is
     presences_reached (presences.Repeated p) presences.Explicit found at fits fits_new = plain_reached (presences.Repeated p) presences.Explicit tt tt found at fits fits_new
     presences_reached (presences.Repeated p) (presences.Repeated w) found at fits fits_new = plain_reached (presences.Repeated p) (presences.Repeated w) tt tt found at fits fits_new
 
-  abbrev fs : List FieldShape
-  fs = fields old pair.old
-
-  abbrev gs : List FieldShape
-  gs = fields new pair.new
-
   fits_old : (n : ℕ) (x : FieldShape) → field_at (fields old pair.old) n ≡ Some x → PresenceFits x.presence x.element x.oneof
   fits_old n x found = (each_at (IsField (length old)) (fields old pair.old) n x found (fields-IsType old pair.old shape_old).each).presence_fits
 
