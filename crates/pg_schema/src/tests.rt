@@ -1,7 +1,8 @@
+use crate::sound::is_sound;
 use crate::{
-    Element, EnumId, EnumOptions, EnumType, Field, FieldOptions, File, FileOption, Import,
-    MessageOptions, MessageType, OptimizeMode, OptionValue, Parts, PartsError, Presence,
-    ReservedFields, Scalar, Schema, Service, ServiceOptions, TypeId,
+    Element, EnumId, EnumOptions, EnumType, EnumValue, EnumValueOptions, Field, FieldOptions, File,
+    FileOption, Import, MessageOptions, MessageType, OptimizeMode, OptionValue, Parts, PartsError,
+    Presence, ReservedFields, Scalar, Schema, Service, ServiceId, ServiceOptions, TypeId,
 };
 use std::alloc::{AllocError, Global};
 use std::test::Fail;
@@ -155,11 +156,16 @@ fn are_refused(alloc: Global, parts: Parts) -> Result<bool, AllocError> {
     }
 }
 
-// Whether a message of one such field is refused for its invariant.
-fn is_refused(alloc: Global, field: Field) -> Result<bool, AllocError> {
+// Whether the parts keep to the rules of a schema, and are refused all the same.
+fn are_not_flat(alloc: Global, parts: Parts) -> Result<bool, AllocError> {
+    Ok(is_sound(alloc, &parts)? && are_refused(alloc, parts)?)
+}
+
+// The parts of a message of one such field.
+fn of_field(alloc: Global, field: Field) -> Result<Parts, AllocError> {
     let declared = vec![in alloc; field.number]?;
     let types = vec![in alloc; message_type(alloc, "p.M", vec![in alloc; field]?, declared)?]?;
-    are_refused(alloc, parts(alloc, types)?)
+    parts(alloc, types)
 }
 
 #[test]
@@ -176,7 +182,7 @@ fn field_numbers(rt: HostRuntime) -> Result<(), Fail> {
         (536_870_912, true),
     ] {
         let field = scalar_field(alloc, number, "a", Scalar::Bool)?;
-        assert_eq!(rt; is_refused(alloc, field)?, refused);
+        assert_eq!(rt; are_refused(alloc, of_field(alloc, field)?)?, refused);
     }
     Ok(())
 }
@@ -186,31 +192,30 @@ fn other_fields(rt: HostRuntime) -> Result<(), Fail> {
     let alloc = rt.alloc();
     let mut field = scalar_field(alloc, 1, "a", Scalar::Bytes)?;
     field.presence = Presence::Explicit;
-    assert!(rt; is_refused(alloc, field)?);
+    field.states_optional = true;
+    assert!(rt; are_not_flat(alloc, of_field(alloc, field)?)?);
     let mut field = scalar_field(alloc, 1, "a", Scalar::Bytes)?;
     field.presence = Presence::Repeated { packed: false };
-    assert!(rt; is_refused(alloc, field)?);
+    assert!(rt; are_not_flat(alloc, of_field(alloc, field)?)?);
     let mut field = scalar_field(alloc, 1, "a", Scalar::Bytes)?;
+    field.presence = Presence::Map { key: Scalar::Bool };
+    assert!(rt; are_not_flat(alloc, of_field(alloc, field)?)?);
+    let mut field = scalar_field(alloc, 1, "a", Scalar::Bytes)?;
+    field.presence = Presence::Explicit;
     field.element = Element::Message(TypeId { index: 0 });
-    assert!(rt; is_refused(alloc, field)?);
-    let mut field = scalar_field(alloc, 1, "a", Scalar::Bytes)?;
-    field.oneof = Some(0);
-    assert!(rt; is_refused(alloc, field)?);
+    assert!(rt; are_not_flat(alloc, of_field(alloc, field)?)?);
     Ok(())
 }
 
 #[test]
-fn stated_words(rt: HostRuntime) -> Result<(), Fail> {
+fn stated_options(rt: HostRuntime) -> Result<(), Fail> {
     let alloc = rt.alloc();
     let mut field = scalar_field(alloc, 1, "a", Scalar::Int32)?;
-    field.states_optional = true;
-    assert!(rt; is_refused(alloc, field)?);
-    let mut field = scalar_field(alloc, 1, "a", Scalar::Int32)?;
     field.options.packed = Some(false);
-    assert!(rt; is_refused(alloc, field)?);
+    assert!(rt; are_not_flat(alloc, of_field(alloc, field)?)?);
     let mut field = scalar_field(alloc, 1, "a", Scalar::Int32)?;
     field.options.deprecated = Some(false);
-    assert!(rt; is_refused(alloc, field)?);
+    assert!(rt; are_not_flat(alloc, of_field(alloc, field)?)?);
     Ok(())
 }
 
@@ -229,33 +234,47 @@ fn json_names(rt: HostRuntime) -> Result<(), Fail> {
     ] {
         let mut field = scalar_field(alloc, 1, name, Scalar::Int32)?;
         field.json_name = String::from_str(alloc, json_name)?;
-        assert_eq!(rt; is_refused(alloc, field)?, refused);
+        assert_eq!(rt; are_not_flat(alloc, of_field(alloc, field)?)?, refused);
     }
     Ok(())
 }
 
-#[test]
-fn enums_and_services(rt: HostRuntime) -> Result<(), Fail> {
-    let alloc = rt.alloc();
-    let mut with_enum = two_types(alloc)?;
-    with_enum.enums.push(EnumType {
-        name: String::from_str(alloc, "p.Color")?,
-        values: Vec::new(alloc),
+// `enum Color { RED = 0; }`
+fn color(alloc: Global, name: &str) -> Result<EnumType, AllocError> {
+    let red = EnumValue {
+        name: String::from_str(alloc, "RED")?,
+        number: 0,
+        options: EnumValueOptions { deprecated: None },
+    };
+    Ok(EnumType {
+        name: String::from_str(alloc, name)?,
+        values: vec![in alloc; red]?,
         reserved_numbers: Vec::new(alloc),
         reserved_names: Vec::new(alloc),
         options: EnumOptions {
             allow_alias: None,
             deprecated: None,
         },
-    })?;
-    assert!(rt; are_refused(alloc, with_enum)?);
-    let mut with_service = two_types(alloc)?;
+    })
+}
+
+#[test]
+fn enums_and_services(rt: HostRuntime) -> Result<(), Fail> {
+    let alloc = rt.alloc();
+    let mut of_enum = file(alloc)?;
+    of_enum.enums.push(EnumId { index: 0 })?;
+    let mut with_enum = parts_of(alloc, of_enum, Vec::new(alloc))?;
+    with_enum.enums.push(color(alloc, "p.Color")?)?;
+    assert!(rt; are_not_flat(alloc, with_enum)?);
+    let mut of_service = file(alloc)?;
+    of_service.services.push(ServiceId { index: 0 })?;
+    let mut with_service = parts_of(alloc, of_service, Vec::new(alloc))?;
     with_service.services.push(Service {
         name: String::from_str(alloc, "p.S")?,
         methods: Vec::new(alloc),
         options: ServiceOptions { deprecated: None },
     })?;
-    assert!(rt; are_refused(alloc, with_service)?);
+    assert!(rt; are_not_flat(alloc, with_service)?);
     Ok(())
 }
 
@@ -267,38 +286,74 @@ fn files_with_more(rt: HostRuntime) -> Result<(), Fail> {
         path: String::from_str(alloc, "n.proto")?,
         is_public: true,
     })?;
-    assert!(rt; are_refused(alloc, parts_of(alloc, with_import, Vec::new(alloc))?)?);
+    assert!(rt; are_not_flat(alloc, parts_of(alloc, with_import, Vec::new(alloc))?)?);
     let mut with_option = file(alloc)?;
     with_option.options.push(FileOption {
         number: 9,
         value: OptionValue::Mode(OptimizeMode::CodeSize),
     })?;
-    assert!(rt; are_refused(alloc, parts_of(alloc, with_option, Vec::new(alloc))?)?);
+    assert!(rt; are_not_flat(alloc, parts_of(alloc, with_option, Vec::new(alloc))?)?);
     Ok(())
 }
 
-// Whether the message type, alone in its file, is refused for the invariant.
-fn is_type_refused(alloc: Global, message_type: MessageType) -> Result<bool, AllocError> {
-    are_refused(alloc, parts(alloc, vec![in alloc; message_type]?)?)
+// A message type p.M with nothing in it.
+fn empty_type(alloc: Global) -> Result<MessageType, AllocError> {
+    message_type(alloc, "p.M", Vec::new(alloc), Vec::new(alloc))
+}
+
+// The parts of the message type, which alone stands in its file and holds that other one, if any.
+fn of_types(
+    alloc: Global,
+    outer: MessageType,
+    nested: Option<MessageType>,
+) -> Result<Parts, AllocError> {
+    let mut file = file(alloc)?;
+    file.types.push(TypeId { index: 0 })?;
+    let mut types = vec![in alloc; outer]?;
+    if let Some(nested) = nested {
+        types.push(nested)?;
+    }
+    parts_of(alloc, file, types)
+}
+
+#[test]
+fn oneofs_and_nested_types(rt: HostRuntime) -> Result<(), Fail> {
+    let alloc = rt.alloc();
+    let mut member = scalar_field(alloc, 1, "a", Scalar::Bytes)?;
+    member.presence = Presence::Explicit;
+    member.oneof = Some(0);
+    let fields = vec![in alloc; member]?;
+    let mut with_oneof = message_type(alloc, "p.M", fields, vec![in alloc; 1]?)?;
+    with_oneof.oneofs.push(String::from_str(alloc, "k")?)?;
+    assert!(rt; are_not_flat(alloc, of_types(alloc, with_oneof, None)?)?);
+    let mut with_type = empty_type(alloc)?;
+    with_type.nested_types.push(TypeId { index: 1 })?;
+    let nested = message_type(alloc, "p.M.N", Vec::new(alloc), Vec::new(alloc))?;
+    assert!(rt; are_not_flat(alloc, of_types(alloc, with_type, Some(nested))?)?);
+    let mut with_enum = empty_type(alloc)?;
+    with_enum.nested_enums.push(EnumId { index: 0 })?;
+    let mut parts = of_types(alloc, with_enum, None)?;
+    parts.enums.push(color(alloc, "p.M.Color")?)?;
+    assert!(rt; are_not_flat(alloc, parts)?);
+    Ok(())
 }
 
 #[test]
 fn types_with_more(rt: HostRuntime) -> Result<(), Fail> {
     let alloc = rt.alloc();
-    let mut with_oneof = message_type(alloc, "p.M", Vec::new(alloc), Vec::new(alloc))?;
-    with_oneof.oneofs.push(String::from_str(alloc, "k")?)?;
-    assert!(rt; is_type_refused(alloc, with_oneof)?);
-    let mut with_nested = message_type(alloc, "p.M", Vec::new(alloc), Vec::new(alloc))?;
-    with_nested.nested_types.push(TypeId { index: 0 })?;
-    assert!(rt; is_type_refused(alloc, with_nested)?);
-    let mut with_reserved = message_type(alloc, "p.M", Vec::new(alloc), Vec::new(alloc))?;
-    with_reserved
+    let mut with_range = empty_type(alloc)?;
+    with_range
         .reserved_numbers
         .push(ReservedFields { first: 2, last: 3 })?;
-    assert!(rt; is_type_refused(alloc, with_reserved)?);
-    let mut deprecated = message_type(alloc, "p.M", Vec::new(alloc), Vec::new(alloc))?;
+    assert!(rt; are_not_flat(alloc, of_types(alloc, with_range, None)?)?);
+    let mut with_name = empty_type(alloc)?;
+    with_name
+        .reserved_names
+        .push(String::from_str(alloc, "a")?)?;
+    assert!(rt; are_not_flat(alloc, of_types(alloc, with_name, None)?)?);
+    let mut deprecated = empty_type(alloc)?;
     deprecated.options.deprecated = Some(false);
-    assert!(rt; is_type_refused(alloc, deprecated)?);
+    assert!(rt; are_not_flat(alloc, of_types(alloc, deprecated, None)?)?);
     Ok(())
 }
 
