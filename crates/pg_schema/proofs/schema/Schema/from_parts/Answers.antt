@@ -1,4 +1,3 @@
-use Rattle.std.proofs.Common.{sym, ◌≡◌}
 use Rattle.pg_schema.specs.Invariant.{IsSchema}
 use Rattle.pg_schema.proofs.NameTables.{distinct_from_table, table_along}
 use Rattle.pg_schema.proofs.SoundShapes.{shape_from_sound}
@@ -7,9 +6,8 @@ use Rattle.pg_schema.proofs.schema.Schema.from_parts.Goals as goal
 checked : (c : goal.In-Ok-names_of) → IsSchema c.args.parts
 checked c =
     let sound = c.in-Ok.ensures.0 c.if-not-is_sound.false in
-    let flat = c.is_flat.ensures.0 c.if-not-is_flat.false in
     let table = table_along _ _ c.in-Ok-names_of.names c.deref.ensures.value c.in-Ok-names_of.ensures.table in
-    record { shape = shape_from_sound c.args.parts sound; flat = flat; names = distinct_from_table _ c.in-Ok-names_of.names table; sound = sound }
+    record { shape = shape_from_sound c.args.parts sound; names = distinct_from_table _ c.in-Ok-names_of.names table; sound = sound }
 
 pub invariant_of-result : goal.invariant_of-result
 invariant_of-result c = (checked c, table_along _ _ c.in-Ok-names_of.names c.deref.ensures.value c.in-Ok-names_of.ensures.table)
