@@ -7,5 +7,6 @@ pub mod UseLemmas
 pub mod MessageLemmas
 pub mod TextSetLemmas
 pub mod SoundShapes
+pub mod SoundNames
 pub mod NameWords
 pub mod PackageLemmas

@@ -1,5 +1,8 @@
+use Rattle.std.proofs.Common.{subst, sym}
 use Rattle.pg_schema.specs.Invariant.{IsSchema}
+use Rattle.pg_schema.specs.Parts.{HasDistinctNames}
 use Rattle.pg_schema.proofs.NameTables.{distinct_from_table, table_along}
+use Rattle.pg_schema.proofs.SoundNames.{distinct_from_sound}
 use Rattle.pg_schema.proofs.SoundShapes.{shape_from_sound}
 use Rattle.pg_schema.proofs.schema.Schema.from_parts.Goals as goal
 
@@ -14,3 +17,7 @@ invariant_of-result c = (checked c, table_along _ _ c.in-Ok-names_of.names c.der
 
 pub returns-in-Ok-names_of-clause-checked : goal.returns-in-Ok-names_of-clause-checked
 returns-in-Ok-names_of-clause-checked c = checked c
+
+pub returns-in-Err-clause-broken : goal.returns-in-Err-clause-broken
+returns-in-Err-clause-broken c =
+    λ is sound. c.in-Err.ensures.twice is (subst HasDistinctNames (sym c.deref.ensures.value) (distinct_from_sound c.args.parts sound.names))
