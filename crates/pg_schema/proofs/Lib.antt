@@ -1,6 +1,7 @@
 pub mod NameTables
 pub mod FieldSearch
 pub mod TypeSearch
+pub mod JsonNames
 pub mod PairLemmas
 pub mod WordLemmas
 pub mod UseLemmas

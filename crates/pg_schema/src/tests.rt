@@ -2,6 +2,7 @@ use crate::{
     Element, EnumId, EnumOptions, EnumType, EnumValue, EnumValueOptions, Field, FieldOptions, File,
     FileOption, Import, MessageOptions, MessageType, OptimizeMode, OptionValue, Parts, PartsError,
     Presence, ReservedFields, Scalar, Schema, Service, ServiceId, ServiceOptions, TypeId,
+    default_json_name,
 };
 use std::alloc::{AllocError, Global};
 use std::test::Fail;
@@ -235,6 +236,31 @@ fn stated_options(rt: HostRuntime) -> Result<(), Fail> {
     field.options.deprecated = Some(false);
     assert!(rt; is_flat(alloc, of_field(alloc, field)?)?);
     Ok(())
+}
+
+// As `protoc` makes them.
+#[test]
+fn default_json_names(rt: HostRuntime) -> Result<(), Fail> {
+    let alloc = rt.alloc();
+    for (name, json_name) in [
+        ("foo_bar", "fooBar"),
+        ("_a__b_", "AB"),
+        ("fooBar_1", "fooBar1"),
+        ("foo_1bar", "foo1bar"),
+        ("__", ""),
+    ] {
+        assert_eq!(rt; default_json_name(alloc, name)?.as_str(), json_name);
+    }
+    Ok(())
+}
+
+// Numbers, bool and enums.
+#[test]
+fn packable_elements(rt: HostRuntime) {
+    assert!(rt; Element::Scalar(Scalar::Double).is_packable());
+    assert!(rt; Element::Enum(EnumId { index: 0 }).is_packable());
+    assert!(rt; !Element::Scalar(Scalar::String).is_packable());
+    assert!(rt; !Element::Message(TypeId { index: 0 }).is_packable());
 }
 
 // The JSON name of each field is any text, but that of no other.
