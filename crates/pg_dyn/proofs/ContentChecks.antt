@@ -22,7 +22,7 @@ use Rattle.pg_dyn.specs.Coding.{Form, Integer, Single, Double, Text, Raw, InRang
 use Rattle.pg_dyn.specs.Message.{Int}
 use Rattle.pg_dyn.specs.WordOf.{IsInteger, IsIntegerOf}
 use Rattle.pg_dyn.specs.Seen.{leaf_of, IsKey}
-use Rattle.pg_dyn.specs.FlatContent.{IsImplicitScalar}
+use Rattle.pg_schema.specs.Flat.{IsFlat, IsImplicitScalar}
 use Rattle.pg_dyn.specs.ScalarItems.{HoldsBytes, IsItemOf, IsKindOf, IsOutOfRange, IsNoText, IsFaultOf, IsContentOf, TakesItem}
 use Rattle.pg_dyn.specs.ContentFaults.{ElementFault, HasPresence, HasKeyTwice, FieldFault, ContentFault, code, IsLowest, HasNoFault}
 use Rattle.pg_dyn.proofs.DecodeSteps.{flat_at, scalar_same}
@@ -174,7 +174,7 @@ module _ (shape : Shape) (f : FieldShape) (s : Scalar) (v : Value) (implicit : f
 
 -- Under a number of a type.
 
-module _ (parts : Parts) (h : IsSchema parts) (type : TypeId) (n : ℕ) (c : Content) where
+module _ (parts : Parts) (h : IsSchema parts) (type : TypeId) (is_flat : IsFlat (shape_of parts) type) (n : ℕ) (c : Content) where
   abbrev Fault : DynError → Type 0
   Fault = ContentFault (shape_of parts) type n c
 
@@ -183,7 +183,7 @@ module _ (parts : Parts) (h : IsSchema parts) (type : TypeId) (n : ℕ) (c : Con
 
   module _ (f : FieldShape) (is : Some f ≡ field_at (fields (shape_of parts) type) n) where
     abbrev flat : IsImplicitScalar f
-    flat = flat_at parts h type n f (sym is)
+    flat = flat_at parts h type is_flat n f (sym is)
 
     -- the items of a flat schema's fields are scalars
     pub no_scalar : {A : Type 0} → ((s : Scalar) → f.element ≡ elements.Scalar s → ⊥) → A

@@ -1,20 +1,18 @@
 -- A decoder's step on types with implicit scalars alone.
 use Rattle.std.proofs.Common.{Result, Ok, Err, OnOk, ◌≡◌, ◌≢◌, ℕ, zero, suc, ◌<◌, List, [], ◌∷◌, ◌++◌, length, map, filter, get_or, nat_eq, nat_lt, Bool, true, false, cond, not, ◌&&◌, ◌||◌, Option, Some, None, refl, ap, sym, subst, ◌∙◌, arith, ⊎_elim, eq-eqb, ne_eqb}
-use Rattle.std.specs.List.{All, AllByRecursion}
+use Rattle.std.specs.List.{AllByRecursion}
 use Rattle.std.specs.Str.{is_utf8}
 use Rattle.std.proofs.lemmas.Bool.{cases_eq}
 use Rattle.std.proofs.Math.Bool.{and-false}
 use Rattle.pg_schema.specs.declared.field.Scalar.{Scalar}
-use Rattle.pg_schema.specs.declared.field.Field.{Field}
 use Rattle.pg_schema.specs.declared.field.TypeId.{TypeId}
-use Rattle.pg_schema.specs.declared.message_type.MessageType.{MessageType}
 use Rattle.pg_schema.specs.declared.field.Element.{Element}
 use Rattle.pg_schema.specs.declared.field.Element.TheVariants as elements
 use Rattle.pg_schema.specs.declared.field.Presence.{Presence}
 use Rattle.pg_schema.specs.declared.field.Presence.TheVariants as presences
 use Rattle.pg_schema.specs.declared.parts.Parts.{Parts}
-use Rattle.pg_schema.specs.Parts.{field_shape, shape_of}
-use Rattle.pg_schema.specs.Flat.{IsFlatField, IsFlatType}
+use Rattle.pg_schema.specs.Parts.{shape_of}
+use Rattle.pg_schema.specs.Flat.{IsFlat}
 use Rattle.pg_schema.specs.Invariant.{IsSchema}
 use Rattle.pg_schema.specs.Shape.{Shape, FieldShape, IsType, fields, field_at, Rising, is_map, is_packable}
 use Rattle.pg_wire.specs.declared.record.WireType.{WireType}
@@ -36,7 +34,8 @@ use Rattle.pg_dyn.specs.Seen.{leaf_of, IsKey, IsFilled, Rises}
 use Rattle.pg_dyn.specs.FieldList.{put_field, remove_field}
 use Rattle.pg_dyn.specs.Belonging.{IsUnknown, IsMessage}
 use Rattle.pg_dyn.specs.Fits.{Fits}
-use Rattle.pg_dyn.specs.FlatContent.{IsImplicitScalar, HoldsScalar}
+use Rattle.pg_dyn.specs.FlatContent.{HoldsScalar}
+use Rattle.pg_schema.specs.Flat.{IsImplicitScalar}
 use Rattle.pg_dyn.specs.ScalarItems.{HasShape, IsItemOf}
 use Rattle.pg_dyn.specs.Refusals.{HasNoText}
 use Rattle.pg_dyn.specs.Replacing.{with_parts, with_unknown, implicit_part}
@@ -63,22 +62,8 @@ is_type parts h type = at_type (IsType (length (shape_of parts))) (shape_of part
 pub rising : (parts : Parts) → IsSchema parts → (type : TypeId) → Rising (fields (shape_of parts) type)
 rising parts h type = (is_type parts h type).rising
 
-implicit_scalar : (f : Field) → IsFlatField f → IsImplicitScalar (field_shape f)
-implicit_scalar f flat = record { implicit = flat.implicit; scalar = flat.scalar.0; scalar_is = flat.scalar.1; alone = flat.alone }
-
-flat_shapes : (fs : List Field) → All IsFlatField fs → AllByRecursion IsImplicitScalar (map field_shape fs)
-flat_shapes [] flat = tt
-flat_shapes (f ∷ fs) flat = (implicit_scalar f (flat 0 f (omega arith)), flat_shapes fs (λ k d below. flat (suc k) d (omega (arith, below))))
-
-flat_types : (types : List MessageType) → All IsFlatType types → AllByRecursion (AllByRecursion IsImplicitScalar) (map (λ (t : MessageType). map field_shape t.fields.items) types)
-flat_types [] flat = tt
-flat_types (t ∷ types) flat = (flat_shapes t.fields.items (flat 0 t (omega arith)).fields, flat_types types (λ k d below. flat (suc k) d (omega (arith, below))))
-
-pub flat_fields : (parts : Parts) → IsSchema parts → (type : TypeId) → AllByRecursion IsImplicitScalar (fields (shape_of parts) type)
-flat_fields parts h type = at_type (AllByRecursion IsImplicitScalar) (shape_of parts) type.index tt (flat_types parts.types.items h.flat.types)
-
-pub flat_at : (parts : Parts) → IsSchema parts → (type : TypeId) (n : ℕ) (f : FieldShape) → field_at (fields (shape_of parts) type) n ≡ Some f → IsImplicitScalar f
-flat_at parts h type n f found = each_at IsImplicitScalar (fields (shape_of parts) type) n f found (flat_fields parts h type)
+pub flat_at : (parts : Parts) → IsSchema parts → (type : TypeId) → IsFlat (shape_of parts) type → (n : ℕ) (f : FieldShape) → field_at (fields (shape_of parts) type) n ≡ Some f → IsImplicitScalar f
+flat_at parts h type flat n f found = each_at IsImplicitScalar (fields (shape_of parts) type) n f found flat
 
 pub scalar_same : (f : FieldShape) (flat : IsImplicitScalar f) (s : Scalar) → f.element ≡ elements.Scalar s → flat.scalar ≡ s
 scalar_same f flat s is = same_scalar flat.scalar s (sym flat.scalar_is ∙ is)
@@ -212,7 +197,7 @@ unknown_step shape type front m r was is_r unknown = unknown_decodes_on shape ty
 
 -- Messages that fit, content by content.
 
-module _ (parts : Parts) (h : IsSchema parts) (type : TypeId) where
+module _ (parts : Parts) (h : IsSchema parts) (type : TypeId) (flat : IsFlat (shape_of parts) type) where
   abbrev pub Hold : List (ℕ × Content) → Type 0
   Hold ms = AllByRecursion (HoldsScalar (fields (shape_of parts) type)) ms
 
@@ -231,8 +216,8 @@ module _ (parts : Parts) (h : IsSchema parts) (type : TypeId) where
   pub fits_to : (ms : List (ℕ × Content)) (us : List WireRecord) → AllByRecursion (λ (f : ℕ × Content). IsFilled f.1) ms → Fits (shape_of parts) (shown type ms us) → Hold ms × AllUnknown us
   fits_to ms us filled fits =
       let is_m = subst (λ (t : TypeId). IsMessage (shape_of parts) t (message_of (shown type ms us))) (type_shown type ms us) fits.is_message in
-      let hold = contents_hold (shape_of parts) type (flat_fields parts h type) ms us filled is_m in
-      (hold, unknown_hold (shape_of parts) type (flat_fields parts h type) ms us hold is_m)
+      let hold = contents_hold (shape_of parts) type flat ms us filled is_m in
+      (hold, unknown_hold (shape_of parts) type flat ms us hold is_m)
 
   -- with an item, and without
   pub fits_held : (n : ℕ) (f : FieldShape) (v : Value) (ms : List (ℕ × Content)) (us : List WireRecord) (m : Kept) → shown type ms us ≡ m → type.index < length (shape_of parts) → Rises ms
@@ -279,7 +264,7 @@ pub on_ok_map : {T E : Type 0} {A B : Type 0} (r : Result T E) → (A → B) →
 on_ok_map (Ok x) f h = f h
 on_ok_map (Err e) f h = tt
 
-module _ (parts : Parts) (h : IsSchema parts) (m : Kept) (r : WireRecord) (is_r : IsRecord r) (type : TypeId) (same : type_of m ≡ type) where
+module _ (parts : Parts) (h : IsSchema parts) (m : Kept) (r : WireRecord) (is_r : IsRecord r) (type : TypeId) (same : type_of m ≡ type) (flat : IsFlat (shape_of parts) type) where
   found_in : (o : Option FieldShape) → o ≡ field_at (fields (shape_of parts) type) r.number → field_at (fields (shape_of parts) (type_of m)) r.number ≡ o
   found_in o is = ap (λ t. field_at (fields (shape_of parts) t) r.number) same ∙ sym is
 
@@ -288,7 +273,7 @@ module _ (parts : Parts) (h : IsSchema parts) (m : Kept) (r : WireRecord) (is_r 
     number_is = found_number (fields (shape_of parts) type) r.number f (sym is)
 
     abbrev flat_is : IsImplicitScalar f
-    flat_is = flat_at parts h type r.number f (sym is)
+    flat_is = flat_at parts h type flat r.number f (sym is)
 
     module _ (accepted : is_accepted f r ≡ true) (s : Scalar) (element : f.element ≡ elements.Scalar s) where
       pub shape_is : HasShape (form_wire (scalar_form s)) r.body
@@ -310,7 +295,7 @@ module _ (parts : Parts) (h : IsSchema parts) (m : Kept) (r : WireRecord) (is_r 
       scalar_fits v new ms us view rises filled fits item is_new =
           let there = subst (λ (t : TypeId). t.index < length (shape_of parts)) same fits.type_is_there in
           let item_here = subst (λ x. IsItemOf x v) (sym (scalar_same f flat_is s element)) item in
-          let held = fits_held parts h type r.number f v ms us m view there rises filled fits (sym is) flat_is item_here in
+          let held = fits_held parts h type flat r.number f v ms us m view there rises filled fits (sym is) flat_is item_here in
           (subst (Fits (shape_of parts)) (sym is_new) held.0, ap type_of is_new ∙ held.1 ∙ sym same)
 
     -- a flat field's items are scalars
@@ -332,5 +317,5 @@ module _ (parts : Parts) (h : IsSchema parts) (m : Kept) (r : WireRecord) (is_r 
   unknown_fits new ms us view rises filled fits unknown is_new =
       let there = subst (λ (t : TypeId). t.index < length (shape_of parts)) same fits.type_is_there in
       let unknown_here = subst (λ (t : TypeId). is_unknown (fields (shape_of parts) t) r ≡ true) same unknown in
-      let more = fits_more parts h type r ms us m view there rises filled fits (record { is_record = is_r; not_accepted = unknown_here }) in
+      let more = fits_more parts h type flat r ms us m view there rises filled fits (record { is_record = is_r; not_accepted = unknown_here }) in
       (subst (Fits (shape_of parts)) (sym is_new) more.0, ap type_of is_new ∙ more.1 ∙ sym same)

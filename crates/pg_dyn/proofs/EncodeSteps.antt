@@ -10,6 +10,7 @@ use Rattle.pg_schema.specs.declared.field.Presence.{Presence}
 use Rattle.pg_schema.specs.declared.field.Presence.TheVariants as presences
 use Rattle.pg_schema.specs.declared.parts.Parts.{Parts}
 use Rattle.pg_schema.specs.Parts.{shape_of}
+use Rattle.pg_schema.specs.Flat.{IsFlat}
 use Rattle.pg_schema.specs.Invariant.{IsSchema}
 use Rattle.pg_schema.specs.Shape.{Shape, FieldShape, IsField, fields, field_at}
 use Rattle.pg_wire.specs.Records.{WireRecord, written, tag, length_before}
@@ -76,7 +77,7 @@ parts_written shape type n (contents.Map es) v h = absurd (cc)
 implicit_records : (n k : ℕ) (p : Presence) (e : Element) (o : Option ℕ) (leaf : Leaf) → p ≡ presences.Implicit → field_records (field_of n p e o) (record { number = k; key = None; item = leaf } ∷ []) ≡ item_record n e leaf ∷ []
 implicit_records n k p e o leaf is = ap (λ x. field_records (field_of n x e o) (record { number = k; key = None; item = leaf } ∷ [])) is
 
-module _ (parts : Parts) (h : IsSchema parts) (type : TypeId) where
+module _ (parts : Parts) (h : IsSchema parts) (type : TypeId) (is_flat : IsFlat (shape_of parts) type) where
   abbrev fs : List FieldShape
   fs = fields (shape_of parts) type
 
@@ -95,7 +96,7 @@ module _ (parts : Parts) (h : IsSchema parts) (type : TypeId) where
 
     module _ (f : FieldShape) (found : Some f ≡ field_at fs n) where
       pub scalar_only : (e : Element) → f.element ≡ e → ((s : Scalar) → e ≡ elements.Scalar s → ⊥) → ⊥
-      scalar_only e is none = let flat = flat_at parts h type n f (sym found) in none flat.scalar (sym is ∙ flat.scalar_is)
+      scalar_only e is none = let flat = flat_at parts h type is_flat n f (sym found) in none flat.scalar (sym is ∙ flat.scalar_is)
 
       pub number_below : n < 2 ^ 29
       number_below =
@@ -105,8 +106,8 @@ module _ (parts : Parts) (h : IsSchema parts) (type : TypeId) where
 
       pub content_is : (v : Value) → Some v ≡ only c → (s : Scalar) → f.element ≡ elements.Scalar s → content_bytes (shape_of parts) type (n, c) ≡ (item_record n (elements.Scalar s) (leaf_of v)).bytes
       content_is v one s element =
-          let flat = flat_at parts h type n f (sym found) in
-          let item = holds_item parts h type n c f found v one s element held in
+          let flat = flat_at parts h type is_flat n f (sym found) in
+          let item = holds_item parts h type is_flat n c f found v one s element held in
           let number = found_number fs n f (sym found) in
           ap (λ x. bytes_of (records_by x (written_parts (shape_of parts) type n c))) (sym found)
           ∙ ap (λ ps. bytes_of (field_records f ps)) (parts_written (shape_of parts) type n c v (sym one) ∙ ap (λ leaf. record { number = n; key = None; item = leaf } ∷ []) (item_written (shape_of parts) type n s v item))

@@ -6,6 +6,7 @@ use Rattle.pg_schema.specs.declared.field.TypeId.{TypeId}
 use Rattle.pg_schema.specs.declared.field.Element.TheVariants as elements
 use Rattle.pg_schema.specs.declared.parts.Parts.{Parts}
 use Rattle.pg_schema.specs.Parts.{shape_of}
+use Rattle.pg_schema.specs.Flat.{IsFlat}
 use Rattle.pg_schema.specs.Invariant.{IsSchema}
 use Rattle.pg_schema.specs.Shape.{FieldShape, fields, field_at}
 use Rattle.pg_wire.specs.Records.{WireRecord, IsRecord}
@@ -31,7 +32,7 @@ same_value v w e = cc
 pub same_field : (f g : FieldShape) → ◌≡◌ {A = Option FieldShape} (Some f) (Some g) → f ≡ g
 same_field f g e = cc
 
-module _ (parts : Parts) (h : IsSchema parts) (type : TypeId) where
+module _ (parts : Parts) (h : IsSchema parts) (type : TypeId) (flat : IsFlat (shape_of parts) type) where
   abbrev fs : List FieldShape
   fs = fields (shape_of parts) type
 
@@ -39,8 +40,8 @@ module _ (parts : Parts) (h : IsSchema parts) (type : TypeId) where
   module _ (n : ℕ) (c : Content) (f : FieldShape) (found : Some f ≡ field_at fs n) (v : Value) (one : Some v ≡ only c) (s : Scalar) (element : f.element ≡ elements.Scalar s) where
     pub holds : IsItemOf s v → is_zero (leaf_of v) ≡ false → HoldsScalar fs (n, c)
     holds item nonzero =
-        let flat = flat_at parts h type n f (sym found) in
-        record { field = f; found = sym found; flat = flat; value = v; only_is = sym one; item = subst (λ x. IsItemOf x v) (sym (scalar_same f flat s element)) item; not_zero = nonzero }
+        let scalar_here = flat_at parts h type flat n f (sym found) in
+        record { field = f; found = sym found; flat = scalar_here; value = v; only_is = sym one; item = subst (λ x. IsItemOf x v) (sym (scalar_same f scalar_here s element)) item; not_zero = nonzero }
 
     pub holds_nonzero : HoldsScalar fs (n, c) → is_zero (leaf_of v) ≡ false
     holds_nonzero held = let same = same_value held.value v (sym held.only_is ∙ sym one) in ap (λ x. is_zero (leaf_of x)) (sym same) ∙ held.not_zero
@@ -64,24 +65,28 @@ module _ (parts : Parts) (h : IsSchema parts) (type : TypeId) where
   module _ (ms : List (ℕ × Content)) (us : List UnknownRecord) (m : Kept) (view : shown type ms (map record_seen us) ≡ m) where
     pub fits_by : type.index < length (shape_of parts) → Rises ms → AllByRecursion (HoldsScalar fs) ms → AllByRecursion (λ (u : UnknownRecord). is_unknown fs (record_seen u) ≡ true) us → AllByRecursion IsRecord (map record_seen us)
         → Fits (shape_of parts) m
-    fits_by there rises hold unknown are = subst (Fits (shape_of parts)) view (fits_from parts h type ms (map record_seen us) there rises hold (all_unknown us unknown are))
+    fits_by there rises hold unknown are = subst (Fits (shape_of parts)) view (fits_from parts h type flat ms (map record_seen us) there rises hold (all_unknown us unknown are))
 
     pub has_type : Fits (shape_of parts) m → type.index < length (shape_of parts)
     has_type fits = subst (λ (t : TypeId). t.index < length (shape_of parts)) (ap type_of (sym view) ∙ type_shown type ms (map record_seen us)) fits.type_is_there
 
     pub has_contents : AllByRecursion (λ (f : ℕ × Content). IsFilled f.1) ms → Fits (shape_of parts) m → AllByRecursion (HoldsScalar fs) ms
-    has_contents filled fits = (fits_to parts h type ms (map record_seen us) filled (subst (Fits (shape_of parts)) (sym view) fits)).0
+    has_contents filled fits = (fits_to parts h type flat ms (map record_seen us) filled (subst (Fits (shape_of parts)) (sym view) fits)).0
 
     pub has_unknown : AllByRecursion (λ (f : ℕ × Content). IsFilled f.1) ms → Fits (shape_of parts) m → AllByRecursion (λ (u : UnknownRecord). is_unknown fs (record_seen u) ≡ true) us
-    has_unknown filled fits = none_accepted us (fits_to parts h type ms (map record_seen us) filled (subst (Fits (shape_of parts)) (sym view) fits)).1
+    has_unknown filled fits = none_accepted us (fits_to parts h type flat ms (map record_seen us) filled (subst (Fits (shape_of parts)) (sym view) fits)).1
+
+module _ (parts : Parts) (h : IsSchema parts) (type : TypeId) where
+  abbrev gs : List FieldShape
+  gs = fields (shape_of parts) type
 
   -- a record of a field's number is unknown where the field doesn't accept it
-  pub unknown_by_field : (r : WireRecord) (f : FieldShape) → Some f ≡ field_at fs r.number → is_unknown fs r ≡ not (is_accepted f r)
+  pub unknown_by_field : (r : WireRecord) (f : FieldShape) → Some f ≡ field_at gs r.number → is_unknown gs r ≡ not (is_accepted f r)
   unknown_by_field r f found = of (is_accepted f r) refl
     where
-      of : (b : Bool) → is_accepted f r ≡ b → is_unknown fs r ≡ not (is_accepted f r)
-      of true e = ap not (list_any_at (λ g. takes g r) fs r.number f (sym found) (takes_it f r (found_number fs r.number f (sym found)) e)) ∙ ap not (sym e)
-      of false e = unknown_where_not_accepted fs r f (rising parts h type) (sym found) e ∙ ap not (sym e)
+      of : (b : Bool) → is_accepted f r ≡ b → is_unknown gs r ≡ not (is_accepted f r)
+      of true e = ap not (list_any_at (λ g. takes g r) gs r.number f (sym found) (takes_it f r (found_number gs r.number f (sym found)) e)) ∙ ap not (sym e)
+      of false e = unknown_where_not_accepted gs r f (rising parts h type) (sym found) e ∙ ap not (sym e)
 
-  pub unknown_without_field : (r : WireRecord) → None ≡ field_at fs r.number → is_unknown fs r ≡ true
-  unknown_without_field r none = unknown_where_none fs r (sym none)
+  pub unknown_without_field : (r : WireRecord) → None ≡ field_at gs r.number → is_unknown gs r ≡ true
+  unknown_without_field r none = unknown_where_none gs r (sym none)

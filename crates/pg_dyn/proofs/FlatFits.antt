@@ -21,7 +21,8 @@ use Rattle.pg_dyn.specs.Seen.{leaf_of, value_onto, items_onto, entries_onto, con
 use Rattle.pg_dyn.specs.Belonging.{KeyFits, MayFollow, ComesBefore, IsAlone, IsPart, LeafFits, IsUnknown, IsMessage}
 use Rattle.pg_dyn.specs.Fits.{ChildrenAgree}
 use Rattle.pg_dyn.specs.ScalarItems.{IsItemOf}
-use Rattle.pg_dyn.specs.FlatContent.{single, only, IsImplicitScalar, HoldsScalar}
+use Rattle.pg_dyn.specs.FlatContent.{single, only, HoldsScalar}
+use Rattle.pg_schema.specs.Flat.{IsImplicitScalar}
 use Rattle.pg_dyn.proofs.Fields.{field_of}
 use Rattle.pg_dyn.proofs.Flat.{each_at}
 use Rattle.pg_dyn.proofs.Lists.{each_weaker}

@@ -17,7 +17,7 @@ use Rattle.pg_dyn.specs.declared.message.Value.{Value}
 use Rattle.pg_dyn.specs.Kept.{Kept, type_of}
 use Rattle.pg_dyn.specs.Seen.{content_seen, leaf_of, IsFilled, Rises}
 use Rattle.pg_dyn.specs.Fits.{Fits}
-use Rattle.pg_dyn.specs.FlatContent.{IsImplicitScalar}
+use Rattle.pg_schema.specs.Flat.{IsFlat, IsImplicitScalar}
 use Rattle.pg_dyn.specs.ScalarItems.{IsItemOf, IsContentOf, TakesItem}
 use Rattle.pg_dyn.specs.Replacing.{with_parts, implicit_part}
 use Rattle.pg_dyn.specs.ContentFaults.{ContentFault, IsLowest, HasNoFault, MayRefuseFor}
@@ -45,9 +45,9 @@ may_refuse F (errors.Wire w) h = h
 pub put_shown : (n : ℕ) (s : Scalar) (v : Value) (m new : Kept) → IsItemOf s v → new ≡ with_parts n (implicit_part n (leaf_of v)) m → new ≡ with_parts n (settled_by presences.Implicit (content_seen n (contents.One v))) m
 put_shown n s v m new item is = is ∙ ap (λ ps. with_parts n ps m) (sym (settled_one n v (key_of_item s v item)))
 
-module _ (parts : Parts) (h : IsSchema parts) (m : Kept) (type : TypeId) (same : type_of m ≡ type) (n : ℕ) (c : Content) (s : Scalar) (k : TakesItem (fields (shape_of parts) type) s n c) (new : Kept) where
+module _ (parts : Parts) (h : IsSchema parts) (m : Kept) (type : TypeId) (same : type_of m ≡ type) (is_flat : IsFlat (shape_of parts) type) (n : ℕ) (c : Content) (s : Scalar) (k : TakesItem (fields (shape_of parts) type) s n c) (new : Kept) where
   abbrev flat : IsImplicitScalar k.field
-  flat = flat_at parts h type n k.field k.found
+  flat = flat_at parts h type is_flat n k.field k.found
 
   pub set_to : new ≡ with_parts n (settled_by presences.Implicit (content_seen n c)) m → IsSetTo (shape_of parts) n c m new
   set_to is_new =
@@ -60,7 +60,7 @@ module _ (parts : Parts) (h : IsSchema parts) (m : Kept) (type : TypeId) (same :
       )
 
   pub accepted : HasNoFault (ContentFault (shape_of parts) (type_of m) n c)
-  accepted = subst (λ (t : TypeId). HasNoFault (ContentFault (shape_of parts) t n c)) (sym same) (taken parts h type n c s k)
+  accepted = subst (λ (t : TypeId). HasNoFault (ContentFault (shape_of parts) t n c)) (sym same) (taken parts h type is_flat n c s k)
 
   pub set_fits : (ms : List (ℕ × Content)) (us : List WireRecord) → new ≡ with_parts n (settled_by presences.Implicit (content_seen n c)) m → shown type ms us ≡ m → Rises ms → AllByRecursion (λ (x : ℕ × Content). IsFilled x.1) ms → Fits (shape_of parts) m
       → Fits (shape_of parts) new
@@ -71,6 +71,6 @@ module _ (parts : Parts) (h : IsSchema parts) (m : Kept) (type : TypeId) (same :
           let there = subst (λ (t : TypeId). t.index < length (shape_of parts)) same fits.type_is_there in
           let item_here = subst (λ x. IsItemOf x v) (sym (scalar_same k.field flat s k.element_is)) item in
           let is = is_new ∙ ap (λ d. with_parts n (settled_by presences.Implicit (content_seen n d)) m) e ∙ ap (λ ps. with_parts n ps m) (settled_one n v (key_of_item s v item)) in
-          subst (Fits (shape_of parts)) (sym is) (fits_held parts h type n k.field v ms us m view there rises filled fits k.found flat item_here).0
+          subst (Fits (shape_of parts)) (sym is) (fits_held parts h type is_flat n k.field v ms us m view there rises filled fits k.found flat item_here).0
       of (contents.Many vs) e item = absurd item
       of (contents.Map es) e item = absurd item

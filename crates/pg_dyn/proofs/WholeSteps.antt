@@ -25,7 +25,7 @@ use Rattle.pg_dyn.specs.Content.{same_oneof}
 use Rattle.pg_dyn.specs.Message.{Part, is_of}
 use Rattle.pg_dyn.specs.Kept.{Kept, KeptItem, type_of, parts_of, unknown_of, of_number, ends}
 use Rattle.pg_dyn.specs.Seen.{content_seen, Rises}
-use Rattle.pg_dyn.specs.FlatContent.{IsImplicitScalar}
+use Rattle.pg_schema.specs.Flat.{IsFlat, IsImplicitScalar}
 use Rattle.pg_dyn.specs.Replacing.{kept_from, kept_onto, with_parts}
 use Rattle.pg_dyn.specs.ContentFaults.{AnyOf, PassTwice, ContentFault, ContentsFault, HasFieldTwice, is_in_oneof, code, IsLowest, HasNoFault, MayRefuseFor}
 use Rattle.pg_dyn.specs.Setting.{settled, settled_by, settled_parts, is_zero_kept, IsSetTo, IsWhole}
@@ -125,7 +125,7 @@ settled_number p n c implicit =
 abbrev pub of_field : ℕ → ℕ × Content → Bool
 of_field number c = nat_eq c.0 number
 
-module _ (parts : Parts) (h : IsSchema parts) (type : TypeId) where
+module _ (parts : Parts) (h : IsSchema parts) (type : TypeId) (is_flat : IsFlat (shape_of parts) type) where
   abbrev fs : List FieldShape
   fs = fields (shape_of parts) type
 
@@ -158,7 +158,7 @@ module _ (parts : Parts) (h : IsSchema parts) (type : TypeId) where
       → IsWhole (shape_of parts) type (xs ++ (n, c) ∷ []) new
   whole_more xs n c m new whole below (f, found, is) =
       let found_here : field_at fs n ≡ Some f = ap (λ t. field_at (fields (shape_of parts) t) n) (sym whole.of_type) ∙ found in
-      let flat = flat_at parts h type n f found_here in
+      let flat = flat_at parts h type is_flat n f found_here in
       let number : f.number ≡ n = found_number fs n f found_here in
       let ps = settled f (content_seen n c) in
       let is_new : new ≡ with_parts n ps m = is ∙ ap (with_parts f.number ps) (no_rivals (fields (shape_of parts) (type_of m)) f m flat.alone) ∙ ap (λ k. with_parts k ps m) number in
@@ -263,7 +263,7 @@ rising_once (x ∷ xs) n h = of (nat_eq x.0 n) refl (rising_once xs n h.1)
         omega (arith, ap length none)
     of false e rest = rest
 
-module _ (parts : Parts) (h : IsSchema parts) (type : TypeId) where
+module _ (parts : Parts) (h : IsSchema parts) (type : TypeId) (is_flat : IsFlat (shape_of parts) type) where
   abbrev Right : List (ℕ × Content) → Type 0
   Right cs = AllByRecursion (λ (c : ℕ × Content). HasNoFault (ContentFault (shape_of parts) type c.0 c.1)) cs
 
@@ -272,7 +272,7 @@ module _ (parts : Parts) (h : IsSchema parts) (type : TypeId) where
     where
       of : (x : Option FieldShape) → field_at (fields (shape_of parts) type) n ≡ x → same_oneof (option_and_then (λ f. f.oneof) x) (Some o) ≡ false
       of None e = refl
-      of (Some f) e = ap (λ k. same_oneof k (Some o)) (flat_at parts h type n f e).alone
+      of (Some f) e = ap (λ k. same_oneof k (Some o)) (flat_at parts h type is_flat n f e).alone
 
   pub once : (cs : List (ℕ × Content)) → ((n : ℕ) → length (filter (of_field n) cs) ≤ 1) → HasFieldTwice (fields (shape_of parts) type) cs → ⊥
   once cs each (inl (n, two)) = let one = each n in omega arith

@@ -1,8 +1,6 @@
 -- The contents of implicit scalar fields, which hold one item.
 use Rattle.std.specs.Prelude.{◌≡◌, ℕ, false, List, [], ◌∷◌, Option, Some, None}
-use Rattle.pg_schema.specs.declared.field.Scalar.{Scalar}
-use Rattle.pg_schema.specs.declared.field.Element.TheVariants as elements
-use Rattle.pg_schema.specs.declared.field.Presence.TheVariants as presences
+use Rattle.pg_schema.specs.Flat.{IsImplicitScalar}
 use Rattle.pg_schema.specs.Shape.{FieldShape, field_at}
 use Rattle.pg_dyn.specs.declared.message.Content.{Content}
 use Rattle.pg_dyn.specs.declared.message.Content.TheVariants as contents
@@ -22,13 +20,6 @@ abbrev pub only : Content → Option Value
 only (contents.One value) = Some value
 only (contents.Many vs) = single vs.items
 only (contents.Map es) = None
-
--- an implicit field of scalars outside a oneof
-pub record IsImplicitScalar (f : FieldShape) : Type 0 where
-  pub implicit : f.presence ≡ presences.Implicit
-  pub scalar : Scalar
-  pub scalar_is : f.element ≡ elements.Scalar scalar
-  pub alone : f.oneof ≡ None
 
 -- a content of such a field: one item in its range, which isn't zero
 pub record HoldsScalar (fs : List FieldShape) (f : ℕ × Content) : Type 0 where

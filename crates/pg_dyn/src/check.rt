@@ -1,4 +1,5 @@
 ghost use Rattle.std.specs.Prelude.{◌≡◌, ◌↔◌, ◌⊎◌, ◌<◌, false, None, IfErr, IfOk, IsOk, IsTrue};
+ghost use Rattle.pg_schema.specs.Flat.{IsFlat};
 ghost use Rattle.pg_schema.specs.Invariant.{IsSchema};
 ghost use Rattle.pg_schema.specs.Parts.{shape_of};
 ghost use Rattle.pg_schema.specs.Shape.{fields};
@@ -106,7 +107,8 @@ pub(crate) fn check_content(
     number: u32,
     content: &Content,
 ) -> Result<Scalar, DynError>
-    requires { IsSchema schema.now }
+    requires is_schema { IsSchema schema.now }
+    requires flat { IsFlat (shape_of schema.now) type_id }
     ensures ok { IfOk result (λ s. TakesItem (fields (shape_of schema.now) type_id) s number content.now) }
     ensures err { IfErr result (IsLowest (ContentFault (shape_of schema.now) type_id number content.now)) }
     ensures early { IfErr result (λ e. code e < 605) }

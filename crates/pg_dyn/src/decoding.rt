@@ -7,7 +7,7 @@ ghost use Rattle.pg_dyn.specs.Content.{is_accepted, takes};
 ghost use Rattle.pg_dyn.specs.Decoding.{dec};
 ghost use Rattle.pg_dyn.specs.declared.error.DynError.TheVariants as errors;
 ghost use Rattle.pg_dyn.specs.Fits.{Fits};
-ghost use Rattle.pg_dyn.specs.FlatContent.{IsImplicitScalar};
+ghost use Rattle.pg_schema.specs.Flat.{IsFlat};
 ghost use Rattle.pg_dyn.specs.Kept.{message_of, type_of};
 ghost use Rattle.pg_dyn.specs.Refusals.{HasNoText, MayRefuse};
 ghost use Rattle.pg_dyn.specs.TooDeep.{TooDeepIn};
@@ -30,7 +30,8 @@ pub fn decode(
     bytes: &[u8],
     limit: usize,
 ) -> Result<Message, DynError>
-    requires { type_id.index < length (shape_of schema.now) }
+    requires type_id { type_id.index < length (shape_of schema.now) }
+    requires flat { IsFlat (shape_of schema.now) type_id }
     ensures message { IfOk result (λ m. dec (shape_of schema.now) type_id bytes.now ≡ Some (message_of m)) }
     ensures fits { IfOk result (λ m. Fits (shape_of schema.now) m × (type_of m ≡ type_id)) }
     ensures within { OnOk result ((place : ℕ) → TooDeepIn (shape_of schema.now) limit (fields (shape_of schema.now) type_id) bytes.now place → ⊥) }

@@ -1,6 +1,7 @@
 ghost use Rattle.std.specs.Prelude.{◌≡◌, ◌⊎◌, ℕ, ◌+◌, ◌^◌, ◌<◌, ◌≤◌, ◌++◌, List, length, flat_map, OnOk, IfOk, IfErr};
 ghost use Rattle.std.specs.List.{AllByRecursion};
 ghost use Rattle.pg_schema.specs.declared.field.Element.TheVariants as elements;
+ghost use Rattle.pg_schema.specs.Flat.{IsFlat};
 ghost use Rattle.pg_schema.specs.Invariant.{IsSchema};
 ghost use Rattle.pg_schema.specs.Parts.{shape_of};
 ghost use Rattle.pg_schema.specs.Shape.{fields};
@@ -151,6 +152,7 @@ fn content_len(
     content: &Content,
 ) -> Result<usize, DynError>
     requires is_schema { IsSchema schema.now }
+    requires flat { IsFlat (shape_of schema.now) type_id }
     requires holds { HoldsScalar (fields (shape_of schema.now) type_id) (number, content.now) }
     ensures ok { IfOk result (λ len. (len ≡ length (content_bytes (shape_of schema.now) type_id (number, content.now))) × (len ≤ 2147483647)) }
     ensures err { IfErr result (λ e. (e ≡ errors.TooLong) × (2147483647 < length (content_bytes (shape_of schema.now) type_id (number, content.now)))) }
@@ -177,6 +179,7 @@ fn push_content(
     content: &Content,
 ) -> Result<(), AllocError>
     requires is_schema { IsSchema schema.now }
+    requires flat { IsFlat (shape_of schema.now) type_id }
     requires holds { HoldsScalar (fields (shape_of schema.now) type_id) (number, content.now) }
     ensures ok { OnOk result (out.new.items ≡ out.old.items ++ content_bytes (shape_of schema.now) type_id (number, content.now)) }
 {
@@ -200,6 +203,7 @@ fn contents_len(
     contents: &[(u32, Content)],
 ) -> Result<usize, DynError>
     requires is_schema { IsSchema schema.now }
+    requires flat { IsFlat (shape_of schema.now) type_id }
     requires hold { AllByRecursion (HoldsScalar (fields (shape_of schema.now) type_id)) contents.now }
     ensures ok { IfOk result (λ len. (len ≡ length (flat_map (content_bytes (shape_of schema.now) type_id) contents.now)) × (len ≤ 2147483647)) }
     ensures err { IfErr result (λ e. (e ≡ errors.TooLong) × (2147483647 < length (flat_map (content_bytes (shape_of schema.now) type_id) contents.now))) }
@@ -231,6 +235,7 @@ fn push_contents(
     contents: &[(u32, Content)],
 ) -> Result<(), AllocError>
     requires is_schema { IsSchema schema.now }
+    requires flat { IsFlat (shape_of schema.now) type_id }
     requires hold { AllByRecursion (HoldsScalar (fields (shape_of schema.now) type_id)) contents.now }
     ensures ok { OnOk result (out.new.items ≡ out.old.items ++ flat_map (content_bytes (shape_of schema.now) type_id) contents.now) }
 {
@@ -255,6 +260,7 @@ impl Message {
     fn encode(&self, alloc: Global, schema: &Schema) -> Result<Vec<u8>, DynError>
         requires is_schema { IsSchema schema.now }
         requires fits { Fits (shape_of schema.now) self.now }
+        requires flat { IsFlat (shape_of schema.now) (type_of self.now) }
         ensures ok { IfOk result (λ bytes. (bytes.items ≡ enc (shape_of schema.now) (type_of self.now) (message_of self.now)) × (length bytes.items ≤ cap)) }
         ensures err { IfErr result (λ e. (e ≡ errors.Memory) ⊎ ((e ≡ errors.TooLong) × (cap < length (enc (shape_of schema.now) (type_of self.now) (message_of self.now))))) }
     {
@@ -274,7 +280,8 @@ impl Message {
 ///
 /// The errors are `TooLong`, only where the encoding has more than 2,147,483,647 bytes, and `Memory`.
 pub fn encode(alloc: Global, schema: &Schema, message: &Message) -> Result<Vec<u8>, DynError>
-    requires { Fits (shape_of schema.now) message.now }
+    requires fits { Fits (shape_of schema.now) message.now }
+    requires flat { IsFlat (shape_of schema.now) (type_of message.now) }
     ensures ok { IfOk result (λ bytes. (bytes.items ≡ enc (shape_of schema.now) (type_of message.now) (message_of message.now)) × (length bytes.items ≤ cap)) }
     ensures err { IfErr result (λ e. (e ≡ errors.Memory) ⊎ ((e ≡ errors.TooLong) × (cap < length (enc (shape_of schema.now) (type_of message.now) (message_of message.now))))) }
 {

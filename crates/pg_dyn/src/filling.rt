@@ -1,6 +1,7 @@
 ghost use Rattle.std.specs.Prelude.{◌≡◌, ◌⊎◌, ℕ, ◌<◌, ◌≤◌, length, false, nat_eq, OnOk, IfOk, IfErr, IsTrue};
 ghost use Rattle.std.specs.List.{AllByRecursion};
 ghost use Rattle.std.specs.List.Sorted.{IsNonDecreasingBy};
+ghost use Rattle.pg_schema.specs.Flat.{IsFlat};
 ghost use Rattle.pg_schema.specs.Invariant.{IsSchema};
 ghost use Rattle.pg_schema.specs.Parts.{shape_of};
 ghost use Rattle.pg_dyn.specs.declared.error.DynError.TheVariants.{Memory};
@@ -33,7 +34,8 @@ fn check_contents(
     type_id: TypeId,
     contents: &[(u32, Content)],
 ) -> Result<(), DynError>
-    requires { IsSchema schema.now }
+    requires is_schema { IsSchema schema.now }
+    requires flat { IsFlat (shape_of schema.now) type_id }
     ensures ok { OnOk result (AllByRecursion (λ c. HasNoFault (ContentFault (shape_of schema.now) type_id c.0 c.1)) contents.now) }
     ensures err { IfErr result (IsLowest (λ e. AnyOf (λ c. ContentFault (shape_of schema.now) type_id c.0 c.1 e) contents.now)) }
     ensures early { IfErr result (λ e. code e < 605) }
@@ -74,6 +76,7 @@ impl Message {
     ) -> Result<Message, DynError>
         requires schema { IsSchema schema.now }
         requires type_id { type_id.index < length (shape_of schema.now) }
+        requires flat { IsFlat (shape_of schema.now) type_id }
         requires rises { Rises contents.items }
         requires right { AllByRecursion (λ c. HasNoFault (ContentFault (shape_of schema.now) type_id c.0 c.1)) contents.items }
         ensures ok { IfOk result (IsWhole (shape_of schema.now) type_id contents.items) }
@@ -103,7 +106,8 @@ impl Message {
         type_id: TypeId,
         contents: Vec<(u32, Content)>,
     ) -> Result<Message, DynError>
-        requires { type_id.index < length (shape_of schema.now) }
+        requires type_id { type_id.index < length (shape_of schema.now) }
+        requires flat { IsFlat (shape_of schema.now) type_id }
         ensures ok { IfOk result (IsWhole (shape_of schema.now) type_id contents.items) }
         ensures fits { IfOk result (Fits (shape_of schema.now)) }
         ensures accepted { OnOk result (HasNoFault (ContentsFault (shape_of schema.now) type_id contents.items)) }

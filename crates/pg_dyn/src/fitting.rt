@@ -1,12 +1,14 @@
 ghost use Rattle.std.specs.Prelude.{◌≡◌, ◌↔◌, ◌⊎◌, ℕ, true, [], ◌∷◌, None, IfSome, IsTrue, MatchOption, option_map};
 ghost use Rattle.std.specs.List.{AllByRecursion};
 ghost use Rattle.std.specs.Option.{option_copied};
+ghost use Rattle.pg_schema.specs.Flat.{IsFlat};
 ghost use Rattle.pg_schema.specs.Invariant.{IsSchema};
 ghost use Rattle.pg_schema.specs.Parts.{shape_of};
 ghost use Rattle.pg_schema.specs.Shape.{fields};
 ghost use Rattle.pg_dyn.specs.Content.{is_unknown};
 ghost use Rattle.pg_dyn.specs.Fits.{Fits};
 ghost use Rattle.pg_dyn.specs.FlatContent.{HoldsScalar, only};
+ghost use Rattle.pg_dyn.specs.Kept.{type_of};
 ghost use Rattle.pg_dyn.specs.Seen.{record_seen};
 
 use crate::accept::accepts;
@@ -32,7 +34,8 @@ impl Content {
 
 // Whether the content is one of the field with the number: in a flat schema one item, in its range, and not zero.
 fn content_fits(schema: &Schema, type_id: TypeId, number: u32, content: &Content) -> bool
-    requires { IsSchema schema.now }
+    requires is_schema { IsSchema schema.now }
+    requires flat { IsFlat (shape_of schema.now) type_id }
     ensures { IsTrue result ↔ HoldsScalar (fields (shape_of schema.now) type_id) (number, content.now) }
 {
     let Some(field) = schema.field(type_id, number) else {
@@ -50,7 +53,8 @@ fn content_fits(schema: &Schema, type_id: TypeId, number: u32, content: &Content
 
 // Whether each content is one of its field.
 fn contents_fit(schema: &Schema, type_id: TypeId, contents: &[(u32, Content)]) -> bool
-    requires { IsSchema schema.now }
+    requires is_schema { IsSchema schema.now }
+    requires flat { IsFlat (shape_of schema.now) type_id }
     ensures { IsTrue result ↔ AllByRecursion (HoldsScalar (fields (shape_of schema.now) type_id)) contents.now }
 {
     for (number, content) in contents {
@@ -88,7 +92,8 @@ fn unknown_fit(schema: &Schema, type_id: TypeId, unknown: &[UnknownRecord]) -> b
 impl Message {
     // Whether the message is one of its type, and that one of the schema.
     fn is_one_of(&self, schema: &Schema) -> bool
-        requires { IsSchema schema.now }
+        requires is_schema { IsSchema schema.now }
+        requires flat { IsFlat (shape_of schema.now) (type_of self.now) }
         ensures { IsTrue result ↔ Fits (shape_of schema.now) self.now }
     {
         if !schema.has(self.type_id) {
@@ -106,6 +111,7 @@ impl Message {
 /// field without presence, each message inside one of its field's type, and no unknown record that a field
 /// accepts (proto3 language guide, "Field Presence", "Oneof", "Unknown Fields").
 pub fn fits(schema: &Schema, message: &Message) -> bool
+    requires flat { IsFlat (shape_of schema.now) (type_of message.now) }
     ensures { IsTrue result ↔ Fits (shape_of schema.now) message.now }
 {
     // What holds of every schema.

@@ -1,4 +1,5 @@
 ghost use Rattle.std.specs.Prelude.{◌≡◌, OnOk, IfErr};
+ghost use Rattle.pg_schema.specs.Flat.{IsFlat};
 ghost use Rattle.pg_schema.specs.Parts.{shape_of};
 ghost use Rattle.pg_dyn.specs.ContentFaults.{ContentFault, HasNoFault, MayRefuseFor};
 ghost use Rattle.pg_dyn.specs.Fits.{Fits};
@@ -26,7 +27,8 @@ impl Message {
         number: u32,
         content: Content,
     ) -> Result<(), (DynError, Content)>
-        requires { Fits (shape_of schema.now) self.old }
+        requires fits { Fits (shape_of schema.now) self.old }
+        requires flat { IsFlat (shape_of schema.now) (type_of self.old) }
         ensures ok { OnOk result (IsSetTo (shape_of schema.now) number content self.old self.new) }
         ensures fits { OnOk result (Fits (shape_of schema.now) self.new) }
         ensures accepted { OnOk result (HasNoFault (ContentFault (shape_of schema.now) (type_of self.old) number content)) }

@@ -75,7 +75,7 @@ fn schema_of(alloc: Global, scalars: &[(u32, Scalar)]) -> Result<Schema, Fail> {
 
 /// The message that the bytes are read as, by the type of `schema_of`.
 fn read(alloc: Global, schema: &Schema, bytes: &[u8]) -> Result<Message, DynError> {
-    if !schema.has(M) {
+    if !schema.has(M) || !schema.flat(M) {
         return Err(DynError::NoSuchField);
     }
     decode(alloc, schema, M, bytes, 1)
@@ -83,7 +83,7 @@ fn read(alloc: Global, schema: &Schema, bytes: &[u8]) -> Result<Message, DynErro
 
 /// The bytes of a message that fits the schema; of one that doesn't fit `WrongKind`.
 fn write(alloc: Global, schema: &Schema, message: &Message) -> Result<Vec<u8>, DynError> {
-    if !fits(schema, message) {
+    if !schema.flat(message.type_id()) || !fits(schema, message) {
         return Err(DynError::WrongKind);
     }
     encode(alloc, schema, message)
@@ -102,7 +102,7 @@ fn set(
     number: u32,
     content: Content,
 ) -> Result<(), (DynError, Content)> {
-    if !fits(schema, message) {
+    if !schema.flat(message.type_id()) || !fits(schema, message) {
         return Err((DynError::TooLong, content));
     }
     message.set(schema, number, content)
@@ -114,7 +114,7 @@ fn whole(
     schema: &Schema,
     contents: Vec<(u32, Content)>,
 ) -> Result<Message, DynError> {
-    if !schema.has(M) {
+    if !schema.has(M) || !schema.flat(M) {
         return Err(DynError::TooLong);
     }
     Message::whole(alloc, schema, M, contents)

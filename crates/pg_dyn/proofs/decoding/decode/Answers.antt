@@ -1,5 +1,6 @@
 use Rattle.std.proofs.Common.{⊎_elim, ℕ, [], ◌∷◌, Result, IfErr, sym, ap, subst, ◌∙◌}
 use Rattle.std.proofs.lemmas.Result.{err_from_is_err_and}
+use Rattle.pg_schema.specs.Flat.{IsFlat}
 use Rattle.pg_schema.specs.Parts.{shape_of}
 use Rattle.pg_schema.specs.Shape.{fields}
 use Rattle.pg_wire.specs.Reads.{seen, seen_record}
@@ -21,7 +22,7 @@ loop-found-init c =
     let shape = shape_of c.args.schema.now in
     subst (λ (m : Kept). ReadSoFar shape c.args.type_id c.args.bytes.now m 0 c.into_iter-found-iterator.result) (sym c.empty-message.ensures)
     (subst (ReadSoFar shape c.args.type_id c.args.bytes.now (ends c.args.type_id []) 0) (sym (c.into_iter-found-iterator.ensures.into_iter_gives ∙ c.new-found-items.ensures))
-    (begin shape c.args.type_id c.args.bytes.now c.parts.ensures.checked.shape c.requires))
+    (begin shape c.args.type_id c.args.bytes.now c.parts.ensures.checked.shape c.requires.type_id))
 
 pub read_on-requires-clause-is_record : goal.read_on-requires-clause-is_record
 read_on-requires-clause-is_record c =
@@ -59,4 +60,7 @@ returns-clause-message c =
     done (shape_of c.args.schema.now) c.args.type_id c.args.bytes.now l.message l.at l.found-iterator l.invariant c.in-None.ensures.steps.0
 
 pub returns-clause-within : goal.returns-clause-within
-returns-clause-within c = none_deeper c.args.schema.now c.parts.ensures.checked c.args.limit c.args.type_id c.args.bytes.now c.if-limit-eq0.false
+returns-clause-within c = none_deeper c.args.schema.now c.parts.ensures.checked c.args.limit c.args.type_id c.requires.flat c.args.bytes.now c.if-limit-eq0.false
+
+pub read_on-requires-clause-flat : goal.read_on-requires-clause-flat
+read_on-requires-clause-flat c = subst (IsFlat (shape_of c.args.schema.now)) (sym c.loop-found.invariant.of_type) c.requires.flat

@@ -25,5 +25,5 @@ loop-number-preserved c =
           (tells_lower F (take i cs) x w.in-Err-lowest.first w.in-Err.error w.lower.result (subst (Tells F (take i cs)) w.in-Err-lowest.is l.invariant) w.in-Err.ensures.err w.in-Err.ensures.early w.lower.ensures.one w.lower.ensures.lowest.0
           w.lower.ensures.lowest.1)
       | in_default w ↦
-          subst (Tells F (take i cs ++ x ∷ [])) (sym w.lowest-is) (tells_right F (take i cs) x l.lowest l.invariant (taken c.args.schema.now c.requires c.args.type_id x.0 x.1 w.in_default.field-0 w.in_default.ensures.ok))
+          subst (Tells F (take i cs ++ x ∷ [])) (sym w.lowest-is) (tells_right F (take i cs) x l.lowest l.invariant (taken c.args.schema.now c.requires.is_schema c.args.type_id c.requires.flat x.0 x.1 w.in_default.field-0 w.in_default.ensures.ok))
     ])

@@ -9,6 +9,7 @@ use Rattle.pg_dyn.specs.Refusals.{HasNoText}
 use Rattle.pg_schema.specs.declared.field.Scalar.{Scalar}
 use Rattle.pg_schema.specs.declared.field.Element.{Element}
 use Rattle.pg_schema.specs.declared.field.Element.TheVariants as elements
+use Rattle.pg_schema.specs.Flat.{IsFlat}
 use Rattle.pg_schema.specs.Parts.{field_shape, shape_of}
 use Rattle.pg_schema.specs.Shape.{fields}
 use Rattle.pg_wire.specs.Reads.{seen_record}
@@ -30,7 +31,7 @@ pub read_item-requires : goal.read_item-requires
 read_item-requires c =
     let a = c.self.inside in
     let same = sym (ap type_of c.self.view_is) ∙ type_shown a.type_id a.fields.items (map record_seen a.unknown.items) in
-    shape_is c.args.schema.now c.requires.is_schema c.args.self.now (seen_record c.args.found.now) c.requires.is_record a.type_id same (field_shape c.in-Some.field.now) c.in-Some.ensures.shape
+    shape_is c.args.schema.now c.requires.is_schema c.args.self.now (seen_record c.args.found.now) c.requires.is_record a.type_id same (subst (IsFlat (shape_of c.args.schema.now)) same c.requires.flat) (field_shape c.in-Some.field.now) c.in-Some.ensures.shape
     (sym c.accepts.ensures ∙ c.if-accepts.true) c.in-Scalar.scalar c.in-Scalar.is
 
 pub returns-in_err-value-in-Scalar-clause-err : goal.returns-in_err-value-in-Scalar-clause-err
@@ -42,7 +43,7 @@ returns-in_err-value-in-Scalar-clause-err c =
     (⊎_elim (λ memory. inl (from ∙ memory))
     (λ text. inr (
       from ∙ text.0,
-      no_text c.args.schema.now c.requires.is_schema c.args.self.now (seen_record c.args.found.now) c.requires.is_record a.type_id same (field_shape c.in-Some.field.now) c.in-Some.ensures.shape
+      no_text c.args.schema.now c.requires.is_schema c.args.self.now (seen_record c.args.found.now) c.requires.is_record a.type_id same (subst (IsFlat (shape_of c.args.schema.now)) same c.requires.flat) (field_shape c.in-Some.field.now) c.in-Some.ensures.shape
           (sym c.accepts.ensures ∙ c.if-accepts.true) c.in-Scalar.scalar c.in-Scalar.is text.1 text.2,
     ))
     c.in_err-value-in-Scalar.ensures.err)
@@ -52,7 +53,7 @@ returns-in_ok-value-in-Scalar-clause-ok c =
     let a = c.self.inside in
     let same = sym (ap type_of c.self.view_is) ∙ type_shown a.type_id a.fields.items (map record_seen a.unknown.items) in
     on_ok_map c.hold.result
-    (scalar_read c.args.schema.now c.requires.is_schema c.args.self.now (seen_record c.args.found.now) c.requires.is_record a.type_id same (field_shape c.in-Some.field.now) c.in-Some.ensures.shape
+    (scalar_read c.args.schema.now c.requires.is_schema c.args.self.now (seen_record c.args.found.now) c.requires.is_record a.type_id same (subst (IsFlat (shape_of c.args.schema.now)) same c.requires.flat) (field_shape c.in-Some.field.now) c.in-Some.ensures.shape
     (sym c.accepts.ensures ∙ c.if-accepts.true) c.in-Scalar.scalar c.in-Scalar.is c.in_ok-value-in-Scalar.value c.hold.new.self c.requires.fits c.in_ok-value-in-Scalar.ensures.ok.0)
     c.hold.ensures.ok
 
@@ -62,7 +63,7 @@ returns-in_ok-value-in-Scalar-clause-fits_still c =
     let us = map record_seen a.unknown.items in
     let same = sym (ap type_of c.self.view_is) ∙ type_shown a.type_id a.fields.items us in
     on_ok_map c.hold.result
-    (scalar_fits c.args.schema.now c.requires.is_schema c.args.self.now (seen_record c.args.found.now) c.requires.is_record a.type_id same (field_shape c.in-Some.field.now) c.in-Some.ensures.shape
+    (scalar_fits c.args.schema.now c.requires.is_schema c.args.self.now (seen_record c.args.found.now) c.requires.is_record a.type_id same (subst (IsFlat (shape_of c.args.schema.now)) same c.requires.flat) (field_shape c.in-Some.field.now) c.in-Some.ensures.shape
     (sym c.accepts.ensures ∙ c.if-accepts.true) c.in-Scalar.scalar c.in-Scalar.is c.in_ok-value-in-Scalar.value c.hold.new.self a.fields.items us c.self.view_is c.self.invariant.rises c.self.invariant.filled c.requires.fits c.in_ok-value-in-Scalar.ensures.ok.1)
     c.hold.ensures.ok
 
@@ -70,7 +71,7 @@ pub returns-in-Enum : goal.returns-in-Enum
 returns-in-Enum c =
     let a = c.self.inside in
     let same = sym (ap type_of c.self.view_is) ∙ type_shown a.type_id a.fields.items (map record_seen a.unknown.items) in
-    let none = no_other c.args.schema.now c.requires.is_schema c.args.self.now (seen_record c.args.found.now) c.requires.is_record a.type_id same (field_shape c.in-Some.field.now) c.in-Some.ensures.shape in
+    let none = no_other c.args.schema.now c.requires.is_schema c.args.self.now (seen_record c.args.found.now) c.requires.is_record a.type_id same (subst (IsFlat (shape_of c.args.schema.now)) same c.requires.flat) (field_shape c.in-Some.field.now) c.in-Some.ensures.shape in
     absurd (⊎_elim (λ e. none (elements.Enum e.0) e.1 (λ s k. enum_no_scalar e.0 s k)) (λ t. none (elements.Message t.0) t.1 (λ s k. message_no_scalar t.0 s k)) c.in-Enum.is)
 
 pub returns-in_default-clause-ok : goal.returns-in_default-clause-ok
@@ -81,10 +82,10 @@ returns-in_default-clause-ok c =
     let unknown : is_unknown (fields (shape_of c.args.schema.now) (type_of c.args.self.now)) r ≡ true =
     elim c.in_default.branch as (λ b. is_unknown (fields (shape_of c.args.schema.now) (type_of c.args.self.now)) r ≡ true) [
       | in_default-via-in-Some+else-accepts w ↦
-          not_taken c.args.schema.now c.requires.is_schema c.args.self.now r c.requires.is_record a.type_id same (field_shape w.in-Some.field.now) w.in-Some.ensures.shape (sym w.accepts.ensures ∙ w.if-accepts.false)
-      | in_default-via-in_default w ↦ not_found c.args.schema.now c.requires.is_schema c.args.self.now r c.requires.is_record a.type_id same w.in_default.ensures.shape
+          not_taken c.args.schema.now c.requires.is_schema c.args.self.now r c.requires.is_record a.type_id same (subst (IsFlat (shape_of c.args.schema.now)) same c.requires.flat) (field_shape w.in-Some.field.now) w.in-Some.ensures.shape (sym w.accepts.ensures ∙ w.if-accepts.false)
+      | in_default-via-in_default w ↦ not_found c.args.schema.now c.requires.is_schema c.args.self.now r c.requires.is_record a.type_id same (subst (IsFlat (shape_of c.args.schema.now)) same c.requires.flat) w.in_default.ensures.shape
     ] in
-    on_ok_map c.keep.result (unknown_read c.args.schema.now c.requires.is_schema c.args.self.now r c.requires.is_record a.type_id same c.keep.new.self unknown) c.keep.ensures.ok
+    on_ok_map c.keep.result (unknown_read c.args.schema.now c.requires.is_schema c.args.self.now r c.requires.is_record a.type_id same (subst (IsFlat (shape_of c.args.schema.now)) same c.requires.flat) c.keep.new.self unknown) c.keep.ensures.ok
 
 pub returns-in_default-clause-fits_still : goal.returns-in_default-clause-fits_still
 returns-in_default-clause-fits_still c =
@@ -95,7 +96,7 @@ returns-in_default-clause-fits_still c =
     let unknown : is_unknown (fields (shape_of c.args.schema.now) (type_of c.args.self.now)) r ≡ true =
     elim c.in_default.branch as (λ b. is_unknown (fields (shape_of c.args.schema.now) (type_of c.args.self.now)) r ≡ true) [
       | in_default-via-in-Some+else-accepts w ↦
-          not_taken c.args.schema.now c.requires.is_schema c.args.self.now r c.requires.is_record a.type_id same (field_shape w.in-Some.field.now) w.in-Some.ensures.shape (sym w.accepts.ensures ∙ w.if-accepts.false)
-      | in_default-via-in_default w ↦ not_found c.args.schema.now c.requires.is_schema c.args.self.now r c.requires.is_record a.type_id same w.in_default.ensures.shape
+          not_taken c.args.schema.now c.requires.is_schema c.args.self.now r c.requires.is_record a.type_id same (subst (IsFlat (shape_of c.args.schema.now)) same c.requires.flat) (field_shape w.in-Some.field.now) w.in-Some.ensures.shape (sym w.accepts.ensures ∙ w.if-accepts.false)
+      | in_default-via-in_default w ↦ not_found c.args.schema.now c.requires.is_schema c.args.self.now r c.requires.is_record a.type_id same (subst (IsFlat (shape_of c.args.schema.now)) same c.requires.flat) w.in_default.ensures.shape
     ] in
-    on_ok_map c.keep.result (λ is_new. unknown_fits c.args.schema.now c.requires.is_schema c.args.self.now r c.requires.is_record a.type_id same c.keep.new.self a.fields.items us c.self.view_is c.self.invariant.rises c.self.invariant.filled c.requires.fits unknown is_new) c.keep.ensures.ok
+    on_ok_map c.keep.result (λ is_new. unknown_fits c.args.schema.now c.requires.is_schema c.args.self.now r c.requires.is_record a.type_id same (subst (IsFlat (shape_of c.args.schema.now)) same c.requires.flat) c.keep.new.self a.fields.items us c.self.view_is c.self.invariant.rises c.self.invariant.filled c.requires.fits unknown is_new) c.keep.ensures.ok

@@ -33,7 +33,7 @@ pub returns-in_err-check_contents-clause-refused : goal.returns-in_err-check_con
 returns-in_err-check_contents-clause-refused c =
     let (y, is, from) = err_from_is_err_and c.from_residual.result c.from_residual.ensures.1 in
     let may : DynError → Type 0 = MayRefuseFor (ContentsFault (shape_of c.args.schema.now) c.args.type_id c.args.contents.items) in
-    subst (λ (x : Result Message DynError). IfErr x may) (sym is) (subst may (sym from) (whole_refused c.args.schema.now c.parts.ensures.checked c.args.type_id c.args.contents.items c.in_err-check_contents.field-0.0
+    subst (λ (x : Result Message DynError). IfErr x may) (sym is) (subst may (sym from) (whole_refused c.args.schema.now c.parts.ensures.checked c.args.type_id c.requires.flat c.args.contents.items c.in_err-check_contents.field-0.0
     (subst (λ (xs : List (ℕ × Content)). IsLowest (λ e. AnyOf (λ (x : ℕ × Content). ContentFault (shape_of c.args.schema.now) c.args.type_id x.0 x.1 e) xs) c.in_err-check_contents.field-0.0) c.deref.ensures.value c.in_err-check_contents.ensures.err)
     c.in_err-check_contents.ensures.early))
 
@@ -49,7 +49,7 @@ returns-then-has_number_twice-clause-refused c =
     let same : (j : ℕ) → filter (of_field j) c.sort_by_key.new.self.items ≡ filter (of_field j) xs =
     kept_under xs c.sort_by_key.new.self.items (c.sort_by_key.ensures.stable (λ (y : ℕ × Content). y.0) (always_returns_same _ _ _ (λ a r f k. search rules))) in
     let right = subst (AllByRecursion (Right (shape_of c.args.schema.now) c.args.type_id)) c.deref.ensures.value c.in_ok-check_contents.ensures.ok in
-    whole_twice c.args.schema.now c.parts.ensures.checked c.args.type_id xs right number (subst (λ (ys : List (ℕ × Content)). 1 < length ys) (same number) (subst (PassTwice (of_field number)) c.deref-2.ensures.value two))
+    whole_twice c.args.schema.now c.parts.ensures.checked c.args.type_id c.requires.flat xs right number (subst (λ (ys : List (ℕ × Content)). 1 < length ys) (same number) (subst (PassTwice (of_field number)) c.deref-2.ensures.value two))
 
 pub filled-requires-clause-right : goal.filled-requires-clause-right
 filled-requires-clause-right c =
@@ -61,7 +61,7 @@ returns-clause-ok c =
     let xs = c.args.contents.items in
     let same : (j : ℕ) → filter (of_field j) c.sort_by_key.new.self.items ≡ filter (of_field j) xs =
     kept_under xs c.sort_by_key.new.self.items (c.sort_by_key.ensures.stable (λ (y : ℕ × Content). y.0) (always_returns_same _ _ _ (λ a r f k. search rules))) in
-    if_ok c.filled.result (λ m. IsWhole (shape_of c.args.schema.now) c.args.type_id c.sort_by_key.new.self.items m) (λ m. IsWhole (shape_of c.args.schema.now) c.args.type_id xs m) (λ m k. whole_unsorted c.args.schema.now c.parts.ensures.checked c.args.type_id xs c.sort_by_key.new.self.items m same k) c.filled.ensures.ok
+    if_ok c.filled.result (λ m. IsWhole (shape_of c.args.schema.now) c.args.type_id c.sort_by_key.new.self.items m) (λ m. IsWhole (shape_of c.args.schema.now) c.args.type_id xs m) (λ m k. whole_unsorted c.args.schema.now c.parts.ensures.checked c.args.type_id c.requires.flat xs c.sort_by_key.new.self.items m same k) c.filled.ensures.ok
 
 pub returns-clause-accepted : goal.returns-clause-accepted
 returns-clause-accepted c =
@@ -71,4 +71,4 @@ returns-clause-accepted c =
     kept_under xs ys (c.sort_by_key.ensures.stable (λ (y : ℕ × Content). y.0) (always_returns_same _ _ _ (λ a r f k. search rules))) in
     let right = subst (AllByRecursion (Right (shape_of c.args.schema.now) c.args.type_id)) c.deref.ensures.value c.in_ok-check_contents.ensures.ok in
     let rises = subst Rises c.deref-2.ensures.value (c.if-has_number_twice.ensures.rises refl) in
-    on_ok c.filled.result (whole_accepted c.args.schema.now c.parts.ensures.checked c.args.type_id xs right (once_unsorted c.args.schema.now c.parts.ensures.checked c.args.type_id xs ys same rises))
+    on_ok c.filled.result (whole_accepted c.args.schema.now c.parts.ensures.checked c.args.type_id c.requires.flat xs right (once_unsorted c.args.schema.now c.parts.ensures.checked c.args.type_id c.requires.flat xs ys same rises))
