@@ -1,3 +1,11 @@
+//! The table of gaps, and small pairs with their choices and children.
+
+mod children;
+mod choices;
+mod maps;
+mod schemas;
+mod tables;
+
 use crate::{Gap, gap};
 use pg_schema::Scalar;
 
