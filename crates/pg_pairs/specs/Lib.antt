@@ -8,5 +8,6 @@ pub mod Covering
 pub mod Members
 pub mod Fields
 pub mod Settling
+pub mod Contents
 pub mod Laws
 pub mod SmallPairs

@@ -1,5 +1,6 @@
 //! Laws about the definitions. Each is the contract of a function that does nothing.
 
+ghost use Rattle.pg_pairs.specs.Contents.{ContentsCost};
 ghost use Rattle.pg_pairs.specs.Gaps.{GapTable};
 ghost use Rattle.pg_pairs.specs.Laws.{CoveringBounds, EachChoiceIsReached, ExactIsLeast, NoneIsCompatible};
 ghost use Rattle.pg_pairs.specs.SmallPairs.{SmallPairs};
@@ -19,6 +20,12 @@ pub fn gap_table()
 /// By their numbers all enum items are alike.
 pub fn numbers_sight()
     ensures { IsSight by_numbers }
+{}
+
+/// A content that breaks alone has at least the bytes of one of its field's choices: of scalars, lists
+/// and maps, and of children that are as long as the table says.
+pub fn contents_cost()
+    ensures { ContentsCost }
 {}
 
 /// A table that covers a pair bounds from below the messages that break, for each pair in it.

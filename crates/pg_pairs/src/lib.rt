@@ -20,8 +20,8 @@ pub use choice::{Choice, Pair};
 pub use descent::children;
 pub use gap_kind::Gap;
 pub use laws::{
-    covering_bounds, each_choice_is_reached, exact_is_least, gap_table, none_is_compatible,
-    numbers_sight, one_solution, settled_by_induction, small_pairs,
+    contents_cost, covering_bounds, each_choice_is_reached, exact_is_least, gap_table,
+    none_is_compatible, numbers_sight, one_solution, settled_by_induction, small_pairs,
 };
 pub use option_list::options;
 pub use scalar_gap::gap;

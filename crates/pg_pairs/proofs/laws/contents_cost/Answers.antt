@@ -1,0 +1,5 @@
+use Rattle.pg_pairs.proofs.OneField as OneField
+use Rattle.pg_pairs.proofs.laws.contents_cost.Goals as goal
+
+pub returns : goal.returns
+returns c = OneField.contents_cost

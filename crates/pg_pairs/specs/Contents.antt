@@ -1,0 +1,112 @@
+-- The content of one old field beside the new field of its number: its parts as the old type writes them, what is known of
+-- them, and how long they are.
+use Rattle.std.specs.Prelude.{◌≡◌, ℕ, ◌^◌, ◌<◌, ◌≤◌, List, [], ◌∷◌, map, length, ⊤, Bool, true, false, Option, Some, None}
+use Rattle.std.specs.List.{AllByRecursion}
+use Rattle.std.specs.declared.cmp.Ordering.TheVariants.{Less}
+use Rattle.pg_schema.specs.declared.field.TypeId.{TypeId}
+use Rattle.pg_schema.specs.declared.field.Scalar.{Scalar}
+use Rattle.pg_schema.specs.declared.field.Element.{Element}
+use Rattle.pg_schema.specs.declared.field.Element.TheVariants as elements
+use Rattle.pg_schema.specs.declared.field.Presence.{Presence}
+use Rattle.pg_schema.specs.declared.field.Presence.TheVariants as presences
+use Rattle.pg_schema.specs.Shape.{FieldShape, PresenceFits}
+use Rattle.pg_dyn.specs.Message.{Bytes, Message, key_cmp}
+use Rattle.pg_dyn.specs.Coding.{form, InRange}
+use Rattle.pg_dyn.specs.Writing.{key_of, field_records, bytes_of}
+use Rattle.pg_dyn.specs.Decoding.{Reader}
+use Rattle.pg_dyn.specs.Belonging.{KeyFits, MayBeZero}
+use Rattle.pg_dyn.specs.Comparison.{Alike, Kept}
+use Rattle.pg_pairs.specs.declared.choice.Choice.{Choice}
+use Rattle.pg_pairs.specs.Sight.{Sight, IsSight}
+use Rattle.pg_pairs.specs.Likeness.{like}
+use Rattle.pg_pairs.specs.Choices.{Table, number_for, field_choices}
+use Rattle.pg_pairs.specs.Fields.{Cell, writes, is_field_kept}
+use Rattle.pg_pairs.specs.Settling.{IsAmong}
+
+-- the bytes of the content's records
+abbrev pub total : FieldShape → List Cell → ℕ
+total f cs = length (bytes_of (field_records f (map writes cs)))
+
+-- a child's bytes and the test of what it is read as; or a leaf in range, sought as it is written
+abbrev pub HoldsItem : Element → Cell → Type 0
+HoldsItem (elements.Message t) c = (bytes : List ℕ) × (test : Message → Bool) × (c.written ≡ Bytes bytes) × (c.sought ≡ Kept test)
+HoldsItem (elements.Scalar s) c = InRange (form (elements.Scalar s)) c.written × (c.sought ≡ Alike c.written)
+HoldsItem (elements.Enum s) c = InRange (form (elements.Enum s)) c.written × (c.sought ≡ Alike c.written)
+
+-- a part of that field's content
+pub record Holds (f : FieldShape) (c : Cell) : Type 0 where
+  pub number_is : c.number ≡ f.number
+  pub key_fits : KeyFits f.presence c.key
+  pub may_be_zero : MayBeZero f.presence c.written
+  pub item : HoldsItem f.element c
+
+abbrev pub IsAtMostOne : List Cell → Type 0
+IsAtMostOne [] = ⊤
+IsAtMostOne (c ∷ []) = ⊤
+IsAtMostOne (c ∷ d ∷ cs) = ⊥
+
+-- entries by rising key
+abbrev pub RisingKeys : Scalar → List Cell → Type 0
+RisingKeys k [] = ⊤
+RisingKeys k (c ∷ cs) = AllByRecursion (λ d. key_cmp (key_of k (writes c)) (key_of k (writes d)) ≡ Less) cs × RisingKeys k cs
+
+-- a singular field has one part at most, a map's keys rise
+abbrev pub IsInOrder : Presence → List Cell → Type 0
+IsInOrder presences.Implicit cs = IsAtMostOne cs
+IsInOrder presences.Explicit cs = IsAtMostOne cs
+IsInOrder (presences.Repeated packed) cs = ⊤
+IsInOrder (presences.Map k) cs = RisingKeys k cs
+
+-- whether messages in both fields are children of the pair
+abbrev pub has_children : Presence → Presence → Bool
+has_children (presences.Map k) (presences.Map l) = like (elements.Scalar k) (elements.Scalar l)
+has_children (presences.Map k) presences.Implicit = false
+has_children (presences.Map k) presences.Explicit = false
+has_children (presences.Map k) (presences.Repeated w) = false
+has_children presences.Implicit (presences.Map l) = false
+has_children presences.Implicit presences.Implicit = true
+has_children presences.Implicit presences.Explicit = true
+has_children presences.Implicit (presences.Repeated w) = true
+has_children presences.Explicit (presences.Map l) = false
+has_children presences.Explicit presences.Implicit = true
+has_children presences.Explicit presences.Explicit = true
+has_children presences.Explicit (presences.Repeated w) = true
+has_children (presences.Repeated p) (presences.Map l) = false
+has_children (presences.Repeated p) presences.Implicit = true
+has_children (presences.Repeated p) presences.Explicit = true
+has_children (presences.Repeated p) (presences.Repeated w) = true
+
+abbrev pub passes : (Message → Bool) → Option Message → Bool
+passes test (Some m) = test m
+passes test None = false
+
+-- the new type's reader keeps the child
+abbrev pub is_child_kept : Reader → TypeId → (Message → Bool) → List ℕ → Bool
+is_child_kept child t test bytes = passes test (child t bytes)
+
+-- a child that isn't kept has at least as many bytes as the bound of its pair
+abbrev pub ChildBound : Table → Reader → Element → Element → Cell → Type 0
+ChildBound table child (elements.Message s) (elements.Message t) c =
+    (bytes : List ℕ) (test : Message → Bool) → c.written ≡ Bytes bytes → c.sought ≡ Kept test → is_child_kept child t test bytes ≡ false →
+    (x : ℕ) × (number_for table (record { old = s; new = t }) ≡ Some x) × (x ≤ length bytes)
+ChildBound table child (elements.Message s) (elements.Scalar t) c = ⊤
+ChildBound table child (elements.Message s) (elements.Enum t) c = ⊤
+ChildBound table child (elements.Scalar s) d c = ⊤
+ChildBound table child (elements.Enum s) d c = ⊤
+
+-- what is known of the content of an old field beside the new one of its number: both fields keep to the rules of presence,
+-- the parts are of the old field and in order, and children that break are no shorter than the table says
+pub record IsContent (table : Table) (child : Reader) (f g : FieldShape) (cs : List Cell) : Type 0 where
+  pub numbers : g.number ≡ f.number
+  pub fits_old : PresenceFits f.presence f.element f.oneof
+  pub fits_new : PresenceFits g.presence g.element g.oneof
+  pub holds : AllByRecursion (Holds f) cs
+  pub in_order : IsInOrder f.presence cs
+  pub bounds : has_children f.presence g.presence ≡ true → AllByRecursion (ChildBound table child f.element g.element) cs
+  pub short : total f cs < 2 ^ 64
+
+-- A content that breaks alone has at least the bytes of one of its field's choices.
+abbrev pub ContentsCost : Type 0
+ContentsCost =
+    (sight : Sight) → IsSight sight → (table : Table) (child : Reader) (f g : FieldShape) (cs : List Cell) → IsContent table child f g cs →
+    is_field_kept sight.alike child f g cs ≡ false → (c : Choice) × IsAmong c (field_choices sight table f g) × (c.cost ≤ total f cs)
