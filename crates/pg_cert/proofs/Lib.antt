@@ -1,0 +1,5 @@
+pub mod Tables
+pub mod Coverings
+pub mod Verdicts
+pub mod Sights
+pub mod Checks
