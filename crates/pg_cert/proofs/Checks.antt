@@ -19,18 +19,22 @@ drop_past [] (suc i) h = refl
 drop_past (y ∷ xs) zero h = absurd (cc)
 drop_past (y ∷ xs) (suc i) h = drop_past xs i h
 
+pub next_from : {X : Type 0} (xs : List X) (i : ℕ) (x : X) → slice_get xs i ≡ Some x → drop i xs ≡ x ∷ drop (i + 1) xs
+next_from xs i x h = drop_here xs i x h ∙ ap (λ n. x ∷ drop n xs) (sym (add-one i))
+
+pub next_past : {X : Type 0} (xs : List X) (i : ℕ) → slice_get xs i ≡ None → drop i xs ≡ drop (i + 1) xs
+next_past xs i h = drop_past xs i h ∙ ap (λ n. drop n xs) (sym (add-one i))
+
 module _ (sight : Sight) (old new : Shape) (table : Table) (bounds : List PairBound) (at : ℕ) where
   -- the fault of the pair at the place, where it has one, is the first of those that are left
   pub fault_here : (b : PairBound) (e : CertError) → slice_get bounds at ≡ Some b → pair_fault sight old new table b ≡ Some e → first_pair_fault sight old new table (drop at bounds) ≡ Some e
-  fault_here b e found fault = ap (first_pair_fault sight old new table) (drop_here bounds at b found) ∙ ap (λ o. option_or o (first_pair_fault sight old new table (drop (suc at) bounds))) fault
+  fault_here b e found fault = ap (first_pair_fault sight old new table) (next_from bounds at b found) ∙ ap (λ o. option_or o (first_pair_fault sight old new table (drop (at + 1) bounds))) fault
 
   pub no_fault_here : (b : PairBound) → slice_get bounds at ≡ Some b → pair_fault sight old new table b ≡ None → first_pair_fault sight old new table (drop at bounds) ≡ first_pair_fault sight old new table (drop (at + 1) bounds)
-  no_fault_here b found fault =
-      ap (first_pair_fault sight old new table) (drop_here bounds at b found) ∙ ap (λ o. option_or o (first_pair_fault sight old new table (drop (suc at) bounds))) fault
-      ∙ ap (λ n. first_pair_fault sight old new table (drop n bounds)) (sym (add-one at))
+  no_fault_here b found fault = ap (first_pair_fault sight old new table) (next_from bounds at b found) ∙ ap (λ o. option_or o (first_pair_fault sight old new table (drop (at + 1) bounds))) fault
 
   pub no_pair_here : slice_get bounds at ≡ None → first_pair_fault sight old new table (drop at bounds) ≡ first_pair_fault sight old new table (drop (at + 1) bounds)
-  no_pair_here found = ap (first_pair_fault sight old new table) (drop_past bounds at found ∙ ap (λ n. drop n bounds) (sym (add-one at)))
+  no_pair_here found = ap (first_pair_fault sight old new table) (next_past bounds at found)
 
 pub none_is : {A : Type 0} (o : Option A) → ((x : A) → o ≡ Some x → ⊥) → o ≡ None
 none_is None h = refl

@@ -3,3 +3,4 @@ pub mod Coverings
 pub mod Verdicts
 pub mod Sights
 pub mod Checks
+pub mod Spelling

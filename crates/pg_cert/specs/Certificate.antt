@@ -1,5 +1,6 @@
 -- Certificates: what they claim, and when a claim holds (this profile's choice: what a reader of a certificate has to trust).
-use Rattle.std.specs.Prelude.{◌≡◌, ℕ, ⊤, Bool, true, false, List, [], ◌∷◌, length, Option, Some, None}
+use Rattle.std.specs.Prelude.{◌≡◌, ℕ, ◌<◌, ◌^◌, ⊤, Bool, true, false, List, [], ◌∷◌, length, Option, Some, None}
+use Rattle.std.specs.List.{AllByRecursion}
 use Rattle.pg_schema.specs.Shape.{Shape}
 use Rattle.pg_dyn.specs.Message.{Message}
 use Rattle.pg_dyn.specs.Encoding.{enc}
@@ -23,6 +24,10 @@ abbrev pub is_witness : Option (List ℕ) → Bool
 is_witness (Some []) = false
 is_witness (Some (byte ∷ bytes)) = true
 is_witness None = true
+
+abbrev pub AreBytes : Option (List ℕ) → Type 0
+AreBytes (Some bytes) = AllByRecursion (λ byte. byte < 2 ^ 8) bytes
+AreBytes None = ⊤
 
 -- The bytes are those that the old writer writes of a message without unknown records; this message breaks, and the root's bound is
 -- its length.

@@ -4,3 +4,4 @@ pub mod Certificate
 pub mod Faults
 pub mod Laws
 pub mod Worked
+pub mod Text

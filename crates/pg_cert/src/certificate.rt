@@ -1,9 +1,9 @@
 //! Certificates.
 
-ghost use Rattle.std.specs.Prelude.{◌≡◌, true, false, option_map, IfErr, IfOk};
+ghost use Rattle.std.specs.Prelude.{◌≡◌, Some, true, false, option_map, IfErr, IfOk};
 ghost use Rattle.std.specs.Option.{option_copied};
 ghost use Rattle.pg_cert.specs.Bounds.{are_bounds};
-ghost use Rattle.pg_cert.specs.Certificate.{is_witness};
+ghost use Rattle.pg_cert.specs.Certificate.{AreBytes, is_witness};
 
 use crate::bounds::Bounds;
 use pg_pairs::Pair;
@@ -28,6 +28,14 @@ impl Model for Certificate {
     ghost view = { λ c. record { root = c.root; bounds = c.bounds; witness = option_map (λ bytes. bytes.items) c.witness } };
 
     ghost invariant = { λ c. (are_bounds c.bounds ≡ true) × (is_witness (option_map (λ bytes. bytes.items) c.witness) ≡ true) };
+}
+
+// What holds of every slice of bytes.
+fn lend(bytes: &[u8]) -> &[u8]
+    ensures value { result.now ≡ bytes.now }
+    ensures bytes { AreBytes (Some result.now) }
+{
+    bytes
 }
 
 impl Certificate {
@@ -74,10 +82,11 @@ impl Certificate {
 
     /// The bytes of a breaking message; `None` where there is none in it.
     pub fn witness(&self) -> Option<&[u8]>
-        ensures { option_copied result ≡ self.now.witness }
+        ensures witness { option_copied result ≡ self.now.witness }
+        ensures bytes { AreBytes self.now.witness }
     {
         match &self.witness {
-            Some(bytes) => Some(bytes.as_slice()),
+            Some(bytes) => Some(lend(bytes)),
             None => None,
         }
     }

@@ -7,6 +7,7 @@ mod checking;
 mod error;
 mod laws;
 mod verdict;
+mod writing;
 
 pub use bounds::{Bounds, BoundsError, PairBound};
 pub use certificate::Certificate;
@@ -14,3 +15,4 @@ pub use checking::check;
 pub use error::CertError;
 pub use laws::{covers_without_fault, verdicts_are_true, worked_certificates};
 pub use verdict::Verdict;
+pub use writing::to_text;
