@@ -1,0 +1,55 @@
+-- What a certificate that holds shows is true.
+use Rattle.std.proofs.Common.{◌≡◌, ℕ, List, length, Option, Some, None, is_some, refl, ap, sym, ◌∙◌, subst, true≢false}
+use Rattle.pg_schema.specs.Shape.{Shape, IsShape}
+use Rattle.pg_pairs.specs.declared.choice.Pair.{Pair}
+use Rattle.pg_pairs.specs.Sight.{Sight, IsSight}
+use Rattle.pg_pairs.specs.Covering.{Covers}
+use Rattle.pg_pairs.specs.Laws.{CoveringBounds, NoneIsCompatible}
+use Rattle.pg_cert.specs.declared.bounds.PairBound.{PairBound}
+use Rattle.pg_cert.specs.declared.verdict.Verdict.{Verdict}
+use Rattle.pg_cert.specs.Bounds.{bound_in}
+use Rattle.pg_cert.specs.Certificate.{Claim, Holds, IsWitnessedIfThere, bound_verdict, verdict_of}
+use Rattle.pg_cert.specs.Laws.{Says, VerdictsAreTrue}
+
+module _ (covering : CoveringBounds) (compatible : NoneIsCompatible) (sight : Sight) (old new : Shape) (root : Pair) (bounds : List PairBound) (is_sight : IsSight sight) (is_old : IsShape old) (is_new : IsShape new) where
+  of_bound : (bound : Option (Option ℕ)) → bound_in bounds root ≡ bound → Covers sight old new (bound_in bounds) root → Says sight old new (record { root = root; bounds = bounds; witness = None }) (bound_verdict bound)
+  of_bound (Some (Some n)) found covers = λ v breaks. covering sight old new (bound_in bounds) root is_sight is_old is_new covers root (Some n) found v breaks
+  of_bound (Some None) found covers = compatible sight old new (bound_in bounds) root is_sight is_old is_new covers root found
+  of_bound None found covers = absurd (true≢false (sym covers.root_there ∙ ap is_some found))
+
+  of_witness : (witness : Option (List ℕ)) → Holds sight old new (record { root = root; bounds = bounds; witness = witness }) → Says sight old new (record { root = root; bounds = bounds; witness = witness }) (verdict_of (record { root = root; bounds = bounds; witness = witness }))
+  of_witness None holds = of_bound (bound_in bounds root) refl holds.covers
+  of_witness (Some bytes) holds =
+      let is = holds.witnessed in (
+        bytes,
+        refl,
+        record {
+          message = is.message;
+          breaks = is.breaks;
+          written = is.written;
+          least = record {
+            message = is.message;
+            breaks = is.breaks;
+            length_is = ap length is.written;
+            least = λ v breaks. covering sight old new (bound_in bounds) root is_sight is_old is_new holds.covers root (Some (length bytes)) is.length_is v breaks;
+          };
+        },
+      )
+
+pub verdicts_are_true : CoveringBounds → NoneIsCompatible → VerdictsAreTrue
+verdicts_are_true covering compatible sight old new claim is_sight is_old is_new holds = of_witness covering compatible sight old new claim.root claim.bounds is_sight is_old is_new claim.witness holds
+
+-- The verdict of a claim without a witness whose table has no fault.
+pub says : VerdictsAreTrue → (sight : Sight) (old new : Shape) (claim : Claim) → IsSight sight → IsShape old → IsShape new → Covers sight old new (bound_in claim.bounds) claim.root → claim.witness ≡ None →
+    (verdict : Verdict) → verdict ≡ bound_verdict (bound_in claim.bounds claim.root) → Says sight old new claim verdict
+says true_ sight old new claim is_sight is_old is_new covers no_witness verdict is =
+    subst (Says sight old new claim) (sym (is ∙ without claim.witness no_witness))
+    (true_ sight old new claim is_sight is_old is_new (record { covers = covers; witnessed = none_there claim.witness no_witness }))
+  where
+    none_there : (witness : Option (List ℕ)) → witness ≡ None → IsWitnessedIfThere sight old new claim.root (bound_in claim.bounds claim.root) witness
+    none_there None h = tt
+    none_there (Some bytes) h = absurd (cc)
+
+    without : (witness : Option (List ℕ)) → witness ≡ None → bound_verdict (bound_in claim.bounds claim.root) ≡ verdict_of (record { root = claim.root; bounds = claim.bounds; witness = witness })
+    without None h = refl
+    without (Some bytes) h = absurd (cc)

@@ -1,0 +1,59 @@
+use Rattle.std.proofs.Common.{◌≡◌, List, [], ◌∷◌, true, Some, None, refl, negsuc, pos}
+use Rattle.pg_schema.specs.declared.field.Scalar.TheVariants.{Int32, Uint32}
+use Rattle.pg_schema.specs.Shape.{Shape}
+use Rattle.pg_wire.specs.Records.{tag}
+use Rattle.pg_wire.specs.Varint.{varint}
+use Rattle.pg_dyn.specs.Coding.{word_bytes}
+use Rattle.pg_dyn.specs.Message.{Int, ends, nests}
+use Rattle.pg_dyn.specs.Examples.{linked, one}
+use Rattle.pg_pairs.specs.declared.choice.Pair.{Pair}
+use Rattle.pg_pairs.specs.Sight.{by_numbers}
+use Rattle.pg_pairs.specs.Covering.{Covers}
+use Rattle.pg_cert.specs.declared.bounds.PairBound.{PairBound}
+use Rattle.pg_cert.specs.Bounds.{are_bounds, bound_in}
+use Rattle.pg_cert.specs.Faults.{first_fault}
+use Rattle.pg_cert.specs.Worked.{signed, unsigned, tree, unchanged, to_unsigned, outer, inner}
+use Rattle.pg_cert.proofs.Coverings.{covers_without_fault}
+use Rattle.pg_cert.proofs.laws.worked_certificates.Goals as goal
+
+covers : (old new : Shape) (bounds : List PairBound) (root : Pair) → are_bounds bounds ≡ true → first_fault by_numbers old new bounds root ≡ None → Covers by_numbers old new (bound_in bounds) root
+covers old new bounds root distinct faultless = (covers_without_fault by_numbers old new bounds root distinct).0 faultless
+
+pub returns : goal.returns
+unfolding tag varint word_bytes
+returns c =
+    let found = c.worked_examples.ensures in
+    record {
+      unchanged_field = (record { covers = covers signed signed unchanged.bounds unchanged.root refl refl; witnessed = tt }, refl, refl);
+      compatible_verdict = refl;
+      int32_to_uint32 = (
+        record {
+          covers = covers signed unsigned (to_unsigned (Some 11)).bounds (to_unsigned (Some 11)).root refl refl;
+          witnessed = record { message = one (Int (negsuc 0)); breaks = found.int32_to_uint32.breaks; written = found.int32_to_uint32.written_as; length_is = refl };
+        },
+        refl,
+        refl,
+      );
+      breaks_verdict = refl;
+      child_breaks = (
+        record {
+          covers = covers (linked Uint32) (linked Int32) (outer ∷ inner ∷ []) outer.pair refl refl;
+          witnessed = record { message = nests 2 None (one (Int (pos 2147483648))) (ends []); breaks = found.child_breaks.breaks; written = found.child_breaks.written_as; length_is = refl };
+        },
+        refl,
+        refl,
+      );
+      bound_alone = (record { covers = covers (linked Uint32) (linked Int32) (outer ∷ inner ∷ []) outer.pair refl refl; witnessed = tt }, refl, refl);
+      at_least_verdict = refl;
+      tree_unchanged = (record { covers = covers tree tree unchanged.bounds unchanged.root refl refl; witnessed = tt }, refl, refl);
+      no_table = refl;
+      child_missing = refl;
+      bound_too_high = refl;
+      none_too_high = refl;
+      child_too_high = refl;
+      first_of_two = refl;
+      pair_twice = refl;
+      zero_is_no_bound = refl;
+      bound_above_the_most = refl;
+      greatest_bound = refl;
+    }

@@ -1,0 +1,44 @@
+-- Where a table fails to cover its root: the first fault, in the order of this profile. The root first; then pair by pair in the
+-- table's order, of each pair its first missing child, then its first choice that costs less than the bound.
+use Rattle.std.specs.Prelude.{ℕ, nat_le, List, [], ◌∷◌, find, Bool, false, not, Option, Some, None, option_map, is_some, if◌then◌else◌}
+use Rattle.std.specs.Option.{option_or}
+use Rattle.pg_schema.specs.Shape.{Shape}
+use Rattle.pg_pairs.specs.declared.choice.Choice.{Choice}
+use Rattle.pg_pairs.specs.declared.choice.Pair.{Pair}
+use Rattle.pg_pairs.specs.Sight.{Sight}
+use Rattle.pg_pairs.specs.Choices.{Table, choices}
+use Rattle.pg_pairs.specs.Covering.{children}
+use Rattle.pg_cert.specs.declared.bounds.PairBound.{PairBound}
+use Rattle.pg_cert.specs.declared.error.CertError.{CertError}
+use Rattle.pg_cert.specs.declared.error.CertError.TheVariants.{RootMissing, PairMissing, BoundTooHigh}
+use Rattle.pg_cert.specs.Bounds.{bound_in}
+
+-- a bound is at most the cost; 'none' is above every cost
+abbrev pub is_within : Option ℕ → ℕ → Bool
+is_within (Some bound) cost = nat_le bound cost
+is_within None cost = false
+
+-- the first child of the pair that the table lacks
+abbrev pub missing_child : Shape → Shape → Table → Pair → Option Pair
+missing_child old new table pair = find (λ child. not (is_some (table child))) (children old new pair)
+
+-- the first choice of the pair that costs less than the bound
+abbrev pub cheaper_choice : Sight → Shape → Shape → Table → PairBound → Option Choice
+cheaper_choice sight old new table b = find (λ (c : Choice). not (is_within b.bound c.cost)) (choices sight table old new b.pair)
+
+abbrev pub too_high : Pair → Choice → CertError
+too_high pair c = BoundTooHigh pair c.number c.case
+
+abbrev pub pair_fault : Sight → Shape → Shape → Table → PairBound → Option CertError
+pair_fault sight old new table b =
+    option_or (option_map (λ child. PairMissing child) (missing_child old new table b.pair)) (option_map (too_high b.pair) (cheaper_choice sight old new table b))
+
+abbrev pub first_pair_fault : Sight → Shape → Shape → Table → List PairBound → Option CertError
+first_pair_fault sight old new table [] = None
+first_pair_fault sight old new table (b ∷ bounds) = option_or (pair_fault sight old new table b) (first_pair_fault sight old new table bounds)
+
+abbrev pub root_fault : Table → Pair → Option CertError
+root_fault table root = if is_some (table root) then None else Some RootMissing
+
+abbrev pub first_fault : Sight → Shape → Shape → List PairBound → Pair → Option CertError
+first_fault sight old new bounds root = option_or (root_fault (bound_in bounds) root) (first_pair_fault sight old new (bound_in bounds) bounds)

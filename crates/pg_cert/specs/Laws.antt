@@ -1,0 +1,39 @@
+-- Laws of tables, faults and claims.
+use Rattle.std.specs.Prelude.{◌≡◌, ◌↔◌, ℕ, ◌≤◌, true, List, length, Some, None}
+use Rattle.pg_schema.specs.Shape.{Shape, IsShape}
+use Rattle.pg_dyn.specs.Message.{Message}
+use Rattle.pg_dyn.specs.Encoding.{enc}
+use Rattle.pg_dyn.specs.Breaking.{Breaks, Compatible, Least}
+use Rattle.pg_pairs.specs.declared.choice.Pair.{Pair}
+use Rattle.pg_pairs.specs.Sight.{Sight, IsSight}
+use Rattle.pg_pairs.specs.Covering.{Covers}
+use Rattle.pg_cert.specs.declared.bounds.PairBound.{PairBound}
+use Rattle.pg_cert.specs.declared.verdict.Verdict.{Verdict}
+use Rattle.pg_cert.specs.declared.verdict.Verdict.TheVariants as verdicts
+use Rattle.pg_cert.specs.Bounds.{are_bounds, bound_in}
+use Rattle.pg_cert.specs.Certificate.{Claim, Holds, verdict_of}
+use Rattle.pg_cert.specs.Faults.{first_fault}
+
+-- A table of distinct pairs covers its root where it has no fault, and nowhere else.
+abbrev pub CoversWithoutFault : Type 0
+CoversWithoutFault =
+    (sight : Sight) (old new : Shape) (bounds : List PairBound) (root : Pair) → are_bounds bounds ≡ true →
+    (first_fault sight old new bounds root ≡ None) ↔ Covers sight old new (bound_in bounds) root
+
+-- the bytes are those of a message that breaks, and no message that breaks has fewer
+pub record IsLeastWitness (sight : Sight) (old new : Shape) (root : Pair) (bytes : List ℕ) : Type 0 where
+  pub message : Message
+  pub breaks : Breaks sight.alike old new root.old root.new message
+  pub written : enc old root.old message ≡ bytes
+  pub least : Least sight.alike old new root.old root.new (length bytes)
+
+-- what a verdict says of the messages of the root's old type
+abbrev pub Says : Sight → Shape → Shape → Claim → Verdict → Type 0
+Says sight old new claim verdicts.Compatible = Compatible sight.alike old new claim.root.old claim.root.new
+Says sight old new claim (verdicts.AtLeast n) = (v : Message) → Breaks sight.alike old new claim.root.old claim.root.new v → n ≤ length (enc old claim.root.old v)
+Says sight old new claim verdicts.Breaks = (bytes : List ℕ) × (claim.witness ≡ Some bytes) × IsLeastWitness sight old new claim.root bytes
+
+-- The verdict of a claim that holds is true.
+abbrev pub VerdictsAreTrue : Type 0
+VerdictsAreTrue =
+    (sight : Sight) (old new : Shape) (claim : Claim) → IsSight sight → IsShape old → IsShape new → Holds sight old new claim → Says sight old new claim (verdict_of claim)

@@ -1,0 +1,179 @@
+//! The checker.
+
+ghost use Rattle.std.specs.Prelude.{◌≡◌, ◌⊎◌, None, Some, MatchResult, IfErr, IfOk, OnOk};
+ghost use Rattle.pg_schema.specs.Parts.{shape_of};
+ghost use Rattle.pg_pairs.specs.Choices.{choices};
+ghost use Rattle.pg_pairs.specs.Sight.{by_numbers};
+ghost use Rattle.pg_cert.specs.declared.error.CertError.TheVariants as errors;
+ghost use Rattle.pg_cert.specs.Bounds.{bound_in};
+ghost use Rattle.pg_cert.specs.Certificate.{Holds, bound_verdict, verdict_of};
+ghost use Rattle.pg_cert.specs.Faults.{cheaper_choice, first_fault, first_pair_fault, is_within, missing_child, pair_fault};
+ghost use Rattle.pg_cert.specs.Laws.{Says};
+
+use crate::bounds::{Bounds, PairBound};
+use crate::certificate::Certificate;
+use crate::error::CertError;
+use crate::laws::{covers_without_fault, verdicts_are_true};
+use crate::verdict::Verdict;
+use pg_pairs::{Choice, Numbers, Pair, Table, children, numbers_sight, options};
+use pg_schema::Schema;
+use std::alloc::{AllocError, Global};
+
+// The first child of the pair that the table lacks.
+fn missing_child(
+    alloc: Global,
+    old: &Schema,
+    new: &Schema,
+    bounds: &Bounds,
+    pair: Pair,
+) -> Result<Option<Pair>, AllocError>
+    ensures { IfOk result (λ found. found ≡ missing_child (shape_of old.now) (shape_of new.now) (bound_in bounds.now) pair) }
+{
+    let children = children(alloc, old, new, pair)?;
+    Ok(
+        children
+            .iter()
+            .copied()
+            .find(|child| bounds.bound(*child).is_none()),
+    )
+}
+
+// Whether a bound is at most the cost; 'none' is above every cost.
+fn is_within(bound: Option<u32>, cost: u32) -> bool
+    ensures { result ≡ is_within bound cost }
+{
+    match bound {
+        Some(bytes) => bytes <= cost,
+        None => false,
+    }
+}
+
+// The choices of the pair, by its numbers.
+fn choices(
+    alloc: Global,
+    old: &Schema,
+    new: &Schema,
+    bounds: &Bounds,
+    pair: Pair,
+) -> Result<Vec<Choice>, AllocError>
+    ensures { IfOk result (λ found. found.items ≡ choices by_numbers (bound_in bounds.now) (shape_of old.now) (shape_of new.now) pair) }
+{
+    options(alloc, &Numbers, old, new, pair, bounds)
+}
+
+// The first choice of the pair that costs less than its bound.
+fn cheaper_choice(
+    alloc: Global,
+    old: &Schema,
+    new: &Schema,
+    bounds: &Bounds,
+    line: PairBound,
+) -> Result<Option<Choice>, AllocError>
+    ensures { IfOk result (λ found. found ≡ cheaper_choice by_numbers (shape_of old.now) (shape_of new.now) (bound_in bounds.now) line) }
+{
+    let choices = choices(alloc, old, new, bounds, line.pair)?;
+    Ok(
+        choices
+            .iter()
+            .copied()
+            .find(|choice| !is_within(line.bound, choice.cost)),
+    )
+}
+
+// Whether the pair is as a table that covers has it; the fault that it has else.
+fn check_pair(
+    alloc: Global,
+    old: &Schema,
+    new: &Schema,
+    bounds: &Bounds,
+    line: PairBound,
+) -> Result<(), CertError>
+    ensures { MatchResult result
+        (λ _. pair_fault by_numbers (shape_of old.now) (shape_of new.now) (bound_in bounds.now) line ≡ None)
+        (λ e. (e ≡ errors.Memory) ⊎ (pair_fault by_numbers (shape_of old.now) (shape_of new.now) (bound_in bounds.now) line ≡ Some e)) }
+{
+    if let Some(pair) = missing_child(alloc, old, new, bounds, line.pair)? {
+        return Err(CertError::PairMissing { pair });
+    }
+    match cheaper_choice(alloc, old, new, bounds, line)? {
+        Some(choice) => Err(CertError::BoundTooHigh {
+            pair: line.pair,
+            number: choice.number,
+            case: choice.case,
+        }),
+        None => Ok(()),
+    }
+}
+
+// Whether each pair is as a table that covers has it; the first fault else.
+fn check_pairs(alloc: Global, old: &Schema, new: &Schema, bounds: &Bounds) -> Result<(), CertError>
+    ensures { MatchResult result
+        (λ _. first_pair_fault by_numbers (shape_of old.now) (shape_of new.now) (bound_in bounds.now) bounds.now ≡ None)
+        (λ e. (e ≡ errors.Memory) ⊎ (first_pair_fault by_numbers (shape_of old.now) (shape_of new.now) (bound_in bounds.now) bounds.now ≡ Some e)) }
+{
+    for at in 0..bounds.len() {
+        if let Some(line) = bounds.get(at) {
+            check_pair(alloc, old, new, bounds, line)?;
+        }
+    }
+    Ok(())
+}
+
+// Whether the table covers the root; its first fault else.
+fn check_table(
+    alloc: Global,
+    old: &Schema,
+    new: &Schema,
+    bounds: &Bounds,
+    root: Pair,
+) -> Result<(), CertError>
+    ensures { MatchResult result
+        (λ _. first_fault by_numbers (shape_of old.now) (shape_of new.now) bounds.now root ≡ None)
+        (λ e. (e ≡ errors.Memory) ⊎ (first_fault by_numbers (shape_of old.now) (shape_of new.now) bounds.now root ≡ Some e)) }
+{
+    if bounds.bound(root).is_none() {
+        return Err(CertError::RootMissing);
+    }
+    check_pairs(alloc, old, new, bounds)
+}
+
+// What the root's bound shows.
+fn bound_verdict(bound: Option<Option<u32>>) -> Verdict
+    ensures { result ≡ bound_verdict bound }
+{
+    match bound {
+        Some(Some(bytes)) => Verdict::AtLeast(bytes),
+        _ => Verdict::Compatible,
+    }
+}
+
+/// Whether what the certificate claims holds: its table covers its root. Of a certificate without a
+/// witness it answers `Compatible` where the root's bound is 'none', and else `AtLeast` that number.
+///
+/// The errors are, in this order, `RootMissing`; then pair by pair in the table's order `PairMissing`
+/// with the first child that the table lacks, and `BoundTooHigh` with the pair's first choice, by
+/// number, case and part, that costs less than the bound; and `Memory` where memory was refused.
+pub fn check(
+    alloc: Global,
+    old: &Schema,
+    new: &Schema,
+    certificate: &Certificate,
+) -> Result<Verdict, CertError>
+    requires { certificate.now.witness ≡ None }
+    ensures holds { OnOk result (Holds by_numbers (shape_of old.now) (shape_of new.now) certificate.now) }
+    ensures verdict { IfOk result (λ verdict. verdict ≡ verdict_of certificate.now) }
+    ensures says { IfOk result (λ verdict. Says by_numbers (shape_of old.now) (shape_of new.now) certificate.now verdict) }
+    ensures first_fault { IfErr result (λ e. (e ≡ errors.Memory) ⊎ (first_fault by_numbers (shape_of old.now) (shape_of new.now) certificate.now.bounds certificate.now.root ≡ Some e)) }
+    ensures refused { IfErr result (λ e. (e ≡ errors.Memory) ⊎ ¬ (Holds by_numbers (shape_of old.now) (shape_of new.now) certificate.now)) }
+{
+    // What holds of every schema and every view, and what a table without fault shows.
+    old.parts();
+    new.parts();
+    numbers_sight();
+    covers_without_fault();
+    verdicts_are_true();
+    let root = certificate.root();
+    let bounds = certificate.bounds();
+    check_table(alloc, old, new, bounds, root)?;
+    Ok(bound_verdict(bounds.bound(root)))
+}

@@ -1,0 +1,27 @@
+//! Laws about the definitions. Each is the contract of a function that does nothing.
+
+ghost use Rattle.pg_cert.specs.Laws.{CoversWithoutFault, VerdictsAreTrue};
+ghost use Rattle.pg_cert.specs.Worked.{WorkedCertificates};
+
+use pg_dyn::worked_examples;
+use pg_pairs::{covering_bounds, none_is_compatible};
+
+/// Small certificates that hold, and faults of others.
+pub fn worked_certificates()
+    ensures { WorkedCertificates }
+{
+    worked_examples();
+}
+
+/// A table covers its root exactly where it has no fault.
+pub fn covers_without_fault()
+    ensures { CoversWithoutFault }
+{}
+
+/// What a certificate that holds shows is true of all messages.
+pub fn verdicts_are_true()
+    ensures { VerdictsAreTrue }
+{
+    covering_bounds();
+    none_is_compatible();
+}

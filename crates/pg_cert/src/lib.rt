@@ -1,0 +1,18 @@
+//! Certificates: tables of bounds that say why a message breaks or none does, and their checker.
+#![tactic(auto)]
+
+mod bounds;
+mod certificate;
+mod checking;
+mod error;
+mod laws;
+mod verdict;
+mod writing;
+
+pub use bounds::{Bounds, BoundsError, PairBound};
+pub use certificate::Certificate;
+pub use checking::check;
+pub use error::CertError;
+pub use laws::{covers_without_fault, verdicts_are_true, worked_certificates};
+pub use verdict::Verdict;
+pub use writing::to_text;
