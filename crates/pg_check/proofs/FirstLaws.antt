@@ -1,8 +1,8 @@
 -- The first of a list that is the same as one before it, one item after the other.
-use Rattle.std.proofs.Common.{◌≡◌, ℕ, suc, ◌+◌, ◌<◌, Bool, true, false, not, List, [], ◌∷◌, ◌++◌, length, take, drop, get_or, Option, Some, None, add-one, sym, ◌∙◌, ap, refl}
+use Rattle.std.proofs.Common.{◌≡◌, ℕ, suc, ◌+◌, ◌<◌, Bool, true, false, not, List, [], ◌∷◌, ◌++◌, length, map, take, drop, get_or, Option, Some, None, add-one, sym, ◌∙◌, ap, refl}
 use Rattle.std.specs.List.{list_any}
 use Rattle.std.proofs.Math.Seq.{drop-cons, take-suc}
-use Rattle.pg_check.specs.Numbers.{first_again}
+use Rattle.pg_check.specs.Numbers.{first_again, first_such}
 
 pub item_and_rest : {A : Type 0} (xs : List A) (i : ℕ) (d : A) → i < length xs → drop i xs ≡ get_or xs i d ∷ drop (i + 1) xs
 item_and_rest xs i d h = rw (add-one, drop-cons xs i d h) refl
@@ -41,3 +41,13 @@ pub was_old : (b held among : Bool) → b ≡ not held → held ≡ among → b 
 was_old false true among h e t = sym e
 was_old false false among h e t = absurd (cc (h))
 was_old true held among h e t = absurd (cc (t))
+
+new_such : {X : Type 0} (test : X → Bool) (place : X → ℕ) (x : X) (xs : List X) → test x ≡ false → first_such test place (x ∷ xs) ≡ first_such test place xs
+new_such test place x xs h = rw h refl
+
+-- past an item that doesn't pass the test
+pub such_more : {A X : Type 0} (view : A → X) (test : X → Bool) (place : X → ℕ) (xs : List A) (i : ℕ) (d : A) (whole : Option ℕ) → i < length xs → test (view (get_or xs i d)) ≡ false
+    → first_such test place (map view (drop i xs)) ≡ whole → first_such test place (map view (drop (i + 1) xs)) ≡ whole
+such_more view test place xs i d whole h fails left =
+    sym (new_such test place (view (get_or xs i d)) (map view (drop (i + 1) xs)) fails)
+    ∙ (ap (λ ys. first_such test place (map view ys)) (sym (item_and_rest xs i d h)) ∙ left)

@@ -1,1 +1,4 @@
 pub mod FirstLaws
+pub mod Texts
+pub mod TextSets
+pub mod Titles

@@ -43,3 +43,19 @@ broken_at rule at = record { rule = rule; declared = at; at = at }
 
 abbrev pub broken : Rule → Option ℕ → Option Fault
 broken rule place = option_map (broken_at rule) place
+
+-- the rule is broken by a declaration, at an option of it
+abbrev pub option_fault : Rule → ℕ → ℕ → Fault
+option_fault rule declared at = record { rule = rule; declared = declared; at = at }
+
+abbrev pub told_at : Rule → ℕ → Option ℕ → Option Fault
+told_at rule declared place = option_map (option_fault rule declared) place
+
+abbrev pub or_else : Option Fault → Option Fault → Option Fault
+or_else None other = other
+or_else (Some f) other = Some f
+
+-- the fault of the first that has one
+abbrev pub first_fault : {X : Type 0} → (X → Option Fault) → List X → Option Fault
+first_fault fault [] = None
+first_fault fault (x ∷ xs) = or_else (fault x) (first_fault fault xs)

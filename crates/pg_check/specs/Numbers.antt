@@ -46,6 +46,12 @@ abbrev pub first_again : {X : Type 0} → (X → X → Bool) → (X → ℕ) →
 first_again same place before [] = None
 first_again same place before (x ∷ xs) = if list_any (same x) before then Some (place x) else first_again same place (before ++ x ∷ []) xs
 
+-- the lower of two places
+abbrev pub least : Option ℕ → Option ℕ → Option ℕ
+least None other = other
+least (Some a) None = Some a
+least (Some a) (Some b) = Some (if nat_lt b a then b else a)
+
 abbrev pub at : Keyed → ℕ
 at k = k.at
 

@@ -1,5 +1,9 @@
 //! The rules of the proto3 language, from linked files to a checked schema.
 #![tactic(auto)]
 
+mod enumeration;
 mod fault;
+mod names;
 mod numbers;
+mod options;
+mod reserved;

@@ -24,7 +24,13 @@ pub(crate) struct Numbers {
 }
 
 /// What number 0 is counted as.
-const ZERO: u128 = 0x1_0000_0000_0000_0000;
+pub(crate) const ZERO: u128 = 0x1_0000_0000_0000_0000;
+
+/// The lowest number of a value.
+pub(crate) const LOWEST_VALUE: u128 = ZERO - 2_147_483_648;
+
+/// The highest number of a value.
+pub(crate) const HIGHEST_VALUE: u128 = ZERO + 2_147_483_647;
 
 /// The number counted from -2^64.
 pub(crate) fn rank(is_negative: bool, size: u64) -> u128
@@ -45,10 +51,21 @@ pub(crate) fn rank_of(number: Number) -> u128
 }
 
 /// The number lies between the two, or is one of them.
-fn is_within(lowest: u128, highest: u128, number: u128) -> bool
+pub(crate) fn is_within(lowest: u128, highest: u128, number: u128) -> bool
     ensures { result ≡ spec.is_within lowest highest number }
 {
     lowest <= number && number <= highest
+}
+
+/// The lower of two places.
+pub(crate) fn least(one: Option<usize>, other: Option<usize>) -> Option<usize>
+    ensures { result ≡ spec.least one other }
+{
+    match (one, other) {
+        (None, other) => other,
+        (Some(one), None) => Some(one),
+        (Some(one), Some(other)) => Some(if other < one { other } else { one }),
+    }
 }
 
 /// The place of the first number that doesn't lie between these two.
