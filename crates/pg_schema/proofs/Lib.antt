@@ -1,11 +1,13 @@
 pub mod NameTables
 pub mod FieldSearch
 pub mod TypeSearch
+pub mod JsonNames
 pub mod PairLemmas
 pub mod WordLemmas
 pub mod UseLemmas
 pub mod MessageLemmas
 pub mod TextSetLemmas
 pub mod SoundShapes
+pub mod SoundNames
 pub mod NameWords
 pub mod PackageLemmas

@@ -1,5 +1,5 @@
 -- Rising numbers, and oneofs with a member each.
-use Rattle.std.proofs.Common.{◌≡◌, ℕ, zero, suc, ◌+◌, ◌<◌, ◌≤◌, Bool, true, false, ◌&&◌, ◌||◌, cond, nat_eq, nat_lt, List, [], ◌∷◌, ◌++◌, length, map, take, drop, get_or, add-one, arith, sym, ◌∙◌, ap, subst, refl}
+use Rattle.std.proofs.Common.{◌≡◌, ℕ, zero, suc, ◌+◌, ◌<◌, ◌≤◌, Bool, true, false, ◌&&◌, ◌||◌, cond, nat_eq, nat_lt, List, [], ◌∷◌, length, take, drop, get_or, add-one, arith, sym, ◌∙◌, ap, subst, refl}
 use Rattle.std.specs.List.{list_all, list_any}
 use Rattle.std.proofs.Math.Seq.{drop-cons}
 use Rattle.std.proofs.lemmas.List.{take_all}
@@ -9,7 +9,7 @@ use Rattle.pg_schema.specs.declared.field.Field.{Field}
 use Rattle.std.specs.BTreeSet.{BTreeSet, contains}
 use Rattle.std.specs.Ordering.{is_eq, nat_cmp}
 use Rattle.pg_schema.specs.MessageRules.{numbers, is_member, have_members, AreMarks, IsNumberSet}
-use Rattle.pg_schema.specs.Pairs.{all_pairs, is_rising}
+use Rattle.pg_schema.specs.Pairs.{is_rising}
 
 all_above : (b n : ℕ) (ns : List ℕ) → b < n → list_all (nat_lt n) ns ≡ true → list_all (nat_lt b) ns ≡ true
 all_above b n [] lt h = refl

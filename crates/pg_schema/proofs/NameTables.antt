@@ -26,7 +26,7 @@ pub named : (types : List MessageType) (i : ℕ) (t : MessageType) (key : List �
 named types i t key is name = ap (option_map (λ (s : MessageType). string_bytes s.name)) is ∙ ap (λ (n : List ℕ). Some n) (sym name)
 
 -- a place that has a name is within
-within_case : (o : Option MessageType) (n : ℕ) (name : List ℕ) (P : Type 0) → ((t : MessageType) → o ≡ Some t → P) → option_map (λ (s : MessageType). string_bytes s.name) o ≡ Some name → P
+pub within_case : (o : Option MessageType) (n : ℕ) (name : List ℕ) (P : Type 0) → ((t : MessageType) → o ≡ Some t → P) → option_map (λ (s : MessageType). string_bytes s.name) o ≡ Some name → P
 within_case None n name P f h = absurd (none-some name h)
 within_case (Some t) n name P f h = f t refl
 

@@ -1,12 +1,12 @@
 -- Names that are words have the letters and digits of words.
-use Rattle.std.proofs.Common.{◌≡◌, ℕ, Bool, true, false, ◌&&◌, ◌||◌, List, [], ◌∷◌, length, sym, ◌∙◌, ap, subst, refl}
+use Rattle.std.proofs.Common.{◌≡◌, ℕ, Bool, true, false, ◌||◌, List, [], ◌∷◌, length, refl}
 use Rattle.std.specs.List.{list_all}
 use Rattle.std.specs.String.{string_bytes}
 use Rattle.std.proofs.lemmas.Bool.{false≢true}
 use Rattle.pg_schema.specs.declared.field.Field.{Field}
 use Rattle.pg_schema.specs.declared.message_type.MessageType.{MessageType}
 use Rattle.pg_schema.specs.DeclaredNames.{has_word, have_words}
-use Rattle.pg_schema.specs.MessageRules.{has_fields, is_field, is_message_type}
+use Rattle.pg_schema.specs.MessageRules.{is_field, is_message_type}
 use Rattle.pg_schema.specs.Words.{is_digit, is_letter, is_word, is_word_byte}
 use Rattle.pg_schema.proofs.PairLemmas.{and_both, and_left, and_right}
 

@@ -1,19 +1,19 @@
 -- Parts of packages, one byte after the other.
-use Rattle.std.proofs.Common.{◌≡◌, ℕ, zero, suc, ◌+◌, ◌≤◌, ◌<◌, Bool, true, false, not, ◌&&◌, ◌||◌, nat_eq, List, [], ◌∷◌, String, length, take, drop, get_or, inl, inr, arith, sym, ◌∙◌, ap, subst, refl}
+use Rattle.std.proofs.Common.{◌≡◌, ℕ, zero, suc, ◌+◌, ◌≤◌, ◌<◌, Bool, true, false, not, ◌&&◌, ◌||◌, nat_eq, List, [], ◌∷◌, String, length, take, get_or, inl, inr, arith, sym, ◌∙◌, ap, subst, refl}
 use Rattle.std.proofs.Math.Nat.{eq-or-lt_of_le}
 use Rattle.std.proofs.lemmas.Bool.{false≢true}
 use Rattle.std.proofs.lemmas.Bool.Decides.{nat_tests}
 use Rattle.std.proofs.lemmas.List.{take_all}
 use Rattle.std.proofs.lemmas.Slice.Eq.{bytes_eq-Decides}
 use Rattle.std.specs.BTreeSet.{BTreeSet, contains_text}
-use Rattle.std.specs.List.{list_all, list_any}
+use Rattle.std.specs.List.{list_all}
 use Rattle.std.specs.Str.{bytes_eq}
 use Rattle.std.specs.String.{string_bytes}
 use Rattle.pg_schema.specs.declared.file.File.{File}
 use Rattle.pg_schema.specs.FileRules.{is_file}
 use Rattle.pg_schema.specs.PackageNames.{is_free_of, is_front}
 use Rattle.pg_schema.specs.TextSets.{IsSetOf, is_among}
-use Rattle.pg_schema.specs.Words.{is_ascii, is_package, is_word, may_stand, parts_at_dots}
+use Rattle.pg_schema.specs.Words.{is_ascii, is_package, may_stand}
 use Rattle.pg_schema.proofs.PairLemmas.{and_both, and_false_right, and_left, and_right}
 use Rattle.pg_schema.proofs.WordLemmas.{words_from, words_step}
 

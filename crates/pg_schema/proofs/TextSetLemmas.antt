@@ -1,12 +1,11 @@
 -- A set of texts, one text after the other.
 use Rattle.std.proofs.Common.{◌≡◌, ℕ, ◌+◌, ◌<◌, Bool, true, false, cond, not, ◌&&◌, ◌||◌, List, [], ◌∷◌, ◌++◌, String, length, map, take, drop, get_or, Option, Some, is_some, sym, ◌∙◌, ap, subst, refl}
 use Rattle.std.specs.BTreeSet.{BTreeSet, contains_text}
-use Rattle.std.specs.List.{list_all, list_any}
+use Rattle.std.specs.List.{list_all}
 use Rattle.std.specs.Str.{bytes_eq}
 use Rattle.std.specs.Option.{IfSome}
 use Rattle.std.specs.String.{string_bytes}
 use Rattle.std.proofs.lemmas.List.{map_more, map-append, take-append-drop}
-use Rattle.std.proofs.lemmas.List.Folds.{list_all-map}
 use Rattle.pg_schema.specs.Pairs.{are_distinct}
 use Rattle.pg_schema.specs.TextSets.{is_among, IsSetOf, are_named_once}
 use Rattle.pg_schema.proofs.PairLemmas.{all_pairs_front, bytes_eq-sym, distinct_push, among_push, and_both}

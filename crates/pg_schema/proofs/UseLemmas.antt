@@ -1,12 +1,12 @@
 -- Uses by rising first numbers: each comes before the next exactly where no two clash.
-use Rattle.std.proofs.Common.{◌≡◌, ℕ, zero, suc, ◌+◌, ◌^◌, ◌<◌, ◌≤◌, Bool, true, false, not, ◌&&◌, ◌||◌, nat_lt, nat_le, nat_eq, cond, List, [], ◌∷◌, ◌++◌, length, map, get_or, arith, sym, ◌∙◌, ap, subst, refl}
-use Rattle.std.specs.List.{list_all, swap, All}
+use Rattle.std.proofs.Common.{◌≡◌, ℕ, zero, suc, ◌^◌, ◌<◌, ◌≤◌, Bool, true, false, not, ◌&&◌, ◌||◌, nat_lt, nat_le, nat_eq, cond, List, [], ◌∷◌, ◌++◌, length, map, get_or, arith, sym, ◌∙◌, ap, subst, refl}
+use Rattle.std.specs.List.{list_all, swap}
 use Rattle.std.specs.List.Sorted.{IsPermutation, IsNonDecreasingBy}
 use Rattle.std.proofs.lemmas.Bool.{false≢true}
 use Rattle.std.proofs.lemmas.Bool.Decides.{nat_tests}
 use Rattle.std.proofs.lemmas.List.Sorted.{IsPermutation-keeps, IsPermutation-sym}
 use Rattle.std.proofs.lemmas.List.Edits.{length-swap}
-use Rattle.std.proofs.lemmas.Grind.{elements, common_steps}
+use Rattle.std.proofs.lemmas.Grind.{elements}
 use Rattle.pg_schema.specs.declared.uses.Use.{Use}
 use Rattle.pg_schema.specs.Pairs.{all_pairs, all_neighbours}
 use Rattle.pg_schema.specs.Scopes.{place_use}

@@ -1,9 +1,7 @@
 -- Words with dots between, one byte after the other.
-use Rattle.std.proofs.Common.{◌≡◌, ℕ, ◌+◌, ◌<◌, ◌≤◌, Bool, true, false, not, cond, ◌&&◌, eqb, List, [], ◌∷◌, length, drop, get_or, add-one, sym, ◌∙◌, ap, subst, refl}
+use Rattle.std.proofs.Common.{◌≡◌, ℕ, Bool, true, false, not, cond, ◌&&◌, eqb, List, [], ◌∷◌, refl}
 use Rattle.std.specs.List.{list_all}
-use Rattle.std.proofs.lemmas.List.{drop_all}
 use Rattle.pg_schema.specs.Words.{before_first, is_letter, is_word, is_word_byte, may_stand, parts_at_dots}
-use Rattle.pg_schema.proofs.MessageLemmas.{item_and_rest}
 use Rattle.pg_schema.proofs.PairLemmas.{and_true_right}
 
 -- the rest of a word, and words

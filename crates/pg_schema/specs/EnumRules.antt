@@ -1,5 +1,5 @@
 -- What holds of each enum, taken by itself (proto3 language guide, "Enumerations", "Reserved Values").
-use Rattle.std.specs.Prelude.{ℕ, ℤ, pos, negsuc, Bool, true, false, nat_eq, ◌&&◌, List, [], ◌∷◌, map}
+use Rattle.std.specs.Prelude.{ℕ, ℤ, pos, negsuc, Bool, false, nat_eq, ◌&&◌, List, [], ◌∷◌, map}
 use Rattle.std.specs.List.{list_all}
 use Rattle.std.specs.String.{string_bytes}
 use Rattle.pg_schema.specs.declared.enum_type.EnumType.{EnumType}

@@ -1,12 +1,14 @@
 -- What the rules take and what they refuse, by small examples: a statement for each fact of a schema's invariant, of something
 -- that keeps to it and of something that breaks it.
-use Rattle.std.specs.Prelude.{◌≡◌, ℕ, pos, negsuc, Bool, true, false, ◌&&◌, ◌||◌, List, [], ◌∷◌, codes, Option, Some, None}
+use Rattle.std.specs.Prelude.{◌≡◌, ℕ, pos, negsuc, true, false, [], ◌∷◌, codes, Option, Some, None}
 use Rattle.std.specs.List.{list_all, list_any}
 use Rattle.pg_schema.specs.declared.field.Element.{Element}
 use Rattle.pg_schema.specs.declared.field.Element.TheVariants as elements
 use Rattle.pg_schema.specs.declared.field.Field.{Field}
+use Rattle.pg_schema.specs.declared.field.Presence.{Presence}
 use Rattle.pg_schema.specs.declared.field.Presence.TheVariants as presences
 use Rattle.pg_schema.specs.declared.field.Scalar.TheVariants as scalars
+use Rattle.pg_schema.specs.declared.field.TypeId.{TypeId}
 use Rattle.pg_schema.specs.declared.options.OptimizeMode.TheVariants as modes
 use Rattle.pg_schema.specs.declared.options.OptionValue.TheVariants as options
 use Rattle.pg_schema.specs.declared.uses.Use.{Use}
@@ -14,10 +16,13 @@ use Rattle.pg_schema.specs.DeclaredNames.{entry_name}
 use Rattle.pg_schema.specs.EnumRules.{begins_with_zero, is_zero}
 use Rattle.pg_schema.specs.FieldRules.{has_presence, is_field_number, is_packed}
 use Rattle.pg_schema.specs.FileRules.{is_of_kind}
+use Rattle.pg_schema.specs.Flat.{IsFlat}
+use Rattle.pg_schema.specs.JsonName.{default_json_name}
 use Rattle.pg_schema.specs.MessageRules.{have_members}
 use Rattle.pg_schema.specs.PackageNames.{is_front}
 use Rattle.pg_schema.specs.Pairs.{are_distinct, is_rising}
 use Rattle.pg_schema.specs.Scopes.{are_each_once, is_in}
+use Rattle.pg_schema.specs.Shape.{Shape}
 use Rattle.pg_schema.specs.TextSets.{are_named_once}
 use Rattle.pg_schema.specs.UsedNumbers.{from_lowest, is_used_once}
 use Rattle.pg_schema.specs.Words.{is_package, is_word}
@@ -27,6 +32,14 @@ int32 = elements.Scalar scalars.Int32
 
 abbrev pub text : Element
 text = elements.Scalar scalars.String
+
+-- the place of the first message type
+abbrev pub first_type : TypeId
+first_type = record { index = 0 }
+
+-- a schema of one message type with one such field, numbered 1
+abbrev pub of_field : Presence → Element → Option ℕ → Shape
+of_field presence element oneof = (record { number = 1; presence = presence; element = element; oneof = oneof } ∷ []) ∷ []
 
 -- a field or value of that number
 abbrev pub one : ℕ → Use
@@ -79,6 +92,9 @@ pub record WorkedRules : Type 0 where
   pub no_member : (f : Field) → f.oneof ≡ None → have_members 1 (f ∷ []) ≡ false
   pub json_names_by_case : are_distinct (codes "x" ∷ codes "X" ∷ []) ≡ true
   pub json_name_twice : are_distinct (codes "x" ∷ codes "y" ∷ codes "x" ∷ []) ≡ false
+  pub json_name : default_json_name (codes "foo_bar") ≡ codes "fooBar"
+  pub json_name_of_digit : default_json_name (codes "foo_1bar") ≡ codes "foo1bar"
+  pub json_name_of_underscores : default_json_name (codes "_a__b_") ≡ codes "AB"
   pub names_once : are_named_once (codes "a" ∷ codes "b" ∷ []) (codes "c" ∷ codes "c" ∷ []) ≡ true
   pub name_twice : are_named_once (codes "a" ∷ codes "a" ∷ []) [] ≡ false
   pub name_reserved : are_named_once (codes "a" ∷ codes "b" ∷ []) (codes "b" ∷ []) ≡ false
@@ -97,3 +113,12 @@ pub record WorkedRules : Type 0 where
   pub option_unknown : is_of_kind 2 (options.Flag true) ≡ false
   pub part_of_a_package : list_all (λ name. is_front name (codes "p.q")) (codes "p" ∷ codes "p.q" ∷ []) ≡ true
   pub no_part_of_a_package : list_any (λ name. is_front name (codes "p.q")) (codes "q" ∷ codes "pq" ∷ codes "p.q.r" ∷ []) ≡ false
+  pub flat : IsFlat (of_field presences.Implicit text None) first_type
+  pub flat_without_fields : IsFlat ([] ∷ []) first_type
+  pub flat_for_want_of_the_type : IsFlat (of_field presences.Explicit text None) (record { index = 1 })
+  pub optional_is_not_flat : IsFlat (of_field presences.Explicit text None) first_type → ⊥
+  pub member_is_not_flat : IsFlat (of_field presences.Explicit text (Some 0)) first_type → ⊥
+  pub list_is_not_flat : IsFlat (of_field (presences.Repeated true) int32 None) first_type → ⊥
+  pub map_is_not_flat : IsFlat (of_field (presences.Map scalars.Int32) text None) first_type → ⊥
+  pub enum_is_not_flat : IsFlat (of_field presences.Implicit (elements.Enum (record { index = 0 })) None) first_type → ⊥
+  pub message_is_not_flat : IsFlat (of_field presences.Explicit (elements.Message first_type) None) first_type → ⊥

@@ -1,5 +1,5 @@
 -- What holds of each message type, taken by itself (proto3 language guide, "Message definition", "Oneof", "Reserved Fields").
-use Rattle.std.specs.Prelude.{◌≡◌, ℕ, zero, suc, Bool, true, false, nat_eq, nat_lt, ◌&&◌, List, ◌∷◌, map, Option, Some, None, is_some, length, ◌<◌, slice_index_or}
+use Rattle.std.specs.Prelude.{◌≡◌, ℕ, zero, suc, Bool, true, false, nat_eq, ◌&&◌, List, ◌∷◌, map, Option, Some, None, is_some, length, ◌<◌, slice_index_or}
 use Rattle.std.specs.List.{list_all, list_any}
 use Rattle.std.specs.BTreeSet.{BTreeSet, contains}
 use Rattle.std.specs.Ordering.{nat_cmp}

@@ -1,6 +1,6 @@
 -- Package names: each beginning of a package that ends before a dot, and the whole, names a scope (proto3 language
 -- specification, "Package").
-use Rattle.std.specs.Prelude.{◌≡◌, ℕ, Bool, true, false, not, nat_eq, ◌&&◌, List, [], ◌∷◌}
+use Rattle.std.specs.Prelude.{ℕ, Bool, true, false, not, nat_eq, ◌&&◌, List, [], ◌∷◌}
 use Rattle.std.specs.List.{list_all}
 use Rattle.std.specs.String.{string_bytes}
 use Rattle.pg_schema.specs.declared.file.File.{File}

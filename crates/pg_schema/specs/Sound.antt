@@ -1,6 +1,6 @@
 -- What holds of all that a schema declares, in the order of the proto3 language specification. That a schema has at most
 -- 4,096 message types is this profile's choice.
-use Rattle.std.specs.Prelude.{◌≡◌, ℕ, ◌≤◌, Bool, true, ◌&&◌, List, length}
+use Rattle.std.specs.Prelude.{◌≡◌, ◌≤◌, Bool, true, ◌&&◌, length}
 use Rattle.std.specs.List.{list_all}
 use Rattle.pg_schema.specs.declared.parts.Parts.{Parts}
 use Rattle.pg_schema.specs.DeclaredNames.{declared_names}

@@ -1,12 +1,9 @@
 -- The numbers that a message type or an enum uses: those of its fields or values, and those that are reserved
 -- (proto3 language guide, "Assigning Field Numbers", "Reserved Fields", "Reserved Values", "Enumerations").
-use Rattle.std.specs.Prelude.{ℕ, zero, suc, ◌+◌, ◌-◌, ◌^◌, ℤ, pos, negsuc, Bool, true, false, not, nat_lt, nat_le, ◌&&◌, ◌||◌, List, ◌++◌, map}
-use Rattle.std.specs.List.{list_all}
+use Rattle.std.specs.Prelude.{ℕ, suc, ◌+◌, ◌-◌, ◌^◌, ℤ, pos, negsuc, Bool, true, false, not, nat_lt, nat_le, ◌&&◌, ◌||◌, List, ◌++◌, map}
 use Rattle.pg_schema.specs.declared.enum_type.EnumValue.{EnumValue}
-use Rattle.pg_schema.specs.declared.enum_type.EnumType.{EnumType}
 use Rattle.pg_schema.specs.declared.enum_type.ReservedValues.{ReservedValues}
 use Rattle.pg_schema.specs.declared.field.Field.{Field}
-use Rattle.pg_schema.specs.declared.message_type.MessageType.{MessageType}
 use Rattle.pg_schema.specs.declared.message_type.ReservedFields.{ReservedFields}
 use Rattle.pg_schema.specs.declared.uses.Use.{Use}
 use Rattle.pg_schema.specs.Pairs.{all_pairs}

@@ -2,7 +2,7 @@
 
 ghost use Rattle.std.specs.Prelude.{◌≡◌};
 ghost use Rattle.pg_schema.specs.FieldRules.{has_presence, is_field_number, is_known, is_message, is_oneof, is_packed};
-ghost use Rattle.pg_schema.specs.Shape.{is_key, is_packable};
+ghost use Rattle.pg_schema.specs.Shape.{is_key};
 
 use crate::field::{Element, Presence, Scalar};
 
@@ -27,17 +27,6 @@ fn is_key(scalar: Scalar) -> bool
     !matches!(scalar, Scalar::Double | Scalar::Float | Scalar::Bytes)
 }
 
-/// A list of such items can stand in one record (Encoding guide, "Packed Repeated Fields").
-fn is_packable(element: Element) -> bool
-    ensures { result ≡ is_packable element }
-{
-    match element {
-        Element::Scalar(scalar) => !matches!(scalar, Scalar::String | Scalar::Bytes),
-        Element::Enum(_) => true,
-        Element::Message(_) => false,
-    }
-}
-
 /// The presence is that of a field of this element, which is a oneof's member or not, and states
 /// `optional` or not (proto3 language guide, "Field Presence").
 pub(crate) fn has_presence(presence: Presence, element: Element, member: bool, stated: bool) -> bool
@@ -58,7 +47,8 @@ pub(crate) fn is_packed(presence: Presence, element: Element, stated: Option<boo
 {
     match presence {
         Presence::Repeated { packed } => {
-            packed == stated.unwrap_or(is_packable(element)) && (!packed || is_packable(element))
+            let packable = element.is_packable();
+            packed == stated.unwrap_or(packable) && (!packed || packable)
         }
         Presence::Implicit | Presence::Explicit | Presence::Map { .. } => !stated.unwrap_or(false),
     }

@@ -1,31 +1,29 @@
 //! JSON names.
 
-ghost use Rattle.std.specs.Prelude.{◌≡◌, ◌↔◌, IsTrue};
+ghost use Rattle.std.specs.Prelude.{◌≡◌, IfOk};
+ghost use Rattle.std.specs.String.{string_bytes};
 ghost use Rattle.pg_schema.specs.JsonName.{default_json_name};
 
-/// The JSON name is the one that a field of that name has where none is stated (proto3 language
-/// guide, "JSON Mapping").
-pub(crate) fn is_default_json_name(json_name: &str, name: &str) -> bool
-    ensures { IsTrue result ↔ (json_name.now ≡ default_json_name name.now) }
+use std::alloc::{AllocError, Global};
+
+/// The JSON name of a field of that name where none is stated: without its `_`, and the letter
+/// behind each of them in upper case (proto3 language guide, "JSON Mapping").
+///
+/// Refused only where memory is.
+pub fn default_json_name(alloc: Global, name: &str) -> Result<String, AllocError>
+    ensures { IfOk result (λ text. string_bytes text ≡ default_json_name name.now) }
 {
-    let json_name = json_name.as_bytes();
-    let mut matched = 0;
-    let mut behind_underscore = false;
-    for &byte in name.as_bytes() {
-        if byte == b'_' {
-            behind_underscore = true;
-            continue;
-        }
-        let wanted = if behind_underscore {
-            byte.to_ascii_uppercase()
+    let mut text = String::new(alloc);
+    let mut behind = false;
+    for character in name.chars() {
+        if character == '_' {
+            behind = true;
+        } else if behind {
+            text.push(character.to_ascii_uppercase())?;
+            behind = false;
         } else {
-            byte
-        };
-        if json_name.get(matched) != Some(&wanted) {
-            return false;
+            text.push(character)?;
         }
-        matched += 1;
-        behind_underscore = false;
     }
-    matched == json_name.len()
+    Ok(text)
 }

@@ -1,4 +1,4 @@
-use crate::sound::is_sound;
+use crate::tests::are_refused;
 use crate::{
     Element, EnumId, EnumOptions, EnumType, EnumValue, EnumValueOptions, Field, FieldOptions, File,
     MessageOptions, MessageType, Parts, Presence, ReservedFields, ReservedValues, Scalar, TypeId,
@@ -171,10 +171,11 @@ fn is_taken(alloc: Global, number: u32, name: &str, packed: bool) -> Result<bool
         None,
     )?;
     let outer = outer_type(alloc, all, ReservedFields { first: 7, last: 9 })?;
-    is_sound(
+    let refused = are_refused(
         alloc,
-        &parts(alloc, "p.q", outer, color(alloc, 0, 0, true)?)?,
-    )
+        parts(alloc, "p.q", outer, color(alloc, 0, 0, true)?)?,
+    )?;
+    Ok(!refused)
 }
 
 #[test]
@@ -211,7 +212,7 @@ fn reserved_ranges(rt: HostRuntime) -> Result<(), Fail> {
     ] {
         let outer = outer_type(alloc, fields(alloc)?, ReservedFields { first, last })?;
         let all = parts(alloc, "p.q", outer, color(alloc, 0, 1, false)?)?;
-        assert_eq!(rt; is_sound(alloc, &all)?, taken);
+        assert_eq!(rt; !are_refused(alloc, all)?, taken);
     }
     Ok(())
 }
@@ -229,7 +230,7 @@ fn values_of_enums(rt: HostRuntime) -> Result<(), Fail> {
     ] {
         let outer = outer_type(alloc, fields(alloc)?, ReservedFields { first: 7, last: 9 })?;
         let all = parts(alloc, "p.q", outer, color(alloc, first, second, alias)?)?;
-        assert_eq!(rt; is_sound(alloc, &all)?, taken);
+        assert_eq!(rt; !are_refused(alloc, all)?, taken);
     }
     Ok(())
 }
@@ -245,7 +246,7 @@ fn packages(rt: HostRuntime) -> Result<(), Fail> {
     ] {
         let outer = outer_type(alloc, fields(alloc)?, ReservedFields { first: 7, last: 9 })?;
         let all = parts(alloc, name, outer, color(alloc, 0, 1, false)?)?;
-        assert_eq!(rt; is_sound(alloc, &all)?, taken);
+        assert_eq!(rt; !are_refused(alloc, all)?, taken);
     }
     Ok(())
 }
@@ -293,7 +294,7 @@ fn many(alloc: Global, count: u32) -> Result<Parts, AllocError> {
 #[test]
 fn as_many_types_as_may_be(rt: HostRuntime) -> Result<(), Fail> {
     let alloc = rt.alloc();
-    assert!(rt; is_sound(alloc, &many(alloc, 4_096)?)?);
-    assert!(rt; !is_sound(alloc, &many(alloc, 4_097)?)?);
+    assert!(rt; !are_refused(alloc, many(alloc, 4_096)?)?);
+    assert!(rt; are_refused(alloc, many(alloc, 4_097)?)?);
     Ok(())
 }

@@ -1,8 +1,8 @@
-use crate::sound::is_sound;
 use crate::{
     Element, EnumId, EnumOptions, EnumType, EnumValue, EnumValueOptions, Field, FieldOptions, File,
     FileOption, Import, MessageOptions, MessageType, OptimizeMode, OptionValue, Parts, PartsError,
     Presence, ReservedFields, Scalar, Schema, Service, ServiceId, ServiceOptions, TypeId,
+    default_json_name,
 };
 use std::alloc::{AllocError, Global};
 use std::test::Fail;
@@ -148,7 +148,7 @@ fn parts_and_enums(rt: HostRuntime) -> Result<(), Fail> {
 }
 
 // Whether the parts are refused for their invariant.
-fn are_refused(alloc: Global, parts: Parts) -> Result<bool, AllocError> {
+pub(crate) fn are_refused(alloc: Global, parts: Parts) -> Result<bool, AllocError> {
     match Schema::from_parts(alloc, parts) {
         Ok(_) => Ok(false),
         Err((PartsError::Invariant, _)) => Ok(true),
@@ -156,9 +156,10 @@ fn are_refused(alloc: Global, parts: Parts) -> Result<bool, AllocError> {
     }
 }
 
-// Whether the parts keep to the rules of a schema, and are refused all the same.
-fn are_not_flat(alloc: Global, parts: Parts) -> Result<bool, AllocError> {
-    Ok(is_sound(alloc, &parts)? && are_refused(alloc, parts)?)
+// Whether the first message type of the parts, which are taken, is flat.
+fn is_flat(alloc: Global, parts: Parts) -> Result<bool, Fail> {
+    let schema = Schema::from_parts(alloc, parts);
+    Ok(schema.ok().ok_or("refused")?.flat(TypeId { index: 0 }))
 }
 
 // The parts of a message of one such field.
@@ -187,23 +188,41 @@ fn field_numbers(rt: HostRuntime) -> Result<(), Fail> {
     Ok(())
 }
 
+// Whether a message of one field of that presence and element, and no other, is flat.
+fn is_flat_field(alloc: Global, presence: Presence, element: Element) -> Result<bool, Fail> {
+    let mut field = scalar_field(alloc, 1, "a", Scalar::Bytes)?;
+    field.presence = presence;
+    field.element = element;
+    field.states_optional = presence == Presence::Explicit
+        && !matches!(element, Element::Message(_));
+    is_flat(alloc, of_field(alloc, field)?)
+}
+
 #[test]
-fn other_fields(rt: HostRuntime) -> Result<(), Fail> {
+fn flat_fields(rt: HostRuntime) -> Result<(), Fail> {
     let alloc = rt.alloc();
-    let mut field = scalar_field(alloc, 1, "a", Scalar::Bytes)?;
-    field.presence = Presence::Explicit;
-    field.states_optional = true;
-    assert!(rt; are_not_flat(alloc, of_field(alloc, field)?)?);
-    let mut field = scalar_field(alloc, 1, "a", Scalar::Bytes)?;
-    field.presence = Presence::Repeated { packed: false };
-    assert!(rt; are_not_flat(alloc, of_field(alloc, field)?)?);
-    let mut field = scalar_field(alloc, 1, "a", Scalar::Bytes)?;
-    field.presence = Presence::Map { key: Scalar::Bool };
-    assert!(rt; are_not_flat(alloc, of_field(alloc, field)?)?);
-    let mut field = scalar_field(alloc, 1, "a", Scalar::Bytes)?;
-    field.presence = Presence::Explicit;
-    field.element = Element::Message(TypeId { index: 0 });
-    assert!(rt; are_not_flat(alloc, of_field(alloc, field)?)?);
+    let bytes = Element::Scalar(Scalar::Bytes);
+    let message = Element::Message(TypeId { index: 0 });
+    for (presence, element, flat) in [
+        (Presence::Implicit, bytes, true),
+        (Presence::Explicit, bytes, false),
+        (Presence::Repeated { packed: false }, bytes, false),
+        (Presence::Map { key: Scalar::Bool }, bytes, false),
+        (Presence::Explicit, message, false),
+    ] {
+        assert_eq!(rt; is_flat_field(alloc, presence, element)?, flat);
+    }
+    Ok(())
+}
+
+// Neither fields nor a type are wanted of a flat type.
+#[test]
+fn flat_without_fields(rt: HostRuntime) -> Result<(), Fail> {
+    let alloc = rt.alloc();
+    let schema = schema(alloc)?;
+    assert!(rt; schema.flat(TypeId { index: 0 }));
+    assert!(rt; schema.flat(TypeId { index: 1 }));
+    assert!(rt; schema.flat(TypeId { index: 2 }));
     Ok(())
 }
 
@@ -212,29 +231,51 @@ fn stated_options(rt: HostRuntime) -> Result<(), Fail> {
     let alloc = rt.alloc();
     let mut field = scalar_field(alloc, 1, "a", Scalar::Int32)?;
     field.options.packed = Some(false);
-    assert!(rt; are_not_flat(alloc, of_field(alloc, field)?)?);
+    assert!(rt; is_flat(alloc, of_field(alloc, field)?)?);
     let mut field = scalar_field(alloc, 1, "a", Scalar::Int32)?;
     field.options.deprecated = Some(false);
-    assert!(rt; are_not_flat(alloc, of_field(alloc, field)?)?);
+    assert!(rt; is_flat(alloc, of_field(alloc, field)?)?);
     Ok(())
 }
 
-// The default JSON names, as `protoc` makes them, and others.
+// As `protoc` makes them.
+#[test]
+fn default_json_names(rt: HostRuntime) -> Result<(), Fail> {
+    let alloc = rt.alloc();
+    for (name, json_name) in [
+        ("foo_bar", "fooBar"),
+        ("_a__b_", "AB"),
+        ("fooBar_1", "fooBar1"),
+        ("foo_1bar", "foo1bar"),
+        ("__", ""),
+    ] {
+        assert_eq!(rt; default_json_name(alloc, name)?.as_str(), json_name);
+    }
+    Ok(())
+}
+
+// Numbers, bool and enums.
+#[test]
+fn packable_elements(rt: HostRuntime) {
+    assert!(rt; Element::Scalar(Scalar::Double).is_packable());
+    assert!(rt; Element::Enum(EnumId { index: 0 }).is_packable());
+    assert!(rt; !Element::Scalar(Scalar::String).is_packable());
+    assert!(rt; !Element::Message(TypeId { index: 0 }).is_packable());
+}
+
+// The JSON name of each field is any text, but that of no other.
 #[test]
 fn json_names(rt: HostRuntime) -> Result<(), Fail> {
     let alloc = rt.alloc();
-    for (name, json_name, refused) in [
-        ("foo_bar", "fooBar", false),
-        ("_a__b_", "AB", false),
-        ("fooBar_1", "fooBar1", false),
-        ("foo_bar", "foo_bar", true),
-        ("foo_bar", "fooBa", true),
-        ("foo_bar", "fooBars", true),
-        ("a", "A", true),
-    ] {
-        let mut field = scalar_field(alloc, 1, name, Scalar::Int32)?;
-        field.json_name = String::from_str(alloc, json_name)?;
-        assert_eq!(rt; are_not_flat(alloc, of_field(alloc, field)?)?, refused);
+    for (json_name, refused) in [("fooBar", true), ("foobar", false), ("", false)] {
+        let mut first = scalar_field(alloc, 1, "foo_bar", Scalar::Int32)?;
+        first.json_name = String::from_str(alloc, "fooBar")?;
+        let mut second = scalar_field(alloc, 2, "b", Scalar::Int32)?;
+        second.json_name = String::from_str(alloc, json_name)?;
+        let fields = vec![in alloc; first, second]?;
+        let declared = vec![in alloc; 1, 2]?;
+        let types = vec![in alloc; message_type(alloc, "p.M", fields, declared)?]?;
+        assert_eq!(rt; are_refused(alloc, parts(alloc, types)?)?, refused);
     }
     Ok(())
 }
@@ -265,7 +306,9 @@ fn enums_and_services(rt: HostRuntime) -> Result<(), Fail> {
     of_enum.enums.push(EnumId { index: 0 })?;
     let mut with_enum = parts_of(alloc, of_enum, Vec::new(alloc))?;
     with_enum.enums.push(color(alloc, "p.Color")?)?;
-    assert!(rt; are_not_flat(alloc, with_enum)?);
+    let schema = Schema::from_parts(alloc, with_enum).ok().ok_or("refused")?;
+    let found = schema.enum_type(EnumId { index: 0 }).ok_or("no enum")?;
+    assert_eq!(rt; found.name.as_str(), "p.Color");
     let mut of_service = file(alloc)?;
     of_service.services.push(ServiceId { index: 0 })?;
     let mut with_service = parts_of(alloc, of_service, Vec::new(alloc))?;
@@ -274,7 +317,7 @@ fn enums_and_services(rt: HostRuntime) -> Result<(), Fail> {
         methods: Vec::new(alloc),
         options: ServiceOptions { deprecated: None },
     })?;
-    assert!(rt; are_not_flat(alloc, with_service)?);
+    assert!(rt; !are_refused(alloc, with_service)?);
     Ok(())
 }
 
@@ -286,13 +329,13 @@ fn files_with_more(rt: HostRuntime) -> Result<(), Fail> {
         path: String::from_str(alloc, "n.proto")?,
         is_public: true,
     })?;
-    assert!(rt; are_not_flat(alloc, parts_of(alloc, with_import, Vec::new(alloc))?)?);
+    assert!(rt; !are_refused(alloc, parts_of(alloc, with_import, Vec::new(alloc))?)?);
     let mut with_option = file(alloc)?;
     with_option.options.push(FileOption {
         number: 9,
         value: OptionValue::Mode(OptimizeMode::CodeSize),
     })?;
-    assert!(rt; are_not_flat(alloc, parts_of(alloc, with_option, Vec::new(alloc))?)?);
+    assert!(rt; !are_refused(alloc, parts_of(alloc, with_option, Vec::new(alloc))?)?);
     Ok(())
 }
 
@@ -325,16 +368,16 @@ fn oneofs_and_nested_types(rt: HostRuntime) -> Result<(), Fail> {
     let fields = vec![in alloc; member]?;
     let mut with_oneof = message_type(alloc, "p.M", fields, vec![in alloc; 1]?)?;
     with_oneof.oneofs.push(String::from_str(alloc, "k")?)?;
-    assert!(rt; are_not_flat(alloc, of_types(alloc, with_oneof, None)?)?);
+    assert!(rt; !is_flat(alloc, of_types(alloc, with_oneof, None)?)?);
     let mut with_type = empty_type(alloc)?;
     with_type.nested_types.push(TypeId { index: 1 })?;
     let nested = message_type(alloc, "p.M.N", Vec::new(alloc), Vec::new(alloc))?;
-    assert!(rt; are_not_flat(alloc, of_types(alloc, with_type, Some(nested))?)?);
+    assert!(rt; is_flat(alloc, of_types(alloc, with_type, Some(nested))?)?);
     let mut with_enum = empty_type(alloc)?;
     with_enum.nested_enums.push(EnumId { index: 0 })?;
     let mut parts = of_types(alloc, with_enum, None)?;
     parts.enums.push(color(alloc, "p.M.Color")?)?;
-    assert!(rt; are_not_flat(alloc, parts)?);
+    assert!(rt; is_flat(alloc, parts)?);
     Ok(())
 }
 
@@ -345,15 +388,15 @@ fn types_with_more(rt: HostRuntime) -> Result<(), Fail> {
     with_range
         .reserved_numbers
         .push(ReservedFields { first: 2, last: 3 })?;
-    assert!(rt; are_not_flat(alloc, of_types(alloc, with_range, None)?)?);
+    assert!(rt; is_flat(alloc, of_types(alloc, with_range, None)?)?);
     let mut with_name = empty_type(alloc)?;
     with_name
         .reserved_names
         .push(String::from_str(alloc, "a")?)?;
-    assert!(rt; are_not_flat(alloc, of_types(alloc, with_name, None)?)?);
+    assert!(rt; is_flat(alloc, of_types(alloc, with_name, None)?)?);
     let mut deprecated = empty_type(alloc)?;
     deprecated.options.deprecated = Some(false);
-    assert!(rt; are_not_flat(alloc, of_types(alloc, deprecated, None)?)?);
+    assert!(rt; is_flat(alloc, of_types(alloc, deprecated, None)?)?);
     Ok(())
 }
 

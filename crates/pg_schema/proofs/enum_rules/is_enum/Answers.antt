@@ -1,6 +1,6 @@
-use Rattle.std.proofs.Common.{◌≡◌, List, true, sym, ◌∙◌, ap, subst}
+use Rattle.std.proofs.Common.{◌≡◌, true, sym, ◌∙◌, ap}
 use Rattle.std.specs.List.{list_all}
-use Rattle.pg_schema.specs.UsedNumbers.{is_value_range, is_whole, enum_uses}
+use Rattle.pg_schema.specs.UsedNumbers.{is_value_range, is_whole}
 use Rattle.pg_schema.proofs.UseLemmas.{enum_whole}
 use Rattle.pg_schema.proofs.enum_rules.is_enum.Goals as goal
 

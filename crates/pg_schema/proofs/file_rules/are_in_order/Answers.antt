@@ -1,4 +1,4 @@
-use Rattle.std.proofs.Common.{◌≡◌, ◌+◌, ◌∷◌, drop, map, List, sym, ◌∙◌, ap, arith}
+use Rattle.std.proofs.Common.{◌+◌, ◌∷◌, drop, List, sym, ◌∙◌, ap, arith}
 use Rattle.pg_schema.specs.declared.options.FileOption.{FileOption}
 use Rattle.pg_schema.specs.FileRules.{option_numbers}
 use Rattle.pg_schema.specs.Pairs.{is_rising}

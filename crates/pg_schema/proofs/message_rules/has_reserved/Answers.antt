@@ -1,4 +1,4 @@
-use Rattle.std.proofs.Common.{◌≡◌, List, true, sym, ◌∙◌, ap, subst}
+use Rattle.std.proofs.Common.{◌≡◌, true, sym, ◌∙◌, ap}
 use Rattle.std.specs.List.{list_all}
 use Rattle.pg_schema.specs.UsedNumbers.{is_reserved_range, is_whole}
 use Rattle.pg_schema.proofs.UseLemmas.{message_whole}

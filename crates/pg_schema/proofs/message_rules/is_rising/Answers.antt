@@ -1,4 +1,4 @@
-use Rattle.std.proofs.Common.{◌≡◌, ◌+◌, ◌∷◌, drop, map, List, sym, ◌∙◌, ap, arith}
+use Rattle.std.proofs.Common.{◌+◌, ◌∷◌, drop, List, sym, ◌∙◌, ap, arith}
 use Rattle.pg_schema.specs.declared.field.Field.{Field}
 use Rattle.pg_schema.specs.MessageRules.{numbers}
 use Rattle.pg_schema.specs.Pairs.{is_rising}

@@ -1,7 +1,5 @@
-use Rattle.std.proofs.Common.{◌≡◌, true, sym, ◌∙◌, ap, subst}
+use Rattle.std.proofs.Common.{◌∙◌, ap}
 use Rattle.std.specs.List.{list_all}
-use Rattle.std.proofs.lemmas.List.Folds.{list_all_at}
-use Rattle.pg_schema.specs.FileRules.{is_file}
 use Rattle.pg_schema.specs.Words.{is_ascii}
 use Rattle.pg_schema.proofs.PackageLemmas.{file_ascii}
 use Rattle.pg_schema.proofs.packages.are_free.Goals as goal

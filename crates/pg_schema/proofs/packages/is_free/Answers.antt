@@ -1,4 +1,4 @@
-use Rattle.std.proofs.Common.{◌≡◌, ◌+◌, ◌++◌, ◌∷◌, [], ℕ, true, false, not, nat_eq, get_or, take, sym, ◌∙◌, ap, refl}
+use Rattle.std.proofs.Common.{◌++◌, ◌∷◌, [], not, get_or, sym, ◌∙◌, ap, refl}
 use Rattle.std.proofs.lemmas.List.{take_more}
 use Rattle.std.specs.BTreeSet.{contains_text}
 use Rattle.std.specs.String.{string_bytes}

@@ -1,4 +1,4 @@
-use Rattle.std.proofs.Common.{◌≡◌, ℕ, not, true, false, nat_eq, nat_lt, length, List, sym, ◌∙◌, ap, arith}
+use Rattle.std.proofs.Common.{◌≡◌, not, true, false, nat_eq, nat_lt, length, sym, ◌∙◌, ap, arith}
 use Rattle.std.proofs.lemmas.Bool.Decides.{nat_tests}
 use Rattle.std.specs.List.{list_all}
 use Rattle.pg_schema.specs.Pairs.{all_pairs}

@@ -1,4 +1,4 @@
-use Rattle.std.proofs.Common.{◌≡◌, ◌+◌, List, map, take, drop, not, true, false, sym, ap, ◌∙◌, subst}
+use Rattle.std.proofs.Common.{◌≡◌, ◌+◌, map, take, drop, not, true, false, sym, ap, ◌∙◌, subst}
 use Rattle.std.proofs.lemmas.Map.Text.{btree_set_updates_text}
 use Rattle.std.specs.String.{string_bytes}
 use Rattle.pg_schema.specs.Pairs.{are_distinct}
