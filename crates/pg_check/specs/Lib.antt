@@ -4,3 +4,6 @@ pub mod Names
 pub mod ReservedItems
 pub mod Options
 pub mod Enums
+pub mod Types
+pub mod Members
+pub mod Messages

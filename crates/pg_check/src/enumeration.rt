@@ -89,7 +89,7 @@ fn lines<'a>(alloc: Global, body: &'a [EnumPart]) -> Result<Vec<Stated<'a>>, All
 }
 
 /// The value is the word `true`.
-fn is_true(value: &Value) -> bool
+pub(crate) fn is_true(value: &Value) -> bool
     ensures { result ≡ spec.is_true value.now }
 {
     match value {

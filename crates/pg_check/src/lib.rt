@@ -3,7 +3,10 @@
 
 mod enumeration;
 mod fault;
+mod member;
+mod message;
 mod names;
 mod numbers;
 mod options;
 mod reserved;
+mod types;

@@ -26,6 +26,12 @@ pub(crate) struct Numbers {
 /// What number 0 is counted as.
 pub(crate) const ZERO: u128 = 0x1_0000_0000_0000_0000;
 
+/// The lowest number of a field.
+pub(crate) const LOWEST_FIELD: u128 = ZERO + 1;
+
+/// The highest number of a field.
+pub(crate) const HIGHEST_FIELD: u128 = ZERO + 536_870_911;
+
 /// The lowest number of a value.
 pub(crate) const LOWEST_VALUE: u128 = ZERO - 2_147_483_648;
 
@@ -66,6 +72,14 @@ pub(crate) fn least(one: Option<usize>, other: Option<usize>) -> Option<usize>
         (Some(one), None) => Some(one),
         (Some(one), Some(other)) => Some(if other < one { other } else { one }),
     }
+}
+
+/// The number may be a field's (proto3 language guide, "Assigning Field Numbers").
+pub(crate) fn is_field_number(number: u128) -> bool
+    ensures { result ≡ spec.is_field_number number }
+{
+    is_within(LOWEST_FIELD, HIGHEST_FIELD, number)
+        && !is_within(ZERO + 19_000, ZERO + 19_999, number)
 }
 
 /// The place of the first number that doesn't lie between these two.
