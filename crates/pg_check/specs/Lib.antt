@@ -7,3 +7,4 @@ pub mod Enums
 pub mod Types
 pub mod Members
 pub mod Messages
+pub mod Outline

@@ -8,5 +8,6 @@ mod message;
 mod names;
 mod numbers;
 mod options;
+mod outline;
 mod reserved;
 mod types;
