@@ -59,3 +59,8 @@ or_else (Some f) other = Some f
 abbrev pub first_fault : {X : Type 0} → (X → Option Fault) → List X → Option Fault
 first_fault fault [] = None
 first_fault fault (x ∷ xs) = or_else (fault x) (first_fault fault xs)
+
+-- the first in the text of a fault that was found and those of a list
+abbrev pub earliest : {X : Type 0} → (X → Option Fault) → Option Fault → List X → Option Fault
+earliest fault found [] = found
+earliest fault found (x ∷ xs) = earliest fault (earlier found (fault x)) xs

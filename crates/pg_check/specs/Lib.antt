@@ -8,3 +8,4 @@ pub mod Types
 pub mod Members
 pub mod Messages
 pub mod Outline
+pub mod Files

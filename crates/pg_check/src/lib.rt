@@ -3,6 +3,7 @@
 
 mod enumeration;
 mod fault;
+mod file;
 mod member;
 mod message;
 mod names;
