@@ -9,3 +9,6 @@ pub mod Members
 pub mod Messages
 pub mod Outline
 pub mod Files
+pub mod MadeNumbers
+pub mod MadeOptions
+pub mod MadeEnums

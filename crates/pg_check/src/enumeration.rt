@@ -50,7 +50,7 @@ fn value_names<'a>(alloc: Global, body: &'a [EnumPart]) -> Result<Vec<Called<'a>
 }
 
 /// The reserved numbers, in order.
-fn items(alloc: Global, body: &[EnumPart]) -> Result<Vec<Numbers>, AllocError>
+pub(crate) fn items(alloc: Global, body: &[EnumPart]) -> Result<Vec<Numbers>, AllocError>
     ensures { IfOk result (λ items. items.items ≡ spec.items body.now) }
 {
     let mut items = Vec::new(alloc);
@@ -63,7 +63,7 @@ fn items(alloc: Global, body: &[EnumPart]) -> Result<Vec<Numbers>, AllocError>
 }
 
 /// The reserved names, in order.
-fn reserved_names(alloc: Global, body: &[EnumPart]) -> Result<Vec<String>, AllocError>
+pub(crate) fn reserved_names(alloc: Global, body: &[EnumPart]) -> Result<Vec<String>, AllocError>
     ensures { IfOk result (λ names. map string_bytes names.items ≡ spec.reserved_names body.now) }
 {
     let mut names = Vec::new(alloc);

@@ -4,6 +4,9 @@
 mod enumeration;
 mod fault;
 mod file;
+mod made_enum;
+mod made_number;
+mod made_option;
 mod member;
 mod message;
 mod names;

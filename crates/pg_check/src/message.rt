@@ -23,7 +23,7 @@ use pg_syntax::tree::{Label, Oneof, OneofPart, Part, Setting, Settings};
 use std::alloc::{AllocError, Global};
 
 /// The reserved numbers, in order.
-fn items(alloc: Global, body: &[Part]) -> Result<Vec<Numbers>, AllocError>
+pub(crate) fn items(alloc: Global, body: &[Part]) -> Result<Vec<Numbers>, AllocError>
     ensures { IfOk result (λ items. items.items ≡ spec.items body.now) }
 {
     let mut items = Vec::new(alloc);
@@ -36,7 +36,7 @@ fn items(alloc: Global, body: &[Part]) -> Result<Vec<Numbers>, AllocError>
 }
 
 /// The reserved names, in order.
-fn reserved_names(alloc: Global, body: &[Part]) -> Result<Vec<String>, AllocError>
+pub(crate) fn reserved_names(alloc: Global, body: &[Part]) -> Result<Vec<String>, AllocError>
     ensures { IfOk result (λ names. map string_bytes names.items ≡ spec.reserved_names body.now) }
 {
     let mut names = Vec::new(alloc);
