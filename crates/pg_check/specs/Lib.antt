@@ -12,3 +12,5 @@ pub mod Files
 pub mod MadeNumbers
 pub mod MadeOptions
 pub mod MadeEnums
+pub mod MadeFields
+pub mod MadeMessages

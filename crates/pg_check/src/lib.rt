@@ -5,6 +5,8 @@ mod enumeration;
 mod fault;
 mod file;
 mod made_enum;
+mod made_field;
+mod made_message;
 mod made_number;
 mod made_option;
 mod member;

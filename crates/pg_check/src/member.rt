@@ -30,7 +30,7 @@ impl<'a> Member<'a> {
     }
 
     /// The field number as it is stated.
-    fn number(self) -> u64
+    pub(crate) fn number(self) -> u64
         ensures { result ≡ spec.number_of (spec.member self.entry) }
     {
         match self {
