@@ -1,0 +1,5 @@
+pub mod FirstLaws
+pub mod Texts
+pub mod TextSets
+pub mod Titles
+pub mod Outlines

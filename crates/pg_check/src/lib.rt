@@ -1,0 +1,19 @@
+//! The rules of the proto3 language, from linked files to a checked schema.
+#![tactic(auto)]
+
+mod enumeration;
+mod fault;
+mod file;
+mod made_enum;
+mod made_field;
+mod made_message;
+mod made_number;
+mod made_option;
+mod member;
+mod message;
+mod names;
+mod numbers;
+mod options;
+mod outline;
+mod reserved;
+mod types;

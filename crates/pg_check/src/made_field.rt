@@ -1,0 +1,178 @@
+//! What a field declares, as a schema has it.
+
+ghost use Rattle.std.specs.Prelude.{◌≡◌, IfOk, None, map, option_map};
+ghost use Rattle.std.specs.BTreeMap.{get};
+ghost use Rattle.std.specs.Ordering.{nat_cmp};
+ghost use Rattle.pg_check.specs.MadeFields as spec;
+ghost use Rattle.pg_check.specs.MadeNumbers.{index_of};
+ghost use Rattle.pg_check.specs.Members.{member};
+
+use crate::made_number::{field_number, index_of};
+use crate::made_option::bracket_flag;
+use crate::member::{Member, json_name};
+use crate::numbers::rank;
+use crate::types::{Target, Targets, scalar_named};
+use pg_schema::{Element, EnumId, Field, FieldOptions, Presence, Scalar, TypeId};
+use pg_syntax::tree::{Label, TypeName};
+use std::alloc::{AllocError, Global};
+
+/// The element of what a type name names.
+fn named_element(target: Option<Target>) -> Element
+    ensures { result ≡ spec.element_of None target }
+{
+    match target {
+        Some(Target::Message(place)) => Element::Message(TypeId {
+            index: index_of(place as u128),
+        }),
+        Some(Target::Enum(place)) => Element::Enum(EnumId {
+            index: index_of(place as u128),
+        }),
+        None => Element::Scalar(Scalar::Int32),
+    }
+}
+
+/// A scalar, or the message type or enum that is named.
+fn element(targets: &Targets, name: &TypeName) -> Element
+    ensures { result ≡ spec.element (get nat_cmp targets.now) name.now }
+{
+    match scalar_named(name) {
+        Some(scalar) => Element::Scalar(scalar),
+        None => named_element(targets.get(&name.span.from).copied()),
+    }
+}
+
+/// What the items are; of a map, what its values are.
+fn element_in(targets: &Targets, one: &Member<'_>) -> Element
+    ensures { result ≡ spec.element_in (get nat_cmp targets.now) (member one.now) }
+{
+    match one {
+        Member::Field(field, _) => element(targets, &field.type_name),
+        Member::Map(map, _) => element(targets, &map.value),
+    }
+}
+
+/// The options of a field.
+fn options(one: &Member<'_>) -> FieldOptions
+    ensures { result ≡ spec.options (member one.now) }
+{
+    FieldOptions {
+        packed: bracket_flag("packed", one.settings()),
+        deprecated: bracket_flag("deprecated", one.settings()),
+    }
+}
+
+/// How often the items of a field stand.
+fn labelled(
+    label: Option<Label>,
+    is_member: bool,
+    element: Element,
+    stated: Option<bool>,
+) -> Presence
+    ensures { result ≡ spec.labelled label is_member element stated }
+{
+    match label {
+        Some(Label::Repeated) => Presence::Repeated {
+            packed: stated.unwrap_or(element.is_packable()),
+        },
+        Some(Label::Optional) => Presence::Explicit,
+        None => {
+            if is_member || matches!(element, Element::Message(_)) {
+                Presence::Explicit
+            } else {
+                Presence::Implicit
+            }
+        }
+    }
+}
+
+/// How often the member's items stand.
+fn presence(targets: &Targets, one: &Member<'_>) -> Presence
+    ensures { result ≡ spec.presence (get nat_cmp targets.now) (member one.now) }
+{
+    match one {
+        Member::Field(field, oneof) => labelled(
+            field.label,
+            oneof.is_some(),
+            element(targets, &field.type_name),
+            bracket_flag("packed", &field.settings),
+        ),
+        Member::Map(map, _) => Presence::Map {
+            key: scalar_named(&map.key).unwrap_or(Scalar::Int32),
+        },
+    }
+}
+
+/// The word `optional` is stated.
+fn states_optional(one: &Member<'_>) -> bool
+    ensures { result ≡ spec.states_optional (member one.now) }
+{
+    match one {
+        Member::Field(field, _) => matches!(field.label, Some(Label::Optional)),
+        Member::Map(_, _) => false,
+    }
+}
+
+/// The place of the oneof among those of the message.
+fn oneof_of(one: &Member<'_>) -> Option<u32>
+    ensures { result ≡ option_map index_of (spec.oneof_of (member one.now)) }
+{
+    let oneof = match one {
+        Member::Field(_, oneof) => *oneof,
+        Member::Map(_, oneof) => *oneof,
+    };
+    match oneof {
+        Some(place) => Some(index_of(place as u128)),
+        None => None,
+    }
+}
+
+/// The number of the member.
+fn made_number(one: &Member<'_>) -> u32
+    ensures { result ≡ spec.made_number (member one.now) }
+{
+    field_number(rank(false, one.number()))
+}
+
+/// The field.
+fn made_field(alloc: Global, targets: &Targets, one: &Member<'_>) -> Result<Field, AllocError>
+    ensures { IfOk result (λ made. spec.field made ≡ spec.made_field (get nat_cmp targets.now) (member one.now)) }
+{
+    let name = String::from_str(alloc, &one.name().text)?;
+    let json_name = json_name(alloc, *one)?;
+    Ok(Field {
+        number: made_number(one),
+        name,
+        presence: presence(targets, one),
+        element: element_in(targets, one),
+        oneof: oneof_of(one),
+        json_name,
+        states_optional: states_optional(one),
+        options: options(one),
+    })
+}
+
+/// The fields, in order of declaration.
+pub(crate) fn made_fields(
+    alloc: Global,
+    targets: &Targets,
+    list: &[Member<'_>],
+) -> Result<Vec<Field>, AllocError>
+    ensures { IfOk result (λ fields. map spec.field fields.items ≡ map (spec.made_field (get nat_cmp targets.now)) (map member list.now)) }
+{
+    let mut fields = Vec::new(alloc);
+    for one in list {
+        fields.push(made_field(alloc, targets, one)?)?;
+    }
+    Ok(fields)
+}
+
+/// The numbers, in order of declaration.
+pub(crate) fn made_numbers(alloc: Global, list: &[Member<'_>]) -> Result<Vec<u32>, AllocError>
+    ensures { IfOk result (λ numbers. numbers.items ≡ map spec.made_number (map member list.now)) }
+{
+    let mut numbers = Vec::new(alloc);
+    for one in list {
+        numbers.push(made_number(one))?;
+    }
+    Ok(numbers)
+}

@@ -1,0 +1,151 @@
+//! Reserved items.
+
+ghost use Rattle.std.specs.Prelude.{◌≡◌, ◌++◌, OnOk, map, string_bytes};
+ghost use Rattle.std.specs.List.{list_any};
+ghost use Rattle.pg_check.specs.ReservedItems as spec;
+
+use crate::fault::{Fault, Rule, broken, earlier};
+use crate::numbers::{Numbers, is_within, rank_of};
+use pg_syntax::tree::{Bound, Range, ReservedItems, Text};
+use std::alloc::{AllocError, Global};
+
+/// The numbers that an item reserves; `max` is the highest.
+fn numbers_of(highest: u128, range: &Range) -> Numbers
+    ensures { result ≡ spec.numbers_of highest range.now }
+{
+    let first = rank_of(range.from);
+    let last = match &range.to {
+        None => first,
+        Some(Bound::Number(number)) => rank_of(*number),
+        Some(Bound::Max(_)) => highest,
+    };
+    Numbers {
+        first,
+        last,
+        at: range.span.from,
+    }
+}
+
+/// Puts the numbers that the items reserve behind the others.
+fn push_ranges(
+    numbers: &mut Vec<Numbers>,
+    highest: u128,
+    ranges: &[Range],
+) -> Result<(), AllocError>
+    ensures { OnOk result (numbers.new.items ≡ numbers.old.items ++ map (spec.numbers_of highest) ranges.now) }
+{
+    for range in ranges {
+        numbers.push(numbers_of(highest, range))?;
+    }
+    Ok(())
+}
+
+/// Puts the numbers that a list reserves behind the others.
+pub(crate) fn push_numbers(
+    numbers: &mut Vec<Numbers>,
+    highest: u128,
+    items: &ReservedItems,
+) -> Result<(), AllocError>
+    ensures { OnOk result (numbers.new.items ≡ numbers.old.items ++ spec.numbers_in highest items.now) }
+{
+    match items {
+        ReservedItems::Names { .. } => Ok(()),
+        ReservedItems::Ranges { first, more } => {
+            numbers.push(numbers_of(highest, first))?;
+            push_ranges(numbers, highest, more)
+        }
+    }
+}
+
+/// Puts the texts behind the others.
+fn push_texts(alloc: Global, names: &mut Vec<String>, texts: &[Text]) -> Result<(), AllocError>
+    ensures { OnOk result (map string_bytes names.new.items ≡ map string_bytes names.old.items ++ map spec.text_of texts.now) }
+{
+    for text in texts {
+        names.push(text.joined(alloc)?)?;
+    }
+    Ok(())
+}
+
+/// Puts the names that a list reserves behind the others.
+pub(crate) fn push_names(
+    alloc: Global,
+    names: &mut Vec<String>,
+    items: &ReservedItems,
+) -> Result<(), AllocError>
+    ensures { OnOk result (map string_bytes names.new.items ≡ map string_bytes names.old.items ++ spec.names_in items.now) }
+{
+    match items {
+        ReservedItems::Names { first, more } => {
+            names.push(first.joined(alloc)?)?;
+            push_texts(alloc, names, more)
+        }
+        ReservedItems::Ranges { .. } => Ok(()),
+    }
+}
+
+/// The place of the first item with an end that doesn't lie between these two.
+fn first_beyond(lowest: u128, highest: u128, items: &[Numbers]) -> Option<usize>
+    ensures { result ≡ spec.first_beyond lowest highest items.now }
+{
+    for item in items {
+        if !(is_within(lowest, highest, item.first) && is_within(lowest, highest, item.last)) {
+            return Some(item.at);
+        }
+    }
+    None
+}
+
+/// The place of the first item that ends before it begins.
+fn first_falling(items: &[Numbers]) -> Option<usize>
+    ensures { result ≡ spec.first_falling items.now }
+{
+    for item in items {
+        if item.last < item.first {
+            return Some(item.at);
+        }
+    }
+    None
+}
+
+/// Both items have a number.
+fn overlap(one: Numbers, other: Numbers) -> bool
+    ensures { result ≡ spec.overlap one other }
+{
+    (one.first <= one.last && other.first <= other.last)
+        && (one.first <= other.last && other.first <= one.last)
+}
+
+/// The item has a number of one of these.
+fn overlaps_one(items: &[Numbers], item: Numbers) -> bool
+    ensures { result ≡ list_any (spec.overlap item) items.now }
+{
+    for other in items {
+        if overlap(item, *other) {
+            return true;
+        }
+    }
+    false
+}
+
+/// The place of the first item that has a number of one before it.
+fn first_overlapping(items: &[Numbers]) -> Option<usize>
+    ensures { result ≡ spec.first_overlapping items.now }
+{
+    for (index, item) in items.iter().enumerate() {
+        if overlaps_one(&items[..index], *item) {
+            return Some(item.at);
+        }
+    }
+    None
+}
+
+/// The first rule that reserved items break.
+pub(crate) fn items_fault(lowest: u128, highest: u128, items: &[Numbers]) -> Option<Fault>
+    ensures { result ≡ spec.items_fault lowest highest items.now }
+{
+    let beyond = broken(Rule::BadNumber, first_beyond(lowest, highest, items));
+    let falling = broken(Rule::RangeOverlap, first_falling(items));
+    let overlapping = broken(Rule::RangeOverlap, first_overlapping(items));
+    earlier(beyond, earlier(falling, overlapping))
+}

@@ -1,0 +1,94 @@
+//! Scalar types, and what type names name.
+
+ghost use Rattle.std.specs.Prelude.{◌≡◌};
+ghost use Rattle.pg_schema.specs.Shape.{is_key};
+ghost use Rattle.std.specs.Ordering.{nat_cmp};
+ghost use Rattle.std.specs.BTreeMap.{get};
+ghost use Rattle.pg_check.specs.Types as spec;
+
+use pg_schema::Scalar;
+use pg_syntax::tree::TypeName;
+use std::collections::BTreeMap;
+
+/// What a type name names: a message type or an enum, by its place among those of all files.
+#[derive(Clone, Copy, Debug, PartialEq, Eq)]
+pub(crate) enum Target {
+    Message(usize),
+    Enum(usize),
+}
+
+/// What the type names of a file name, by the byte at which each begins.
+pub(crate) type Targets = BTreeMap<usize, Target>;
+
+/// The scalar type of this word (proto3 language guide, "Scalar Value Types").
+fn scalar_of(word: &str) -> Option<Scalar>
+    ensures { result ≡ spec.scalar_of word.now }
+{
+    match word {
+        "double" => Some(Scalar::Double),
+        "float" => Some(Scalar::Float),
+        "int32" => Some(Scalar::Int32),
+        "int64" => Some(Scalar::Int64),
+        "uint32" => Some(Scalar::Uint32),
+        "uint64" => Some(Scalar::Uint64),
+        "sint32" => Some(Scalar::Sint32),
+        "sint64" => Some(Scalar::Sint64),
+        "fixed32" => Some(Scalar::Fixed32),
+        "fixed64" => Some(Scalar::Fixed64),
+        "sfixed32" => Some(Scalar::Sfixed32),
+        "sfixed64" => Some(Scalar::Sfixed64),
+        "bool" => Some(Scalar::Bool),
+        "string" => Some(Scalar::String),
+        "bytes" => Some(Scalar::Bytes),
+        _ => None,
+    }
+}
+
+/// The scalar type that the name is, which then is one word without a dot.
+pub(crate) fn scalar_named(name: &TypeName) -> Option<Scalar>
+    ensures { result ≡ spec.scalar_named name.now }
+{
+    if !name.is_full && name.path.more.is_empty() {
+        scalar_of(&name.path.first.text)
+    } else {
+        None
+    }
+}
+
+/// The scalar may be a map's key.
+fn is_key(scalar: Scalar) -> bool
+    ensures { result ≡ is_key scalar }
+{
+    !matches!(scalar, Scalar::Double | Scalar::Float | Scalar::Bytes)
+}
+
+/// The type is an integral one, bool or string.
+pub(crate) fn is_key_type(name: &TypeName) -> bool
+    ensures { result ≡ spec.is_key_type name.now }
+{
+    match scalar_named(name) {
+        Some(scalar) => is_key(scalar),
+        None => false,
+    }
+}
+
+/// What the type name that begins there names is an enum.
+fn is_enum(targets: &Targets, at: usize) -> bool
+    ensures { result ≡ spec.is_enum (get nat_cmp targets.now at) }
+{
+    match targets.get(&at) {
+        Some(Target::Enum(_)) => true,
+        Some(Target::Message(_)) => false,
+        None => false,
+    }
+}
+
+/// A list of such items can stand in one record.
+pub(crate) fn is_packable_type(targets: &Targets, name: &TypeName) -> bool
+    ensures { result ≡ spec.is_packable_type (get nat_cmp targets.now) name.now }
+{
+    match scalar_named(name) {
+        Some(scalar) => !matches!(scalar, Scalar::String | Scalar::Bytes),
+        None => is_enum(targets, name.span.from),
+    }
+}
