@@ -3,6 +3,8 @@ pub mod EntryLaws
 pub mod OrderLaws
 pub mod PathLaws
 pub mod ResolvesLaws
+pub mod SeesLaws
+pub mod SightLaws
 pub mod SmallFiles
 pub mod StandingLaws
 pub mod WalkLaws
