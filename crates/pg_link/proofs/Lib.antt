@@ -1,10 +1,12 @@
 pub mod DeclareLaws
 pub mod EntryLaws
+pub mod MaskLaws
 pub mod OrderLaws
 pub mod PathLaws
 pub mod ResolvesLaws
 pub mod SeesLaws
 pub mod SightLaws
+pub mod SightsLaws
 pub mod SmallFiles
 pub mod StandingLaws
 pub mod WalkLaws

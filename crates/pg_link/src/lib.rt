@@ -16,6 +16,7 @@ mod names;
 mod reading;
 mod record;
 mod resolve;
+mod sights;
 mod sources;
 mod tally;
 mod target;
