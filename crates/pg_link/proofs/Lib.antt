@@ -1,3 +1,4 @@
+pub mod BridgeLaws
 pub mod DeclareLaws
 pub mod EntryLaws
 pub mod MaskLaws
