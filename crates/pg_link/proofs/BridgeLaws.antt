@@ -173,7 +173,7 @@ kinds_agree test (s ∷ more) ds full one two same = any_by test s more ds full 
 
 -- ---- one name has one kind
 
-package_is : (k : Kind) → is_package k ≡ true → k ≡ kinds.Package
+pub package_is : (k : Kind) → is_package k ≡ true → k ≡ kinds.Package
 package_is kinds.Package is = refl
 package_is kinds.Message is = absurd (true≢false (sym is))
 package_is kinds.Enum is = absurd (true≢false (sym is))
@@ -184,7 +184,7 @@ package_is kinds.Oneof is = absurd (true≢false (sym is))
 package_is kinds.Service is = absurd (true≢false (sym is))
 package_is kinds.Method is = absurd (true≢false (sym is))
 
-both_true : (a b : Bool) → (a && b) ≡ true → (a ≡ true) × (b ≡ true)
+pub both_true : (a b : Bool) → (a && b) ≡ true → (a ≡ true) × (b ≡ true)
 both_true true b is = (refl, is)
 both_true false b is = absurd (true≢false (sym is))
 
@@ -193,7 +193,7 @@ first_bears : (bs : List Standing) (b : Bearer) → first_of bs ≡ Some b → (
 first_bears [] b is = absurd (none_some b is)
 first_bears (s ∷ more) b is = (s, first_among s more, ap (λ (x : Bearer). x.kind) (same_Some _ b is))
 
-none_bears : (bs : List Standing) (s : Standing) → first_of bs ≡ None → IsAmong bs s → ⊥
+pub none_bears : (bs : List Standing) (s : Standing) → first_of bs ≡ None → IsAmong bs s → ⊥
 none_bears [] s none (i, (within, is)) = omega (arith, within)
 none_bears (t ∷ more) s none among = none_some _ (sym none)
 
@@ -325,16 +325,21 @@ seen_names index es ps sight holds once marks full =
     (λ d among named.
     let f = flat_among (λ (x : File). x.declared) (filter q (outlines es)) d among in
     let g = filter_among q (outlines es) f.0 f.1 in
-    let s = its_standing es f.0 d g.0 f.2 in
-    (standing s.0 d, among_filter (names_it full) (all_standings es) (standing s.0 d) s.4 (turned d.name full named),
-    marks s.0 s.1 s.2 ∙ (ap q s.3 ∙ g.1), refl))
+    let s = its_standing es f.0 d g.0 f.2 in (
+      standing s.0 d,
+      among_filter (names_it full) (all_standings es) (standing s.0 d) s.4 (turned d.name full named),
+      marks s.0 s.1 s.2 ∙ (ap q s.3 ∙ g.1),
+      refl,
+    ))
     (λ a among pass.
     let h = filter_among (names_it full) (all_standings es) a among in
     let s = stands_of 0 es a h.0 in
     let number : a.file ≡ s.number = s.is_file ∙ omega arith in
-    let seen : q (outline s.entry) ≡ true = sym (marks s.number s.entry s.is_there) ∙ (ap (λ (k : ℕ). get_or sight k false) (sym number) ∙ pass) in
-    (among_flat (λ (x : File). x.declared) (filter q (outlines es)) (outline s.entry) a.declared
-    (among_filter q (outlines es) (outline s.entry) (among_outlines es s.number s.entry s.is_there) seen) s.declares, turned full a.declared.name h.1))
+    let seen : q (outline s.entry) ≡ true = sym (marks s.number s.entry s.is_there) ∙ (ap (λ (k : ℕ). get_or sight k false) (sym number) ∙ pass) in (
+      among_flat (λ (x : File). x.declared) (filter q (outlines es)) (outline s.entry) a.declared
+          (among_filter q (outlines es) (outline s.entry) (among_outlines es s.number s.entry s.is_there) seen) s.declares,
+      turned full a.declared.name h.1,
+    ))
     (same_kinds es full once)
 
 pub known_names : {S : Type 0} (index : HashMap (String Global) nameds.Named S) (es : List Entry) → Holds index (all_standings es)
@@ -349,7 +354,8 @@ known_names index es holds once full =
     (standing s.0 d, among_filter (names_it full) (all_standings es) (standing s.0 d) s.4 (turned d.name full named), refl, refl))
     (λ a among pass.
     let h = filter_among (names_it full) (all_standings es) a among in
-    let s = stands_of 0 es a h.0 in
-    (among_flat (λ (x : File). x.declared) (outlines es) (outline s.entry) a.declared (among_outlines es s.number s.entry s.is_there) s.declares,
-    turned full a.declared.name h.1))
+    let s = stands_of 0 es a h.0 in (
+      among_flat (λ (x : File). x.declared) (outlines es) (outline s.entry) a.declared (among_outlines es s.number s.entry s.is_there) s.declares,
+      turned full a.declared.name h.1,
+    ))
     (same_kinds es full once)

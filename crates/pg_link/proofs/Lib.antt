@@ -2,6 +2,7 @@ pub mod BridgeLaws
 pub mod DeclareLaws
 pub mod EntryLaws
 pub mod MaskLaws
+pub mod NumberLaws
 pub mod OrderLaws
 pub mod PathLaws
 pub mod ResolvesLaws

@@ -24,10 +24,10 @@ none_some x is = true≢false (sym (ap is_some is))
 
 -- ---- the first that passes
 
-step_true : {X : Type 0} (p : X → Bool) (x : X) (xs : List X) → p x ≡ true → position_or_len p (x ∷ xs) ≡ 0
+pub step_true : {X : Type 0} (p : X → Bool) (x : X) (xs : List X) → p x ≡ true → position_or_len p (x ∷ xs) ≡ 0
 step_true p x xs is = rw is refl
 
-step_false : {X : Type 0} (p : X → Bool) (x : X) (xs : List X) → p x ≡ false → position_or_len p (x ∷ xs) ≡ suc (position_or_len p xs)
+pub step_false : {X : Type 0} (p : X → Bool) (x : X) (xs : List X) → p x ≡ false → position_or_len p (x ∷ xs) ≡ suc (position_or_len p xs)
 step_false p x xs is = rw is (omega arith)
 
 pub record FirstAt {X : Type 0} (p : X → Bool) (xs : List X) (n : ℕ) : Type 0 where
