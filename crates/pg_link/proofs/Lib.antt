@@ -11,4 +11,5 @@ pub mod SightLaws
 pub mod SightsLaws
 pub mod SmallFiles
 pub mod StandingLaws
+pub mod UseLaws
 pub mod WalkLaws

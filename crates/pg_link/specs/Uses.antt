@@ -39,12 +39,15 @@ is_scalar name = if name.is_full then false else is_scalar_alone name.first name
 
 -- ---- uses, in the scope of these words
 
+abbrev pub use_in : List Text → Bool → tree.TypeName.TypeName → Use
+use_in scope takes_enums name = record { scope = scope; name = reference name; at = name.span.from; takes_enums = takes_enums }
+
 abbrev pub in_field : List Text → tree.TypeName.TypeName → Use
-in_field scope name = record { scope = scope; name = reference name; at = name.span.from; takes_enums = true }
+in_field scope = use_in scope true
 
 -- an rpc takes and returns message types
 abbrev pub in_rpc : List Text → tree.TypeName.TypeName → Use
-in_rpc scope name = record { scope = scope; name = reference name; at = name.span.from; takes_enums = false }
+in_rpc scope = use_in scope false
 
 abbrev pub field_uses : List Text → tree.TypeName.TypeName → List Use
 field_uses scope name = if is_scalar (reference name) then [] else in_field scope name ∷ []

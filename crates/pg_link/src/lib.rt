@@ -20,6 +20,7 @@ mod sights;
 mod sources;
 mod tally;
 mod target;
+mod uses;
 mod walk;
 
 pub use below::read_below;
@@ -37,6 +38,7 @@ pub use resolve::Unresolved;
 pub use sources::{SourceError, Sources};
 pub use tally::Tally;
 pub use target::Target;
+pub use uses::is_scalar;
 pub use walk::{MAX_FILES, SourceFile, Walk, follow_imports};
 
 #[cfg(test)]
