@@ -13,8 +13,8 @@ use Rattle.pg_link.specs.declared.names.Named as nameds
 use Rattle.pg_link.specs.declared.declares.DeclaredName as made
 use Rattle.pg_link.specs.Names.{Text}
 use Rattle.pg_link.specs.Outline.{declared_of}
-use Rattle.pg_link.specs.declared.declaring.NameError as faults
-use Rattle.pg_link.specs.declared.declaring.NameError.TheVariants as fault
+use Rattle.pg_link.specs.declared.error.LinkError as errors
+use Rattle.pg_link.specs.declared.error.LinkError.TheVariants as error
 use Rattle.pg_link.specs.Walk.{Entry, IsPlace, path_of}
 use Rattle.std.proofs.lemmas.Option.{same_Some}
 use Rattle.pg_link.proofs.WalkLaws.{split_at}
@@ -154,10 +154,20 @@ standings_split n (x ∷ es) (suc i) =
     let h = standings_split (n + 1) es i in
     (h.0, ap (λ l. standings n x.1.tree ++ l) h.1 ∙ sym (append_assoc (standings n x.1.tree) (standings_from (n + 1) (take i es)) h.0))
 
-pub twice_in : (index : indexes.Index) (es : List Entry) (i : ℕ) (e : Entry) (path : Text) (err : faults.NameError)
+pub twice_in : (index : indexes.Index) (es : List Entry) (i : ℕ) (e : Entry) (path : Text) (err : errors.LinkError)
     → slice_get es i ≡ Some e → path ≡ path_of e → Lists index (all_standings (take i es)) → IsTwice index i path e.1.bytes.items (standings i e.1.tree) err → IsTwiceIn es err
-twice_in index es i e path fault.Memory at same holds twice = tt
-twice_in index es i e path (fault.DuplicateName place) at same holds (front, back, d, splits, is_place, stands) =
+twice_in index es i e path error.Memory at same holds twice = tt
+twice_in index es i e path (error.MissingFile place) at same holds twice = absurd twice
+twice_in index es i e path (error.ImportCycle place) at same holds twice = absurd twice
+twice_in index es i e path (error.DuplicateImport place) at same holds twice = absurd twice
+twice_in index es i e path (error.UnknownName place) at same holds twice = absurd twice
+twice_in index es i e path (error.NotAType place) at same holds twice = absurd twice
+twice_in index es i e path (error.NotImported place) at same holds twice = absurd twice
+twice_in index es i e path (error.TooManyFiles place) at same holds twice = absurd twice
+twice_in index es i e path (error.SourceFailed place) at same holds twice = absurd twice
+twice_in index es i e path (error.Lex f place) at same holds twice = absurd twice
+twice_in index es i e path (error.Syntax f place) at same holds twice = absurd twice
+twice_in index es i e path (error.DuplicateName place) at same holds (front, back, d, splits, is_place, stands) =
     let before = all_standings (take i es) in
     let s = standing i d in
     let rest = standings_split 0 es (i + 1) in

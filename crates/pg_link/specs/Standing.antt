@@ -12,8 +12,8 @@ use Rattle.pg_link.specs.declared.names.Kind.TheVariants.{Package, Message, Enum
 use Rattle.pg_link.specs.declared.target.Target.{Target}
 use Rattle.pg_link.specs.declared.target.Target.TheVariants as targets
 use Rattle.pg_link.specs.declared.names.Named as nameds
-use Rattle.pg_link.specs.declared.declaring.NameError as faults
-use Rattle.pg_link.specs.declared.declaring.NameError.TheVariants as fault
+use Rattle.pg_link.specs.declared.error.LinkError as errors
+use Rattle.pg_link.specs.declared.error.LinkError.TheVariants as error
 use Rattle.pg_link.specs.Files.{Declared}
 use Rattle.pg_link.specs.Names.{Text, is_package}
 use Rattle.pg_link.specs.Outline.{file_names}
@@ -148,10 +148,20 @@ abbrev pub AddsAll : indexes.Index → indexes.Index → List Standing → Type 
 AddsAll old new more = (all : List Standing) → Lists old all → Lists new (all ++ more) × (NoneTwice all → NoneTwice (all ++ more))
 
 -- one of the names stands twice, at this place in the file
-abbrev pub IsTwice : indexes.Index → ℕ → Text → Text → List Standing → faults.NameError → Type 0
-IsTwice old number path text more (fault.DuplicateName place) = (front back : List Standing) × (d : Declared) × (more ≡ front ++ standing number d ∷ back)
+abbrev pub IsTwice : indexes.Index → ℕ → Text → Text → List Standing → errors.LinkError → Type 0
+IsTwice old number path text more (error.DuplicateName place) = (front back : List Standing) × (d : Declared) × (more ≡ front ++ standing number d ∷ back)
     × IsPlace place path text d.at × ((all : List Standing) → Lists old all → StandsTwice (all ++ front) (standing number d))
-IsTwice old number path text more fault.Memory = Unit {0}
+IsTwice old number path text more error.Memory = Unit {0}
+IsTwice old number path text more (error.MissingFile place) = ⊥
+IsTwice old number path text more (error.ImportCycle place) = ⊥
+IsTwice old number path text more (error.DuplicateImport place) = ⊥
+IsTwice old number path text more (error.UnknownName place) = ⊥
+IsTwice old number path text more (error.NotAType place) = ⊥
+IsTwice old number path text more (error.NotImported place) = ⊥
+IsTwice old number path text more (error.TooManyFiles place) = ⊥
+IsTwice old number path text more (error.SourceFailed place) = ⊥
+IsTwice old number path text more (error.Lex e place) = ⊥
+IsTwice old number path text more (error.Syntax e place) = ⊥
 
 -- the names of these files, numbered from this on
 abbrev pub standings_from : ℕ → List Entry → List Standing
@@ -162,7 +172,17 @@ abbrev pub all_standings : List Entry → List Standing
 all_standings = standings_from 0
 
 -- one of the names of the files stands twice, at its place
-abbrev pub IsTwiceIn : List Entry → faults.NameError → Type 0
-IsTwiceIn entries (fault.DuplicateName place) = (front back : List Standing) × (s : Standing) × (all_standings entries ≡ front ++ s ∷ back)
+abbrev pub IsTwiceIn : List Entry → errors.LinkError → Type 0
+IsTwiceIn entries (error.DuplicateName place) = (front back : List Standing) × (s : Standing) × (all_standings entries ≡ front ++ s ∷ back)
     × StandsTwice front s × ((e : Entry) × (slice_get entries s.file ≡ Some e) × IsPlace place (path_of e) e.1.bytes.items s.declared.at)
-IsTwiceIn entries fault.Memory = Unit {0}
+IsTwiceIn entries error.Memory = Unit {0}
+IsTwiceIn entries (error.MissingFile place) = ⊥
+IsTwiceIn entries (error.ImportCycle place) = ⊥
+IsTwiceIn entries (error.DuplicateImport place) = ⊥
+IsTwiceIn entries (error.UnknownName place) = ⊥
+IsTwiceIn entries (error.NotAType place) = ⊥
+IsTwiceIn entries (error.NotImported place) = ⊥
+IsTwiceIn entries (error.TooManyFiles place) = ⊥
+IsTwiceIn entries (error.SourceFailed place) = ⊥
+IsTwiceIn entries (error.Lex e place) = ⊥
+IsTwiceIn entries (error.Syntax e place) = ⊥

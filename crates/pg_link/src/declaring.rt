@@ -6,13 +6,12 @@ ghost use Rattle.pg_link.specs.Standing as spec;
 ghost use Rattle.pg_link.specs.Targets.{is_enum, is_message};
 
 use crate::declares::{DeclaredName, declared_names};
-use crate::error::{Place, place_in};
+use crate::error::{LinkError, place_in};
 use crate::index::Index;
 use crate::names::{Kind, Named};
 use crate::walk::SourceFile;
 use indexmap::IndexMap;
 use std::alloc::{AllocError, Global};
-use thiserror::Error;
 
 /// What stands under a name that this file declares first.
 fn first(
@@ -129,27 +128,6 @@ impl Index {
     }
 }
 
-/// Why the names of files can't stand beside each other.
-#[derive(Debug, Drop, Error)]
-pub enum NameError {
-    /// E304: a name stands twice, and not both times as a part of a package. At the later of the two.
-    #[error("the name is declared twice")]
-    DuplicateName(Place),
-    /// E001: a growth was refused.
-    #[error("out of memory")]
-    Memory,
-}
-
-impl From<AllocError> for NameError {
-    ghost use Rattle.pg_link.specs.declared.declaring.NameError.TheVariants.{Memory};
-
-    ghost from_gives = { λ _ error. error ≡ Memory };
-
-    fn from(_error: AllocError) -> NameError {
-        NameError::Memory
-    }
-}
-
 impl Index {
     /// Puts the names that a file declares behind the others. `number` is the file's.
     fn add_file(
@@ -158,7 +136,7 @@ impl Index {
         number: usize,
         path: &str,
         file: &SourceFile,
-    ) -> Result<(), NameError>
+    ) -> Result<(), LinkError>
         ensures holds { OnOk result (spec.AddsAll self.old self.new (spec.standings number file.now.tree)) }
         ensures twice { IfErr result (spec.IsTwice self.old number path.now file.now.bytes.items (spec.standings number file.now.tree)) }
     {
@@ -166,7 +144,7 @@ impl Index {
         for declared in &names {
             if !self.add(alloc, number, declared)? {
                 let place = place_in(alloc, path, &file.bytes, declared.at)?;
-                return Err(NameError::DuplicateName(place));
+                return Err(LinkError::DuplicateName(place));
             }
         }
         Ok(())
@@ -177,7 +155,7 @@ impl Index {
 /// in which their names are looked at; each is numbered by its place.
 ///
 /// E304 where a name is declared twice, and not both times as a part of a package: at the later of the two.
-pub fn index_names(alloc: Global, files: &IndexMap<String, SourceFile>) -> Result<Index, NameError>
+pub fn index_names(alloc: Global, files: &IndexMap<String, SourceFile>) -> Result<Index, LinkError>
     // The index holds just the names that the files declare, and none stands twice.
     ensures holds { IfOk result (λ index. spec.Holds index.names (spec.all_standings files.now.entries)) }
     ensures once { OnOk result (spec.NoneTwice (spec.all_standings files.now.entries)) }

@@ -25,7 +25,7 @@ mod walk;
 
 pub use below::read_below;
 pub use declares::{DeclaredName, declared_names};
-pub use declaring::{NameError, index_names};
+pub use declaring::index_names;
 pub use error::{LinkError, Place};
 pub use folder::Folder;
 pub use index::Index;
