@@ -1,8 +1,15 @@
+pub mod BridgeLaws
 pub mod DeclareLaws
 pub mod EntryLaws
+pub mod MaskLaws
+pub mod NumberLaws
 pub mod OrderLaws
 pub mod PathLaws
 pub mod ResolvesLaws
+pub mod SeesLaws
+pub mod SightLaws
+pub mod SightsLaws
 pub mod SmallFiles
 pub mod StandingLaws
+pub mod UseLaws
 pub mod WalkLaws

@@ -8,16 +8,17 @@ use Rattle.std.specs.HashMap.{HashMap, get_by_text}
 use Rattle.std.specs.Map.{update}
 use Rattle.std.specs.Option.{option_map}
 use Rattle.std.specs.Str.{bytes_eq}
+use Rattle.pg_link.specs.declared.index.Index as indexes
 use Rattle.pg_link.specs.declared.names.Named as nameds
 use Rattle.pg_link.specs.declared.declares.DeclaredName as made
 use Rattle.pg_link.specs.Names.{Text}
 use Rattle.pg_link.specs.Outline.{declared_of}
-use Rattle.pg_link.specs.declared.declaring.NameError as faults
-use Rattle.pg_link.specs.declared.declaring.NameError.TheVariants as fault
+use Rattle.pg_link.specs.declared.error.LinkError as errors
+use Rattle.pg_link.specs.declared.error.LinkError.TheVariants as error
 use Rattle.pg_link.specs.Walk.{Entry, IsPlace, path_of}
 use Rattle.std.proofs.lemmas.Option.{same_Some}
 use Rattle.pg_link.proofs.WalkLaws.{split_at}
-use Rattle.pg_link.specs.Standing.{Standing, Bearer, bearers, bearer, first_of, added, MayStand, Adds, AddsAll, NoneTwice, AllMayStand, StandsTwice, Holds, standing, standings, standings_from, all_standings, IsTwice, IsTwiceIn, view}
+use Rattle.pg_link.specs.Standing.{Standing, Bearer, bearers, bearer, first_of, added, MayStand, Adds, AddsAll, NoneTwice, AllMayStand, StandsTwice, Holds, Lists, standing, standings, standings_from, all_standings, IsTwice, IsTwiceIn, view}
 
 bearers-push : (all : List Standing) (s : Standing) (full : Text) → bearers (all ++ s ∷ []) full ≡ bearers all full ++ bearers (s ∷ []) full
 bearers-push all s full = filter-append (λ (t : Standing). bytes_eq full t.declared.name) all (s ∷ [])
@@ -82,13 +83,13 @@ one_held index all full n holds some = sym (holds full) ∙ ap (option_map view)
 
 -- ---- the names of a file, one by one
 
-pub adds_more : {S : Type 0} (old mid new : HashMap (String Global) nameds.Named S) (front : List Standing) (s : Standing) → AddsAll old mid front
+pub adds_more : (old mid new : indexes.Index) (front : List Standing) (s : Standing) → AddsAll old mid front
     → Adds mid new s true → AddsAll old new (front ++ s ∷ [])
 adds_more old mid new front s before adds = λ all holds.
     let h = before all holds in
     let a = adds (all ++ front) h.0 in
     let same : (all ++ front) ++ s ∷ [] ≡ all ++ (front ++ s ∷ []) = append_assoc all front (s ∷ []) in
-    (subst (Holds new) same a.1, λ none. subst NoneTwice same (none_twice_more (all ++ front) s (h.1 none) a.0))
+    (subst (Lists new) same a.1, λ none. subst NoneTwice same (none_twice_more (all ++ front) s (h.1 none) a.0))
 
 abbrev pub standing_of : ℕ → made.DeclaredName → Standing
 standing_of file d = standing file (declared_of d)
@@ -102,11 +103,11 @@ pub one_standing : (file : ℕ) (ds : List made.DeclaredName) (i : ℕ) (d : mad
 one_standing file ds i d inside is =
     map_more (standing_of file) ds i d inside ∙ ap (λ x. map (standing_of file) (take i ds) ++ standing_of file x ∷ []) (sym is)
 
-pub adds_none : {S : Type 0} (index : HashMap (String Global) nameds.Named S) → AddsAll index index []
-adds_none index = λ all holds. (subst (Holds index) (sym (append-nil all)) holds, λ none. subst NoneTwice (sym (append-nil all)) none)
+pub adds_none : (index : indexes.Index) → AddsAll index index []
+adds_none index = λ all holds. (subst (Lists index) (sym (append-nil all)) holds, λ none. subst NoneTwice (sym (append-nil all)) none)
 
-pub stands_twice : {S : Type 0} (old mid new : HashMap (String Global) nameds.Named S) (front : List Standing) (s : Standing) → AddsAll old mid front
-    → Adds mid new s false → (all : List Standing) → Holds old all → StandsTwice (all ++ front) s
+pub stands_twice : (old mid new : indexes.Index) (front : List Standing) (s : Standing) → AddsAll old mid front
+    → Adds mid new s false → (all : List Standing) → Lists old all → StandsTwice (all ++ front) s
 stands_twice old mid new front s before adds = λ all holds. adds (all ++ front) (before all holds).0
 
 pub split_standings : (file : ℕ) (ds : List made.DeclaredName) (i : ℕ) (d : made.DeclaredName) → i < length ds → d ≡ slice_index_or ds i d
@@ -153,10 +154,20 @@ standings_split n (x ∷ es) (suc i) =
     let h = standings_split (n + 1) es i in
     (h.0, ap (λ l. standings n x.1.tree ++ l) h.1 ∙ sym (append_assoc (standings n x.1.tree) (standings_from (n + 1) (take i es)) h.0))
 
-pub twice_in : {S : Type 0} (index : HashMap (String Global) nameds.Named S) (es : List Entry) (i : ℕ) (e : Entry) (path : Text) (err : faults.NameError)
-    → slice_get es i ≡ Some e → path ≡ path_of e → Holds index (all_standings (take i es)) → IsTwice index i path e.1.bytes.items (standings i e.1.tree) err → IsTwiceIn es err
-twice_in index es i e path fault.Memory at same holds twice = tt
-twice_in index es i e path (fault.DuplicateName place) at same holds (front, back, d, splits, is_place, stands) =
+pub twice_in : (index : indexes.Index) (es : List Entry) (i : ℕ) (e : Entry) (path : Text) (err : errors.LinkError)
+    → slice_get es i ≡ Some e → path ≡ path_of e → Lists index (all_standings (take i es)) → IsTwice index i path e.1.bytes.items (standings i e.1.tree) err → IsTwiceIn es err
+twice_in index es i e path error.Memory at same holds twice = tt
+twice_in index es i e path (error.MissingFile place) at same holds twice = absurd twice
+twice_in index es i e path (error.ImportCycle place) at same holds twice = absurd twice
+twice_in index es i e path (error.DuplicateImport place) at same holds twice = absurd twice
+twice_in index es i e path (error.UnknownName place) at same holds twice = absurd twice
+twice_in index es i e path (error.NotAType place) at same holds twice = absurd twice
+twice_in index es i e path (error.NotImported place) at same holds twice = absurd twice
+twice_in index es i e path (error.TooManyFiles place) at same holds twice = absurd twice
+twice_in index es i e path (error.SourceFailed place) at same holds twice = absurd twice
+twice_in index es i e path (error.Lex f place) at same holds twice = absurd twice
+twice_in index es i e path (error.Syntax f place) at same holds twice = absurd twice
+twice_in index es i e path (error.DuplicateName place) at same holds (front, back, d, splits, is_place, stands) =
     let before = all_standings (take i es) in
     let s = standing i d in
     let rest = standings_split 0 es (i + 1) in

@@ -54,6 +54,10 @@ read_refused w ps a path (error.Syntax e place) asks fault = absurd fault
 read_refused w ps a path (error.ImportCycle place) asks fault = absurd fault
 read_refused w ps a path (error.DuplicateImport place) asks fault = absurd fault
 read_refused w ps a path (error.TooManyFiles place) asks fault = absurd fault
+read_refused w ps a path (error.DuplicateName place) asks fault = absurd fault
+read_refused w ps a path (error.UnknownName place) asks fault = absurd fault
+read_refused w ps a path (error.NotAType place) asks fault = absurd fault
+read_refused w ps a path (error.NotImported place) asks fault = absurd fault
 
 pub text_refused : (w : World) (path text : Text) (e : errors.LinkError) → Gives w path text → Reached w path → IsTextFault path text e → Refuses w e
 text_refused w path text (error.Lex e place) given reached fault =
@@ -66,6 +70,10 @@ text_refused w path text (error.SourceFailed place) given reached fault = absurd
 text_refused w path text (error.ImportCycle place) given reached fault = absurd fault
 text_refused w path text (error.DuplicateImport place) given reached fault = absurd fault
 text_refused w path text (error.TooManyFiles place) given reached fault = absurd fault
+text_refused w path text (error.DuplicateName place) given reached fault = absurd fault
+text_refused w path text (error.UnknownName place) given reached fault = absurd fault
+text_refused w path text (error.NotAType place) given reached fault = absurd fault
+text_refused w path text (error.NotImported place) given reached fault = absurd fault
 
 same_path : (a b : Text) → bytes_eq a b ≡ true → a ≡ b
 same_path a b is = (bytes_eq-Decides a b).0 is
@@ -116,6 +124,10 @@ import_refused w ps path here next before (error.SourceFailed place) file i come
 import_refused w ps path here next before (error.Lex e place) file i comes fronts fault = absurd fault
 import_refused w ps path here next before (error.Syntax e place) file i comes fronts fault = absurd fault
 import_refused w ps path here next before (error.TooManyFiles place) file i comes fronts fault = absurd fault
+import_refused w ps path here next before (error.DuplicateName place) file i comes fronts fault = absurd fault
+import_refused w ps path here next before (error.UnknownName place) file i comes fronts fault = absurd fault
+import_refused w ps path here next before (error.NotAType place) file i comes fronts fault = absurd fault
+import_refused w ps path here next before (error.NotImported place) file i comes fronts fault = absurd fault
 
 -- ---- more than 1,024 files
 

@@ -1,5 +1,5 @@
 -- What files declare and see (proto3 language guide, "Importing Definitions").
-use Rattle.std.specs.Prelude.{◌≡◌, ◌⊎◌, ℕ, Bool, true, false, List, [], ◌∷◌, if◌then◌else◌, map, flat_map}
+use Rattle.std.specs.Prelude.{◌≡◌, ◌⊎◌, ◌↔◌, ℕ, Bool, true, false, List, [], ◌∷◌, if◌then◌else◌, map, flat_map}
 use Rattle.std.specs.Option.{option_map}
 use Rattle.std.specs.List.{find, filter, list_any, All, IsAmong}
 use Rattle.std.specs.Str.{bytes_eq}
@@ -108,3 +108,8 @@ pub data Leads (files : List File) : Text → Text → Type 0 where
 
 abbrev pub HasNoCycle : List File → Type 0
 HasNoCycle files = (path : Text) → Leads files path path → ⊥
+
+-- Of files in order, what is computed is what a file sees, and nothing else.
+abbrev pub SeenPathsAreSeen : Type 0
+SeenPathsAreSeen = (files : List File) → InOrder files → Differ (paths_of files) → (path : Text) → is_path_of (paths_of files) path ≡ true
+    → (other : Text) → (is_path_of (seen_paths files path) other ≡ true) ↔ Sees files path other

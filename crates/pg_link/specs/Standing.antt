@@ -1,18 +1,23 @@
 -- The names of all files, each where it stands (proto3 language specification, "Package", "Message definition").
-use Rattle.std.specs.Prelude.{◌≡◌, ◌⊎◌, ◌&&◌, ℕ, Bool, true, false, List, [], ◌∷◌, ◌++◌, ◌+◌, slice_get, Option, Some, None, map, reverse}
+use Rattle.std.specs.Prelude.{◌≡◌, ◌⊎◌, ◌&&◌, ℕ, Bool, true, false, List, [], ◌∷◌, ◌++◌, ◌+◌, slice_get, Option, Some, None, length, map, reverse}
 use Rattle.std.specs.List.{filter}
 use Rattle.std.specs.Option.{option_map}
 use Rattle.std.specs.Str.{bytes_eq}
 use Rattle.std.specs.HashMap.{HashMap, get_by_text}
 use Rattle.std.specs.Global.{Global}
 use Rattle.std.specs.Prelude.{String}
+use Rattle.pg_link.specs.declared.index.Index as indexes
 use Rattle.pg_link.specs.declared.names.Kind.{Kind}
+use Rattle.pg_link.specs.declared.names.Kind.TheVariants.{Package, Message, Enum, Entry as MapEntry, Value, Field, Oneof, Service, Method}
+use Rattle.pg_link.specs.declared.target.Target.{Target}
+use Rattle.pg_link.specs.declared.target.Target.TheVariants as targets
 use Rattle.pg_link.specs.declared.names.Named as nameds
-use Rattle.pg_link.specs.declared.declaring.NameError as faults
-use Rattle.pg_link.specs.declared.declaring.NameError.TheVariants as fault
+use Rattle.pg_link.specs.declared.error.LinkError as errors
+use Rattle.pg_link.specs.declared.error.LinkError.TheVariants as error
 use Rattle.pg_link.specs.Files.{Declared}
 use Rattle.pg_link.specs.Names.{Text, is_package}
 use Rattle.pg_link.specs.Outline.{file_names}
+use Rattle.pg_link.specs.Targets.{enum_names, message_names, numbered}
 use Rattle.pg_link.specs.Walk.{Entry, IsPlace, path_of}
 use Rattle.pg_syntax.specs.declared.tree as tree
 
@@ -80,10 +85,56 @@ abbrev pub Joins : {S : Type 0} → HashMap (String Global) nameds.Named S → S
 Joins index s None = (all : List Standing) → Holds index all → StandsTwice all s
 Joins index s (Some n) = (all : List Standing) → Holds index all → MayStand all s × (view n ≡ added s (bearer all s.declared.name))
 
+-- ---- numbers
+
+abbrev pub one_if : Bool → ℕ
+one_if true = 1
+one_if false = 0
+
+-- the number of the next that is declared as this
+abbrev pub next_number : indexes.Index → Kind → ℕ
+next_number index Message = length index.messages.items
+next_number index Enum = length index.enums.items
+next_number index Package = 0
+next_number index MapEntry = 0
+next_number index Value = 0
+next_number index Field = 0
+next_number index Oneof = 0
+next_number index Service = 0
+next_number index Method = 0
+
+abbrev pub target_by : Kind → ℕ → Option Target
+target_by Message number = Some (targets.Message number)
+target_by Enum number = Some (targets.Enum number)
+target_by Package number = None
+target_by MapEntry number = None
+target_by Value number = None
+target_by Field number = None
+target_by Oneof number = None
+target_by Service number = None
+target_by Method number = None
+
+-- what bears a name, as a target
+abbrev pub target_of : nameds.Named → Option Target
+target_of n = target_by n.kind n.number
+
+abbrev pub declared_in : List Standing → List Declared
+declared_in = map (λ s. s.declared)
+
+-- Each message type and each enum has its number among all of its kind.
+pub record IsNumbered (index : indexes.Index) (all : List Standing) : Type 0 where
+  pub messages : length index.messages.items ≡ length (message_names (declared_in all))
+  pub enums : length index.enums.items ≡ length (enum_names (declared_in all))
+  pub each : (full : Text) (n : nameds.Named) → get_by_text index.names full ≡ Some n → numbered (declared_in all) true full n.kind ≡ target_of n
+
+-- an index holds just these names, numbered
+abbrev pub Lists : indexes.Index → List Standing → Type 0
+Lists index all = Holds index.names all × IsNumbered index all
+
 -- the name has come behind the others, or stands twice
-abbrev pub Adds : {S : Type 0} → HashMap (String Global) nameds.Named S → HashMap (String Global) nameds.Named S → Standing → Bool → Type 0
-Adds old new s true = (all : List Standing) → Holds old all → MayStand all s × Holds new (all ++ s ∷ [])
-Adds old new s false = (all : List Standing) → Holds old all → StandsTwice all s
+abbrev pub Adds : indexes.Index → indexes.Index → Standing → Bool → Type 0
+Adds old new s true = (all : List Standing) → Lists old all → MayStand all s × Lists new (all ++ s ∷ [])
+Adds old new s false = (all : List Standing) → Lists old all → StandsTwice all s
 
 abbrev pub standing : ℕ → Declared → Standing
 standing file declared = record { file = file; declared = declared }
@@ -93,14 +144,24 @@ abbrev pub standings : ℕ → tree.FileTree.FileTree → List Standing
 standings file t = map (standing file) (file_names t)
 
 -- the names have come behind the others, none twice
-abbrev pub AddsAll : {S : Type 0} → HashMap (String Global) nameds.Named S → HashMap (String Global) nameds.Named S → List Standing → Type 0
-AddsAll old new more = (all : List Standing) → Holds old all → Holds new (all ++ more) × (NoneTwice all → NoneTwice (all ++ more))
+abbrev pub AddsAll : indexes.Index → indexes.Index → List Standing → Type 0
+AddsAll old new more = (all : List Standing) → Lists old all → Lists new (all ++ more) × (NoneTwice all → NoneTwice (all ++ more))
 
 -- one of the names stands twice, at this place in the file
-abbrev pub IsTwice : {S : Type 0} → HashMap (String Global) nameds.Named S → ℕ → Text → Text → List Standing → faults.NameError → Type 0
-IsTwice old number path text more (fault.DuplicateName place) = (front back : List Standing) × (d : Declared) × (more ≡ front ++ standing number d ∷ back)
-    × IsPlace place path text d.at × ((all : List Standing) → Holds old all → StandsTwice (all ++ front) (standing number d))
-IsTwice old number path text more fault.Memory = Unit {0}
+abbrev pub IsTwice : indexes.Index → ℕ → Text → Text → List Standing → errors.LinkError → Type 0
+IsTwice old number path text more (error.DuplicateName place) = (front back : List Standing) × (d : Declared) × (more ≡ front ++ standing number d ∷ back)
+    × IsPlace place path text d.at × ((all : List Standing) → Lists old all → StandsTwice (all ++ front) (standing number d))
+IsTwice old number path text more error.Memory = Unit {0}
+IsTwice old number path text more (error.MissingFile place) = ⊥
+IsTwice old number path text more (error.ImportCycle place) = ⊥
+IsTwice old number path text more (error.DuplicateImport place) = ⊥
+IsTwice old number path text more (error.UnknownName place) = ⊥
+IsTwice old number path text more (error.NotAType place) = ⊥
+IsTwice old number path text more (error.NotImported place) = ⊥
+IsTwice old number path text more (error.TooManyFiles place) = ⊥
+IsTwice old number path text more (error.SourceFailed place) = ⊥
+IsTwice old number path text more (error.Lex e place) = ⊥
+IsTwice old number path text more (error.Syntax e place) = ⊥
 
 -- the names of these files, numbered from this on
 abbrev pub standings_from : ℕ → List Entry → List Standing
@@ -111,7 +172,17 @@ abbrev pub all_standings : List Entry → List Standing
 all_standings = standings_from 0
 
 -- one of the names of the files stands twice, at its place
-abbrev pub IsTwiceIn : List Entry → faults.NameError → Type 0
-IsTwiceIn entries (fault.DuplicateName place) = (front back : List Standing) × (s : Standing) × (all_standings entries ≡ front ++ s ∷ back)
+abbrev pub IsTwiceIn : List Entry → errors.LinkError → Type 0
+IsTwiceIn entries (error.DuplicateName place) = (front back : List Standing) × (s : Standing) × (all_standings entries ≡ front ++ s ∷ back)
     × StandsTwice front s × ((e : Entry) × (slice_get entries s.file ≡ Some e) × IsPlace place (path_of e) e.1.bytes.items s.declared.at)
-IsTwiceIn entries fault.Memory = Unit {0}
+IsTwiceIn entries error.Memory = Unit {0}
+IsTwiceIn entries (error.MissingFile place) = ⊥
+IsTwiceIn entries (error.ImportCycle place) = ⊥
+IsTwiceIn entries (error.DuplicateImport place) = ⊥
+IsTwiceIn entries (error.UnknownName place) = ⊥
+IsTwiceIn entries (error.NotAType place) = ⊥
+IsTwiceIn entries (error.NotImported place) = ⊥
+IsTwiceIn entries (error.TooManyFiles place) = ⊥
+IsTwiceIn entries (error.SourceFailed place) = ⊥
+IsTwiceIn entries (error.Lex e place) = ⊥
+IsTwiceIn entries (error.Syntax e place) = ⊥

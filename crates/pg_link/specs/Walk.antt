@@ -216,6 +216,10 @@ IsTextFault path text (error.ImportCycle place) = ⊥
 IsTextFault path text (error.DuplicateImport place) = ⊥
 IsTextFault path text (error.TooManyFiles place) = ⊥
 IsTextFault path text (error.SourceFailed place) = ⊥
+IsTextFault path text (error.DuplicateName place) = ⊥
+IsTextFault path text (error.UnknownName place) = ⊥
+IsTextFault path text (error.NotAType place) = ⊥
+IsTextFault path text (error.NotImported place) = ⊥
 
 -- a fault of reading a path
 abbrev pub IsReadFault : (Text → Bool) → Text → Option askings.Asking → Text → errors.LinkError → Type 0
@@ -227,6 +231,10 @@ IsReadFault lack folder asking path (error.Syntax e place) = ⊥
 IsReadFault lack folder asking path (error.ImportCycle place) = ⊥
 IsReadFault lack folder asking path (error.DuplicateImport place) = ⊥
 IsReadFault lack folder asking path (error.TooManyFiles place) = ⊥
+IsReadFault lack folder asking path (error.DuplicateName place) = ⊥
+IsReadFault lack folder asking path (error.UnknownName place) = ⊥
+IsReadFault lack folder asking path (error.NotAType place) = ⊥
+IsReadFault lack folder asking path (error.NotImported place) = ⊥
 
 -- a fault of an import of this path, behind imports of these
 abbrev pub IsImportFault : List Text → List Text → askings.Asking → Text → errors.LinkError → Type 0
@@ -238,6 +246,10 @@ IsImportFault opened before a path (error.SourceFailed place) = ⊥
 IsImportFault opened before a path (error.Lex e place) = ⊥
 IsImportFault opened before a path (error.Syntax e place) = ⊥
 IsImportFault opened before a path (error.TooManyFiles place) = ⊥
+IsImportFault opened before a path (error.DuplicateName place) = ⊥
+IsImportFault opened before a path (error.UnknownName place) = ⊥
+IsImportFault opened before a path (error.NotAType place) = ⊥
+IsImportFault opened before a path (error.NotImported place) = ⊥
 
 -- Each refusal comes only where what it names is there, at its place.
 abbrev pub Refuses : World → errors.LinkError → Type 0
@@ -252,6 +264,10 @@ Refuses w (error.SourceFailed place) = (path : Text) × Reached w path × IsWhol
 Refuses w (error.Lex e place) = StandsIn w place (lex_place e) (LexRefuses e)
 Refuses w (error.Syntax e place) = StandsIn w place (syntax_place e) (HasNoTree e)
 Refuses w error.Memory = Unit {0}
+Refuses w (error.DuplicateName place) = ⊥
+Refuses w (error.UnknownName place) = ⊥
+Refuses w (error.NotAType place) = ⊥
+Refuses w (error.NotImported place) = ⊥
 
 -- the source's failures in an answer
 abbrev pub failures_of : {X : Type 0} → Result X errors.LinkError → ℕ
@@ -263,6 +279,10 @@ failures_of (Err (error.DuplicateImport place)) = 0
 failures_of (Err (error.TooManyFiles place)) = 0
 failures_of (Err (error.Lex e place)) = 0
 failures_of (Err (error.Syntax e place)) = 0
+failures_of (Err (error.DuplicateName place)) = 0
+failures_of (Err (error.UnknownName place)) = 0
+failures_of (Err (error.NotAType place)) = 0
+failures_of (Err (error.NotImported place)) = 0
 failures_of (Err error.Memory) = 0
 
 -- the file has come behind the others, where it wasn't there; what was there still is

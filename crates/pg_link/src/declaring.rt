@@ -1,21 +1,27 @@
 //! The names of files, put into an index one by one.
-ghost use Rattle.std.specs.Prelude.{◌≡◌, IfErr, IfOk, OnOk, Some, None};
+ghost use Rattle.std.specs.Prelude.{◌≡◌, ◌+◌, IfErr, IfOk, IfSome, OnOk, Some, None, length};
 ghost use Rattle.pg_link.specs.Files.{Declared};
 ghost use Rattle.pg_link.specs.Outline.{declared_of};
 ghost use Rattle.pg_link.specs.Standing as spec;
+ghost use Rattle.pg_link.specs.Targets.{is_enum, is_message};
 
 use crate::declares::{DeclaredName, declared_names};
-use crate::error::{Place, place_in};
+use crate::error::{LinkError, place_in};
 use crate::index::Index;
 use crate::names::{Kind, Named};
 use crate::walk::SourceFile;
 use indexmap::IndexMap;
 use std::alloc::{AllocError, Global};
-use thiserror::Error;
 
 /// What stands under a name that this file declares first.
-fn first(alloc: Global, file: usize, declared: &DeclaredName) -> Result<Named, AllocError>
-    ensures { IfOk result (λ n. spec.view n ≡ spec.added (spec.standing file (declared_of declared.now)) None) }
+fn first(
+    alloc: Global,
+    file: usize,
+    declared: &DeclaredName,
+    number: usize,
+) -> Result<Named, AllocError>
+    ensures added { IfOk result (λ n. spec.view n ≡ spec.added (spec.standing file (declared_of declared.now)) None) }
+    ensures number { IfOk result (λ n. n.number ≡ number) }
 {
     let mut files = Vec::new(alloc);
     files.push(file)?;
@@ -23,12 +29,14 @@ fn first(alloc: Global, file: usize, declared: &DeclaredName) -> Result<Named, A
         kind: declared.kind,
         at: declared.at,
         files,
+        number,
     })
 }
 
 /// What stands under a name once this file declares it too.
-fn again(alloc: Global, file: usize, named: &Named) -> Result<Named, AllocError>
-    ensures { IfOk result (λ n. (d : Declared) → spec.view n ≡ spec.added (spec.standing file d) (Some (spec.view named.now))) }
+fn again(alloc: Global, file: usize, named: &Named, number: usize) -> Result<Named, AllocError>
+    ensures added { IfOk result (λ n. (d : Declared) → spec.view n ≡ spec.added (spec.standing file d) (Some (spec.view named.now))) }
+    ensures number { IfOk result (λ n. n.number ≡ number) }
 {
     let mut files = Vec::from_slice(alloc, &named.files)?;
     files.push(file)?;
@@ -36,6 +44,7 @@ fn again(alloc: Global, file: usize, named: &Named) -> Result<Named, AllocError>
         kind: named.kind,
         at: named.at,
         files,
+        number,
     })
 }
 
@@ -47,25 +56,52 @@ fn may_share(old: Kind, new: Kind) -> bool
 }
 
 impl Index {
+    /// The number of the next that is declared as this.
+    fn next_number(&self, kind: Kind) -> usize
+        ensures { result ≡ spec.next_number self.now kind }
+    {
+        match kind {
+            Kind::Message => self.messages.len(),
+            Kind::Enum => self.enums.len(),
+            _ => 0,
+        }
+    }
+
+    /// Counts one more that is declared as this, whose name stands at this place.
+    fn count(&mut self, kind: Kind, place: usize) -> Result<(), AllocError>
+        ensures names { OnOk result (self.new.names ≡ self.old.names) }
+        ensures messages { OnOk result (length self.new.messages.items ≡ length self.old.messages.items + spec.one_if (is_message kind)) }
+        ensures enums { OnOk result (length self.new.enums.items ≡ length self.old.enums.items + spec.one_if (is_enum kind)) }
+    {
+        match kind {
+            Kind::Message => self.messages.push(place)?,
+            Kind::Enum => self.enums.push(place)?,
+            _ => {}
+        }
+        Ok(())
+    }
+
     /// What is to stand under a name once this file declares it. None where the name stands twice.
     fn joined(
         &self,
         alloc: Global,
         file: usize,
         declared: &DeclaredName,
+        number: usize,
     ) -> Result<Option<Named>, AllocError>
-        ensures { IfOk result (λ n. spec.Joins self.now.names (spec.standing file (declared_of declared.now)) n) }
+        ensures joins { IfOk result (λ n. spec.Joins self.now.names (spec.standing file (declared_of declared.now)) n) }
+        ensures number { IfOk result (λ n. IfSome n (λ named. named.number ≡ number)) }
     {
         match self.names.get(declared.name.as_str()) {
             None => {
-                let named = first(alloc, file, declared)?;
+                let named = first(alloc, file, declared, number)?;
                 Ok(Some(named))
             }
             Some(named) => {
                 if !may_share(named.kind, declared.kind) {
                     return Ok(None);
                 }
-                let more = again(alloc, file, named)?;
+                let more = again(alloc, file, named, number)?;
                 Ok(Some(more))
             }
         }
@@ -78,35 +114,17 @@ impl Index {
         file: usize,
         declared: &DeclaredName,
     ) -> Result<bool, AllocError>
-        ensures { IfOk result (λ may. spec.Adds self.old.names self.new.names (spec.standing file (declared_of declared.now)) may) }
+        ensures { IfOk result (λ may. spec.Adds self.old self.new (spec.standing file (declared_of declared.now)) may) }
     {
-        let Some(named) = self.joined(alloc, file, declared)? else {
+        let number = self.next_number(declared.kind);
+        let Some(named) = self.joined(alloc, file, declared, number)? else {
             return Ok(false);
         };
         let name = String::from_str(alloc, declared.name.as_str())?;
+        let place = self.names.len();
         self.names.insert(name, named)?;
+        self.count(declared.kind, place)?;
         Ok(true)
-    }
-}
-
-/// Why the names of files can't stand beside each other.
-#[derive(Debug, Drop, Error)]
-pub enum NameError {
-    /// E304: a name stands twice, and not both times as a part of a package. At the later of the two.
-    #[error("the name is declared twice")]
-    DuplicateName(Place),
-    /// E001: a growth was refused.
-    #[error("out of memory")]
-    Memory,
-}
-
-impl From<AllocError> for NameError {
-    ghost use Rattle.pg_link.specs.declared.declaring.NameError.TheVariants.{Memory};
-
-    ghost from_gives = { λ _ error. error ≡ Memory };
-
-    fn from(_error: AllocError) -> NameError {
-        NameError::Memory
     }
 }
 
@@ -118,15 +136,15 @@ impl Index {
         number: usize,
         path: &str,
         file: &SourceFile,
-    ) -> Result<(), NameError>
-        ensures holds { OnOk result (spec.AddsAll self.old.names self.new.names (spec.standings number file.now.tree)) }
-        ensures twice { IfErr result (spec.IsTwice self.old.names number path.now file.now.bytes.items (spec.standings number file.now.tree)) }
+    ) -> Result<(), LinkError>
+        ensures holds { OnOk result (spec.AddsAll self.old self.new (spec.standings number file.now.tree)) }
+        ensures twice { IfErr result (spec.IsTwice self.old number path.now file.now.bytes.items (spec.standings number file.now.tree)) }
     {
         let names = declared_names(alloc, &file.tree)?;
         for declared in &names {
             if !self.add(alloc, number, declared)? {
                 let place = place_in(alloc, path, &file.bytes, declared.at)?;
-                return Err(NameError::DuplicateName(place));
+                return Err(LinkError::DuplicateName(place));
             }
         }
         Ok(())
@@ -137,15 +155,19 @@ impl Index {
 /// in which their names are looked at; each is numbered by its place.
 ///
 /// E304 where a name is declared twice, and not both times as a part of a package: at the later of the two.
-pub fn index_names(alloc: Global, files: &IndexMap<String, SourceFile>) -> Result<Index, NameError>
+pub fn index_names(alloc: Global, files: &IndexMap<String, SourceFile>) -> Result<Index, LinkError>
     // The index holds just the names that the files declare, and none stands twice.
     ensures holds { IfOk result (λ index. spec.Holds index.names (spec.all_standings files.now.entries)) }
     ensures once { OnOk result (spec.NoneTwice (spec.all_standings files.now.entries)) }
+    // Each message type and enum has its number.
+    ensures numbered { IfOk result (λ index. spec.IsNumbered index (spec.all_standings files.now.entries)) }
     // A name is refused only where it stands twice, at its place.
     ensures twice { IfErr result (spec.IsTwiceIn files.now.entries) }
 {
     let mut index = Index {
         names: IndexMap::new(alloc),
+        messages: Vec::new(alloc),
+        enums: Vec::new(alloc),
     };
     for number in 0..files.len() {
         let Some((path, file)) = files.get_index(number) else {

@@ -42,6 +42,18 @@ pub enum LinkError {
     /// E303: a file imports one path twice. At the second import.
     #[error("the file imports one path twice")]
     DuplicateImport(Place),
+    /// E304: a name stands twice, and not both times as a part of a package. At the later of the two.
+    #[error("the name is declared twice")]
+    DuplicateName(Place),
+    /// E305: a name of a type that no file declares.
+    #[error("the name is unknown")]
+    UnknownName(Place),
+    /// E306: a name of what is neither a message type nor an enum, or of an enum where an rpc takes or returns it.
+    #[error("the name is neither a message type nor an enum")]
+    NotAType(Place),
+    /// E307: a name of a type in a file that isn't imported.
+    #[error("the name stands in a file that isn't imported")]
+    NotImported(Place),
     /// E308: more than 1,024 files, at the import of the first beyond.
     #[error("more than 1,024 files")]
     TooManyFiles(Place),

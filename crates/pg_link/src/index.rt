@@ -66,10 +66,13 @@ fn written(alloc: Global, name: &TypeName) -> Result<String, AllocError>
     Ok(text)
 }
 
-/// The names of all files, in the order in which they were first declared.
+/// The names of all files, in the order in which they were first declared, and the places among them of the message types
+/// and of the enums.
 #[derive(Debug, Drop)]
 pub struct Index {
     pub names: IndexMap<String, Named>,
+    pub messages: Vec<usize>,
+    pub enums: Vec<usize>,
 }
 
 impl Index {

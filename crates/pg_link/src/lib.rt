@@ -10,28 +10,35 @@ mod folder;
 mod imports;
 mod index;
 mod laws;
+mod linked;
 mod listed;
 mod names;
 mod reading;
 mod record;
 mod resolve;
+mod sights;
 mod sources;
 mod tally;
+mod target;
+mod uses;
 mod walk;
 
 pub use below::read_below;
 pub use declares::{DeclaredName, declared_names};
-pub use declaring::{NameError, index_names};
+pub use declaring::index_names;
 pub use error::{LinkError, Place};
 pub use folder::Folder;
 pub use index::Index;
-pub use laws::small_files;
+pub use laws::{seen_paths_are_seen, small_files};
+pub use linked::Linked;
 pub use listed::Listed;
 pub use names::{Kind, Named};
 pub use record::Record;
 pub use resolve::Unresolved;
 pub use sources::{SourceError, Sources};
 pub use tally::Tally;
+pub use target::Target;
+pub use uses::is_scalar;
 pub use walk::{MAX_FILES, SourceFile, Walk, follow_imports};
 
 #[cfg(test)]

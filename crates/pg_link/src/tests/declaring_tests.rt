@@ -1,4 +1,4 @@
-use crate::{Kind, Listed, NameError, follow_imports, index_names};
+use crate::{Kind, LinkError, Listed, follow_imports, index_names};
 use std::alloc::{AllocError, Global};
 use std::test::*;
 
@@ -13,10 +13,10 @@ fn indexed(alloc: Global, files: &[(&str, &[u8])], roots: &[&str]) -> Result<Str
     };
     match index_names(alloc, &walk.files) {
         Ok(_) => String::from_str(alloc, "indexed"),
-        Err(NameError::DuplicateName(place)) => {
+        Err(LinkError::DuplicateName(place)) => {
             format!(in alloc; "E304 {}:{}:{}", place.file, place.line, place.column)
         }
-        Err(NameError::Memory) => String::from_str(alloc, "E001"),
+        Err(_) => String::from_str(alloc, "E001"),
     }
 }
 

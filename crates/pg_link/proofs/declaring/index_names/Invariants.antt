@@ -1,10 +1,10 @@
 use Rattle.std.proofs.Common.{◌≡◌, [], take}
-use Rattle.pg_link.specs.Standing.{AddsAll, Holds, NoneTwice, all_standings}
+use Rattle.pg_link.specs.Standing.{Lists, NoneTwice, all_standings}
 use Rattle.pg_link.proofs.declaring.index_names.Given as goal
 
 -- the names of the files so far have come
 abbrev pub invariant-loop-number : goal.invariant-loop-number
 invariant-loop-number l = record {
-  holds : Holds l.index.names (all_standings (take l.number l.files.entries));
+  lists : Lists l.index (all_standings (take l.number l.files.entries));
   once : NoneTwice (all_standings (take l.number l.files.entries));
 }

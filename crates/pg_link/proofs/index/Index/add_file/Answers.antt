@@ -12,9 +12,9 @@ loop-declared-preserved c =
     let names : List made.DeclaredName = c.deref-declared-items.result.now in
     let i : ℕ = c.loop-declared.declared-index in
     let d : made.DeclaredName = c.declared-item.result in
-    let old = c.args.self.now.names in
-    let mid = c.loop-declared.self.names in
-    let new = c.add.new.self.names in
+    let old = c.args.self.now in
+    let mid = c.loop-declared.self in
+    let new = c.add.new.self in
     let s : Standing = standing_of c.args.number d in
     subst (AddsAll old new) (sym (one_standing c.args.number names i d c.loop-declared-test.true c.declared-item.is))
     (adds_more old mid new (map (standing_of c.args.number) (take i names)) s c.loop-declared.invariant
@@ -26,9 +26,9 @@ returns-then-not-branch-clause-twice c =
     let n : ℕ = c.args.number in
     let i : ℕ = c.loop-declared.declared-index in
     let d : made.DeclaredName = c.declared-item.result in
-    let old = c.args.self.now.names in
-    let mid = c.loop-declared.self.names in
-    let new = c.add.new.self.names in
+    let old = c.args.self.now in
+    let mid = c.loop-declared.self in
+    let new = c.add.new.self in
     let s : Standing = standing_of n d in
     let front : List Standing = map (standing_of n) (take i names) in
     let back : List Standing = map (standing_of n) (drop (i + 1) names) in
@@ -46,8 +46,8 @@ returns-clause-holds c =
     let names : List made.DeclaredName = c.deref-declared-items.result.now in
     let n : ℕ = c.args.number in
     let i : ℕ = c.loop-declared.declared-index in
-    let old = c.args.self.now.names in
-    let mid = c.loop-declared.self.names in
+    let old = c.args.self.now in
+    let mid = c.loop-declared.self in
     let own : map declared_of names ≡ file_names c.args.file.now.tree = ap (map declared_of) c.deref-declared-items.ensures.value ∙ c.in_ok-names.ensures in
     let whole : map (standing_of n) (take i names) ≡ standings n c.args.file.now.tree =
     ap (map (standing_of n)) (take_all i names (omega (arith, c.loop-declared-test.false))) ∙ (sym (map-twice n names) ∙ ap (map (standing n)) own) in

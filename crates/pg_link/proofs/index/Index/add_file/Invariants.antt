@@ -5,4 +5,4 @@ use Rattle.pg_link.proofs.index.Index.add_file.Given as goal
 
 -- the names so far have come
 abbrev pub invariant-loop-declared : goal.invariant-loop-declared
-invariant-loop-declared l = AddsAll l.fn.self.names l.self.names (map (standing_of l.number) (take l.declared-index l.declared-items))
+invariant-loop-declared l = AddsAll l.fn.self l.self (map (standing_of l.number) (take l.declared-index l.declared-items))

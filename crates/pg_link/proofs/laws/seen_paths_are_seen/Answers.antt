@@ -1,0 +1,5 @@
+use Rattle.pg_link.proofs.SeesLaws.{seen_paths_are}
+use Rattle.pg_link.proofs.laws.seen_paths_are_seen.Goals as goal
+
+pub returns : goal.returns
+returns c = seen_paths_are

@@ -1,0 +1,76 @@
+-- What uses of type names resolve to, by number.
+use Rattle.std.specs.Prelude.{ℕ, Bool, true, false, List, [], ◌∷◌, map, flat_map, position, Option, Some, None}
+use Rattle.std.specs.List.{filter}
+use Rattle.std.specs.Option.{option_map, option_and_then}
+use Rattle.std.specs.Str.{bytes_eq}
+use Rattle.pg_link.specs.declared.names.Kind.{Kind}
+use Rattle.pg_link.specs.declared.names.Kind.TheVariants.{Package, Message, Enum, Entry, Value, Field, Oneof, Service, Method}
+use Rattle.pg_link.specs.declared.target.Target.{Target}
+use Rattle.pg_link.specs.declared.target.Target.TheVariants as targets
+use Rattle.pg_link.specs.Files.{Declared, visible_names}
+use Rattle.pg_link.specs.Names.{Text, Names}
+use Rattle.pg_link.specs.Outline.{file_names}
+use Rattle.pg_link.specs.Resolves.{found}
+use Rattle.pg_link.specs.Uses.{Use, file_uses}
+use Rattle.pg_link.specs.Walk.{Entry as FileEntry, outlines, path_of}
+
+abbrev pub is_message : Kind → Bool
+is_message Message = true
+is_message Enum = false
+is_message Entry = false
+is_message Package = false
+is_message Value = false
+is_message Field = false
+is_message Oneof = false
+is_message Service = false
+is_message Method = false
+
+abbrev pub is_enum : Kind → Bool
+is_enum Enum = true
+is_enum Message = false
+is_enum Entry = false
+is_enum Package = false
+is_enum Value = false
+is_enum Field = false
+is_enum Oneof = false
+is_enum Service = false
+is_enum Method = false
+
+-- the names of all files, in order of declaration
+abbrev pub all_declared : List FileEntry → List Declared
+all_declared = flat_map (λ e. file_names e.1.tree)
+
+-- the full names of what is declared as this, in order of declaration
+abbrev pub names_of : (Kind → Bool) → List Declared → List Text
+names_of test all = map (λ d. d.name) (filter (λ d. test d.kind) all)
+
+abbrev pub message_names : List Declared → List Text
+message_names = names_of is_message
+
+abbrev pub enum_names : List Declared → List Text
+enum_names = names_of is_enum
+
+-- the place of a full name among those
+abbrev pub number_in : List Text → Text → Option ℕ
+number_in names full = position (bytes_eq full) names
+
+-- the message type or enum of this name, where it may stand
+abbrev pub numbered : List Declared → Bool → Text → Kind → Option Target
+numbered all takes_enums full Message = option_map targets.Message (number_in (message_names all) full)
+numbered all true full Enum = option_map targets.Enum (number_in (enum_names all) full)
+numbered all false full Enum = None
+numbered all takes_enums full Entry = None
+numbered all takes_enums full Package = None
+numbered all takes_enums full Value = None
+numbered all takes_enums full Field = None
+numbered all takes_enums full Oneof = None
+numbered all takes_enums full Service = None
+numbered all takes_enums full Method = None
+
+-- what a use resolves to, of all names and those that its file sees
+abbrev pub target_in : List Declared → Names → Use → Option Target
+target_in all visible u = option_and_then (λ f. numbered all u.takes_enums f.0 f.1) (found visible u.scope u.name)
+
+-- what the uses of a file resolve to, one by one
+abbrev pub file_targets : List FileEntry → FileEntry → List (Option Target)
+file_targets files file = map (target_in (all_declared files) (visible_names (outlines files) (path_of file))) (file_uses file.1.tree)
