@@ -1,4 +1,4 @@
-//! Each allocation refused in turn: `rt try --test --fail-alloc 1..`.
+//! Each allocation refused in turn: `rt try --test --fail-alloc N`.
 
 use crate::tests::choices::FIRST;
 use crate::tests::schemas::{Line, child, member, schema, singular};
