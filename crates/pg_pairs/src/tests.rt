@@ -3,6 +3,7 @@
 mod children;
 mod choices;
 mod maps;
+mod memory;
 mod schemas;
 mod tables;
 
