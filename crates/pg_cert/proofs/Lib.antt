@@ -4,3 +4,12 @@ pub mod Verdicts
 pub mod Sights
 pub mod Checks
 pub mod Spelling
+pub mod Cuts
+pub mod Plain
+pub mod WordsRead
+pub mod Fronts
+pub mod LinesRead
+pub mod WitnessRead
+pub mod WholeRead
+pub mod Places
+pub mod FullNames

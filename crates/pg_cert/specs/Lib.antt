@@ -5,3 +5,4 @@ pub mod Faults
 pub mod Laws
 pub mod Worked
 pub mod Text
+pub mod Reading

@@ -6,6 +6,7 @@ mod certificate;
 mod checking;
 mod error;
 mod laws;
+mod reading;
 mod verdict;
 mod writing;
 
@@ -14,5 +15,6 @@ pub use certificate::Certificate;
 pub use checking::check;
 pub use error::CertError;
 pub use laws::{covers_without_fault, verdicts_are_true, worked_certificates};
+pub use reading::from_text;
 pub use verdict::Verdict;
 pub use writing::to_text;

@@ -1,0 +1,262 @@
+//! Certificates out of texts.
+
+ghost use Rattle.std.specs.Prelude.{◌≡◌, ◌↔◌, ◌++◌, ◌∷◌, ◌<◌, ℕ, List, Option, length, nat_eq, option_map, position, Some, true, false, ◌⊎◌, IfErr, IfOk, IfSome, MatchResult};
+ghost use Rattle.std.specs.List.{AllByRecursion};
+ghost use Rattle.std.specs.Option.{option_copied};
+ghost use Rattle.hex.specs.declared.error.FromHexError.TheVariants.{OutOfMemory};
+ghost use Rattle.pg_schema.specs.declared.field.TypeId.{TypeId};
+ghost use Rattle.pg_pairs.specs.declared.choice.Pair.{Pair};
+ghost use Rattle.pg_cert.specs.declared.bounds.PairBound.{PairBound};
+ghost use Rattle.pg_cert.specs.declared.error.CertError.TheVariants as errors;
+ghost use Rattle.pg_cert.specs.Bounds.{are_bounds, is_bound};
+ghost use Rattle.pg_cert.specs.Certificate.{AreBytes, Claim, is_witness};
+ghost use Rattle.pg_cert.specs.Reading.{IsBlank, IsRest, lacks};
+ghost use Rattle.pg_cert.specs.Text as spec;
+
+use crate::bounds::{Bounds, BoundsError, PairBound};
+use crate::certificate::Certificate;
+use crate::error::CertError;
+use crate::writing::to_text;
+use hex::FromHexError;
+use pg_pairs::Pair;
+use pg_schema::{Schema, TypeId};
+use std::alloc::Global;
+
+// The place of the first such byte.
+fn place_of(text: &[u8], byte: u8) -> Option<usize>
+    ensures place { result ≡ position (λ b. nat_eq b byte) text.now }
+    ensures inside { IfSome result (λ at. at < length text.now) }
+{
+    text.iter().position(|other| *other == byte)
+}
+
+// The word before the first such byte, and what stands behind this.
+fn cut(text: &[u8], byte: u8) -> Option<(&[u8], &[u8])>
+    ensures shorter { IfSome result (λ parts. length parts.1.now < length text.now) }
+    ensures found { (word rest : List ℕ) → lacks byte word ≡ true → text.now ≡ word ++ byte ∷ rest → option_map {U = List ℕ × List ℕ} (λ parts. (parts.0.now, parts.1.now)) result ≡ Some (word, rest) }
+{
+    match place_of(text, byte) {
+        Some(at) => Some((&text[..at], &text[at + 1..])),
+        None => None,
+    }
+}
+
+// The type of that name.
+fn named(schema: &Schema, word: &[u8]) -> Option<TypeId>
+    ensures there { IfSome result (λ id. id.index < length schema.now.types.items) }
+    ensures found { (id : TypeId) → id.index < length schema.now.types.items → word.now ≡ spec.names_of schema.now id → result ≡ Some id }
+{
+    match str::from_utf8(word) {
+        Ok(name) => schema.message(name),
+        Err(_) => None,
+    }
+}
+
+// The type whose name stands before the first such blank, and what stands behind this.
+fn read_name<'a>(schema: &Schema, text: &'a [u8], blank: u8) -> Option<(TypeId, &'a [u8])>
+    requires { IsBlank blank }
+    ensures shorter { IfSome result (λ parts. length parts.1.now < length text.now) }
+    ensures there { IfSome result (λ parts. parts.0.index < length schema.now.types.items) }
+    ensures found { (id : TypeId) (rest : List ℕ) → id.index < length schema.now.types.items → text.now ≡ spec.names_of schema.now id ++ blank ∷ rest → option_map {U = TypeId × List ℕ} (λ parts. (parts.0, parts.1.now)) result ≡ Some (id, rest) }
+{
+    // What holds of every schema.
+    schema.parts();
+    let (word, rest) = cut(text, blank)?;
+    let id = named(schema, word)?;
+    Some((id, rest))
+}
+
+// The types of a pair, whose names stand in front with a space between and that blank behind them, and
+// what stands behind this.
+fn read_pair<'a>(old: &Schema, new: &Schema, text: &'a [u8], blank: u8) -> Option<(Pair, &'a [u8])>
+    requires { IsBlank blank }
+    ensures shorter { IfSome result (λ parts. length parts.1.now < length text.now) }
+    ensures there { IfSome result (λ parts. spec.IsPairOf old.now new.now parts.0) }
+    ensures found { (pair : Pair) (rest : List ℕ) → spec.IsPairOf old.now new.now pair → text.now ≡ spec.names_of old.now pair.old ++ 32 ∷ (spec.names_of new.now pair.new ++ blank ∷ rest) → option_map {U = Pair × List ℕ} (λ parts. (parts.0, parts.1.now)) result ≡ Some (pair, rest) }
+{
+    let (first, behind) = read_name(old, text, b' ')?;
+    let (second, rest) = read_name(new, behind, blank)?;
+    let pair = Pair {
+        old: first,
+        new: second,
+    };
+    Some((pair, rest))
+}
+
+// The bound that a word says.
+fn bound_of(word: &[u8]) -> Option<Option<u32>>
+    ensures { (bound : Option ℕ) → is_bound bound ≡ true → word.now ≡ spec.bound_word bound → result ≡ Some bound }
+{
+    if word == b"none".as_slice() {
+        return Some(None);
+    }
+    match str::from_utf8(word) {
+        Ok(text) => match text.parse::<u32>() {
+            Ok(bytes) => Some(Some(bytes)),
+            Err(_) => None,
+        },
+        Err(_) => None,
+    }
+}
+
+// The bound in front, which ends its line, and what stands behind this.
+fn read_bound(text: &[u8]) -> Option<(Option<u32>, &[u8])>
+    ensures shorter { IfSome result (λ parts. length parts.1.now < length text.now) }
+    ensures found { (bound : Option ℕ) (rest : List ℕ) → is_bound bound ≡ true → text.now ≡ spec.bound_word bound ++ 10 ∷ rest → option_map {U = Option ℕ × List ℕ} (λ parts. (parts.0, parts.1.now)) result ≡ Some (bound, rest) }
+{
+    let (word, rest) = cut(text, b'\n')?;
+    let bound = bound_of(word)?;
+    Some((bound, rest))
+}
+
+// What stands behind that front.
+fn after<'a>(text: &'a [u8], front: &[u8]) -> Option<&'a [u8]>
+    ensures only { IfSome result (λ rest. text.now ≡ front.now ++ rest.now) }
+    ensures found { (rest : List ℕ) → text.now ≡ front.now ++ rest → option_copied result ≡ Some rest }
+{
+    text.strip_prefix(front)
+}
+
+// The pair and its bound in a line whose first word is read already, and what stands behind the line.
+fn read_line<'a>(old: &Schema, new: &Schema, text: &'a [u8]) -> Option<(PairBound, &'a [u8])>
+    ensures shorter { IfSome result (λ parts. length parts.1.now < length text.now) }
+    ensures there { IfSome result (λ parts. spec.IsPairOf old.now new.now parts.0.pair) }
+    ensures found { (line : PairBound) (rest : List ℕ) → spec.IsPairOf old.now new.now line.pair → is_bound line.bound ≡ true → text.now ≡ spec.names_of old.now line.pair.old ++ 32 ∷ (spec.names_of new.now line.pair.new ++ 32 ∷ (spec.bound_word line.bound ++ 10 ∷ rest)) → option_map {U = PairBound × List ℕ} (λ parts. (parts.0, parts.1.now)) result ≡ Some (line, rest) }
+{
+    let (pair, behind) = read_pair(old, new, text, b' ')?;
+    let (bound, rest) = read_bound(behind)?;
+    Some((PairBound { pair, bound }, rest))
+}
+
+// The pairs and their bounds in the lines in front, and what stands behind these.
+fn read_lines<'a>(
+    alloc: Global,
+    old: &Schema,
+    new: &Schema,
+    text: &'a [u8],
+) -> Result<(Vec<PairBound>, &'a [u8]), CertError>
+    ensures there { IfOk result (λ parts. AllByRecursion (λ (b : PairBound). spec.IsPairOf old.now new.now b.pair) parts.0.items) }
+    ensures found { (bounds : List PairBound) (later : List ℕ) → IsRest old.now new.now text.now bounds later →
+        MatchResult result (λ parts. (parts.0.items ≡ bounds) × (parts.1.now ≡ later)) (λ e. e ≡ errors.Memory) }
+{
+    let mut bounds = Vec::new(alloc);
+    let mut left = text;
+    while let Some(words) = after(left, b"pair ") {
+        let Some((line, behind)) = read_line(old, new, words) else {
+            return Err(CertError::BadText);
+        };
+        bounds.push(line)?;
+        left = behind;
+    }
+    Ok((bounds, left))
+}
+
+// Why hexadecimal digits aren't read.
+fn hex_fault(error: FromHexError) -> CertError
+    ensures { (result ≡ errors.Memory) ↔ (error ≡ OutOfMemory) }
+{
+    match error {
+        FromHexError::OutOfMemory => CertError::Memory,
+        _ => CertError::BadText,
+    }
+}
+
+// The witness that a word says.
+fn witness_of(alloc: Global, word: &[u8]) -> Result<Option<Vec<u8>>, CertError>
+    ensures { (witness : Option (List ℕ)) → AreBytes witness → word.now ≡ spec.witness_word witness →
+        MatchResult result (λ found. option_map (λ bytes. bytes.items) found ≡ witness) (λ e. e ≡ errors.Memory) }
+{
+    if word == b"none".as_slice() {
+        return Ok(None);
+    }
+    match hex::decode(alloc, word) {
+        Ok(bytes) => Ok(Some(bytes)),
+        Err(error) => Err(hex_fault(error)),
+    }
+}
+
+// The witness in the last lines.
+fn read_last(alloc: Global, text: &[u8]) -> Result<Option<Vec<u8>>, CertError>
+    ensures { (witness : Option (List ℕ)) → AreBytes witness → text.now ≡ spec.last_text witness →
+        MatchResult result (λ found. option_map (λ bytes. bytes.items) found ≡ witness) (λ e. e ≡ errors.Memory) }
+{
+    let Some(words) = after(text, b"witness ") else {
+        return Err(CertError::BadText);
+    };
+    match cut(words, b'\n') {
+        Some((word, _)) => witness_of(alloc, word),
+        None => Err(CertError::BadText),
+    }
+}
+
+// The table of these bounds.
+fn table_of(alloc: Global, bounds: Vec<PairBound>) -> Result<Bounds, CertError>
+    ensures table { IfOk result (λ table. table ≡ bounds.items) }
+    ensures refused { IfErr result (λ e. e ≡ errors.Memory ⊎ (are_bounds bounds.items ≡ false)) }
+{
+    match Bounds::new(alloc, bounds) {
+        Ok(table) => Ok(table),
+        Err((BoundsError::Memory, _)) => Err(CertError::Memory),
+        Err((BoundsError::Invariant, _)) => Err(CertError::BadText),
+    }
+}
+
+// The certificate of these parts.
+fn certificate_of(
+    root: Pair,
+    bounds: Bounds,
+    witness: Option<Vec<u8>>,
+) -> Result<Certificate, CertError>
+    ensures claim { IfOk result (λ c. c ≡ record { root = root; bounds = bounds; witness = option_map (λ bytes. bytes.items) witness }) }
+    ensures empty { IfErr result (λ _. is_witness (option_map (λ bytes. bytes.items) witness) ≡ false) }
+{
+    match Certificate::new(root, bounds, witness) {
+        Ok(certificate) => Ok(certificate),
+        Err(_) => Err(CertError::BadText),
+    }
+}
+
+// The parts of a certificate that the text spells, if it spells one.
+fn read(alloc: Global, old: &Schema, new: &Schema, text: &[u8]) -> Result<Certificate, CertError>
+    ensures of_schemas { IfOk result (λ c. spec.IsClaimOf old.now new.now c) }
+    ensures found { (claim : Claim) → spec.Certifies old.now new.now text.now claim → MatchResult result (λ c. c ≡ claim) (λ e. e ≡ errors.Memory) }
+{
+    let Some(words) = after(text, b"protogate-certificate 1\nroot ") else {
+        return Err(CertError::BadText);
+    };
+    let Some((root, lines)) = read_pair(old, new, words, b'\n') else {
+        return Err(CertError::BadText);
+    };
+    let (bounds, last) = read_lines(alloc, old, new, lines)?;
+    let witness = read_last(alloc, last)?;
+    let bounds = table_of(alloc, bounds)?;
+    certificate_of(root, bounds, witness)
+}
+
+/// The certificate that the bytes spell, for two schemas (docs/CERTIFICATES.md). There is one at most,
+/// and one text for each certificate: what is read is written again and must be the same bytes.
+///
+/// Refused with `BadText` only where the bytes are no certificate's text for these schemas, and with
+/// `Memory` where memory was refused.
+pub fn from_text(
+    alloc: Global,
+    old: &Schema,
+    new: &Schema,
+    bytes: &[u8],
+) -> Result<Certificate, CertError>
+    ensures certifies { IfOk result (λ c. spec.Certifies old.now new.now bytes.now c) }
+    ensures alone { IfOk result (λ c. (claim : Claim) → spec.Certifies old.now new.now bytes.now claim → c ≡ claim) }
+    ensures refused { IfErr result (λ e. (e ≡ errors.Memory) ⊎ ((e ≡ errors.BadText) × ((claim : Claim) → ¬ (spec.Certifies old.now new.now bytes.now claim)))) }
+{
+    let certificate = match read(alloc, old, new, bytes) {
+        Ok(certificate) => certificate,
+        Err(CertError::Memory) => return Err(CertError::Memory),
+        Err(_) => return Err(CertError::BadText),
+    };
+    let again = to_text(alloc, old, new, &certificate)?;
+    if again.as_bytes() == bytes {
+        Ok(certificate)
+    } else {
+        Err(CertError::BadText)
+    }
+}
