@@ -14,3 +14,4 @@ pub mod MadeOptions
 pub mod MadeEnums
 pub mod MadeFields
 pub mod MadeMessages
+pub mod Groups

@@ -4,6 +4,7 @@
 mod enumeration;
 mod fault;
 mod file;
+mod group;
 mod made_enum;
 mod made_field;
 mod made_message;
