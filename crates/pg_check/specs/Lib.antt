@@ -15,3 +15,5 @@ pub mod MadeEnums
 pub mod MadeFields
 pub mod MadeMessages
 pub mod Groups
+pub mod MadeServices
+pub mod MadeFiles
