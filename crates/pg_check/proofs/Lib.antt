@@ -3,3 +3,4 @@ pub mod Texts
 pub mod TextSets
 pub mod Titles
 pub mod Outlines
+pub mod Placing

@@ -23,8 +23,8 @@ body_is m = row_is (hidden-the_row-Part-0 m.parts) ∙ items_hidden-the_row-Part
 
 pub part_messages : (scope : List ℕ) (m : tree.Message.Message) → messages_in scope (parts.Message m) ≡ messages_of scope m
 part_messages scope m =
-    ap (λ body. record { full = full_name scope m.name; name = m.name; body = body } ∷ row_messages (full_name scope m.name) (hidden-the_row-Part-0 m.parts)) (body_is m)
-    ∙ ap (λ ms. record { full = full_name scope m.name; name = m.name; body = m.parts.items } ∷ ms)
+    ap (λ body. record { scope = scope; full = full_name scope m.name; name = m.name; body = body } ∷ row_messages (full_name scope m.name) (hidden-the_row-Part-0 m.parts)) (body_is m)
+    ∙ ap (λ ms. record { scope = scope; full = full_name scope m.name; name = m.name; body = m.parts.items } ∷ ms)
     (messages_are (full_name scope m.name) (hidden-the_row-Part-0 m.parts) ∙ ap (flat_map (messages_in (full_name scope m.name))) (items_hidden-the_row-Part-0 m.parts))
 
 pub part_enums : (scope : List ℕ) (m : tree.Message.Message) → enums_in scope (parts.Message m) ≡ enums_of scope m

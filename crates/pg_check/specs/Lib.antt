@@ -14,3 +14,6 @@ pub mod MadeOptions
 pub mod MadeEnums
 pub mod MadeFields
 pub mod MadeMessages
+pub mod Groups
+pub mod MadeServices
+pub mod MadeFiles

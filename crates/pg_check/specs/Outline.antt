@@ -9,27 +9,35 @@ use Rattle.pg_syntax.specs.declared.tree.Part.{Part, Row_of-Part, end_of-Part, m
 use Rattle.pg_syntax.specs.declared.tree.Part.TheVariants as parts
 use Rattle.pg_syntax.specs.declared.tree.Statement.TheVariants as statements
 
--- a message, its full name without a dot in front, and its body
+-- a message, the scope that declares it, its full name without a dot in front, and its body
 pub record Message : Type 0 where
+  pub scope : List ℕ
   pub full : List ℕ
   pub name : tree.Name.Name
   pub body : List Part
 
 pub record Enum : Type 0 where
+  pub scope : List ℕ
   pub full : List ℕ
   pub tree : tree.Enum.Enum
 
 abbrev pub message : messages.FoundMessage → Message
-message f = record { full = string_bytes f.full; name = f.tree.now.name; body = f.tree.now.parts.items }
+message f = record { scope = string_bytes f.scope; full = string_bytes f.full; name = f.tree.now.name; body = f.tree.now.parts.items }
 
 abbrev pub enumeration : enums.FoundEnum → Enum
-enumeration f = record { full = string_bytes f.full; tree = f.tree.now }
+enumeration f = record { scope = string_bytes f.scope; full = string_bytes f.full; tree = f.tree.now }
+
+abbrev pub message_scope : Message → List ℕ
+message_scope m = m.scope
+
+abbrev pub enum_scope : Enum → List ℕ
+enum_scope e = e.scope
 
 abbrev pub full_name : List ℕ → tree.Name.Name → List ℕ
 full_name scope name = within scope (string_bytes name.text)
 
 abbrev pub an_enum : List ℕ → tree.Enum.Enum → List Enum
-an_enum scope e = record { full = full_name scope e.name; tree = e } ∷ []
+an_enum scope e = record { scope = scope; full = full_name scope e.name; tree = e } ∷ []
 
 -- ---- message types, each before those in it
 
@@ -41,7 +49,7 @@ abbrev mutual
   pub messages_in : List ℕ → Part → List Message
   messages_in scope (parts.Empty span) = []
   messages_in scope (parts.Message' name shape row span) =
-      record { full = full_name scope name; name = name; body = row_list row } ∷ row_messages (full_name scope name) row
+      record { scope = scope; full = full_name scope name; name = name; body = row_list row } ∷ row_messages (full_name scope name) row
   messages_in scope (parts.Enum e) = []
   messages_in scope (parts.Oneof o) = []
   messages_in scope (parts.Option o) = []
@@ -54,7 +62,7 @@ abbrev mutual
   row_messages scope (more_of-Part p rest) = messages_in scope p ++ row_messages scope rest
 
 abbrev pub messages_of : List ℕ → tree.Message.Message → List Message
-messages_of scope m = record { full = full_name scope m.name; name = m.name; body = m.parts.items }
+messages_of scope m = record { scope = scope; full = full_name scope m.name; name = m.name; body = m.parts.items }
     ∷ flat_map (messages_in (full_name scope m.name)) m.parts.items
 
 -- ---- enums

@@ -4,11 +4,14 @@
 mod enumeration;
 mod fault;
 mod file;
+mod group;
 mod made_enum;
 mod made_field;
+mod made_file;
 mod made_message;
 mod made_number;
 mod made_option;
+mod made_service;
 mod member;
 mod message;
 mod names;

@@ -8,7 +8,7 @@ use crate::options::is_word;
 use pg_syntax::tree::{Dotted, Setting, Settings, Value};
 
 /// What the word says.
-fn flag_word(word: &Dotted) -> Option<bool>
+pub(crate) fn flag_word(word: &Dotted) -> Option<bool>
     ensures { result ≡ spec.flag_word word.now }
 {
     if is_word("true", word) {

@@ -165,14 +165,22 @@ fn is_of_kind(kind: Kind, value: &Value) -> bool
     }
 }
 
+/// The owner's option of that name, which has no dot.
+pub(crate) fn known_by(owner: Owner, name: &Dotted) -> Option<Known>
+    ensures { result ≡ spec.known_by owner name.now }
+{
+    if name.more.is_empty() {
+        option_named(owner, &name.first.text)
+    } else {
+        None
+    }
+}
+
 /// The owner has such an option, and the value is of its kind.
 fn is_right(owner: Owner, setting: &Setting) -> bool
     ensures { result ≡ spec.is_right owner setting.now }
 {
-    if !setting.name.more.is_empty() {
-        return false;
-    }
-    match option_named(owner, &setting.name.first.text) {
+    match known_by(owner, &setting.name) {
         Some(option) => is_of_kind(option.kind, &setting.value),
         None => false,
     }

@@ -7,16 +7,18 @@ ghost use Rattle.pg_check.specs.Outline as spec;
 use pg_syntax::tree::{Dotted, Enum, FileTree, Message, Name, Part, Statement};
 use std::alloc::{AllocError, Global};
 
-/// A message, and its full name without a dot in front.
+/// A message, the scope that declares it, and its full name without a dot in front.
 #[derive(Drop)]
 pub(crate) struct FoundMessage<'a> {
+    pub scope: String,
     pub full: String,
     pub tree: &'a Message,
 }
 
-/// An enum, and its full name without a dot in front.
+/// An enum, the scope that declares it, and its full name without a dot in front.
 #[derive(Drop)]
 pub(crate) struct FoundEnum<'a> {
+    pub scope: String,
     pub full: String,
     pub tree: &'a Enum,
 }
@@ -87,6 +89,7 @@ fn push_message<'a>(
     let full = full_name(alloc, scope, &message.name)?;
     let inner = full.clone()?;
     found.push(FoundMessage {
+        scope: String::from_str(alloc, scope)?,
         full,
         tree: message,
     })?;
@@ -103,7 +106,8 @@ fn push_enum<'a>(
     ensures { OnOk result (map spec.enumeration found.new.items ≡ map spec.enumeration found.old.items ++ spec.an_enum scope.now tree.now) }
 {
     let full = full_name(alloc, scope, &tree.name)?;
-    found.push(FoundEnum { full, tree })?;
+    let scope = String::from_str(alloc, scope)?;
+    found.push(FoundEnum { scope, full, tree })?;
     Ok(())
 }
 
