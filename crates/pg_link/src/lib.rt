@@ -20,6 +20,7 @@ mod sights;
 mod sources;
 mod tally;
 mod target;
+mod targets;
 mod uses;
 mod walk;
 
