@@ -11,5 +11,7 @@ pub mod SightLaws
 pub mod SightsLaws
 pub mod SmallFiles
 pub mod StandingLaws
+pub mod TargetLaws
+pub mod UseFaultLaws
 pub mod UseLaws
 pub mod WalkLaws

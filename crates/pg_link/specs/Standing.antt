@@ -114,6 +114,19 @@ target_by Oneof number = None
 target_by Service number = None
 target_by Method number = None
 
+-- the same, where an enum may stand or may not
+abbrev pub taken_by : Bool → Kind → ℕ → Option Target
+taken_by takes_enums Message number = Some (targets.Message number)
+taken_by true Enum number = Some (targets.Enum number)
+taken_by false Enum number = None
+taken_by takes_enums Package number = None
+taken_by takes_enums MapEntry number = None
+taken_by takes_enums Value number = None
+taken_by takes_enums Field number = None
+taken_by takes_enums Oneof number = None
+taken_by takes_enums Service number = None
+taken_by takes_enums Method number = None
+
 -- what bears a name, as a target
 abbrev pub target_of : nameds.Named → Option Target
 target_of n = target_by n.kind n.number

@@ -1,5 +1,6 @@
 //! The names of all files, by their full names.
-ghost use Rattle.std.specs.Prelude.{◌≡◌, ◌++◌, IfOk, OnOk, Some, None, [], ◌∷◌, string_bytes};
+ghost use Rattle.std.specs.HashMap.{get_by_text};
+ghost use Rattle.std.specs.Prelude.{◌≡◌, ◌++◌, IfOk, IfSome, OnOk, Some, None, [], ◌∷◌, string_bytes};
 ghost use Rattle.std.specs.Option.{option_map};
 ghost use Rattle.pg_link.specs.Index as spec;
 ghost use Rattle.pg_link.specs.Names as names;
@@ -77,12 +78,13 @@ pub struct Index {
 
 impl Index {
     /// What bears the name in the files that are seen.
-    fn seen(&self, sight: Option<&[bool]>, full: &str) -> Option<(&str, Kind)>
-        ensures { option_map (λ f. (f.0.now, f.1)) result ≡ resolves.borne (spec.names_seen self.now.names (spec.sight_of sight.entry)) full.now }
+    fn seen(&self, sight: Option<&[bool]>, full: &str) -> Option<(&str, &Named)>
+        ensures borne { option_map (λ f. (f.0.now, f.1.now.kind)) result ≡ resolves.borne (spec.names_seen self.now.names (spec.sight_of sight.entry)) full.now }
+        ensures held { IfSome result (λ f. get_by_text self.now.names full.now ≡ Some f.1.now) }
     {
         let (name, named) = self.names.get_key_value(full)?;
         if is_seen(sight, &named.files) {
-            Some((name.as_str(), named.kind))
+            Some((name.as_str(), named))
         } else {
             None
         }
@@ -93,7 +95,7 @@ impl Index {
         ensures { result ≡ names.bears (spec.names_seen self.now.names (spec.sight_of sight.entry)) (resolves.sought_among (resolves.part_words parts.now)) full.now }
     {
         match self.seen(sight, full) {
-            Some((_, kind)) => ends_at(kind, parts),
+            Some((_, named)) => ends_at(named.kind, parts),
             None => false,
         }
     }
@@ -134,9 +136,10 @@ impl Index {
         sight: Option<&[bool]>,
         scope: &[&str],
         name: &TypeName,
-    ) -> Result<Option<(&str, Kind)>, AllocError>
-        ensures { IfOk result (λ f. option_map (λ f. (f.0.now, f.1)) f ≡ resolves.found
+    ) -> Result<Option<(&str, &Named)>, AllocError>
+        ensures found { IfOk result (λ f. option_map (λ f. (f.0.now, f.1.now.kind)) f ≡ resolves.found
             (spec.names_seen self.now.names (spec.sight_of sight.entry)) (spec.texts scope.now) (resolves.reference name.now)) }
+        ensures held { IfOk result (λ f. IfSome f (λ f. get_by_text self.now.names f.0.now ≡ Some f.1.now)) }
     {
         let written = written(alloc, name)?;
         if name.is_full {

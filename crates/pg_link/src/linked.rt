@@ -1,10 +1,15 @@
 //! Linked files.
-ghost use Rattle.std.specs.Prelude.{◌≡◌};
+ghost use Rattle.std.specs.Prelude.{◌≡◌, ◌<◌, IfErr, IfOk, List, Some, length, map, slice_get};
 
+use crate::declaring::index_names;
+use crate::error::LinkError;
 use crate::index::Index;
+use crate::sights::sights_of;
 use crate::target::Target;
+use crate::targets::all_targets;
 use crate::walk::SourceFile;
 use indexmap::IndexMap;
+use std::alloc::Global;
 use std::marker::Model;
 
 /// Files whose imports, names and uses are settled. Contracts see the files, each behind those that it imports, and
@@ -21,7 +26,7 @@ impl Model for Linked {
     ghost use Rattle.std.specs.Prelude.{map};
     ghost use Rattle.std.specs.Coded.{codes};
     ghost use Rattle.pg_syntax.specs.contracts.tree.Part as part;
-    ghost use Rattle.pg_link.specs.Linked.{LinkedFiles, IsLinkedUp};
+    ghost use Rattle.pg_link.specs.Linked.{LinkedFiles, IsSettled};
 
     ghost Value = { LinkedFiles };
 
@@ -29,5 +34,52 @@ impl Model for Linked {
 
     ghost view = { λ l. record { files = l.files.entries; targets = map (λ ts. ts.items) l.targets.items } };
 
-    ghost invariant = { λ l. IsLinkedUp record { files = l.files.entries; targets = map (λ ts. ts.items) l.targets.items } };
+    ghost invariant = { λ l. IsSettled l.files.entries l.index (map (λ m. m.items) l.sights.items) (map (λ ts. ts.items) l.targets.items) };
+}
+
+impl Linked {
+    ghost use Rattle.pg_link.specs.Linked.{IsLinkedUp, IsRead};
+    ghost use Rattle.pg_link.specs.Targets.{file_targets};
+    ghost use Rattle.pg_link.specs.UseFaults.{IsNameFault};
+    ghost use Rattle.pg_link.specs.Walk.{Entry};
+
+    /// Settles the names and the uses of files that were read.
+    pub(crate) fn of(
+        alloc: Global,
+        files: IndexMap<String, SourceFile>,
+    ) -> Result<Linked, LinkError>
+        requires { IsRead files.entries }
+        ensures files { IfOk result (λ linked. linked.files ≡ files.entries) }
+        ensures linked { IfOk result IsLinkedUp }
+        ensures fault { IfErr result (IsNameFault files.entries) }
+    {
+        let index = index_names(alloc, &files)?;
+        let sights = sights_of(alloc, &files)?;
+        let targets = all_targets(alloc, &files, &index, &sights)?;
+        Ok(Linked {
+            files,
+            index,
+            sights,
+            targets,
+        })
+    }
+
+    /// The files by path, each with its text and its tree, each behind those that it imports.
+    pub fn files(&self) -> &IndexMap<String, SourceFile>
+        ensures files { result.now.entries ≡ self.now.files }
+        ensures linked { IsLinkedUp self.now }
+    {
+        &self.files
+    }
+
+    /// What the uses of type names in a file resolve to, in the order of its text: the types of fields and of members of
+    /// oneofs, keys and values of maps, what rpcs take and return. Scalar words in fields and maps are no uses
+    /// (`is_scalar`). The file is given by its number.
+    pub fn targets(&self, file: usize) -> &[Target]
+        requires { file < length self.now.files }
+        ensures targets { slice_get self.now.targets file ≡ Some result.now }
+        ensures resolved { (e : Entry) → slice_get self.now.files file ≡ Some e → map Some result.now ≡ file_targets self.now.files e }
+    {
+        &self.targets[file]
+    }
 }

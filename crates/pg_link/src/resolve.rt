@@ -48,16 +48,16 @@ impl Index {
         ensures cause { IfErr result (Refuses (names_seen self.now.names (Some sight.now)) (names_seen self.now.names None) (texts scope.now) (reference name.now)) }
     {
         match self.found(alloc, Some(sight), scope, name)? {
-            Some((full, kind)) => {
-                if kind.is_type() {
+            Some((full, named)) => {
+                if named.kind.is_type() {
                     Ok(full)
                 } else {
                     Err(Unresolved::NotAType)
                 }
             }
             None => match self.found(alloc, None, scope, name)? {
-                Some((_, kind)) => {
-                    if kind.is_type() {
+                Some((_, named)) => {
+                    if named.kind.is_type() {
                         Err(Unresolved::NotImported)
                     } else {
                         Err(Unresolved::UnknownName)

@@ -1,0 +1,139 @@
+-- What the uses of files resolve to, and which are at fault: through the index, and by the files.
+use Rattle.std.proofs.Common.{◌≡◌, ◌∙◌, ◌⊎◌, inl, inr, ℕ, ◌+◌, ◌<◌, Bool, true, false, List, [], ◌∷◌, ◌++◌, map, take, drop, length, slice_get, get_or, refl, sym, ap, subst, arith, Option, Some, None, Vec, Err, Result}
+use Rattle.std.proofs.lemmas.List.{map-append}
+use Rattle.std.proofs.lemmas.Option.{slice_get-map, slice_get_read, slice_get_within, get_or_from_slice_get}
+use Rattle.std.specs.Global.{Global}
+use Rattle.std.specs.List.{IsAmong}
+use Rattle.std.specs.Option.{option_map}
+use Rattle.pg_syntax.specs.declared.tree as tree
+use Rattle.pg_link.specs.declared.error.LinkError as errors
+use Rattle.pg_link.specs.declared.error.LinkError.TheVariants as error
+use Rattle.pg_link.specs.declared.index.Index as indexes
+use Rattle.pg_link.specs.declared.resolve.Unresolved.{Unresolved}
+use Rattle.pg_link.specs.declared.target.Target.{Target}
+use Rattle.pg_link.specs.declared.uses.Site as made
+use Rattle.pg_link.specs.Files.{Declared, all_names, seen_paths, visible_names}
+use Rattle.pg_link.specs.Index.{names_seen}
+use Rattle.pg_link.specs.Names.{Text, Names}
+use Rattle.pg_link.specs.Outline.{file_names}
+use Rattle.pg_link.specs.Sights.{AreSights, IsMask, Marks}
+use Rattle.pg_link.specs.Sites.{use_of}
+use Rattle.pg_link.specs.Standing.{IsNumbered, IsTwiceIn, Lists, NoneTwice, Standing, all_standings, declared_in, standing, standings, standings_from}
+use Rattle.pg_link.specs.Targets.{all_declared, file_targets, target_in}
+use Rattle.pg_link.specs.Unresolved.{RefusesUse}
+use Rattle.pg_link.specs.UseFaults.{IsAtUse, IsNameFault, IsUseFault, IsUseFaultIn, Says}
+use Rattle.pg_link.specs.Uses.{Use, file_uses}
+use Rattle.pg_link.specs.Walk.{Entry, failures_of, outlines, path_of}
+use Rattle.pg_link.proofs.BridgeLaws.{known_names, seen_names}
+
+-- ---- one use
+
+pub use_refused : (visible all : Names) (u : Use) (w : Unresolved) (path text : Text) (file : tree.FileTree.FileTree) (e : errors.LinkError) (front back : List Use)
+    → file_uses file ≡ front ++ u ∷ back → RefusesUse visible all u w → Says w path text u.at e → IsUseFault visible all path text file e
+use_refused visible all u w path text file (error.UnknownName place) front back splits refuses says =
+    record { front = front; u = u; back = back; splits = splits; is_place = says.1; holds = subst (RefusesUse visible all u) says.0 refuses }
+use_refused visible all u w path text file (error.NotAType place) front back splits refuses says =
+    record { front = front; u = u; back = back; splits = splits; is_place = says.1; holds = subst (RefusesUse visible all u) says.0 refuses }
+use_refused visible all u w path text file (error.NotImported place) front back splits refuses says =
+    record { front = front; u = u; back = back; splits = splits; is_place = says.1; holds = subst (RefusesUse visible all u) says.0 refuses }
+use_refused visible all u w path text file error.Memory front back splits refuses says = tt
+use_refused visible all u w path text file (error.MissingFile place) front back splits refuses says = absurd says
+use_refused visible all u w path text file (error.ImportCycle place) front back splits refuses says = absurd says
+use_refused visible all u w path text file (error.DuplicateImport place) front back splits refuses says = absurd says
+use_refused visible all u w path text file (error.DuplicateName place) front back splits refuses says = absurd says
+use_refused visible all u w path text file (error.TooManyFiles place) front back splits refuses says = absurd says
+use_refused visible all u w path text file (error.SourceFailed place) front back splits refuses says = absurd says
+use_refused visible all u w path text file (error.Lex f place) front back splits refuses says = absurd says
+use_refused visible all u w path text file (error.Syntax f place) front back splits refuses says = absurd says
+
+-- ---- one file
+
+standing_declared : (n : ℕ) (ds : List Declared) → declared_in (map (standing n) ds) ≡ ds
+standing_declared n [] = refl
+standing_declared n (d ∷ ds) = ap (λ l. d ∷ l) (standing_declared n ds)
+
+declared_from : (n : ℕ) (es : List Entry) → declared_in (standings_from n es) ≡ all_declared es
+declared_from n [] = refl
+declared_from n (e ∷ es) =
+    map-append (λ (s : Standing). s.declared) (standings n e.1.tree) (standings_from (n + 1) es)
+    ∙ (ap (λ l. l ++ declared_in (standings_from (n + 1) es)) (standing_declared n (file_names e.1.tree)) ∙ ap (λ l. file_names e.1.tree ++ l) (declared_from (n + 1) es))
+
+pub all_declared_are : (es : List Entry) → declared_in (all_standings es) ≡ all_declared es
+all_declared_are es = declared_from 0 es
+
+-- the names that are seen, as one
+pub visible_are : (index : indexes.Index) (es : List Entry) (e : Entry) (sight : List Bool) → Lists index (all_standings es) → NoneTwice (all_standings es)
+    → Marks es (seen_paths (outlines es) (path_of e)) sight → names_seen index.names (Some sight) ≡ visible_names (outlines es) (path_of e)
+visible_are index es e sight lists once marks = λ i full. seen_names index.names es (seen_paths (outlines es) (path_of e)) sight lists.0 once marks full i
+
+pub all_are : (index : indexes.Index) (es : List Entry) → Lists index (all_standings es) → NoneTwice (all_standings es)
+    → names_seen index.names None ≡ all_names (outlines es)
+all_are index es lists once = λ i full. known_names index.names es lists.0 once full i
+
+pub targets_are : (index : indexes.Index) (es : List Entry) (e : Entry) (sight : List Bool) (ts : List Target) → Lists index (all_standings es) → NoneTwice (all_standings es)
+    → Marks es (seen_paths (outlines es) (path_of e)) sight
+    → ((all : List Standing) → IsNumbered index all → map Some ts ≡ map (target_in (declared_in all) (names_seen index.names (Some sight))) (file_uses e.1.tree))
+    → map Some ts ≡ file_targets es e
+targets_are index es e sight ts lists once marks found =
+    found (all_standings es) lists.1
+    ∙ (ap (λ (ds : List Declared). map (target_in ds (names_seen index.names (Some sight))) (file_uses e.1.tree)) (all_declared_are es)
+    ∙ ap (λ (names : Names). map (target_in (all_declared es) names) (file_uses e.1.tree)) (visible_are index es e sight lists once marks))
+
+pub fault_is : (index : indexes.Index) (es : List Entry) (e : Entry) (sight : List Bool) (path : Text) (err : errors.LinkError) → Lists index (all_standings es)
+    → NoneTwice (all_standings es) → Marks es (seen_paths (outlines es) (path_of e)) sight → IsAmong es e → path ≡ path_of e
+    → IsUseFault (names_seen index.names (Some sight)) (names_seen index.names None) path e.1.bytes.items e.1.tree err → IsUseFaultIn es err
+fault_is index es e sight path err lists once marks among same fault = (
+  e,
+  among,
+  subst (λ (p : Text). IsUseFault (visible_names (outlines es) (path_of e)) (all_names (outlines es)) p e.1.bytes.items e.1.tree err) same
+      (subst (λ (names : Names). IsUseFault (visible_names (outlines es) (path_of e)) names path e.1.bytes.items e.1.tree err) (all_are index es lists once)
+      (subst (λ (names : Names). IsUseFault names (names_seen index.names None) path e.1.bytes.items e.1.tree err) (visible_are index es e sight lists once marks) fault)),
+)
+
+pub among_at : (es : List Entry) (i : ℕ) (e : Entry) → slice_get es i ≡ Some e → IsAmong es e
+among_at es i e at = (i, (slice_get_within es i e at, sym (get_or_from_slice_get es i e e at)))
+
+-- the marks that stand for a file
+pub its_marks : (es : List Entry) (sights : List (Vec Bool Global)) (i : ℕ) (e : Entry) (v : Vec Bool Global) (marks : List Bool)
+    → AreSights es (map (λ (m : Vec Bool Global). m.items) sights) → slice_get es i ≡ Some e → i < length sights → v ≡ get_or sights i v → marks ≡ v.items
+    → Marks es (seen_paths (outlines es) (path_of e)) marks
+its_marks es sights i e v marks are at within is same =
+    let m : IsMask es (seen_paths (outlines es) (path_of e)) marks =
+    are i marks e (slice_get-map (λ (m : Vec Bool Global). m.items) sights i
+    ∙ (ap (option_map (λ (m : Vec Bool Global). m.items)) (slice_get_read sights (length sights) i v refl within is) ∙ ap (λ (l : List Bool). Some l) (sym same))) at in
+    m.is_marked
+
+-- ---- no failure of a source
+
+pub twice_counts : (X : Type 0) (es : List Entry) (e : errors.LinkError) → IsTwiceIn es e → failures_of {X = X} (Err e) ≡ 0
+twice_counts X es (error.DuplicateName place) fault = refl
+twice_counts X es error.Memory fault = refl
+twice_counts X es (error.UnknownName place) fault = refl
+twice_counts X es (error.NotAType place) fault = refl
+twice_counts X es (error.NotImported place) fault = refl
+twice_counts X es (error.MissingFile place) fault = refl
+twice_counts X es (error.ImportCycle place) fault = refl
+twice_counts X es (error.DuplicateImport place) fault = refl
+twice_counts X es (error.TooManyFiles place) fault = refl
+twice_counts X es (error.SourceFailed place) fault = absurd fault
+twice_counts X es (error.Lex f place) fault = refl
+twice_counts X es (error.Syntax f place) fault = refl
+
+use_counts : (X : Type 0) (visible all : Names) (path text : Text) (file : tree.FileTree.FileTree) (e : errors.LinkError) → IsUseFault visible all path text file e
+    → failures_of {X = X} (Err e) ≡ 0
+use_counts X visible all path text file (error.DuplicateName place) fault = refl
+use_counts X visible all path text file error.Memory fault = refl
+use_counts X visible all path text file (error.UnknownName place) fault = refl
+use_counts X visible all path text file (error.NotAType place) fault = refl
+use_counts X visible all path text file (error.NotImported place) fault = refl
+use_counts X visible all path text file (error.MissingFile place) fault = refl
+use_counts X visible all path text file (error.ImportCycle place) fault = refl
+use_counts X visible all path text file (error.DuplicateImport place) fault = refl
+use_counts X visible all path text file (error.TooManyFiles place) fault = refl
+use_counts X visible all path text file (error.SourceFailed place) fault = absurd fault
+use_counts X visible all path text file (error.Lex f place) fault = refl
+use_counts X visible all path text file (error.Syntax f place) fault = refl
+
+pub fault_counts : (X : Type 0) (es : List Entry) (e : errors.LinkError) → IsNameFault es e → failures_of {X = X} (Err e) ≡ 0
+fault_counts X es e (inl twice) = twice_counts X es e twice
+fault_counts X es e (inr (once, (file, among, fault))) = use_counts X _ _ _ _ _ e fault

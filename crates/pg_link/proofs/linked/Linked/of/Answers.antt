@@ -1,0 +1,24 @@
+use Rattle.std.proofs.Common.{◌≡◌, ◌∙◌, Bool, List, Vec, map, subst, sym}
+use Rattle.std.proofs.lemmas.List.{length-map}
+use Rattle.std.specs.Global.{Global}
+use Rattle.pg_link.specs.Sights.{AreSights}
+use Rattle.pg_link.proofs.linked.Linked.of.Goals as goal
+
+pub all_targets-requires-clause-sights : goal.all_targets-requires-clause-sights
+all_targets-requires-clause-sights c =
+    subst (λ (ms : List (Vec Bool Global)). AreSights c.args.files.entries (map (λ (m : Vec Bool Global). m.items) ms)) (sym c.deref.ensures.value) c.in_ok-sights.ensures.sights
+
+pub invariant_of-result : goal.invariant_of-result
+invariant_of-result c = record {
+  linked = record {
+    parsed = c.requires.parsed;
+    in_order = c.requires.in_order;
+    apart = c.requires.apart;
+    few = c.requires.few;
+    once = c.in_ok-index.ensures.once;
+    resolved = c.in_ok-targets.ensures.resolved;
+  };
+  lists = (c.in_ok-index.ensures.holds, c.in_ok-index.ensures.numbered);
+  sight_length = length-map c.in_ok-sights.sights.items (λ (m : Vec Bool Global). m.items) ∙ c.in_ok-sights.ensures.same_length;
+  are_sights = c.in_ok-sights.ensures.sights;
+}

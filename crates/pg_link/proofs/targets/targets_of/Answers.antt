@@ -1,0 +1,24 @@
+use Rattle.std.proofs.Common.{◌≡◌, ◌∙◌, ◌+◌, ◌++◌, ◌∷◌, ℕ, List, Some, None, map, take, drop, subst, sym, ap}
+use Rattle.pg_link.specs.declared.uses.Site as made
+use Rattle.pg_link.specs.Index.{names_seen}
+use Rattle.pg_link.specs.Names.{Text}
+use Rattle.pg_link.specs.Sites.{use_of}
+use Rattle.pg_link.specs.UseFaults.{Says}
+use Rattle.pg_link.specs.Uses.{Use, file_uses}
+use Rattle.pg_link.proofs.UseFaultLaws.{use_refused}
+use Rattle.pg_link.proofs.WalkLaws.{split_at}
+use Rattle.pg_link.proofs.targets.targets_of.Goals as goal
+
+pub returns-in-Err-clause-fault : goal.returns-in-Err-clause-fault
+returns-in-Err-clause-fault c =
+    let sites : List made.Site = c.deref-site-items.result.now in
+    let i : ℕ = c.loop-site.site-index in
+    let x : made.Site = c.site-item.result in
+    let front : List Use = map use_of (take i sites) in
+    let back : List Use = map use_of (drop (i + 1) sites) in
+    let splits : file_uses c.args.file.now.tree ≡ front ++ use_of x ∷ back =
+    sym (ap (map use_of) c.deref-site-items.ensures.value ∙ c.in_ok-sites.ensures)
+    ∙ (split_at use_of sites i x c.loop-site-test.true ∙ ap (λ (s : made.Site). front ++ use_of s ∷ back) (sym c.site-item.is)) in
+    use_refused (names_seen c.args.index.now.names (Some c.args.sight.now)) (names_seen c.args.index.now.names None) (use_of x) c.in-Err.why
+    c.args.path.now c.args.file.now.bytes.items c.args.file.now.tree c.use_fault.result front back splits c.in-Err.ensures.refused
+    (subst (λ (t : Text). Says c.in-Err.why c.args.path.now t (use_of x).at c.use_fault.result) c.deref.ensures.value c.use_fault.ensures)

@@ -1,0 +1,42 @@
+//! Files, linked.
+ghost use Rattle.std.specs.Prelude.{◌≡◌, ◌+◌, IfErr, IfOk};
+ghost use Rattle.pg_link.specs.Index.{texts};
+ghost use Rattle.pg_link.specs.Linked.{IsLinkedUp};
+ghost use Rattle.pg_link.specs.UseFaults.{LinkRefuses};
+ghost use Rattle.pg_link.specs.Walk as spec;
+
+use crate::Sources;
+use crate::error::LinkError;
+use crate::linked::Linked;
+use crate::walk::follow_imports;
+use std::alloc::Global;
+
+/// Reads the roots below the folder, and all that they import, each path once, and settles their names: which names each
+/// file sees, and what each use of a type name resolves to.
+///
+/// Imports are followed depth first, a file's own text looked at before its imports (E101 to E108, E201 to E207, E301 to
+/// E303, E308, E309). Then come names that stand twice, by order of declaration (E304), and then uses that resolve to
+/// nothing, by their order (E305 to E307); files stand in the order in which their imports were done with. E309 comes only
+/// where the source failed in this call.
+pub fn link<S: Sources>(
+    alloc: Global,
+    source: &mut S,
+    folder: &str,
+    roots: &[&str],
+) -> Result<Linked, LinkError>
+    // Each text that is kept is one that the source may give for its path, each tree is that of its text, each root and
+    // import is among the files, each path once.
+    ensures linked { IfOk result (λ linked. spec.IsLinked (spec.world (S.may_give source.old) (S.may_lack source.old) folder.now (texts roots.now)) linked.files) }
+    // No name stands twice, and each use resolves to its target.
+    ensures settled { IfOk result IsLinkedUp }
+    // Each refusal comes only where what it names is there, at its place.
+    ensures refused { IfErr result (LinkRefuses (spec.world (S.may_give source.old) (S.may_lack source.old) folder.now (texts roots.now))) }
+    // A failure of the source is told as one, and nothing else is.
+    ensures counted { S.failures source.new ≡ S.failures source.old + spec.failures_of result }
+    ensures same_given { S.may_give source.new ≡ S.may_give source.old }
+    ensures same_lacked { S.may_lack source.new ≡ S.may_lack source.old }
+{
+    let walk = follow_imports(alloc, source, folder, roots)?;
+    let linked = Linked::of(alloc, walk.files)?;
+    Ok(linked)
+}

@@ -1,0 +1,84 @@
+//! What the uses of all files resolve to.
+ghost use Rattle.std.specs.Prelude.{◌≡◌, IfErr, IfOk, List, None, Some, length, map};
+ghost use Rattle.pg_link.specs.Index.{names_seen};
+ghost use Rattle.pg_link.specs.Sights.{AreSights};
+ghost use Rattle.pg_link.specs.Standing.{IsNumbered, Lists, NoneTwice, Standing, all_standings, declared_in};
+ghost use Rattle.pg_link.specs.Targets.{file_targets, target_in};
+ghost use Rattle.pg_link.specs.UseFaults.{IsUseFault, IsUseFaultIn, Says};
+ghost use Rattle.pg_link.specs.Uses.{file_uses};
+
+use crate::error::{LinkError, place_in};
+use crate::index::Index;
+use crate::resolve::Unresolved;
+use crate::target::Target;
+use crate::uses::uses_of;
+use crate::walk::SourceFile;
+use indexmap::IndexMap;
+use std::alloc::Global;
+
+/// The fault of a use that resolves to nothing.
+fn use_fault(alloc: Global, path: &str, text: &[u8], at: usize, why: Unresolved) -> LinkError
+    ensures { Says why path.now text.now at result }
+{
+    let Ok(place) = place_in(alloc, path, text, at) else {
+        return LinkError::Memory;
+    };
+    match why {
+        Unresolved::UnknownName => LinkError::UnknownName(place),
+        Unresolved::NotAType => LinkError::NotAType(place),
+        Unresolved::NotImported => LinkError::NotImported(place),
+        Unresolved::Memory => LinkError::Memory,
+    }
+}
+
+/// What the uses of a file resolve to, in the order of its text.
+fn targets_of(
+    alloc: Global,
+    index: &Index,
+    sight: &[bool],
+    path: &str,
+    file: &SourceFile,
+) -> Result<Vec<Target>, LinkError>
+    ensures found { IfOk result (λ targets. (all : List Standing) → IsNumbered index.now all
+        → map Some targets.items ≡ map (target_in (declared_in all) (names_seen index.now.names (Some sight.now))) (file_uses file.now.tree)) }
+    ensures fault { IfErr result (IsUseFault (names_seen index.now.names (Some sight.now)) (names_seen index.now.names None) path.now file.now.bytes.items file.now.tree) }
+{
+    let sites = uses_of(alloc, &file.tree)?;
+    let mut targets = Vec::new(alloc);
+    for site in &sites {
+        match index.target(alloc, sight, site) {
+            Ok(target) => targets.push(target)?,
+            Err(why) => {
+                let at = site.name.span.from;
+                return Err(use_fault(alloc, path, &file.bytes, at, why));
+            }
+        }
+    }
+    Ok(targets)
+}
+
+/// What the uses of all files resolve to, file by file, by the names that each file sees.
+pub(crate) fn all_targets(
+    alloc: Global,
+    files: &IndexMap<String, SourceFile>,
+    index: &Index,
+    sights: &[Vec<bool>],
+) -> Result<Vec<Vec<Target>>, LinkError>
+    requires lists { Lists index.now (all_standings files.now.entries) }
+    requires once { NoneTwice (all_standings files.now.entries) }
+    requires sights { AreSights files.now.entries (map (λ m. m.items) sights.now) }
+    requires same_length { length sights.now ≡ length files.now.entries }
+    ensures resolved { IfOk result (λ targets. map (map Some) (map (λ ts. ts.items) targets.items) ≡ map (file_targets files.now.entries) files.now.entries) }
+    ensures fault { IfErr result (IsUseFaultIn files.now.entries) }
+{
+    let mut targets = Vec::new(alloc);
+    for number in 0..files.len() {
+        let Some((path, file)) = files.get_index(number) else {
+            continue;
+        };
+        let sight = &sights[number];
+        let own = targets_of(alloc, index, sight, path.as_str(), file)?;
+        targets.push(own)?;
+    }
+    Ok(targets)
+}
