@@ -9,6 +9,8 @@ mod failing_sink;
 mod failing_source;
 mod one_byte;
 #[cfg(test)]
+mod link_tests;
+#[cfg(test)]
 mod refusal_tests;
 #[cfg(test)]
 mod runs;

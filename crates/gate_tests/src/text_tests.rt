@@ -85,9 +85,7 @@ fn refuses_a_text_that_is_too_long(rt: HostRuntime) -> Result<(), Fail> {
 }
 
 /// Lines that hold something else than messages of scalar fields without labels.
-static OTHER: [&str; 21] = [
-    "import \"a.proto\";",
-    "import public \"a.proto\";",
+static OTHER: [&str; 16] = [
     "package p;",
     "option java_package = \"x\";",
     "enum E { A = 0; }",
@@ -104,9 +102,6 @@ static OTHER: [&str; 21] = [
     "message N { optional int32 a = 1; }",
     "message N { int32 a = 1 [deprecated = true]; }",
     "message N { N a = 1; }",
-    "message N { .int32 a = 1; }",
-    "message N { int32.b a = 1; }",
-    "message N { Int32 a = 1; }",
 ];
 
 /// Expects that the gate on the two texts is undecided of a message that none declares.
@@ -155,11 +150,12 @@ fn tells_faults_before_it_is_undecided(rt: HostRuntime) -> Result<(), Fail> {
     answer_of(&rt, twice, other, refused, 2)
 }
 
-/// Messages of a name that stands twice are told only of flat files.
+/// A name that stands twice is told of any file.
 #[test]
-fn leaves_the_names_of_other_files(rt: HostRuntime) -> Result<(), Fail> {
+fn tells_names_of_other_files(rt: HostRuntime) -> Result<(), Fail> {
     let other = text_of(rt.alloc(), "message M { } message M { } enum E { A = 0; }")?;
-    answer_of(&rt, other.as_bytes(), ONE.as_bytes(), "undecided M\n", 5)
+    let refused = "refused old E304 o.proto:2:23\n";
+    answer_of(&rt, other.as_bytes(), ONE.as_bytes(), refused, 2)
 }
 
 #[test]

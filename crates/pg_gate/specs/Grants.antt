@@ -6,13 +6,13 @@ use Rattle.pg_dyn.specs.Kept.{Kept, message_of, type_of}
 use Rattle.pg_schema.specs.declared.parts.Parts.{Parts}
 use Rattle.pg_schema.specs.Parts.{shape_of}
 use Rattle.pg_gate.specs.Call.{Request, gate}
-use Rattle.pg_gate.specs.Files.{IsCompiled, IsFaultAmong}
+use Rattle.pg_link.specs.Walk.{World, world}
+use Rattle.pg_gate.specs.Files.{IsCompiled, IsFaultOf, fault_failures}
 use Rattle.pg_gate.specs.Breaking.{HaveRoot, IsBreaking, Lacks}
 use Rattle.pg_gate.specs.declared.breaking.Answer.{Answer}
 use Rattle.pg_gate.specs.declared.breaking.Answer.TheVariants as answers
 use Rattle.pg_gate.specs.Refusals.{refusal_of}
 use Rattle.pg_gate.specs.declared.error.Fault.{Fault}
-use Rattle.pg_gate.specs.declared.error.Fault.TheVariants.{MissingFile, SourceFailed, InText}
 use Rattle.pg_gate.specs.declared.error.GateError.{GateError}
 use Rattle.pg_gate.specs.declared.error.GateError.TheVariants as errors
 use Rattle.pg_gate.specs.declared.error.Side.TheVariants as sides
@@ -45,23 +45,20 @@ pub record SideFiles : Type 0 where
 abbrev pub files_at : Text → List Text → SideFiles
 files_at folder paths = record { folder = folder; paths = paths }
 
+abbrev pub world_of : Seen → SideFiles → World
+world_of s files = world s.may_give s.may_lack files.folder files.paths
+
 -- the schema of texts of the side, which its source may give
 abbrev pub IsSideSchema : Seen → SideFiles → Parts → Type 0
-IsSideSchema s files parts = IsCompiled s.may_give files.folder files.paths (Some parts)
+IsSideSchema s files parts = IsCompiled (world_of s files) (Some parts)
 
 -- texts of the side, which its source may give, are more than flat messages
 abbrev pub IsOtherSide : Seen → SideFiles → Type 0
-IsOtherSide s files = IsCompiled s.may_give files.folder files.paths None
+IsOtherSide s files = IsCompiled (world_of s files) None
 
--- the failures of a source that a fault tells of
-abbrev pub fault_failures : Fault → ℕ
-fault_failures (MissingFile file) = 0
-fault_failures (SourceFailed file) = 1
-fault_failures (InText error place) = 0
-
--- a fault of one of the side's files; a source failed only where it counted a failure
+-- a fault of the side's files; a source failed only where it counted a failure
 pub record IsSideFault (s : Seen) (files : SideFiles) (fault : Fault) : Type 0 where
-  pub among : IsFaultAmong s.may_give s.may_lack files.folder files.paths fault
+  pub is_fault : IsFaultOf (world_of s files) fault
   pub counted : s.before + fault_failures fault ≤ s.after
 
 -- what holds of the schemas of two sides

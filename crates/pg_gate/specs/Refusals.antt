@@ -1,51 +1,82 @@
 -- The refusal that is printed for an error: its code, and where the fault is.
-use Rattle.std.specs.Prelude.{ℕ, Option, Some, None}
+use Rattle.std.specs.Prelude.{ℕ, Bool, true, false, nat_eq, Option, Some, None}
+use Rattle.pg_lex.specs.declared.error.LexError.{LexError}
+use Rattle.pg_lex.specs.declared.error.LexError.TheVariants as lex
+use Rattle.pg_link.specs.declared.error.LinkError.{LinkError}
+use Rattle.pg_link.specs.declared.error.LinkError.TheVariants as links
+use Rattle.pg_link.specs.declared.error.Place.{Place}
+use Rattle.pg_syntax.specs.declared.error.SyntaxError.{SyntaxError}
+use Rattle.pg_syntax.specs.declared.error.SyntaxError.TheVariants as syntax
 use Rattle.pg_gate.specs.declared.error.Fault.{Fault}
-use Rattle.pg_gate.specs.declared.error.Fault.TheVariants.{MissingFile, SourceFailed, InText}
+use Rattle.pg_gate.specs.declared.error.Fault.TheVariants as faults
 use Rattle.pg_gate.specs.declared.error.GateError.{GateError}
 use Rattle.pg_gate.specs.declared.error.GateError.TheVariants.{Memory, RootMissingOld, RootMissingNew, Compile, WriteFailed}
-use Rattle.pg_gate.specs.declared.error.TextError.{TextError}
-use Rattle.pg_gate.specs.declared.error.TextError.TheVariants as texts
+use Rattle.pg_gate.specs.declared.error.RuleError.{RuleError}
+use Rattle.pg_gate.specs.declared.error.RuleError.TheVariants as rules
 use Rattle.pg_gate.specs.declared.refusal.Location.{Location}
 use Rattle.pg_gate.specs.declared.refusal.Location.TheVariants.{Nowhere, InPlace, InFile}
 use Rattle.pg_gate.specs.declared.refusal.Refusal.{Refusal}
+use Rattle.pg_gate.specs.declared.refusal.Told.{Told}
 
-abbrev pub code_of_text : TextError → ℕ
-code_of_text texts.NotUtf8 = 101
-code_of_text texts.BadCharacter = 102
-code_of_text texts.OpenString = 103
-code_of_text texts.BadEscape = 104
-code_of_text texts.OpenComment = 105
-code_of_text texts.NumberTooLarge = 106
-code_of_text texts.FloatLiteral = 107
-code_of_text texts.FileTooLong = 108
-code_of_text texts.NotProto3 = 201
-code_of_text texts.Unexpected = 202
-code_of_text texts.Group = 203
-code_of_text texts.Extension = 204
-code_of_text texts.CustomOption = 205
-code_of_text texts.WeakImport = 206
-code_of_text texts.NestedTooDeep = 207
-code_of_text texts.DuplicateName = 304
-code_of_text texts.BadNumber = 401
-code_of_text texts.DuplicateNumber = 402
-code_of_text texts.TooManyTypes = 413
+abbrev pub lex_code : LexError → ℕ
+lex_code lex.Memory = 1
+lex_code (lex.NotUtf8 at) = 101
+lex_code (lex.BadCharacter at) = 102
+lex_code (lex.OpenString at) = 103
+lex_code (lex.BadEscape at) = 104
+lex_code (lex.OpenComment at) = 105
+lex_code (lex.NumberTooLarge at) = 106
+lex_code (lex.FloatLiteral at) = 107
+lex_code (lex.FileTooLong at) = 108
 
-abbrev pub code_of : Fault → ℕ
-code_of (MissingFile file) = 301
-code_of (SourceFailed file) = 309
-code_of (InText error place) = code_of_text error
+abbrev pub syntax_code : SyntaxError → ℕ
+syntax_code syntax.Memory = 1
+syntax_code (syntax.NotProto3 at) = 201
+syntax_code (syntax.Unexpected at) = 202
+syntax_code (syntax.Group at) = 203
+syntax_code (syntax.Extension at) = 204
+syntax_code (syntax.CustomOption at) = 205
+syntax_code (syntax.WeakImport at) = 206
+syntax_code (syntax.NestedTooDeep at) = 207
 
--- a file that is not there, or not read, by its path; a fault of a text by its place
-abbrev pub location_of : Fault → Location
-location_of (MissingFile file) = InFile file
-location_of (SourceFailed file) = InFile file
-location_of (InText error place) = InPlace place
+-- a file as a whole, or a line and a column in it
+abbrev pub located_by : Bool → Place → Location
+located_by true place = InFile place.file
+located_by false place = InPlace place
+
+abbrev pub located : Place → Location
+located place = located_by (nat_eq place.line 0) place
+
+abbrev pub told_at : ℕ → Place → Told
+told_at code place = record { code = code; location = located place }
+
+abbrev pub told_of_link : LinkError → Told
+told_of_link (links.MissingFile place) = told_at 301 place
+told_of_link (links.ImportCycle place) = told_at 302 place
+told_of_link (links.DuplicateImport place) = told_at 303 place
+told_of_link (links.DuplicateName place) = told_at 304 place
+told_of_link (links.UnknownName place) = told_at 305 place
+told_of_link (links.NotAType place) = told_at 306 place
+told_of_link (links.NotImported place) = told_at 307 place
+told_of_link (links.TooManyFiles place) = told_at 308 place
+told_of_link (links.SourceFailed place) = told_at 309 place
+told_of_link (links.Lex e place) = told_at (lex_code e) place
+told_of_link (links.Syntax e place) = told_at (syntax_code e) place
+told_of_link links.Memory = record { code = 1; location = Nowhere }
+
+abbrev pub rule_code : RuleError → ℕ
+rule_code rules.BadNumber = 401
+rule_code rules.DuplicateNumber = 402
+rule_code rules.TooManyTypes = 413
+
+abbrev pub told_of : Fault → Told
+told_of (faults.Link error) = told_of_link error
+told_of (faults.Rule error place) = told_at (rule_code error) place
 
 -- want of memory and a sink that failed aren't printed
 abbrev pub refusal_of : GateError → Option Refusal
 refusal_of Memory = None
 refusal_of RootMissingOld = Some (record { side = None; code = 901; location = Nowhere })
 refusal_of RootMissingNew = Some (record { side = None; code = 902; location = Nowhere })
-refusal_of (Compile side fault) = Some (record { side = Some side; code = code_of fault; location = location_of fault })
+refusal_of (Compile side fault) = Some (record { side = Some side; code = (told_of fault).code; location = (told_of fault).location })
 refusal_of WriteFailed = None

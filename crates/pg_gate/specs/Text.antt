@@ -4,7 +4,7 @@ use Rattle.std.specs.Prelude.{length, string_bytes}
 use Rattle.std.specs.Fmt.{digits}
 use Rattle.std.specs.List.{flat_map}
 use Rattle.clap.specs.Words.{Text}
-use Rattle.pg_gate.specs.declared.error.Place.{Place}
+use Rattle.pg_link.specs.declared.error.Place.{Place}
 use Rattle.pg_gate.specs.declared.error.Side.{Side}
 use Rattle.pg_gate.specs.declared.error.Side.TheVariants as side
 use Rattle.pg_gate.specs.declared.refusal.Location.{Location}

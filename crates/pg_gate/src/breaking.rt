@@ -44,13 +44,14 @@ pub fn gate(alloc: Global, old: &Schema, new: &Schema, root: &str) -> Result<Ans
     }
 }
 
-/// The same over two sources: the schemas are those of the texts at these paths, each read once, the
-/// old side first. A side whose texts hold anything but messages of scalar fields without labels, or
-/// fields of one message with one JSON name, is `Undecided`, after the faults of both sides and before a missing root.
+/// The same over two sources: the schemas are those of the files at these paths and of all that they
+/// import, each read once, the old side first. A side whose files hold anything but messages of scalar
+/// fields without labels, or fields of one message with one JSON name, is `Undecided`, after the faults
+/// of both sides and before a missing root.
 ///
-/// Refused are want of memory (`Memory`); a side with its first fault (`Compile`): a file that its
-/// source lacks, a source that failed, or a fault in a text, which stands at a byte of it; and a
-/// missing root, as `gate` refuses it.
+/// Refused are want of memory (`Memory`); a side with its first fault (`Compile`): what its files can't
+/// be linked for, or a number that breaks a rule, at its field or message; and a missing root, as
+/// `gate` refuses it.
 pub fn gate_files<S: Sources, T: Sources>(
     alloc: Global,
     old: &mut S,

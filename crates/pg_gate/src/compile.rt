@@ -1,167 +1,89 @@
 //! A side's schema, from the texts that its source gives.
-ghost use Rattle.std.specs.Prelude.{◌≡◌, ◌+◌, ◌<◌, ◌≤◌, length, IfErr, IfOk, IfSome};
-ghost use Rattle.pg_gate.specs.Files.{AreRead, IsCompiled, IsDeclarationError, IsDeclarationFault, IsDeclaredBy, IsFaultAt, IsFileError, IsFileOf, IsFileText, IsFlatSide, IsRule, IsSideError, paths_of, source_failures};
+ghost use Rattle.std.specs.Prelude.{◌≡◌, ◌+◌, ◌<◌, length, IfErr, IfOk};
+ghost use Rattle.pg_link.specs.Walk.{IsLinked, IsPlace, world};
+ghost use Rattle.pg_gate.specs.Files.{AreFlatIn, IsCompiled, IsDeclaredBy, IsErrorOf, IsOfLink, IsRuleError, IsRuleIn, IsSideError, paths_of, source_failures};
 
-use crate::error::{Fault, GateError, Place, Side, TextError};
-use crate::text::{CheckError, FlatFile, ReadError, messages_in, parts_of, tree_of};
+use crate::error::{Fault, GateError, RuleError, Side};
+use crate::text::{CheckError, FlatFile, messages_in, parts_of};
+use indexmap::IndexMap;
 use pg_lex::place;
-use pg_link::{SourceError, Sources, read_below};
+use pg_link::{LinkError, Linked, Place, SourceFile, Sources, link};
 use pg_schema::{PartsError, Schema};
-use pg_syntax::tree::FileTree;
 use std::alloc::{AllocError, Global};
-use std::collections::BTreeSet;
 
-/// A file that was read, with its tree.
-#[derive(Drop)]
-pub(crate) struct TextFile {
-    pub(crate) path: String,
-    pub(crate) text: Vec<u8>,
-    pub(crate) tree: FileTree,
-}
-
-/// A fault of a text, with its place.
-fn in_text(
-    alloc: Global,
-    path: &str,
-    text: &Vec<u8>,
-    error: TextError,
-    at: usize,
-) -> Result<Fault, AllocError>
-    ensures { IfOk result (IsFaultAt path.now text.now.items error at) }
-{
-    let (line, column) = place(text, at);
-    let file = String::from_str(alloc, path)?;
-    Ok(Fault::InText {
-        error,
-        place: Place { file, line, column },
-    })
-}
-
-/// Reads the text of a file of a side.
-fn read_text<S: Sources>(
-    alloc: Global,
-    source: &mut S,
-    side: Side,
-    folder: &str,
-    path: &str,
-) -> Result<Vec<u8>, GateError>
-    ensures read { IfOk result (λ text. IsFileText (S.may_give source.old) folder.now path.now text.items) }
-    ensures refused { IfErr result (IsFileError (S.may_give source.old) (S.may_lack source.old) side folder.now path.now) }
-    ensures counted { S.failures source.old + source_failures result ≤ S.failures source.new }
-    ensures same_given { S.may_give source.new ≡ S.may_give source.old }
-    ensures same_lacked { S.may_lack source.new ≡ S.may_lack source.old }
-{
-    match read_below(alloc, source, folder, path) {
-        Ok(text) => Ok(text),
-        Err(SourceError::Missing) => {
-            let file = String::from_str(alloc, path)?;
-            Err(GateError::Compile(side, Fault::MissingFile { file }))
-        }
-        Err(SourceError::Failed) => {
-            let file = String::from_str(alloc, path)?;
-            Err(GateError::Compile(side, Fault::SourceFailed { file }))
-        }
-        Err(SourceError::Memory) => Err(GateError::Memory),
-    }
-}
-
-/// Reads a file of a side, and its tree.
-fn read_file<S: Sources>(
-    alloc: Global,
-    source: &mut S,
-    side: Side,
-    folder: &str,
-    path: &str,
-) -> Result<TextFile, GateError>
-    ensures read { IfOk result (IsFileOf (S.may_give source.old) folder.now path.now) }
-    ensures refused { IfErr result (IsFileError (S.may_give source.old) (S.may_lack source.old) side folder.now path.now) }
-    ensures counted { S.failures source.old + source_failures result ≤ S.failures source.new }
-    ensures same_given { S.may_give source.new ≡ S.may_give source.old }
-    ensures same_lacked { S.may_lack source.new ≡ S.may_lack source.old }
-{
-    let text = read_text(alloc, source, side, folder, path)?;
-    match tree_of(alloc, &text) {
-        Ok(tree) => {
-            let path = String::from_str(alloc, path)?;
-            Ok(TextFile { path, text, tree })
-        }
-        Err(ReadError::Memory) => Err(GateError::Memory),
-        Err(ReadError::Fault { error, at }) => {
-            let fault = in_text(alloc, path, &text, error, at)?;
-            Err(GateError::Compile(side, fault))
-        }
-    }
-}
-
-/// Reads the files of a side, each path once, in order.
-fn read_files<S: Sources>(
+/// The linked files of a side.
+fn files_of<S: Sources>(
     alloc: Global,
     source: &mut S,
     side: Side,
     folder: &str,
     paths: &[&str],
-) -> Result<Vec<TextFile>, GateError>
-    ensures read { IfOk result (λ files. AreRead (S.may_give source.old) folder.now (paths_of paths.now) files.items) }
-    ensures refused { IfErr result (IsSideError (S.may_give source.old) (S.may_lack source.old)
-        side folder.now (paths_of paths.now)) }
-    ensures counted { S.failures source.old + source_failures result ≤ S.failures source.new }
+) -> Result<Linked, GateError>
+    ensures linked { IfOk result (λ linked. IsLinked (world (S.may_give source.old) (S.may_lack source.old)
+        folder.now (paths_of paths.now)) linked.files) }
+    ensures refused { IfErr result (IsErrorOf (IsOfLink (world (S.may_give source.old) (S.may_lack source.old)
+        folder.now (paths_of paths.now))) side) }
+    ensures counted { S.failures source.new ≡ S.failures source.old + source_failures result }
     ensures same_given { S.may_give source.new ≡ S.may_give source.old }
     ensures same_lacked { S.may_lack source.new ≡ S.may_lack source.old }
 {
-    let mut files = Vec::new(alloc);
-    let mut seen = BTreeSet::new(alloc);
-    for path in paths {
-        if !seen.insert(*path)? {
-            continue;
-        }
-        match read_file(alloc, source, side, folder, path) {
-            Ok(file) => files.push(file)?,
-            Err(error) => return Err(error),
-        }
+    match link(alloc, source, folder, paths) {
+        Ok(linked) => Ok(linked),
+        Err(LinkError::Memory) => Err(GateError::Memory),
+        Err(error) => Err(GateError::Compile(side, Fault::Link(error))),
     }
-    Ok(files)
 }
 
 /// The messages of the files, where all of them are flat.
 fn flat_files<'a>(
     alloc: Global,
-    files: &'a [TextFile],
+    files: &'a IndexMap<String, SourceFile>,
 ) -> Result<Option<Vec<FlatFile<'a>>>, AllocError>
-    ensures { IfOk result (IsFlatSide files.now) }
+    ensures { IfOk result (AreFlatIn files.now.entries) }
 {
     let mut flat = Vec::new(alloc);
-    for file in files {
+    for number in 0..files.len() {
+        let Some((path, file)) = files.get_index(number) else {
+            continue;
+        };
         let Some(messages) = messages_in(alloc, &file.tree)? else {
             return Ok(None);
         };
-        flat.push(FlatFile {
-            path: &file.path,
-            messages,
-        })?;
+        flat.push(FlatFile { path, messages })?;
     }
     Ok(Some(flat))
 }
 
-/// Why one of the files is refused, with its place.
-fn in_file(
+/// That a rule is broken at this byte of the file with that number.
+fn rule_fault(
     alloc: Global,
-    files: &[TextFile],
-    index: usize,
-    error: TextError,
+    files: &IndexMap<String, SourceFile>,
+    number: usize,
+    error: RuleError,
     at: usize,
 ) -> Result<Fault, AllocError>
-    requires within { index < length files.now }
-    requires rule { IsRule error }
-    ensures { IfOk result (IsDeclarationFault files.now) }
+    requires { number < length files.now.entries }
+    ensures { IfOk result (IsRuleIn files.now.entries) }
 {
-    let file = &files[index];
-    in_text(alloc, &file.path, &file.text, error, at)
+    let Some((path, file)) = files.get_index(number) else {
+        unreachable!();
+    };
+    let (line, column) = place(&file.bytes, at);
+    let file = String::from_str(alloc, path.as_str())?;
+    Ok(Fault::Rule {
+        error,
+        place: Place { file, line, column },
+    })
 }
 
 /// The schema that the files declare, where all of them are flat.
-fn schema_of(alloc: Global, side: Side, files: &[TextFile]) -> Result<Option<Schema>, GateError>
-    ensures declared { IfOk result (IsDeclaredBy files.now) }
-    ensures refused { IfErr result (IsDeclarationError side files.now) }
+fn schema_of(
+    alloc: Global,
+    side: Side,
+    files: &IndexMap<String, SourceFile>,
+) -> Result<Option<Schema>, GateError>
+    ensures declared { IfOk result (IsDeclaredBy files.now.entries) }
+    ensures refused { IfErr result (IsRuleError files.now.entries side) }
 {
     let Some(flat) = flat_files(alloc, files)? else {
         return Ok(None);
@@ -170,7 +92,7 @@ fn schema_of(alloc: Global, side: Side, files: &[TextFile]) -> Result<Option<Sch
         Ok(parts) => parts,
         Err(CheckError::Memory) => return Err(GateError::Memory),
         Err(CheckError::Fault { error, file, at }) => {
-            let fault = in_file(alloc, files, file, error, at)?;
+            let fault = rule_fault(alloc, files, file, error, at)?;
             return Err(GateError::Compile(side, fault));
         }
     };
@@ -181,8 +103,9 @@ fn schema_of(alloc: Global, side: Side, files: &[TextFile]) -> Result<Option<Sch
     }
 }
 
-/// The schema of a side's texts at these paths below the folder. None where they declare anything
-/// but messages of scalar fields without labels, or two fields of a message with one JSON name.
+/// The schema of a side's files: those at these paths below the folder, and all that they import.
+/// None where they declare anything but messages of scalar fields without labels, or two fields of a
+/// message with one JSON name.
 pub(crate) fn compile<S: Sources>(
     alloc: Global,
     source: &mut S,
@@ -190,13 +113,14 @@ pub(crate) fn compile<S: Sources>(
     folder: &str,
     paths: &[&str],
 ) -> Result<Option<Schema>, GateError>
-    ensures compiled { IfOk result (IsCompiled (S.may_give source.old) folder.now (paths_of paths.now)) }
-    ensures refused { IfErr result (IsSideError (S.may_give source.old) (S.may_lack source.old)
-        side folder.now (paths_of paths.now)) }
-    ensures counted { S.failures source.old + source_failures result ≤ S.failures source.new }
+    ensures compiled { IfOk result (IsCompiled (world (S.may_give source.old) (S.may_lack source.old)
+        folder.now (paths_of paths.now))) }
+    ensures refused { IfErr result (IsSideError (world (S.may_give source.old) (S.may_lack source.old)
+        folder.now (paths_of paths.now)) side) }
+    ensures counted { S.failures source.new ≡ S.failures source.old + source_failures result }
     ensures same_given { S.may_give source.new ≡ S.may_give source.old }
     ensures same_lacked { S.may_lack source.new ≡ S.may_lack source.old }
 {
-    let files = read_files(alloc, source, side, folder, paths)?;
-    schema_of(alloc, side, &files)
+    let linked = files_of(alloc, source, side, folder, paths)?;
+    schema_of(alloc, side, linked.files())
 }

@@ -5,11 +5,14 @@ ghost use Rattle.pg_gate.specs.Refusals as refusals;
 ghost use Rattle.pg_gate.specs.Text as spec;
 ghost use Rattle.pg_gate.specs.declared.error.GateError.TheVariants as errors;
 
-use crate::error::{Fault, GateError, Place, Side, TextError};
+use crate::error::{Fault, GateError, RuleError, Side};
+use pg_lex::LexError;
+use pg_link::{LinkError, Place};
+use pg_syntax::SyntaxError;
 use std::fmt;
 
-/// The code of a file that a source does not have.
-const MISSING_FILE: u16 = 301;
+/// The code of want of memory, which is no refusal and never printed.
+const OUT_OF_MEMORY: u16 = 1;
 
 /// The code of a source that failed.
 const SOURCE_FAILED: u16 = 309;
@@ -45,31 +48,94 @@ impl Refusal {
     }
 }
 
-impl TextError {
-    fn code(self) -> u16
-        ensures { result ≡ refusals.code_of_text self }
-    {
-        match self {
-            TextError::NotUtf8 => 101,
-            TextError::BadCharacter => 102,
-            TextError::OpenString => 103,
-            TextError::BadEscape => 104,
-            TextError::OpenComment => 105,
-            TextError::NumberTooLarge => 106,
-            TextError::FloatLiteral => 107,
-            TextError::FileTooLong => 108,
-            TextError::NotProto3 => 201,
-            TextError::Unexpected => 202,
-            TextError::Group => 203,
-            TextError::Extension => 204,
-            TextError::CustomOption => 205,
-            TextError::WeakImport => 206,
-            TextError::NestedTooDeep => 207,
-            TextError::DuplicateName => 304,
-            TextError::BadNumber => 401,
-            TextError::DuplicateNumber => 402,
-            TextError::TooManyTypes => 413,
-        }
+/// A refusal without its side.
+#[derive(Drop)]
+struct Told {
+    code: u16,
+    location: Location,
+}
+
+/// Where a place is: a line and a column of its file, or the file as a whole.
+fn located(place: Place) -> Location
+    ensures { result ≡ refusals.located place }
+{
+    if place.line == 0 {
+        Location::InFile(place.file)
+    } else {
+        Location::InPlace(place)
+    }
+}
+
+fn told_at(code: u16, place: Place) -> Told
+    ensures { result ≡ refusals.told_at code place }
+{
+    Told {
+        code,
+        location: located(place),
+    }
+}
+
+fn lex_code(error: LexError) -> u16
+    ensures { result ≡ refusals.lex_code error }
+{
+    match error {
+        LexError::Memory => OUT_OF_MEMORY,
+        LexError::NotUtf8 { .. } => 101,
+        LexError::BadCharacter { .. } => 102,
+        LexError::OpenString { .. } => 103,
+        LexError::BadEscape { .. } => 104,
+        LexError::OpenComment { .. } => 105,
+        LexError::NumberTooLarge { .. } => 106,
+        LexError::FloatLiteral { .. } => 107,
+        LexError::FileTooLong { .. } => 108,
+    }
+}
+
+fn syntax_code(error: SyntaxError) -> u16
+    ensures { result ≡ refusals.syntax_code error }
+{
+    match error {
+        SyntaxError::Memory => OUT_OF_MEMORY,
+        SyntaxError::NotProto3 { .. } => 201,
+        SyntaxError::Unexpected { .. } => 202,
+        SyntaxError::Group { .. } => 203,
+        SyntaxError::Extension { .. } => 204,
+        SyntaxError::CustomOption { .. } => 205,
+        SyntaxError::WeakImport { .. } => 206,
+        SyntaxError::NestedTooDeep { .. } => 207,
+    }
+}
+
+/// What is told of files that can't be linked.
+fn told_of_link(error: LinkError) -> Told
+    ensures { result ≡ refusals.told_of_link error }
+{
+    match error {
+        LinkError::MissingFile(place) => told_at(301, place),
+        LinkError::ImportCycle(place) => told_at(302, place),
+        LinkError::DuplicateImport(place) => told_at(303, place),
+        LinkError::DuplicateName(place) => told_at(304, place),
+        LinkError::UnknownName(place) => told_at(305, place),
+        LinkError::NotAType(place) => told_at(306, place),
+        LinkError::NotImported(place) => told_at(307, place),
+        LinkError::TooManyFiles(place) => told_at(308, place),
+        LinkError::SourceFailed(place) => told_at(SOURCE_FAILED, place),
+        LinkError::Lex(error, place) => told_at(lex_code(error), place),
+        LinkError::Syntax(error, place) => told_at(syntax_code(error), place),
+        LinkError::Memory => Told {
+            code: OUT_OF_MEMORY,
+            location: Location::Nowhere,
+        },
+    }
+}
+
+fn rule_code(error: RuleError) -> u16
+    ensures { result ≡ refusals.rule_code error }
+{
+    match error {
+        RuleError::BadNumber => 401,
+        RuleError::DuplicateNumber => 402,
+        RuleError::TooManyTypes => 413,
     }
 }
 
@@ -77,15 +143,14 @@ impl TextError {
 fn refusal_of_side(side: Side, fault: Fault) -> Refusal
     ensures { Some result ≡ refusals.refusal_of (errors.Compile side fault) }
 {
-    let (code, location) = match fault {
-        Fault::MissingFile { file } => (MISSING_FILE, Location::InFile(file)),
-        Fault::SourceFailed { file } => (SOURCE_FAILED, Location::InFile(file)),
-        Fault::InText { error, place } => (error.code(), Location::InPlace(place)),
+    let told = match fault {
+        Fault::Link(error) => told_of_link(error),
+        Fault::Rule { error, place } => told_at(rule_code(error), place),
     };
     Refusal {
         side: Some(side),
-        code,
-        location,
+        code: told.code,
+        location: told.location,
     }
 }
 
@@ -106,21 +171,17 @@ pub(crate) fn refusal_of(error: GateError) -> Option<Refusal>
     })
 }
 
-impl fmt::Display for Place {
-    ghost output = { λ it. Some (spec.place_of it) };
-
-    fn fmt<W: fmt::Write>(&self, f: &mut fmt::Formatter<W>) -> fmt::Result {
-        write!(f, "{}:{}:{}", self.file, self.line, self.column)
-    }
-}
-
 impl fmt::Display for Location {
     ghost output = { λ it. Some (spec.location_of it) };
 
     fn fmt<W: fmt::Write>(&self, f: &mut fmt::Formatter<W>) -> fmt::Result {
         match self {
             Location::Nowhere => Ok(()),
-            Location::InPlace(place) => write!(f, " {place}"),
+            Location::InPlace(place) => write!(
+                f,
+                " {}:{}:{}",
+                place.file, place.line, place.column
+            ),
             Location::InFile(file) => write!(f, " {file}"),
         }
     }

@@ -1,8 +1,8 @@
-//! The rules of names and numbers, and what the messages of flat files declare.
+//! The rules of numbers, and what the messages of flat files declare.
 ghost use Rattle.std.specs.Prelude.{◌≡◌, ◌<◌, ◌++◌, length, map, string_bytes, IfErr, IfOk, OnOk};
-ghost use Rattle.pg_gate.specs.Files.{IsFaultIn, IsFaultOf, flat_names, message_name, type_name, type_names};
+ghost use Rattle.pg_gate.specs.Files.{IsFaultIn, IsFaultAt, flat_names, message_name, type_name, type_names};
 
-use crate::error::TextError;
+use crate::error::RuleError;
 use crate::text::flat::{FlatField, FlatFile, FlatMessage};
 use pg_schema::{
     Element, Field, FieldOptions, File, MessageOptions, MessageType, Parts, Presence, TypeId,
@@ -18,7 +18,7 @@ const MOST_TYPES: usize = 4096;
 pub(crate) enum CheckError {
     Memory,
     Fault {
-        error: TextError,
+        error: RuleError,
         file: usize,
         at: usize,
     },
@@ -44,44 +44,6 @@ impl<T: Drop> From<AllocFailed<T>> for CheckError {
     fn from(_error: AllocFailed<T>) -> CheckError {
         CheckError::Memory
     }
-}
-
-/// Refuses a name that stands twice among the fields.
-fn check_field_names(alloc: Global, fields: &[FlatField<'_>], file: usize) -> Result<(), CheckError>
-    ensures { IfErr result (IsFaultOf file) }
-{
-    let mut names = BTreeSet::new(alloc);
-    for field in fields {
-        if !names.insert(field.name)? {
-            return Err(CheckError::Fault {
-                error: TextError::DuplicateName,
-                file,
-                at: field.at,
-            });
-        }
-    }
-    Ok(())
-}
-
-/// Refuses a name that stands twice among the messages of all files, or among the fields of one,
-/// at the first declaration whose name was there before.
-fn check_names(alloc: Global, files: &[FlatFile<'_>]) -> Result<(), CheckError>
-    ensures { IfErr result (IsFaultIn (length files.now)) }
-{
-    let mut names = BTreeSet::new(alloc);
-    for (index, file) in files.iter().enumerate() {
-        for message in &file.messages {
-            if !names.insert(message.name)? {
-                return Err(CheckError::Fault {
-                    error: TextError::DuplicateName,
-                    file: index,
-                    at: message.at,
-                });
-            }
-            check_field_names(alloc, &message.fields, index)?;
-        }
-    }
-    Ok(())
 }
 
 /// The field number, where it is one that a field may have.
@@ -134,7 +96,7 @@ fn fields_of(
     flat: &[FlatField<'_>],
     file: usize,
 ) -> Result<(Vec<Field>, Vec<u32>), CheckError>
-    ensures { IfErr result (IsFaultOf file) }
+    ensures { IfErr result (IsFaultAt file) }
 {
     let mut numbers = BTreeSet::new(alloc);
     let mut fields = Vec::new(alloc);
@@ -143,14 +105,14 @@ fn fields_of(
         let at = field.at;
         let Some(number) = field_number(field.number) else {
             return Err(CheckError::Fault {
-                error: TextError::BadNumber,
+                error: RuleError::BadNumber,
                 file,
                 at,
             });
         };
         if !numbers.insert(number)? {
             return Err(CheckError::Fault {
-                error: TextError::DuplicateNumber,
+                error: RuleError::DuplicateNumber,
                 file,
                 at,
             });
@@ -168,7 +130,7 @@ fn message_type(
     file: usize,
 ) -> Result<MessageType, CheckError>
     ensures named { IfOk result (λ t. string_bytes t.name ≡ message.now.name.now) }
-    ensures refused { IfErr result (IsFaultOf file) }
+    ensures refused { IfErr result (IsFaultAt file) }
 {
     let (fields, declared) = fields_of(alloc, &message.fields, file)?;
     Ok(MessageType {
@@ -192,14 +154,14 @@ fn push_types(
     types: &mut Vec<MessageType>,
 ) -> Result<Vec<TypeId>, CheckError>
     ensures named { OnOk result (map type_name types.new.items ≡ map type_name types.old.items ++ map message_name messages.now) }
-    ensures refused { IfErr result (IsFaultOf file) }
+    ensures refused { IfErr result (IsFaultAt file) }
 {
     let mut places = Vec::new(alloc);
     for message in messages {
         let index = types.len();
         if index >= MOST_TYPES {
             return Err(CheckError::Fault {
-                error: TextError::TooManyTypes,
+                error: RuleError::TooManyTypes,
                 file,
                 at: message.at,
             });
@@ -224,14 +186,12 @@ fn file_of(alloc: Global, path: &str, types: Vec<TypeId>) -> Result<File, AllocE
     })
 }
 
-/// What the files declare. A fault is that of the first declaration that has one: first a name
-/// that was there before, then a number that may not stand or was there before, or one message
-/// type too many.
+/// What the files declare. A fault is that of the first declaration that has one: a number that may
+/// not stand or was there before, or one message type too many.
 pub(crate) fn parts_of(alloc: Global, files: &[FlatFile<'_>]) -> Result<Parts, CheckError>
     ensures named { IfOk result (λ parts. type_names parts ≡ flat_names files.now) }
     ensures refused { IfErr result (IsFaultIn (length files.now)) }
 {
-    check_names(alloc, files)?;
     let mut parts = Parts {
         files: Vec::new(alloc),
         types: Vec::new(alloc),

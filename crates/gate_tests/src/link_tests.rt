@@ -1,0 +1,129 @@
+//! Files that import others, and the names in them.
+use crate::runs::buffer;
+use crate::FailingSource;
+use pg_gate::{Sources, run};
+use pg_link::Listed;
+use std::process::Abort;
+use std::test::Fail;
+
+/// Runs the gate on the file `a` of both sides, and expects this text and status.
+fn expect<R: Abort + AllocGlobal, S: Sources, T: Sources>(
+    rt: &R,
+    root: &str,
+    old: &mut S,
+    new: &mut T,
+    text: &str,
+    status: u8,
+) -> Result<(), Fail> {
+    let words = ["gate", "--old", "a", "--new", "a", "--type", root];
+    let mut sink = buffer(rt.alloc())?;
+    let ended = run(rt.alloc(), &words, old, new, &mut sink)?;
+    assert_eq!(rt; ended, status, "status of {text}");
+    assert!(rt; sink.bytes.as_slice() == text.as_bytes(), "text {text}");
+    Ok(())
+}
+
+/// The same of one file on both sides, with these lines behind the first.
+fn answer_of<R: Abort + AllocGlobal>(
+    rt: &R,
+    root: &str,
+    lines: &str,
+    text: &str,
+    status: u8,
+) -> Result<(), Fail> {
+    let file = format!(in rt.alloc(); "syntax = \"proto3\";\n{lines}\n")?;
+    let mut old = Listed {
+        files: &[("a", file.as_bytes())],
+    };
+    let mut new = old;
+    expect(rt, root, &mut old, &mut new, text, status)
+}
+
+/// The same of three files, of which each has these lines behind its first.
+fn answer_of_three<R: Abort + AllocGlobal>(
+    rt: &R,
+    lines: [&str; 3],
+    text: &str,
+    status: u8,
+) -> Result<(), Fail> {
+    let [a, b, c] = lines;
+    let a = format!(in rt.alloc(); "syntax = \"proto3\";\n{a}\n")?;
+    let b = format!(in rt.alloc(); "syntax = \"proto3\";\n{b}\n")?;
+    let c = format!(in rt.alloc(); "syntax = \"proto3\";\n{c}\n")?;
+    let mut old = Listed {
+        files: &[("a", a.as_bytes()), ("b", b.as_bytes()), ("c", c.as_bytes())],
+    };
+    let mut new = old;
+    expect(rt, "M", &mut old, &mut new, text, status)
+}
+
+#[test]
+fn tells_circles_of_imports(rt: HostRuntime) -> Result<(), Fail> {
+    let alone = ["import \"a\";", "", ""];
+    answer_of_three(&rt, alone, "refused old E302 a:2:8\n", 2)?;
+    let two = ["import \"b\";\nmessage M { }", "import \"a\";", ""];
+    answer_of_three(&rt, two, "refused old E302 b:2:8\n", 2)?;
+    let three = ["import \"b\";", "import \"c\";", "\nimport \"a\";"];
+    answer_of_three(&rt, three, "refused old E302 c:3:8\n", 2)
+}
+
+#[test]
+fn tells_imports_that_stand_twice_or_lack(rt: HostRuntime) -> Result<(), Fail> {
+    let twice = ["import \"b\";\nimport \"b\";", "", ""];
+    answer_of_three(&rt, twice, "refused old E303 a:3:8\n", 2)?;
+    let lacks = ["import \"b\";", "import public \"d\";", ""];
+    answer_of_three(&rt, lacks, "refused old E301 b:2:15\n", 2)
+}
+
+#[test]
+fn sees_through_public_imports_alone(rt: HostRuntime) -> Result<(), Fail> {
+    let hidden = ["import \"b\";\nmessage M { K k = 1; }", "import \"c\";", "message K { }"];
+    answer_of_three(&rt, hidden, "refused old E307 a:3:13\n", 2)?;
+    let seen = ["import \"b\";\nmessage M { K k = 1; }", "import public \"c\";", "message K { }"];
+    answer_of_three(&rt, seen, "undecided M\n", 5)
+}
+
+/// Names of one file, and what the gate on them prints.
+static NAMES: [(&str, &str); 9] = [
+    ("message M { M M = 1; }", "undecided M\n"),
+    ("message M { int32 a = 1; bool a = 2; }", "refused old E304 a:2:31\n"),
+    ("enum E { A = 0; } enum F { A = 0; }", "refused old E304 a:2:28\n"),
+    ("message M { Int32 a = 1; }", "refused old E305 a:2:13\n"),
+    ("message M { .int32 a = 1; }", "refused old E305 a:2:13\n"),
+    ("message M { map<K, bool> a = 1; }", "refused old E305 a:2:17\n"),
+    ("message M { oneof k { int32.b a = 1; } }", "refused old E305 a:2:23\n"),
+    ("message M { .M.a b = 1; int32 a = 2; }", "refused old E306 a:2:13\n"),
+    (
+        "message M { } enum E { A = 0; } service S { rpc R (M) returns (E); }",
+        "refused old E306 a:2:64\n",
+    ),
+];
+
+#[test]
+fn tells_names_that_name_no_type(rt: HostRuntime) -> Result<(), Fail> {
+    for (lines, text) in NAMES {
+        let status = if text.starts_with("undecided") { 5 } else { 2 };
+        answer_of(&rt, "M", lines, text, status)?;
+    }
+    Ok(())
+}
+
+#[test]
+fn seeks_the_first_part_of_a_name(rt: HostRuntime) -> Result<(), Fail> {
+    let inner = "package p;\nmessage A { message B { } }\nmessage C { message A { } A.B x = 1; }";
+    answer_of(&rt, "p.C", inner, "refused old E305 a:4:27\n", 2)?;
+    let full = "package p;\nmessage A { message B { } }\nmessage C { message A { } .p.A.B x = 1; }";
+    answer_of(&rt, "p.C", full, "undecided p.C\n", 5)
+}
+
+/// The file that couldn't be read is told, whoever imports it.
+#[test]
+fn tells_a_source_that_fails_at_an_import(rt: HostRuntime) -> Result<(), Fail> {
+    let imports = "syntax = \"proto3\";\nimport \"b\";";
+    let files = Listed {
+        files: &[("a", imports.as_bytes()), ("b", b"syntax = \"proto3\";")],
+    };
+    let mut failing = FailingSource::new(files, 2);
+    let mut sound = files;
+    expect(&rt, "M", &mut failing, &mut sound, "refused old E309 b\n", 3)
+}
