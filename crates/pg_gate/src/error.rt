@@ -28,7 +28,7 @@ pub enum RuleError {
 }
 
 /// Why a side does not compile.
-#[derive(Debug, Drop, Error)]
+#[derive(Debug, PartialEq, Eq, Drop, Error)]
 pub enum Fault {
     /// Its files can't be linked: by the code of that fault, at its place.
     #[error("{0}")]
@@ -39,7 +39,7 @@ pub enum Fault {
 }
 
 /// Why the gate gives no answer.
-#[derive(Debug, Drop, Error)]
+#[derive(Debug, PartialEq, Eq, Drop, Error)]
 pub enum GateError {
     /// E001: memory was refused.
     #[error("out of memory")]

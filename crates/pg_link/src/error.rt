@@ -9,7 +9,7 @@ use thiserror::Error;
 
 /// A place in a file. The line and the column, which counts bytes, are from 1; both are 0 where the file as a whole
 /// is meant.
-#[derive(Debug, Drop)]
+#[derive(Debug, PartialEq, Eq, Drop)]
 pub struct Place {
     pub file: String,
     pub line: usize,
@@ -31,7 +31,7 @@ pub(crate) fn place_in(
 }
 
 /// Why files can't be linked.
-#[derive(Debug, Drop, Error)]
+#[derive(Debug, PartialEq, Eq, Drop, Error)]
 pub enum LinkError {
     /// E301: there is no file of a path, at the literal of its import or for a root as a whole.
     #[error("there is no such file")]
