@@ -10,6 +10,7 @@ use Rattle.pg_schema.specs.declared.parts.Parts.{Parts}
 use Rattle.pg_schema.specs.Parts.{field_shape, shape_of}
 use Rattle.pg_dyn.specs.Breaking.{Breaks}
 use Rattle.pg_dyn.specs.Comparison.{numbers}
+use Rattle.pg_dyn.specs.Encoding.{enc}
 use Rattle.pg_dyn.specs.Kept.{message_of}
 use Rattle.pg_gate.specs.Breaking.{IsFound, IsFoundAt, IsNamed, IsRefusedRoot}
 use Rattle.pg_gate.specs.declared.error.GateError.{GateError}
@@ -36,13 +37,18 @@ named_there parts name id named =
 pub IsFound-at : (pair : Pair) (root : Text) → IsNamed pair.old.now root pair.old_root → IsNamed pair.new.now root pair.new_root
     → (o : Option Found) → IfSome o (IsFoundAt pair) → IfSome o (IsFound pair.old.now pair.new.now root)
 IsFound-at pair root old_named new_named None at = tt
-IsFound-at pair root old_named new_named (Some found) at = record {
-  new_root = pair.new_root;
-  fits = at.fits;
-  old_named = subst (λ (t : TypeId). IsNamed pair.old.now root t) (sym at.type_is) old_named;
-  new_named = new_named;
-  breaks = subst (λ (t : TypeId). Breaks numbers (shape_of pair.old.now) (shape_of pair.new.now) t pair.new_root (message_of found.message)) (sym at.type_is) at.breaks;
-}
+IsFound-at pair root old_named new_named (Some found) at =
+    let same = sym at.type_is in
+    record {
+      breaking = record {
+        new_root = pair.new_root;
+        fits = at.fits;
+        old_named = subst (λ (t : TypeId). IsNamed pair.old.now root t) same old_named;
+        new_named = new_named;
+        breaks = subst (λ (t : TypeId). Breaks numbers (shape_of pair.old.now) (shape_of pair.new.now) t pair.new_root (message_of found.message)) same at.breaks;
+      };
+      bytes_are = subst (λ (t : TypeId). found.bytes.items ≡ enc (shape_of pair.old.now) t (message_of found.message)) same at.bytes_are;
+    }
 
 pub memory_is_refused : (old new : Parts) (root : Text) (error : GateError) → error ≡ errors.Memory → IsRefusedRoot old new root error
 memory_is_refused old new root error is = subst (λ e. IsRefusedRoot old new root e) (sym is) tt

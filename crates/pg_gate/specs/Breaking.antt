@@ -3,6 +3,7 @@ use Rattle.std.specs.Prelude.{◌≡◌, ◌≢◌, ◌<◌, ℕ, [], length, fa
 use Rattle.clap.specs.Words.{Text}
 use Rattle.pg_schema.specs.declared.field.TypeId.{TypeId}
 use Rattle.pg_schema.specs.declared.parts.Parts.{Parts}
+use Rattle.pg_schema.specs.Flat.{IsFlat}
 use Rattle.pg_schema.specs.Parts.{name_at, shape_of}
 use Rattle.pg_schema.specs.Shape.{FieldShape, field_at, fields}
 use Rattle.pg_dyn.specs.Breaking.{Breaks}
@@ -53,10 +54,12 @@ IsRefusedRoot old new root errors.WriteFailed = ⊥
 
 -- ---- the trial
 
--- the two message types are in their schemas
+-- the two message types are in their schemas, and flat
 pub record AreThere (pair : Pair) : Type 0 where
   pub old_there : pair.old_root.index < length (shape_of pair.old.now)
   pub new_there : pair.new_root.index < length (shape_of pair.new.now)
+  pub old_flat : IsFlat (shape_of pair.old.now) pair.old_root
+  pub new_flat : IsFlat (shape_of pair.new.now) pair.new_root
 
 -- both types have a field of the number
 pub record IsShared (pair : Pair) (number : ℕ) : Type 0 where
@@ -79,5 +82,7 @@ pub record IsFoundAt (pair : Pair) (found : Found) : Type 0 where
   pub breaks : Breaks numbers (shape_of pair.old.now) (shape_of pair.new.now) pair.old_root pair.new_root (message_of found.message)
   pub bytes_are : found.bytes.items ≡ enc (shape_of pair.old.now) pair.old_root (message_of found.message)
 
-abbrev pub IsFound : Parts → Parts → Text → Found → Type 0
-IsFound old new root found = IsBreaking old new root found.message
+-- a breaking message between the schemas, and what is written of it
+pub record IsFound (old new : Parts) (root : Text) (found : Found) : Type 0 where
+  pub breaking : IsBreaking old new root found.message
+  pub bytes_are : found.bytes.items ≡ enc (shape_of old) (type_of found.message) (message_of found.message)

@@ -1,52 +1,30 @@
 //! What a call is answered, from its sources.
-ghost use Rattle.std.specs.Prelude.{◌≡◌, ◌≤◌, [], ◌∷◌, length, IfErr, IfOk};
-ghost use Rattle.pg_dyn.specs.Encoding.{cap, enc};
-ghost use Rattle.pg_dyn.specs.Fits.{Fits};
-ghost use Rattle.pg_dyn.specs.Kept.{message_of, type_of};
-ghost use Rattle.pg_schema.specs.Parts.{shape_of};
+ghost use Rattle.std.specs.Prelude.{◌≡◌, [], ◌∷◌, IfErr, IfOk};
 ghost use Rattle.pg_gate.specs.Breaking.{IsRefusedRoot};
 ghost use Rattle.pg_gate.specs.Call.{request_of, sides_of};
 ghost use Rattle.pg_gate.specs.Files.{paths_of};
 ghost use Rattle.pg_gate.specs.Grants.{Grants, IsFinding, IsFindingOf, IsGateError, files_at, seen};
-ghost use Rattle.pg_gate.specs.declared.error.GateError.TheVariants as errors;
 
-use crate::breaking::{Answer, gate};
 use crate::call::{Call, Sides};
 use crate::compile::compile;
 use crate::error::{GateError, Side};
 use crate::refusal::refusal_of;
 use crate::reply::{Finding, Reply};
-use pg_dyn::{DynError, Message, encode};
+use crate::trial::search;
 use pg_link::Sources;
 use pg_schema::Schema;
 use std::alloc::{AllocError, Global};
-
-/// The bytes of a message that has an encoding.
-fn written(alloc: Global, schema: &Schema, message: &Message) -> Result<Vec<u8>, GateError>
-    requires fits { Fits (shape_of schema.now) message.now }
-    requires short { length (enc (shape_of schema.now) (type_of message.now) (message_of message.now)) ≤ cap }
-    ensures written { IfOk result (λ bytes.
-        bytes.items ≡ enc (shape_of schema.now) (type_of message.now) (message_of message.now)) }
-    ensures refused { IfErr result (λ error. error ≡ errors.Memory) }
-{
-    match encode(alloc, schema, message) {
-        Ok(bytes) => Ok(bytes),
-        Err(DynError::Memory) => Err(GateError::Memory),
-        Err(_) => unreachable!(),
-    }
-}
 
 /// What the gate finds between two schemas.
 fn between(alloc: Global, old: &Schema, new: &Schema, root: &str) -> Result<Finding, GateError>
     ensures found { IfOk result (IsFindingOf old.now new.now root.now) }
     ensures refused { IfErr result (IsRefusedRoot old.now new.now root.now) }
 {
-    match gate(alloc, old, new, root)? {
-        Answer::Breaks { witness } => {
-            let witness = written(alloc, old, &witness)?;
-            Ok(Finding::Breaks { witness })
-        }
-        Answer::Undecided => Ok(Finding::Undecided),
+    match search(alloc, old, new, root)? {
+        Some(found) => Ok(Finding::Breaks {
+            witness: found.bytes,
+        }),
+        None => Ok(Finding::Undecided),
     }
 }
 

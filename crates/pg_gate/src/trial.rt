@@ -151,7 +151,7 @@ fn shortest(alloc: Global, pair: &Pair<'_>) -> Result<Option<Found>, GateError>
 }
 
 /// The shortest breaking message with one field of the old type of this full name, of equally
-/// short ones the first.
+/// short ones the first. None too where one of the types isn't flat.
 pub(crate) fn search(
     alloc: Global,
     old: &Schema,
@@ -170,6 +170,9 @@ pub(crate) fn search(
     let Some(new_root) = new.message(root) else {
         return Err(GateError::RootMissingNew);
     };
+    if !old.flat(old_root) || !new.flat(new_root) {
+        return Ok(None);
+    }
     let pair = Pair {
         old,
         new,

@@ -33,6 +33,8 @@ shortest-requires c =
       there = record {
         old_there = named_there c.args.old.now c.args.root.now c.in-Some.old_root old_named;
         new_there = named_there c.args.new.now c.args.root.now c.in-Some-message.new_root new_named;
+        old_flat = c.if-not-flat.ensures.0 refl;
+        new_flat = c.if-not-flat-2.ensures.0 refl;
       };
     }
 
@@ -45,3 +47,13 @@ returns-clause-found c =
 pub returns-clause-refused : goal.returns-clause-refused
 returns-clause-refused c =
     MatchResult-weaker c.shortest.result c.shortest.ensures.refused (λ found yes. yes) (λ error is. memory_is_refused c.args.old.now c.args.new.now c.args.root.now error is)
+
+pub returns-then-not-flat-clause-old_missing : goal.returns-then-not-flat-clause-old_missing
+returns-then-not-flat-clause-old_missing c lacks =
+    let named = (c.in-Some.ensures c.in-Some.old_root).0 refl in
+    absurd (lacks c.in-Some.old_root named)
+
+pub returns-then-not-flat-clause-new_missing : goal.returns-then-not-flat-clause-new_missing
+returns-then-not-flat-clause-new_missing c has lacks =
+    let named = (c.in-Some-message.ensures c.in-Some-message.new_root).0 refl in
+    absurd (lacks c.in-Some-message.new_root named)
