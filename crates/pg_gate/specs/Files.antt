@@ -3,10 +3,13 @@ use Rattle.std.specs.Prelude.{◌≡◌, ◌⊎◌, ◌<◌, ℕ, List, [], true
 use Rattle.std.specs.Borrow.{Bor}
 use Rattle.std.specs.declared.alloc.Global.{Global}
 use Rattle.clap.specs.Words.{Text}
-use Rattle.pg_link.specs.Walk.{Entry, IsLinked, IsPlace, Refuses, World, failures_of, path_of}
+use Rattle.pg_link.specs.Linked.{IsLinkedUp}
+use Rattle.pg_link.specs.UseFaults.{LinkRefuses}
+use Rattle.pg_link.specs.Walk.{Entry, IsLinked, IsPlace, World, failures_of, path_of}
 use Rattle.pg_link.specs.declared.error.LinkError.{LinkError}
 use Rattle.pg_link.specs.declared.error.LinkError.TheVariants as links
 use Rattle.pg_link.specs.declared.error.Place.{Place}
+use Rattle.pg_link.specs.declared.target.Target.{Target}
 use Rattle.pg_gate.specs.declared.error.Fault.{Fault}
 use Rattle.pg_gate.specs.declared.error.Fault.TheVariants as faults
 use Rattle.pg_gate.specs.declared.error.GateError.{GateError}
@@ -17,7 +20,7 @@ use Rattle.pg_gate.specs.declared.text.check.CheckError.TheVariants as checks
 use Rattle.pg_gate.specs.declared.text.flat.FlatFile.{FlatFile}
 use Rattle.pg_gate.specs.declared.text.flat.FlatMessage.{FlatMessage}
 use Rattle.pg_gate.specs.Flat.{DeclaredMessage, flat_file, seen_message}
-use Rattle.pg_schema.specs.Invariant.{IsSchema}
+use Rattle.pg_schema.specs.Sound.{IsSound}
 use Rattle.pg_schema.specs.declared.message_type.MessageType.{MessageType}
 use Rattle.pg_schema.specs.declared.parts.Parts.{Parts}
 
@@ -75,7 +78,7 @@ pub record IsDeclared (files : List Entry) (parts : Parts) : Type 0 where
 -- one of the files isn't flat, or what they declare is no schema
 abbrev pub IsOtherThanFlat : List Entry → Type 0
 IsOtherThanFlat files = ((e : Entry) × Contains files e × (flat_entry e ≡ None))
-    ⊎ ((parts : Parts) × IsDeclared files parts × (IsSchema parts → ⊥))
+    ⊎ ((parts : Parts) × IsDeclared files parts × (IsSound parts → ⊥))
 
 abbrev pub IsDeclaredBy : List Entry → Option Parts → Type 0
 IsDeclaredBy files None = IsOtherThanFlat files
@@ -84,10 +87,12 @@ IsDeclaredBy files (Some parts) = IsDeclared files parts
 -- ---- a side
 
 -- the schema of a side, or none where its files aren't flat or declare none; the files are those of its roots and of all
--- that they import, with texts that its source may give
+-- that they import, with texts that its source may give; no name in them stands twice, and each use of one resolves
 pub record IsCompiled (w : World) (found : Option Parts) : Type 0 where
   pub files : List Entry
   pub linked : IsLinked w files
+  pub targets : List (List Target)
+  pub settled : IsLinkedUp (record { files = files; targets = targets })
   pub declared : IsDeclaredBy files found
 
 -- a place in the text of one of the files
@@ -100,7 +105,7 @@ pub record StandsAmong (files : List Entry) (place : Place) : Type 0 where
 -- the files can't be linked for this reason, which isn't want of memory
 pub record IsLinkFault (w : World) (error : LinkError) : Type 0 where
   pub is_told : error ≡ links.Memory → ⊥
-  pub refuses : Refuses w error
+  pub refuses : LinkRefuses w error
 
 -- what is wrong with a side: its files can't be linked, or those that are linked break a rule at that place
 abbrev pub IsFaultOf : World → Fault → Type 0

@@ -1,6 +1,7 @@
 //! A side's schema, from the texts that its source gives.
 ghost use Rattle.std.specs.Prelude.{◌≡◌, ◌+◌, ◌<◌, length, IfErr, IfOk};
-ghost use Rattle.pg_link.specs.Walk.{IsLinked, IsPlace, world};
+ghost use Rattle.pg_link.specs.Linked.{IsLinkedUp};
+ghost use Rattle.pg_link.specs.Walk.{IsLinked, world};
 ghost use Rattle.pg_gate.specs.Files.{AreFlatIn, IsCompiled, IsDeclaredBy, IsErrorOf, IsOfLink, IsRuleError, IsRuleIn, IsSideError, paths_of, source_failures};
 
 use crate::error::{Fault, GateError, RuleError, Side};
@@ -21,6 +22,7 @@ fn files_of<S: Sources>(
 ) -> Result<Linked, GateError>
     ensures linked { IfOk result (λ linked. IsLinked (world (S.may_give source.old) (S.may_lack source.old)
         folder.now (paths_of paths.now)) linked.files) }
+    ensures settled { IfOk result IsLinkedUp }
     ensures refused { IfErr result (IsErrorOf (IsOfLink (world (S.may_give source.old) (S.may_lack source.old)
         folder.now (paths_of paths.now))) side) }
     ensures counted { S.failures source.new ≡ S.failures source.old + source_failures result }
