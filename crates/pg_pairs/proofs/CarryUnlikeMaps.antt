@@ -30,7 +30,8 @@ use Rattle.pg_pairs.specs.Sight.{Sight}
 use Rattle.pg_pairs.specs.Likeness.{like}
 use Rattle.pg_pairs.specs.Gaps.{body_length}
 use Rattle.pg_pairs.specs.Costs.{with_length, least_body, entry_cost}
-use Rattle.pg_pairs.specs.Fields.{Cell, is_field_kept}
+use Rattle.pg_dyn.specs.Comparison.{Cell}
+use Rattle.pg_pairs.specs.Fields.{is_field_kept}
 use Rattle.pg_pairs.specs.Laws.{IsReached}
 use Rattle.pg_pairs.proofs.Leaves.{leaf_eq-true, alike_equal}
 use Rattle.pg_pairs.proofs.GapItems.{IsLeafy}

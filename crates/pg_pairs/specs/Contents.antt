@@ -20,7 +20,8 @@ use Rattle.pg_pairs.specs.declared.choice.Choice.{Choice}
 use Rattle.pg_pairs.specs.Sight.{Sight, IsSight}
 use Rattle.pg_pairs.specs.Likeness.{like}
 use Rattle.pg_pairs.specs.Choices.{Table, number_for, field_choices}
-use Rattle.pg_pairs.specs.Fields.{Cell, writes, is_field_kept}
+use Rattle.pg_dyn.specs.Comparison.{Cell, writes}
+use Rattle.pg_pairs.specs.Fields.{is_field_kept}
 use Rattle.pg_pairs.specs.Settling.{IsAmong}
 
 -- the bytes of the content's records
