@@ -138,7 +138,7 @@ module _ (shape : Shape) (type : TypeId) (bytes : List ℕ) where
     place = refl;
     left_is = refl;
     read = dec_nothing shape type is_shape;
-    fits = record { type_is_there = there; is_message = tt; children_agree = tt };
+    fits = record { type_is_there = there; is_message = tt; parts_agree = tt };
     of_type = refl;
   }
 

@@ -30,7 +30,7 @@ use Rattle.pg_dyn.specs.Decoding.{dec}
 use Rattle.pg_dyn.specs.Faults.{not_text}
 use Rattle.pg_dyn.specs.ReadingOn.{IsNoMessage, items_after}
 use Rattle.pg_dyn.specs.Kept.{Kept, type_of, message_of}
-use Rattle.pg_dyn.specs.Seen.{leaf_of, IsKey, IsFilled, Rises}
+use Rattle.pg_dyn.specs.Seen.{leaf_of, IsKey, IsFilled, HasKeys, Rises}
 use Rattle.pg_dyn.specs.FieldList.{put_field, remove_field}
 use Rattle.pg_dyn.specs.Belonging.{IsUnknown, IsMessage}
 use Rattle.pg_dyn.specs.Fits.{Fits}
@@ -45,7 +45,9 @@ use Rattle.pg_dyn.proofs.Lists.{each_weaker, list_any_none, each-append}
 use Rattle.pg_dyn.proofs.Splitting.{found_first, found_later, found_number}
 use Rattle.pg_dyn.proofs.DecodesOn.{scalar_decodes_on, unknown_decodes_on}
 use Rattle.pg_dyn.proofs.FieldListLaws.{rises_put, rises_remove, each_put, each_removed}
-use Rattle.pg_dyn.proofs.FlatFits.{is_message, children_agree, contents_hold, unknown_hold}
+use Rattle.pg_dyn.specs.ContentFits.{HoldsContent}
+use Rattle.pg_dyn.proofs.FitsByContents.{fits_from_contents, contents_from_fits}
+use Rattle.pg_dyn.proofs.FlatFits.{content_of_scalar, scalar_of_content, flat_apart}
 use Rattle.pg_dyn.proofs.ReplacingLaws.{shown, part_item, replaced_parts, message_of-with_parts, message_of-with_unknown, type_shown, unknown_more}
 use Rattle.pg_dyn.proofs.Holding.{held_none, held_one}
 
@@ -206,25 +208,24 @@ module _ (parts : Parts) (h : IsSchema parts) (type : TypeId) (flat : IsFlat (sh
 
   pub fits_from : (ms : List (ℕ × Content)) (us : List WireRecord) → type.index < length (shape_of parts) → Rises ms → Hold ms → AllUnknown us → Fits (shape_of parts) (shown type ms us)
   fits_from ms us there rises hold unknown =
-      let is = sym (type_shown type ms us) in
-      record {
-        type_is_there = subst (λ (t : TypeId). t.index < length (shape_of parts)) is there;
-        is_message = subst (λ (t : TypeId). IsMessage (shape_of parts) t (message_of (shown type ms us))) is (is_message (shape_of parts) type ms us rises hold unknown);
-        children_agree = children_agree (shape_of parts) type ms us hold;
-      }
+      fits_from_contents (shape_of parts) type ms us (shown type ms us) refl rises (record {
+        type_is_there = there;
+        each = each_weaker (HoldsScalar (fields (shape_of parts) type)) (HoldsContent (shape_of parts) type) (content_of_scalar (shape_of parts) type) ms hold;
+        apart = flat_apart (shape_of parts) type flat ms;
+        unknown = unknown;
+      })
 
-  pub fits_to : (ms : List (ℕ × Content)) (us : List WireRecord) → AllByRecursion (λ (f : ℕ × Content). IsFilled f.1) ms → Fits (shape_of parts) (shown type ms us) → Hold ms × AllUnknown us
-  fits_to ms us filled fits =
-      let is_m = subst (λ (t : TypeId). IsMessage (shape_of parts) t (message_of (shown type ms us))) (type_shown type ms us) fits.is_message in
-      let hold = contents_hold (shape_of parts) type flat ms us filled is_m in
-      (hold, unknown_hold (shape_of parts) type flat ms us hold is_m)
+  pub fits_to : (ms : List (ℕ × Content)) (us : List WireRecord) → AllByRecursion (λ (f : ℕ × Content). IsFilled f.1) ms → AllByRecursion (λ (f : ℕ × Content). HasKeys f.1) ms → Fits (shape_of parts) (shown type ms us) → Hold ms × AllUnknown us
+  fits_to ms us filled keys fits =
+      let k = contents_from_fits (shape_of parts) type ms us (shown type ms us) refl h.shape filled keys fits in
+      (each_weaker (HoldsContent (shape_of parts) type) (HoldsScalar (fields (shape_of parts) type)) (scalar_of_content (shape_of parts) type flat) ms k.each, k.unknown)
 
   -- with an item, and without
   pub fits_held : (n : ℕ) (f : FieldShape) (v : Value) (ms : List (ℕ × Content)) (us : List WireRecord) (m : Kept) → shown type ms us ≡ m → type.index < length (shape_of parts) → Rises ms
-      → AllByRecursion (λ (x : ℕ × Content). IsFilled x.1) ms → Fits (shape_of parts) m → field_at (fields (shape_of parts) type) n ≡ Some f → (flat : IsImplicitScalar f) → IsItemOf flat.scalar v
+      → AllByRecursion (λ (x : ℕ × Content). IsFilled x.1) ms → AllByRecursion (λ (x : ℕ × Content). HasKeys x.1) ms → Fits (shape_of parts) m → field_at (fields (shape_of parts) type) n ≡ Some f → (flat : IsImplicitScalar f) → IsItemOf flat.scalar v
       → Fits (shape_of parts) (with_parts n (implicit_part n (leaf_of v)) m) × (type_of (with_parts n (implicit_part n (leaf_of v)) m) ≡ type)
-  fits_held n f v ms us m view there rises filled fits found flat item =
-      let (hold, unknown) = fits_to ms us filled (subst (Fits (shape_of parts)) (sym view) fits) in
+  fits_held n f v ms us m view there rises filled keys fits found flat item =
+      let (hold, unknown) = fits_to ms us filled keys (subst (Fits (shape_of parts)) (sym view) fits) in
       of (is_zero (leaf_of v)) refl hold unknown
     where
       key_of_item : (s : Scalar) (w : Value) → IsItemOf s w → IsKey w
@@ -243,16 +244,16 @@ module _ (parts : Parts) (h : IsSchema parts) (type : TypeId) (flat : IsFlat (sh
           )
       of false nil hold unknown =
           let is = held_one type n v ms (put_field n (contents.One v) ms) us m (key_of_item flat.scalar v item) nil refl view in
-          let one : HoldsScalar (fields (shape_of parts) type) (n, contents.One v) = record { field = f; found = found; flat = flat; value = v; only_is = refl; item = item; not_zero = nil } in (
+          let one : HoldsScalar (fields (shape_of parts) type) (n, contents.One v) = record { field = f; found = found; flat = flat; value = v; one = refl; item = item; not_zero = nil } in (
             subst (Fits (shape_of parts)) is (fits_from (put_field n (contents.One v) ms) us there (rises_put n (contents.One v) ms rises) (each_put (HoldsScalar (fields (shape_of parts) type)) n (contents.One v) ms one hold) unknown),
             ap type_of (sym is) ∙ type_shown type (put_field n (contents.One v) ms) us,
           )
 
   pub fits_more : (r : WireRecord) (ms : List (ℕ × Content)) (us : List WireRecord) (m : Kept) → shown type ms us ≡ m → type.index < length (shape_of parts) → Rises ms
-      → AllByRecursion (λ (x : ℕ × Content). IsFilled x.1) ms → Fits (shape_of parts) m → IsUnknown (fields (shape_of parts) type) r
+      → AllByRecursion (λ (x : ℕ × Content). IsFilled x.1) ms → AllByRecursion (λ (x : ℕ × Content). HasKeys x.1) ms → Fits (shape_of parts) m → IsUnknown (fields (shape_of parts) type) r
       → Fits (shape_of parts) (with_unknown r m) × (type_of (with_unknown r m) ≡ type)
-  fits_more r ms us m view there rises filled fits unknown_r =
-      let (hold, unknown) = fits_to ms us filled (subst (Fits (shape_of parts)) (sym view) fits) in
+  fits_more r ms us m view there rises filled keys fits unknown_r =
+      let (hold, unknown) = fits_to ms us filled keys (subst (Fits (shape_of parts)) (sym view) fits) in
       let is : shown type ms (us ++ r ∷ []) ≡ with_unknown r m = unknown_more type ms us r ∙ ap (with_unknown r) view in (
         subst (Fits (shape_of parts)) is (fits_from ms (us ++ r ∷ []) there rises hold (each-append (IsUnknown (fields (shape_of parts) type)) us (r ∷ []) unknown (unknown_r, tt))),
         ap type_of (sym is) ∙ type_shown type ms (us ++ r ∷ []),
@@ -290,12 +291,12 @@ module _ (parts : Parts) (h : IsSchema parts) (m : Kept) (r : WireRecord) (is_r 
           scalar_step (shape_of parts) (type_of m) (rising parts h (type_of m)) front m r f flat_is (leaf_of v) fits.is_message was is_r found accepted (takes_it f r number_is accepted) read_here
           ∙ ap (λ n. Some (message_of (with_parts n (implicit_part n (leaf_of v)) m))) number_is ∙ ap (λ x. Some (message_of x)) (sym is_new)
 
-      pub scalar_fits : (v : Value) (new : Kept) (ms : List (ℕ × Content)) (us : List WireRecord) → shown type ms us ≡ m → Rises ms → AllByRecursion (λ (x : ℕ × Content). IsFilled x.1) ms
+      pub scalar_fits : (v : Value) (new : Kept) (ms : List (ℕ × Content)) (us : List WireRecord) → shown type ms us ≡ m → Rises ms → AllByRecursion (λ (x : ℕ × Content). IsFilled x.1) ms → AllByRecursion (λ (x : ℕ × Content). HasKeys x.1) ms
           → Fits (shape_of parts) m → IsItemOf s v → new ≡ with_parts r.number (implicit_part r.number (leaf_of v)) m → Fits (shape_of parts) new × (type_of new ≡ type_of m)
-      scalar_fits v new ms us view rises filled fits item is_new =
+      scalar_fits v new ms us view rises filled keys fits item is_new =
           let there = subst (λ (t : TypeId). t.index < length (shape_of parts)) same fits.type_is_there in
           let item_here = subst (λ x. IsItemOf x v) (sym (scalar_same f flat_is s element)) item in
-          let held = fits_held parts h type flat r.number f v ms us m view there rises filled fits (sym is) flat_is item_here in
+          let held = fits_held parts h type flat r.number f v ms us m view there rises filled keys fits (sym is) flat_is item_here in
           (subst (Fits (shape_of parts)) (sym is_new) held.0, ap type_of is_new ∙ held.1 ∙ sym same)
 
     -- a flat field's items are scalars
@@ -312,10 +313,10 @@ module _ (parts : Parts) (h : IsSchema parts) (m : Kept) (r : WireRecord) (is_r 
       → (front : List ℕ) → dec (shape_of parts) (type_of m) front ≡ Some (message_of m) → dec (shape_of parts) (type_of m) (front ++ r.bytes) ≡ Some (message_of new)
   unknown_read new unknown is_new front was = unknown_step (shape_of parts) (type_of m) front m r was is_r unknown ∙ ap (λ x. Some (message_of x)) (sym is_new)
 
-  pub unknown_fits : (new : Kept) (ms : List (ℕ × Content)) (us : List WireRecord) → shown type ms us ≡ m → Rises ms → AllByRecursion (λ (x : ℕ × Content). IsFilled x.1) ms
+  pub unknown_fits : (new : Kept) (ms : List (ℕ × Content)) (us : List WireRecord) → shown type ms us ≡ m → Rises ms → AllByRecursion (λ (x : ℕ × Content). IsFilled x.1) ms → AllByRecursion (λ (x : ℕ × Content). HasKeys x.1) ms
       → Fits (shape_of parts) m → is_unknown (fields (shape_of parts) (type_of m)) r ≡ true → new ≡ with_unknown r m → Fits (shape_of parts) new × (type_of new ≡ type_of m)
-  unknown_fits new ms us view rises filled fits unknown is_new =
+  unknown_fits new ms us view rises filled keys fits unknown is_new =
       let there = subst (λ (t : TypeId). t.index < length (shape_of parts)) same fits.type_is_there in
       let unknown_here = subst (λ (t : TypeId). is_unknown (fields (shape_of parts) t) r ≡ true) same unknown in
-      let more = fits_more parts h type flat r ms us m view there rises filled fits (record { is_record = is_r; not_accepted = unknown_here }) in
+      let more = fits_more parts h type flat r ms us m view there rises filled keys fits (record { is_record = is_r; not_accepted = unknown_here }) in
       (subst (Fits (shape_of parts)) (sym is_new) more.0, ap type_of is_new ∙ more.1 ∙ sym same)

@@ -1,140 +1,59 @@
--- A writer's step on types with implicit scalars alone.
-use Rattle.std.proofs.Common.{Result, Ok, Err, IfOk, IfErr, ◌≡◌, ℕ, zero, suc, ◌+◌, ◌<◌, ◌≤◌, ◌^◌, List, [], ◌∷◌, ◌++◌, length, map, flat_map, take, drop, get_or, Option, Some, None, refl, ap, ap₂, sym, ◌∙◌, arith, add-one, length-append}
-use Rattle.std.specs.List.{AllByRecursion}
+-- The bytes and the lengths of a message, content by content.
+use Rattle.std.proofs.Common.{◌⊎◌, inl, inr, nat_lt, ◌≡◌, ℕ, zero, suc, ◌+◌, ◌<◌, ◌≤◌, List, [], ◌∷◌, ◌++◌, Vec, Global, min, length, take, drop, get_or, map, flat_map, Bool, true, false, Option, Some, None, Result, Ok, Err, IfOk, IfErr, refl, ap, ap₂, sym, subst, ◌∙◌, arith, add-one, append_assoc, length-append}
 use Rattle.std.proofs.lemmas.List.{append-nil, take-append-drop}
+use Rattle.std.proofs.Common.{take_all}
+use Rattle.std.proofs.lemmas.Bool.{ltb-true, ltb-false}
+use Rattle.std.specs.List.{AllByRecursion}
 use Rattle.pg_schema.specs.declared.field.Scalar.{Scalar}
+use Rattle.pg_schema.specs.declared.field.Scalar.TheVariants.{Int32}
 use Rattle.pg_schema.specs.declared.field.TypeId.{TypeId}
 use Rattle.pg_schema.specs.declared.field.Element.{Element}
 use Rattle.pg_schema.specs.declared.field.Element.TheVariants as elements
 use Rattle.pg_schema.specs.declared.field.Presence.{Presence}
 use Rattle.pg_schema.specs.declared.field.Presence.TheVariants as presences
-use Rattle.pg_schema.specs.declared.parts.Parts.{Parts}
-use Rattle.pg_schema.specs.Parts.{shape_of}
-use Rattle.pg_schema.specs.Flat.{IsFlat}
-use Rattle.pg_schema.specs.Invariant.{IsSchema}
-use Rattle.pg_schema.specs.Shape.{Shape, FieldShape, IsField, fields, field_at}
-use Rattle.pg_wire.specs.Records.{WireRecord, written, tag, length_before}
-use Rattle.pg_dyn.specs.declared.message.UnknownRecord.{UnknownRecord}
+use Rattle.pg_schema.specs.Shape.{Shape, FieldShape, IsField, IsShape, PresenceFits, Rising, fields, field_at, is_packable}
+use Rattle.pg_wire.specs.declared.record.WireType.{WireType}
+use Rattle.pg_wire.specs.declared.record.WireType.TheVariants.{Len}
+use Rattle.pg_wire.specs.Records.{WireRecord, length_before, tag, written}
 use Rattle.pg_dyn.specs.declared.message.Content.{Content}
 use Rattle.pg_dyn.specs.declared.message.Content.TheVariants as contents
+use Rattle.pg_dyn.specs.declared.message.UnknownRecord.{UnknownRecord}
 use Rattle.pg_dyn.specs.declared.message.Value.{Value}
 use Rattle.pg_dyn.specs.declared.message.Value.TheVariants as values
-use Rattle.pg_dyn.specs.Message.{Leaf, Part}
+use Rattle.pg_dyn.specs.Message.{Leaf, Bytes, Part}
 use Rattle.pg_dyn.specs.Coding.{body, form, form_wire}
-use Rattle.pg_dyn.specs.Writing.{item_record, field_records, bytes_of}
-use Rattle.pg_dyn.specs.Encoding.{enc}
-use Rattle.pg_dyn.specs.Kept.{Kept, message_of, type_of}
-use Rattle.pg_dyn.specs.Seen.{leaf_of, record_seen, Rises}
-use Rattle.pg_dyn.specs.EncodedFields.{written_leaf, written_parts, records_by, content_records, content_bytes, record_bytes}
-use Rattle.pg_dyn.specs.FlatContent.{single, only, HoldsScalar}
+use Rattle.pg_dyn.specs.ContentFits.{ContentFits, HoldsContent, ItemFits}
+use Rattle.pg_dyn.specs.EncodedFields.{content_bytes, content_records, record_bytes, records_by, written_leaf, written_parts}
+use Rattle.pg_dyn.specs.Encoding.{child_type, enc}
+use Rattle.pg_dyn.specs.Fits.{Fits}
+use Rattle.pg_dyn.specs.Kept.{Kept, ends, message_of, type_of}
 use Rattle.pg_dyn.specs.ScalarItems.{IsItemOf}
-use Rattle.pg_dyn.proofs.Fields.{field_of}
-use Rattle.pg_dyn.proofs.Flat.{each_at}
-use Rattle.pg_dyn.proofs.Splitting.{found_number}
-use Rattle.pg_dyn.proofs.Lists.{flat_map-append'}
+use Rattle.pg_dyn.specs.Seen.{IsFilled, IsKey, Rises, content_onto, entries_onto, fields_onto, items_onto, leaf_of, record_seen, value_onto}
+use Rattle.pg_dyn.specs.Writing.{bytes_of, entry_bytes, field_records, item_record}
+use Rattle.pg_dyn.specs.Written.{CanBePacked, LeafFits, capped, content_lengths, content_written, entry_record, field_written, inner_lengths, item_body, item_bytes, item_leaf, own_bytes, packed_body, packed_bytes, value_lengths, written_by}
+use Rattle.pg_dyn.proofs.Belonging.{child_type_is, fields-IsType}
 use Rattle.pg_dyn.proofs.EncodedFields.{encodes_by_fields}
-use Rattle.pg_dyn.proofs.ReplacingLaws.{shown, type_shown}
-use Rattle.pg_dyn.proofs.DecodeSteps.{rising, flat_at, is_type}
-use Rattle.pg_dyn.proofs.FitsChecks.{holds_item}
+use Rattle.pg_dyn.proofs.Fields.{field_of}
+use Rattle.pg_dyn.proofs.FitsByContents.{item_is_key}
+use Rattle.pg_dyn.proofs.Flat.{each_at}
+use Rattle.pg_dyn.proofs.KeptParts.{fields_keep}
+use Rattle.pg_dyn.proofs.Lists.{each_weaker, flat_map-append', flat_map-map, flat_map_same}
+use Rattle.pg_dyn.proofs.Splitting.{found_number}
 
 -- a record's bytes are its tag, its length and its body
-pub record_is : (n : ℕ) (e : Element) (leaf : Leaf) → (item_record n e leaf).bytes ≡ (tag n (form_wire (form e)) ++ length_before (form_wire (form e)) (body (form e) leaf)) ++ body (form e) leaf
+pub record_is : (n : ℕ) (w : WireType) (b : List ℕ) → (written n w b).bytes ≡ (tag n w ++ length_before w b) ++ b
 unfolding written
-record_is n e leaf = refl
+record_is n w b = refl
 
-pub record_size : (n : ℕ) (e : Element) (leaf : Leaf)
-    → length (item_record n e leaf).bytes ≡ length (tag n (form_wire (form e))) + length (length_before (form_wire (form e)) (body (form e) leaf)) + length (body (form e) leaf)
-record_size n e leaf =
-    let t = tag n (form_wire (form e)) in
-    let l = length_before (form_wire (form e)) (body (form e) leaf) in
-    let b = body (form e) leaf in
-    let whole = ap length (record_is n e leaf) in
-    omega (arith, whole, length-append (t ++ l) b, length-append t l)
+pub record_size : (n : ℕ) (w : WireType) (b : List ℕ) → length (written n w b).bytes ≡ length (tag n w) + length (length_before w b) + length b
+record_size n w b = let whole = ap length (record_is n w b) in omega (arith, whole, length-append (tag n w ++ length_before w b) b, length-append (tag n w) (length_before w b))
 
--- the records of a content of one item
-
-item_written : (shape : Shape) (type : TypeId) (n : ℕ) (s : Scalar) (v : Value) → IsItemOf s v → written_leaf shape type n v ≡ leaf_of v
-item_written shape type n s (values.Int x) h = refl
-item_written shape type n s (values.F32 x) h = refl
-item_written shape type n s (values.F64 x) h = refl
-item_written shape type n s (values.Text x) h = refl
-item_written shape type n s (values.Bytes x) h = refl
-item_written shape type n s (values.Msg x) h = absurd h
-
-abbrev one_part : Shape → TypeId → ℕ → Value → List (Part Leaf)
-one_part shape type n v = record { number = n; key = None; item = written_leaf shape type n v } ∷ []
-
-single_written : (shape : Shape) (type : TypeId) (n : ℕ) (vs : List Value) (v : Value) → single vs ≡ Some v → map (λ value. record { number = n; key = None; item = written_leaf shape type n value }) vs ≡ one_part shape type n v
-single_written shape type n [] v h = absurd (cc)
-single_written shape type n (w ∷ []) v h = let same : w ≡ v = cc in ap (one_part shape type n) same
-single_written shape type n (w ∷ x ∷ vs) v h = absurd (cc)
-
-parts_written : (shape : Shape) (type : TypeId) (n : ℕ) (c : Content) (v : Value) → only c ≡ Some v → written_parts shape type n c ≡ one_part shape type n v
-parts_written shape type n (contents.One w) v h = let same : w ≡ v = cc in ap (one_part shape type n) same
-parts_written shape type n (contents.Many vs) v h = single_written shape type n vs.items v h
-parts_written shape type n (contents.Map es) v h = absurd (cc)
-
-implicit_records : (n k : ℕ) (p : Presence) (e : Element) (o : Option ℕ) (leaf : Leaf) → p ≡ presences.Implicit → field_records (field_of n p e o) (record { number = k; key = None; item = leaf } ∷ []) ≡ item_record n e leaf ∷ []
-implicit_records n k p e o leaf is = ap (λ x. field_records (field_of n x e o) (record { number = k; key = None; item = leaf } ∷ [])) is
-
-module _ (parts : Parts) (h : IsSchema parts) (type : TypeId) (is_flat : IsFlat (shape_of parts) type) where
-  abbrev fs : List FieldShape
-  fs = fields (shape_of parts) type
-
-  module _ (n : ℕ) (c : Content) (held : HoldsScalar fs (n, c)) where
-    pub no_field : None ≡ field_at fs n → ⊥
-    no_field none = none_some held.field (none ∙ held.found)
-      where
-        none_some : (f : FieldShape) → ◌≡◌ {A = Option FieldShape} None (Some f) → ⊥
-        none_some f e = cc
-
-    pub no_value : None ≡ only c → ⊥
-    no_value none = none_some held.value (none ∙ held.only_is)
-      where
-        none_some : (v : Value) → ◌≡◌ {A = Option Value} None (Some v) → ⊥
-        none_some v e = cc
-
-    module _ (f : FieldShape) (found : Some f ≡ field_at fs n) where
-      pub scalar_only : (e : Element) → f.element ≡ e → ((s : Scalar) → e ≡ elements.Scalar s → ⊥) → ⊥
-      scalar_only e is none = let flat = flat_at parts h type is_flat n f (sym found) in none flat.scalar (sym is ∙ flat.scalar_is)
-
-      pub number_below : n < 2 ^ 29
-      number_below =
-          let is = each_at (IsField (length (shape_of parts))) fs n f (sym found) (is_type parts h type).each in
-          let same = found_number fs n f (sym found) in
-          let low = is.number_below in omega arith
-
-      pub content_is : (v : Value) → Some v ≡ only c → (s : Scalar) → f.element ≡ elements.Scalar s → content_bytes (shape_of parts) type (n, c) ≡ (item_record n (elements.Scalar s) (leaf_of v)).bytes
-      content_is v one s element =
-          let flat = flat_at parts h type is_flat n f (sym found) in
-          let item = holds_item parts h type is_flat n c f found v one s element held in
-          let number = found_number fs n f (sym found) in
-          ap (λ x. bytes_of (records_by x (written_parts (shape_of parts) type n c))) (sym found)
-          ∙ ap (λ ps. bytes_of (field_records f ps)) (parts_written (shape_of parts) type n c v (sym one) ∙ ap (λ leaf. record { number = n; key = None; item = leaf } ∷ []) (item_written (shape_of parts) type n s v item))
-          ∙ ap bytes_of (implicit_records f.number n f.presence f.element f.oneof (leaf_of v) flat.implicit)
-          ∙ ap₂ (λ k e. bytes_of (item_record k e (leaf_of v) ∷ [])) number element
-          ∙ append-nil (item_record n (elements.Scalar s) (leaf_of v)).bytes
-
-  -- the whole message
-  module _ (ms : List (ℕ × Content)) (us : List UnknownRecord) (m : Kept) (view : shown type ms (map record_seen us) ≡ m) where
-    flat_bytes : (xs : List (ℕ × Content)) → bytes_of (flat_map (content_records (shape_of parts) type) xs) ≡ flat_map (content_bytes (shape_of parts) type) xs
-    flat_bytes [] = refl
-    flat_bytes (x ∷ xs) = flat_map-append' (λ (r : WireRecord). r.bytes) (content_records (shape_of parts) type x) (flat_map (content_records (shape_of parts) type) xs) ∙ ap (λ ys. content_bytes (shape_of parts) type x ++ ys) (flat_bytes xs)
-
-    unknown_bytes : (xs : List UnknownRecord) → bytes_of (map record_seen xs) ≡ flat_map record_bytes xs
-    unknown_bytes [] = refl
-    unknown_bytes (x ∷ xs) = ap (λ ys. record_bytes x ++ ys) (unknown_bytes xs)
-
-    all_found : (xs : List (ℕ × Content)) → AllByRecursion (HoldsScalar fs) xs → AllByRecursion (λ (x : ℕ × Content). (g : FieldShape) × (field_at fs x.0 ≡ Some g)) xs
-    all_found [] k = tt
-    all_found (x ∷ xs) k = ((k.0.field, k.0.found), all_found xs k.1)
-
-    pub enc_is : Rises ms → AllByRecursion (HoldsScalar fs) ms → enc (shape_of parts) (type_of m) (message_of m) ≡ flat_map (content_bytes (shape_of parts) type) ms ++ flat_map record_bytes us
-    enc_is rises hold =
-        ap (λ x. enc (shape_of parts) (type_of x) (message_of x)) (sym view)
-        ∙ ap (λ t. enc (shape_of parts) t (message_of (shown type ms (map record_seen us)))) (type_shown type ms (map record_seen us))
-        ∙ encodes_by_fields (shape_of parts) type ms (map record_seen us) (rising parts h type) rises (all_found ms hold)
-        ∙ ap₂ (λ xs ys. xs ++ ys) (flat_bytes ms) (unknown_bytes us)
+pub small_or_big : (n m : ℕ) → (n ≤ m) ⊎ (m < n)
+small_or_big n m = of (nat_lt m n) refl
+  where
+    of : (b : Bool) → nat_lt m n ≡ b → (n ≤ m) ⊎ (m < n)
+    of true e = inr (ltb-true m n e)
+    of false e = inl (ltb-false m n e)
 
 -- one more of a row, and what is left
 module _ {X : Type 0} (b : X → List ℕ) where
@@ -146,10 +65,56 @@ module _ {X : Type 0} (b : X → List ℕ) where
       take_more (z ∷ ys) zero y h e = ap (λ w. w ∷ []) (sym e)
       take_more (z ∷ ys) (suc k) y h e = ap (λ ws. z ∷ ws) (take_more ys k y (omega arith) e)
 
-  pub row_within : (xs : List X) (i : ℕ) → length (flat_map b (take i xs)) ≤ length (flat_map b xs)
-  row_within xs i =
-      let joined : flat_map b xs ≡ flat_map b (take i xs) ++ flat_map b (drop i xs) = ap (flat_map b) (sym (take-append-drop i xs)) ∙ flat_map-append' b (take i xs) (drop i xs) in
-      omega (arith, ap length joined, length-append (flat_map b (take i xs)) (flat_map b (drop i xs)))
+  -- counted, and listed
+  pub counted_more : (xs : List X) (i : ℕ) (x : X) (new : ℕ) → i < length xs → x ≡ get_or xs i x → new ≡ capped (length (flat_map b (take i xs)) + length (b x)) → new ≡ capped (length (flat_map b (take (i + 1) xs)))
+  counted_more xs i x new inside is counted =
+      counted ∙ ap capped (sym (ap length (row_more xs i x inside is) ∙ length-append (flat_map b (take i xs)) (b x)))
+
+  pub counted_all : (xs ys : List X) (i total : ℕ) → xs ≡ ys → length xs ≤ i → total ≡ capped (length (flat_map b (take i xs))) → total ≡ capped (length (flat_map b ys))
+  counted_all xs ys i total same past counted = counted ∙ ap (λ zs. capped (length (flat_map b zs))) (take_all i xs past ∙ same)
+
+  pub listed_more : (xs : List X) (i : ℕ) (x : X) (before so_far new : List ℕ) → i < length xs → x ≡ get_or xs i x → so_far ≡ before ++ flat_map b (take i xs) → new ≡ so_far ++ b x → new ≡ before ++ flat_map b (take (i + 1) xs)
+  listed_more xs i x before so_far new inside is was added =
+      added ∙ ap (λ zs. zs ++ b x) was ∙ append_assoc before (flat_map b (take i xs)) (b x) ∙ ap (λ zs. before ++ zs) (sym (row_more xs i x inside is))
+
+  pub listed_all : (xs ys : List X) (i : ℕ) (before so_far : List ℕ) → xs ≡ ys → length xs ≤ i → so_far ≡ before ++ flat_map b (take i xs) → so_far ≡ before ++ flat_map b ys
+  listed_all xs ys i before so_far same past was = was ∙ ap (λ zs. before ++ flat_map b zs) (take_all i xs past ∙ same)
+
+-- A row that is written up to an index: where the lengths begin with those of the whole row, those from the index on are left.
+module _ {X : Type 0} (b k : X → List ℕ) where
+  abbrev pub IsOnTheWay : List X → ℕ → List ℕ → List ℕ → List ℕ → List ℕ → Type 0
+  IsOnTheWay xs i before out lengths left = (rest : List ℕ) → lengths ≡ flat_map k xs ++ rest → (out ≡ before ++ flat_map b (take i xs)) × (left ≡ flat_map k (drop i xs) ++ rest)
+
+  row_ahead : (xs : List X) (i : ℕ) (x : X) → i < length xs → x ≡ get_or xs i x → flat_map k (drop i xs) ≡ k x ++ flat_map k (drop (i + 1) xs)
+  row_ahead xs i x inside is = ap (flat_map k) (go xs i inside is) ∙ ap (λ j. k x ++ flat_map k (drop j xs)) (sym (add-one i))
+    where
+      go : (ys : List X) (j : ℕ) → j < length ys → x ≡ get_or ys j x → drop j ys ≡ x ∷ drop (suc j) ys
+      go [] j below same = absurd (omega arith)
+      go (y ∷ ys) zero below same = ap (λ z. z ∷ ys) (sym same)
+      go (y ∷ ys) (suc j) below same = go ys j (omega arith) same
+
+  pub on_the_way : (xs : List X) (i : ℕ) (x : X) (before out new lengths left further : List ℕ) → i < length xs → x ≡ get_or xs i x → IsOnTheWay xs i before out lengths left
+      → ((rest : List ℕ) → left ≡ k x ++ rest → (new ≡ out ++ b x) × (further ≡ rest)) → IsOnTheWay xs (i + 1) before new lengths further
+  on_the_way xs i x before out new lengths left further inside is so_far next = λ rest whole.
+      let (written_is, left_is) = so_far rest whole in
+      let ahead : left ≡ k x ++ (flat_map k (drop (i + 1) xs) ++ rest) = left_is ∙ ap (λ ys. ys ++ rest) (row_ahead xs i x inside is) ∙ append_assoc (k x) (flat_map k (drop (i + 1) xs)) rest in
+      let (more, then) = next (flat_map k (drop (i + 1) xs) ++ rest) ahead in
+      (more ∙ ap (λ ys. ys ++ b x) written_is ∙ append_assoc before (flat_map b (take i xs)) (b x) ∙ ap (λ ys. before ++ ys) (sym (row_more b xs i x inside is)), then)
+
+  pub at_the_start : (xs : List X) (before lengths : List ℕ) → IsOnTheWay xs 0 before before lengths lengths
+  at_the_start xs before lengths = λ rest whole. (sym (append-nil before), whole)
+
+  pub at_the_end : (xs ys : List X) (i : ℕ) (before out lengths left : List ℕ) → xs ≡ ys → length xs ≤ i → IsOnTheWay xs i before out lengths left
+      → (rest : List ℕ) → lengths ≡ flat_map k ys ++ rest → (out ≡ before ++ flat_map b ys) × (left ≡ rest)
+  at_the_end xs ys i before out lengths left same past so_far rest whole =
+      let (written_is, left_is) = so_far rest (whole ∙ ap (λ zs. flat_map k zs ++ rest) (sym same)) in
+      (written_is ∙ ap (λ zs. before ++ flat_map b zs) (take_all i xs past ∙ same), left_is ∙ ap (λ zs. flat_map k zs ++ rest) (none_left xs i past))
+    where
+      none_left : (zs : List X) (j : ℕ) → length zs ≤ j → drop j zs ≡ []
+      none_left [] zero below = refl
+      none_left [] (suc j) below = refl
+      none_left (z ∷ zs) zero below = absurd (omega arith)
+      none_left (z ∷ zs) (suc j) below = none_left zs j (omega arith)
 
 -- what a call that may fail says, said otherwise
 
@@ -157,6 +122,181 @@ pub if_ok : {A E : Type 0} (P Q : A → Type 0) (r : Result A E) → ((x : A) �
 if_ok P Q (Ok x) f h = f x h
 if_ok P Q (Err e) f h = tt
 
-pub if_err : {A E : Type 0} (P Q : E → Type 0) (r : Result A E) → ((e : E) → P e → Q e) → IfErr r P → IfErr r Q
-if_err P Q (Ok x) f h = tt
-if_err P Q (Err e) f h = f e h
+-- Lengths inside.
+
+module _ (shape : Shape) where
+  value_inner : (n : ℕ) (k : Option Leaf) (l : Bool) (v : Value) (later : Kept) → inner_lengths shape (value_onto n k l v later) ≡ value_lengths shape v ++ inner_lengths shape later
+  value_inner n k l (values.Int x) later = refl
+  value_inner n k l (values.F32 x) later = refl
+  value_inner n k l (values.F64 x) later = refl
+  value_inner n k l (values.Text x) later = refl
+  value_inner n k l (values.Bytes x) later = refl
+  value_inner n k l (values.Msg x) later = refl
+
+  items_inner : (n : ℕ) (vs : List Value) (later : Kept) → inner_lengths shape (items_onto n vs later) ≡ flat_map (value_lengths shape) vs ++ inner_lengths shape later
+  items_inner n [] later = refl
+  items_inner n (v ∷ vs) later =
+      value_inner n None true v (items_onto n vs later) ∙ ap (λ xs. value_lengths shape v ++ xs) (items_inner n vs later) ∙ sym (append_assoc (value_lengths shape v) (flat_map (value_lengths shape) vs) (inner_lengths shape later))
+
+  entries_inner : (n : ℕ) (es : List (Value × Value)) (later : Kept) → inner_lengths shape (entries_onto n es later) ≡ flat_map (λ (e : Value × Value). value_lengths shape e.1) es ++ inner_lengths shape later
+  entries_inner n [] later = refl
+  entries_inner n (e ∷ es) later =
+      value_inner n (Some (leaf_of e.0)) false e.1 (entries_onto n es later) ∙ ap (λ xs. value_lengths shape e.1 ++ xs) (entries_inner n es later)
+      ∙ sym (append_assoc (value_lengths shape e.1) (flat_map (λ (x : Value × Value). value_lengths shape x.1) es) (inner_lengths shape later))
+
+  content_inner : (n : ℕ) (c : Content) (later : Kept) → inner_lengths shape (content_onto n c later) ≡ content_lengths shape c ++ inner_lengths shape later
+  content_inner n (contents.One v) later = value_inner n None false v later
+  content_inner n (contents.Many vs) later = items_inner n vs.items later
+  content_inner n (contents.Map es) later = entries_inner n es.items later
+
+  fields_inner : (ms : List (ℕ × Content)) (later : Kept) → inner_lengths shape (fields_onto ms later) ≡ flat_map (λ (m : ℕ × Content). content_lengths shape m.1) ms ++ inner_lengths shape later
+  fields_inner [] later = refl
+  fields_inner (m ∷ ms) later =
+      content_inner m.0 m.1 (fields_onto ms later) ∙ ap (λ xs. content_lengths shape m.1 ++ xs) (fields_inner ms later)
+      ∙ sym (append_assoc (content_lengths shape m.1) (flat_map (λ (x : ℕ × Content). content_lengths shape x.1) ms) (inner_lengths shape later))
+
+  pub inner_is : (type : TypeId) (ms : List (ℕ × Content)) (us : List WireRecord) (m : Kept) → fields_onto ms (ends type us) ≡ m → flat_map (λ (x : ℕ × Content). content_lengths shape x.1) ms ≡ inner_lengths shape m
+  inner_is type ms us m view = sym (fields_inner ms (ends type us) ∙ append-nil _) ∙ ap (inner_lengths shape) view
+
+-- Items that are no messages.
+
+pub leaf_item : (shape : Shape) (v : Value) → IsKey v → item_leaf shape v ≡ leaf_of v
+leaf_item shape (values.Int x) key = refl
+leaf_item shape (values.F32 x) key = refl
+leaf_item shape (values.F64 x) key = refl
+leaf_item shape (values.Text x) key = refl
+leaf_item shape (values.Bytes x) key = refl
+leaf_item shape (values.Msg x) key = absurd key
+
+pub no_lengths : (shape : Shape) (v : Value) → IsKey v → value_lengths shape v ≡ []
+no_lengths shape (values.Int x) key = refl
+no_lengths shape (values.F32 x) key = refl
+no_lengths shape (values.F64 x) key = refl
+no_lengths shape (values.Text x) key = refl
+no_lengths shape (values.Bytes x) key = refl
+no_lengths shape (values.Msg x) key = absurd key
+
+pub leaf_is_key : (e : Element) (v : Value) → LeafFits e v → IsKey v
+leaf_is_key (elements.Scalar s) v h = item_is_key s v h
+leaf_is_key (elements.Enum e) v h = item_is_key Int32 v h
+leaf_is_key (elements.Message t) v h = absurd h
+
+packed_leaf : (shape : Shape) (e : Element) (v : Value) → is_packable e ≡ true → ItemFits shape e v → LeafFits e v
+packed_leaf shape (elements.Scalar s) v can h = h
+packed_leaf shape (elements.Enum e) v can h = h
+packed_leaf shape (elements.Message t) v can h = absurd (cc)
+
+pub packed_leaves : (shape : Shape) (e : Element) (vs : List Value) → is_packable e ≡ true → AllByRecursion (ItemFits shape e) vs → AllByRecursion (LeafFits e) vs
+packed_leaves shape e vs can h = each_weaker (ItemFits shape e) (LeafFits e) (λ v. packed_leaf shape e v can) vs h
+
+pub packed_no_lengths : (shape : Shape) (e : Element) (vs : List Value) → AllByRecursion (LeafFits e) vs → flat_map (value_lengths shape) vs ≡ []
+packed_no_lengths shape e [] h = refl
+packed_no_lengths shape e (v ∷ vs) h = ap₂ (λ xs ys. xs ++ ys) (no_lengths shape v (leaf_is_key e v h.0)) (packed_no_lengths shape e vs h.1)
+
+-- a map's entries
+pub entries_fit : (shape : Shape) (key : Scalar) (p : Presence) (e : Element) (c : Content) (es : Vec (Value × Value) Global) → p ≡ presences.Map key → c ≡ contents.Map es → ContentFits shape p e c
+    → AllByRecursion (λ (x : Value × Value). IsItemOf key x.0 × ItemFits shape e x.1) es.items
+entries_fit shape key p e c es is one h = (subst (λ x. ContentFits shape (presences.Map key) e x) one (subst (λ x. ContentFits shape x e c) is h)).0
+
+pub packed_inner : (shape : Shape) (p : Presence) (e : Element) (c : Content) (vs : Vec Value Global) (before : List ℕ) → p ≡ presences.Repeated true → c ≡ contents.Many vs → CanBePacked p e → ContentFits shape p e c → before ≡ before ++ content_lengths shape c
+packed_inner shape p e c vs before is one can h =
+    let each = subst (λ x. ContentFits shape (presences.Repeated true) e x) one (subst (λ x. ContentFits shape x e c) is h) in
+    let none = packed_no_lengths shape e vs.items (packed_leaves shape e vs.items (subst (λ x. CanBePacked x e) is can) each) in
+    sym (append-nil before) ∙ ap (λ xs. before ++ xs) (sym none) ∙ ap (λ d. before ++ content_lengths shape d) (sym one)
+
+-- only what can be packed is
+pub can_be_packed : (p : Presence) (e : Element) (o : Option ℕ) → PresenceFits p e o → CanBePacked p e
+can_be_packed presences.Implicit e o h = tt
+can_be_packed presences.Explicit e o h = tt
+can_be_packed (presences.Repeated true) e o h = h.1 refl
+can_be_packed (presences.Repeated false) e o h = tt
+can_be_packed (presences.Map key) e o h = tt
+
+-- Contents.
+
+module _ (shape : Shape) (type : TypeId) where
+  leaf_same : (n : ℕ) (f : FieldShape) → field_at (fields shape type) n ≡ Some f → (e : Element) → f.element ≡ e → (v : Value) → ItemFits shape e v → written_leaf shape type n v ≡ item_leaf shape v
+  leaf_same n f found e is (values.Int x) h = refl
+  leaf_same n f found e is (values.F32 x) h = refl
+  leaf_same n f found e is (values.F64 x) h = refl
+  leaf_same n f found e is (values.Text x) h = refl
+  leaf_same n f found e is (values.Bytes x) h = refl
+  leaf_same n f found (elements.Scalar s) is (values.Msg x) h = absurd h
+  leaf_same n f found (elements.Enum e) is (values.Msg x) h = absurd h
+  leaf_same n f found (elements.Message t) is (values.Msg x) h = ap (λ u. Bytes (enc shape u (message_of x.value))) (child_type_is (fields shape type) n f t found is ∙ sym h.1)
+
+  abbrev Same : ℕ → Element → Type 0
+  Same n e = (v : Value) → ItemFits shape e v → written_leaf shape type n v ≡ item_leaf shape v
+
+  items_written : (n : ℕ) (e : Element) → Same n e → (vs : List Value) → AllByRecursion (ItemFits shape e) vs
+      → bytes_of (map (λ (p : Part Leaf). item_record n e p.item) (map (λ value. record { number = n; key = None; item = written_leaf shape type n value }) vs)) ≡ flat_map (item_bytes shape n e) vs
+  items_written n e same [] h = refl
+  items_written n e same (v ∷ vs) h = ap₂ (λ leaf xs. (item_record n e leaf).bytes ++ xs) (same v h.0) (items_written n e same vs h.1)
+
+  entries_written : (n : ℕ) (key : Scalar) (e : Element) → Same n e → (es : List (Value × Value)) → AllByRecursion (λ (x : Value × Value). IsItemOf key x.0 × ItemFits shape e x.1) es
+      → bytes_of (field_records (field_of n (presences.Map key) e None) (map (λ (x : Value × Value). record { number = n; key = Some (leaf_of x.0); item = written_leaf shape type n x.1 }) es)) ≡ flat_map (entry_record shape n key e) es
+  entries_written n key e same [] h = refl
+  entries_written n key e same (x ∷ es) h = ap₂ (λ leaf xs. (written n Len (entry_bytes key e (leaf_of x.0) leaf)).bytes ++ xs) (same x.1 h.0.1) (entries_written n key e same es h.1)
+
+  bodies_written : (n : ℕ) (e : Element) → Same n e → is_packable e ≡ true → (vs : List Value) → AllByRecursion (ItemFits shape e) vs
+      → flat_map (λ (q : Part Leaf). body (form e) q.item) (map (λ value. record { number = n; key = None; item = written_leaf shape type n value }) vs) ≡ packed_body e vs
+  bodies_written n e same can [] h = refl
+  bodies_written n e same can (v ∷ vs) h =
+      ap₂ (λ leaf xs. body (form e) leaf ++ xs) (same v h.0 ∙ leaf_item shape v (leaf_is_key e v (packed_leaf shape e v can h.0))) (bodies_written n e same can vs h.1)
+
+  packed_written : (n : ℕ) (e : Element) (o : Option ℕ) → Same n e → is_packable e ≡ true → (vs : List Value) → AllByRecursion (ItemFits shape e) vs
+      → bytes_of (field_records (field_of n (presences.Repeated true) e o) (map (λ value. record { number = n; key = None; item = written_leaf shape type n value }) vs)) ≡ packed_bytes n e vs
+  packed_written n e o same can [] h = refl
+  packed_written n e o same can (v ∷ vs) h = append-nil _ ∙ ap (λ b. (written n Len b).bytes) (bodies_written n e same can (v ∷ vs) h)
+
+  by_presence : (n : ℕ) (p : Presence) (e : Element) (o : Option ℕ) (c : Content) → Same n e → CanBePacked p e → ContentFits shape p e c
+      → bytes_of (field_records (field_of n p e o) (written_parts shape type n c)) ≡ content_written shape n p e c
+  by_presence n presences.Implicit e o (contents.One v) same can h = append-nil _ ∙ ap (λ leaf. (item_record n e leaf).bytes) (same v h.0)
+  by_presence n presences.Explicit e o (contents.One v) same can h = append-nil _ ∙ ap (λ leaf. (item_record n e leaf).bytes) (same v h)
+  by_presence n (presences.Repeated true) e o (contents.Many vs) same can h = packed_written n e o same can vs.items h
+  by_presence n (presences.Repeated false) e o (contents.Many vs) same can h = items_written n e same vs.items h
+  by_presence n (presences.Map key) e o (contents.Map es) same can h = entries_written n key e same es.items h.0
+  by_presence n (presences.Repeated true) e o (contents.One v) same can h = absurd h
+  by_presence n (presences.Repeated false) e o (contents.One v) same can h = absurd h
+  by_presence n (presences.Map key) e o (contents.One v) same can h = absurd h
+  by_presence n presences.Implicit e o (contents.Many vs) same can h = absurd h
+  by_presence n presences.Explicit e o (contents.Many vs) same can h = absurd h
+  by_presence n (presences.Map key) e o (contents.Many vs) same can h = absurd h
+  by_presence n presences.Implicit e o (contents.Map es) same can h = absurd h
+  by_presence n presences.Explicit e o (contents.Map es) same can h = absurd h
+  by_presence n (presences.Repeated true) e o (contents.Map es) same can h = absurd h
+  by_presence n (presences.Repeated false) e o (contents.Map es) same can h = absurd h
+
+  -- a field's number and what it may be packed
+  pub field_is : IsShape shape → (n : ℕ) (f : FieldShape) → field_at (fields shape type) n ≡ Some f → IsField (length shape) f
+  field_is h n f found = each_at (IsField (length shape)) (fields shape type) n f found (fields-IsType shape type h).each
+
+  pub packs : IsShape shape → (n : ℕ) (f : FieldShape) → field_at (fields shape type) n ≡ Some f → CanBePacked f.presence f.element
+  packs h n f found = can_be_packed f.presence f.element f.oneof (field_is h n f found).presence_fits
+
+  pub content_is : IsShape shape → (c : ℕ × Content) → HoldsContent shape type c → content_bytes shape type c ≡ field_written shape type c
+  content_is is_shape c h =
+      let f = h.field in
+      let number : c.0 ≡ f.number = sym (found_number (fields shape type) c.0 f h.found) in
+      ap (λ o. bytes_of (records_by o (written_parts shape type c.0 c.1))) h.found
+      ∙ ap (λ k. bytes_of (field_records (field_of k f.presence f.element f.oneof) (written_parts shape type c.0 c.1))) (sym number)
+      ∙ by_presence c.0 f.presence f.element f.oneof c.1 (leaf_same c.0 f h.found f.element refl) (packs is_shape c.0 f h.found) h.fits
+      ∙ ap (λ o. written_by shape o c) (sym h.found)
+
+  -- the whole message
+
+  flat_bytes : (xs : List (ℕ × Content)) → bytes_of (flat_map (content_records shape type) xs) ≡ flat_map (content_bytes shape type) xs
+  flat_bytes [] = refl
+  flat_bytes (x ∷ xs) = flat_map-append' (λ (r : WireRecord). r.bytes) (content_records shape type x) (flat_map (content_records shape type) xs) ∙ ap (λ ys. content_bytes shape type x ++ ys) (flat_bytes xs)
+
+  unknown_bytes : (xs : List UnknownRecord) → bytes_of (map record_seen xs) ≡ flat_map record_bytes xs
+  unknown_bytes [] = refl
+  unknown_bytes (x ∷ xs) = ap (λ ys. record_bytes x ++ ys) (unknown_bytes xs)
+
+  pub own_is : IsShape shape → (ms : List (ℕ × Content)) (us : List UnknownRecord) (m : Kept) → fields_onto ms (ends type (map record_seen us)) ≡ m → Rises ms → AllByRecursion (HoldsContent shape type) ms
+      → flat_map (field_written shape type) ms ++ flat_map record_bytes us ≡ own_bytes shape m
+  own_is is_shape ms us m view rises hold =
+      sym (ap (λ t. enc shape t (message_of (fields_onto ms (ends type (map record_seen us))))) (fields_keep ms (ends type (map record_seen us))).1
+      ∙ encodes_by_fields shape type ms (map record_seen us) (fields-IsType shape type is_shape).rising rises (each_weaker (HoldsContent shape type) (λ (x : ℕ × Content). (g : FieldShape) × (field_at (fields shape type) x.0 ≡ Some g)) (λ x k. (k.field, k.found)) ms hold)
+      ∙ ap₂ (λ xs ys. xs ++ ys) (flat_bytes ms ∙ flat_map_same (content_bytes shape type) (field_written shape type) ms (each_weaker (HoldsContent shape type) (λ (x : ℕ × Content). content_bytes shape type x ≡ field_written shape type x) (content_is is_shape) ms hold)) (unknown_bytes us))
+      ∙ ap (own_bytes shape) view

@@ -19,7 +19,6 @@ use Rattle.pg_dyn.specs.Kept.{Kept, type_of}
 use Rattle.pg_dyn.specs.Seen.{leaf_of, record_seen, IsFilled, Rises}
 use Rattle.pg_dyn.specs.Belonging.{IsUnknown}
 use Rattle.pg_dyn.specs.Fits.{Fits}
-use Rattle.pg_dyn.specs.FlatContent.{only, HoldsScalar}
 use Rattle.pg_dyn.specs.ScalarItems.{IsItemOf}
 use Rattle.pg_dyn.proofs.ReplacingLaws.{shown, type_shown}
 use Rattle.pg_dyn.proofs.Flat.{list_any_at}
@@ -32,49 +31,15 @@ same_value v w e = cc
 pub same_field : (f g : FieldShape) → ◌≡◌ {A = Option FieldShape} (Some f) (Some g) → f ≡ g
 same_field f g e = cc
 
-module _ (parts : Parts) (h : IsSchema parts) (type : TypeId) (flat : IsFlat (shape_of parts) type) where
-  abbrev fs : List FieldShape
-  fs = fields (shape_of parts) type
-
-  -- a content of one item of its field
-  module _ (n : ℕ) (c : Content) (f : FieldShape) (found : Some f ≡ field_at fs n) (v : Value) (one : Some v ≡ only c) (s : Scalar) (element : f.element ≡ elements.Scalar s) where
-    pub holds : IsItemOf s v → is_zero (leaf_of v) ≡ false → HoldsScalar fs (n, c)
-    holds item nonzero =
-        let scalar_here = flat_at parts h type flat n f (sym found) in
-        record { field = f; found = sym found; flat = scalar_here; value = v; only_is = sym one; item = subst (λ x. IsItemOf x v) (sym (scalar_same f scalar_here s element)) item; not_zero = nonzero }
-
-    pub holds_nonzero : HoldsScalar fs (n, c) → is_zero (leaf_of v) ≡ false
-    holds_nonzero held = let same = same_value held.value v (sym held.only_is ∙ sym one) in ap (λ x. is_zero (leaf_of x)) (sym same) ∙ held.not_zero
-
-    pub holds_item : HoldsScalar fs (n, c) → IsItemOf s v
-    holds_item held =
-        let same = same_value held.value v (sym held.only_is ∙ sym one) in
-        let field = same_field held.field f (sym held.found ∙ sym found) in
-        let scalar = scalar_same held.field held.flat s (ap (λ (x : FieldShape). x.element) field ∙ element) in
-        subst (λ x. IsItemOf x v) scalar (subst (IsItemOf held.flat.scalar) same held.item)
-
+module _ (fs : List FieldShape) where
   -- unknown records, which all are records
-  all_unknown : (us : List UnknownRecord) → AllByRecursion (λ (u : UnknownRecord). is_unknown fs (record_seen u) ≡ true) us → AllByRecursion IsRecord (map record_seen us) → AllByRecursion (IsUnknown fs) (map record_seen us)
+  pub all_unknown : (us : List UnknownRecord) → AllByRecursion (λ (u : UnknownRecord). is_unknown fs (record_seen u) ≡ true) us → AllByRecursion IsRecord (map record_seen us) → AllByRecursion (IsUnknown fs) (map record_seen us)
   all_unknown [] each are = tt
   all_unknown (u ∷ us) each are = (record { is_record = are.0; not_accepted = each.0 }, all_unknown us each.1 are.1)
 
-  none_accepted : (us : List UnknownRecord) → AllByRecursion (IsUnknown fs) (map record_seen us) → AllByRecursion (λ (u : UnknownRecord). is_unknown fs (record_seen u) ≡ true) us
+  pub none_accepted : (us : List UnknownRecord) → AllByRecursion (IsUnknown fs) (map record_seen us) → AllByRecursion (λ (u : UnknownRecord). is_unknown fs (record_seen u) ≡ true) us
   none_accepted [] h = tt
   none_accepted (u ∷ us) h = (h.0.not_accepted, none_accepted us h.1)
-
-  module _ (ms : List (ℕ × Content)) (us : List UnknownRecord) (m : Kept) (view : shown type ms (map record_seen us) ≡ m) where
-    pub fits_by : type.index < length (shape_of parts) → Rises ms → AllByRecursion (HoldsScalar fs) ms → AllByRecursion (λ (u : UnknownRecord). is_unknown fs (record_seen u) ≡ true) us → AllByRecursion IsRecord (map record_seen us)
-        → Fits (shape_of parts) m
-    fits_by there rises hold unknown are = subst (Fits (shape_of parts)) view (fits_from parts h type flat ms (map record_seen us) there rises hold (all_unknown us unknown are))
-
-    pub has_type : Fits (shape_of parts) m → type.index < length (shape_of parts)
-    has_type fits = subst (λ (t : TypeId). t.index < length (shape_of parts)) (ap type_of (sym view) ∙ type_shown type ms (map record_seen us)) fits.type_is_there
-
-    pub has_contents : AllByRecursion (λ (f : ℕ × Content). IsFilled f.1) ms → Fits (shape_of parts) m → AllByRecursion (HoldsScalar fs) ms
-    has_contents filled fits = (fits_to parts h type flat ms (map record_seen us) filled (subst (Fits (shape_of parts)) (sym view) fits)).0
-
-    pub has_unknown : AllByRecursion (λ (f : ℕ × Content). IsFilled f.1) ms → Fits (shape_of parts) m → AllByRecursion (λ (u : UnknownRecord). is_unknown fs (record_seen u) ≡ true) us
-    has_unknown filled fits = none_accepted us (fits_to parts h type flat ms (map record_seen us) filled (subst (Fits (shape_of parts)) (sym view) fits)).1
 
 module _ (parts : Parts) (h : IsSchema parts) (type : TypeId) where
   abbrev gs : List FieldShape

@@ -18,7 +18,7 @@ use Rattle.pg_dyn.specs.Replacing.{with_parts, with_unknown, implicit_part}
 use Rattle.pg_dyn.proofs.Lists.{each-append}
 use Rattle.pg_dyn.proofs.ReplacingLaws.{shown, put_shows, remove_shows, unknown_more}
 
-key_seen : (v : Value) → IsKey v → item_seen v ≡ Plain (leaf_of v)
+key_seen : (v : Value) → IsKey v → item_seen false v ≡ Plain false (leaf_of v)
 key_seen (values.Int x) h = refl
 key_seen (values.F32 x) h = refl
 key_seen (values.F64 x) h = refl
@@ -27,11 +27,11 @@ key_seen (values.Bytes x) h = refl
 key_seen (values.Msg x) h = absurd h
 
 no_part : (n : ℕ) (leaf : Leaf) → is_zero leaf ≡ true → implicit_part n leaf ≡ []
-no_part n leaf zero = ap (λ b. cond b [] (record { number = n; key = None; item = Plain leaf } ∷ [])) zero
+no_part n leaf zero = ap (λ b. cond b [] (record { number = n; key = None; item = Plain false leaf } ∷ [])) zero
 
 one_part : (n : ℕ) (v : Value) → IsKey v → is_zero (leaf_of v) ≡ false → implicit_part n (leaf_of v) ≡ content_seen n (contents.One v)
 one_part n v key zero =
-    ap (λ b. cond b [] (record { number = n; key = None; item = Plain (leaf_of v) } ∷ [])) zero ∙ ap (λ (item : KeptItem). record { number = n; key = None; item = item } ∷ []) (sym (key_seen v key))
+    ap (λ b. cond b [] (record { number = n; key = None; item = Plain false (leaf_of v) } ∷ [])) zero ∙ ap (λ (item : KeptItem). record { number = n; key = None; item = item } ∷ []) (sym (key_seen v key))
 
 pub held_none : (type : TypeId) (n : ℕ) (leaf : Leaf) (ms new : List (ℕ × Content)) (us : List WireRecord) (m : Kept) → is_zero leaf ≡ true → new ≡ remove_field n ms → shown type ms us ≡ m
     → shown type new us ≡ with_parts n (implicit_part n leaf) m
@@ -80,6 +80,6 @@ pub settled_one : (n : ℕ) (v : Value) → IsKey v → settled_by presences.Imp
 settled_one n v key =
     ap (λ (item : KeptItem). filter (λ (p : Part KeptItem). not (is_zero_kept p.item)) (record { number = n; key = None; item = item } ∷ [])) (key_seen v key) ∙ of (is_zero (leaf_of v)) refl
   where
-    of : (b : Bool) → is_zero (leaf_of v) ≡ b → filter (λ (p : Part KeptItem). not (is_zero_kept p.item)) (record { number = n; key = None; item = Plain (leaf_of v) } ∷ []) ≡ implicit_part n (leaf_of v)
+    of : (b : Bool) → is_zero (leaf_of v) ≡ b → filter (λ (p : Part KeptItem). not (is_zero_kept p.item)) (record { number = n; key = None; item = Plain false (leaf_of v) } ∷ []) ≡ implicit_part n (leaf_of v)
     of true e = rw e
     of false e = rw e

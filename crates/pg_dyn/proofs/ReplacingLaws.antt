@@ -29,24 +29,24 @@ use Rattle.pg_dyn.proofs.FlatFits.{no_rival}
 abbrev pub all_seen : List (ℕ × Content) → List (Part KeptItem)
 all_seen ms = flat_map (λ (f : ℕ × Content). content_seen f.0 f.1) ms
 
-value_part : (n : ℕ) (k : Option Leaf) (v : Value) (later : Kept) → value_onto n k v later ≡ kept_part n k (item_seen v) later
-value_part n k (values.Int x) later = refl
-value_part n k (values.F32 x) later = refl
-value_part n k (values.F64 x) later = refl
-value_part n k (values.Text x) later = refl
-value_part n k (values.Bytes x) later = refl
-value_part n k (values.Msg x) later = refl
+value_part : (n : ℕ) (k : Option Leaf) (l : Bool) (v : Value) (later : Kept) → value_onto n k l v later ≡ kept_part n k (item_seen l v) later
+value_part n k l (values.Int x) later = refl
+value_part n k l (values.F32 x) later = refl
+value_part n k l (values.F64 x) later = refl
+value_part n k l (values.Text x) later = refl
+value_part n k l (values.Bytes x) later = refl
+value_part n k l (values.Msg x) later = refl
 
-items_part : (n : ℕ) (vs : List Value) (later : Kept) → items_onto n vs later ≡ kept_onto (map (λ value. record { number = n; key = None; item = item_seen value }) vs) later
+items_part : (n : ℕ) (vs : List Value) (later : Kept) → items_onto n vs later ≡ kept_onto (map (λ value. record { number = n; key = None; item = item_seen true value }) vs) later
 items_part n [] later = refl
-items_part n (v ∷ vs) later = value_part n None v (items_onto n vs later) ∙ ap (kept_part n None (item_seen v)) (items_part n vs later)
+items_part n (v ∷ vs) later = value_part n None true v (items_onto n vs later) ∙ ap (kept_part n None (item_seen true v)) (items_part n vs later)
 
-entries_part : (n : ℕ) (es : List (Value × Value)) (later : Kept) → entries_onto n es later ≡ kept_onto (map (λ (e : Value × Value). record { number = n; key = Some (leaf_of e.0); item = item_seen e.1 }) es) later
+entries_part : (n : ℕ) (es : List (Value × Value)) (later : Kept) → entries_onto n es later ≡ kept_onto (map (λ (e : Value × Value). record { number = n; key = Some (leaf_of e.0); item = item_seen false e.1 }) es) later
 entries_part n [] later = refl
-entries_part n (e ∷ es) later = value_part n (Some (leaf_of e.0)) e.1 (entries_onto n es later) ∙ ap (kept_part n (Some (leaf_of e.0)) (item_seen e.1)) (entries_part n es later)
+entries_part n (e ∷ es) later = value_part n (Some (leaf_of e.0)) false e.1 (entries_onto n es later) ∙ ap (kept_part n (Some (leaf_of e.0)) (item_seen false e.1)) (entries_part n es later)
 
 content_part : (n : ℕ) (c : Content) (later : Kept) → content_onto n c later ≡ kept_onto (content_seen n c) later
-content_part n (contents.One v) later = value_part n None v later
+content_part n (contents.One v) later = value_part n None false v later
 content_part n (contents.Many vs) later = items_part n vs.items later
 content_part n (contents.Map es) later = entries_part n es.items later
 
@@ -62,8 +62,8 @@ fields_from (m ∷ ms) later =
 -- what one more part leaves
 part_shown : (n : ℕ) (k : Option Leaf) (item : KeptItem) (later : Kept)
     → (parts_of (kept_part n k item later) ≡ record { number = n; key = k; item = item } ∷ parts_of later) × (unknown_of (kept_part n k item later) ≡ unknown_of later) × (type_of (kept_part n k item later) ≡ type_of later)
-part_shown n k (Plain leaf) later = (refl, refl, refl)
-part_shown n k (Msg m) later = (refl, refl, refl)
+part_shown n k (Plain l leaf) later = (refl, refl, refl)
+part_shown n k (Msg l m) later = (refl, refl, refl)
 
 pub parts_of-kept_onto : (ps : List (Part KeptItem)) (later : Kept) → parts_of (kept_onto ps later) ≡ ps ++ parts_of later
 parts_of-kept_onto [] later = refl
@@ -80,8 +80,8 @@ type_of-kept_onto (p ∷ ps) later = (part_shown p.number p.key p.item (kept_ont
 -- a message is made of what it shows
 pub kept_whole : (m : Kept) → kept_from (type_of m) (parts_of m) (unknown_of m) ≡ m
 kept_whole (ends type us) = refl
-kept_whole (holds n k leaf later) = ap (holds n k leaf) (kept_whole later)
-kept_whole (nests n k child later) = ap (nests n k child) (kept_whole later)
+kept_whole (holds n k l leaf later) = ap (holds n k l leaf) (kept_whole later)
+kept_whole (nests n k l child later) = ap (nests n k l child) (kept_whole later)
 
 abbrev pub shown : TypeId → List (ℕ × Content) → List WireRecord → Kept
 shown type ms us = fields_onto ms (ends type us)
@@ -98,8 +98,8 @@ type_shown type ms us = ap type_of (fields_from ms (ends type us)) ∙ type_of-k
 -- the parts of a content are all of its number
 pub content_number : (n : ℕ) (c : Content) → AllByRecursion (λ (p : Part KeptItem). p.number ≡ n) (content_seen n c)
 content_number n (contents.One v) = (refl, tt)
-content_number n (contents.Many vs) = each-map (λ (p : Part KeptItem). p.number ≡ n) (λ value. record { number = n; key = None; item = item_seen value }) vs.items (each_of_all (λ v. n ≡ n) (λ v. refl) vs.items)
-content_number n (contents.Map es) = each-map (λ (p : Part KeptItem). p.number ≡ n) (λ (e : Value × Value). record { number = n; key = Some (leaf_of e.0); item = item_seen e.1 }) es.items (each_of_all (λ (e : Value × Value). n ≡ n) (λ e. refl) es.items)
+content_number n (contents.Many vs) = each-map (λ (p : Part KeptItem). p.number ≡ n) (λ value. record { number = n; key = None; item = item_seen true value }) vs.items (each_of_all (λ v. n ≡ n) (λ v. refl) vs.items)
+content_number n (contents.Map es) = each-map (λ (p : Part KeptItem). p.number ≡ n) (λ (e : Value × Value). record { number = n; key = Some (leaf_of e.0); item = item_seen false e.1 }) es.items (each_of_all (λ (e : Value × Value). n ≡ n) (λ e. refl) es.items)
 
 -- a test of numbers goes over fields as over parts
 module _ (test : ℕ → Bool) where
@@ -160,15 +160,15 @@ no_rivals fs f m alone =
 -- The message of the definitions.
 
 abbrev pub item_of : KeptItem → Item
-item_of (Plain leaf) = model.Plain leaf
-item_of (Msg m) = model.Msg (message_of m)
+item_of (Plain l leaf) = model.Plain leaf
+item_of (Msg l m) = model.Msg (message_of m)
 
 abbrev pub part_item : Part KeptItem → Part Item
 part_item p = record { number = p.number; key = p.key; item = item_of p.item }
 
 message_of-part : (n : ℕ) (k : Option Leaf) (item : KeptItem) (later : Kept) → message_of (kept_part n k item later) ≡ model.with_part n k (item_of item) (message_of later)
-message_of-part n k (Plain leaf) later = refl
-message_of-part n k (Msg m) later = refl
+message_of-part n k (Plain l leaf) later = refl
+message_of-part n k (Msg l m) later = refl
 
 pub message_of-kept_from : (type : TypeId) (ps : List (Part KeptItem)) (us : List WireRecord) → message_of (kept_from type ps us) ≡ message_from (map part_item ps) us
 message_of-kept_from type [] us = refl
@@ -176,13 +176,13 @@ message_of-kept_from type (p ∷ ps) us = message_of-part p.number p.key p.item 
 
 pub parts-message_of : (m : Kept) → model.parts (message_of m) ≡ map part_item (parts_of m)
 parts-message_of (ends type us) = refl
-parts-message_of (holds n k leaf later) = ap (λ ps. record { number = n; key = k; item = model.Plain leaf } ∷ ps) (parts-message_of later)
-parts-message_of (nests n k child later) = ap (λ ps. record { number = n; key = k; item = model.Msg (message_of child) } ∷ ps) (parts-message_of later)
+parts-message_of (holds n k l leaf later) = ap (λ ps. record { number = n; key = k; item = model.Plain leaf } ∷ ps) (parts-message_of later)
+parts-message_of (nests n k l child later) = ap (λ ps. record { number = n; key = k; item = model.Msg (message_of child) } ∷ ps) (parts-message_of later)
 
 pub unknown-message_of : (m : Kept) → model.unknown_of (message_of m) ≡ unknown_of m
 unknown-message_of (ends type us) = refl
-unknown-message_of (holds n k leaf later) = unknown-message_of later
-unknown-message_of (nests n k child later) = unknown-message_of later
+unknown-message_of (holds n k l leaf later) = unknown-message_of later
+unknown-message_of (nests n k l child later) = unknown-message_of later
 
 filter-part_item : (test : ℕ → Bool) (ps : List (Part KeptItem)) → filter (λ (p : Part Item). test p.number) (map part_item ps) ≡ map part_item (filter (λ (p : Part KeptItem). test p.number) ps)
 filter-part_item test [] = refl

@@ -15,7 +15,7 @@ use Rattle.pg_dyn.specs.declared.message.Content.{Content}
 use Rattle.pg_dyn.specs.declared.message.Content.TheVariants as contents
 use Rattle.pg_dyn.specs.declared.message.Value.{Value}
 use Rattle.pg_dyn.specs.Kept.{Kept, type_of}
-use Rattle.pg_dyn.specs.Seen.{content_seen, leaf_of, IsFilled, Rises}
+use Rattle.pg_dyn.specs.Seen.{content_seen, leaf_of, IsFilled, HasKeys, Rises}
 use Rattle.pg_dyn.specs.Fits.{Fits}
 use Rattle.pg_schema.specs.Flat.{IsFlat, IsImplicitScalar}
 use Rattle.pg_dyn.specs.ScalarItems.{IsItemOf, IsContentOf, TakesItem}
@@ -62,15 +62,15 @@ module _ (parts : Parts) (h : IsSchema parts) (m : Kept) (type : TypeId) (same :
   pub accepted : HasNoFault (ContentFault (shape_of parts) (type_of m) n c)
   accepted = subst (λ (t : TypeId). HasNoFault (ContentFault (shape_of parts) t n c)) (sym same) (taken parts h type is_flat n c s k)
 
-  pub set_fits : (ms : List (ℕ × Content)) (us : List WireRecord) → new ≡ with_parts n (settled_by presences.Implicit (content_seen n c)) m → shown type ms us ≡ m → Rises ms → AllByRecursion (λ (x : ℕ × Content). IsFilled x.1) ms → Fits (shape_of parts) m
+  pub set_fits : (ms : List (ℕ × Content)) (us : List WireRecord) → new ≡ with_parts n (settled_by presences.Implicit (content_seen n c)) m → shown type ms us ≡ m → Rises ms → AllByRecursion (λ (x : ℕ × Content). IsFilled x.1) ms → AllByRecursion (λ (x : ℕ × Content). HasKeys x.1) ms → Fits (shape_of parts) m
       → Fits (shape_of parts) new
-  set_fits ms us is_new view rises filled fits = of c refl k.item
+  set_fits ms us is_new view rises filled keys fits = of c refl k.item
     where
       of : (d : Content) → c ≡ d → IsContentOf s d → Fits (shape_of parts) new
       of (contents.One v) e item =
           let there = subst (λ (t : TypeId). t.index < length (shape_of parts)) same fits.type_is_there in
           let item_here = subst (λ x. IsItemOf x v) (sym (scalar_same k.field flat s k.element_is)) item in
           let is = is_new ∙ ap (λ d. with_parts n (settled_by presences.Implicit (content_seen n d)) m) e ∙ ap (λ ps. with_parts n ps m) (settled_one n v (key_of_item s v item)) in
-          subst (Fits (shape_of parts)) (sym is) (fits_held parts h type is_flat n k.field v ms us m view there rises filled fits k.found flat item_here).0
+          subst (Fits (shape_of parts)) (sym is) (fits_held parts h type is_flat n k.field v ms us m view there rises filled keys fits k.found flat item_here).0
       of (contents.Many vs) e item = absurd item
       of (contents.Map es) e item = absurd item

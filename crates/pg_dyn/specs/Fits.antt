@@ -1,19 +1,28 @@
 -- Messages that fit a schema.
-use Rattle.std.specs.Prelude.{◌≡◌, ◌<◌, ⊤, length}
-use Rattle.pg_schema.specs.Shape.{Shape, fields}
+use Rattle.std.specs.Prelude.{◌≡◌, ℕ, ◌<◌, ⊤, Bool, false, length, List, Option, Some, None}
+use Rattle.pg_schema.specs.Shape.{Shape, FieldShape, fields, field_at, is_repeated}
 use Rattle.pg_dyn.specs.Kept.{Kept, ends, holds, nests, type_of, message_of}
 use Rattle.pg_dyn.specs.Encoding.{child_type}
 use Rattle.pg_dyn.specs.Belonging.{IsMessage}
 
--- each message inside says that it is of the type of its field
-abbrev pub ChildrenAgree : Shape → Kept → Type 0
-ChildrenAgree shape (ends type unknown) = ⊤
-ChildrenAgree shape (holds number key leaf later) = ChildrenAgree shape later
-ChildrenAgree shape (nests number key child later) =
-    (child_type (fields shape (type_of later)) number ≡ type_of child) × ChildrenAgree shape child × ChildrenAgree shape later
+-- whether the items of the field with the number stand in a list
+abbrev pub is_listed_by : Option FieldShape → Bool
+is_listed_by (Some f) = is_repeated f.presence
+is_listed_by None = false
+
+abbrev pub is_listed : List FieldShape → ℕ → Bool
+is_listed fs number = is_listed_by (field_at fs number)
+
+-- just the items of repeated fields stand in lists, and each message inside says that it is of the type of its field
+abbrev pub PartsAgree : Shape → Kept → Type 0
+PartsAgree shape (ends type unknown) = ⊤
+PartsAgree shape (holds number key listed leaf later) = (is_listed (fields shape (type_of later)) number ≡ listed) × PartsAgree shape later
+PartsAgree shape (nests number key listed child later) =
+    (is_listed (fields shape (type_of later)) number ≡ listed) × (child_type (fields shape (type_of later)) number ≡ type_of child) × PartsAgree shape child
+    × PartsAgree shape later
 
 -- the message is one of the type that it says, which is a type of the schema
 pub record Fits (shape : Shape) (m : Kept) : Type 0 where
   pub type_is_there : (type_of m).index < length shape
   pub is_message : IsMessage shape (type_of m) (message_of m)
-  pub children_agree : ChildrenAgree shape m
+  pub parts_agree : PartsAgree shape m

@@ -1,5 +1,5 @@
 -- A message with another content under a number.
-use Rattle.std.specs.Prelude.{ℕ, List, [], ◌∷◌, ◌++◌, filter, nat_lt, nat_eq, Bool, not, ◌&&◌, if◌then◌else◌, Option, None}
+use Rattle.std.specs.Prelude.{ℕ, List, [], ◌∷◌, ◌++◌, filter, nat_lt, nat_eq, Bool, false, not, ◌&&◌, if◌then◌else◌, Option, None}
 use Rattle.std.specs.List.{list_any}
 use Rattle.pg_schema.specs.declared.field.TypeId.{TypeId}
 use Rattle.pg_schema.specs.Shape.{FieldShape}
@@ -10,8 +10,8 @@ use Rattle.pg_dyn.specs.Kept.{Kept, ends, holds, nests, KeptItem, Plain, Msg, ty
 
 -- the message with these parts in front
 abbrev pub kept_part : ℕ → Option Leaf → KeptItem → Kept → Kept
-kept_part number key (Plain leaf) later = holds number key leaf later
-kept_part number key (Msg child) later = nests number key child later
+kept_part number key (Plain listed leaf) later = holds number key listed leaf later
+kept_part number key (Msg listed child) later = nests number key listed child later
 
 abbrev pub kept_onto : List (Part KeptItem) → Kept → Kept
 kept_onto [] later = later
@@ -44,4 +44,4 @@ with_unknown r m = kept_from (type_of m) (parts_of m) (unknown_of m ++ r ∷ [])
 
 -- the part of an item of an implicit field: none where the item is zero
 abbrev pub implicit_part : ℕ → Leaf → List (Part KeptItem)
-implicit_part number leaf = if is_zero leaf then [] else record { number = number; key = None; item = Plain leaf } ∷ []
+implicit_part number leaf = if is_zero leaf then [] else record { number = number; key = None; item = Plain false leaf } ∷ []

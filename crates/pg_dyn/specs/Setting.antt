@@ -12,8 +12,8 @@ use Rattle.pg_dyn.specs.Seen.{content_seen}
 use Rattle.pg_dyn.specs.Replacing.{with_content}
 
 abbrev pub is_zero_kept : KeptItem → Bool
-is_zero_kept (Plain leaf) = is_zero leaf
-is_zero_kept (Msg m) = false
+is_zero_kept (Plain listed leaf) = is_zero leaf
+is_zero_kept (Msg listed m) = false
 
 -- entries by rising key
 abbrev pub is_key_below : Option Leaf → Option Leaf → Bool

@@ -10,7 +10,7 @@ use pg_schema::{Element, Field, Presence, Scalar};
 use pg_wire::WireType;
 
 // The wire type of an element's own records.
-fn element_wire_type(element: Element) -> WireType
+pub(crate) fn element_wire_type(element: Element) -> WireType
     ensures { result ≡ form_wire (form element) }
 {
     match element {

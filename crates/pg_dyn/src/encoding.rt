@@ -1,99 +1,30 @@
 ghost use Rattle.std.specs.Prelude.{◌≡◌, ◌⊎◌, ℕ, ◌+◌, ◌^◌, ◌<◌, ◌≤◌, ◌++◌, List, length, flat_map, OnOk, IfOk, IfErr};
 ghost use Rattle.std.specs.List.{AllByRecursion};
 ghost use Rattle.pg_schema.specs.declared.field.Element.TheVariants as elements;
-ghost use Rattle.pg_schema.specs.Flat.{IsFlat};
 ghost use Rattle.pg_schema.specs.Invariant.{IsSchema};
 ghost use Rattle.pg_schema.specs.Parts.{shape_of};
-ghost use Rattle.pg_schema.specs.Shape.{fields};
-ghost use Rattle.pg_wire.specs.Records.{length_before, tag};
+ghost use Rattle.pg_wire.specs.Records.{length_before, tag, wire_code};
 ghost use Rattle.pg_wire.specs.Varint.{varint};
-ghost use Rattle.pg_dyn.specs.Coding.{body, scalar_form, word_bytes};
+ghost use Rattle.pg_dyn.specs.Coding.{body, form, scalar_form};
+ghost use Rattle.pg_dyn.specs.ContentFits.{ContentFits, ItemFits};
 ghost use Rattle.pg_dyn.specs.declared.error.DynError.TheVariants as errors;
-ghost use Rattle.pg_dyn.specs.EncodedFields.{content_bytes, record_bytes};
+ghost use Rattle.pg_dyn.specs.EncodedFields.{record_bytes};
 ghost use Rattle.pg_dyn.specs.Encoding.{cap, enc};
 ghost use Rattle.pg_dyn.specs.Fits.{Fits};
-ghost use Rattle.pg_dyn.specs.FlatContent.{HoldsScalar};
 ghost use Rattle.pg_dyn.specs.Kept.{message_of, type_of};
 ghost use Rattle.pg_dyn.specs.ScalarItems.{IsItemOf};
 ghost use Rattle.pg_dyn.specs.Seen.{leaf_of};
-ghost use Rattle.pg_dyn.specs.WordOf.{HasBits};
 ghost use Rattle.pg_dyn.specs.Writing.{item_record};
-ghost use Rattle.pg_wire.specs.Records.{wire_code};
+ghost use Rattle.pg_dyn.specs.Written.{CanBePacked, LeafFits, capped, content_lengths, content_written, inner_lengths, item_body, item_bytes, own_bytes, packed_body, packed_bytes, value_lengths};
 
+use crate::accept::element_wire_type;
 use crate::body::{push_body, wire_type_of};
+use crate::counting::{MOST, body_len, cap, entry_len, packed_len};
 use crate::error::DynError;
 use crate::message::{Content, Message, UnknownRecord, Value};
-use crate::word::word_of;
-use pg_schema::{Element, Scalar, Schema, TypeId};
-use pg_wire::{WireType, tag_len, varint_len, write_varint};
+use pg_schema::{Element, Field, Presence, Scalar, Schema};
+use pg_wire::{WireType, write_varint};
 use std::alloc::{AllocError, Global};
-
-// The most bytes that an encoding has.
-const MOST: usize = 2_147_483_647;
-
-// The sum, where it isn't above the most.
-fn add(total: usize, more: usize) -> Result<usize, DynError>
-    requires { total ≤ 2147483647 }
-    ensures ok { IfOk result (λ sum. (sum ≡ total + more) × (sum ≤ 2147483647)) }
-    ensures err { IfErr result (λ e. (e ≡ errors.TooLong) × (2147483647 < total + more)) }
-{
-    if more > MOST - total {
-        return Err(DynError::TooLong);
-    }
-    Ok(total + more)
-}
-
-// How many bytes a word takes as a body.
-#[tactic(auto, unfolding(crate::specs::Coding::word_bytes))]
-fn word_len(wire_type: WireType, word: u64) -> usize
-    requires { HasBits wire_type word }
-    ensures { result ≡ length (word_bytes wire_type word) }
-{
-    match wire_type {
-        WireType::Varint => varint_len(word),
-        WireType::I64 => 8,
-        WireType::I32 => 4,
-        WireType::Len => 0,
-    }
-}
-
-// How many bytes an item's body takes.
-fn body_len(scalar: Scalar, value: &Value) -> usize
-    requires { IsItemOf scalar value.now }
-    ensures { result ≡ length (body (scalar_form scalar) (leaf_of value.now)) }
-{
-    match value {
-        Value::Int(number) => word_len(wire_type_of(scalar), word_of(scalar, *number)),
-        Value::F32(bits) => word_len(WireType::I32, u64::from(*bits)),
-        Value::F64(bits) => word_len(WireType::I64, *bits),
-        Value::Text(text) => text.len(),
-        Value::Bytes(bytes) => bytes.len(),
-        Value::Msg(_) => 0,
-    }
-}
-
-// How many bytes the length before a body of as many takes, which only LEN records have.
-fn length_len(wire_type: WireType, len: usize) -> usize
-    ensures { (bytes : List ℕ) → length bytes ≡ len → result ≡ length (length_before wire_type bytes) }
-{
-    match wire_type {
-        WireType::Len => varint_len(len as u64),
-        WireType::Varint | WireType::I64 | WireType::I32 => 0,
-    }
-}
-
-// How many bytes the record of an item takes.
-fn item_len(number: u32, scalar: Scalar, value: &Value) -> Result<usize, DynError>
-    requires number { number < 2 ^ 29 }
-    requires item { IsItemOf scalar value.now }
-    ensures ok { IfOk result (λ len. (len ≡ length (item_record number (elements.Scalar scalar) (leaf_of value.now)).bytes) × (len ≤ 2147483647)) }
-    ensures err { IfErr result (λ e. (e ≡ errors.TooLong) × (2147483647 < length (item_record number (elements.Scalar scalar) (leaf_of value.now)).bytes)) }
-{
-    let len = body_len(scalar, value);
-    let tag = add(0, tag_len(number))?;
-    let before = add(tag, length_len(wire_type_of(scalar), len))?;
-    add(before, len)
-}
 
 // Adds a varint at the end.
 fn push_varint(out: &mut Vec<u8>, value: u64) -> Result<(), AllocError>
@@ -127,6 +58,19 @@ fn wire_code(wire_type: WireType) -> u64
     }
 }
 
+// Adds the tag of a record and, where it is LEN, the length of its body.
+fn push_front(
+    out: &mut Vec<u8>,
+    number: u32,
+    wire_type: WireType,
+    len: usize,
+) -> Result<(), AllocError>
+    ensures ok { OnOk result ((bytes : List ℕ) → length bytes ≡ len → out.new.items ≡ out.old.items ++ (tag number wire_type ++ length_before wire_type bytes)) }
+{
+    push_varint(out, 8 * u64::from(number) + wire_code(wire_type))?;
+    push_length(out, wire_type, len)
+}
+
 // Adds the record of an item at the end.
 fn push_item(
     out: &mut Vec<u8>,
@@ -134,115 +78,63 @@ fn push_item(
     scalar: Scalar,
     value: &Value,
 ) -> Result<(), AllocError>
-    requires number { number < 2 ^ 29 }
-    requires item { IsItemOf scalar value.now }
+    requires { IsItemOf scalar value.now }
     ensures ok { OnOk result (out.new.items ≡ out.old.items ++ (item_record number (elements.Scalar scalar) (leaf_of value.now)).bytes) }
 {
-    let wire_type = wire_type_of(scalar);
-    push_varint(out, 8 * u64::from(number) + wire_code(wire_type))?;
-    push_length(out, wire_type, body_len(scalar, value))?;
+    push_front(out, number, wire_type_of(scalar), body_len(scalar, value))?;
     push_body(out, scalar, value)
 }
 
-// The field of the number holds the one item of a content: the bytes of its record, counted.
-fn content_len(
-    schema: &Schema,
-    type_id: TypeId,
-    number: u32,
-    content: &Content,
-) -> Result<usize, DynError>
-    requires is_schema { IsSchema schema.now }
-    requires flat { IsFlat (shape_of schema.now) type_id }
-    requires holds { HoldsScalar (fields (shape_of schema.now) type_id) (number, content.now) }
-    ensures ok { IfOk result (λ len. (len ≡ length (content_bytes (shape_of schema.now) type_id (number, content.now))) × (len ≤ 2147483647)) }
-    ensures err { IfErr result (λ e. (e ≡ errors.TooLong) × (2147483647 < length (content_bytes (shape_of schema.now) type_id (number, content.now)))) }
+// Adds the body of an item that is no message.
+fn push_leaf(out: &mut Vec<u8>, element: Element, value: &Value) -> Result<(), AllocError>
+    requires { LeafFits element value.now }
+    ensures ok { OnOk result (out.new.items ≡ out.old.items ++ body (form element) (leaf_of value.now)) }
 {
-    let Some(field) = schema.field(type_id, number) else {
-        return Ok(0);
-    };
-    let Some(value) = content.only() else {
-        return Ok(0);
-    };
-    match field.element {
-        Element::Scalar(scalar) => item_len(number, scalar, value),
-        // A flat schema has none of these.
-        Element::Enum(_) | Element::Message(_) => Ok(0),
+    match element {
+        Element::Scalar(scalar) => push_body(out, scalar, value),
+        Element::Enum(_) => push_body(out, Scalar::Int32, value),
+        Element::Message(_) => Ok(()),
     }
 }
 
-// Adds the record of the one item of a content at the end.
-fn push_content(
-    out: &mut Vec<u8>,
-    schema: &Schema,
-    type_id: TypeId,
-    number: u32,
-    content: &Content,
-) -> Result<(), AllocError>
-    requires is_schema { IsSchema schema.now }
-    requires flat { IsFlat (shape_of schema.now) type_id }
-    requires holds { HoldsScalar (fields (shape_of schema.now) type_id) (number, content.now) }
-    ensures ok { OnOk result (out.new.items ≡ out.old.items ++ content_bytes (shape_of schema.now) type_id (number, content.now)) }
+// Adds the bodies of a list.
+fn push_bodies(out: &mut Vec<u8>, element: Element, values: &[Value]) -> Result<(), AllocError>
+    requires { AllByRecursion (LeafFits element) values.now }
+    ensures ok { OnOk result (out.new.items ≡ out.old.items ++ packed_body element values.now) }
 {
-    let Some(field) = schema.field(type_id, number) else {
-        return Ok(());
-    };
-    let Some(value) = content.only() else {
-        return Ok(());
-    };
-    match field.element {
-        Element::Scalar(scalar) => push_item(out, number, scalar, value),
-        // A flat schema has none of these.
-        Element::Enum(_) | Element::Message(_) => Ok(()),
-    }
-}
-
-// How many bytes the records of all contents take.
-fn contents_len(
-    schema: &Schema,
-    type_id: TypeId,
-    contents: &[(u32, Content)],
-) -> Result<usize, DynError>
-    requires is_schema { IsSchema schema.now }
-    requires flat { IsFlat (shape_of schema.now) type_id }
-    requires hold { AllByRecursion (HoldsScalar (fields (shape_of schema.now) type_id)) contents.now }
-    ensures ok { IfOk result (λ len. (len ≡ length (flat_map (content_bytes (shape_of schema.now) type_id) contents.now)) × (len ≤ 2147483647)) }
-    ensures err { IfErr result (λ e. (e ≡ errors.TooLong) × (2147483647 < length (flat_map (content_bytes (shape_of schema.now) type_id) contents.now))) }
-{
-    let mut total = 0;
-    for (number, content) in contents {
-        total = add(total, content_len(schema, type_id, *number, content)?)?;
-    }
-    Ok(total)
-}
-
-// How many bytes the records take.
-fn unknown_len(unknown: &[UnknownRecord]) -> Result<usize, DynError>
-    ensures ok { IfOk result (λ len. (len ≡ length (flat_map record_bytes unknown.now)) × (len ≤ 2147483647)) }
-    ensures err { IfErr result (λ e. (e ≡ errors.TooLong) × (2147483647 < length (flat_map record_bytes unknown.now))) }
-{
-    let mut total = 0;
-    for found in unknown {
-        total = add(total, found.bytes.len())?;
-    }
-    Ok(total)
-}
-
-// Adds the records of all contents at the end.
-fn push_contents(
-    out: &mut Vec<u8>,
-    schema: &Schema,
-    type_id: TypeId,
-    contents: &[(u32, Content)],
-) -> Result<(), AllocError>
-    requires is_schema { IsSchema schema.now }
-    requires flat { IsFlat (shape_of schema.now) type_id }
-    requires hold { AllByRecursion (HoldsScalar (fields (shape_of schema.now) type_id)) contents.now }
-    ensures ok { OnOk result (out.new.items ≡ out.old.items ++ flat_map (content_bytes (shape_of schema.now) type_id) contents.now) }
-{
-    for (number, content) in contents {
-        push_content(out, schema, type_id, *number, content)?;
+    for value in values {
+        push_leaf(out, element, value)?;
     }
     Ok(())
+}
+
+// Adds the record of a packed list, where it isn't empty.
+fn push_packed(
+    out: &mut Vec<u8>,
+    number: u32,
+    element: Element,
+    values: &[Value],
+) -> Result<(), DynError>
+    requires { AllByRecursion (LeafFits element) values.now }
+    ensures ok { OnOk result (out.new.items ≡ out.old.items ++ packed_bytes number element values.now) }
+{
+    if values.is_empty() {
+        return Ok(());
+    }
+    let len = not_too_long(packed_len(element, values))?;
+    push_front(out, number, WireType::Len, len)?;
+    push_bodies(out, element, values)?;
+    Ok(())
+}
+
+// A counted length, which is told where it isn't too long.
+fn not_too_long(len: usize) -> Result<usize, DynError>
+    ensures { IfOk result (λ told. (n : ℕ) → len ≡ capped n → told ≡ n) }
+{
+    if len > MOST {
+        return Err(DynError::TooLong);
+    }
+    Ok(len)
 }
 
 // Adds the records at the end.
@@ -255,37 +147,159 @@ fn push_unknown(out: &mut Vec<u8>, unknown: &[UnknownRecord]) -> Result<(), Allo
     Ok(())
 }
 
+impl Value {
+    // How many bytes the item's body takes, as it was counted: of a message the first of the lengths.
+    fn counted_len(&self, schema: &Schema, element: Element, lengths: &[usize]) -> usize
+        requires { ItemFits (shape_of schema.now) element self.now }
+        ensures { (rest : List ℕ) → lengths.now ≡ value_lengths (shape_of schema.now) self.now ++ rest → result ≡ capped (length (item_body (shape_of schema.now) element self.now)) }
+    {
+        match (element, self) {
+            (Element::Message(_), Value::Msg(_)) => match lengths {
+                [len, ..] => *len,
+                [] => 0,
+            },
+            (Element::Message(_), _) => 0,
+            (Element::Scalar(scalar), _) => cap(body_len(scalar, self)),
+            (Element::Enum(_), _) => cap(body_len(Scalar::Int32, self)),
+        }
+    }
+}
+
+impl Value {
+    // Adds the record of the item. The lengths begin with those of the messages in it; what is left of them is
+    // answered.
+    #[cycle(write)]
+    fn write<'a>(
+        &self,
+        out: &mut Vec<u8>,
+        schema: &Schema,
+        number: u32,
+        element: Element,
+        lengths: &'a [usize],
+    ) -> Result<&'a [usize], DynError>
+        requires is_schema { IsSchema schema.now }
+        requires fits { ItemFits (shape_of schema.now) element self.now }
+        ensures ok { IfOk result (λ left. (rest : List ℕ) → lengths.now ≡ value_lengths (shape_of schema.now) self.now ++ rest
+            → (out.new.items ≡ out.old.items ++ item_bytes (shape_of schema.now) number element self.now) × (left.now ≡ rest)) }
+    {
+        match (element, self) {
+            (Element::Message(_), Value::Msg(child)) => match lengths {
+                [len, inner @ ..] => {
+                    push_front(out, number, WireType::Len, not_too_long(*len)?)?;
+                    child.write(out, schema, inner)
+                }
+                [] => Ok(lengths),
+            },
+            (Element::Message(_), _) => Ok(lengths),
+            (Element::Scalar(scalar), _) => {
+                push_item(out, number, scalar, self)?;
+                Ok(lengths)
+            }
+            (Element::Enum(_), _) => {
+                push_item(out, number, Scalar::Int32, self)?;
+                Ok(lengths)
+            }
+        }
+    }
+}
+
+impl Content {
+    // Adds the records of the content, of a field of that number, likewise.
+    #[cycle(write)]
+    fn write<'a>(
+        &self,
+        out: &mut Vec<u8>,
+        schema: &Schema,
+        number: u32,
+        field: &Field,
+        lengths: &'a [usize],
+    ) -> Result<&'a [usize], DynError>
+        requires is_schema { IsSchema schema.now }
+        requires packed { CanBePacked field.now.presence field.now.element }
+        requires fits { ContentFits (shape_of schema.now) field.now.presence field.now.element self.now }
+        ensures ok { IfOk result (λ left. (rest : List ℕ) → lengths.now ≡ content_lengths (shape_of schema.now) self.now ++ rest
+            → (out.new.items ≡ out.old.items ++ content_written (shape_of schema.now) number field.now.presence field.now.element self.now) × (left.now ≡ rest)) }
+    {
+        match (field.presence, self) {
+            (Presence::Implicit | Presence::Explicit, Content::One(value)) => {
+                value.write(out, schema, number, field.element, lengths)
+            }
+            (Presence::Repeated { packed: true }, Content::Many(values)) => {
+                push_packed(out, number, field.element, values)?;
+                Ok(lengths)
+            }
+            (Presence::Repeated { packed: false }, Content::Many(values)) => {
+                let mut left = lengths;
+                for value in values {
+                    left = value.write(out, schema, number, field.element, left)?;
+                }
+                Ok(left)
+            }
+            (Presence::Map { key }, Content::Map(entries)) => {
+                let wire_type = element_wire_type(field.element);
+                let mut left = lengths;
+                for (entry_key, value) in entries {
+                    let value_len = value.counted_len(schema, field.element, left);
+                    let len = entry_len(key, entry_key, wire_type, value_len);
+                    push_front(out, number, WireType::Len, not_too_long(len)?)?;
+                    push_item(out, 1, key, entry_key)?;
+                    left = value.write(out, schema, 2, field.element, left)?;
+                }
+                Ok(left)
+            }
+            _ => Ok(lengths),
+        }
+    }
+}
+
 impl Message {
-    // The encoding of a message that fits, counted ahead and written once.
-    fn encode(&self, alloc: Global, schema: &Schema) -> Result<Vec<u8>, DynError>
+    // Adds the encoding of a message that fits, likewise.
+    #[cycle(write)]
+    fn write<'a>(
+        &self,
+        out: &mut Vec<u8>,
+        schema: &Schema,
+        lengths: &'a [usize],
+    ) -> Result<&'a [usize], DynError>
         requires is_schema { IsSchema schema.now }
         requires fits { Fits (shape_of schema.now) self.now }
-        requires flat { IsFlat (shape_of schema.now) (type_of self.now) }
-        ensures ok { IfOk result (λ bytes. (bytes.items ≡ enc (shape_of schema.now) (type_of self.now) (message_of self.now)) × (length bytes.items ≤ cap)) }
-        ensures err { IfErr result (λ e. (e ≡ errors.Memory) ⊎ ((e ≡ errors.TooLong) × (cap < length (enc (shape_of schema.now) (type_of self.now) (message_of self.now))))) }
+        ensures ok { IfOk result (λ left. (rest : List ℕ) → lengths.now ≡ inner_lengths (shape_of schema.now) self.now ++ rest
+            → (out.new.items ≡ out.old.items ++ own_bytes (shape_of schema.now) self.now) × (left.now ≡ rest)) }
     {
-        let contents = contents_len(schema, self.type_id, &self.fields)?;
-        let unknown = unknown_len(&self.unknown)?;
-        let len = add(contents, unknown)?;
-        let mut out = Vec::with_capacity(alloc, len)?;
-        push_contents(&mut out, schema, self.type_id, &self.fields)?;
-        push_unknown(&mut out, &self.unknown)?;
-        Ok(out)
+        let mut left = lengths;
+        for (number, content) in &self.fields {
+            let Some(field) = schema.field(self.type_id, *number) else {
+                return Ok(lengths);
+            };
+            left = content.write(out, schema, *number, field, left)?;
+        }
+        push_unknown(out, &self.unknown)?;
+        Ok(left)
     }
 }
 
 /// The encoding of a message that fits the schema: the records of its fields by rising number with the shortest
-/// varints, and then its unknown records as they were read (Protocol Buffers encoding guide, "Message
-/// Structure").
+/// varints, packed lists in one record, the entries of maps by rising key, always with key and value, and then
+/// the unknown records as they were read; likewise of each message inside (Protocol Buffers encoding guide,
+/// "Message Structure", "Packed Repeated Fields", "Maps").
 ///
 /// The errors are `TooLong`, only where the encoding has more than 2,147,483,647 bytes, and `Memory`.
 pub fn encode(alloc: Global, schema: &Schema, message: &Message) -> Result<Vec<u8>, DynError>
-    requires fits { Fits (shape_of schema.now) message.now }
-    requires flat { IsFlat (shape_of schema.now) (type_of message.now) }
+    requires { Fits (shape_of schema.now) message.now }
     ensures ok { IfOk result (λ bytes. (bytes.items ≡ enc (shape_of schema.now) (type_of message.now) (message_of message.now)) × (length bytes.items ≤ cap)) }
     ensures err { IfErr result (λ e. (e ≡ errors.Memory) ⊎ ((e ≡ errors.TooLong) × (cap < length (enc (shape_of schema.now) (type_of message.now) (message_of message.now))))) }
 {
     // What holds of every schema.
     schema.parts();
-    message.encode(alloc, schema)
+    let mut lengths = Vec::new(alloc);
+    let len = message.count(schema, &mut lengths)?;
+    if len > MOST {
+        return Err(DynError::TooLong);
+    }
+    let mut out = Vec::with_capacity(alloc, len)?;
+    match message.write(&mut out, schema, &lengths) {
+        Ok(_) => Ok(out),
+        // Nothing is too long that was counted.
+        Err(_) => Err(DynError::Memory),
+    }
 }

@@ -1,64 +1,114 @@
-ghost use Rattle.std.specs.Prelude.{◌≡◌, ◌↔◌, ◌⊎◌, ℕ, true, [], ◌∷◌, None, IfSome, IsTrue, MatchOption, option_map};
+ghost use Rattle.std.specs.Prelude.{◌≡◌, ◌↔◌, ◌⊎◌, ℕ, true, false, [], ◌∷◌, None, IfSome, IsTrue, MatchOption, option_map};
 ghost use Rattle.std.specs.List.{AllByRecursion};
-ghost use Rattle.std.specs.Option.{option_copied};
-ghost use Rattle.pg_schema.specs.Flat.{IsFlat};
+ghost use Rattle.std.specs.declared.cmp.Ordering.TheVariants.{Less};
 ghost use Rattle.pg_schema.specs.Invariant.{IsSchema};
 ghost use Rattle.pg_schema.specs.Parts.{shape_of};
-ghost use Rattle.pg_schema.specs.Shape.{fields};
-ghost use Rattle.pg_dyn.specs.Content.{is_unknown};
+ghost use Rattle.pg_schema.specs.Shape.{field_at, fields};
+ghost use Rattle.pg_dyn.specs.Content.{is_unknown, same_oneof};
+ghost use Rattle.pg_dyn.specs.ContentFits.{AreApart, are_rivals_by, ContentFits, ItemFits, KeysRise, NoneRivals};
 ghost use Rattle.pg_dyn.specs.Fits.{Fits};
-ghost use Rattle.pg_dyn.specs.FlatContent.{HoldsScalar, only};
-ghost use Rattle.pg_dyn.specs.Kept.{type_of};
-ghost use Rattle.pg_dyn.specs.Seen.{record_seen};
+ghost use Rattle.pg_dyn.specs.Message.{key_cmp};
+ghost use Rattle.pg_dyn.specs.ScalarItems.{IsItemOf};
+ghost use Rattle.pg_dyn.specs.Seen.{IsKey, leaf_of, record_seen};
 
 use crate::accept::accepts;
 use crate::check::check_item;
 use crate::message::{Content, Message, UnknownRecord, Value};
-use pg_schema::{Element, Schema, TypeId};
+use pg_schema::{Element, Field, Presence, Scalar, Schema, TypeId};
+use std::cmp::Ordering;
 
-impl Content {
-    /// The item of a content of one.
-    pub(crate) fn only(&self) -> Option<&Value>
-        ensures { option_copied result ≡ only self.now }
+impl Value {
+    // The order of two keys of one type: numbers by value, texts by bytes.
+    pub(crate) fn order(&self, other: &Value) -> Ordering
+        requires first { IsKey self.now }
+        requires second { IsKey other.now }
+        ensures { result ≡ key_cmp (leaf_of self.now) (leaf_of other.now) }
     {
-        match self {
-            Content::One(value) => Some(value),
-            Content::Many(values) => match values.as_slice() {
-                [value] => Some(value),
-                _ => None,
-            },
-            Content::Map(_) => None,
+        match (self, other) {
+            (Value::Int(first), Value::Int(second)) => first.cmp(second),
+            (Value::Text(first), Value::Text(second)) => first.as_bytes().cmp(second.as_bytes()),
+            (Value::Text(first), Value::Bytes(second)) => first.as_bytes().cmp(second.as_slice()),
+            (Value::Bytes(first), Value::Text(second)) => first.as_slice().cmp(second.as_bytes()),
+            (Value::Bytes(first), Value::Bytes(second)) => {
+                first.as_slice().cmp(second.as_slice())
+            }
+            _ => Ordering::Equal,
         }
     }
 }
 
-// Whether the content is one of the field with the number: in a flat schema one item, in its range, and not zero.
-fn content_fits(schema: &Schema, type_id: TypeId, number: u32, content: &Content) -> bool
-    requires is_schema { IsSchema schema.now }
-    requires flat { IsFlat (shape_of schema.now) type_id }
-    ensures { IsTrue result ↔ HoldsScalar (fields (shape_of schema.now) type_id) (number, content.now) }
+// Whether the item is one of the scalar.
+fn is_item(scalar: Scalar, value: &Value) -> bool
+    ensures { IsTrue result ↔ IsItemOf scalar value.now }
 {
-    let Some(field) = schema.field(type_id, number) else {
-        return false;
-    };
-    let Some(value) = content.only() else {
-        return false;
-    };
-    match field.element {
-        Element::Scalar(scalar) => check_item(scalar, value).is_ok() && !value.is_zero(),
-        // A flat schema has none of these.
-        Element::Enum(_) | Element::Message(_) => false,
+    check_item(scalar, value).is_ok()
+}
+
+impl Value {
+    // Whether the key is below the other one of its type.
+    pub(crate) fn is_below(&self, other: &Value) -> bool
+        requires first { IsKey self.now }
+        requires second { IsKey other.now }
+        ensures { IsTrue result ↔ (key_cmp (leaf_of self.now) (leaf_of other.now) ≡ Less) }
+    {
+        matches!(self.order(other), Ordering::Less)
     }
 }
 
-// Whether each content is one of its field.
-fn contents_fit(schema: &Schema, type_id: TypeId, contents: &[(u32, Content)]) -> bool
-    requires is_schema { IsSchema schema.now }
-    requires flat { IsFlat (shape_of schema.now) type_id }
-    ensures { IsTrue result ↔ AllByRecursion (HoldsScalar (fields (shape_of schema.now) type_id)) contents.now }
+// Whether each key is below all later ones.
+fn keys_rise(entries: &[(Value, Value)]) -> bool
+    requires { AllByRecursion (λ e. IsKey e.0) entries.now }
+    ensures { IsTrue result ↔ KeysRise entries.now }
 {
-    for (number, content) in contents {
-        if !content_fits(schema, type_id, *number, content) {
+    for next in 1..entries.len() {
+        if !entries[next - 1].0.is_below(&entries[next].0) {
+            return false;
+        }
+    }
+    true
+}
+
+// Whether both are one oneof.
+fn is_same_oneof(first: Option<u32>, second: Option<u32>) -> bool
+    ensures { result ≡ same_oneof first second }
+{
+    match (first, second) {
+        (Some(first), Some(second)) => first == second,
+        _ => false,
+    }
+}
+
+// Whether the fields of the two numbers are members of one oneof.
+fn are_rivals(schema: &Schema, type_id: TypeId, number: u32, other: u32) -> bool
+    ensures { result ≡ are_rivals_by (field_at (fields (shape_of schema.now) type_id) number) (field_at (fields (shape_of schema.now) type_id) other) }
+{
+    match (schema.field(type_id, number), schema.field(type_id, other)) {
+        (Some(first), Some(second)) => {
+            is_same_oneof(first.oneof, second.oneof) && first.number != second.number
+        }
+        _ => false,
+    }
+}
+
+// Whether the field of the number is in no oneof with those of the contents.
+fn is_apart(schema: &Schema, type_id: TypeId, number: u32, contents: &[(u32, Content)]) -> bool
+    ensures { IsTrue result ↔ AllByRecursion (λ l. AreApart (fields (shape_of schema.now) type_id) number l.0) contents.now }
+{
+    for (other, _) in contents {
+        if are_rivals(schema, type_id, number, *other) {
+            return false;
+        }
+    }
+    true
+}
+
+// Whether no two of the contents are of members of one oneof.
+fn none_rivals(schema: &Schema, type_id: TypeId, contents: &[(u32, Content)]) -> bool
+    ensures { IsTrue result ↔ NoneRivals (fields (shape_of schema.now) type_id) contents.now }
+{
+    for place in 0..contents.len() {
+        let number = contents[place].0;
+        if !is_apart(schema, type_id, number, &contents[place + 1..]) {
             return false;
         }
     }
@@ -89,17 +139,80 @@ fn unknown_fit(schema: &Schema, type_id: TypeId, unknown: &[UnknownRecord]) -> b
     true
 }
 
+impl Value {
+    // Whether the item is one of the element.
+    #[cycle(fits)]
+    fn fits(&self, schema: &Schema, element: Element) -> bool
+        requires { IsSchema schema.now }
+        ensures { IsTrue result ↔ ItemFits (shape_of schema.now) element self.now }
+    {
+        match (element, self) {
+            (Element::Message(type_id), Value::Msg(child)) => {
+                child.type_id() == type_id && child.is_one_of(schema)
+            }
+            (Element::Message(_), _) => false,
+            (Element::Scalar(scalar), _) => is_item(scalar, self),
+            (Element::Enum(_), _) => is_item(Scalar::Int32, self),
+        }
+    }
+}
+
+impl Content {
+    // Whether the content is one of the field: of its shape, with items of its element, and no zero in an
+    // implicit field.
+    #[cycle(fits)]
+    fn fits(&self, schema: &Schema, field: &Field) -> bool
+        requires { IsSchema schema.now }
+        ensures { IsTrue result ↔ ContentFits (shape_of schema.now) field.now.presence field.now.element self.now }
+    {
+        match (field.presence, self) {
+            (Presence::Implicit, Content::One(value)) => {
+                value.fits(schema, field.element) && !value.is_zero()
+            }
+            (Presence::Explicit, Content::One(value)) => value.fits(schema, field.element),
+            (Presence::Repeated { .. }, Content::Many(values)) => {
+                for value in values {
+                    if !value.fits(schema, field.element) {
+                        return false;
+                    }
+                }
+                true
+            }
+            (Presence::Map { key }, Content::Map(entries)) => {
+                for (entry_key, value) in entries {
+                    if !is_item(key, entry_key) {
+                        return false;
+                    }
+                    if !value.fits(schema, field.element) {
+                        return false;
+                    }
+                }
+                keys_rise(entries)
+            }
+            _ => false,
+        }
+    }
+}
+
 impl Message {
     // Whether the message is one of its type, and that one of the schema.
-    fn is_one_of(&self, schema: &Schema) -> bool
-        requires is_schema { IsSchema schema.now }
-        requires flat { IsFlat (shape_of schema.now) (type_of self.now) }
+    #[cycle(fits)]
+    pub(crate) fn is_one_of(&self, schema: &Schema) -> bool
+        requires { IsSchema schema.now }
         ensures { IsTrue result ↔ Fits (shape_of schema.now) self.now }
     {
         if !schema.has(self.type_id) {
             return false;
         }
-        if !contents_fit(schema, self.type_id, &self.fields) {
+        for (number, content) in &self.fields {
+            let Some(field) = schema.field(self.type_id, *number) else {
+                return false;
+            };
+            if !content.fits(schema, field) {
+                return false;
+            }
+        }
+        if !none_rivals(schema, self.type_id, &self.fields) {
             return false;
         }
         unknown_fit(schema, self.type_id, &self.unknown)
@@ -107,11 +220,10 @@ impl Message {
 }
 
 /// Whether the message is one of this schema: of a type that the schema has, each content one of a field of that
-/// type and not empty, each item in its range, each text UTF-8, at most one member of each oneof, no zero in a
+/// type, of that field's shape and not empty, each item in its range, each text UTF-8, at most one member of each oneof, no zero in a
 /// field without presence, each message inside one of its field's type, and no unknown record that a field
 /// accepts (proto3 language guide, "Field Presence", "Oneof", "Unknown Fields").
 pub fn fits(schema: &Schema, message: &Message) -> bool
-    requires flat { IsFlat (shape_of schema.now) (type_of message.now) }
     ensures { IsTrue result ↔ Fits (shape_of schema.now) message.now }
 {
     // What holds of every schema.

@@ -64,7 +64,7 @@ returns-in_ok-value-in-Scalar-clause-fits_still c =
     let same = sym (ap type_of c.self.view_is) ∙ type_shown a.type_id a.fields.items us in
     on_ok_map c.hold.result
     (scalar_fits c.args.schema.now c.requires.is_schema c.args.self.now (seen_record c.args.found.now) c.requires.is_record a.type_id same (subst (IsFlat (shape_of c.args.schema.now)) same c.requires.flat) (field_shape c.in-Some.field.now) c.in-Some.ensures.shape
-    (sym c.accepts.ensures ∙ c.if-accepts.true) c.in-Scalar.scalar c.in-Scalar.is c.in_ok-value-in-Scalar.value c.hold.new.self a.fields.items us c.self.view_is c.self.invariant.rises c.self.invariant.filled c.requires.fits c.in_ok-value-in-Scalar.ensures.ok.1)
+    (sym c.accepts.ensures ∙ c.if-accepts.true) c.in-Scalar.scalar c.in-Scalar.is c.in_ok-value-in-Scalar.value c.hold.new.self a.fields.items us c.self.view_is c.self.invariant.rises c.self.invariant.filled c.self.invariant.keys c.requires.fits c.in_ok-value-in-Scalar.ensures.ok.1)
     c.hold.ensures.ok
 
 pub returns-in-Enum : goal.returns-in-Enum
@@ -99,4 +99,4 @@ returns-in_default-clause-fits_still c =
           not_taken c.args.schema.now c.requires.is_schema c.args.self.now r c.requires.is_record a.type_id same (subst (IsFlat (shape_of c.args.schema.now)) same c.requires.flat) (field_shape w.in-Some.field.now) w.in-Some.ensures.shape (sym w.accepts.ensures ∙ w.if-accepts.false)
       | in_default-via-in_default w ↦ not_found c.args.schema.now c.requires.is_schema c.args.self.now r c.requires.is_record a.type_id same (subst (IsFlat (shape_of c.args.schema.now)) same c.requires.flat) w.in_default.ensures.shape
     ] in
-    on_ok_map c.keep.result (λ is_new. unknown_fits c.args.schema.now c.requires.is_schema c.args.self.now r c.requires.is_record a.type_id same (subst (IsFlat (shape_of c.args.schema.now)) same c.requires.flat) c.keep.new.self a.fields.items us c.self.view_is c.self.invariant.rises c.self.invariant.filled c.requires.fits unknown is_new) c.keep.ensures.ok
+    on_ok_map c.keep.result (λ is_new. unknown_fits c.args.schema.now c.requires.is_schema c.args.self.now r c.requires.is_record a.type_id same (subst (IsFlat (shape_of c.args.schema.now)) same c.requires.flat) c.keep.new.self a.fields.items us c.self.view_is c.self.invariant.rises c.self.invariant.filled c.self.invariant.keys c.requires.fits unknown is_new) c.keep.ensures.ok

@@ -22,7 +22,7 @@ returns-in-Ok-put_content-clause-fits c =
     let us = map record_seen a.unknown.items in
     let same = sym (ap type_of c.self.view_is) ∙ type_shown a.type_id a.fields.items us in
     set_fits c.args.schema.now c.parts.ensures.checked c.args.self.now a.type_id same (subst (IsFlat (shape_of c.args.schema.now)) same c.requires.flat) c.args.number c.args.content c.in-Ok.scalar c.in-Ok.ensures.ok c.put_content.new.self a.fields.items us c.in-Ok-put_content.ensures.ok
-    c.self.view_is c.self.invariant.rises c.self.invariant.filled c.requires.fits
+    c.self.view_is c.self.invariant.rises c.self.invariant.filled c.self.invariant.keys c.requires.fits
 
 pub returns-in-Ok-put_content-clause-accepted : goal.returns-in-Ok-put_content-clause-accepted
 returns-in-Ok-put_content-clause-accepted c =

@@ -1,0 +1,514 @@
+-- A message fits where each of its contents does, no two are members of one oneof, and its unknown records are unknown.
+use Rattle.std.proofs.Common.{Box, Vec, Global, ◌≡◌, ◌≢◌, ℕ, ◌<◌, ◌⊎◌, List, [], ◌∷◌, ◌++◌, length, map, Bool, true, false, not, ◌&&◌, nat_eq, Option, Some, None, refl, ap, sym, subst, ◌∙◌, arith, ⊎_elim, inl, inr, eq-eqb}
+use Rattle.std.specs.Prelude.{⊤}
+use Rattle.std.specs.List.{AllByRecursion}
+use Rattle.std.specs.declared.cmp.Ordering.TheVariants.{Less}
+use Rattle.std.proofs.Math.Bool.{and-false}
+use Rattle.pg_schema.specs.declared.field.Scalar.{Scalar}
+use Rattle.pg_schema.specs.declared.field.Scalar.TheVariants.{Int32}
+use Rattle.pg_schema.specs.declared.field.TypeId.{TypeId}
+use Rattle.pg_schema.specs.declared.field.EnumId.{EnumId}
+use Rattle.pg_schema.specs.declared.field.Element.{Element}
+use Rattle.pg_schema.specs.declared.field.Element.TheVariants as elements
+use Rattle.pg_schema.specs.declared.field.Presence.{Presence}
+use Rattle.pg_schema.specs.declared.field.Presence.TheVariants as presences
+use Rattle.pg_schema.specs.Shape.{Shape, FieldShape, IsField, IsShape, ElementFits, fields, field_at, is_repeated}
+use Rattle.pg_wire.specs.Records.{WireRecord}
+use Rattle.pg_dyn.specs.declared.message.Content.{Content}
+use Rattle.pg_dyn.specs.declared.message.Content.TheVariants as contents
+use Rattle.pg_dyn.specs.declared.message.Message.{Message}
+use Rattle.pg_dyn.specs.declared.message.Value.{Value}
+use Rattle.pg_dyn.specs.declared.message.Value.TheVariants as values
+use Rattle.pg_dyn.specs.Message.{Leaf, Place, places, is_zero, key_cmp}
+use Rattle.pg_dyn.specs.Coding.{InRange, form, scalar_form}
+use Rattle.pg_dyn.specs.Content.{same_oneof, is_rival}
+use Rattle.pg_dyn.specs.Encoding.{child_type}
+use Rattle.pg_dyn.specs.Kept.{Kept, ends, holds, nests, type_of, message_of}
+use Rattle.pg_dyn.specs.Seen.{leaf_of, value_onto, items_onto, entries_onto, content_onto, fields_onto, Rises, IsFilled, IsKey, HasKeys}
+use Rattle.pg_dyn.specs.Belonging.{KeyFits, MayFollow, ComesBefore, IsAlone, IsPart, LeafFits, MayBeZero, IsUnknown, IsMessage}
+use Rattle.pg_dyn.specs.Fits.{Fits, PartsAgree, is_listed, is_listed_by}
+use Rattle.pg_dyn.specs.ScalarItems.{IsItemOf}
+use Rattle.pg_dyn.specs.ContentFits.{is_zero_value, ItemFits, KeysRise, ContentFits, HoldsContent, AreApart, NoneRivals, FitsByContents}
+use Rattle.pg_dyn.proofs.Belonging.{child_type_is, fields-IsType}
+use Rattle.pg_dyn.proofs.Fields.{field_of}
+use Rattle.pg_dyn.proofs.Flat.{each_at}
+use Rattle.pg_dyn.proofs.KeptParts.{value_keeps, unknown_of-items, unknown_of-entries, unknown_of-content, fields_keep}
+use Rattle.pg_dyn.proofs.Lists.{each_weaker, each-append}
+use Rattle.pg_dyn.proofs.Splitting.{found_number}
+
+-- Items as leaves.
+
+pub in_range : (s : Scalar) (v : Value) → IsItemOf s v → InRange (scalar_form s) (leaf_of v)
+in_range s (values.Int x) h = h
+in_range s (values.F32 x) h = h
+in_range s (values.F64 x) h = h
+in_range s (values.Text x) h = h
+in_range s (values.Bytes x) h = h
+in_range s (values.Msg x) h = absurd h
+
+pub item_of_range : (s : Scalar) (v : Value) → IsKey v → InRange (scalar_form s) (leaf_of v) → IsItemOf s v
+item_of_range s (values.Int x) key h = h
+item_of_range s (values.F32 x) key h = h
+item_of_range s (values.F64 x) key h = h
+item_of_range s (values.Text x) key h = h
+item_of_range s (values.Bytes x) key h = h
+item_of_range s (values.Msg x) key h = absurd key
+
+pub item_is_key : (s : Scalar) (v : Value) → IsItemOf s v → IsKey v
+item_is_key s (values.Int x) h = tt
+item_is_key s (values.F32 x) h = tt
+item_is_key s (values.F64 x) h = tt
+item_is_key s (values.Text x) h = tt
+item_is_key s (values.Bytes x) h = tt
+item_is_key s (values.Msg x) h = absurd h
+
+pub zero_of_key : (v : Value) → IsKey v → is_zero_value v ≡ is_zero (leaf_of v)
+zero_of_key (values.Int x) key = refl
+zero_of_key (values.F32 x) key = refl
+zero_of_key (values.F64 x) key = refl
+zero_of_key (values.Text x) key = refl
+zero_of_key (values.Bytes x) key = refl
+zero_of_key (values.Msg x) key = absurd key
+
+-- an implicit field holds no zero
+abbrev pub ZeroFits : Presence → Value → Type 0
+ZeroFits presences.Implicit v = is_zero_value v ≡ false
+ZeroFits presences.Explicit v = ⊤
+ZeroFits (presences.Repeated packed) v = ⊤
+ZeroFits (presences.Map key) v = ⊤
+
+zero_to : (p : Presence) (v : Value) → IsKey v → ZeroFits p v → MayBeZero p (leaf_of v)
+zero_to presences.Implicit v key h = sym (zero_of_key v key) ∙ h
+zero_to presences.Explicit v key h = tt
+zero_to (presences.Repeated packed) v key h = tt
+zero_to (presences.Map k) v key h = tt
+
+zero_back : (p : Presence) (v : Value) → IsKey v → MayBeZero p (leaf_of v) → ZeroFits p v
+zero_back presences.Implicit v key h = zero_of_key v key ∙ h
+zero_back presences.Explicit v key h = tt
+zero_back (presences.Repeated packed) v key h = tt
+zero_back (presences.Map k) v key h = tt
+
+zero_of_child : (p : Presence) (v : Value) → is_zero_value v ≡ false → ZeroFits p v
+zero_of_child presences.Implicit v h = h
+zero_of_child presences.Explicit v h = tt
+zero_of_child (presences.Repeated packed) v h = tt
+zero_of_child (presences.Map k) v h = tt
+
+-- what is no message is no item of a message field
+no_leaf : (shape : Shape) (t : TypeId) (v : Value) → IsKey v → ItemFits shape (elements.Message t) v → ⊥
+no_leaf shape t (values.Int x) key h = h
+no_leaf shape t (values.F32 x) key h = h
+no_leaf shape t (values.F64 x) key h = h
+no_leaf shape t (values.Text x) key h = h
+no_leaf shape t (values.Bytes x) key h = h
+no_leaf shape t (values.Msg x) key h = absurd key
+
+leaf_to : (shape : Shape) (n : ℕ) (p : Presence) (e : Element) (o : Option ℕ) (v : Value) → IsKey v → ItemFits shape e v → ZeroFits p v → LeafFits (field_of n p e o) (leaf_of v)
+leaf_to shape n p (elements.Scalar s) o v key item zero = (in_range s v item, zero_to p v key zero)
+leaf_to shape n p (elements.Enum e) o v key item zero = (in_range Int32 v item, zero_to p v key zero)
+leaf_to shape n p (elements.Message t) o v key item zero = absurd (no_leaf shape t v key item)
+
+leaf_back : (shape : Shape) (n : ℕ) (p : Presence) (e : Element) (o : Option ℕ) (v : Value) → IsKey v → LeafFits (field_of n p e o) (leaf_of v) → ItemFits shape e v × ZeroFits p v
+leaf_back shape n p (elements.Scalar s) o v key h = (item_of_range s v key h.0, zero_back p v key h.1)
+leaf_back shape n p (elements.Enum e) o v key h = (item_of_range Int32 v key h.0, zero_back p v key h.1)
+leaf_back shape n p (elements.Message t) o v key h = absurd h
+
+child_of : (shape : Shape) (e : Element) (child : Box Message Global) → ItemFits shape e (values.Msg child) → (t : TypeId) × (e ≡ elements.Message t) × Fits shape child.value × (type_of child.value ≡ t)
+child_of shape (elements.Scalar s) child h = absurd h
+child_of shape (elements.Enum e) child h = absurd h
+child_of shape (elements.Message t) child h = (t, refl, h.0, h.1)
+
+-- Where parts stand.
+
+abbrev place_at : ℕ → Option Leaf → Place
+place_at n k = record { number = n; key = k }
+
+abbrev key_place : ℕ → Value × Value → Place
+key_place n e = place_at n (Some (leaf_of e.0))
+
+places-value_onto : (n : ℕ) (k : Option Leaf) (l : Bool) (v : Value) (later : Kept) → places (message_of (value_onto n k l v later)) ≡ place_at n k ∷ places (message_of later)
+places-value_onto n k l (values.Int x) later = refl
+places-value_onto n k l (values.F32 x) later = refl
+places-value_onto n k l (values.F64 x) later = refl
+places-value_onto n k l (values.Text x) later = refl
+places-value_onto n k l (values.Bytes x) later = refl
+places-value_onto n k l (values.Msg x) later = refl
+
+places-items_onto : (n : ℕ) (vs : List Value) (later : Kept) → places (message_of (items_onto n vs later)) ≡ map (λ (v : Value). place_at n None) vs ++ places (message_of later)
+places-items_onto n [] later = refl
+places-items_onto n (v ∷ vs) later = places-value_onto n None true v (items_onto n vs later) ∙ ap (λ ps. place_at n None ∷ ps) (places-items_onto n vs later)
+
+places-entries_onto : (n : ℕ) (es : List (Value × Value)) (later : Kept) → places (message_of (entries_onto n es later)) ≡ map (key_place n) es ++ places (message_of later)
+places-entries_onto n [] later = refl
+places-entries_onto n (e ∷ es) later = places-value_onto n (Some (leaf_of e.0)) false e.1 (entries_onto n es later) ∙ ap (λ ps. key_place n e ∷ ps) (places-entries_onto n es later)
+
+each_after : {A : Type 0} (P : A → Type 0) (xs ys : List A) → AllByRecursion P (xs ++ ys) → AllByRecursion P ys
+each_after P [] ys h = h
+each_after P (x ∷ xs) ys h = each_after P xs ys h.1
+
+each_before : {A : Type 0} (P : A → Type 0) (xs ys : List A) → AllByRecursion P (xs ++ ys) → AllByRecursion P xs
+each_before P [] ys h = tt
+each_before P (x ∷ xs) ys h = (h.0, each_before P xs ys h.1)
+
+own_rival : (f : FieldShape) → is_rival f f ≡ false
+own_rival f = ap (λ b. same_oneof f.oneof f.oneof && not b) (eq-eqb f.number f.number refl) ∙ and-false (same_oneof f.oneof f.oneof)
+
+module _ (shape : Shape) (type : TypeId) where
+  abbrev fs : List FieldShape
+  fs = fields shape type
+
+  abbrev pub Whole : Kept → Type 0
+  Whole m = IsMessage shape type (message_of m) × PartsAgree shape m
+
+  same_found : (n : ℕ) (f g : FieldShape) → field_at (fields shape type) n ≡ Some f → field_at (fields shape type) n ≡ Some g → f ≡ g
+  same_found n f g a b = of (sym a ∙ b)
+    where
+      of : ◌≡◌ {A = Option FieldShape} (Some f) (Some g) → f ≡ g
+      of e = cc
+
+  -- What one part in front asks.
+
+  abbrev Here : ℕ → Option Leaf → Bool → Value → Kept → Type 0
+  Here n k l v later =
+      (part : IsPart (fields shape type) n k (places (message_of later))) × (is_repeated part.field.presence ≡ l) × ItemFits shape part.field.element v × ZeroFits part.field.presence v
+
+  listed_is : (n : ℕ) (l : Bool) (later : Kept) (f : FieldShape) → type_of later ≡ type → field_at (fields shape type) n ≡ Some f → is_repeated f.presence ≡ l → is_listed (fields shape (type_of later)) n ≡ l
+  listed_is n l later f same found is = ap (λ t. is_listed (fields shape t) n) same ∙ ap is_listed_by found ∙ is
+
+  listed_back : (n : ℕ) (l : Bool) (later : Kept) (f : FieldShape) → type_of later ≡ type → field_at (fields shape type) n ≡ Some f → is_listed (fields shape (type_of later)) n ≡ l → is_repeated f.presence ≡ l
+  listed_back n l later f same found is = sym (ap (λ t. is_listed (fields shape t) n) same ∙ ap is_listed_by found) ∙ is
+
+  leaf_onto : (n : ℕ) (k : Option Leaf) (l : Bool) (v : Value) (later : Kept) → IsKey v → type_of later ≡ type → Here n k l v later → Whole later → Whole (holds n k l (leaf_of v) later)
+  leaf_onto n k l v later key same (part, listed, item, zero) whole =
+      ((part, leaf_to shape part.field.number part.field.presence part.field.element part.field.oneof v key item zero, whole.0), (listed_is n l later part.field same part.found listed, whole.1))
+
+  leaf_off : (n : ℕ) (k : Option Leaf) (l : Bool) (v : Value) (later : Kept) → IsKey v → type_of later ≡ type → Whole (holds n k l (leaf_of v) later) → Here n k l v later × Whole later
+  leaf_off n k l v later key same h =
+      let part = h.0.0 in
+      let fits = leaf_back shape part.field.number part.field.presence part.field.element part.field.oneof v key h.0.1 in
+      ((part, listed_back n l later part.field same part.found h.1.0, fits.0, fits.1), (h.0.2, h.1.1))
+
+  pub value_to : (n : ℕ) (k : Option Leaf) (l : Bool) (v : Value) (later : Kept) → type_of later ≡ type → Here n k l v later → Whole later → Whole (value_onto n k l v later)
+  value_to n k l (values.Int x) later same here whole = leaf_onto n k l (values.Int x) later tt same here whole
+  value_to n k l (values.F32 x) later same here whole = leaf_onto n k l (values.F32 x) later tt same here whole
+  value_to n k l (values.F64 x) later same here whole = leaf_onto n k l (values.F64 x) later tt same here whole
+  value_to n k l (values.Text x) later same here whole = leaf_onto n k l (values.Text x) later tt same here whole
+  value_to n k l (values.Bytes x) later same here whole = leaf_onto n k l (values.Bytes x) later tt same here whole
+  value_to n k l (values.Msg child) later same (part, listed, item, zero) whole =
+      let (t, is, fits, of_type) = child_of shape part.field.element child item in
+      let agrees : child_type (fields shape (type_of later)) n ≡ type_of child.value = ap (λ x. child_type (fields shape x) n) same ∙ child_type_is (fields shape type) n part.field t part.found is ∙ sym of_type in (
+        (part, t, is, subst (λ x. IsMessage shape x (message_of child.value)) of_type fits.is_message, whole.0),
+        (listed_is n l later part.field same part.found listed, agrees, fits.parts_agree, whole.1),
+      )
+
+  pub value_back : IsShape shape → (n : ℕ) (k : Option Leaf) (l : Bool) (v : Value) (later : Kept) → type_of later ≡ type → Whole (value_onto n k l v later) → Here n k l v later × Whole later
+  value_back is_shape n k l (values.Int x) later same h = leaf_off n k l (values.Int x) later tt same h
+  value_back is_shape n k l (values.F32 x) later same h = leaf_off n k l (values.F32 x) later tt same h
+  value_back is_shape n k l (values.F64 x) later same h = leaf_off n k l (values.F64 x) later tt same h
+  value_back is_shape n k l (values.Text x) later same h = leaf_off n k l (values.Text x) later tt same h
+  value_back is_shape n k l (values.Bytes x) later same h = leaf_off n k l (values.Bytes x) later tt same h
+  value_back is_shape n k l (values.Msg child) later same h =
+      let part = h.0.0 in
+      let t = h.0.1 in
+      let is : part.field.element ≡ elements.Message t = h.0.2 in
+      let of_type : type_of child.value ≡ t = sym h.1.1 ∙ ap (λ x. child_type (fields shape x) n) same ∙ child_type_is (fields shape type) n part.field t part.found is in
+      let there : t.index < length shape = subst (λ (e : Element). ElementFits (length shape) e) is (each_at (IsField (length shape)) (fields shape type) n part.field part.found (fields-IsType shape type is_shape).each).element_fits in
+      let fits : Fits shape child.value = record {
+        type_is_there = subst (λ (x : TypeId). x.index < length shape) (sym of_type) there;
+        is_message = subst (λ x. IsMessage shape x (message_of child.value)) (sym of_type) h.0.3;
+        parts_agree = h.1.2;
+      } in (
+        (part, listed_back n l later part.field same part.found h.1.0, subst (λ e. ItemFits shape e (values.Msg child)) (sym is) (fits, of_type), zero_of_child part.field.presence (values.Msg child) refl),
+        (h.0.4, h.1.3),
+      )
+
+  -- The places behind a part: of its own field, or of a later one that is no rival.
+
+  abbrev Own : ℕ → FieldShape → Option Leaf → Place → Type 0
+  Own n f k p = (p.number ≡ n) × MayFollow f.presence k p.key
+
+  abbrev NotRival : FieldShape → ℕ → Type 0
+  NotRival f number = (g : FieldShape) → field_at (fields shape type) number ≡ Some g → is_rival f g ≡ false
+
+  abbrev Beyond : ℕ → FieldShape → ℕ → Type 0
+  Beyond n f number = (n < number) × NotRival f number
+
+  abbrev Behind : ℕ → FieldShape → Option Leaf → Place → Type 0
+  Behind n f k p = Own n f k p ⊎ Beyond n f p.number
+
+  make_here : (n : ℕ) (k : Option Leaf) (l : Bool) (v : Value) (f : FieldShape) (later : Kept) → field_at (fields shape type) n ≡ Some f → KeyFits f.presence k → AllByRecursion (Behind n f k) (places (message_of later))
+      → is_repeated f.presence ≡ l → ItemFits shape f.element v → ZeroFits f.presence v → Here n k l v later
+  make_here n k l v f later found key each listed item zero = (
+    record {
+      field = f;
+      found = found;
+      key_fits = key;
+      before = each_weaker (Behind n f k) (λ (p : Place). (f.number < p.number) ⊎ ((f.number ≡ p.number) × MayFollow f.presence k p.key))
+          (λ p. ⊎_elim (λ own. inr (number ∙ sym own.0, own.1)) (λ far. let low : f.number < p.number = omega (arith, far.0, number) in inl low)) (places (message_of later)) each;
+      alone = each_weaker (Behind n f k) (λ (p : Place). NotRival f p.number) (λ p. ⊎_elim (own_alone p) (λ far. far.1)) (places (message_of later)) each;
+    },
+    listed,
+    item,
+    zero,
+  )
+    where
+      number : f.number ≡ n
+      number = found_number (fields shape type) n f found
+
+      own_alone : (p : Place) → Own n f k p → NotRival f p.number
+      own_alone p own g there = subst (λ x. is_rival f x ≡ false) (same_found n f g found (ap (field_at (fields shape type)) (sym own.0) ∙ there)) (own_rival f)
+
+  -- what each shape of a content says of its field's presence
+  one_gives : (p : Presence) (e : Element) (v : Value) → ContentFits shape p e (contents.One v) → KeyFits p None × (is_repeated p ≡ false) × ItemFits shape e v × ZeroFits p v
+  one_gives presences.Implicit e v h = (refl, refl, h.0, h.1)
+  one_gives presences.Explicit e v h = (refl, refl, h, tt)
+  one_gives (presences.Repeated packed) e v h = absurd h
+  one_gives (presences.Map key) e v h = absurd h
+
+  one_takes : (p : Presence) (e : Element) (v : Value) → KeyFits p None → is_repeated p ≡ false → ItemFits shape e v → ZeroFits p v → ContentFits shape p e (contents.One v)
+  one_takes presences.Implicit e v key listed item zero = (item, zero)
+  one_takes presences.Explicit e v key listed item zero = item
+  one_takes (presences.Repeated packed) e v key listed item zero = absurd (cc)
+  one_takes (presences.Map k) e v key listed item zero = absurd key
+
+  many_gives : (p : Presence) (e : Element) (c : Content) (vs : Vec Value Global) → c ≡ contents.Many vs → ContentFits shape p e c → (is_repeated p ≡ true) × AllByRecursion (ItemFits shape e) vs.items
+  many_gives presences.Implicit e c vs is h = absurd (subst (ContentFits shape presences.Implicit e) is h)
+  many_gives presences.Explicit e c vs is h = absurd (subst (ContentFits shape presences.Explicit e) is h)
+  many_gives (presences.Repeated packed) e c vs is h = (refl, subst (ContentFits shape (presences.Repeated packed) e) is h)
+  many_gives (presences.Map key) e c vs is h = absurd (subst (ContentFits shape (presences.Map key) e) is h)
+
+  many_takes : (p : Presence) (e : Element) (vs : Vec Value Global) → is_repeated p ≡ true → AllByRecursion (ItemFits shape e) vs.items → ContentFits shape p e (contents.Many vs)
+  many_takes presences.Implicit e vs listed h = absurd (cc)
+  many_takes presences.Explicit e vs listed h = absurd (cc)
+  many_takes (presences.Repeated packed) e vs listed h = h
+  many_takes (presences.Map key) e vs listed h = absurd (cc)
+
+  abbrev pub EntryFits : Scalar → Element → Value × Value → Type 0
+  EntryFits key e x = IsItemOf key x.0 × ItemFits shape e x.1
+
+  map_gives : (p : Presence) (e : Element) (c : Content) (es : Vec (Value × Value) Global) → c ≡ contents.Map es → ContentFits shape p e c → (key : Scalar) × (p ≡ presences.Map key) × AllByRecursion (EntryFits key e) es.items × KeysRise es.items
+  map_gives presences.Implicit e c es is h = absurd (subst (ContentFits shape presences.Implicit e) is h)
+  map_gives presences.Explicit e c es is h = absurd (subst (ContentFits shape presences.Explicit e) is h)
+  map_gives (presences.Repeated packed) e c es is h = absurd (subst (ContentFits shape (presences.Repeated packed) e) is h)
+  map_gives (presences.Map key) e c es is h = let k = subst (ContentFits shape (presences.Map key) e) is h in (key, refl, k.0, k.1)
+
+  map_takes : (p : Presence) (e : Element) (es : Vec (Value × Value) Global) (key : Scalar) → p ≡ presences.Map key → AllByRecursion (EntryFits key e) es.items → KeysRise es.items → ContentFits shape p e (contents.Map es)
+  map_takes p e es key is each rise = subst (λ x. ContentFits shape x e (contents.Map es)) (sym is) (each, rise)
+
+  keyless : (p : Presence) → is_repeated p ≡ true → KeyFits p None
+  keyless presences.Implicit h = refl
+  keyless presences.Explicit h = refl
+  keyless (presences.Repeated packed) h = refl
+  keyless (presences.Map key) h = absurd (cc)
+
+  follows : (p : Presence) → is_repeated p ≡ true → MayFollow p None None
+  follows presences.Implicit h = absurd (cc)
+  follows presences.Explicit h = absurd (cc)
+  follows (presences.Repeated packed) h = tt
+  follows (presences.Map key) h = absurd (cc)
+
+  zero_listed : (p : Presence) (v : Value) → is_repeated p ≡ true → ZeroFits p v
+  zero_listed presences.Implicit v h = absurd (cc)
+  zero_listed presences.Explicit v h = tt
+  zero_listed (presences.Repeated packed) v h = tt
+  zero_listed (presences.Map key) v h = tt
+
+  -- From the contents to the message.
+
+  module _ (n : ℕ) (f : FieldShape) (found : field_at (fields shape type) n ≡ Some f) (later : Kept) (same : type_of later ≡ type) (beyond : AllByRecursion (λ (p : Place). Beyond n f p.number) (places (message_of later))) (whole : Whole later) where
+    items_to : is_repeated f.presence ≡ true → (vs : List Value) → AllByRecursion (ItemFits shape f.element) vs → Whole (items_onto n vs later)
+    items_to listed [] h = whole
+    items_to listed (v ∷ vs) h =
+        value_to n None true v (items_onto n vs later) ((unknown_of-items n vs later).1 ∙ same)
+        (make_here n None true v f (items_onto n vs later) found (keyless f.presence listed) (subst (AllByRecursion (Behind n f None)) (sym (places-items_onto n vs later)) behind) listed h.0 (zero_listed f.presence v listed))
+        (items_to listed vs h.1)
+      where
+        owns : (xs : List Value) → AllByRecursion (Behind n f None) (map (λ (x : Value). place_at n None) xs)
+        owns [] = tt
+        owns (x ∷ xs) = (inl (refl, follows f.presence listed), owns xs)
+
+        behind : AllByRecursion (Behind n f None) (map (λ (x : Value). place_at n None) vs ++ places (message_of later))
+        behind = each-append (Behind n f None) (map (λ (x : Value). place_at n None) vs) (places (message_of later)) (owns vs)
+            (each_weaker (λ (p : Place). Beyond n f p.number) (Behind n f None) (λ p b. inr b) (places (message_of later)) beyond)
+
+    entries_to : (key : Scalar) → f.presence ≡ presences.Map key → (es : List (Value × Value)) → AllByRecursion (EntryFits key f.element) es → KeysRise es → Whole (entries_onto n es later)
+    entries_to key is [] h rise = whole
+    entries_to key is (e ∷ es) h rise =
+        value_to n (Some (leaf_of e.0)) false e.1 (entries_onto n es later) ((unknown_of-entries n es later).1 ∙ same)
+        (make_here n (Some (leaf_of e.0)) false e.1 f (entries_onto n es later) found (subst (λ p. KeyFits p (Some (leaf_of e.0))) (sym is) (in_range key e.0 h.0.0)) (subst (AllByRecursion (Behind n f (Some (leaf_of e.0)))) (sym (places-entries_onto n es later)) behind)
+        (ap is_repeated is) h.0.1 (subst (λ p. ZeroFits p e.1) (sym is) tt)) (entries_to key is es h.1 rise.1)
+      where
+        owns : (xs : List (Value × Value)) → AllByRecursion (λ (x : Value × Value). key_cmp (leaf_of e.0) (leaf_of x.0) ≡ Less) xs → AllByRecursion (Behind n f (Some (leaf_of e.0))) (map (key_place n) xs)
+        owns [] k = tt
+        owns (x ∷ xs) k = (inl (refl, subst (λ p. MayFollow p (Some (leaf_of e.0)) (Some (leaf_of x.0))) (sym is) k.0), owns xs k.1)
+
+        behind : AllByRecursion (Behind n f (Some (leaf_of e.0))) (map (key_place n) es ++ places (message_of later))
+        behind = each-append (Behind n f (Some (leaf_of e.0))) (map (key_place n) es) (places (message_of later)) (owns es rise.0)
+            (each_weaker (λ (p : Place). Beyond n f p.number) (Behind n f (Some (leaf_of e.0))) (λ p b. inr b) (places (message_of later)) beyond)
+
+    content_to : (c : Content) → ContentFits shape f.presence f.element c → Whole (content_onto n c later)
+    content_to (contents.One v) h =
+        let k = one_gives f.presence f.element v h in
+        value_to n None false v later same (make_here n None false v f later found k.0 (each_weaker (λ (p : Place). Beyond n f p.number) (Behind n f None) (λ p b. inr b) (places (message_of later)) beyond) k.1 k.2 k.3) whole
+    content_to (contents.Many vs) h = let k = many_gives f.presence f.element (contents.Many vs) vs refl h in items_to k.0 vs.items k.1
+    content_to (contents.Map es) h = let k = map_gives f.presence f.element (contents.Map es) es refl h in entries_to k.0 k.1 es.items k.2 k.3
+
+  abbrev shown : List (ℕ × Content) → List WireRecord → Kept
+  shown ms us = fields_onto ms (ends type us)
+
+  -- each place is of one of the contents' numbers, and each number has a place
+  module _ (Q : ℕ → Type 0) where
+    own_places : (n : ℕ) (c : Content) (later : Kept) → Q n → AllByRecursion (λ (p : Place). Q p.number) (places (message_of later)) → AllByRecursion (λ (p : Place). Q p.number) (places (message_of (content_onto n c later)))
+    own_places n (contents.One v) later q rest = subst (AllByRecursion (λ (p : Place). Q p.number)) (sym (places-value_onto n None false v later)) (q, rest)
+    own_places n (contents.Many vs) later q rest =
+        subst (AllByRecursion (λ (p : Place). Q p.number)) (sym (places-items_onto n vs.items later)) (each-append (λ (p : Place). Q p.number) (map (λ (x : Value). place_at n None) vs.items) (places (message_of later)) (owns vs.items) rest)
+      where
+        owns : (xs : List Value) → AllByRecursion (λ (p : Place). Q p.number) (map (λ (x : Value). place_at n None) xs)
+        owns [] = tt
+        owns (x ∷ xs) = (q, owns xs)
+    own_places n (contents.Map es) later q rest =
+        subst (AllByRecursion (λ (p : Place). Q p.number)) (sym (places-entries_onto n es.items later)) (each-append (λ (p : Place). Q p.number) (map (key_place n) es.items) (places (message_of later)) (owns es.items) rest)
+      where
+        owns : (xs : List (Value × Value)) → AllByRecursion (λ (p : Place). Q p.number) (map (key_place n) xs)
+        owns [] = tt
+        owns (x ∷ xs) = (q, owns xs)
+
+    places_from : (ms : List (ℕ × Content)) (us : List WireRecord) → AllByRecursion (λ (m : ℕ × Content). Q m.0) ms → AllByRecursion (λ (p : Place). Q p.number) (places (message_of (shown ms us)))
+    places_from [] us h = tt
+    places_from (m ∷ ms) us h = own_places m.0 m.1 (shown ms us) h.0 (places_from ms us h.1)
+
+    places_off : (n : ℕ) (c : Content) (later : Kept) → IsFilled c → AllByRecursion (λ (p : Place). Q p.number) (places (message_of (content_onto n c later))) → Q n × AllByRecursion (λ (p : Place). Q p.number) (places (message_of later))
+    places_off n (contents.One v) later filled h = let k = subst (AllByRecursion (λ (p : Place). Q p.number)) (places-value_onto n None false v later) h in (k.0, k.1)
+    places_off n (contents.Many vs) later filled h =
+        let k = subst (AllByRecursion (λ (p : Place). Q p.number)) (places-items_onto n vs.items later) h in
+        (first vs.items filled (each_before (λ (p : Place). Q p.number) (map (λ (x : Value). place_at n None) vs.items) (places (message_of later)) k), each_after (λ (p : Place). Q p.number) (map (λ (x : Value). place_at n None) vs.items) (places (message_of later)) k)
+      where
+        first : (xs : List Value) → xs ≢ [] → AllByRecursion (λ (p : Place). Q p.number) (map (λ (x : Value). place_at n None) xs) → Q n
+        first [] some k = absurd (some refl)
+        first (x ∷ xs) some k = k.0
+    places_off n (contents.Map es) later filled h =
+        let k = subst (AllByRecursion (λ (p : Place). Q p.number)) (places-entries_onto n es.items later) h in
+        (first es.items filled (each_before (λ (p : Place). Q p.number) (map (key_place n) es.items) (places (message_of later)) k), each_after (λ (p : Place). Q p.number) (map (key_place n) es.items) (places (message_of later)) k)
+      where
+        first : (xs : List (Value × Value)) → xs ≢ [] → AllByRecursion (λ (p : Place). Q p.number) (map (key_place n) xs) → Q n
+        first [] some k = absurd (some refl)
+        first (x ∷ xs) some k = k.0
+
+    numbers_from : (ms : List (ℕ × Content)) (us : List WireRecord) → AllByRecursion (λ (m : ℕ × Content). IsFilled m.1) ms → AllByRecursion (λ (p : Place). Q p.number) (places (message_of (shown ms us))) → AllByRecursion (λ (m : ℕ × Content). Q m.0) ms
+    numbers_from [] us filled h = tt
+    numbers_from (m ∷ ms) us filled h = let k = places_off m.0 m.1 (shown ms us) filled.0 h in (k.0, numbers_from ms us filled.1 k.1)
+
+  each_both' : {A : Type 0} (P R : A → Type 0) (xs : List A) → AllByRecursion P xs → AllByRecursion R xs → AllByRecursion (λ x. P x × R x) xs
+  each_both' P R [] p r = tt
+  each_both' P R (x ∷ xs) p r = ((p.0, r.0), each_both' P R xs p.1 r.1)
+
+  pub contents_to : (ms : List (ℕ × Content)) (us : List WireRecord) → Rises ms → AllByRecursion (HoldsContent shape type) ms → NoneRivals (fields shape type) ms → AllByRecursion (IsUnknown (fields shape type)) us → Whole (shown ms us)
+  contents_to [] us rises each apart unknown = (unknown, tt)
+  contents_to (m ∷ ms) us rises each apart unknown =
+      let f = each.0.field in
+      let far = each_weaker (λ (l : ℕ × Content). (m.0 < l.0) × AreApart (fields shape type) m.0 l.0) (λ (l : ℕ × Content). Beyond m.0 f l.0) (λ l k. (k.0, λ g there. k.1 f g each.0.found there)) ms
+      (each_both' (λ (l : ℕ × Content). m.0 < l.0) (λ (l : ℕ × Content). AreApart (fields shape type) m.0 l.0) ms rises.0 apart.0) in
+      content_to m.0 f each.0.found (shown ms us) (fields_keep ms (ends type us)).1 (places_from (Beyond m.0 f) ms us far) (contents_to ms us rises.1 each.1 apart.1 unknown) m.1 each.0.fits
+
+  -- And back.
+
+  module _ (is_shape : IsShape shape) where
+    abbrev Back : ℕ → Content → Kept → Type 0
+    Back n c later =
+        (f : FieldShape) × (field_at (fields shape type) n ≡ Some f) × ContentFits shape f.presence f.element c × AllByRecursion (λ (p : Place). NotRival f p.number) (places (message_of later)) × Whole later
+
+    items_each : (n : ℕ) (f : FieldShape) → field_at (fields shape type) n ≡ Some f → (vs : List Value) (later : Kept) → type_of later ≡ type → Whole (items_onto n vs later) → AllByRecursion (ItemFits shape f.element) vs × Whole later
+    items_each n f found [] later same h = (tt, h)
+    items_each n f found (v ∷ vs) later same h =
+        let (here, rest) = value_back is_shape n None true v (items_onto n vs later) ((unknown_of-items n vs later).1 ∙ same) h in
+        let more = items_each n f found vs later same rest in
+        ((subst (λ (g : FieldShape). ItemFits shape g.element v) (same_found n here.0.field f here.0.found found) here.2, more.0), more.1)
+
+    items_back : (n : ℕ) (vs : List Value) (later : Kept) → type_of later ≡ type → vs ≢ [] → Whole (items_onto n vs later)
+        → (f : FieldShape) × (field_at (fields shape type) n ≡ Some f) × (is_repeated f.presence ≡ true) × AllByRecursion (ItemFits shape f.element) vs × AllByRecursion (λ (p : Place). NotRival f p.number) (places (message_of later)) × Whole later
+    items_back n [] later same some h = absurd (some refl)
+    items_back n (v ∷ vs) later same some h =
+        let (here, rest) = value_back is_shape n None true v (items_onto n vs later) ((unknown_of-items n vs later).1 ∙ same) h in
+        let part = here.0 in
+        let more = items_each n part.field part.found vs later same rest in
+        let alone = subst (AllByRecursion (λ (p : Place). NotRival part.field p.number)) (places-items_onto n vs later) part.alone in
+        (part.field, part.found, here.1, (here.2, more.0), each_after (λ (p : Place). NotRival part.field p.number) (map (λ (x : Value). place_at n None) vs) (places (message_of later)) alone, more.1)
+
+    map_of : (p : Presence) (k : Leaf) → KeyFits p (Some k) → (key : Scalar) × (p ≡ presences.Map key)
+    map_of presences.Implicit k h = absurd (cc)
+    map_of presences.Explicit k h = absurd (cc)
+    map_of (presences.Repeated packed) k h = absurd (cc)
+    map_of (presences.Map key) k h = (key, refl)
+
+    entries_each : (n : ℕ) (f : FieldShape) → field_at (fields shape type) n ≡ Some f → (key : Scalar) → f.presence ≡ presences.Map key → (es : List (Value × Value)) (later : Kept) → type_of later ≡ type
+        → AllByRecursion (λ (e : Value × Value). IsKey e.0) es → Whole (entries_onto n es later) → AllByRecursion (EntryFits key f.element) es × KeysRise es × Whole later
+    entries_each n f found key is [] later same keys h = (tt, tt, h)
+    entries_each n f found key is (e ∷ es) later same keys h =
+        let (here, rest) = value_back is_shape n (Some (leaf_of e.0)) false e.1 (entries_onto n es later) ((unknown_of-entries n es later).1 ∙ same) h in
+        let part = here.0 in
+        let is_f = same_found n part.field f part.found found in
+        let more = entries_each n f found key is es later same keys.1 rest in
+        let map_here : part.field.presence ≡ presences.Map key = ap (λ (g : FieldShape). g.presence) is_f ∙ is in
+        let item = item_of_range key e.0 keys.0 (subst (λ p. KeyFits p (Some (leaf_of e.0))) map_here part.key_fits) in
+        let number = found_number (fields shape type) n part.field part.found in
+        let before = subst (ComesBefore part.field (Some (leaf_of e.0))) (places-entries_onto n es later) part.before in
+        (((item, subst (λ (g : FieldShape). ItemFits shape g.element e.1) is_f here.2), more.0), (rising part.field number map_here (leaf_of e.0) es (places (message_of later)) before, more.1), more.2)
+      where
+        rising : (g : FieldShape) → g.number ≡ n → g.presence ≡ presences.Map key → (k : Leaf) (xs : List (Value × Value)) (ps : List Place) → ComesBefore g (Some k) (map (key_place n) xs ++ ps) → AllByRecursion (λ (x : Value × Value). key_cmp k (leaf_of x.0) ≡ Less) xs
+        rising g number map_here k [] ps h' = tt
+        rising g number map_here k (x ∷ xs) ps h' =
+            (⊎_elim (λ low. absurd (omega (arith, low, number))) (λ own. subst (λ p. MayFollow p (Some k) (Some (leaf_of x.0))) map_here own.1) h'.0, rising g number map_here k xs ps h'.1)
+
+    entries_back : (n : ℕ) (es : List (Value × Value)) (later : Kept) → type_of later ≡ type → es ≢ [] → AllByRecursion (λ (e : Value × Value). IsKey e.0) es → Whole (entries_onto n es later)
+        → (f : FieldShape) × (field_at (fields shape type) n ≡ Some f) × ((key : Scalar) × (f.presence ≡ presences.Map key) × AllByRecursion (EntryFits key f.element) es × KeysRise es) × AllByRecursion (λ (p : Place). NotRival f p.number) (places (message_of later)) × Whole later
+    entries_back n [] later same some keys h = absurd (some refl)
+    entries_back n (e ∷ es) later same some keys h =
+        let (here, rest) = value_back is_shape n (Some (leaf_of e.0)) false e.1 (entries_onto n es later) ((unknown_of-entries n es later).1 ∙ same) h in
+        let part = here.0 in
+        let (key, is) = map_of part.field.presence (leaf_of e.0) part.key_fits in
+        let all = entries_each n part.field part.found key is (e ∷ es) later same keys h in
+        let alone = subst (AllByRecursion (λ (p : Place). NotRival part.field p.number)) (places-entries_onto n es later) part.alone in
+        (part.field, part.found, (key, is, all.0, all.1), each_after (λ (p : Place). NotRival part.field p.number) (map (key_place n) es) (places (message_of later)) alone, all.2)
+
+    content_back : (n : ℕ) (c : Content) (later : Kept) → type_of later ≡ type → IsFilled c → HasKeys c → Whole (content_onto n c later) → Back n c later
+    content_back n (contents.One v) later same filled keys h =
+        let (here, rest) = value_back is_shape n None false v later same h in
+        (here.0.field, here.0.found, one_takes here.0.field.presence here.0.field.element v here.0.key_fits here.1 here.2 here.3, here.0.alone, rest)
+    content_back n (contents.Many vs) later same filled keys h =
+        let k = items_back n vs.items later same filled h in
+        (k.0, k.1, many_takes k.0.presence k.0.element vs k.2 k.3, k.4, k.5)
+    content_back n (contents.Map es) later same filled keys h =
+        let k = entries_back n es.items later same filled keys h in
+        (k.0, k.1, map_takes k.0.presence k.0.element es k.2.0 k.2.1 k.2.2 k.2.3, k.3, k.4)
+
+    pub contents_back : (ms : List (ℕ × Content)) (us : List WireRecord) → AllByRecursion (λ (m : ℕ × Content). IsFilled m.1) ms → AllByRecursion (λ (m : ℕ × Content). HasKeys m.1) ms → Whole (shown ms us)
+        → AllByRecursion (HoldsContent shape type) ms × NoneRivals (fields shape type) ms × AllByRecursion (IsUnknown (fields shape type)) us
+    contents_back [] us filled keys h = (tt, tt, h.0)
+    contents_back (m ∷ ms) us filled keys h =
+        let k = content_back m.0 m.1 (shown ms us) (fields_keep ms (ends type us)).1 filled.0 keys.0 h in
+        let rest = contents_back ms us filled.1 keys.1 k.4 in
+        let apart = each_weaker (λ (l : ℕ × Content). NotRival k.0 l.0) (λ (l : ℕ × Content). AreApart (fields shape type) m.0 l.0) (λ l none g j at there. subst (λ x. is_rival x j ≡ false) (same_found m.0 k.0 g k.1 at) (none j there)) ms
+        (numbers_from (NotRival k.0) ms us filled.1 k.3) in
+        ((record { field = k.0; found = k.1; fits = k.2 }, rest.0), (apart, rest.1), rest.2)
+
+-- A message fits just where its contents do.
+module _ (shape : Shape) (type : TypeId) (ms : List (ℕ × Content)) (us : List WireRecord) (m : Kept) (view : fields_onto ms (ends type us) ≡ m) where
+  type_is : type_of (fields_onto ms (ends type us)) ≡ type
+  type_is = (fields_keep ms (ends type us)).1
+
+  pub fits_from_contents : Rises ms → FitsByContents shape type ms us → Fits shape m
+  fits_from_contents rises h =
+      let whole = contents_to shape type ms us rises h.each h.apart h.unknown in
+      subst (Fits shape) view (record {
+        type_is_there = subst (λ (t : TypeId). t.index < length shape) (sym type_is) h.type_is_there;
+        is_message = subst (λ (t : TypeId). IsMessage shape t (message_of (fields_onto ms (ends type us)))) (sym type_is) whole.0;
+        parts_agree = whole.1;
+      })
+
+  pub contents_from_fits : IsShape shape → AllByRecursion (λ (x : ℕ × Content). IsFilled x.1) ms → AllByRecursion (λ (x : ℕ × Content). HasKeys x.1) ms → Fits shape m → FitsByContents shape type ms us
+  contents_from_fits is_shape filled keys fits =
+      let here = subst (Fits shape) (sym view) fits in
+      let is_m = subst (λ (t : TypeId). IsMessage shape t (message_of (fields_onto ms (ends type us)))) type_is here.is_message in
+      let k = contents_back shape type is_shape ms us filled keys (is_m, here.parts_agree) in
+      record { type_is_there = subst (λ (t : TypeId). t.index < length shape) type_is here.type_is_there; each = k.0; apart = k.1; unknown = k.2 }

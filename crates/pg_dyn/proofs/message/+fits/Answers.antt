@@ -1,0 +1,120 @@
+-- A content fits where it has its field's shape and each of its items fits, and a message where each of its contents does.
+use Rattle.std.proofs.Common.{Vec, Global, ◌≡◌, ℕ, List, true, IsTrue, map, refl, ap, sym, subst, ◌∙◌, true≢false}
+use Rattle.std.specs.List.{AllByRecursion}
+use Rattle.pg_schema.specs.Parts.{field_shape, shape_of}
+use Rattle.pg_schema.specs.declared.field.Element.{Element}
+use Rattle.pg_schema.specs.declared.field.Presence.{Presence}
+use Rattle.pg_schema.specs.declared.field.Presence.TheVariants as presences
+use Rattle.pg_schema.specs.declared.field.Scalar.{Scalar}
+use Rattle.pg_schema.specs.Shape.{Shape, FieldShape, fields}
+use Rattle.pg_dyn.specs.declared.message.Content.{Content}
+use Rattle.pg_dyn.specs.declared.message.Content.TheVariants as contents
+use Rattle.pg_dyn.specs.declared.message.UnknownRecord.{UnknownRecord}
+use Rattle.pg_dyn.specs.declared.message.Value.{Value}
+use Rattle.pg_dyn.specs.ContentFits.{ContentFits, HoldsContent, ItemFits, NoneRivals}
+use Rattle.pg_dyn.specs.Content.{is_unknown}
+use Rattle.pg_dyn.specs.ScalarItems.{IsItemOf}
+use Rattle.pg_dyn.specs.Seen.{IsKey, record_seen}
+use Rattle.pg_dyn.proofs.FitsByContents.{fits_from_contents, contents_from_fits, item_is_key}
+use Rattle.pg_dyn.proofs.FitsChecks.{same_field, all_unknown, none_accepted}
+use Rattle.pg_dyn.proofs.FitsSteps.{each_more, some_not_none}
+use Rattle.pg_dyn.proofs.Lists.{each_weaker}
+use Rattle.pg_dyn.proofs.Plainness.{each_at_index, each_from_take}
+use Rattle.pg_dyn.proofs.message.+fits.Goals as goal
+
+pub Content::fits-keys_rise-requires : goal.Content::fits-keys_rise-requires
+Content::fits-keys_rise-requires t c =
+    let each = each_from_take (λ (x : Value × Value). IsItemOf c.in-Map-Map.key x.0 × ItemFits (shape_of c.args.schema.now) c.args.field.now.element x.1) _ _ c.loop-entry_key.entry_key-index c.deref-entry_key-items.ensures.value c.loop-entry_key-test.false c.loop-entry_key.invariant in
+    subst (AllByRecursion (λ (e : Value × Value). IsKey e.0)) (sym c.deref.ensures.value)
+    (each_weaker (λ (x : Value × Value). IsItemOf c.in-Map-Map.key x.0 × ItemFits (shape_of c.args.schema.now) c.args.field.now.element x.1) (λ (e : Value × Value). IsKey e.0) (λ e h. item_is_key c.in-Map-Map.key e.0 h.0) c.in-Map-Map.entries.items each)
+
+pub Message::is_one_of-returns-then-not-has : goal.Message::is_one_of-returns-then-not-has
+Message::is_one_of-returns-then-not-has t c =
+    let a = c.self.inside in (
+      (λ e. absurd (true≢false (sym e))),
+      λ fits.
+          let by = contents_from_fits (shape_of c.args.schema.now) a.type_id a.fields.items (map record_seen a.unknown.items) c.args.self.now c.self.view_is c.requires.shape c.self.invariant.filled c.self.invariant.keys fits in
+          absurd (true≢false (sym (c.has.ensures.1 by.type_is_there) ∙ c.if-not-has.true)),
+    )
+
+pub Message::is_one_of-returns-in_default : goal.Message::is_one_of-returns-in_default
+Message::is_one_of-returns-in_default t c =
+    let a = c.self.inside in (
+      (λ e. absurd (true≢false (sym e))),
+      λ fits.
+          let by = contents_from_fits (shape_of c.args.schema.now) a.type_id a.fields.items (map record_seen a.unknown.items) c.args.self.now c.self.view_is c.requires.shape c.self.invariant.filled c.self.invariant.keys fits in
+          let held = each_at_index (HoldsContent (shape_of c.args.schema.now) a.type_id) _ _ c.loop-number.number-index c.loop-number-item.result c.deref-number-items.ensures.value c.loop-number-test.true c.loop-number-item.is by.each in
+          absurd (some_not_none held.field (sym held.found ∙ sym c.in_default.ensures.shape)),
+    )
+
+pub Message::is_one_of-returns-then-not-fits : goal.Message::is_one_of-returns-then-not-fits
+Message::is_one_of-returns-then-not-fits t c =
+    let a = c.self.inside in (
+      (λ e. absurd (true≢false (sym e))),
+      λ fits.
+          let by = contents_from_fits (shape_of c.args.schema.now) a.type_id a.fields.items (map record_seen a.unknown.items) c.args.self.now c.self.view_is c.requires.shape c.self.invariant.filled c.self.invariant.keys fits in
+          let held = each_at_index (HoldsContent (shape_of c.args.schema.now) a.type_id) _ _ c.loop-number.number-index c.loop-number-item.result c.deref-number-items.ensures.value c.loop-number-test.true c.loop-number-item.is by.each in
+          let same : held.field ≡ field_shape c.in-Some.field.now = same_field held.field (field_shape c.in-Some.field.now) (sym held.found ∙ sym c.in-Some.ensures.shape) in
+          let here = subst (λ (f : FieldShape). ContentFits (shape_of c.args.schema.now) f.presence f.element c.loop-number-item.result.1) same held.fits in
+          absurd (true≢false (sym (c.fits.ensures.1 here) ∙ c.if-not-fits.true)),
+    )
+
+pub Message::is_one_of-loop-number-preserved : goal.Message::is_one_of-loop-number-preserved
+Message::is_one_of-loop-number-preserved t c =
+    each_more (HoldsContent (shape_of c.args.schema.now) c.self.inside.type_id) c.deref-number-items.result.now c.loop-number.number-index c.loop-number-item.result c.loop-number-test.true c.loop-number-item.is c.loop-number.invariant
+    (record { field = field_shape c.in-Some.field.now; found = sym c.in-Some.ensures.shape; fits = c.fits.ensures.0 c.if-not-fits.false })
+
+-- a map's entries
+entries_fit : (shape : Shape) (key : Scalar) (p : Presence) (e : Element) (c : Content) (es : Vec (Value × Value) Global) → p ≡ presences.Map key → c ≡ contents.Map es → ContentFits shape p e c
+    → AllByRecursion (λ (x : Value × Value). IsItemOf key x.0 × ItemFits shape e x.1) es.items
+entries_fit shape key p e c es is one h = (subst (λ x. ContentFits shape (presences.Map key) e x) one (subst (λ x. ContentFits shape x e c) is h)).0
+
+pub Content::fits-returns-then-not-is_item : goal.Content::fits-returns-then-not-is_item
+Content::fits-returns-then-not-is_item t c = (
+  (λ e. absurd (true≢false (sym e))),
+  λ h.
+      let each = entries_fit (shape_of c.args.schema.now) c.in-Map-Map.key c.args.field.now.presence c.args.field.now.element c.args.self.now c.in-Map-Map.entries c.in-Map-Map.is-0 c.in-Map-Map.is-1 h in
+      let one = each_at_index (λ (x : Value × Value). IsItemOf c.in-Map-Map.key x.0 × ItemFits (shape_of c.args.schema.now) c.args.field.now.element x.1) _ _ c.loop-entry_key.entry_key-index c.loop-entry_key-item.result c.deref-entry_key-items.ensures.value c.loop-entry_key-test.true c.loop-entry_key-item.is each in
+      absurd (true≢false (sym (c.is_item.ensures.1 one.0) ∙ c.if-not-is_item.true)),
+)
+
+pub Content::fits-returns-then-not-fits-2 : goal.Content::fits-returns-then-not-fits-2
+Content::fits-returns-then-not-fits-2 t c = (
+  (λ e. absurd (true≢false (sym e))),
+  λ h.
+      let each = entries_fit (shape_of c.args.schema.now) c.in-Map-Map.key c.args.field.now.presence c.args.field.now.element c.args.self.now c.in-Map-Map.entries c.in-Map-Map.is-0 c.in-Map-Map.is-1 h in
+      let one = each_at_index (λ (x : Value × Value). IsItemOf c.in-Map-Map.key x.0 × ItemFits (shape_of c.args.schema.now) c.args.field.now.element x.1) _ _ c.loop-entry_key.entry_key-index c.loop-entry_key-item.result c.deref-entry_key-items.ensures.value c.loop-entry_key-test.true c.loop-entry_key-item.is each in
+      absurd (true≢false (sym (c.fits-in-loop-entry_key.ensures.1 one.1) ∙ c.if-not-fits-2.true)),
+)
+
+pub Content::fits-loop-entry_key-preserved : goal.Content::fits-loop-entry_key-preserved
+Content::fits-loop-entry_key-preserved t c =
+    each_more (λ (x : Value × Value). IsItemOf c.in-Map-Map.key x.0 × ItemFits (shape_of c.args.schema.now) c.args.field.now.element x.1) c.deref-entry_key-items.result.now c.loop-entry_key.entry_key-index c.loop-entry_key-item.result c.loop-entry_key-test.true c.loop-entry_key-item.is c.loop-entry_key.invariant
+    (c.is_item.ensures.0 c.if-not-is_item.false, c.fits-in-loop-entry_key.ensures.0 c.if-not-fits-2.false)
+
+pub Message::is_one_of-returns-then-not-none_rivals : goal.Message::is_one_of-returns-then-not-none_rivals
+Message::is_one_of-returns-then-not-none_rivals t c =
+    let a = c.self.inside in (
+      (λ e. absurd (true≢false (sym e))),
+      λ fits.
+          let by = contents_from_fits (shape_of c.args.schema.now) a.type_id a.fields.items (map record_seen a.unknown.items) c.args.self.now c.self.view_is c.requires.shape c.self.invariant.filled c.self.invariant.keys fits in
+          let apart = subst (NoneRivals (fields (shape_of c.args.schema.now) a.type_id)) (sym c.deref.ensures.value) by.apart in
+          absurd (true≢false (sym (c.none_rivals.ensures.1 apart) ∙ c.if-not-none_rivals.true)),
+    )
+
+pub Message::is_one_of-returns : goal.Message::is_one_of-returns
+Message::is_one_of-returns t c =
+    let a = c.self.inside in
+    let fs = fields (shape_of c.args.schema.now) a.type_id in (
+      (λ e.
+          fits_from_contents (shape_of c.args.schema.now) a.type_id a.fields.items (map record_seen a.unknown.items) c.args.self.now c.self.view_is c.self.invariant.rises (record {
+            type_is_there = c.has.ensures.0 c.if-not-has.false;
+            each = each_from_take (HoldsContent (shape_of c.args.schema.now) a.type_id) _ _ c.loop-number.number-index c.deref-number-items.ensures.value c.loop-number-test.false c.loop-number.invariant;
+            apart = subst (NoneRivals (fields (shape_of c.args.schema.now) a.type_id)) c.deref.ensures.value (c.none_rivals.ensures.0 c.if-not-none_rivals.false);
+            unknown = all_unknown (fields (shape_of c.args.schema.now) a.type_id) a.unknown.items
+                (subst (λ (us : List UnknownRecord). AllByRecursion (λ (u : UnknownRecord). is_unknown (fields (shape_of c.args.schema.now) a.type_id) (record_seen u) ≡ true) us) c.deref-2.ensures.value (c.unknown_fit.ensures.0 e)) c.self.invariant.records;
+          })),
+      λ fits.
+          let by = contents_from_fits (shape_of c.args.schema.now) a.type_id a.fields.items (map record_seen a.unknown.items) c.args.self.now c.self.view_is c.requires.shape c.self.invariant.filled c.self.invariant.keys fits in
+          c.unknown_fit.ensures.1 (subst (λ (us : List UnknownRecord). AllByRecursion (λ (u : UnknownRecord). is_unknown (fields (shape_of c.args.schema.now) a.type_id) (record_seen u) ≡ true) us) (sym c.deref-2.ensures.value) (none_accepted (fields (shape_of c.args.schema.now) a.type_id) a.unknown.items by.unknown)),
+    )

@@ -1,0 +1,76 @@
+-- Contents that fit their fields, one by one (proto3 language guide, "Field Presence", "Oneof", "Maps").
+use Rattle.std.specs.Prelude.{◌≡◌, ℕ, ◌<◌, ⊤, Bool, false, List, [], ◌∷◌, length, Option, Some, None}
+use Rattle.std.specs.List.{AllByRecursion}
+use Rattle.std.specs.declared.cmp.Ordering.TheVariants.{Less}
+use Rattle.pg_schema.specs.declared.field.TypeId.{TypeId}
+use Rattle.pg_schema.specs.declared.field.Scalar.TheVariants.{Int32}
+use Rattle.pg_schema.specs.declared.field.Element.{Element}
+use Rattle.pg_schema.specs.declared.field.Element.TheVariants as elements
+use Rattle.pg_schema.specs.declared.field.Presence.{Presence}
+use Rattle.pg_schema.specs.declared.field.Presence.TheVariants as presences
+use Rattle.pg_schema.specs.Shape.{Shape, FieldShape, fields, field_at}
+use Rattle.pg_wire.specs.Records.{WireRecord}
+use Rattle.pg_dyn.specs.declared.message.Content.{Content}
+use Rattle.pg_dyn.specs.declared.message.Content.TheVariants as contents
+use Rattle.pg_dyn.specs.declared.message.Value.{Value}
+use Rattle.pg_dyn.specs.declared.message.Value.TheVariants as values
+use Rattle.pg_dyn.specs.Message.{is_zero, key_cmp}
+use Rattle.pg_dyn.specs.Kept.{type_of}
+use Rattle.pg_dyn.specs.Seen.{leaf_of}
+use Rattle.pg_dyn.specs.Content.{is_rival}
+use Rattle.pg_dyn.specs.Belonging.{IsUnknown}
+use Rattle.pg_dyn.specs.Fits.{Fits}
+use Rattle.pg_dyn.specs.ScalarItems.{IsItemOf}
+
+-- a message is never zero
+abbrev pub is_zero_value : Value → Bool
+is_zero_value (values.Msg child) = false
+is_zero_value value = is_zero (leaf_of value)
+
+-- the item is one of the element; an enum takes the numbers of int32
+abbrev pub ItemFits : Shape → Element → Value → Type 0
+ItemFits shape (elements.Scalar s) value = IsItemOf s value
+ItemFits shape (elements.Enum e) value = IsItemOf Int32 value
+ItemFits shape (elements.Message t) (values.Msg child) = Fits shape child.value × (type_of child.value ≡ t)
+ItemFits shape (elements.Message t) value = ⊥
+
+-- each key is below all later ones
+abbrev pub KeysRise : List (Value × Value) → Type 0
+KeysRise [] = ⊤
+KeysRise (e ∷ es) = AllByRecursion (λ (x : Value × Value). key_cmp (leaf_of e.0) (leaf_of x.0) ≡ Less) es × KeysRise es
+
+-- the content has the shape of the presence, each item is one of the element, and an implicit field holds no zero
+abbrev pub ContentFits : Shape → Presence → Element → Content → Type 0
+ContentFits shape presences.Implicit e (contents.One v) = ItemFits shape e v × (is_zero_value v ≡ false)
+ContentFits shape presences.Explicit e (contents.One v) = ItemFits shape e v
+ContentFits shape (presences.Repeated packed) e (contents.Many vs) = AllByRecursion (ItemFits shape e) vs.items
+ContentFits shape (presences.Map key) e (contents.Map es) =
+    AllByRecursion (λ (x : Value × Value). IsItemOf key x.0 × ItemFits shape e x.1) es.items × KeysRise es.items
+ContentFits shape p e c = ⊥
+
+-- the content fits the field of its number
+pub record HoldsContent (shape : Shape) (type : TypeId) (c : ℕ × Content) : Type 0 where
+  pub field : FieldShape
+  pub found : field_at (fields shape type) c.0 ≡ Some field
+  pub fits : ContentFits shape field.presence field.element c.1
+
+-- whether two fields, where there are both, are members of one oneof
+abbrev pub are_rivals_by : Option FieldShape → Option FieldShape → Bool
+are_rivals_by (Some f) (Some g) = is_rival f g
+are_rivals_by (Some f) None = false
+are_rivals_by None g = false
+
+-- the two contents aren't members of one oneof
+abbrev pub AreApart : List FieldShape → ℕ → ℕ → Type 0
+AreApart fs a b = (f g : FieldShape) → field_at fs a ≡ Some f → field_at fs b ≡ Some g → is_rival f g ≡ false
+
+abbrev pub NoneRivals : List FieldShape → List (ℕ × Content) → Type 0
+NoneRivals fs [] = ⊤
+NoneRivals fs (m ∷ ms) = AllByRecursion (λ (l : ℕ × Content). AreApart fs m.0 l.0) ms × NoneRivals fs ms
+
+-- a message of the type with these contents and unknown records fits
+pub record FitsByContents (shape : Shape) (type : TypeId) (ms : List (ℕ × Content)) (us : List WireRecord) : Type 0 where
+  pub type_is_there : type.index < length shape
+  pub each : AllByRecursion (HoldsContent shape type) ms
+  pub apart : NoneRivals (fields shape type) ms
+  pub unknown : AllByRecursion (IsUnknown (fields shape type)) us
