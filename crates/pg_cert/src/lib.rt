@@ -18,3 +18,6 @@ pub use laws::{covers_without_fault, verdicts_are_true, worked_certificates};
 pub use reading::from_text;
 pub use verdict::Verdict;
 pub use writing::to_text;
+
+#[cfg(test)]
+mod tests;
