@@ -6,6 +6,7 @@ pub mod MaskLaws
 pub mod NumberLaws
 pub mod OrderLaws
 pub mod PathLaws
+pub mod PlaceLaws
 pub mod ResolvesLaws
 pub mod SeesLaws
 pub mod SightLaws

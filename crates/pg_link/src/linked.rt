@@ -1,9 +1,10 @@
 //! Linked files.
-ghost use Rattle.std.specs.Prelude.{◌≡◌, ◌<◌, IfErr, IfOk, List, Some, length, map, slice_get};
+ghost use Rattle.std.specs.Prelude.{◌≡◌, ◌<◌, IfErr, IfOk, IfSome, List, Some, length, map, slice_get};
 
 use crate::declaring::index_names;
 use crate::error::LinkError;
 use crate::index::Index;
+use crate::looking::{first_place, is_behind_dot};
 use crate::resolve::Unresolved;
 use crate::sights::sights_of;
 use crate::target::Target;
@@ -42,7 +43,7 @@ impl Model for Linked {
 impl Linked {
     ghost use Rattle.pg_link.specs.Files.{all_names, visible_names};
     ghost use Rattle.pg_link.specs.Index.{texts};
-    ghost use Rattle.pg_link.specs.Linked.{IsLinkedUp, IsRead};
+    ghost use Rattle.pg_link.specs.Linked.{IsDeclaredAt, IsLinkedUp, IsRead};
     ghost use Rattle.pg_link.specs.Resolves.{Resolves, reference};
     ghost use Rattle.pg_link.specs.Targets.{file_targets};
     ghost use Rattle.pg_link.specs.Unresolved.{Refuses};
@@ -114,5 +115,20 @@ impl Linked {
             → Refuses (visible_names (outlines self.now.files) (path_of e)) (all_names (outlines self.now.files)) (texts scope.now) (reference name.now) why) }
     {
         self.index.resolve(alloc, &self.sights[file], scope, name)
+    }
+
+    /// Where a full name, given without its dot, is first declared.
+    pub(crate) fn declared_at(&self, full_name: &str) -> Option<(&str, usize, usize)>
+        ensures { IfSome result (λ p. IsDeclaredAt self.now.files full_name.now p.0.now p.1 p.2) }
+    {
+        for number in 0..self.index.names.len() {
+            let Some((name, named)) = self.index.names.get_index(number) else {
+                continue;
+            };
+            if is_behind_dot(name.as_str(), full_name) {
+                return first_place(&self.files, named);
+            }
+        }
+        None
     }
 }

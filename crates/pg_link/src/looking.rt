@@ -1,14 +1,19 @@
 //! What a caller may ask of linked files.
-ghost use Rattle.std.specs.Prelude.{◌≡◌, ◌<◌, ◌∷◌, IfErr, IfOk, List, Some, length, slice_get, ℕ};
+ghost use Rattle.std.specs.Prelude.{◌≡◌, ◌<◌, ◌∷◌, IfErr, IfOk, IfSome, List, Some, length, slice_get, true, ℕ};
 ghost use Rattle.pg_link.specs.Files.{all_names, visible_names};
 ghost use Rattle.pg_link.specs.Index.{texts};
+ghost use Rattle.pg_link.specs.Linked.{IsDeclaredAt, IsFirstPlace};
 ghost use Rattle.pg_link.specs.Resolves.{Resolves, reference};
 ghost use Rattle.pg_link.specs.UseFaults.{IsNoName, SaysOf};
 ghost use Rattle.pg_link.specs.Walk.{Entry, outlines, path_of};
 
 use crate::error::{LinkError, Place};
 use crate::linked::Linked;
+use crate::names::Named;
 use crate::resolve::Unresolved;
+use crate::walk::SourceFile;
+use indexmap::IndexMap;
+use pg_lex::place;
 use pg_syntax::tree::TypeName;
 use std::alloc::Global;
 
@@ -17,6 +22,29 @@ fn behind_dot(full: &str) -> &str
     ensures { (rest : List ℕ) → full.now ≡ 46 ∷ rest → result.now ≡ rest }
 {
     full.strip_prefix(".").unwrap_or(full)
+}
+
+/// Whether a full name is this one with a dot in front.
+pub(crate) fn is_behind_dot(full: &str, name: &str) -> bool
+    ensures { result ≡ true → full.now ≡ 46 ∷ name.now }
+{
+    match full.strip_prefix(".") {
+        Some(rest) => rest == name,
+        None => false,
+    }
+}
+
+/// Where what bears a name is first declared.
+pub(crate) fn first_place<'a>(
+    files: &'a IndexMap<String, SourceFile>,
+    named: &Named,
+) -> Option<(&'a str, usize, usize)>
+    ensures { IfSome result (λ p. IsFirstPlace files.now.entries named.now.files.items named.now.at p.0.now p.1 p.2) }
+{
+    let number = *named.files.first()?;
+    let (path, file) = files.get_index(number)?;
+    let (line, column) = place(&file.bytes, named.at);
+    Some((path.as_str(), line, column))
 }
 
 /// The fault of a name that doesn't resolve in a file.
@@ -62,5 +90,13 @@ impl Linked {
             Ok(full) => Ok(behind_dot(full)),
             Err(why) => Err(name_fault(alloc, self.path_of(file), why)),
         }
+    }
+
+    /// The file, line and column of the word that declares a full name, which is given without a dot in front; of a
+    /// package part the first. It takes no memory, and goes by the names one by one.
+    pub fn place(&self, full_name: &str) -> Option<(&str, usize, usize)>
+        ensures { IfSome result (λ p. IsDeclaredAt self.now.files full_name.now p.0.now p.1 p.2) }
+    {
+        self.declared_at(full_name)
     }
 }
