@@ -1,10 +1,12 @@
 pub mod BridgeLaws
 pub mod DeclareLaws
 pub mod EntryLaws
+pub mod LookLaws
 pub mod MaskLaws
 pub mod NumberLaws
 pub mod OrderLaws
 pub mod PathLaws
+pub mod PlaceLaws
 pub mod ResolvesLaws
 pub mod SeesLaws
 pub mod SightLaws

@@ -1,13 +1,16 @@
 -- Files that are linked: their names, and what their uses resolve to.
-use Rattle.std.specs.Prelude.{◌≡◌, ◌≤◌, Bool, List, map, length, Some}
-use Rattle.std.specs.List.{All}
+use Rattle.std.specs.Prelude.{◌≡◌, ◌≤◌, ℕ, Bool, List, ◌∷◌, map, length, slice_get, take, Some}
+use Rattle.std.specs.List.{All, IsAmong}
+use Rattle.pg_lex.specs.Place.{line, column}
 use Rattle.pg_link.specs.declared.index.Index as indexes
 use Rattle.pg_link.specs.declared.target.Target.{Target}
-use Rattle.pg_link.specs.Files.{Differ, InOrder, paths_of}
+use Rattle.pg_link.specs.Files.{Declared, Differ, InOrder, paths_of}
+use Rattle.pg_link.specs.Names.{Text}
+use Rattle.pg_link.specs.Outline.{file_names}
 use Rattle.pg_link.specs.Sights.{AreSights}
 use Rattle.pg_link.specs.Standing.{Lists, NoneTwice, all_standings}
 use Rattle.pg_link.specs.Targets.{file_targets}
-use Rattle.pg_link.specs.Walk.{Entry, IsParsed, outlines}
+use Rattle.pg_link.specs.Walk.{Entry, IsParsed, outlines, path_of}
 
 -- files, each behind those that it imports, and for each what its uses resolve to, in the order of its text
 pub record LinkedFiles : Type 0 where
@@ -37,3 +40,25 @@ pub record IsSettled (files : List Entry) (index : indexes.Index) (sights : List
   pub lists : Lists index (all_standings files)
   pub sight_length : length sights ≡ length files
   pub are_sights : AreSights files sights
+
+-- the full name, here without its dot, is declared in one of the files, at this line and column
+pub record IsDeclaredAt (files : List Entry) (full path : Text) (at_line at_column : ℕ) : Type 0 where
+  pub file : Entry
+  pub declared : Declared
+  pub is_there : IsAmong files file
+  pub declares : IsAmong (file_names file.1.tree) declared
+  pub is_named : declared.name ≡ 46 ∷ full
+  pub is_path : path ≡ path_of file
+  pub is_line : at_line ≡ line (take declared.at file.1.bytes.items)
+  pub is_column : at_column ≡ column (take declared.at file.1.bytes.items)
+
+-- the first of these files, and the place of a byte of it
+pub record IsFirstPlace (files : List Entry) (numbers : List ℕ) (at : ℕ) (path : Text) (at_line at_column : ℕ) : Type 0 where
+  pub number : ℕ
+  pub others : List ℕ
+  pub file : Entry
+  pub is_first : numbers ≡ number ∷ others
+  pub is_there : slice_get files number ≡ Some file
+  pub is_path : path ≡ path_of file
+  pub is_line : at_line ≡ line (take at file.1.bytes.items)
+  pub is_column : at_column ≡ column (take at file.1.bytes.items)

@@ -10,9 +10,10 @@ use Rattle.pg_link.specs.declared.resolve.Unresolved.TheVariants as why
 use Rattle.pg_link.specs.Files.{all_names, visible_names}
 use Rattle.pg_link.specs.Names.{Text, Names}
 use Rattle.pg_link.specs.Standing.{IsTwiceIn, NoneTwice, all_standings}
+use Rattle.pg_link.specs.Resolves.{Reference, NamesNoType}
 use Rattle.pg_link.specs.Unresolved.{IsHidden, IsUnknown, NamesNoTarget}
 use Rattle.pg_link.specs.Uses.{Use, file_uses}
-use Rattle.pg_link.specs.Walk.{Entry, IsLinked, IsPlace, Refuses, World, outlines, path_of}
+use Rattle.pg_link.specs.Walk.{Entry, IsLinked, IsPlace, IsWhole, Refuses, World, outlines, path_of}
 
 -- a use of the file that this holds of, at its place
 pub record IsAtUse (path text : Text) (file : tree.FileTree.FileTree) (place : places.Place) (P : Use → Type 0) : Type 0 where
@@ -65,3 +66,33 @@ IsNameFault files e = (IsTwiceIn files e) ⊎ (NoneTwice (all_standings files) �
 -- Each refusal comes only where what it names is there, at its place: on the way to the files of the roots, or in these.
 abbrev pub LinkRefuses : World → errors.LinkError → Type 0
 LinkRefuses w e = (Refuses w e) ⊎ ((files : List Entry) × IsLinked w files × IsNameFault files e)
+
+-- A name in a scope of the file of this path doesn't resolve; told of the file as a whole.
+abbrev pub IsNoName : Names → Names → List Text → Reference → Text → errors.LinkError → Type 0
+IsNoName visible all scope name path (error.UnknownName place) = IsWhole place path × IsUnknown visible all scope name
+IsNoName visible all scope name path (error.NotAType place) = IsWhole place path × NamesNoType visible scope name
+IsNoName visible all scope name path (error.NotImported place) = IsWhole place path × IsHidden visible all scope name
+IsNoName visible all scope name path error.Memory = Unit {0}
+IsNoName visible all scope name path (error.MissingFile place) = ⊥
+IsNoName visible all scope name path (error.ImportCycle place) = ⊥
+IsNoName visible all scope name path (error.DuplicateImport place) = ⊥
+IsNoName visible all scope name path (error.DuplicateName place) = ⊥
+IsNoName visible all scope name path (error.TooManyFiles place) = ⊥
+IsNoName visible all scope name path (error.SourceFailed place) = ⊥
+IsNoName visible all scope name path (error.Lex e place) = ⊥
+IsNoName visible all scope name path (error.Syntax e place) = ⊥
+
+-- the fault that says why, of the file as a whole
+abbrev pub SaysOf : Unresolved → Text → errors.LinkError → Type 0
+SaysOf w path (error.UnknownName place) = (w ≡ why.UnknownName) × IsWhole place path
+SaysOf w path (error.NotAType place) = (w ≡ why.NotAType) × IsWhole place path
+SaysOf w path (error.NotImported place) = (w ≡ why.NotImported) × IsWhole place path
+SaysOf w path error.Memory = Unit {0}
+SaysOf w path (error.MissingFile place) = ⊥
+SaysOf w path (error.ImportCycle place) = ⊥
+SaysOf w path (error.DuplicateImport place) = ⊥
+SaysOf w path (error.DuplicateName place) = ⊥
+SaysOf w path (error.TooManyFiles place) = ⊥
+SaysOf w path (error.SourceFailed place) = ⊥
+SaysOf w path (error.Lex e place) = ⊥
+SaysOf w path (error.Syntax e place) = ⊥

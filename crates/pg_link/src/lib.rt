@@ -13,6 +13,7 @@ mod laws;
 mod linked;
 mod linking;
 mod listed;
+mod looking;
 mod names;
 mod reading;
 mod record;

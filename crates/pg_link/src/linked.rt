@@ -1,14 +1,17 @@
 //! Linked files.
-ghost use Rattle.std.specs.Prelude.{◌≡◌, ◌<◌, IfErr, IfOk, List, Some, length, map, slice_get};
+ghost use Rattle.std.specs.Prelude.{◌≡◌, ◌<◌, IfErr, IfOk, IfSome, List, Some, length, map, slice_get};
 
 use crate::declaring::index_names;
 use crate::error::LinkError;
 use crate::index::Index;
+use crate::looking::{first_place, is_behind_dot};
+use crate::resolve::Unresolved;
 use crate::sights::sights_of;
 use crate::target::Target;
 use crate::targets::all_targets;
 use crate::walk::SourceFile;
 use indexmap::IndexMap;
+use pg_syntax::tree::TypeName;
 use std::alloc::Global;
 use std::marker::Model;
 
@@ -38,10 +41,14 @@ impl Model for Linked {
 }
 
 impl Linked {
-    ghost use Rattle.pg_link.specs.Linked.{IsLinkedUp, IsRead};
+    ghost use Rattle.pg_link.specs.Files.{all_names, visible_names};
+    ghost use Rattle.pg_link.specs.Index.{texts};
+    ghost use Rattle.pg_link.specs.Linked.{IsDeclaredAt, IsLinkedUp, IsRead};
+    ghost use Rattle.pg_link.specs.Resolves.{Resolves, reference};
     ghost use Rattle.pg_link.specs.Targets.{file_targets};
+    ghost use Rattle.pg_link.specs.Unresolved.{Refuses};
     ghost use Rattle.pg_link.specs.UseFaults.{IsNameFault};
-    ghost use Rattle.pg_link.specs.Walk.{Entry};
+    ghost use Rattle.pg_link.specs.Walk.{Entry, outlines, path_of};
 
     /// Settles the names and the uses of files that were read.
     pub(crate) fn of(
@@ -81,5 +88,47 @@ impl Linked {
         ensures resolved { (e : Entry) → slice_get self.now.files file ≡ Some e → map Some result.now ≡ file_targets self.now.files e }
     {
         &self.targets[file]
+    }
+
+    /// The path of a file.
+    pub(crate) fn path_of(&self, file: usize) -> &str
+        ensures { (e : Entry) → slice_get self.now.files file ≡ Some e → result.now ≡ path_of e }
+    {
+        match self.files.get_index(file) {
+            Some((path, _)) => path.as_str(),
+            None => "",
+        }
+    }
+
+    /// The full name that a name means in a scope of a file, with a dot in front, or why there is none.
+    pub(crate) fn look_up(
+        &self,
+        alloc: Global,
+        file: usize,
+        scope: &[&str],
+        name: &TypeName,
+    ) -> Result<&str, Unresolved>
+        requires { file < length self.now.files }
+        ensures resolves { IfOk result (λ full. (e : Entry) → slice_get self.now.files file ≡ Some e
+            → Resolves (visible_names (outlines self.now.files) (path_of e)) (texts scope.now) (reference name.now) full.now) }
+        ensures refused { IfErr result (λ why. (e : Entry) → slice_get self.now.files file ≡ Some e
+            → Refuses (visible_names (outlines self.now.files) (path_of e)) (all_names (outlines self.now.files)) (texts scope.now) (reference name.now) why) }
+    {
+        self.index.resolve(alloc, &self.sights[file], scope, name)
+    }
+
+    /// Where a full name, given without its dot, is first declared.
+    pub(crate) fn declared_at(&self, full_name: &str) -> Option<(&str, usize, usize)>
+        ensures { IfSome result (λ p. IsDeclaredAt self.now.files full_name.now p.0.now p.1 p.2) }
+    {
+        for number in 0..self.index.names.len() {
+            let Some((name, named)) = self.index.names.get_index(number) else {
+                continue;
+            };
+            if is_behind_dot(name.as_str(), full_name) {
+                return first_place(&self.files, named);
+            }
+        }
+        None
     }
 }

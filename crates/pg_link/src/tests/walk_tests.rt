@@ -1,5 +1,6 @@
 use super::failing_source::FailingSource;
-use crate::{LinkError, Listed, Place, Sources, follow_imports};
+use super::shown::line;
+use crate::{Listed, Sources, follow_imports, link};
 use std::alloc::{AllocError, Global};
 use std::test::*;
 
@@ -18,28 +19,9 @@ const TO_B_BY_AN_ESCAPE: &[u8] =
 
 const OPEN_STRING: &[u8] = b"syntax = \"proto3;\n";
 
-/// A code with its place, as the program prints them.
-fn at(alloc: Global, code: &str, place: &Place) -> Result<String, AllocError> {
-    format!(in alloc; "{code} {}:{}:{}", place.file, place.line, place.column)
-}
-
-/// What the program prints of a refusal.
-fn line(alloc: Global, error: &LinkError) -> Result<String, AllocError> {
-    match error {
-        LinkError::MissingFile(place) => at(alloc, "E301", place),
-        LinkError::ImportCycle(place) => at(alloc, "E302", place),
-        LinkError::DuplicateImport(place) => at(alloc, "E303", place),
-        LinkError::TooManyFiles(place) => at(alloc, "E308", place),
-        LinkError::SourceFailed(place) => at(alloc, "E309", place),
-        LinkError::Lex(_, place) => at(alloc, "lex", place),
-        LinkError::Syntax(_, place) => at(alloc, "syntax", place),
-        LinkError::Memory => String::from_str(alloc, "E001"),
-    }
-}
-
 /// What a walk from these roots is refused with, or `linked`.
 fn walked<S: Sources>(alloc: Global, source: &mut S, roots: &[&str]) -> Result<String, AllocError> {
-    match follow_imports(alloc, source, ".", roots) {
+    match link(alloc, source, ".", roots) {
         Ok(_) => String::from_str(alloc, "linked"),
         Err(error) => line(alloc, &error),
     }

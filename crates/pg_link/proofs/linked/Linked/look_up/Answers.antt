@@ -1,0 +1,61 @@
+use Rattle.std.proofs.Common.{◌≡◌, ◌∙◌, ◌<◌, ℕ, Bool, List, Some, None, Vec, Bor, get_or, length, map, slice_get, sym, ap, subst, arith, IfOk, IfErr}
+use Rattle.std.proofs.lemmas.List.{length-map}
+use Rattle.std.proofs.lemmas.Option.{slice_get_within}
+use Rattle.std.specs.Global.{Global}
+use Rattle.pg_link.specs.declared.index.Index as indexes
+use Rattle.pg_link.specs.declared.resolve.Unresolved.{Unresolved}
+use Rattle.pg_link.specs.declared.target.Target.{Target}
+use Rattle.pg_link.specs.Files.{all_names, seen_paths, visible_names}
+use Rattle.pg_link.specs.Index.{names_seen, texts}
+use Rattle.pg_link.specs.Linked.{IsSettled, LinkedFiles}
+use Rattle.pg_link.specs.Names.{Names, Text}
+use Rattle.pg_link.specs.Resolves.{Reference, Resolves, reference}
+use Rattle.pg_link.specs.Sights.{Marks}
+use Rattle.pg_link.specs.Unresolved.{Refuses}
+use Rattle.pg_link.specs.Walk.{Entry, outlines, path_of}
+use Rattle.pg_link.proofs.LookLaws.{if_err, if_ok}
+use Rattle.pg_link.proofs.UseFaultLaws.{all_are, its_marks, visible_are}
+use Rattle.pg_link.proofs.linked.Linked.look_up.Goals as goal
+
+-- what the file sees, through the index
+its_names : (es now : List Entry) (index : indexes.Index) (sights : List (Vec Bool Global)) (targets : List (List Target)) (i : ℕ) (e : Entry) (v : Vec Bool Global) (sight : List Bool)
+    → IsSettled es index (map (λ (m : Vec Bool Global). m.items) sights) targets → es ≡ now → slice_get now i ≡ Some e → v ≡ get_or sights i v → sight ≡ v.items
+    → names_seen index.names (Some sight) ≡ visible_names (outlines now) (path_of e)
+its_names es now index sights targets i e v sight settled same at is seen =
+    let here : slice_get es i ≡ Some e = ap (λ (l : List Entry). slice_get l i) same ∙ at in
+    let within : i < length sights = omega (arith, slice_get_within es i e here, settled.sight_length, length-map sights (λ (m : Vec Bool Global). m.items)) in
+    visible_are index es e sight settled.lists settled.linked.once (its_marks es sights i e v sight settled.are_sights here within is seen)
+    ∙ ap (λ (l : List Entry). visible_names (outlines l) (path_of e)) same
+
+pub returns-clause-resolves : goal.returns-clause-resolves
+returns-clause-resolves c =
+    let scope : List Text = texts c.args.scope.now in
+    let name : Reference = reference c.args.name.now in
+    let index : indexes.Index = c.self.inside.index in
+    let same : c.self.inside.files.entries ≡ c.args.self.now.files = ap (λ (l : LinkedFiles). l.files) c.self.view_is in
+    if_ok (λ (full : Bor Text). Resolves (names_seen index.names (Some c.deref.result.now)) scope name full.now)
+    (λ (full : Bor Text). (e : Entry) → slice_get c.args.self.now.files c.args.file ≡ Some e → Resolves (visible_names (outlines c.args.self.now.files) (path_of e)) scope name full.now)
+    c.resolve.result
+    (λ full resolves e at. subst (λ (names : Names). Resolves names scope name full.now)
+    (its_names c.self.inside.files.entries c.args.self.now.files index c.self.inside.sights.items _ c.args.file e c.index.result.now c.deref.result.now c.self.invariant same at
+    c.index.ensures c.deref.ensures.value) resolves)
+    c.resolve.ensures.resolves
+
+pub returns-clause-refused : goal.returns-clause-refused
+returns-clause-refused c =
+    let scope : List Text = texts c.args.scope.now in
+    let name : Reference = reference c.args.name.now in
+    let index : indexes.Index = c.self.inside.index in
+    let es : List Entry = c.self.inside.files.entries in
+    let same : es ≡ c.args.self.now.files = ap (λ (l : LinkedFiles). l.files) c.self.view_is in
+    let all : names_seen index.names None ≡ all_names (outlines c.args.self.now.files) =
+    all_are index es c.self.invariant.lists c.self.invariant.linked.once ∙ ap (λ (l : List Entry). all_names (outlines l)) same in
+    if_err (λ (why : Unresolved). Refuses (names_seen index.names (Some c.deref.result.now)) (names_seen index.names None) scope name why)
+    (λ (why : Unresolved). (e : Entry) → slice_get c.args.self.now.files c.args.file ≡ Some e
+    → Refuses (visible_names (outlines c.args.self.now.files) (path_of e)) (all_names (outlines c.args.self.now.files)) scope name why)
+    c.resolve.result
+    (λ why refuses e at. subst (λ (names : Names). Refuses (visible_names (outlines c.args.self.now.files) (path_of e)) names scope name why) all
+    (subst (λ (names : Names). Refuses names (names_seen index.names None) scope name why)
+    (its_names es c.args.self.now.files index c.self.inside.sights.items _ c.args.file e c.index.result.now c.deref.result.now c.self.invariant same at
+    c.index.ensures c.deref.ensures.value) refuses))
+    c.resolve.ensures.cause

@@ -1,0 +1,16 @@
+use Rattle.std.proofs.Common.{◌≡◌, ◌∙◌, ◌∷◌, List, ℕ, sym, ap, subst}
+use Rattle.pg_link.specs.Files.{visible_names}
+use Rattle.pg_link.specs.Index.{texts}
+use Rattle.pg_link.specs.Names.{Text}
+use Rattle.pg_link.specs.Resolves.{Resolves, reference}
+use Rattle.pg_link.specs.Walk.{outlines, path_of}
+use Rattle.pg_link.proofs.LookLaws.{has_dot}
+use Rattle.pg_link.proofs.linked.Linked.resolve.Goals as goal
+
+pub returns-in-Ok-clause-resolves : goal.returns-in-Ok-clause-resolves
+returns-in-Ok-clause-resolves c = λ e at.
+    let visible = visible_names (outlines c.args.self.now.files) (path_of e) in
+    let r : Resolves visible (texts c.args.scope.now) (reference c.args.name.now) c.in-Ok.full.now = c.in-Ok.ensures.resolves e at in
+    let d = has_dot visible (texts c.args.scope.now) (reference c.args.name.now) c.in-Ok.full.now r in
+    subst (λ (full : Text). Resolves visible (texts c.args.scope.now) (reference c.args.name.now) full)
+    (d.1 ∙ ap (λ (t : Text). 46 ∷ t) (sym (c.behind_dot.ensures d.0 d.1))) r
