@@ -4,3 +4,5 @@ pub mod TextSets
 pub mod Titles
 pub mod Outlines
 pub mod Placing
+pub mod Eachs
+pub mod PartsLaws

@@ -17,3 +17,5 @@ pub mod MadeMessages
 pub mod Groups
 pub mod MadeServices
 pub mod MadeFiles
+pub mod MadeParts
+pub mod Sources

@@ -11,6 +11,7 @@ mod made_file;
 mod made_message;
 mod made_number;
 mod made_option;
+mod made_parts;
 mod made_service;
 mod member;
 mod message;
