@@ -6,3 +6,4 @@ pub mod Outlines
 pub mod Placing
 pub mod Eachs
 pub mod PartsLaws
+pub mod FileFaults

@@ -19,3 +19,5 @@ pub mod MadeServices
 pub mod MadeFiles
 pub mod MadeParts
 pub mod Sources
+pub mod Declares
+pub mod Examples

@@ -1,10 +1,12 @@
 //! The rules of the proto3 language, from linked files to a checked schema.
 #![tactic(auto)]
 
+mod declare;
 mod enumeration;
 mod fault;
 mod file;
 mod group;
+mod laws;
 mod made_enum;
 mod made_field;
 mod made_file;
@@ -20,4 +22,9 @@ mod numbers;
 mod options;
 mod outline;
 mod reserved;
+
+pub use laws::worked_rules;
+
+#[cfg(test)]
+mod tests;
 mod types;
