@@ -4,3 +4,6 @@ pub mod TextSets
 pub mod Titles
 pub mod Outlines
 pub mod Placing
+pub mod Eachs
+pub mod PartsLaws
+pub mod FileFaults

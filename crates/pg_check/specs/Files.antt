@@ -96,18 +96,3 @@ statements_fault file =
 -- begins at a byte of the file names.
 abbrev pub file_fault : (ℕ → Option Target) → ℕ → tree.FileTree.FileTree → Option Fault
 file_fault targets left file = earlier (types_fault targets left (file_messages file) (file_enums file)) (statements_fault file)
-
--- ---- all files
-
-pub record File : Type 0 where
-  pub tree : tree.FileTree.FileTree
-  pub targets : ℕ → Option Target
-
--- the file that breaks a rule, by its place, and how
-pub record FileFault : Type 0 where
-  pub file : ℕ
-  pub fault : Fault
-
-abbrev pub in_file : ℕ → Option Fault → Option FileFault → Option FileFault
-in_file place None others = others
-in_file place (Some fault) others = Some (record { file = place; fault = fault })

@@ -17,3 +17,7 @@ pub mod MadeMessages
 pub mod Groups
 pub mod MadeServices
 pub mod MadeFiles
+pub mod MadeParts
+pub mod Sources
+pub mod Declares
+pub mod Examples

@@ -37,8 +37,8 @@ pub(crate) enum Rule {
 }
 
 impl Rule {
-    /// The rule's place among all rules.
-    fn order(self) -> u16
+    /// The rule's place among all rules, which is the number of its code.
+    pub(crate) fn order(self) -> u16
         ensures { result ≡ spec.order self }
     {
         match self {

@@ -1,0 +1,66 @@
+-- What the rules take and what they refuse, by small examples. Bytes stand for places of a text.
+use Rattle.std.specs.Prelude.{◌≡◌, ℕ, Bool, true, false, List, [], ◌∷◌, codes, Option, Some, None}
+use Rattle.pg_schema.specs.JsonName.{default_json_name}
+use Rattle.pg_check.specs.declared.fault.Fault.{Fault}
+use Rattle.pg_check.specs.declared.fault.Rule.{Rule}
+use Rattle.pg_check.specs.declared.fault.Rule.TheVariants as rules
+use Rattle.pg_check.specs.declared.numbers.Keyed.{Keyed}
+use Rattle.pg_check.specs.declared.numbers.Numbers.{Numbers}
+use Rattle.pg_check.specs.Enums as enums
+use Rattle.pg_check.specs.Faults.{broken_at, earlier, option_fault}
+use Rattle.pg_check.specs.MadeNumbers.{field_number, of_rank, value_number}
+use Rattle.pg_check.specs.Messages as messages
+use Rattle.pg_check.specs.Names as names
+use Rattle.pg_check.specs.Numbers.{rank, is_field_number}
+use Rattle.pg_check.specs.Options.{OptionAt, first_bad}
+use Rattle.pg_check.specs.Types.{is_packable_scalar}
+use Rattle.pg_schema.specs.declared.field.Scalar.TheVariants as scalars
+use Rattle.std.specs.Prelude.{pos, negsuc}
+
+abbrev pub field : ℕ → ℕ → Keyed
+field number at = record { key = rank false number; at = at }
+
+abbrev pub item : ℕ → ℕ → ℕ → Numbers
+item first last at = record { first = rank false first; last = rank false last; at = at }
+
+abbrev pub name : List ℕ → ℕ → names.Named
+name text at = record { text = text; at = at }
+
+abbrev pub stated : List ℕ → Bool → ℕ → OptionAt
+stated text is_right at = record { name = text; is_right = is_right; at = at }
+
+abbrev pub told : Rule → ℕ → Option Fault
+told rule at = Some (broken_at rule at)
+
+pub record WorkedRules : Type 0 where
+  pub highest_number : is_field_number (rank false 536870911) ≡ true
+  pub zero_is_none : is_field_number (rank false 0) ≡ false
+  pub kept_by_the_runtime : is_field_number (rank false 19000) ≡ false
+  pub beyond : messages.numbers_fault (field 536870912 18 ∷ []) [] ≡ told rules.BadNumber 18
+  pub number_twice : messages.numbers_fault (field 1 24 ∷ field 1 31 ∷ []) [] ≡ told rules.DuplicateNumber 31
+  pub reserved_number : messages.numbers_fault (field 3 35 ∷ []) (item 2 4 21 ∷ []) ≡ told rules.ReservedNumber 35
+  pub ends_are_reserved : messages.numbers_fault (field 4 35 ∷ []) (item 2 4 21 ∷ []) ≡ told rules.ReservedNumber 35
+  pub beside_the_item : messages.numbers_fault (field 5 35 ∷ []) (item 2 4 21 ∷ []) ≡ None
+  pub reserved_behind : messages.numbers_fault (field 3 18 ∷ []) (item 2 4 30 ∷ []) ≡ told rules.ReservedNumber 18
+  pub overlapping : messages.numbers_fault [] (item 1 3 21 ∷ item 3 3 29 ∷ []) ≡ told rules.RangeOverlap 29
+  pub falling : messages.numbers_fault [] (item 5 2 21 ∷ []) ≡ told rules.RangeOverlap 21
+  pub falling_holds_none : messages.numbers_fault (field 3 18 ∷ []) (item 5 2 30 ∷ []) ≡ told rules.RangeOverlap 30
+  pub lowest_code : messages.numbers_fault (field 0 24 ∷ field 0 31 ∷ []) [] ≡ told rules.BadNumber 24
+  pub reserved_name : names.first_among (codes "a" ∷ []) (name (codes "b") 20 ∷ name (codes "a") 32 ∷ []) ≡ Some 32
+  pub json_name : default_json_name (codes "foo_bar") ≡ codes "fooBar"
+  pub json_name_twice : names.first_twice (name (codes "fooBar") 18 ∷ name (codes "fooBar") 37 ∷ []) ≡ Some 37
+  pub json_names_by_case : names.first_twice (name (codes "A") 18 ∷ name (codes "a") 37 ∷ []) ≡ None
+  pub empty_oneof : messages.has_member [] ≡ false
+  pub first_value_one : enums.first_not_zero (field 1 21 ∷ []) ≡ Some 21
+  pub first_value_zero : enums.first_not_zero (field 0 21 ∷ field 1 28 ∷ []) ≡ None
+  pub alias : enums.first_alias false (field 0 21 ∷ field 0 28 ∷ []) ≡ Some 28
+  pub alias_allowed : enums.first_alias true (field 0 21 ∷ field 0 28 ∷ []) ≡ None
+  pub no_value : enums.empty_at 17 [] ≡ Some 17
+  pub wrong_option : first_bad (stated (codes "ctype") false 25 ∷ []) ≡ Some 25
+  pub option_twice : first_bad (stated (codes "deprecated") true 12 ∷ stated (codes "deprecated") true 38 ∷ []) ≡ Some 38
+  pub packed_text : is_packable_scalar scalars.String ≡ false
+  pub option_before_packed : earlier (Some (option_fault rules.PackedNotAllowed 19 26)) (Some (option_fault rules.BadOption 19 41)) ≡ Some (option_fault rules.BadOption 19 41)
+  pub first_in_text : earlier (told rules.BadOption 12) (told rules.BadNumber 30) ≡ told rules.BadOption 12
+  pub made_number : field_number (rank false 7) ≡ 7
+  pub lowest_value : value_number (rank true 2147483648) ≡ negsuc 2147483647
+  pub highest_value : value_number (rank false 2147483647) ≡ pos 2147483647

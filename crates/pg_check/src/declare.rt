@@ -1,0 +1,92 @@
+//! From files to the parts that they declare.
+
+ghost use Rattle.std.specs.Prelude.{◌≡◌, ◌-◌, IfErr, IfOk, length, map};
+ghost use Rattle.std.specs.BTreeMap.{get};
+ghost use Rattle.std.specs.Ordering.{nat_cmp};
+ghost use Rattle.pg_check.specs.Declares as spec;
+ghost use Rattle.pg_check.specs.Files as files;
+ghost use Rattle.pg_check.specs.Outline.{file_messages};
+ghost use Rattle.pg_check.specs.Sources.{source};
+
+use crate::fault::Fault;
+use crate::file::file_fault;
+use crate::made_parts::{Source, parts_of};
+use crate::outline::{file_enums, file_messages};
+use pg_schema::Parts;
+use std::alloc::{AllocError, Global};
+
+/// The most message types.
+const MOST_TYPES: usize = 4096;
+
+/// A rule that one of the files breaks; the file is given by its place among them.
+#[derive(Clone, Copy, Debug, PartialEq, Eq)]
+pub(crate) struct FileFault {
+    pub file: usize,
+    pub fault: Fault,
+}
+
+/// Why files declare no parts.
+#[derive(Clone, Copy, Debug, PartialEq, Eq)]
+pub(crate) enum Refusal {
+    /// A growth was refused.
+    Memory,
+    /// A rule is broken.
+    Broken(FileFault),
+}
+
+impl From<AllocError> for Refusal {
+    ghost use Rattle.pg_check.specs.declared.declare.Refusal.TheVariants.{Memory};
+
+    ghost from_gives = { λ _ error. error ≡ Memory };
+
+    fn from(_error: AllocError) -> Refusal {
+        Refusal::Memory
+    }
+}
+
+/// What was found in a file, and how many more message types may stand behind it.
+#[derive(Clone, Copy)]
+struct Checked {
+    fault: Option<Fault>,
+    left: usize,
+}
+
+/// Looks for the first rule that a file breaks, where so many more message types may stand.
+fn look_at(alloc: Global, file: &Source<'_>, left: usize) -> Result<Checked, AllocError>
+    ensures fault { IfOk result (λ c. c.fault ≡ files.file_fault (get nat_cmp file.now.targets) left file.now.tree.now) }
+    ensures left { IfOk result (λ c. c.left ≡ left - length (file_messages file.now.tree.now)) }
+{
+    let messages = file_messages(alloc, file.tree)?;
+    let enums = file_enums(alloc, file.tree)?;
+    let fault = file_fault(alloc, &file.targets, left, file.tree, &messages, &enums)?;
+    let left = left.saturating_sub(messages.as_slice().len());
+    Ok(Checked { fault, left })
+}
+
+/// The first rule that files break.
+fn first_broken(alloc: Global, files: &[Source<'_>]) -> Result<Option<FileFault>, AllocError>
+    ensures { IfOk result (λ fault. fault ≡ spec.first_broken (map source files.now)) }
+{
+    let mut left = MOST_TYPES;
+    for (index, file) in files.iter().enumerate() {
+        let found = look_at(alloc, file, left)?;
+        if let Some(fault) = found.fault {
+            return Ok(Some(FileFault { file: index, fault }));
+        }
+        left = found.left;
+    }
+    Ok(None)
+}
+
+/// The parts that the files declare. Refused where memory is, or where a file breaks a rule: then
+/// with the first rule that the first of such files breaks.
+pub(crate) fn declare(alloc: Global, files: &[Source<'_>]) -> Result<Parts, Refusal>
+    ensures declared { IfOk result (spec.Declares (map source files.now)) }
+    ensures refused { IfErr result (spec.IsBroken (map source files.now)) }
+{
+    if let Some(fault) = first_broken(alloc, files)? {
+        return Err(Refusal::Broken(fault));
+    }
+    let parts = parts_of(alloc, files)?;
+    Ok(parts)
+}
