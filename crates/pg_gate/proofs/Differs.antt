@@ -22,16 +22,16 @@ use Rattle.pg_dyn.proofs.Splitting.{found_number}
 -- ---- what is shown of a field
 
 abbrev model_item : KeptItem → Item
-model_item (kept.Plain leaf) = model.Plain leaf
-model_item (kept.Msg m) = model.Msg (message_of m)
+model_item (kept.Plain listed leaf) = model.Plain leaf
+model_item (kept.Msg listed m) = model.Msg (message_of m)
 
 abbrev model_part : Part KeptItem → Part Item
 model_part p = record { number = p.number; key = p.key; item = model_item p.item }
 
 parts-message_of : (m : Kept) → parts (message_of m) ≡ map model_part (parts_of m)
 parts-message_of (kept.ends type unknown) = refl
-parts-message_of (kept.holds number key leaf later) = ap (λ ps. record { number = number; key = key; item = model.Plain leaf } ∷ ps) (parts-message_of later)
-parts-message_of (kept.nests number key child later) = ap (λ ps. record { number = number; key = key; item = model.Msg (message_of child) } ∷ ps) (parts-message_of later)
+parts-message_of (kept.holds number key listed leaf later) = ap (λ ps. record { number = number; key = key; item = model.Plain leaf } ∷ ps) (parts-message_of later)
+parts-message_of (kept.nests number key listed child later) = ap (λ ps. record { number = number; key = key; item = model.Msg (message_of child) } ∷ ps) (parts-message_of later)
 
 filter-model_part : (n : ℕ) (ps : List (Part KeptItem)) → filter (is_of n) (map model_part ps) ≡ map model_part (filter (is_of n) ps)
 filter-model_part n [] = refl
@@ -73,8 +73,8 @@ alike_false (elements.Enum x) (elements.Enum y) (F64 m) b other = other
 alike_false (elements.Enum x) (elements.Enum y) (Bytes m) b other = other
 
 meets_false : (f g : FieldShape) (leaf : Leaf) (item : KeptItem) → is_leaf leaf item ≡ false → meets numbers f g (Alike leaf) (model_item item) ≡ false
-meets_false f g leaf (kept.Plain l) other = alike_false f.element g.element leaf l other
-meets_false f g leaf (kept.Msg m) other = refl
+meets_false f g leaf (kept.Plain listed l) other = alike_false f.element g.element leaf l other
+meets_false f g leaf (kept.Msg listed m) other = refl
 
 -- ---- the message of one field
 

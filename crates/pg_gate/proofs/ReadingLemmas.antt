@@ -39,7 +39,7 @@ unread shape type limit bytes (errors.TooDeep at) is may = absurd is
 module _ (pair : Pair) (number : ℕ) (message : Kept) (bytes : List ℕ) (is_old : IsShape (shape_of pair.old.now)) (is_new : IsShape (shape_of pair.new.now)) (single : IsSingle pair number message)
     (written : bytes ≡ enc (shape_of pair.old.now) pair.old_root (message_of message)) (short : length bytes ≤ cap) where
   abbrev one : Kept
-  one = holds number None single.leaf (ends pair.old_root [])
+  one = holds number None false single.leaf (ends pair.old_root [])
 
   abbrev Lost : Kept → Type 0
   Lost m = is_kept numbers (shape_of pair.old.now) (shape_of pair.new.now) pair.old_root pair.new_root (message_of m) ≡ false
@@ -65,7 +65,7 @@ module _ (pair : Pair) (number : ℕ) (message : Kept) (bytes : List ℕ) (is_ol
       (subst (λ (bs : List ℕ). dec (shape_of pair.new.now) pair.new_root bs ≡ Some (message_of read)) written_one is) shows)
 
 -- a message of one item has just that part
-pub of_number_single : (number : ℕ) (leaf : Leaf) (type : TypeId) → of_number number (holds number None leaf (ends type [])) ≡ holds_leaf number leaf
+pub of_number_single : (number : ℕ) (leaf : Leaf) (type : TypeId) → of_number number (holds number None false leaf (ends type [])) ≡ holds_leaf number leaf
 of_number_single number leaf type = ap (λ b. cond b (holds_leaf number leaf) []) (eq-eqb number number refl)
 
 -- the parts that a look-up sees

@@ -8,7 +8,7 @@ use Rattle.pg_dyn.specs.declared.message.Value.{Value}
 use Rattle.pg_dyn.specs.declared.message.Value.TheVariants as values
 use Rattle.pg_gate.specs.Shows.{ShowsOther, another, holds_leaf, is_leaf}
 
-leaf_is : (v : Value) (leaf : Leaf) → item_seen v ≡ Plain leaf → leaf_of v ≡ leaf
+leaf_is : (v : Value) (leaf : Leaf) → item_seen false v ≡ Plain false leaf → leaf_of v ≡ leaf
 leaf_is (values.Int n) leaf is = cc
 leaf_is (values.F32 n) leaf is = cc
 leaf_is (values.F64 n) leaf is = cc
@@ -17,11 +17,11 @@ leaf_is (values.Bytes n) leaf is = cc
 leaf_is (values.Msg m) leaf is = absurd (cc)
 
 -- one other item
-pub shows_another : (number : ℕ) (leaf : Leaf) (v w : Value) → item_seen v ≡ Plain leaf → not (is_leaf (leaf_of v) (item_seen w)) ≡ true
+pub shows_another : (number : ℕ) (leaf : Leaf) (v w : Value) → item_seen false v ≡ Plain false leaf → not (is_leaf (leaf_of v) (item_seen false w)) ≡ true
     → ShowsOther leaf (content_seen number (contents.One w))
 shows_another number leaf v w here told =
     let same = leaf_is v leaf here in
-    another (record { number = number; key = None; item = item_seen w }) (subst (λ (l : Leaf). is_leaf l (item_seen w) ≡ false) same (not_true (is_leaf (leaf_of v) (item_seen w)) told))
+    another (record { number = number; key = None; item = item_seen false w }) (subst (λ (l : Leaf). is_leaf l (item_seen false w) ≡ false) same (not_true (is_leaf (leaf_of v) (item_seen false w)) told))
   where
     not_true : (b : Bool) → not b ≡ true → b ≡ false
     not_true true is = sym is
@@ -33,5 +33,5 @@ item_of [] item = item
 item_of (p ∷ ps) item = p.item
 
 -- a content of one item that is the leaf
-pub held_item : (number : ℕ) (leaf : Leaf) (v : Value) → content_seen number (contents.One v) ≡ holds_leaf number leaf → item_seen v ≡ Plain leaf
-held_item number leaf v held = ap (λ ps. item_of ps (Plain leaf)) held
+pub held_item : (number : ℕ) (leaf : Leaf) (v : Value) → content_seen number (contents.One v) ≡ holds_leaf number leaf → item_seen false v ≡ Plain false leaf
+held_item number leaf v held = ap (λ ps. item_of ps (Plain false leaf)) held

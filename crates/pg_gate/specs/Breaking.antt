@@ -71,8 +71,9 @@ pub record IsShared (pair : Pair) (number : ℕ) : Type 0 where
 -- the message of the old type that holds one item in that field, and nothing else
 pub record IsSingle (pair : Pair) (number : ℕ) (message : Kept) : Type 0 where
   pub leaf : Leaf
-  pub is : message ≡ holds number None leaf (ends pair.old_root [])
+  pub is : message ≡ holds number None false leaf (ends pair.old_root [])
   pub is_message : IsMessage (shape_of pair.old.now) pair.old_root (message_of message)
+  pub fits : Fits (shape_of pair.old.now) message
   pub not_zero : is_zero leaf ≡ false
 
 -- a breaking message of the old type, and what is written of it

@@ -11,12 +11,12 @@ use Rattle.pg_dyn.specs.declared.message.Value.{Value}
 
 -- whether the item is that leaf
 abbrev pub is_leaf : Leaf → KeptItem → Bool
-is_leaf leaf (Plain other) = leaf_eq leaf other
-is_leaf leaf (Msg m) = false
+is_leaf leaf (Plain listed other) = leaf_eq leaf other
+is_leaf leaf (Msg listed m) = false
 
 -- a field's one part, which holds the leaf
 abbrev pub holds_leaf : ℕ → Leaf → List (Part KeptItem)
-holds_leaf number leaf = record { number = number; key = None; item = Plain leaf } ∷ []
+holds_leaf number leaf = record { number = number; key = None; item = Plain false leaf } ∷ []
 
 -- no part, or just one, with another item than the leaf
 pub data ShowsOther (leaf : Leaf) : List (Part KeptItem) → Type 0 where
@@ -30,11 +30,11 @@ parts_seen number (Some content) = content_seen number content.now
 
 -- where the item is that leaf, the content shows another
 abbrev pub IsAnother : Value → Content → Type 0
-IsAnother item content = (number : ℕ) (leaf : Leaf) → item_seen item ≡ Plain leaf → ShowsOther leaf (content_seen number content)
+IsAnother item content = (number : ℕ) (leaf : Leaf) → item_seen false item ≡ Plain false leaf → ShowsOther leaf (content_seen number content)
 
 -- the same of a content that may be missing
 abbrev pub IsOtherThan : Value → Option (Bor Content) → Type 0
-IsOtherThan item content = (number : ℕ) (leaf : Leaf) → item_seen item ≡ Plain leaf → ShowsOther leaf (parts_seen number content)
+IsOtherThan item content = (number : ℕ) (leaf : Leaf) → item_seen false item ≡ Plain false leaf → ShowsOther leaf (parts_seen number content)
 
 -- where the first content is that leaf, the second shows something else
 abbrev pub Differ : Content → Option (Bor Content) → Type 0

@@ -1,5 +1,5 @@
 //! Whether a reader shows the item that was written.
-ghost use Rattle.std.specs.Prelude.{◌≡◌, true};
+ghost use Rattle.std.specs.Prelude.{◌≡◌, false, true};
 ghost use Rattle.pg_dyn.specs.Message.{Bytes, F32, F64, Int};
 ghost use Rattle.pg_dyn.specs.Seen.{item_seen, leaf_of};
 ghost use Rattle.pg_gate.specs.Shows.{Differ, IsAnother, IsOtherThan, is_leaf};
@@ -7,7 +7,7 @@ ghost use Rattle.pg_gate.specs.Shows.{Differ, IsAnother, IsOtherThan, is_leaf};
 use pg_dyn::{Content, Value};
 
 fn is_int(number: i128, value: &Value) -> bool
-    ensures { result ≡ is_leaf (Int number) (item_seen value.now) }
+    ensures { result ≡ is_leaf (Int number) (item_seen false value.now) }
 {
     match value {
         Value::Int(other) => number == *other,
@@ -16,7 +16,7 @@ fn is_int(number: i128, value: &Value) -> bool
 }
 
 fn is_f32(bits: u32, value: &Value) -> bool
-    ensures { result ≡ is_leaf (F32 bits) (item_seen value.now) }
+    ensures { result ≡ is_leaf (F32 bits) (item_seen false value.now) }
 {
     match value {
         Value::F32(other) => bits == *other,
@@ -25,7 +25,7 @@ fn is_f32(bits: u32, value: &Value) -> bool
 }
 
 fn is_f64(bits: u64, value: &Value) -> bool
-    ensures { result ≡ is_leaf (F64 bits) (item_seen value.now) }
+    ensures { result ≡ is_leaf (F64 bits) (item_seen false value.now) }
 {
     match value {
         Value::F64(other) => bits == *other,
@@ -34,7 +34,7 @@ fn is_f64(bits: u64, value: &Value) -> bool
 }
 
 fn are_bytes(bytes: &[u8], value: &Value) -> bool
-    ensures { result ≡ is_leaf (Bytes bytes.now) (item_seen value.now) }
+    ensures { result ≡ is_leaf (Bytes bytes.now) (item_seen false value.now) }
 {
     match value {
         Value::Text(other) => bytes == other.as_bytes(),
@@ -45,7 +45,7 @@ fn are_bytes(bytes: &[u8], value: &Value) -> bool
 
 /// Whether the second item is the first, which is no message.
 fn is_same(item: &Value, other: &Value) -> bool
-    ensures { result ≡ is_leaf (leaf_of item.now) (item_seen other.now) }
+    ensures { result ≡ is_leaf (leaf_of item.now) (item_seen false other.now) }
 {
     match item {
         Value::Int(number) => is_int(*number, other),
