@@ -7,9 +7,9 @@ mod answer_tests;
 mod call_tests;
 mod failing_sink;
 mod failing_source;
-mod one_byte;
 #[cfg(test)]
 mod link_tests;
+mod one_byte;
 #[cfg(test)]
 mod refusal_tests;
 #[cfg(test)]

@@ -1,6 +1,6 @@
 //! Files that import others, and the names in them.
-use crate::runs::buffer;
 use crate::FailingSource;
+use crate::runs::buffer;
 use pg_gate::{Sources, run};
 use pg_link::Listed;
 use std::process::Abort;
@@ -51,7 +51,11 @@ fn answer_of_three<R: Abort + AllocGlobal>(
     let b = format!(in rt.alloc(); "syntax = \"proto3\";\n{b}\n")?;
     let c = format!(in rt.alloc(); "syntax = \"proto3\";\n{c}\n")?;
     let mut old = Listed {
-        files: &[("a", a.as_bytes()), ("b", b.as_bytes()), ("c", c.as_bytes())],
+        files: &[
+            ("a", a.as_bytes()),
+            ("b", b.as_bytes()),
+            ("c", c.as_bytes()),
+        ],
     };
     let mut new = old;
     expect(rt, "M", &mut old, &mut new, text, status)
@@ -77,22 +81,45 @@ fn tells_imports_that_stand_twice_or_lack(rt: HostRuntime) -> Result<(), Fail> {
 
 #[test]
 fn sees_through_public_imports_alone(rt: HostRuntime) -> Result<(), Fail> {
-    let hidden = ["import \"b\";\nmessage M { K k = 1; }", "import \"c\";", "message K { }"];
+    let hidden = [
+        "import \"b\";\nmessage M { K k = 1; }",
+        "import \"c\";",
+        "message K { }",
+    ];
     answer_of_three(&rt, hidden, "refused old E307 a:3:13\n", 2)?;
-    let seen = ["import \"b\";\nmessage M { K k = 1; }", "import public \"c\";", "message K { }"];
+    let seen = [
+        "import \"b\";\nmessage M { K k = 1; }",
+        "import public \"c\";",
+        "message K { }",
+    ];
     answer_of_three(&rt, seen, "undecided M\n", 5)
 }
 
 /// Names of one file, and what the gate on them prints.
 static NAMES: [(&str, &str); 9] = [
     ("message M { M M = 1; }", "undecided M\n"),
-    ("message M { int32 a = 1; bool a = 2; }", "refused old E304 a:2:31\n"),
-    ("enum E { A = 0; } enum F { A = 0; }", "refused old E304 a:2:28\n"),
+    (
+        "message M { int32 a = 1; bool a = 2; }",
+        "refused old E304 a:2:31\n",
+    ),
+    (
+        "enum E { A = 0; } enum F { A = 0; }",
+        "refused old E304 a:2:28\n",
+    ),
     ("message M { Int32 a = 1; }", "refused old E305 a:2:13\n"),
     ("message M { .int32 a = 1; }", "refused old E305 a:2:13\n"),
-    ("message M { map<K, bool> a = 1; }", "refused old E305 a:2:17\n"),
-    ("message M { oneof k { int32.b a = 1; } }", "refused old E305 a:2:23\n"),
-    ("message M { .M.a b = 1; int32 a = 2; }", "refused old E306 a:2:13\n"),
+    (
+        "message M { map<K, bool> a = 1; }",
+        "refused old E305 a:2:17\n",
+    ),
+    (
+        "message M { oneof k { int32.b a = 1; } }",
+        "refused old E305 a:2:23\n",
+    ),
+    (
+        "message M { .M.a b = 1; int32 a = 2; }",
+        "refused old E306 a:2:13\n",
+    ),
     (
         "message M { } enum E { A = 0; } service S { rpc R (M) returns (E); }",
         "refused old E306 a:2:64\n",
@@ -125,5 +152,12 @@ fn tells_a_source_that_fails_at_an_import(rt: HostRuntime) -> Result<(), Fail> {
     };
     let mut failing = FailingSource::new(files, 2);
     let mut sound = files;
-    expect(&rt, "M", &mut failing, &mut sound, "refused old E309 b\n", 3)
+    expect(
+        &rt,
+        "M",
+        &mut failing,
+        &mut sound,
+        "refused old E309 b\n",
+        3,
+    )
 }
