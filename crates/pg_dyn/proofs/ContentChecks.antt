@@ -1,10 +1,8 @@
 -- What a test of one content tells, in a schema of implicit scalars alone.
-use Rattle.std.proofs.Common.{◌≡◌, ℕ, ℤ, ◌<◌, ◌≤◌, Option, Some, None, true, false, inl, inr, refl, ap, sym, subst, ◌∙◌, arith}
+use Rattle.std.proofs.Common.{◌≡◌, ℕ, ℤ, ◌<◌, ◌≤◌, Option, Some, None, true, false, inl, inr, refl, sym, subst, ◌∙◌, arith}
 use Rattle.std.specs.Str.{is_utf8}
 use Rattle.pg_schema.specs.declared.field.Scalar.{Scalar}
 use Rattle.pg_schema.specs.declared.field.TypeId.{TypeId}
-use Rattle.pg_schema.specs.declared.field.EnumId.{EnumId}
-use Rattle.pg_schema.specs.declared.field.Element.{Element}
 use Rattle.pg_schema.specs.declared.field.Element.TheVariants as elements
 use Rattle.pg_schema.specs.declared.field.Presence.{Presence}
 use Rattle.pg_schema.specs.declared.field.Presence.TheVariants as presences
@@ -23,9 +21,9 @@ use Rattle.pg_dyn.specs.Message.{Int}
 use Rattle.pg_dyn.specs.WordOf.{IsInteger, IsIntegerOf}
 use Rattle.pg_dyn.specs.Seen.{leaf_of, IsKey}
 use Rattle.pg_schema.specs.Flat.{IsFlat, IsImplicitScalar}
-use Rattle.pg_dyn.specs.ScalarItems.{HoldsBytes, IsItemOf, IsKindOf, IsOutOfRange, IsNoText, IsFaultOf, IsContentOf, TakesItem}
+use Rattle.pg_dyn.specs.ScalarItems.{IsItemOf, IsKindOf, IsOutOfRange, IsNoText, IsFaultOf, IsContentOf, TakesItem}
 use Rattle.pg_dyn.specs.ContentFaults.{ElementFault, HasPresence, HasKeyTwice, FieldFault, ContentFault, code, IsLowest, HasNoFault}
-use Rattle.pg_dyn.proofs.DecodeSteps.{flat_at, scalar_same}
+use Rattle.pg_dyn.proofs.DecodeSteps.{flat_at}
 
 -- Of several faults.
 

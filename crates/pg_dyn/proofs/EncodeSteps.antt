@@ -1,6 +1,6 @@
 -- The bytes and the lengths of a message, content by content.
-use Rattle.std.proofs.Common.{◌⊎◌, inl, inr, nat_lt, ◌≡◌, ℕ, zero, suc, ◌+◌, ◌<◌, ◌≤◌, List, [], ◌∷◌, ◌++◌, Vec, Global, min, length, take, drop, get_or, map, flat_map, Bool, true, false, Option, Some, None, Result, Ok, Err, IfOk, IfErr, refl, ap, ap₂, sym, subst, ◌∙◌, arith, add-one, append_assoc, length-append}
-use Rattle.std.proofs.lemmas.List.{append-nil, take-append-drop}
+use Rattle.std.proofs.Common.{◌⊎◌, inl, inr, nat_lt, ◌≡◌, ℕ, zero, suc, ◌+◌, ◌<◌, ◌≤◌, List, [], ◌∷◌, ◌++◌, Vec, Global, length, take, drop, get_or, map, flat_map, Bool, true, false, Option, Some, None, Result, Ok, Err, IfOk, refl, ap, ap₂, sym, subst, ◌∙◌, arith, add-one, append_assoc, length-append}
+use Rattle.std.proofs.lemmas.List.{append-nil}
 use Rattle.std.proofs.Common.{take_all}
 use Rattle.std.proofs.lemmas.Bool.{ltb-true, ltb-false}
 use Rattle.std.specs.List.{AllByRecursion}
@@ -11,7 +11,7 @@ use Rattle.pg_schema.specs.declared.field.Element.{Element}
 use Rattle.pg_schema.specs.declared.field.Element.TheVariants as elements
 use Rattle.pg_schema.specs.declared.field.Presence.{Presence}
 use Rattle.pg_schema.specs.declared.field.Presence.TheVariants as presences
-use Rattle.pg_schema.specs.Shape.{Shape, FieldShape, IsField, IsShape, PresenceFits, Rising, fields, field_at, is_packable}
+use Rattle.pg_schema.specs.Shape.{Shape, FieldShape, IsField, IsShape, PresenceFits, fields, field_at, is_packable}
 use Rattle.pg_wire.specs.declared.record.WireType.{WireType}
 use Rattle.pg_wire.specs.declared.record.WireType.TheVariants.{Len}
 use Rattle.pg_wire.specs.Records.{WireRecord, length_before, tag, written}
@@ -21,23 +21,22 @@ use Rattle.pg_dyn.specs.declared.message.UnknownRecord.{UnknownRecord}
 use Rattle.pg_dyn.specs.declared.message.Value.{Value}
 use Rattle.pg_dyn.specs.declared.message.Value.TheVariants as values
 use Rattle.pg_dyn.specs.Message.{Leaf, Bytes, Part}
-use Rattle.pg_dyn.specs.Coding.{body, form, form_wire}
+use Rattle.pg_dyn.specs.Coding.{body, form}
 use Rattle.pg_dyn.specs.ContentFits.{ContentFits, HoldsContent, ItemFits}
 use Rattle.pg_dyn.specs.EncodedFields.{content_bytes, content_records, record_bytes, records_by, written_leaf, written_parts}
-use Rattle.pg_dyn.specs.Encoding.{child_type, enc}
-use Rattle.pg_dyn.specs.Fits.{Fits}
-use Rattle.pg_dyn.specs.Kept.{Kept, ends, message_of, type_of}
+use Rattle.pg_dyn.specs.Encoding.{enc}
+use Rattle.pg_dyn.specs.Kept.{Kept, ends, message_of}
 use Rattle.pg_dyn.specs.ScalarItems.{IsItemOf}
-use Rattle.pg_dyn.specs.Seen.{IsFilled, IsKey, Rises, content_onto, entries_onto, fields_onto, items_onto, leaf_of, record_seen, value_onto}
+use Rattle.pg_dyn.specs.Seen.{IsKey, Rises, content_onto, entries_onto, fields_onto, items_onto, leaf_of, record_seen, value_onto}
 use Rattle.pg_dyn.specs.Writing.{bytes_of, entry_bytes, field_records, item_record}
-use Rattle.pg_dyn.specs.Written.{CanBePacked, LeafFits, capped, content_lengths, content_written, entry_record, field_written, inner_lengths, item_body, item_bytes, item_leaf, own_bytes, packed_body, packed_bytes, value_lengths, written_by}
+use Rattle.pg_dyn.specs.Written.{CanBePacked, LeafFits, capped, content_lengths, content_written, entry_record, field_written, inner_lengths, item_bytes, item_leaf, own_bytes, packed_body, packed_bytes, value_lengths, written_by}
 use Rattle.pg_dyn.proofs.Belonging.{child_type_is, fields-IsType}
 use Rattle.pg_dyn.proofs.EncodedFields.{encodes_by_fields}
 use Rattle.pg_dyn.proofs.Fields.{field_of}
 use Rattle.pg_dyn.proofs.FitsByContents.{item_is_key}
 use Rattle.pg_dyn.proofs.Flat.{each_at}
 use Rattle.pg_dyn.proofs.KeptParts.{fields_keep}
-use Rattle.pg_dyn.proofs.Lists.{each_weaker, flat_map-append', flat_map-map, flat_map_same}
+use Rattle.pg_dyn.proofs.Lists.{each_weaker, flat_map-append', flat_map_same}
 use Rattle.pg_dyn.proofs.Splitting.{found_number}
 
 -- a record's bytes are its tag, its length and its body

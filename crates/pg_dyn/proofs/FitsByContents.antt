@@ -1,5 +1,5 @@
 -- A message fits where each of its contents does, no two are members of one oneof, and its unknown records are unknown.
-use Rattle.std.proofs.Common.{Box, Vec, Global, ◌≡◌, ◌≢◌, ℕ, ◌<◌, ◌⊎◌, List, [], ◌∷◌, ◌++◌, length, map, Bool, true, false, not, ◌&&◌, nat_eq, Option, Some, None, refl, ap, sym, subst, ◌∙◌, arith, ⊎_elim, inl, inr, eq-eqb}
+use Rattle.std.proofs.Common.{Box, Vec, Global, ◌≡◌, ◌≢◌, ℕ, ◌<◌, ◌⊎◌, List, [], ◌∷◌, ◌++◌, length, map, Bool, true, false, not, ◌&&◌, Option, Some, None, refl, ap, sym, subst, ◌∙◌, arith, ⊎_elim, inl, inr, eq-eqb}
 use Rattle.std.specs.Prelude.{⊤}
 use Rattle.std.specs.List.{AllByRecursion}
 use Rattle.std.specs.declared.cmp.Ordering.TheVariants.{Less}
@@ -7,7 +7,6 @@ use Rattle.std.proofs.Math.Bool.{and-false}
 use Rattle.pg_schema.specs.declared.field.Scalar.{Scalar}
 use Rattle.pg_schema.specs.declared.field.Scalar.TheVariants.{Int32}
 use Rattle.pg_schema.specs.declared.field.TypeId.{TypeId}
-use Rattle.pg_schema.specs.declared.field.EnumId.{EnumId}
 use Rattle.pg_schema.specs.declared.field.Element.{Element}
 use Rattle.pg_schema.specs.declared.field.Element.TheVariants as elements
 use Rattle.pg_schema.specs.declared.field.Presence.{Presence}
@@ -20,19 +19,19 @@ use Rattle.pg_dyn.specs.declared.message.Message.{Message}
 use Rattle.pg_dyn.specs.declared.message.Value.{Value}
 use Rattle.pg_dyn.specs.declared.message.Value.TheVariants as values
 use Rattle.pg_dyn.specs.Message.{Leaf, Place, places, is_zero, key_cmp}
-use Rattle.pg_dyn.specs.Coding.{InRange, form, scalar_form}
+use Rattle.pg_dyn.specs.Coding.{InRange, scalar_form}
 use Rattle.pg_dyn.specs.Content.{same_oneof, is_rival}
 use Rattle.pg_dyn.specs.Encoding.{child_type}
-use Rattle.pg_dyn.specs.Kept.{Kept, ends, holds, nests, type_of, message_of}
+use Rattle.pg_dyn.specs.Kept.{Kept, ends, holds, type_of, message_of}
 use Rattle.pg_dyn.specs.Seen.{leaf_of, value_onto, items_onto, entries_onto, content_onto, fields_onto, Rises, IsFilled, IsKey, HasKeys}
-use Rattle.pg_dyn.specs.Belonging.{KeyFits, MayFollow, ComesBefore, IsAlone, IsPart, LeafFits, MayBeZero, IsUnknown, IsMessage}
+use Rattle.pg_dyn.specs.Belonging.{KeyFits, MayFollow, ComesBefore, IsPart, LeafFits, MayBeZero, IsUnknown, IsMessage}
 use Rattle.pg_dyn.specs.Fits.{Fits, PartsAgree, is_listed, is_listed_by}
 use Rattle.pg_dyn.specs.ScalarItems.{IsItemOf}
 use Rattle.pg_dyn.specs.ContentFits.{is_zero_value, ItemFits, KeysRise, ContentFits, HoldsContent, AreApart, NoneRivals, FitsByContents}
 use Rattle.pg_dyn.proofs.Belonging.{child_type_is, fields-IsType}
 use Rattle.pg_dyn.proofs.Fields.{field_of}
 use Rattle.pg_dyn.proofs.Flat.{each_at}
-use Rattle.pg_dyn.proofs.KeptParts.{value_keeps, unknown_of-items, unknown_of-entries, unknown_of-content, fields_keep}
+use Rattle.pg_dyn.proofs.KeptParts.{unknown_of-items, unknown_of-entries, fields_keep}
 use Rattle.pg_dyn.proofs.Lists.{each_weaker, each-append}
 use Rattle.pg_dyn.proofs.Splitting.{found_number}
 

@@ -1,29 +1,20 @@
 -- What a test of a message's contents and unknown records says of it.
-use Rattle.std.proofs.Common.{◌≡◌, ℕ, ◌<◌, List, [], ◌∷◌, length, map, Bool, true, false, not, Option, Some, None, refl, ap, sym, subst, ◌∙◌}
+use Rattle.std.proofs.Common.{◌≡◌, List, [], ◌∷◌, map, Bool, true, false, not, Option, Some, None, refl, ap, sym, ◌∙◌}
 use Rattle.std.specs.List.{AllByRecursion}
-use Rattle.pg_schema.specs.declared.field.Scalar.{Scalar}
 use Rattle.pg_schema.specs.declared.field.TypeId.{TypeId}
-use Rattle.pg_schema.specs.declared.field.Element.TheVariants as elements
 use Rattle.pg_schema.specs.declared.parts.Parts.{Parts}
 use Rattle.pg_schema.specs.Parts.{shape_of}
-use Rattle.pg_schema.specs.Flat.{IsFlat}
 use Rattle.pg_schema.specs.Invariant.{IsSchema}
 use Rattle.pg_schema.specs.Shape.{FieldShape, fields, field_at}
 use Rattle.pg_wire.specs.Records.{WireRecord, IsRecord}
 use Rattle.pg_dyn.specs.declared.message.UnknownRecord.{UnknownRecord}
-use Rattle.pg_dyn.specs.declared.message.Content.{Content}
 use Rattle.pg_dyn.specs.declared.message.Value.{Value}
-use Rattle.pg_dyn.specs.Message.{is_zero}
 use Rattle.pg_dyn.specs.Content.{is_accepted, takes, is_unknown}
-use Rattle.pg_dyn.specs.Kept.{Kept, type_of}
-use Rattle.pg_dyn.specs.Seen.{leaf_of, record_seen, IsFilled, Rises}
+use Rattle.pg_dyn.specs.Seen.{record_seen}
 use Rattle.pg_dyn.specs.Belonging.{IsUnknown}
-use Rattle.pg_dyn.specs.Fits.{Fits}
-use Rattle.pg_dyn.specs.ScalarItems.{IsItemOf}
-use Rattle.pg_dyn.proofs.ReplacingLaws.{shown, type_shown}
 use Rattle.pg_dyn.proofs.Flat.{list_any_at}
 use Rattle.pg_dyn.proofs.Splitting.{found_number}
-use Rattle.pg_dyn.proofs.DecodeSteps.{rising, flat_at, scalar_same, takes_it, unknown_where_none, unknown_where_not_accepted, fits_from, fits_to}
+use Rattle.pg_dyn.proofs.DecodeSteps.{rising, takes_it, unknown_where_none, unknown_where_not_accepted}
 
 pub same_value : (v w : Value) → ◌≡◌ {A = Option Value} (Some v) (Some w) → v ≡ w
 same_value v w e = cc

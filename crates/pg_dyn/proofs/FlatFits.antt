@@ -1,6 +1,5 @@
 -- Contents of types with implicit scalars alone.
-use Rattle.std.proofs.Common.{◌≡◌, ℕ, ◌<◌, List, [], ◌∷◌, length, false, Option, Some, None, refl, ap, sym, subst, ◌∙◌}
-use Rattle.std.specs.List.{AllByRecursion}
+use Rattle.std.proofs.Common.{◌≡◌, ℕ, List, [], ◌∷◌, false, Option, Some, None, refl, sym, subst, ◌∙◌}
 use Rattle.pg_schema.specs.declared.field.Scalar.{Scalar}
 use Rattle.pg_schema.specs.declared.field.TypeId.{TypeId}
 use Rattle.pg_schema.specs.declared.field.Element.{Element}
@@ -15,7 +14,7 @@ use Rattle.pg_dyn.specs.declared.message.Value.{Value}
 use Rattle.pg_dyn.specs.Message.{is_zero}
 use Rattle.pg_dyn.specs.Content.{same_oneof, is_rival}
 use Rattle.pg_dyn.specs.ScalarItems.{IsItemOf}
-use Rattle.pg_dyn.specs.ContentFits.{ItemFits, ContentFits, HoldsContent, AreApart, NoneRivals}
+use Rattle.pg_dyn.specs.ContentFits.{ContentFits, HoldsContent, AreApart, NoneRivals}
 use Rattle.pg_dyn.specs.Seen.{leaf_of}
 use Rattle.pg_dyn.specs.FlatContent.{HoldsScalar}
 use Rattle.pg_dyn.proofs.FitsByContents.{item_is_key, zero_of_key}

@@ -1,5 +1,5 @@
 -- Contents by rising numbers, put into a message one after the other, in a schema of implicit scalars alone.
-use Rattle.std.proofs.Common.{◌≡◌, ◌≢◌, ℕ, pos, option_and_then, zero, suc, ◌<◌, ◌≤◌, ◌+◌, List, [], ◌∷◌, ◌++◌, length, filter, flat_map, get_or, nat_eq, nat_lt, Bool, true, false, true≢false, cond, not, ◌&&◌, Option, Some, None, inl, inr, ⊎_elim, refl, ap, ap₂, sym, subst, ◌∙◌, arith, append_assoc, eq-eqb, ne_eqb, lt-ltb, le-ltb}
+use Rattle.std.proofs.Common.{◌≡◌, ◌≢◌, ℕ, pos, option_and_then, zero, suc, ◌<◌, ◌≤◌, List, [], ◌∷◌, ◌++◌, length, filter, flat_map, get_or, nat_eq, nat_lt, Bool, true, false, true≢false, cond, not, ◌&&◌, Option, Some, None, inl, inr, ⊎_elim, refl, ap, ap₂, sym, subst, ◌∙◌, arith, eq-eqb, ne_eqb, lt-ltb, le-ltb}
 use Rattle.std.specs.List.{AllByRecursion}
 use Rattle.std.specs.List.Sorted.{IsNonDecreasingBy, IsPermutation, IsStableByKey, ties}
 use Rattle.std.specs.Ordering.{is_lt, nat_cmp}
@@ -14,8 +14,7 @@ use Rattle.pg_schema.specs.declared.field.Presence.TheVariants as presences
 use Rattle.pg_schema.specs.declared.parts.Parts.{Parts}
 use Rattle.pg_schema.specs.Parts.{shape_of}
 use Rattle.pg_schema.specs.Invariant.{IsSchema}
-use Rattle.pg_schema.specs.Shape.{Shape, FieldShape, fields, field_at}
-use Rattle.pg_wire.specs.Records.{WireRecord}
+use Rattle.pg_schema.specs.Shape.{FieldShape, fields, field_at}
 use Rattle.pg_dyn.specs.declared.error.DynError.{DynError}
 use Rattle.pg_dyn.specs.declared.error.DynError.TheVariants as errors
 use Rattle.pg_dyn.specs.declared.message.Content.{Content}
@@ -25,11 +24,11 @@ use Rattle.pg_dyn.specs.Content.{same_oneof}
 use Rattle.pg_dyn.specs.Message.{Part, is_of}
 use Rattle.pg_dyn.specs.Kept.{Kept, KeptItem, type_of, parts_of, unknown_of, of_number, ends}
 use Rattle.pg_dyn.specs.Seen.{content_seen, Rises}
-use Rattle.pg_schema.specs.Flat.{IsFlat, IsImplicitScalar}
-use Rattle.pg_dyn.specs.Replacing.{kept_from, kept_onto, with_parts}
+use Rattle.pg_schema.specs.Flat.{IsFlat}
+use Rattle.pg_dyn.specs.Replacing.{with_parts}
 use Rattle.pg_dyn.specs.ContentFaults.{AnyOf, PassTwice, ContentFault, ContentsFault, HasFieldTwice, is_in_oneof, code, IsLowest, HasNoFault, MayRefuseFor}
 use Rattle.pg_dyn.specs.Setting.{settled, settled_by, settled_parts, is_zero_kept, IsSetTo, IsWhole}
-use Rattle.pg_dyn.proofs.Lists.{filter_all, filter_none, filter-append', flat_map-append', each_weaker, each-append, each-filter, each_of_all}
+use Rattle.pg_dyn.proofs.Lists.{filter_all, filter_none, filter-append', flat_map-append', each_weaker, each-filter, each_of_all}
 use Rattle.pg_dyn.proofs.KeptParts.{at_index, each_from_index}
 use Rattle.pg_dyn.proofs.Splitting.{found_number}
 use Rattle.pg_dyn.proofs.DecodeSteps.{flat_at}

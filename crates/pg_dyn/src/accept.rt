@@ -9,8 +9,9 @@ use crate::body::wire_type_of;
 use pg_schema::{Element, Field, Presence, Scalar};
 use pg_wire::WireType;
 
-// The wire type of an element's own records.
-pub(crate) fn element_wire_type(element: Element) -> WireType
+/// The wire type of an element's own records: VARINT, I64, LEN or I32 (Protocol Buffers encoding guide, "Message
+/// Structure"). Of a packed list each body is of it, but the record is LEN.
+pub fn element_wire_type(element: Element) -> WireType
     ensures { result ≡ form_wire (form element) }
 {
     match element {

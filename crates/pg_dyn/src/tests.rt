@@ -3,6 +3,7 @@ mod memory;
 mod numbers;
 mod reading;
 mod setting;
+mod writing;
 
 use crate::{Content, DynError, Message, Value, decode, encode, fits};
 use pg_schema::{
@@ -47,16 +48,23 @@ fn file(alloc: Global) -> Result<File, AllocError> {
 /// The schema of one message type with a field for each of these numbers, which rise.
 fn schema_of(alloc: Global, scalars: &[(u32, Scalar)]) -> Result<Schema, Fail> {
     let mut fields = Vec::new(alloc);
-    let mut declared = Vec::new(alloc);
     for (number, scalar) in scalars {
         fields.push(field(alloc, *number, *scalar)?)?;
-        declared.push(*number)?;
+    }
+    schema_from(alloc, fields, Vec::new(alloc))
+}
+
+/// The schema of one message type with these fields, by rising number, and these oneofs.
+fn schema_from(alloc: Global, fields: Vec<Field>, oneofs: Vec<String>) -> Result<Schema, Fail> {
+    let mut declared = Vec::new(alloc);
+    for field in &fields {
+        declared.push(field.number)?;
     }
     let message_type = MessageType {
         name: String::from_str(alloc, "M")?,
         fields,
         declared,
-        oneofs: Vec::new(alloc),
+        oneofs,
         nested_types: Vec::new(alloc),
         nested_enums: Vec::new(alloc),
         reserved_numbers: Vec::new(alloc),
@@ -83,7 +91,7 @@ fn read(alloc: Global, schema: &Schema, bytes: &[u8]) -> Result<Message, DynErro
 
 /// The bytes of a message that fits the schema; of one that doesn't fit `WrongKind`.
 fn write(alloc: Global, schema: &Schema, message: &Message) -> Result<Vec<u8>, DynError> {
-    if !schema.flat(message.type_id()) || !fits(schema, message) {
+    if !fits(schema, message) {
         return Err(DynError::WrongKind);
     }
     encode(alloc, schema, message)

@@ -1,10 +1,7 @@
 -- In a flat schema a content is one item of a scalar.
-use Rattle.std.proofs.Common.{◌≡◌, sym, refl, arith}
-use Rattle.pg_schema.specs.declared.field.Scalar.{Scalar}
-use Rattle.pg_schema.specs.declared.field.Element.{Element}
-use Rattle.pg_schema.specs.declared.field.Element.TheVariants as elements
+use Rattle.std.proofs.Common.{arith}
 use Rattle.pg_schema.specs.Parts.{field_shape}
-use Rattle.pg_dyn.proofs.ContentChecks.{no_such_field, wrong_shape, wrong_item, right_item, no_scalar}
+use Rattle.pg_dyn.proofs.ContentChecks.{no_such_field, wrong_shape, wrong_item, no_scalar}
 use Rattle.pg_dyn.proofs.check.check_content.Goals as goal
 
 pub returns-in_default-clause-err : goal.returns-in_default-clause-err

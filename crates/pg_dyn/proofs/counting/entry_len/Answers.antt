@@ -1,7 +1,7 @@
-use Rattle.std.proofs.Common.{◌≡◌, ℕ, ◌++◌, List, length, ap, sym, ◌∙◌, length-append}
+use Rattle.std.proofs.Common.{length, ap, sym, ◌∙◌, length-append}
 use Rattle.pg_schema.specs.declared.field.Element.TheVariants as elements
 use Rattle.pg_wire.specs.Records.{written}
-use Rattle.pg_dyn.specs.Coding.{body, form_wire, scalar_form}
+use Rattle.pg_dyn.specs.Coding.{body, scalar_form}
 use Rattle.pg_dyn.specs.Seen.{leaf_of}
 use Rattle.pg_dyn.specs.Writing.{item_record}
 use Rattle.pg_dyn.specs.Written.{capped}

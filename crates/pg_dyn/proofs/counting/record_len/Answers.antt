@@ -1,4 +1,4 @@
-use Rattle.std.proofs.Common.{◌≡◌, ◌≤◌, ◌<◌, ◌⊎◌, ℕ, length, arith, ⊎_elim, sym}
+use Rattle.std.proofs.Common.{◌≡◌, length, arith, ⊎_elim}
 use Rattle.pg_dyn.proofs.EncodeSteps.{record_size, small_or_big}
 use Rattle.pg_dyn.proofs.counting.record_len.Goals as goal
 

@@ -1,4 +1,4 @@
-use Rattle.std.proofs.Common.{◌≡◌, ◌+◌, ◌*◌, ◌++◌, List, ℕ, ap, ap₂, ◌∙◌, append_assoc}
+use Rattle.std.proofs.Common.{◌≡◌, ◌+◌, ◌*◌, ◌++◌, ap, ap₂, ◌∙◌, append_assoc}
 use Rattle.pg_wire.specs.Varint.{varint}
 use Rattle.pg_wire.specs.Records.{tag, length_before}
 use Rattle.pg_dyn.proofs.DecodeSteps.{on_ok_map}

@@ -1,5 +1,5 @@
 -- A record is its front and its body.
-use Rattle.std.proofs.Common.{◌≡◌, ◌++◌, List, ℕ, ap, sym, ◌∙◌, append_assoc}
+use Rattle.std.proofs.Common.{◌++◌, ap, sym, ◌∙◌, append_assoc}
 use Rattle.pg_wire.specs.Records.{tag, length_before}
 use Rattle.pg_dyn.specs.Coding.{body, form_wire, scalar_form}
 use Rattle.pg_dyn.specs.Seen.{leaf_of}

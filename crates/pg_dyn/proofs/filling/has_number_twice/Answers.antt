@@ -1,5 +1,4 @@
-use Rattle.std.proofs.Common.{◌≡◌, ℕ, ◌<◌, ◌+◌, ◌-◌, length, get_or, suc, nat_eq, refl, ap, sym, subst, ◌∙◌, arith, add-one, eq-eqb}
-use Rattle.pg_dyn.specs.declared.message.Content.{Content}
+use Rattle.std.proofs.Common.{◌≡◌, ◌-◌, get_or, suc, ap, sym, ◌∙◌, arith, add-one, eq-eqb}
 use Rattle.pg_dyn.proofs.WholeSteps.{of_field, pass_twice, rises_from}
 use Rattle.pg_dyn.proofs.filling.has_number_twice.Goals as goal
 

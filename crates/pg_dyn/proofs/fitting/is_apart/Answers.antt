@@ -1,10 +1,8 @@
-use Rattle.std.proofs.Common.{◌≡◌, false, sym, ◌∙◌}
+use Rattle.std.proofs.Common.{sym, ◌∙◌}
 use Rattle.pg_schema.specs.Parts.{shape_of}
 use Rattle.pg_schema.specs.Shape.{fields}
-use Rattle.pg_dyn.specs.declared.message.Content.{Content}
 use Rattle.pg_dyn.specs.ContentFits.{AreApart}
-use Rattle.pg_dyn.proofs.FitsSteps.{apart_from, apart_to, each_more}
-use Rattle.pg_dyn.proofs.Plainness.{each_at_index}
+use Rattle.pg_dyn.proofs.FitsSteps.{apart_from, each_more}
 use Rattle.pg_dyn.proofs.fitting.is_apart.Goals as goal
 
 pub loop-other-preserved : goal.loop-other-preserved

@@ -1,8 +1,5 @@
-use Rattle.std.proofs.Common.{◌≡◌, ◌≢◌, ℕ, suc, ◌<◌, ◌+◌, ◌-◌, List, length, get_or, refl, ap, sym, subst, ◌∙◌, true≢false, arith, add-one, ⊎_elim}
+use Rattle.std.proofs.Common.{◌≡◌, suc, ◌+◌, ◌-◌, get_or, refl, sym, subst, ◌∙◌, true≢false, arith, add-one, ⊎_elim}
 use Rattle.std.proofs.lemmas.Bool.{cases_eq}
-use Rattle.std.specs.List.{AllByRecursion}
-use Rattle.pg_dyn.specs.declared.message.Value.{Value}
-use Rattle.pg_dyn.specs.Seen.{IsKey}
 use Rattle.pg_dyn.proofs.FitsSteps.{IsBelow, rises_from, adjacent, same_default, key_at}
 use Rattle.pg_dyn.proofs.fitting.keys_rise.Goals as goal
 

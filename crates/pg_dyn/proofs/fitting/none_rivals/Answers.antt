@@ -1,4 +1,4 @@
-use Rattle.std.proofs.Common.{◌≡◌, ◌≢◌, ℕ, suc, ◌<◌, ◌+◌, ◌-◌, List, length, get_or, take, drop, refl, ap, ap₂, sym, subst, ◌∙◌, true≢false, arith, add-one, ⊎_elim}
+use Rattle.std.proofs.Common.{◌≡◌, ℕ, suc, ◌<◌, ◌+◌, ◌-◌, List, length, get_or, take, drop, refl, ap, sym, subst, ◌∙◌, true≢false, arith, add-one, ⊎_elim}
 use Rattle.std.proofs.lemmas.Bool.{cases_eq}
 use Rattle.std.proofs.lemmas.Slice.{between_to_end}
 use Rattle.pg_schema.specs.Parts.{shape_of}

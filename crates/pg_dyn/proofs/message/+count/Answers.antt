@@ -1,15 +1,10 @@
 -- What is counted of each item, content and message is the length of what is written of it.
-use Rattle.std.proofs.Common.{◌≡◌, ℕ, ◌<◌, ◌+◌, ◌++◌, List, [], ◌∷◌, Vec, Global, length, map, flat_map, true, false, Option, Some, refl, ap, ap₂, sym, subst, ◌∙◌, arith, rules, length-append}
-use Rattle.std.proofs.lemmas.Grind.{common_steps}
-use Rattle.std.proofs.lemmas.List.{append-nil}
-use Rattle.std.specs.List.{AllByRecursion}
+use Rattle.std.proofs.Common.{◌≡◌, ℕ, ◌++◌, List, length, map, flat_map, ap, sym, subst, ◌∙◌, arith, length-append}
 use Rattle.pg_schema.specs.declared.field.Element.{Element}
 use Rattle.pg_schema.specs.declared.field.Presence.{Presence}
 use Rattle.pg_schema.specs.declared.field.Presence.TheVariants as presences
-use Rattle.pg_schema.specs.declared.field.Scalar.{Scalar}
 use Rattle.pg_schema.specs.Parts.{field_shape, shape_of}
-use Rattle.pg_schema.specs.Shape.{Shape, FieldShape, fields, field_at}
-use Rattle.pg_wire.specs.declared.record.WireType.TheVariants.{Len}
+use Rattle.pg_schema.specs.Shape.{Shape, FieldShape, fields}
 use Rattle.pg_wire.specs.Records.{written}
 use Rattle.pg_dyn.specs.declared.message.Content.{Content}
 use Rattle.pg_dyn.specs.declared.message.Content.TheVariants as contents
@@ -18,7 +13,7 @@ use Rattle.pg_dyn.specs.declared.message.Value.{Value}
 use Rattle.pg_dyn.specs.Coding.{form, form_wire}
 use Rattle.pg_dyn.specs.ContentFits.{ContentFits, HoldsContent, ItemFits}
 use Rattle.pg_dyn.specs.EncodedFields.{record_bytes}
-use Rattle.pg_dyn.specs.declared.message.Message.TheDeep.{deep-Content, deep-Value, deep-Message}
+use Rattle.pg_dyn.specs.declared.message.Message.TheDeep.{deep-Content, deep-Value}
 use Rattle.pg_dyn.specs.declared.message.Message.TheShapes.{weighed-Content-Map-0-at-2, weighed-Message-fields-at-2}
 use denote.Param.Weighed.{at_most, most}
 use Rattle.pg_dyn.specs.Depth.{message_deep}
@@ -27,7 +22,7 @@ use Rattle.pg_dyn.specs.ScalarItems.{IsItemOf}
 use Rattle.pg_schema.specs.declared.field.Element.TheVariants as elements
 use Rattle.pg_dyn.specs.Seen.{leaf_of, record_seen}
 use Rattle.pg_dyn.specs.Writing.{item_record}
-use Rattle.pg_dyn.specs.Written.{CanBePacked, capped, content_lengths, content_written, entry_body, entry_record, field_written, item_body, item_bytes, packed_body, value_lengths, written_by}
+use Rattle.pg_dyn.specs.Written.{capped, content_lengths, content_written, entry_body, entry_record, field_written, item_body, item_bytes, value_lengths}
 use Rattle.pg_dyn.proofs.EncodeSteps.{counted_all, counted_more, entries_fit, field_is, inner_is, listed_all, listed_more, own_is, packed_inner, packs}
 use Rattle.pg_dyn.proofs.FitsByContents.{contents_from_fits}
 use Rattle.pg_dyn.proofs.FitsChecks.{same_field}

@@ -1,5 +1,5 @@
 -- A content fits where it has its field's shape and each of its items fits, and a message where each of its contents does.
-use Rattle.std.proofs.Common.{Vec, Global, ◌≡◌, ℕ, List, true, IsTrue, map, refl, ap, sym, subst, ◌∙◌, true≢false}
+use Rattle.std.proofs.Common.{Vec, Global, ◌≡◌, List, true, map, sym, subst, ◌∙◌, true≢false}
 use Rattle.std.specs.List.{AllByRecursion}
 use Rattle.pg_schema.specs.Parts.{field_shape, shape_of}
 use Rattle.pg_schema.specs.declared.field.Element.{Element}

@@ -1,6 +1,5 @@
 -- What is written of each item, content and message, and the lengths that are left.
-use Rattle.std.proofs.Common.{Box, get_or, take_all, ◌-◌, ◌≡◌, ℕ, ◌<◌, ◌+◌, ◌++◌, List, [], ◌∷◌, Vec, Global, length, map, flat_map, take, drop, true, false, Option, Some, refl, ap, ap₂, sym, subst, ◌∙◌, arith, append_assoc}
-use Rattle.std.specs.List.{AllByRecursion}
+use Rattle.std.proofs.Common.{Box, get_or, take_all, ◌-◌, ◌≡◌, ℕ, ◌++◌, List, [], ◌∷◌, Vec, Global, length, map, flat_map, take, drop, true, false, Option, ap, ap₂, sym, subst, ◌∙◌, arith, append_assoc}
 use denote.Param.Weighed.{at_most, most}
 use Rattle.pg_schema.specs.declared.field.Element.{Element}
 use Rattle.pg_schema.specs.declared.field.Element.TheVariants as elements
@@ -11,7 +10,7 @@ use Rattle.pg_schema.specs.declared.field.TypeId.{TypeId}
 use Rattle.pg_dyn.specs.declared.message.Message.{Message}
 use Rattle.pg_dyn.specs.declared.message.Value.TheVariants as values
 use Rattle.pg_schema.specs.Parts.{field_shape, shape_of}
-use Rattle.pg_schema.specs.Shape.{Shape, FieldShape, fields, field_at}
+use Rattle.pg_schema.specs.Shape.{Shape, FieldShape}
 use Rattle.pg_wire.specs.declared.record.WireType.TheVariants.{Len}
 use Rattle.pg_wire.specs.Records.{length_before, tag, written}
 use Rattle.pg_dyn.specs.declared.message.Content.{Content}
@@ -28,7 +27,7 @@ use Rattle.pg_dyn.specs.ScalarItems.{IsItemOf}
 use Rattle.pg_dyn.specs.Seen.{leaf_of, record_seen}
 use Rattle.pg_dyn.specs.Writing.{item_record}
 use Rattle.pg_dyn.specs.Written.{capped, content_lengths, content_written, entry_body, entry_record, field_written, inner_lengths, item_body, item_bytes, own_bytes, packed_bytes, value_lengths, written_by}
-use Rattle.pg_dyn.proofs.EncodeSteps.{at_the_end, entries_fit, field_is, if_ok, inner_is, on_the_way, own_is, packed_inner, packs, record_is}
+use Rattle.pg_dyn.proofs.EncodeSteps.{at_the_end, entries_fit, if_ok, inner_is, on_the_way, own_is, packed_inner, packs, record_is}
 use Rattle.pg_dyn.proofs.FitsByContents.{contents_from_fits}
 use Rattle.pg_dyn.proofs.FitsChecks.{same_field}
 use Rattle.pg_dyn.proofs.FitsSteps.{some_not_none}

@@ -1,5 +1,5 @@
 -- A content that passes the test is put in, and one that doesn't comes back.
-use Rattle.std.proofs.Common.{◌≡◌, map, refl, ap, sym, subst, ◌∙◌}
+use Rattle.std.proofs.Common.{map, refl, ap, sym, subst, ◌∙◌}
 use Rattle.pg_schema.specs.declared.field.TypeId.{TypeId}
 use Rattle.pg_schema.specs.Flat.{IsFlat}
 use Rattle.pg_schema.specs.Parts.{shape_of}

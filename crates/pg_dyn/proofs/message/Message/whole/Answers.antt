@@ -1,5 +1,5 @@
 -- Contents that pass the test, by rising numbers, and each number once.
-use Rattle.std.proofs.Common.{◌≡◌, ◌≤◌, ◌<◌, ℕ, List, Result, Ok, Err, IfErr, IfOk, OnOk, length, filter, refl, sym, ap, subst, ◌∙◌, rules}
+use Rattle.std.proofs.Common.{◌≡◌, ◌<◌, ℕ, List, Result, Ok, Err, IfErr, IfOk, OnOk, length, filter, refl, sym, subst, rules}
 use Rattle.std.proofs.lemmas.Fn.{always_returns_same}
 use Rattle.std.proofs.lemmas.List.Sorted.{IsNonDecreasingBy-from_sort_by_key}
 use Rattle.std.proofs.lemmas.Result.{err_from_is_err_and}
@@ -9,7 +9,6 @@ use Rattle.pg_schema.specs.declared.field.TypeId.{TypeId}
 use Rattle.pg_schema.specs.Parts.{shape_of}
 use Rattle.pg_schema.specs.Shape.{Shape}
 use Rattle.pg_dyn.specs.declared.error.DynError.{DynError}
-use Rattle.pg_dyn.specs.declared.error.DynError.TheVariants as errors
 use Rattle.pg_dyn.specs.declared.message.Content.{Content}
 use Rattle.pg_dyn.specs.declared.message.Message.{Message}
 use Rattle.pg_dyn.specs.Seen.{Rises}

@@ -1,5 +1,4 @@
-use Rattle.std.proofs.Common.{string_bytes}
-use Rattle.pg_dyn.proofs.FitsSteps.{bytes_default, other_default}
+use Rattle.pg_dyn.proofs.FitsSteps.{other_default}
 use Rattle.pg_dyn.proofs.message.Value.order.Goals as goal
 
 pub returns-in_default-4 : goal.returns-in_default-4
