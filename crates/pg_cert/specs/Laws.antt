@@ -1,5 +1,7 @@
 -- Laws of tables, faults and claims.
 use Rattle.std.specs.Prelude.{◌≡◌, ◌↔◌, ℕ, ◌≤◌, true, List, length, Some, None}
+use Rattle.pg_schema.specs.declared.parts.Parts.{Parts}
+use Rattle.pg_schema.specs.Invariant.{IsSchema}
 use Rattle.pg_schema.specs.Shape.{Shape, IsShape}
 use Rattle.pg_dyn.specs.Message.{Message}
 use Rattle.pg_dyn.specs.Encoding.{enc}
@@ -13,6 +15,7 @@ use Rattle.pg_cert.specs.declared.verdict.Verdict.TheVariants as verdicts
 use Rattle.pg_cert.specs.Bounds.{are_bounds, bound_in}
 use Rattle.pg_cert.specs.Certificate.{Claim, Holds, verdict_of}
 use Rattle.pg_cert.specs.Faults.{first_fault}
+use Rattle.pg_cert.specs.Text.{Certifies}
 
 -- A table of distinct pairs covers its root where it has no fault, and nowhere else.
 abbrev pub CoversWithoutFault : Type 0
@@ -37,3 +40,8 @@ Says sight old new claim verdicts.Breaks = (bytes : List ℕ) × (claim.witness 
 abbrev pub VerdictsAreTrue : Type 0
 VerdictsAreTrue =
     (sight : Sight) (old new : Shape) (claim : Claim) → IsSight sight → IsShape old → IsShape new → Holds sight old new claim → Says sight old new claim (verdict_of claim)
+
+-- A text certifies one claim at most.
+abbrev pub OneSpelling : Type 0
+OneSpelling =
+    (old new : Parts) (text : List ℕ) (a b : Claim) → IsSchema old → IsSchema new → Certifies old new text a → Certifies old new text b → a ≡ b

@@ -1,6 +1,6 @@
 //! Laws about the definitions. Each is the contract of a function that does nothing.
 
-ghost use Rattle.pg_cert.specs.Laws.{CoversWithoutFault, VerdictsAreTrue};
+ghost use Rattle.pg_cert.specs.Laws.{CoversWithoutFault, OneSpelling, VerdictsAreTrue};
 ghost use Rattle.pg_cert.specs.Worked.{WorkedCertificates};
 
 use pg_dyn::worked_examples;
@@ -25,3 +25,8 @@ pub fn verdicts_are_true()
     covering_bounds();
     none_is_compatible();
 }
+
+/// A text certifies one claim at most.
+pub fn one_spelling()
+    ensures { OneSpelling }
+{}
