@@ -14,3 +14,4 @@ pub mod WholeRead
 pub mod Places
 pub mod FullNames
 pub mod OneSpelling
+pub mod Witnesses
