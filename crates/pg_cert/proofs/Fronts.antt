@@ -15,6 +15,10 @@ back_of : (front rest : List ℕ) → drop (length front) (front ++ rest) ≡ re
 back_of [] rest = refl
 back_of (x ∷ front) rest = back_of front rest
 
+-- behind one front two equal texts go on alike
+pub same_behind : (front xs ys : List ℕ) → front ++ xs ≡ front ++ ys → xs ≡ ys
+same_behind front xs ys h = sym (back_of front xs) ∙ ap (drop (length front)) h ∙ back_of front ys
+
 module _ (text front : List ℕ) where
   abbrev pub IsBehind : Option (Bor (List ℕ)) → Type 0
   IsBehind found =

@@ -13,3 +13,5 @@ pub mod WitnessRead
 pub mod WholeRead
 pub mod Places
 pub mod FullNames
+pub mod OneSpelling
+pub mod Witnesses

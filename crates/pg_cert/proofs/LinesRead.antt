@@ -21,7 +21,7 @@ each_more P (z ∷ xs) x h p = (h.0, each_more P xs x h.1 p)
 abbrev pub words_of : (old new : Parts) → PairBound → List ℕ → List ℕ
 words_of old new b rest = names_of old b.pair.old ++ 32 ∷ (names_of new b.pair.new ++ 32 ∷ (bound_word b.bound ++ 10 ∷ rest))
 
-row : (o n w lines later : List ℕ) → ((codes "pair" ++ ((32 ∷ o) ++ ((32 ∷ n) ++ ((32 ∷ w) ++ 10 ∷ [])))) ++ lines) ++ later ≡ codes "pair " ++ (o ++ 32 ∷ (n ++ 32 ∷ (w ++ 10 ∷ (lines ++ later))))
+pub row : (o n w lines later : List ℕ) → ((codes "pair" ++ ((32 ∷ o) ++ ((32 ∷ n) ++ ((32 ∷ w) ++ 10 ∷ [])))) ++ lines) ++ later ≡ codes "pair " ++ (o ++ 32 ∷ (n ++ 32 ∷ (w ++ 10 ∷ (lines ++ later))))
 row o n w lines later = simp append_assoc
 
 -- the next line, and those behind it

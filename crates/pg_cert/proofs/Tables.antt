@@ -80,6 +80,12 @@ are_bounds-more (x ∷ front) b h is absent =
     of true is absent = absurd (let found = rw is at absent in cc)
     of false is absent = (is, rw is at absent)
 
+-- of a list's first pair, and of the others
+pub first_of_bounds : (b : PairBound) (rest : List PairBound) → are_bounds (b ∷ rest) ≡ true → (is_bound b.bound ≡ true) × (are_bounds rest ≡ true)
+first_of_bounds b rest h =
+    let parts = and_parts (is_bound b.bound && not (is_some (bound_in rest b.pair))) (are_bounds rest) h in
+    ((and_parts (is_bound b.bound) (not (is_some (bound_in rest b.pair))) parts.0).0, parts.1)
+
 -- One step over a list: what stands before the place, at it and behind it.
 module _ {X : Type 0} (xs : List X) (i : ℕ) (d : X) (inside : i < length xs) where
   split_here : xs ≡ take i xs ++ get_or xs i d ∷ drop (suc i) xs

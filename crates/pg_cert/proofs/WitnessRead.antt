@@ -15,7 +15,7 @@ is_bytes [] h i = lit< tt
 is_bytes (x ∷ xs) h zero = h.0
 is_bytes (x ∷ xs) h (suc i) = is_bytes xs h.1 i
 
-decoded : (bytes : List ℕ) → AreBytes (Some bytes) → decode_of (encode_lower bytes) ≡ Ok bytes
+pub decoded : (bytes : List ℕ) → AreBytes (Some bytes) → decode_of (encode_lower bytes) ≡ Ok bytes
 decoded bytes h = decode_of-encode_lower bytes (is_bytes bytes h)
 
 none_decodes : (bytes : List ℕ) → decode_of (codes "none") ≡ Ok bytes → ⊥

@@ -1,9 +1,10 @@
 -- Certificates: what they claim, and when a claim holds (this profile's choice: what a reader of a certificate has to trust).
-use Rattle.std.specs.Prelude.{◌≡◌, ℕ, ◌<◌, ◌^◌, ⊤, Bool, true, false, List, [], ◌∷◌, length, Option, Some, None}
+use Rattle.std.specs.Prelude.{◌≡◌, ℕ, ◌<◌, ◌≤◌, ◌^◌, ⊤, Bool, true, false, List, [], ◌∷◌, length, Option, Some, None}
 use Rattle.std.specs.List.{AllByRecursion}
 use Rattle.pg_schema.specs.Shape.{Shape}
-use Rattle.pg_dyn.specs.Message.{Message}
-use Rattle.pg_dyn.specs.Encoding.{enc}
+use Rattle.pg_dyn.specs.Belonging.{IsMessage}
+use Rattle.pg_dyn.specs.Message.{Message, IsPlain}
+use Rattle.pg_dyn.specs.Encoding.{enc, cap}
 use Rattle.pg_dyn.specs.Breaking.{Breaks}
 use Rattle.pg_pairs.specs.declared.choice.Pair.{Pair}
 use Rattle.pg_pairs.specs.Sight.{Sight}
@@ -29,13 +30,25 @@ abbrev pub AreBytes : Option (List ℕ) → Type 0
 AreBytes (Some bytes) = AllByRecursion (λ byte. byte < 2 ^ 8) bytes
 AreBytes None = ⊤
 
+-- what the old writer writes of a message without unknown records
+pub record IsWritten (old : Shape) (root : Pair) (bytes : List ℕ) : Type 0 where
+  pub message : Message
+  pub is_message : IsMessage old root.old message
+  pub is_plain : IsPlain message
+  pub has_encoding : length (enc old root.old message) ≤ cap
+  pub written : enc old root.old message ≡ bytes
+
+-- as many bytes as the bound says
+abbrev pub HasLength : Option (Option ℕ) → List ℕ → Type 0
+HasLength bound bytes = bound ≡ Some (Some (length bytes))
+
 -- The bytes are those that the old writer writes of a message without unknown records; this message breaks, and the root's bound is
 -- its length.
 pub record IsWitnessed (sight : Sight) (old new : Shape) (root : Pair) (bound : Option (Option ℕ)) (bytes : List ℕ) : Type 0 where
   pub message : Message
   pub breaks : Breaks sight.alike old new root.old root.new message
   pub written : enc old root.old message ≡ bytes
-  pub length_is : bound ≡ Some (Some (length bytes))
+  pub length_is : HasLength bound bytes
 
 abbrev pub IsWitnessedIfThere : Sight → Shape → Shape → Pair → Option (Option ℕ) → Option (List ℕ) → Type 0
 IsWitnessedIfThere sight old new root bound (Some bytes) = IsWitnessed sight old new root bound bytes

@@ -10,8 +10,9 @@ use Rattle.pg_pairs.specs.Choices.{Table, choices}
 use Rattle.pg_pairs.specs.Covering.{children}
 use Rattle.pg_cert.specs.declared.bounds.PairBound.{PairBound}
 use Rattle.pg_cert.specs.declared.error.CertError.{CertError}
-use Rattle.pg_cert.specs.declared.error.CertError.TheVariants.{RootMissing, PairMissing, BoundTooHigh}
+use Rattle.pg_cert.specs.declared.error.CertError.TheVariants.{Memory, BadText, RootMissing, PairMissing, BoundTooHigh, WitnessNotWritten, WitnessLength, WitnessKeeps}
 use Rattle.pg_cert.specs.Bounds.{bound_in}
+use Rattle.pg_cert.specs.Certificate.{IsWritten, HasLength, IsWitnessed}
 
 -- a bound is at most the cost; 'none' is above every cost
 abbrev pub is_within : Option ℕ → ℕ → Bool
@@ -42,3 +43,14 @@ root_fault table root = if is_some (table root) then None else Some RootMissing
 
 abbrev pub first_fault : Sight → Shape → Shape → List PairBound → Pair → Option CertError
 first_fault sight old new bounds root = option_or (root_fault (bound_in bounds) root) (first_pair_fault sight old new (bound_in bounds) bounds)
+
+-- Of a witness the first of three clauses that fails: it is written, it has the length that the root's bound says, it breaks.
+abbrev pub WitnessFault : Sight → Shape → Shape → Pair → Option (Option ℕ) → List ℕ → CertError → Type 0
+WitnessFault sight old new root bound bytes WitnessNotWritten = IsWritten old root bytes → ⊥
+WitnessFault sight old new root bound bytes WitnessLength = IsWritten old root bytes × (HasLength bound bytes → ⊥)
+WitnessFault sight old new root bound bytes WitnessKeeps = IsWritten old root bytes × HasLength bound bytes × (IsWitnessed sight old new root bound bytes → ⊥)
+WitnessFault sight old new root bound bytes Memory = ⊥
+WitnessFault sight old new root bound bytes BadText = ⊥
+WitnessFault sight old new root bound bytes RootMissing = ⊥
+WitnessFault sight old new root bound bytes (PairMissing pair) = ⊥
+WitnessFault sight old new root bound bytes (BoundTooHigh pair number case) = ⊥

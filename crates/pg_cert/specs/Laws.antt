@@ -1,5 +1,7 @@
 -- Laws of tables, faults and claims.
-use Rattle.std.specs.Prelude.{◌≡◌, ◌↔◌, ℕ, ◌≤◌, true, List, length, Some, None}
+use Rattle.std.specs.Prelude.{◌≡◌, ◌↔◌, ℕ, ◌≤◌, true, List, length, Option, Some, None}
+use Rattle.pg_schema.specs.declared.parts.Parts.{Parts}
+use Rattle.pg_schema.specs.Invariant.{IsSchema}
 use Rattle.pg_schema.specs.Shape.{Shape, IsShape}
 use Rattle.pg_dyn.specs.Message.{Message}
 use Rattle.pg_dyn.specs.Encoding.{enc}
@@ -8,11 +10,13 @@ use Rattle.pg_pairs.specs.declared.choice.Pair.{Pair}
 use Rattle.pg_pairs.specs.Sight.{Sight, IsSight}
 use Rattle.pg_pairs.specs.Covering.{Covers}
 use Rattle.pg_cert.specs.declared.bounds.PairBound.{PairBound}
+use Rattle.pg_cert.specs.declared.error.CertError.{CertError}
 use Rattle.pg_cert.specs.declared.verdict.Verdict.{Verdict}
 use Rattle.pg_cert.specs.declared.verdict.Verdict.TheVariants as verdicts
 use Rattle.pg_cert.specs.Bounds.{are_bounds, bound_in}
-use Rattle.pg_cert.specs.Certificate.{Claim, Holds, verdict_of}
-use Rattle.pg_cert.specs.Faults.{first_fault}
+use Rattle.pg_cert.specs.Certificate.{Claim, Holds, IsWitnessed, verdict_of}
+use Rattle.pg_cert.specs.Faults.{first_fault, WitnessFault}
+use Rattle.pg_cert.specs.Text.{Certifies}
 
 -- A table of distinct pairs covers its root where it has no fault, and nowhere else.
 abbrev pub CoversWithoutFault : Type 0
@@ -27,6 +31,12 @@ pub record IsLeastWitness (sight : Sight) (old new : Shape) (root : Pair) (bytes
   pub written : enc old root.old message ≡ bytes
   pub least : Least sight.alike old new root.old root.new (length bytes)
 
+-- A witness with a fault is none.
+abbrev pub WitnessFaultsAreReal : Type 0
+WitnessFaultsAreReal =
+    (sight : Sight) (old new : Shape) (root : Pair) (bound : Option (Option ℕ)) (bytes : List ℕ) (fault : CertError) →
+    WitnessFault sight old new root bound bytes fault → IsWitnessed sight old new root bound bytes → ⊥
+
 -- what a verdict says of the messages of the root's old type
 abbrev pub Says : Sight → Shape → Shape → Claim → Verdict → Type 0
 Says sight old new claim verdicts.Compatible = Compatible sight.alike old new claim.root.old claim.root.new
@@ -37,3 +47,8 @@ Says sight old new claim verdicts.Breaks = (bytes : List ℕ) × (claim.witness 
 abbrev pub VerdictsAreTrue : Type 0
 VerdictsAreTrue =
     (sight : Sight) (old new : Shape) (claim : Claim) → IsSight sight → IsShape old → IsShape new → Holds sight old new claim → Says sight old new claim (verdict_of claim)
+
+-- A text certifies one claim at most.
+abbrev pub OneSpelling : Type 0
+OneSpelling =
+    (old new : Parts) (text : List ℕ) (a b : Claim) → IsSchema old → IsSchema new → Certifies old new text a → Certifies old new text b → a ≡ b

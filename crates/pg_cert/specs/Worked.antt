@@ -10,11 +10,11 @@ use Rattle.pg_pairs.specs.Sight.{by_numbers}
 use Rattle.pg_pairs.specs.SmallPairs.{both}
 use Rattle.pg_cert.specs.declared.bounds.PairBound.{PairBound}
 use Rattle.pg_cert.specs.declared.error.CertError.{CertError}
-use Rattle.pg_cert.specs.declared.error.CertError.TheVariants.{RootMissing, PairMissing, BoundTooHigh}
+use Rattle.pg_cert.specs.declared.error.CertError.TheVariants.{RootMissing, PairMissing, BoundTooHigh, WitnessNotWritten, WitnessLength, WitnessKeeps}
 use Rattle.pg_cert.specs.declared.verdict.Verdict.TheVariants as verdicts
 use Rattle.pg_cert.specs.Bounds.{are_bounds}
 use Rattle.pg_cert.specs.Certificate.{Claim, Holds, verdict_of}
-use Rattle.pg_cert.specs.Faults.{first_fault}
+use Rattle.pg_cert.specs.Faults.{first_fault, WitnessFault}
 
 abbrev pub pair_bound : Pair → Option ℕ → PairBound
 pair_bound pair bound = record { pair = pair; bound = bound }
@@ -66,6 +66,10 @@ in_child bounds witness = claim (both second) bounds witness
 abbrev pub tree : Shape
 tree = of_fields (field 1 Explicit (elements.Message first) ∷ field 2 (Repeated false) (elements.Message first) ∷ [])
 
+-- a zero before it, which the old writer doesn't write
+abbrev pub after_zero : List ℕ
+after_zero = 8 ∷ 0 ∷ minus_one
+
 pub record WorkedCertificates : Type 0 where
   pub unchanged_field : Shows signed signed unchanged
   pub compatible_verdict : verdict_of unchanged ≡ verdicts.Compatible
@@ -82,6 +86,9 @@ pub record WorkedCertificates : Type 0 where
   pub none_too_high : FaultIs signed unsigned (to_unsigned None) (BoundTooHigh root 1 2)
   pub child_too_high : FaultIs (linked Uint32) (linked Int32) (in_child (outer ∷ pair_bound root (Some 7) ∷ []) None) (BoundTooHigh root 1 2)
   pub first_of_two : FaultIs (linked Uint32) (linked Int32) (in_child (pair_bound root None ∷ pair_bound (both second) None ∷ []) None) (BoundTooHigh root 1 2)
+  pub zero_before : WitnessFault by_numbers signed unsigned root (Some (Some 11)) after_zero WitnessNotWritten
+  pub wrong_length : WitnessFault by_numbers (linked Uint32) (linked Int32) (both second) (Some (Some 7)) child_witness WitnessLength
+  pub witness_kept : WitnessFault by_numbers signed signed root (Some (Some 11)) minus_one WitnessKeeps
   -- a pair stands once, and a number is from 1 to 2,147,483,647
   pub pair_twice : are_bounds (inner ∷ inner ∷ []) ≡ false
   pub zero_is_no_bound : are_bounds (pair_bound root (Some 0) ∷ []) ≡ false

@@ -1,9 +1,9 @@
 //! Laws about the definitions. Each is the contract of a function that does nothing.
 
-ghost use Rattle.pg_cert.specs.Laws.{CoversWithoutFault, VerdictsAreTrue};
+ghost use Rattle.pg_cert.specs.Laws.{CoversWithoutFault, OneSpelling, VerdictsAreTrue, WitnessFaultsAreReal};
 ghost use Rattle.pg_cert.specs.Worked.{WorkedCertificates};
 
-use pg_dyn::worked_examples;
+use pg_dyn::{reads_again, self_compatible, worked_examples};
 use pg_pairs::{covering_bounds, none_is_compatible};
 
 /// Small certificates that hold, and faults of others.
@@ -11,6 +11,8 @@ pub fn worked_certificates()
     ensures { WorkedCertificates }
 {
     worked_examples();
+    reads_again();
+    self_compatible();
 }
 
 /// A table covers its root exactly where it has no fault.
@@ -25,3 +27,13 @@ pub fn verdicts_are_true()
     covering_bounds();
     none_is_compatible();
 }
+
+/// A text certifies one claim at most.
+pub fn one_spelling()
+    ensures { OneSpelling }
+{}
+
+/// A witness with a fault is none.
+pub fn witness_faults_are_real()
+    ensures { WitnessFaultsAreReal }
+{}

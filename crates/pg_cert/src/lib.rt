@@ -14,7 +14,10 @@ pub use bounds::{Bounds, BoundsError, PairBound};
 pub use certificate::Certificate;
 pub use checking::check;
 pub use error::CertError;
-pub use laws::{covers_without_fault, verdicts_are_true, worked_certificates};
+pub use laws::{
+    covers_without_fault, one_spelling, verdicts_are_true, witness_faults_are_real,
+    worked_certificates,
+};
 pub use reading::from_text;
 pub use verdict::Verdict;
 pub use writing::to_text;

@@ -1,4 +1,4 @@
-use Rattle.std.proofs.Common.{◌≡◌, List, [], ◌∷◌, true, Some, None, refl, negsuc, pos}
+use Rattle.std.proofs.Common.{◌≡◌, List, [], ◌∷◌, true, Some, None, Option, ℕ, refl, negsuc, pos, arith}
 use Rattle.pg_schema.specs.declared.field.Scalar.TheVariants.{Int32, Uint32}
 use Rattle.pg_schema.specs.Shape.{Shape}
 use Rattle.pg_wire.specs.Records.{tag}
@@ -12,12 +12,16 @@ use Rattle.pg_pairs.specs.Covering.{Covers}
 use Rattle.pg_cert.specs.declared.bounds.PairBound.{PairBound}
 use Rattle.pg_cert.specs.Bounds.{are_bounds, bound_in}
 use Rattle.pg_cert.specs.Faults.{first_fault}
-use Rattle.pg_cert.specs.Worked.{signed, unsigned, tree, unchanged, to_unsigned, outer, inner}
+use Rattle.pg_cert.specs.Worked.{minus_one, signed, unsigned, tree, unchanged, to_unsigned, outer, inner}
 use Rattle.pg_cert.proofs.Coverings.{covers_without_fault}
+use Rattle.pg_cert.proofs.Witnesses.{zero_not_written, same_is_kept}
 use Rattle.pg_cert.proofs.laws.worked_certificates.Goals as goal
 
 covers : (old new : Shape) (bounds : List PairBound) (root : Pair) → are_bounds bounds ≡ true → first_fault by_numbers old new bounds root ≡ None → Covers by_numbers old new (bound_in bounds) root
 covers old new bounds root distinct faultless = (covers_without_fault by_numbers old new bounds root distinct).0 faultless
+
+apart : ◌≡◌ {A = Option (Option ℕ)} (Some (Some 7)) (Some (Some 8)) → ⊥
+apart h = let same : ◌≡◌ {A = ℕ} 7 8 = cc in omega arith
 
 pub returns : goal.returns
 unfolding tag varint word_bytes
@@ -52,6 +56,9 @@ returns c =
       none_too_high = refl;
       child_too_high = refl;
       first_of_two = refl;
+      zero_before = zero_not_written c.reads_again.ensures found.same_type;
+      wrong_length = (record { message = nests 2 None (one (Int (pos 2147483648))) (ends []); is_message = found.child_breaks.breaks.is_message; is_plain = found.child_breaks.breaks.is_plain; has_encoding = found.child_breaks.breaks.has_encoding; written = found.child_breaks.written_as }, λ h. apart h);
+      witness_kept = (record { message = one (Int (negsuc 0)); is_message = found.same_type.is_message; is_plain = found.same_type.is_plain; has_encoding = found.int32_to_uint32.breaks.has_encoding; written = found.same_type.written_as }, refl, same_is_kept c.self_compatible.ensures (Some (Some 11)) minus_one);
       pair_twice = refl;
       zero_is_no_bound = refl;
       bound_above_the_most = refl;
