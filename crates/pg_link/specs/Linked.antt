@@ -52,6 +52,18 @@ pub record IsDeclaredAt (files : List Entry) (full path : Text) (at_line at_colu
   pub is_line : at_line ≡ line (take declared.at file.1.bytes.items)
   pub is_column : at_column ≡ column (take declared.at file.1.bytes.items)
 
+-- no file declares the full name, here without its dot
+abbrev pub IsDeclaredNowhere : List Entry → Text → Type 0
+IsDeclaredNowhere files full = (file : Entry) (d : Declared) → IsAmong files file → IsAmong (file_names file.1.tree) d → d.name ≡ 46 ∷ full → ⊥
+
+-- the first of these files is there
+pub record HasFirst (files : List Entry) (numbers : List ℕ) : Type 0 where
+  pub number : ℕ
+  pub others : List ℕ
+  pub file : Entry
+  pub is_first : numbers ≡ number ∷ others
+  pub is_there : slice_get files number ≡ Some file
+
 -- the first of these files, and the place of a byte of it
 pub record IsFirstPlace (files : List Entry) (numbers : List ℕ) (at : ℕ) (path : Text) (at_line at_column : ℕ) : Type 0 where
   pub number : ℕ

@@ -1,5 +1,5 @@
 //! Linked files.
-ghost use Rattle.std.specs.Prelude.{◌≡◌, ◌<◌, IfErr, IfOk, IfSome, List, Some, length, map, slice_get};
+ghost use Rattle.std.specs.Prelude.{◌≡◌, ◌<◌, IfErr, IfNone, IfOk, IfSome, List, Some, length, map, slice_get};
 
 use crate::declaring::index_names;
 use crate::error::LinkError;
@@ -43,7 +43,7 @@ impl Model for Linked {
 impl Linked {
     ghost use Rattle.pg_link.specs.Files.{all_names, visible_names};
     ghost use Rattle.pg_link.specs.Index.{texts};
-    ghost use Rattle.pg_link.specs.Linked.{IsDeclaredAt, IsLinkedUp, IsRead};
+    ghost use Rattle.pg_link.specs.Linked.{IsDeclaredAt, IsDeclaredNowhere, IsLinkedUp, IsRead};
     ghost use Rattle.pg_link.specs.Resolves.{Resolves, reference};
     ghost use Rattle.pg_link.specs.Targets.{file_targets};
     ghost use Rattle.pg_link.specs.Unresolved.{Refuses};
@@ -119,7 +119,8 @@ impl Linked {
 
     /// Where a full name, given without its dot, is first declared.
     pub(crate) fn declared_at(&self, full_name: &str) -> Option<(&str, usize, usize)>
-        ensures { IfSome result (λ p. IsDeclaredAt self.now.files full_name.now p.0.now p.1 p.2) }
+        ensures place { IfSome result (λ p. IsDeclaredAt self.now.files full_name.now p.0.now p.1 p.2) }
+        ensures absent { IfNone result (IsDeclaredNowhere self.now.files full_name.now) }
     {
         for number in 0..self.index.names.len() {
             let Some((name, named)) = self.index.names.get_index(number) else {

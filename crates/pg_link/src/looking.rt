@@ -1,8 +1,8 @@
 //! What a caller may ask of linked files.
-ghost use Rattle.std.specs.Prelude.{◌≡◌, ◌<◌, ◌∷◌, IfErr, IfOk, IfSome, List, Some, length, slice_get, true, ℕ};
+ghost use Rattle.std.specs.Prelude.{◌≡◌, ◌<◌, ◌∷◌, IfErr, IfNone, IfOk, IfSome, List, Some, length, slice_get, true, ℕ};
 ghost use Rattle.pg_link.specs.Files.{all_names, visible_names};
 ghost use Rattle.pg_link.specs.Index.{texts};
-ghost use Rattle.pg_link.specs.Linked.{IsDeclaredAt, IsFirstPlace};
+ghost use Rattle.pg_link.specs.Linked.{HasFirst, IsDeclaredAt, IsDeclaredNowhere, IsFirstPlace};
 ghost use Rattle.pg_link.specs.Resolves.{Resolves, reference};
 ghost use Rattle.pg_link.specs.UseFaults.{IsNoName, SaysOf};
 ghost use Rattle.pg_link.specs.Walk.{Entry, outlines, path_of};
@@ -26,7 +26,8 @@ fn behind_dot(full: &str) -> &str
 
 /// Whether a full name is this one with a dot in front.
 pub(crate) fn is_behind_dot(full: &str, name: &str) -> bool
-    ensures { result ≡ true → full.now ≡ 46 ∷ name.now }
+    ensures only { result ≡ true → full.now ≡ 46 ∷ name.now }
+    ensures each { full.now ≡ 46 ∷ name.now → result ≡ true }
 {
     match full.strip_prefix(".") {
         Some(rest) => rest == name,
@@ -39,7 +40,8 @@ pub(crate) fn first_place<'a>(
     files: &'a IndexMap<String, SourceFile>,
     named: &Named,
 ) -> Option<(&'a str, usize, usize)>
-    ensures { IfSome result (λ p. IsFirstPlace files.now.entries named.now.files.items named.now.at p.0.now p.1 p.2) }
+    ensures place { IfSome result (λ p. IsFirstPlace files.now.entries named.now.files.items named.now.at p.0.now p.1 p.2) }
+    ensures absent { IfNone result (HasFirst files.now.entries named.now.files.items → ⊥) }
 {
     let number = *named.files.first()?;
     let (path, file) = files.get_index(number)?;
@@ -93,9 +95,10 @@ impl Linked {
     }
 
     /// The file, line and column of the word that declares a full name, which is given without a dot in front; of a
-    /// package part the first. It takes no memory, and goes by the names one by one.
+    /// package part the first. `None` where no file declares it. It takes no memory, and goes by the names one by one.
     pub fn place(&self, full_name: &str) -> Option<(&str, usize, usize)>
-        ensures { IfSome result (λ p. IsDeclaredAt self.now.files full_name.now p.0.now p.1 p.2) }
+        ensures place { IfSome result (λ p. IsDeclaredAt self.now.files full_name.now p.0.now p.1 p.2) }
+        ensures absent { IfNone result (IsDeclaredNowhere self.now.files full_name.now) }
     {
         self.declared_at(full_name)
     }

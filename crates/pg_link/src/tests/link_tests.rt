@@ -1,5 +1,6 @@
 use super::shown::line;
 use crate::{Linked, Listed, Target, link};
+use pg_syntax::tree::{Part, Statement};
 use std::alloc::{AllocError, Global};
 use std::test::*;
 
@@ -201,5 +202,56 @@ fn the_key_of_a_map_is_used_before_its_value(rt: HostRuntime) -> Result<(), Fail
 fn a_name_that_stands_twice_comes_before_one_that_is_unknown(rt: HostRuntime) -> Result<(), Fail> {
     let twice = lines(rt.alloc(), "message M { X x = 1; } message M { }")?;
     assert_eq!(rt; twice.as_str(), "E304 m.proto:2:32");
+    Ok(())
+}
+
+const WITH_PACKAGE: &[u8] = b"syntax = \"proto3\";\npackage p;\nmessage M {\n  M field = 1;\n}\n";
+
+#[test]
+fn a_full_name_has_the_place_of_its_word(rt: HostRuntime) -> Result<(), Fail> {
+    let mut source = Listed {
+        files: &[("d/m.proto", WITH_PACKAGE)],
+    };
+    let linked = link(rt.alloc(), &mut source, "d", &["m.proto"])
+        .ok()
+        .ok_or("the file is linked")?;
+    assert_eq!(rt; linked.place("p.M"), Some(("m.proto", 3, 9)));
+    assert_eq!(rt; linked.place("p.M.field"), Some(("m.proto", 4, 5)));
+    assert_eq!(rt; linked.place(".p.M"), None);
+    Ok(())
+}
+
+/// What the type of the first field of the first message resolves to in its scope, by `Linked::resolve`.
+fn resolved(alloc: Global, linked: &Linked, scope: &[&str]) -> Result<String, AllocError> {
+    let Some((_, file)) = linked.files().get_index(0) else {
+        return String::from_str(alloc, "no file");
+    };
+    let Some(packaged) = &file.tree.packaged else {
+        return String::from_str(alloc, "no package");
+    };
+    let [Statement::Message(message)] = packaged.statements.as_slice() else {
+        return String::from_str(alloc, "no message");
+    };
+    let [Part::Field(field)] = message.parts.as_slice() else {
+        return String::from_str(alloc, "no field");
+    };
+    match linked.resolve(alloc, 0, scope, &field.type_name) {
+        Ok(full) => String::from_str(alloc, full),
+        Err(error) => line(alloc, &error),
+    }
+}
+
+#[test]
+fn a_name_is_resolved_in_a_scope(rt: HostRuntime) -> Result<(), Fail> {
+    let mut source = Listed {
+        files: &[("m.proto", WITH_PACKAGE)],
+    };
+    let linked = link(rt.alloc(), &mut source, ".", &["m.proto"])
+        .ok()
+        .ok_or("the file is linked")?;
+    let inside = resolved(rt.alloc(), &linked, &["p", "M"])?;
+    assert_eq!(rt; inside.as_str(), "p.M");
+    let outside = resolved(rt.alloc(), &linked, &[])?;
+    assert_eq!(rt; outside.as_str(), "E305 m.proto:0:0");
     Ok(())
 }

@@ -3,8 +3,8 @@ use Rattle.pg_lex.specs.Place.{line, column}
 use Rattle.pg_link.proofs.PlaceLaws.{head_of}
 use Rattle.pg_link.proofs.looking.first_place.Goals as goal
 
-pub returns : goal.returns
-returns c =
+pub returns-clause-place : goal.returns-clause-place
+returns-clause-place c =
     let h = head_of c.args.named.now.files.items c.in_ok-number.field-0.now
     (c.in_ok-number.ensures.value ∙ ap (λ (l : List ℕ). slice_get l 0) c.deref.ensures.value) in
     record {
