@@ -7,3 +7,4 @@ pub mod Placing
 pub mod Eachs
 pub mod PartsLaws
 pub mod FileFaults
+pub mod Reach

@@ -1,5 +1,6 @@
 pub mod Faults
 pub mod Numbers
+pub mod Tops
 pub mod Names
 pub mod ReservedItems
 pub mod Options

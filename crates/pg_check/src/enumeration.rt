@@ -202,7 +202,7 @@ fn numbers_fault(
     ensures { IfOk result (λ fault. fault ≡ spec.numbers_fault body.now) }
 {
     let outside = first_outside(LOWEST_VALUE, HIGHEST_VALUE, keys);
-    let reserved = first_reserved(items, keys);
+    let reserved = first_reserved(alloc, items, keys)?;
     let not_zero = first_not_zero(keys);
     let alias = first_alias(alloc, has_aliases(body), keys)?;
     let broken_last = earlier(

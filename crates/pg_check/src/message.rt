@@ -272,7 +272,7 @@ fn numbers_fault(
     ensures { IfOk result (λ fault. fault ≡ spec.numbers_fault keys.now items.now) }
 {
     let twice = first_twice(alloc, keys)?;
-    let reserved = broken(Rule::ReservedNumber, first_reserved(items, keys));
+    let reserved = broken(Rule::ReservedNumber, first_reserved(alloc, items, keys)?);
     let of_items = earlier(reserved, items_fault(LOWEST_FIELD, HIGHEST_FIELD, items));
     let of_twice = earlier(broken(Rule::DuplicateNumber, twice), of_items);
     Ok(earlier(broken(Rule::BadNumber, first_bad_number(keys)), of_twice))

@@ -1,7 +1,10 @@
 //! Numbers of fields and values, and those that are reserved.
 
 ghost use Rattle.std.specs.Prelude.{◌≡◌, ◌<◌, ◌^◌, IfOk};
+ghost use Rattle.std.specs.List.Sorted.{IsNonDecreasingBy, IsPermutation};
+ghost use Rattle.pg_check.specs.declared.numbers.Numbers.{Numbers};
 ghost use Rattle.pg_check.specs.Numbers as spec;
+ghost use Rattle.pg_check.specs.Tops.{tops_from};
 
 use pg_syntax::tree::Number;
 use std::alloc::{AllocError, Global};
@@ -107,26 +110,66 @@ pub(crate) fn first_twice(alloc: Global, keys: &[Keyed]) -> Result<Option<usize>
     Ok(None)
 }
 
-/// A reserved item has the number.
-fn is_reserved(reserved: &[Numbers], number: u128) -> bool
-    ensures { result ≡ spec.is_reserved reserved.now number }
+/// How far the items up to each of these reach.
+fn tops_of(alloc: Global, sorted: &[Numbers]) -> Result<Vec<u128>, AllocError>
+    ensures { IfOk result (λ tops. tops.items ≡ tops_from 0 sorted.now) }
 {
-    for item in reserved {
-        if is_within(item.first, item.last, number) {
-            return true;
-        }
+    let mut tops = Vec::new(alloc);
+    let mut top = 0;
+    for item in sorted {
+        top = top.max(item.last);
+        tops.push(top)?;
     }
-    false
+    Ok(tops)
 }
 
-/// The place of the first number that is reserved.
-pub(crate) fn first_reserved(reserved: &[Numbers], keys: &[Keyed]) -> Option<usize>
-    ensures { result ≡ spec.first_reserved reserved.now keys.now }
+/// An item has the number; the items stand by rising first numbers.
+fn is_held(sorted: &[Numbers], tops: &[u128], number: u128) -> bool
+    requires order { IsNonDecreasingBy (λ (r : Numbers). r.first) sorted.now }
+    requires tops { tops.now ≡ tops_from 0 sorted.now }
+    ensures { result ≡ spec.is_reserved sorted.now number }
+{
+    let count = sorted.partition_point(|item| item.first <= number);
+    if count == 0 {
+        return false;
+    }
+    number <= tops[count - 1]
+}
+
+/// The items by rising first numbers.
+fn by_first(alloc: Global, items: &[Numbers]) -> Result<Vec<Numbers>, AllocError>
+    ensures same { IfOk result (λ sorted. IsPermutation items.now sorted.items) }
+    ensures order { IfOk result (λ sorted. IsNonDecreasingBy (λ (r : Numbers). r.first) sorted.items) }
+{
+    let mut sorted = Vec::from_slice(alloc, items)?;
+    sorted.sort_unstable_by_key(|item| item.first);
+    Ok(sorted)
+}
+
+/// The place of the first number that an item has; the items stand by rising first numbers.
+fn first_held(sorted: &[Numbers], tops: &[u128], keys: &[Keyed]) -> Option<usize>
+    requires order { IsNonDecreasingBy (λ (r : Numbers). r.first) sorted.now }
+    requires tops { tops.now ≡ tops_from 0 sorted.now }
+    ensures { result ≡ spec.first_reserved sorted.now keys.now }
 {
     for one in keys {
-        if is_reserved(reserved, one.key) {
+        if is_held(sorted, tops, one.key) {
             return Some(one.at);
         }
     }
     None
+}
+
+/// The place of the first number that is reserved.
+pub(crate) fn first_reserved(
+    alloc: Global,
+    reserved: &[Numbers],
+    keys: &[Keyed],
+) -> Result<Option<usize>, AllocError>
+    ensures { IfOk result (λ place. place ≡ spec.first_reserved reserved.now keys.now) }
+{
+    let sorted = by_first(alloc, reserved)?;
+    let tops = tops_of(alloc, &sorted)?;
+    let place = first_held(&sorted, &tops, keys);
+    Ok(place)
 }
