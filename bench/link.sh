@@ -1,0 +1,15 @@
+#!/usr/bin/env bash
+# Times linking of 1,024 files with 4,096 message types and 50,000 uses of them, beside protoc on the same files.
+# usage: bench/link.sh [FOLDER]    FOLDER keeps the built program for the next run.
+set -eu
+top=$(cd "$(dirname "$0")/.." && pwd)
+work=${1:-$(mktemp -d)}
+. "$top/bench/build.sh"
+build_bench "$top" "$work" link_time link_main.rt.txt "pg_link"
+python3 "$top/bench/link.py" "$work/files"
+for turn in 1 2 3 4 5; do
+    "$work/crates/link_time/out/link_time" "$work/files"
+done
+cd "$work/files"
+echo "protoc --descriptor_set_out:"
+time protoc --descriptor_set_out=../link.bin f1023.proto
