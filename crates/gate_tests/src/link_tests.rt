@@ -6,7 +6,7 @@ use pg_link::Listed;
 use std::process::Abort;
 use std::test::Fail;
 
-/// Runs the gate on the file `a` of both sides, and expects this text and status.
+/// Runs the gate on the file `a.proto` of both sides, and expects this text and status.
 fn expect<R: Abort + AllocGlobal, S: Sources, T: Sources>(
     rt: &R,
     root: &str,
@@ -15,7 +15,9 @@ fn expect<R: Abort + AllocGlobal, S: Sources, T: Sources>(
     text: &str,
     status: u8,
 ) -> Result<(), Fail> {
-    let words = ["gate", "--old", "a", "--new", "a", "--type", root];
+    let words = [
+        "gate", "--old", "a.proto", "--new", "a.proto", "--type", root,
+    ];
     let mut sink = buffer(rt.alloc())?;
     let ended = run(rt.alloc(), &words, old, new, &mut sink)?;
     assert_eq!(rt; ended, status, "status of {text}");
@@ -33,7 +35,7 @@ fn answer_of<R: Abort + AllocGlobal>(
 ) -> Result<(), Fail> {
     let file = format!(in rt.alloc(); "syntax = \"proto3\";\n{lines}\n")?;
     let mut old = Listed {
-        files: &[("a", file.as_bytes())],
+        files: &[("a.proto", file.as_bytes())],
     };
     let mut new = old;
     expect(rt, root, &mut old, &mut new, text, status)
@@ -52,9 +54,9 @@ fn answer_of_three<R: Abort + AllocGlobal>(
     let c = format!(in rt.alloc(); "syntax = \"proto3\";\n{c}\n")?;
     let mut old = Listed {
         files: &[
-            ("a", a.as_bytes()),
-            ("b", b.as_bytes()),
-            ("c", c.as_bytes()),
+            ("a.proto", a.as_bytes()),
+            ("b.proto", b.as_bytes()),
+            ("c.proto", c.as_bytes()),
         ],
     };
     let mut new = old;
@@ -63,66 +65,96 @@ fn answer_of_three<R: Abort + AllocGlobal>(
 
 #[test]
 fn tells_circles_of_imports(rt: HostRuntime) -> Result<(), Fail> {
-    let alone = ["import \"a\";", "", ""];
-    answer_of_three(&rt, alone, "refused old E302 a:2:8\n", 2)?;
-    let two = ["import \"b\";\nmessage M { }", "import \"a\";", ""];
-    answer_of_three(&rt, two, "refused old E302 b:2:8\n", 2)?;
-    let three = ["import \"b\";", "import \"c\";", "\nimport \"a\";"];
-    answer_of_three(&rt, three, "refused old E302 c:3:8\n", 2)
+    let alone = ["import \"a.proto\";", "", ""];
+    answer_of_three(&rt, alone, "refused old E302 a.proto:2:8\n", 2)?;
+    let two = [
+        "import \"b.proto\";\nmessage M { }",
+        "import \"a.proto\";",
+        "",
+    ];
+    answer_of_three(&rt, two, "refused old E302 b.proto:2:8\n", 2)?;
+    let three = [
+        "import \"b.proto\";",
+        "import \"c.proto\";",
+        "\nimport \"a.proto\";",
+    ];
+    answer_of_three(&rt, three, "refused old E302 c.proto:3:8\n", 2)
 }
 
 #[test]
 fn tells_imports_that_stand_twice_or_lack(rt: HostRuntime) -> Result<(), Fail> {
-    let twice = ["import \"b\";\nimport \"b\";", "", ""];
-    answer_of_three(&rt, twice, "refused old E303 a:3:8\n", 2)?;
-    let lacks = ["import \"b\";", "import public \"d\";", ""];
-    answer_of_three(&rt, lacks, "refused old E301 b:2:15\n", 2)
+    let twice = ["import \"b.proto\";\nimport \"b.proto\";", "", ""];
+    answer_of_three(&rt, twice, "refused old E303 a.proto:3:8\n", 2)?;
+    let lacks = ["import \"b.proto\";", "import public \"d.proto\";", ""];
+    answer_of_three(&rt, lacks, "refused old E301 b.proto:2:15\n", 2)
 }
 
 #[test]
 fn sees_through_public_imports_alone(rt: HostRuntime) -> Result<(), Fail> {
     let hidden = [
-        "import \"b\";\nmessage M { K k = 1; }",
-        "import \"c\";",
+        "import \"b.proto\";\nmessage M { K k = 1; }",
+        "import \"c.proto\";",
         "message K { }",
     ];
-    answer_of_three(&rt, hidden, "refused old E307 a:3:13\n", 2)?;
+    answer_of_three(&rt, hidden, "refused old E307 a.proto:3:13\n", 2)?;
     let seen = [
-        "import \"b\";\nmessage M { K k = 1; }",
-        "import public \"c\";",
+        "import \"b.proto\";\nmessage M { K k = 1; }",
+        "import public \"c.proto\";",
         "message K { }",
     ];
     answer_of_three(&rt, seen, "undecided M\n", 5)
 }
 
 /// Names of one file, and what the gate on them prints.
-static NAMES: [(&str, &str); 9] = [
+static NAMES: [(&str, &str); 13] = [
+    (
+        "enum E { A = 0; } message M { .A a = 1; }",
+        "refused old E306 a.proto:2:31\n",
+    ),
+    (
+        "message M { a b = 1; int32 a = 2; }",
+        "refused old E305 a.proto:2:13\n",
+    ),
+    (
+        "message M { map<int32, int32> foo = 1; .M.FooEntry.key a = 2; }",
+        "refused old E305 a.proto:2:40\n",
+    ),
+    (
+        "message M { map<int32, int32> foo = 1; FooEntry a = 2; }",
+        "refused old E306 a.proto:2:40\n",
+    ),
     ("message M { M M = 1; }", "undecided M\n"),
     (
         "message M { int32 a = 1; bool a = 2; }",
-        "refused old E304 a:2:31\n",
+        "refused old E304 a.proto:2:31\n",
     ),
     (
         "enum E { A = 0; } enum F { A = 0; }",
-        "refused old E304 a:2:28\n",
+        "refused old E304 a.proto:2:28\n",
     ),
-    ("message M { Int32 a = 1; }", "refused old E305 a:2:13\n"),
-    ("message M { .int32 a = 1; }", "refused old E305 a:2:13\n"),
+    (
+        "message M { Int32 a = 1; }",
+        "refused old E305 a.proto:2:13\n",
+    ),
+    (
+        "message M { .int32 a = 1; }",
+        "refused old E305 a.proto:2:13\n",
+    ),
     (
         "message M { map<K, bool> a = 1; }",
-        "refused old E305 a:2:17\n",
+        "refused old E305 a.proto:2:17\n",
     ),
     (
         "message M { oneof k { int32.b a = 1; } }",
-        "refused old E305 a:2:23\n",
+        "refused old E305 a.proto:2:23\n",
     ),
     (
         "message M { .M.a b = 1; int32 a = 2; }",
-        "refused old E306 a:2:13\n",
+        "refused old E306 a.proto:2:13\n",
     ),
     (
         "message M { } enum E { A = 0; } service S { rpc R (M) returns (E); }",
-        "refused old E306 a:2:64\n",
+        "refused old E306 a.proto:2:64\n",
     ),
 ];
 
@@ -138,17 +170,56 @@ fn tells_names_that_name_no_type(rt: HostRuntime) -> Result<(), Fail> {
 #[test]
 fn seeks_the_first_part_of_a_name(rt: HostRuntime) -> Result<(), Fail> {
     let inner = "package p;\nmessage A { message B { } }\nmessage C { message A { } A.B x = 1; }";
-    answer_of(&rt, "p.C", inner, "refused old E305 a:4:27\n", 2)?;
+    answer_of(&rt, "p.C", inner, "refused old E305 a.proto:4:27\n", 2)?;
     let full = "package p;\nmessage A { message B { } }\nmessage C { message A { } .p.A.B x = 1; }";
     answer_of(&rt, "p.C", full, "undecided p.C\n", 5)
+}
+
+/// Of several faults of names the first is told: files stand behind those that they import.
+#[test]
+fn tells_faults_of_names_in_order(rt: HostRuntime) -> Result<(), Fail> {
+    let unknown = [
+        "import \"b.proto\";\nmessage M { X x = 1; }",
+        "message N { Y y = 1; Z z = 2; }",
+        "",
+    ];
+    answer_of_three(&rt, unknown, "refused old E305 b.proto:2:13\n", 2)?;
+    let twice = [
+        "import \"b.proto\";\nmessage M { } message M { }",
+        "message N { } message N { } message N { }",
+        "",
+    ];
+    answer_of_three(&rt, twice, "refused old E304 b.proto:2:23\n", 2)?;
+    let both = [
+        "import \"b.proto\";\nmessage M { } message M { }",
+        "message N { Y y = 1; }",
+        "",
+    ];
+    answer_of_three(&rt, both, "refused old E304 a.proto:3:23\n", 2)
+}
+
+/// A part of a package is a name, at its place in the text.
+#[test]
+fn tells_a_package_that_bears_a_name(rt: HostRuntime) -> Result<(), Fail> {
+    let part = [
+        "import \"b.proto\";\npackage q.foo.r;\nmessage foo { }",
+        "package q;\nmessage foo { }",
+        "",
+    ];
+    answer_of_three(&rt, part, "refused old E304 a.proto:3:11\n", 2)?;
+    let shared = ["import \"b.proto\";\npackage q.r;", "package q.s;", ""];
+    answer_of_three(&rt, shared, "undecided M\n", 5)
 }
 
 /// The file that couldn't be read is told, whoever imports it.
 #[test]
 fn tells_a_source_that_fails_at_an_import(rt: HostRuntime) -> Result<(), Fail> {
-    let imports = "syntax = \"proto3\";\nimport \"b\";";
+    let imports = "syntax = \"proto3\";\nimport \"b.proto\";";
     let files = Listed {
-        files: &[("a", imports.as_bytes()), ("b", b"syntax = \"proto3\";")],
+        files: &[
+            ("a.proto", imports.as_bytes()),
+            ("b.proto", b"syntax = \"proto3\";"),
+        ],
     };
     let mut failing = FailingSource::new(files, 2);
     let mut sound = files;
@@ -157,7 +228,7 @@ fn tells_a_source_that_fails_at_an_import(rt: HostRuntime) -> Result<(), Fail> {
         "M",
         &mut failing,
         &mut sound,
-        "refused old E309 b\n",
+        "refused old E309 b.proto\n",
         3,
     )
 }

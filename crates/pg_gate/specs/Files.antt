@@ -86,13 +86,16 @@ IsDeclaredBy files (Some parts) = IsDeclared files parts
 
 -- ---- a side
 
+-- no name in linked files stands twice, but for parts of packages, and each use of one resolves
+abbrev pub IsSettled : List Entry → Type 0
+IsSettled files = (targets : List (List Target)) × IsLinkedUp (record { files = files; targets = targets })
+
 -- the schema of a side, or none where its files aren't flat or declare none; the files are those of its roots and of all
--- that they import, with texts that its source may give; no name in them stands twice, and each use of one resolves
+-- that they import, with texts that its source may give
 pub record IsCompiled (w : World) (found : Option Parts) : Type 0 where
   pub files : List Entry
   pub linked : IsLinked w files
-  pub targets : List (List Target)
-  pub settled : IsLinkedUp (record { files = files; targets = targets })
+  pub settled : IsSettled files
   pub declared : IsDeclaredBy files found
 
 -- a place in the text of one of the files
@@ -110,7 +113,7 @@ pub record IsLinkFault (w : World) (error : LinkError) : Type 0 where
 -- what is wrong with a side: its files can't be linked, or those that are linked break a rule at that place
 abbrev pub IsFaultOf : World → Fault → Type 0
 IsFaultOf w (faults.Link error) = IsLinkFault w error
-IsFaultOf w (faults.Rule error place) = (files : List Entry) × IsLinked w files × StandsAmong files place
+IsFaultOf w (faults.Rule error place) = (files : List Entry) × IsLinked w files × IsSettled files × StandsAmong files place
 
 -- files that can't be linked
 abbrev pub IsOfLink : World → Fault → Type 0

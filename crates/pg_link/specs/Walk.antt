@@ -6,6 +6,8 @@ use Rattle.pg_lex.specs.Lexes.{lexes, Refuses as LexRefuses}
 use Rattle.pg_lex.specs.Faults.{place_of as lex_place}
 use Rattle.pg_lex.specs.Place.{line, column}
 use Rattle.pg_lex.specs.Symbol.{Placed}
+use Rattle.pg_lex.specs.declared.error.LexError.{LexError}
+use Rattle.pg_lex.specs.declared.error.LexError.TheVariants as lex
 use Rattle.pg_syntax.specs.declared.tree as tree
 use Rattle.pg_syntax.specs.declared.error.SyntaxError.{SyntaxError}
 use Rattle.pg_syntax.specs.declared.error.SyntaxError.TheVariants as syntax
@@ -202,13 +204,17 @@ syntax_place (syntax.CustomOption at) = at
 syntax_place (syntax.WeakImport at) = at
 syntax_place (syntax.NestedTooDeep at) = at
 
--- no tree spells the text's tokens
+-- the text has no tokens, for this reason; want of memory is none
+abbrev pub HasNoTokens : LexError → Text → Type 0
+HasNoTokens e text = (e ≡ lex.Memory → ⊥) × LexRefuses e text
+
+-- no tree spells the text's tokens, for this reason; want of memory is none
 abbrev pub HasNoTree : SyntaxError → Text → Type 0
-HasNoTree e text = (tokens : List Placed) × lexes text tokens × Tells (grammar.file 64) (length text) tokens e
+HasNoTree e text = (e ≡ syntax.Memory → ⊥) × ((tokens : List Placed) × lexes text tokens × Tells (grammar.file 64) (length text) tokens e)
 
 -- a text's own fault
 abbrev pub IsTextFault : Text → Text → errors.LinkError → Type 0
-IsTextFault path text (error.Lex e place) = IsPlace place path text (lex_place e) × LexRefuses e text
+IsTextFault path text (error.Lex e place) = IsPlace place path text (lex_place e) × HasNoTokens e text
 IsTextFault path text (error.Syntax e place) = IsPlace place path text (syntax_place e) × HasNoTree e text
 IsTextFault path text error.Memory = Unit {0}
 IsTextFault path text (error.MissingFile place) = ⊥
@@ -261,7 +267,7 @@ Refuses w (error.ImportCycle place) = StandsAt w place (λ from path front. MayL
 Refuses w (error.DuplicateImport place) = StandsAt w place (λ from path front. is_path_of (import_paths front) path ≡ true)
 Refuses w (error.TooManyFiles place) = (path : Text) × IsAskedAt w place path × IsBeyond w path
 Refuses w (error.SourceFailed place) = (path : Text) × Reached w path × IsWhole place path
-Refuses w (error.Lex e place) = StandsIn w place (lex_place e) (LexRefuses e)
+Refuses w (error.Lex e place) = StandsIn w place (lex_place e) (HasNoTokens e)
 Refuses w (error.Syntax e place) = StandsIn w place (syntax_place e) (HasNoTree e)
 Refuses w error.Memory = Unit {0}
 Refuses w (error.DuplicateName place) = ⊥
