@@ -1,10 +1,11 @@
 -- The first rule that files break, one file after the other.
-use Rattle.std.proofs.Common.{◌≡◌, ◌∙◌, ℕ, ◌+◌, ◌-◌, ◌<◌, List, [], ◌∷◌, map, drop, get_or, length, Option, Some, None, sym, ap, subst}
+use Rattle.std.proofs.Common.{◌≡◌, ◌∙◌, ℕ, suc, arith, ◌+◌, ◌-◌, ◌<◌, List, [], ◌∷◌, map, drop, get_or, length, Option, Some, None, sym, ap, subst}
 use Rattle.pg_check.specs.declared.declare.FileFault.{FileFault}
 use Rattle.pg_check.specs.declared.fault.Fault.{Fault}
 use Rattle.pg_check.specs.declared.made_parts.Source as code
 use Rattle.pg_check.specs.Declares.{files_fault, in_file}
 use Rattle.pg_check.specs.Files.{file_fault}
+use Rattle.pg_check.specs.MadeParts.{Source}
 use Rattle.pg_check.specs.Outline.{file_messages}
 use Rattle.pg_check.specs.Sources.{source}
 use Rattle.pg_check.proofs.FirstLaws.{item_and_rest}
@@ -31,3 +32,13 @@ next_file left place next files i x f whole h is of none goes before =
     ap (λ n. files_fault n (place + 1) (map source (drop (i + 1) files))) goes
     ∙ (ap (λ g. in_file place g (files_fault (left - length (file_messages (source x).tree)) (place + 1) (map source (drop (i + 1) files)))) (sym none)
     ∙ step left place files i x f whole h is of before)
+
+-- the file that is told is one of them
+pub told_within : (left place : ℕ) (ss : List Source) (f : FileFault) → files_fault left place ss ≡ Some f → f.file < place + length ss
+told_within left place [] f h = absurd (cc (h))
+told_within left place (s ∷ ss) f h = by (file_fault s.targets left s.tree) h (told_within (left - length (file_messages s.tree)) (place + 1) ss f)
+  where
+    by : (o : Option Fault) → in_file place o (files_fault (left - length (file_messages s.tree)) (place + 1) ss) ≡ Some f
+        → (files_fault (left - length (file_messages s.tree)) (place + 1) ss ≡ Some f → f.file < place + 1 + length ss) → f.file < place + suc (length ss)
+    by None h k = let less = k h in omega (arith, less)
+    by (Some x) h k = let same : record { file = place; fault = x } ≡ f = cc (h) in let at : place ≡ f.file = ap (λ (g : FileFault). g.file) same in omega (arith, at)

@@ -22,3 +22,4 @@ pub mod MadeParts
 pub mod Sources
 pub mod Declares
 pub mod Examples
+pub mod Errors

@@ -1,8 +1,10 @@
 //! The rules of the proto3 language, from linked files to a checked schema.
 #![tactic(auto)]
 
+mod build;
 mod declare;
 mod enumeration;
+mod error;
 mod fault;
 mod file;
 mod group;
@@ -23,6 +25,7 @@ mod options;
 mod outline;
 mod reserved;
 
+pub use error::CheckError;
 pub use laws::worked_rules;
 
 #[cfg(test)]

@@ -23,10 +23,11 @@ use pg_schema::{EnumType, File, MessageType, Parts, Service, ServiceId};
 use pg_syntax::tree::FileTree;
 use std::alloc::{AllocError, Global};
 
-/// A file: its path, its tree, and what its type names name.
+/// A file: its path, its text and tree, and what its type names name.
 #[derive(Drop)]
 pub(crate) struct Source<'a> {
     pub path: &'a str,
+    pub text: &'a [u8],
     pub tree: &'a FileTree,
     pub targets: Targets,
 }

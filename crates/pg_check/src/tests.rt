@@ -28,6 +28,7 @@ pub(crate) fn parts_in(alloc: Global, tree: &FileTree) -> Result<Parts, Refusal>
     let mut files = Vec::new(alloc);
     let file = Source {
         path: "m.proto",
+        text: &[],
         tree,
         targets: BTreeMap::new(alloc),
     };

@@ -99,3 +99,29 @@ fn most_message_types(rt: HostRuntime) -> Result<(), Fail> {
     assert_eq!(rt; told(alloc, &more)?.as_str(), wanted.as_str());
     Ok(())
 }
+
+/// A message of many fields and reserved ranges, and an enum of many values in it.
+fn large(alloc: Global) -> Result<String, AllocError> {
+    let mut line = String::from_str(alloc, "message M {")?;
+    for index in 1..10_001 {
+        line.push_str(format!(in alloc; " int32 f{index} = {index};")?.as_str())?;
+    }
+    for index in 0..1000 {
+        let from = 100_000 + 10 * index;
+        line.push_str(format!(in alloc; " reserved {from} to {};", from + 8)?.as_str())?;
+    }
+    line.push_str(" enum E {")?;
+    for index in 0..10_000 {
+        line.push_str(format!(in alloc; " V{index} = {index};")?.as_str())?;
+    }
+    line.push_str(" } }")?;
+    Ok(line)
+}
+
+#[test]
+fn large_bodies(rt: HostRuntime) -> Result<(), Fail> {
+    let alloc = rt.alloc();
+    let line = large(alloc)?;
+    assert_eq!(rt; told(alloc, &line)?.as_str(), "taken");
+    Ok(())
+}

@@ -1,0 +1,65 @@
+-- How a broken rule is told.
+use Rattle.std.specs.Prelude.{◌≡◌, ℕ, List, map, Some, slice_get}
+use Rattle.pg_link.specs.declared.error.Place.{Place}
+use Rattle.pg_link.specs.Walk.{IsPlace}
+use Rattle.pg_schema.specs.declared.parts.Parts.{Parts}
+use Rattle.pg_schema.specs.Sound.{IsSound}
+use Rattle.pg_check.specs.declared.declare.FileFault.{FileFault}
+use Rattle.pg_check.specs.declared.error.CheckError.{CheckError}
+use Rattle.pg_check.specs.declared.error.CheckError.TheVariants as errors
+use Rattle.pg_check.specs.declared.fault.Rule.{Rule}
+use Rattle.pg_check.specs.declared.fault.Rule.TheVariants as rules
+use Rattle.pg_check.specs.declared.made_parts.Source as code
+use Rattle.pg_check.specs.Declares.{Declares, first_broken}
+use Rattle.pg_check.specs.Sources.{source}
+
+abbrev pub error_of : Rule → Place → CheckError
+error_of rules.BadNumber place = errors.BadNumber place
+error_of rules.DuplicateNumber place = errors.DuplicateNumber place
+error_of rules.ReservedNumber place = errors.ReservedNumber place
+error_of rules.ReservedName place = errors.ReservedName place
+error_of rules.RangeOverlap place = errors.RangeOverlap place
+error_of rules.JsonNameClash place = errors.JsonNameClash place
+error_of rules.BadMapKey place = errors.BadMapKey place
+error_of rules.BadOneofMember place = errors.BadOneofMember place
+error_of rules.EnumFirstNotZero place = errors.EnumFirstNotZero place
+error_of rules.EnumAlias place = errors.EnumAlias place
+error_of rules.BadOption place = errors.BadOption place
+error_of rules.PackedNotAllowed place = errors.PackedNotAllowed place
+error_of rules.TooManyTypes place = errors.TooManyTypes place
+error_of rules.EnumEmpty place = errors.EnumEmpty place
+
+-- the first rule that the files break is told at its place
+pub record IsTold (files : List code.Source) (e : CheckError) : Type 0 where
+  pub fault : FileFault
+  pub is_first : first_broken (map source files) ≡ Some fault
+  pub file : code.Source
+  pub is_there : slice_get files fault.file ≡ Some file
+  pub place : Place
+  pub is_place : IsPlace place file.path.now file.text.now fault.fault.at
+  pub is : e ≡ error_of fault.fault.rule place
+
+-- the files keep to the rules, and yet their parts are none of a schema
+pub record AreBadParts (files : List code.Source) : Type 0 where
+  pub parts : Parts
+  pub declared : Declares (map source files) parts
+  pub unsound : IsSound parts → ⊥
+
+-- a refusal names the first rule that is broken, or finds the parts bad
+abbrev pub IsRefused : List code.Source → CheckError → Type 0
+IsRefused files errors.Memory = Unit {0}
+IsRefused files (errors.BadParts place) = AreBadParts files
+IsRefused files (errors.BadNumber place) = IsTold files (errors.BadNumber place)
+IsRefused files (errors.DuplicateNumber place) = IsTold files (errors.DuplicateNumber place)
+IsRefused files (errors.ReservedNumber place) = IsTold files (errors.ReservedNumber place)
+IsRefused files (errors.ReservedName place) = IsTold files (errors.ReservedName place)
+IsRefused files (errors.RangeOverlap place) = IsTold files (errors.RangeOverlap place)
+IsRefused files (errors.JsonNameClash place) = IsTold files (errors.JsonNameClash place)
+IsRefused files (errors.BadMapKey place) = IsTold files (errors.BadMapKey place)
+IsRefused files (errors.BadOneofMember place) = IsTold files (errors.BadOneofMember place)
+IsRefused files (errors.EnumFirstNotZero place) = IsTold files (errors.EnumFirstNotZero place)
+IsRefused files (errors.EnumAlias place) = IsTold files (errors.EnumAlias place)
+IsRefused files (errors.BadOption place) = IsTold files (errors.BadOption place)
+IsRefused files (errors.PackedNotAllowed place) = IsTold files (errors.PackedNotAllowed place)
+IsRefused files (errors.TooManyTypes place) = IsTold files (errors.TooManyTypes place)
+IsRefused files (errors.EnumEmpty place) = IsTold files (errors.EnumEmpty place)

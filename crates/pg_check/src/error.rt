@@ -1,0 +1,110 @@
+//! Why files or parts declare no schema.
+
+ghost use Rattle.std.specs.Prelude.{◌≡◌, IfOk};
+ghost use Rattle.pg_check.specs.Errors as spec;
+ghost use Rattle.pg_link.specs.Walk.{IsPlace};
+
+use crate::fault::Rule;
+use pg_link::Place;
+use std::alloc::{AllocError, Global};
+use thiserror::Error;
+
+/// Why files declare no schema. Each place is that of the declared name, or of the first token of an
+/// option or a reserved item (proto3 language specification; proto3 language guide).
+#[derive(Debug, Drop, Error)]
+pub enum CheckError {
+    /// E401: the number of a field, a value or a reserved item is none that may stand.
+    #[error("the number may not stand")]
+    BadNumber(Place),
+    /// E402: a field has the number of another.
+    #[error("the field number is used twice")]
+    DuplicateNumber(Place),
+    /// E403: a field or value has a reserved number.
+    #[error("the number is reserved")]
+    ReservedNumber(Place),
+    /// E404: a field or value has a reserved name.
+    #[error("the name is reserved")]
+    ReservedName(Place),
+    /// E405: a reserved range falls, or has a number of another.
+    #[error("the reserved range falls or overlaps another")]
+    RangeOverlap(Place),
+    /// E406: two fields of a message have one JSON name.
+    #[error("the JSON name is used twice")]
+    JsonNameClash(Place),
+    /// E407: a map's key is of no integral type, bool or string.
+    #[error("the type may not be a map's key")]
+    BadMapKey(Place),
+    /// E408: a oneof has no member, or one that is a map, `repeated` or `optional`.
+    #[error("the oneof has no member, or one that may not be")]
+    BadOneofMember(Place),
+    /// E409: an enum's first value isn't 0.
+    #[error("the first value is not 0")]
+    EnumFirstNotZero(Place),
+    /// E410: two values have one number without `allow_alias`.
+    #[error("the value's number is used twice")]
+    EnumAlias(Place),
+    /// E411: an option is unknown, of a wrong kind, or given twice.
+    #[error("the option is unknown, of a wrong kind, or given twice")]
+    BadOption(Place),
+    /// E412: `packed = true` stands on a field that can't be packed.
+    #[error("the field can't be packed")]
+    PackedNotAllowed(Place),
+    /// E413: there are more than 4,096 message types.
+    #[error("more than 4,096 message types")]
+    TooManyTypes(Place),
+    /// E414: an enum has no value.
+    #[error("the enum has no value")]
+    EnumEmpty(Place),
+    /// E415: the parts break a rule of schemas that none of the others names.
+    #[error("the parts make no schema")]
+    BadParts(Place),
+    /// E001: a growth was refused. It may come in place of any other.
+    #[error("out of memory")]
+    Memory,
+}
+
+impl From<AllocError> for CheckError {
+    ghost use Rattle.pg_check.specs.declared.error.CheckError.TheVariants.{Memory};
+
+    ghost from_gives = { λ _ error. error ≡ Memory };
+
+    fn from(_error: AllocError) -> CheckError {
+        CheckError::Memory
+    }
+}
+
+/// The error of a rule that is broken at that place.
+pub(crate) fn error_of(rule: Rule, place: Place) -> CheckError
+    ensures { result ≡ spec.error_of rule place }
+{
+    match rule {
+        Rule::BadNumber => CheckError::BadNumber(place),
+        Rule::DuplicateNumber => CheckError::DuplicateNumber(place),
+        Rule::ReservedNumber => CheckError::ReservedNumber(place),
+        Rule::ReservedName => CheckError::ReservedName(place),
+        Rule::RangeOverlap => CheckError::RangeOverlap(place),
+        Rule::JsonNameClash => CheckError::JsonNameClash(place),
+        Rule::BadMapKey => CheckError::BadMapKey(place),
+        Rule::BadOneofMember => CheckError::BadOneofMember(place),
+        Rule::EnumFirstNotZero => CheckError::EnumFirstNotZero(place),
+        Rule::EnumAlias => CheckError::EnumAlias(place),
+        Rule::BadOption => CheckError::BadOption(place),
+        Rule::PackedNotAllowed => CheckError::PackedNotAllowed(place),
+        Rule::TooManyTypes => CheckError::TooManyTypes(place),
+        Rule::EnumEmpty => CheckError::EnumEmpty(place),
+    }
+}
+
+/// The place of a byte of a file's text.
+pub(crate) fn place_in(
+    alloc: Global,
+    file: &str,
+    text: &[u8],
+    at: usize,
+) -> Result<Place, AllocError>
+    ensures { IfOk result (λ place. IsPlace place file.now text.now at) }
+{
+    let file = String::from_str(alloc, file)?;
+    let (line, column) = pg_lex::place(text, at);
+    Ok(Place { file, line, column })
+}
