@@ -90,10 +90,26 @@ fn are_rivals(schema: &Schema, type_id: TypeId, number: u32, other: u32) -> bool
     }
 }
 
+// Whether the field of the number is a member of a oneof; one that isn't has no rivals.
+fn is_member(schema: &Schema, type_id: TypeId, number: u32) -> bool
+    ensures { result ≡ false → (other : ℕ) → AreApart (fields (shape_of schema.now) type_id) number other }
+{
+    let Some(field) = schema.field(type_id, number) else {
+        return false;
+    };
+    match field.oneof {
+        Some(_) => true,
+        None => false,
+    }
+}
+
 // Whether the field of the number is in no oneof with those of the contents.
 fn is_apart(schema: &Schema, type_id: TypeId, number: u32, contents: &[(u32, Content)]) -> bool
     ensures { IsTrue result ↔ AllByRecursion (λ l. AreApart (fields (shape_of schema.now) type_id) number l.0) contents.now }
 {
+    if !is_member(schema, type_id, number) {
+        return true;
+    }
     for (other, _) in contents {
         if are_rivals(schema, type_id, number, *other) {
             return false;
