@@ -1,5 +1,5 @@
 -- The names that an index holds are those that the files declare.
-use Rattle.std.proofs.Common.{◌≡◌, ◌∙◌, ◌⊎◌, inl, inr, ℕ, zero, suc, ◌<◌, ◌+◌, Bool, true, false, ◌||◌, ◌&&◌, cond, List, [], ◌∷◌, ◌++◌, map, flat_map, reverse, length, get_or, slice_get, refl, sym, ap, subst, true≢false, arith, Option, Some, None, is_some, String}
+use Rattle.std.proofs.Common.{◌≡◌, ◌∙◌, ◌⊎◌, inl, inr, ℕ, zero, suc, ◌+◌, Bool, true, false, ◌||◌, ◌&&◌, cond, List, [], ◌∷◌, ◌++◌, map, flat_map, reverse, length, get_or, slice_get, refl, sym, ap, subst, true≢false, arith, Option, Some, None, String}
 use Rattle.std.proofs.lemmas.List.{reverse-append}
 use Rattle.std.proofs.lemmas.Option.{same_Some, slice_get_read}
 use Rattle.std.specs.Global.{Global}
@@ -11,16 +11,16 @@ use Rattle.pg_link.specs.declared.names.Kind.{Kind}
 use Rattle.pg_link.specs.declared.names.Kind.TheVariants as kinds
 use Rattle.pg_link.specs.declared.names.Named as nameds
 use Rattle.pg_link.specs.Files.{File, Declared, kind_in, names_at, all_names, is_path_of}
-use Rattle.pg_link.specs.Index.{is_seen, sees_one, kind_seen, names_seen}
+use Rattle.pg_link.specs.Index.{sees_one, kind_seen, names_seen}
 use Rattle.pg_link.specs.Names.{Text, is_package}
 use Rattle.pg_link.specs.Outline.{file_names}
 use Rattle.pg_link.specs.Sights.{Marks}
-use Rattle.pg_link.specs.Standing.{Standing, Bearer, bearers, bearer, first_of, Holds, NoneTwice, AllMayStand, MayStand, may_share, standing, standings, standings_from, all_standings, view}
-use Rattle.pg_link.specs.Walk.{Entry, outline, outlines, path_of}
+use Rattle.pg_link.specs.Standing.{Standing, Bearer, bearers, first_of, Holds, NoneTwice, AllMayStand, MayStand, standing, standings, standings_from, all_standings, view}
+use Rattle.pg_link.specs.Walk.{Entry, outline, outlines}
 use Rattle.pg_link.proofs.MaskLaws.{none_some}
 use Rattle.pg_link.proofs.SeesLaws.{among_map, map_among}
 use Rattle.pg_link.proofs.SightLaws.{any_at, any_found, first_among, later_among, same_text, text_same}
-use Rattle.pg_link.proofs.SightsLaws.{among_middle, among_outlines}
+use Rattle.pg_link.proofs.SightsLaws.{among_outlines}
 
 -- ---- lists
 

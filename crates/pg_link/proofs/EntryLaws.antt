@@ -1,9 +1,9 @@
 -- The name of a map's entries, character by character.
-use Rattle.std.proofs.Common.{◌≡◌, ◌∙◌, ◌⊎◌, inl, inr, ℕ, zero, suc, ◌+◌, ◌-◌, ◌<◌, ◌≤◌, Bool, true, false, cond, List, [], ◌∷◌, ◌++◌, length, get_or, refl, sym, ap, subst, arith, nat_eq, nat_lt, append_assoc}
+use Rattle.std.proofs.Common.{◌≡◌, ◌∙◌, ◌⊎◌, inl, inr, ℕ, suc, ◌-◌, ◌<◌, ◌≤◌, Bool, true, false, cond, [], ◌∷◌, ◌++◌, length, get_or, refl, sym, ap, arith, nat_eq, nat_lt, append_assoc}
 use Rattle.std.proofs.lemmas.Bool.{cases_lt, ne_eqb, le-ltb}
 use Rattle.std.proofs.lemmas.List.{append-nil}
 use Rattle.std.proofs.lemmas.Str.{encode_ascii, inside_one, length-encode, len_utf8_bounds}
-use Rattle.std.specs.Char.{encode_utf8, to_ascii_uppercase, len_utf8}
+use Rattle.std.specs.Char.{encode_utf8, to_ascii_uppercase}
 use Rattle.pg_link.specs.Declares.{entry_letter, entry_letters, entry_character}
 use Rattle.pg_link.specs.Names.{Text}
 

@@ -1,11 +1,10 @@
 -- Full names begin with a dot, and names through the index of linked files.
-use Rattle.std.proofs.Common.{◌≡◌, ◌∙◌, ◌≢◌, ◌<◌, ◌+◌, ℕ, Bool, true, false, cond, List, [], ◌∷◌, ◌++◌, drop, length, refl, sym, ap, subst, Option, Some, None, Result, Ok, Err, IfOk, IfErr, Bor}
+use Rattle.std.proofs.Common.{◌≡◌, ◌∙◌, ℕ, Bool, true, false, cond, List, [], ◌∷◌, ◌++◌, drop, refl, ap, subst, Option, Some, None, Result, Ok, Err, IfOk, IfErr}
 use Rattle.std.proofs.lemmas.Option.{same_Some}
-use Rattle.std.specs.Option.{option_map, option_and_then, unwrap_or}
-use Rattle.std.specs.Str.{IsCharBoundary}
+use Rattle.std.specs.Option.{option_map, option_and_then}
 use Rattle.pg_link.specs.declared.names.Kind.{Kind}
 use Rattle.pg_link.specs.Names.{Text, Names, called}
-use Rattle.pg_link.specs.Resolves.{Reference, Resolves, borne, found, innermost, meant, sought_among, written}
+use Rattle.pg_link.specs.Resolves.{Reference, Resolves, borne, innermost, meant, sought_among, written}
 use Rattle.pg_link.proofs.MaskLaws.{none_some}
 
 abbrev pub HasDot : Text → Type 0

@@ -1,20 +1,20 @@
 -- Masks of files: which places they mark, and what one import adds.
-use Rattle.std.proofs.Common.{◌≡◌, ◌∙◌, ℕ, zero, suc, ◌<◌, ◌≤◌, ◌+◌, Bool, true, false, ◌||◌, cond, not, List, [], ◌∷◌, ◌++◌, map, flat_map, take, reverse, length, get_or, slice_index_or, append_assoc, slice_get, refl, sym, ap, subst, true≢false, nat_lt, nat_eq, arith, Option, Some, None, is_some, String, string_bytes, position}
+use Rattle.std.proofs.Common.{◌≡◌, ◌∙◌, ℕ, zero, suc, ◌<◌, ◌+◌, Bool, true, false, ◌||◌, cond, List, [], ◌∷◌, ◌++◌, map, flat_map, take, reverse, length, get_or, slice_index_or, append_assoc, slice_get, refl, sym, ap, subst, true≢false, nat_eq, arith, Some, None, is_some, String, string_bytes, position}
 use Rattle.std.proofs.lemmas.Bool.{lt-ltb, eq-eqb, ne_eqb}
 use Rattle.std.proofs.lemmas.Grind.{flat_map-append}
 use Rattle.std.proofs.lemmas.List.{map-append, map_more, append-nil, reverse-append}
 use Rattle.std.proofs.lemmas.List.Folds.{list_any-append}
-use Rattle.std.proofs.lemmas.Option.{slice_get_within, slice_get-get_or, slice_get-map, same_Some}
+use Rattle.std.proofs.lemmas.Option.{slice_get_within, slice_get-map, same_Some}
 use Rattle.std.specs.Global.{Global}
 use Rattle.std.specs.List.{list_any, position_or_len}
 use Rattle.std.specs.Map.{keys_of}
 use Rattle.std.specs.Option.{option_map}
 use Rattle.std.specs.Str.{bytes_eq}
 use Rattle.pg_link.specs.declared.imports.ImportLine as made
-use Rattle.pg_link.specs.Files.{File, Import, Differ, is_path_of, paths_of, import_paths, public_paths, handed_on}
+use Rattle.pg_link.specs.Files.{File, Import, Differ, is_path_of, paths_of, public_paths, handed_on}
 use Rattle.pg_link.specs.Imports.{line_of}
 use Rattle.pg_link.specs.Names.{Text}
-use Rattle.pg_link.specs.Sights.{Marks, IsMask, AreMasks, AreHanded, taken}
+use Rattle.pg_link.specs.Sights.{Marks, IsMask, AreHanded, taken}
 use Rattle.pg_link.specs.Walk.{Entry, outline, outlines, path_of}
 use Rattle.pg_link.proofs.PathLaws.{among_entries, any-reverse}
 use Rattle.pg_link.proofs.SightLaws.{same_text, text_same}

@@ -1,5 +1,5 @@
 -- Which paths are among files, and among the keys of sets and maps.
-use Rattle.std.proofs.Common.{◌≡◌, ◌∙◌, ℕ, Bool, true, false, ◌||◌, List, [], ◌∷◌, ◌++◌, map, reverse, length, String, Some, None, Option, refl, sym, ap, subst, cond, is_some, string_bytes, true≢false, not, arith}
+use Rattle.std.proofs.Common.{◌≡◌, ◌∙◌, Bool, true, false, ◌||◌, List, [], ◌∷◌, ◌++◌, map, reverse, length, String, Some, None, Option, refl, sym, ap, subst, cond, is_some, string_bytes, true≢false, not, arith}
 use Rattle.std.proofs.lemmas.List.{map-append, reverse-append}
 use Rattle.std.proofs.lemmas.List.Folds.{list_any-append}
 use Rattle.std.proofs.lemmas.Map.Made.{is_some-lookup}
@@ -9,14 +9,11 @@ use Rattle.std.specs.HashMap.{get_by_text}
 use Rattle.std.specs.List.{list_any}
 use Rattle.std.specs.Map.{keys_of, update}
 use Rattle.std.specs.Str.{bytes_eq}
-use Rattle.indexmap.specs.IndexSet.{insert_key}
-use Rattle.indexmap.specs.IndexMap.{insert_entry}
-use Rattle.indexmap.proofs.CallerLemmas.{insert_entry-new}
 use Rattle.pg_link.specs.declared.walk.SourceFile as kept
 use Rattle.pg_link.specs.declared.walk.Walk as walks
 use Rattle.pg_link.specs.Files.{File, is_path_of, paths_of}
 use Rattle.pg_link.specs.Names.{Text}
-use Rattle.pg_link.specs.Walk.{Entry, outline, outlines, path_of, has_path, entries, open_paths}
+use Rattle.pg_link.specs.Walk.{Entry, outline, outlines, has_path}
 
 pub any-map : {X Y : Type 0} (test : Y → Bool) (f : X → Y) (xs : List X) → list_any test (map f xs) ≡ list_any (λ x. test (f x)) xs
 any-map test f [] = refl

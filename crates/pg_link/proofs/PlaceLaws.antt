@@ -1,5 +1,5 @@
 -- Where a name is declared, through the index.
-use Rattle.std.proofs.Common.{◌≡◌, ◌∙◌, ℕ, zero, suc, ◌+◌, ◌<◌, Bool, true, false, cond, String, string_bytes, length, IfNone, List, [], ◌∷◌, map, slice_get, take, refl, sym, ap, subst, arith, Option, Some, None, IfSome}
+use Rattle.std.proofs.Common.{◌≡◌, ◌∙◌, ℕ, zero, suc, Bool, true, false, cond, String, string_bytes, length, IfNone, List, [], ◌∷◌, map, slice_get, take, refl, sym, ap, arith, Option, Some, None, IfSome}
 use Rattle.std.proofs.lemmas.Option.{same_Some, slice_get_read}
 use Rattle.std.specs.Global.{Global}
 use Rattle.std.specs.HashMap.{get_by_text}

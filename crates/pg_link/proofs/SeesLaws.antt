@@ -1,10 +1,10 @@
 -- The paths that are computed are those that a file sees, and no others.
-use Rattle.std.proofs.Common.{◌≡◌, ◌∙◌, ◌⊎◌, inl, inr, ℕ, zero, suc, ◌<◌, ◌+◌, Bool, true, false, ◌||◌, cond, List, [], ◌∷◌, ◌++◌, map, flat_map, length, refl, sym, ap, subst, true≢false, slice_index_or, arith}
+use Rattle.std.proofs.Common.{◌≡◌, ◌∙◌, inl, inr, zero, suc, Bool, true, false, ◌||◌, cond, List, [], ◌∷◌, map, flat_map, refl, sym, ap, subst, true≢false, arith}
 use Rattle.std.specs.List.{list_any, IsAmong}
 use Rattle.std.specs.Str.{bytes_eq}
-use Rattle.pg_link.specs.Files.{File, Import, Imports, ImportsPublicly, HandsOn, Itself, Onwards, Sees, InOrder, Differ, is_path_of, paths_of, import_paths, public_paths, handed_on, seen_paths, SeenPathsAreSeen}
+use Rattle.pg_link.specs.Files.{File, Import, Imports, HandsOn, Itself, Onwards, Sees, InOrder, Differ, is_path_of, paths_of, import_paths, public_paths, handed_on, seen_paths, SeenPathsAreSeen}
 use Rattle.pg_link.specs.Names.{Text}
-use Rattle.pg_link.proofs.SightLaws.{each_at, first_among, later_among, any_found, any_at, any_flat, same_text, text_same, path_there, imports_there, handed_on_is, seen_paths_is}
+use Rattle.pg_link.proofs.SightLaws.{each_at, first_among, later_among, any_found, any_at, any_flat, same_text, text_same, imports_there, handed_on_is, seen_paths_is}
 
 or_right : (a b : Bool) → b ≡ true → (a || b) ≡ true
 or_right true b is = refl

@@ -1,10 +1,10 @@
 -- What files hand on and see: computed on files of which each stands before those that it imports, it is what they do.
-use Rattle.std.proofs.Common.{◌≡◌, ◌∙◌, ◌⊎◌, inl, inr, ℕ, zero, suc, ◌<◌, ◌+◌, Bool, true, false, ◌||◌, cond, List, [], ◌∷◌, ◌++◌, map, flat_map, length, refl, sym, ap, subst, true≢false, slice_index_or, arith}
+use Rattle.std.proofs.Common.{◌≡◌, ◌∙◌, zero, suc, Bool, true, false, ◌||◌, cond, List, [], ◌∷◌, ◌++◌, flat_map, refl, sym, ap, subst, true≢false, arith}
 use Rattle.std.proofs.lemmas.List.Folds.{list_any-append, flat_map-map}
 use Rattle.std.proofs.lemmas.Slice.Eq.{bytes_eq-Decides}
 use Rattle.std.specs.List.{list_any, All, IsAmong}
 use Rattle.std.specs.Str.{bytes_eq}
-use Rattle.pg_link.specs.Files.{File, Import, Imports, ImportsPublicly, HandsOn, Itself, Onwards, Sees, InOrder, Differ, is_path_of, paths_of, import_paths, public_paths, handed_on, seen_paths}
+use Rattle.pg_link.specs.Files.{File, Import, InOrder, Differ, is_path_of, paths_of, import_paths, public_paths, handed_on, seen_paths}
 use Rattle.pg_link.specs.Names.{Text}
 
 -- ---- lists

@@ -1,5 +1,5 @@
 -- The masks of all files, one by one.
-use Rattle.std.proofs.Common.{◌≡◌, ◌∙◌, ◌⊎◌, inl, inr, ℕ, zero, suc, ◌<◌, ◌+◌, Bool, true, false, List, [], ◌∷◌, ◌++◌, map, flat_map, take, drop, reverse, length, slice_get, slice_index_or, append_assoc, refl, sym, ap, subst, arith, Some, None, Vec}
+use Rattle.std.proofs.Common.{◌≡◌, ◌∙◌, ◌⊎◌, inl, inr, ℕ, zero, suc, ◌<◌, Bool, true, false, List, [], ◌∷◌, ◌++◌, map, flat_map, take, drop, reverse, length, slice_get, slice_index_or, append_assoc, refl, sym, ap, subst, arith, Some, Vec}
 use Rattle.std.proofs.lemmas.List.{length-map, map-append, reverse-append}
 use Rattle.std.proofs.lemmas.Option.{same_Some}
 use Rattle.std.specs.Global.{Global}

@@ -1,5 +1,5 @@
 -- One more name behind the others.
-use Rattle.std.proofs.Common.{◌≡◌, ◌∙◌, ◌⊎◌, inl, inr, ℕ, Bool, true, false, cond, List, [], ◌∷◌, ◌++◌, Option, Some, None, String, string_bytes, filter, map, reverse, refl, sym, ap, subst, true≢false, append_assoc, take, drop, length, slice_index_or, slice_get, is_some, zero, suc, ◌<◌, ◌+◌, arith}
+use Rattle.std.proofs.Common.{◌≡◌, ◌∙◌, ℕ, Bool, true, false, cond, List, [], ◌∷◌, ◌++◌, Some, None, String, map, refl, sym, ap, subst, true≢false, append_assoc, take, drop, length, slice_index_or, slice_get, is_some, zero, suc, ◌<◌, ◌+◌, arith}
 use Rattle.std.proofs.lemmas.List.{map-append, map_more, reverse-append, reverse-reverse, append-nil}
 use Rattle.std.proofs.lemmas.List.Elements.{filter-append}
 use Rattle.std.proofs.lemmas.Slice.Eq.{bytes_eq-Decides}

@@ -1,13 +1,12 @@
 -- What is found, as a target.
-use Rattle.std.proofs.Common.{◌≡◌, ◌∙◌, ℕ, Bool, true, false, List, refl, sym, ap, subst, Option, Some, None}
+use Rattle.std.proofs.Common.{◌≡◌, ◌∙◌, ℕ, Bool, true, false, List, refl, sym, ap, Some, None}
 use Rattle.std.specs.HashMap.{get_by_text}
-use Rattle.std.specs.Option.{option_map, option_and_then}
+use Rattle.std.specs.Option.{option_and_then}
 use Rattle.pg_link.specs.declared.index.Index as indexes
 use Rattle.pg_link.specs.declared.names.Kind.{Kind}
 use Rattle.pg_link.specs.declared.names.Kind.TheVariants as kinds
 use Rattle.pg_link.specs.declared.names.Named as nameds
 use Rattle.pg_link.specs.declared.target.Target.{Target}
-use Rattle.pg_link.specs.declared.target.Target.TheVariants as targets
 use Rattle.pg_link.specs.Files.{Declared}
 use Rattle.pg_link.specs.Names.{Text, Names}
 use Rattle.pg_link.specs.Resolves.{found}

@@ -1,5 +1,5 @@
 -- What the uses of files resolve to, and which are at fault: through the index, and by the files.
-use Rattle.std.proofs.Common.{◌≡◌, ◌∙◌, ◌⊎◌, inl, inr, ℕ, ◌+◌, ◌<◌, Bool, true, false, List, [], ◌∷◌, ◌++◌, map, take, drop, length, slice_get, get_or, refl, sym, ap, subst, arith, Option, Some, None, Vec, Err, Result}
+use Rattle.std.proofs.Common.{◌≡◌, ◌∙◌, inl, inr, ℕ, ◌+◌, ◌<◌, Bool, List, [], ◌∷◌, ◌++◌, map, length, slice_get, get_or, refl, sym, ap, subst, Some, None, Vec, Err}
 use Rattle.std.proofs.lemmas.List.{map-append}
 use Rattle.std.proofs.lemmas.Option.{slice_get-map, slice_get_read, slice_get_within, get_or_from_slice_get}
 use Rattle.std.specs.Global.{Global}
@@ -11,17 +11,15 @@ use Rattle.pg_link.specs.declared.error.LinkError.TheVariants as error
 use Rattle.pg_link.specs.declared.index.Index as indexes
 use Rattle.pg_link.specs.declared.resolve.Unresolved.{Unresolved}
 use Rattle.pg_link.specs.declared.target.Target.{Target}
-use Rattle.pg_link.specs.declared.uses.Site as made
 use Rattle.pg_link.specs.Files.{Declared, all_names, seen_paths, visible_names}
 use Rattle.pg_link.specs.Index.{names_seen}
 use Rattle.pg_link.specs.Names.{Text, Names}
 use Rattle.pg_link.specs.Outline.{file_names}
 use Rattle.pg_link.specs.Sights.{AreSights, IsMask, Marks}
-use Rattle.pg_link.specs.Sites.{use_of}
 use Rattle.pg_link.specs.Standing.{IsNumbered, IsTwiceIn, Lists, NoneTwice, Standing, all_standings, declared_in, standing, standings, standings_from}
 use Rattle.pg_link.specs.Targets.{all_declared, file_targets, target_in}
 use Rattle.pg_link.specs.Unresolved.{RefusesUse}
-use Rattle.pg_link.specs.UseFaults.{IsAtUse, IsNameFault, IsUseFault, IsUseFaultIn, Says}
+use Rattle.pg_link.specs.UseFaults.{IsNameFault, IsUseFault, IsUseFaultIn, Says}
 use Rattle.pg_link.specs.Uses.{Use, file_uses}
 use Rattle.pg_link.specs.Walk.{Entry, failures_of, outlines, path_of}
 use Rattle.pg_link.proofs.BridgeLaws.{known_names, seen_names}

@@ -1,7 +1,7 @@
 -- Uses of a message among those of another, and the words of packages.
 use Rattle.std.proofs.Common.{◌≡◌, ◌∙◌, List, [], ◌∷◌, ◌++◌, map, flat_map, refl, ap, string_bytes}
 use Rattle.pg_syntax.specs.declared.tree as tree
-use Rattle.pg_syntax.specs.declared.tree.Part.{Part, Row_of-Part, end_of-Part, more_of-Part, items-the_row-Part, items_hidden-the_row-Part-0}
+use Rattle.pg_syntax.specs.declared.tree.Part.{Row_of-Part, end_of-Part, more_of-Part, items-the_row-Part, items_hidden-the_row-Part-0}
 use Rattle.pg_syntax.specs.declared.tree.Part.TheBlock.{hidden-the_row-Part-0}
 use Rattle.pg_syntax.specs.declared.tree.Part.TheVariants as parts
 use Rattle.pg_link.specs.Declares.{Word}

@@ -1,12 +1,12 @@
 -- A walk over imports, step by step.
-use Rattle.std.proofs.Common.{◌≡◌, ◌∙◌, ◌⊎◌, inl, inr, ℕ, ◌≤◌, ◌<◌, ◌+◌, Bool, true, false, ◌||◌, List, [], ◌∷◌, ◌++◌, Some, None, Option, length, map, reverse, take, drop, refl, sym, ap, subst, String, string_bytes, slice_index_or, All, IsTrue, length-append, arith, drop-cons, add-one, true≢false}
+use Rattle.std.proofs.Common.{◌≡◌, ◌∙◌, inl, inr, ℕ, ◌≤◌, ◌<◌, ◌+◌, Bool, true, false, ◌||◌, List, [], ◌∷◌, ◌++◌, Some, None, Option, length, map, reverse, take, drop, refl, sym, ap, subst, String, string_bytes, slice_index_or, All, length-append, arith, drop-cons, add-one, true≢false}
 use Rattle.std.proofs.lemmas.List.{map-append, reverse-append, take-append-drop, length-reverse, length-map, get_or-map}
 use Rattle.std.proofs.lemmas.List.Elements.{All-push, All-append, All-map, All-cons, All-head, All-tail}
 use Rattle.std.proofs.lemmas.List.Folds.{list_any-append}
 use Rattle.std.proofs.lemmas.Slice.Eq.{bytes_eq-Decides}
 use Rattle.std.specs.Borrow.{Bor}
 use Rattle.std.specs.Global.{Global}
-use Rattle.std.specs.List.{list_any, Contains}
+use Rattle.std.specs.List.{Contains}
 use Rattle.std.specs.Str.{bytes_eq}
 use Rattle.pg_syntax.specs.declared.tree as tree
 use Rattle.pg_link.specs.declared.error.LinkError as errors
@@ -16,12 +16,12 @@ use Rattle.pg_link.specs.declared.imports.ImportLine as lines
 use Rattle.pg_link.specs.declared.walk.Asking as askings
 use Rattle.pg_link.specs.declared.walk.SourceFile as kept
 use Rattle.pg_link.specs.declared.walk.Walk as walks
-use Rattle.pg_link.specs.Files.{File, Import, Differ, InOrder, is_path_of, paths_of, import_paths}
+use Rattle.pg_link.specs.Files.{File, Differ, InOrder, is_path_of, paths_of, import_paths}
 use Rattle.pg_link.specs.Imports.{line_of}
 use Rattle.pg_link.specs.Index.{texts}
 use Rattle.pg_link.specs.Names.{Text}
 use Rattle.pg_link.specs.Outline.{file_imports}
-use Rattle.pg_link.specs.Walk.{World, world, Gives, MayBe, ImportsAt, Comes, Reached, MayLead, Stays, Onwards, Entry, IsEntry, path_of, outline, outlines, entries, open_paths, has_path, IsSound, Follows, Asks, IsAsked, IsAskedAt, IsPlace, IsWhole, IsBeyond, IsReadFault, IsTextFault, IsImportFault, IsLinked, Refuses}
+use Rattle.pg_link.specs.Walk.{World, world, Gives, MayBe, ImportsAt, Comes, Reached, MayLead, Stays, Onwards, Entry, IsEntry, outline, outlines, entries, open_paths, IsSound, Follows, Asks, IsAsked, IsAskedAt, IsPlace, IsReadFault, IsTextFault, IsImportFault, IsLinked, Refuses}
 use Rattle.pg_link.proofs.OrderLaws.{no_cycle}
 
 -- ---- who asks

@@ -1,5 +1,5 @@
 -- Which files each file sees, as marks.
-use Rattle.std.specs.Prelude.{◌≡◌, ℕ, Bool, false, List, get_or, length, map, slice_get, Some, if◌then◌else◌}
+use Rattle.std.specs.Prelude.{◌≡◌, ℕ, Bool, false, List, get_or, length, slice_get, Some, if◌then◌else◌}
 use Rattle.pg_link.specs.Files.{Import, import_paths, public_paths, is_path_of, handed_on, seen_paths}
 use Rattle.pg_link.specs.Names.{Text}
 use Rattle.pg_link.specs.Walk.{Entry, outlines, path_of}

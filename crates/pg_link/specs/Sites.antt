@@ -1,5 +1,4 @@
 -- The uses that the code makes of a tree.
-use Rattle.std.specs.Prelude.{List, map}
 use Rattle.pg_link.specs.declared.uses.Site as made
 use Rattle.pg_link.specs.Index.{texts}
 use Rattle.pg_link.specs.Resolves.{reference}

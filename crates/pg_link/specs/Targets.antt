@@ -1,5 +1,5 @@
 -- What uses of type names resolve to, by number.
-use Rattle.std.specs.Prelude.{ℕ, Bool, true, false, List, [], ◌∷◌, map, flat_map, position, Option, Some, None}
+use Rattle.std.specs.Prelude.{ℕ, Bool, true, false, List, map, flat_map, position, Option, None}
 use Rattle.std.specs.List.{filter}
 use Rattle.std.specs.Option.{option_map, option_and_then}
 use Rattle.std.specs.Str.{bytes_eq}

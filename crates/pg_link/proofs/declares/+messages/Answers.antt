@@ -1,4 +1,4 @@
-use Rattle.std.proofs.Common.{◌≡◌, ◌∙◌, List, ℕ, ◌++◌, map, drop, sym, ap}
+use Rattle.std.proofs.Common.{◌∙◌, ◌++◌, map, sym, ap}
 use Rattle.pg_syntax.specs.declared.tree.Part.{Part}
 use Rattle.pg_link.specs.Declares.{Declarations, Done, names_in}
 use Rattle.pg_link.specs.Outline.{declared_of, of_part}

@@ -1,5 +1,4 @@
-use Rattle.std.proofs.Common.{◌≡◌, ◌∙◌, List, ℕ, [], ◌∷◌, ◌++◌, map, drop, string_bytes}
-use Rattle.pg_link.specs.Outline.{declared_of}
+use Rattle.std.proofs.Common.{string_bytes}
 use Rattle.pg_link.proofs.DeclareLaws.{package_more}
 use Rattle.pg_link.proofs.declares.add_package.Goals as goal
 

@@ -1,4 +1,4 @@
-use Rattle.std.proofs.Common.{◌≡◌, ◌++◌, ◌∷◌, [], map, drop, string_bytes}
+use Rattle.std.proofs.Common.{◌≡◌, ◌++◌, [], map, drop, string_bytes}
 use Rattle.pg_link.specs.Declares.{package_names}
 use Rattle.pg_link.specs.Outline.{declared_of, dotted_words, word}
 use Rattle.pg_link.proofs.declares.add_package.Given as goal

@@ -1,6 +1,4 @@
-use Rattle.std.proofs.Common.{◌≡◌, ◌∙◌, List, ℕ, ◌++◌, map, drop}
-use Rattle.pg_link.specs.Declares.{Done, names_in}
-use Rattle.pg_link.specs.Outline.{declared_of, of_service_part}
+use Rattle.pg_link.specs.Outline.{of_service_part}
 use Rattle.pg_link.proofs.DeclareLaws.{one_more, service_part_rest}
 use Rattle.pg_link.proofs.declares.add_service_parts.Goals as goal
 

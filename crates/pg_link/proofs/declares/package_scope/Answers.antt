@@ -1,7 +1,7 @@
-use Rattle.std.proofs.Common.{◌≡◌, ◌∙◌, List, ℕ, [], ◌∷◌, ◌++◌, map, take, sym, ap, string_bytes}
+use Rattle.std.proofs.Common.{◌∙◌, List, ℕ, [], ◌∷◌, ◌++◌, map, take, sym, ap, string_bytes}
 use Rattle.pg_syntax.specs.declared.tree as tree
 use Rattle.pg_link.specs.Names.{called}
-use Rattle.pg_link.specs.Declares.{Word, package_scope}
+use Rattle.pg_link.specs.Declares.{package_scope}
 use Rattle.pg_link.specs.Outline.{word}
 use Rattle.pg_link.proofs.DeclareLaws.{scope_more}
 use Rattle.pg_link.proofs.declares.package_scope.Goals as goal

@@ -1,6 +1,6 @@
-use Rattle.std.proofs.Common.{◌≡◌, ◌∙◌, ◌+◌, ℕ, List, Some, sym, ap, subst, take, slice_get, string_bytes}
+use Rattle.std.proofs.Common.{◌≡◌, ℕ, List, Some, sym, subst, take, slice_get}
 use Rattle.std.proofs.lemmas.Result.{err_from_is_err_and}
-use Rattle.pg_link.specs.Standing.{Lists, NoneTwice, Standing, all_standings}
+use Rattle.pg_link.specs.Standing.{Lists, NoneTwice, all_standings}
 use Rattle.pg_link.specs.Walk.{Entry}
 use Rattle.pg_link.proofs.StandingLaws.{files_more, twice_in}
 use Rattle.pg_link.proofs.declaring.index_names.Goals as goal

@@ -1,4 +1,4 @@
-use Rattle.std.proofs.Common.{◌≡◌, [], take}
+use Rattle.std.proofs.Common.{take}
 use Rattle.pg_link.specs.Standing.{Lists, NoneTwice, all_standings}
 use Rattle.pg_link.proofs.declaring.index_names.Given as goal
 

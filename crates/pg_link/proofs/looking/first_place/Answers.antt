@@ -1,4 +1,4 @@
-use Rattle.std.proofs.Common.{◌≡◌, ◌∙◌, List, ℕ, Some, slice_get, take, sym, ap}
+use Rattle.std.proofs.Common.{◌∙◌, List, ℕ, slice_get, take, sym, ap}
 use Rattle.pg_lex.specs.Place.{line, column}
 use Rattle.pg_link.proofs.PlaceLaws.{head_of}
 use Rattle.pg_link.proofs.looking.first_place.Goals as goal

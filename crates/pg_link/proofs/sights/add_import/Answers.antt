@@ -1,4 +1,4 @@
-use Rattle.std.proofs.Common.{◌≡◌, ◌∙◌, ℕ, List, Bool, Some, Vec, map, length, slice_get, get_or, refl, ap, sym, arith, ◌<◌}
+use Rattle.std.proofs.Common.{◌≡◌, ◌∙◌, ℕ, List, Bool, Some, Vec, map, length, slice_get, get_or, refl, ap, sym, ◌<◌}
 use Rattle.std.proofs.lemmas.Option.{slice_get-map, slice_get_read}
 use Rattle.std.specs.Global.{Global}
 use Rattle.std.specs.Option.{option_map}

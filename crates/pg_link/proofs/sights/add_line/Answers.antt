@@ -1,4 +1,3 @@
-use Rattle.std.proofs.Common.{◌≡◌, ◌++◌, List, ℕ}
 use Rattle.pg_link.specs.Imports.{line_of}
 use Rattle.pg_link.proofs.MaskLaws.{taken_line, untaken}
 use Rattle.pg_link.proofs.sights.add_line.Goals as goal

@@ -1,4 +1,4 @@
-use Rattle.std.proofs.Common.{◌≡◌, ◌∙◌, ◌∷◌, [], List, ℕ, subst}
+use Rattle.std.proofs.Common.{◌∙◌, ◌∷◌, []}
 use Rattle.pg_link.specs.Walk.{path_of}
 use Rattle.pg_link.proofs.MaskLaws.{own_marks}
 use Rattle.pg_link.proofs.sights.marks_of.Goals as goal

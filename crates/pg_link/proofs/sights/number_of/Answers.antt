@@ -1,6 +1,5 @@
 use Rattle.std.proofs.Common.{◌≡◌, ◌∙◌, ℕ, Some, slice_get, ap, sym, subst, arith}
 use Rattle.std.specs.Option.{unwrap_or}
-use Rattle.pg_link.specs.Walk.{Entry}
 use Rattle.pg_link.proofs.MaskLaws.{number_of}
 use Rattle.pg_link.proofs.sights.number_of.Goals as goal
 

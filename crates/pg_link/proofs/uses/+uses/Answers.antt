@@ -1,4 +1,4 @@
-use Rattle.std.proofs.Common.{◌≡◌, ◌∙◌, ◌++◌, List, map, sym, ap}
+use Rattle.std.proofs.Common.{◌∙◌, ◌++◌, List, map, sym, ap}
 use Rattle.pg_syntax.specs.declared.tree.Part.{Part}
 use Rattle.pg_link.specs.Index.{texts}
 use Rattle.pg_link.specs.Sites.{use_of}

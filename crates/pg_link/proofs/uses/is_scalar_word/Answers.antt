@@ -1,4 +1,4 @@
-use Rattle.std.proofs.Common.{◌≡◌, Bool, false, codes, refl, sym, ap}
+use Rattle.std.proofs.Common.{◌≡◌, false, codes, refl, sym, ap}
 use Rattle.std.specs.Str.{bytes_eq}
 use Rattle.pg_link.specs.Uses.{is_scalar_word}
 use Rattle.pg_link.proofs.SightLaws.{other_text}

@@ -1,4 +1,4 @@
-use Rattle.std.proofs.Common.{◌≡◌, ◌∙◌, ◌∷◌, ℕ, List, sym, ap, arith, string_bytes}
+use Rattle.std.proofs.Common.{◌∙◌, ◌∷◌, ℕ, List, sym, ap, arith, string_bytes}
 use Rattle.std.proofs.lemmas.List.{take_all}
 use Rattle.pg_syntax.specs.declared.tree as tree
 use Rattle.pg_link.specs.Resolves.{part_words}

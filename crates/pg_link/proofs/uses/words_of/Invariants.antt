@@ -1,4 +1,4 @@
-use Rattle.std.proofs.Common.{◌≡◌, ◌∷◌, map, take, string_bytes}
+use Rattle.std.proofs.Common.{◌≡◌, ◌∷◌, take, string_bytes}
 use Rattle.pg_link.specs.Index.{texts}
 use Rattle.pg_link.specs.Resolves.{part_words}
 use Rattle.pg_link.proofs.uses.words_of.Given as goal

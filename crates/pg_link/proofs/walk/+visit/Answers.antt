@@ -5,9 +5,8 @@ use Rattle.std.proofs.lemmas.Result.{err_from_is_err_and}
 use Rattle.pg_link.specs.declared.imports.ImportLine as lines
 use Rattle.pg_link.specs.declared.walk.Asking as askings
 use Rattle.pg_link.specs.declared.walk.SourceFile as kept
-use Rattle.pg_link.specs.declared.walk.Walk as walks
-use Rattle.pg_link.specs.Files.{Differ, is_path_of, paths_of, import_paths}
-use Rattle.pg_link.specs.Walk.{World, world, Entry, Asks, Comes, ImportsAt, IsSound, Follows, IsTextFault, IsParsed, IsImportFault, MayBe, Refuses, entries, open_paths, outlines, has_path}
+use Rattle.pg_link.specs.Files.{Differ, is_path_of, paths_of}
+use Rattle.pg_link.specs.Walk.{World, world, Entry, IsSound, Follows, IsTextFault, IsParsed, IsImportFault, Refuses, entries, open_paths, outlines, has_path}
 use Rattle.pg_link.proofs.OrderLaws.{apart_more}
 use Rattle.pg_link.proofs.PathLaws.{has_found}
 use Rattle.pg_link.proofs.WalkLaws.{beyond, comes_of, follows_next, import_refused, line_path, next_import, none_yet, not_read, one_more, open_count, open_one, reached_of, read_refused, same_world, take_none, text_refused}

@@ -1,7 +1,7 @@
 use Rattle.std.proofs.Common.{◌≡◌, ◌-◌, ◌+◌, ◌<◌, ℕ, List, ◌∷◌, All, take, true, length, map, string_bytes}
 use Rattle.pg_link.specs.declared.imports.ImportLine as lines
 use Rattle.pg_link.specs.Files.{Differ}
-use Rattle.pg_link.specs.Walk.{World, world, IsSound, Follows, Keeps, entries, open_paths, has_path}
+use Rattle.pg_link.specs.Walk.{world, IsSound, Follows, Keeps, entries, open_paths, has_path}
 use Rattle.pg_link.proofs.WalkLaws.{line_path}
 use Rattle.pg_link.proofs.walk.+visit.Given as goal
 

@@ -1,11 +1,11 @@
-use Rattle.std.proofs.Common.{◌≡◌, ◌∙◌, ℕ, List, [], None, All, take, true, sym, ap, subst, slice_index_or, arith}
+use Rattle.std.proofs.Common.{◌≡◌, ◌∙◌, ℕ, List, [], None, All, take, true, sym, subst, slice_index_or, arith}
 use Rattle.std.proofs.lemmas.List.{take_all}
 use Rattle.std.proofs.lemmas.List.Elements.{All-more, All-map}
 use Rattle.std.proofs.lemmas.Result.{err_from_is_err_and}
 use Rattle.std.specs.Borrow.{Bor}
 use Rattle.pg_link.specs.Files.{is_path_of, paths_of}
 use Rattle.pg_link.specs.Index.{texts}
-use Rattle.pg_link.specs.Walk.{World, world, IsSound, Follows, Refuses, entries, open_paths, outlines, has_path}
+use Rattle.pg_link.specs.Walk.{World, world, IsSound, Follows, Refuses, entries, outlines, has_path}
 use Rattle.pg_link.proofs.WalkLaws.{contains_root, follows_root, linked, same_world}
 use Rattle.pg_link.proofs.walk.follow_imports.Goals as goal
 

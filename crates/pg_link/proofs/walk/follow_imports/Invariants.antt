@@ -1,4 +1,4 @@
-use Rattle.std.proofs.Common.{◌≡◌, ℕ, List, [], All, take, true}
+use Rattle.std.proofs.Common.{◌≡◌, [], All, take, true}
 use Rattle.pg_link.specs.Index.{texts}
 use Rattle.pg_link.specs.Walk.{world, IsSound, entries, open_paths, has_path}
 use Rattle.pg_link.proofs.walk.follow_imports.Given as goal

@@ -1,4 +1,4 @@
-use Rattle.std.proofs.Common.{◌≡◌, ◌∙◌, ◌+◌, ℕ, List, Option, Some, IfSome, length, ap, subst, string_bytes}
+use Rattle.std.proofs.Common.{◌≡◌, ◌∙◌, ℕ, List, Option, Some, IfSome, ap, subst, string_bytes}
 use Rattle.std.proofs.lemmas.Map.Text.{hash_map_updates_text}
 use Rattle.std.specs.HashMap.{get_by_text}
 use Rattle.std.specs.Map.{update}
@@ -6,7 +6,7 @@ use Rattle.std.specs.Str.{bytes_eq}
 use Rattle.pg_link.specs.declared.index.Index as indexes
 use Rattle.pg_link.specs.declared.names.Named as nameds
 use Rattle.pg_link.specs.Outline.{declared_of}
-use Rattle.pg_link.specs.Standing.{Joins, Lists, Standing, standing}
+use Rattle.pg_link.specs.Standing.{Joins, Standing, standing}
 use Rattle.pg_link.proofs.NumberLaws.{numbered_more}
 use Rattle.pg_link.proofs.StandingLaws.{holds_more}
 use Rattle.pg_link.proofs.index.Index.add.Goals as goal

@@ -9,7 +9,6 @@ use Rattle.pg_link.specs.Index.{names_seen, texts}
 use Rattle.pg_link.specs.Names.{Names, Text}
 use Rattle.pg_link.specs.Resolves.{found, reference}
 use Rattle.pg_link.specs.Sites.{use_of}
-use Rattle.pg_link.specs.Uses.{Use}
 use Rattle.pg_link.proofs.TargetLaws.{no_target, target_is}
 use Rattle.pg_link.proofs.index.Index.target.Goals as goal
 

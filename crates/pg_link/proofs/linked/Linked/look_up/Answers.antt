@@ -1,16 +1,15 @@
-use Rattle.std.proofs.Common.{◌≡◌, ◌∙◌, ◌<◌, ℕ, Bool, List, Some, None, Vec, Bor, get_or, length, map, slice_get, sym, ap, subst, arith, IfOk, IfErr}
+use Rattle.std.proofs.Common.{◌≡◌, ◌∙◌, ◌<◌, ℕ, Bool, List, Some, None, Vec, Bor, get_or, length, map, slice_get, ap, subst, arith}
 use Rattle.std.proofs.lemmas.List.{length-map}
 use Rattle.std.proofs.lemmas.Option.{slice_get_within}
 use Rattle.std.specs.Global.{Global}
 use Rattle.pg_link.specs.declared.index.Index as indexes
 use Rattle.pg_link.specs.declared.resolve.Unresolved.{Unresolved}
 use Rattle.pg_link.specs.declared.target.Target.{Target}
-use Rattle.pg_link.specs.Files.{all_names, seen_paths, visible_names}
+use Rattle.pg_link.specs.Files.{all_names, visible_names}
 use Rattle.pg_link.specs.Index.{names_seen, texts}
 use Rattle.pg_link.specs.Linked.{IsSettled, LinkedFiles}
 use Rattle.pg_link.specs.Names.{Names, Text}
 use Rattle.pg_link.specs.Resolves.{Reference, Resolves, reference}
-use Rattle.pg_link.specs.Sights.{Marks}
 use Rattle.pg_link.specs.Unresolved.{Refuses}
 use Rattle.pg_link.specs.Walk.{Entry, outlines, path_of}
 use Rattle.pg_link.proofs.LookLaws.{if_err, if_ok}

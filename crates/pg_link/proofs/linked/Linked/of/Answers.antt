@@ -1,4 +1,4 @@
-use Rattle.std.proofs.Common.{◌≡◌, ◌∙◌, Bool, List, Vec, map, subst, sym}
+use Rattle.std.proofs.Common.{◌∙◌, Bool, List, Vec, map, subst, sym}
 use Rattle.std.proofs.lemmas.List.{length-map}
 use Rattle.std.specs.Global.{Global}
 use Rattle.pg_link.specs.Sights.{AreSights}

@@ -1,7 +1,5 @@
-use Rattle.std.proofs.Common.{◌≡◌, ◌∙◌, ℕ, List, not, subst, sym, ap, false, true, string_bytes}
-use Rattle.std.specs.Str.{bytes_eq}
-use Rattle.std.specs.List.{list_any}
-use Rattle.pg_link.proofs.PathLaws.{among_keys, among_open, seen_before, first_seen, noted}
+use Rattle.std.proofs.Common.{◌∙◌, sym}
+use Rattle.pg_link.proofs.PathLaws.{among_open, seen_before, first_seen, noted}
 use Rattle.pg_link.proofs.walk.Walk.check.Goals as goal
 
 pub returns-then-not-branch-clause-fault : goal.returns-then-not-branch-clause-fault

@@ -1,10 +1,10 @@
-use Rattle.std.proofs.Common.{◌≡◌, ◌∙◌, ℕ, List, [], ◌∷◌, ◌++◌, None, Some, subst, sym, false, true, string_bytes}
+use Rattle.std.proofs.Common.{◌≡◌, ◌∙◌, ℕ, List, None, subst, sym, false, true, string_bytes}
 use Rattle.std.proofs.lemmas.Map.Text.{hash_map_updates_text}
 use Rattle.std.specs.HashMap.{get_by_text}
 use Rattle.std.specs.String.{string_eq}
 use Rattle.indexmap.proofs.CallerLemmas.{insert_entry-new}
 use Rattle.pg_link.specs.declared.walk.Walk as walks
-use Rattle.pg_link.specs.Walk.{has_path, entries}
+use Rattle.pg_link.specs.Walk.{has_path}
 use Rattle.pg_link.proofs.PathLaws.{keeps_path, has_newest, has_found, none_of}
 use Rattle.pg_link.proofs.walk.Walk.end.Goals as goal
 
