@@ -94,8 +94,8 @@ impl Linked {
         }
     }
 
-    /// The file, line and column of the word that declares a full name, which is given without a dot in front; of a
-    /// package part the first. `None` where no file declares it. It takes no memory, and goes by the names one by one.
+    /// The file, line and column of a word that declares a full name, which is given without a dot in front: a part of
+    /// packages may have several. `None` where no file declares it. It takes no memory, and goes by the names one by one.
     pub fn place(&self, full_name: &str) -> Option<(&str, usize, usize)>
         ensures place { IfSome result (λ p. IsDeclaredAt self.now.files full_name.now p.0.now p.1 p.2) }
         ensures absent { IfNone result (IsDeclaredNowhere self.now.files full_name.now) }

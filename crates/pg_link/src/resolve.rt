@@ -55,16 +55,7 @@ impl Index {
                     Err(Unresolved::NotAType)
                 }
             }
-            None => match self.found(alloc, None, scope, name)? {
-                Some((_, named)) => {
-                    if named.kind.is_type() {
-                        Err(Unresolved::NotImported)
-                    } else {
-                        Err(Unresolved::UnknownName)
-                    }
-                }
-                None => Err(Unresolved::UnknownName),
-            },
+            None => Err(self.unseen(alloc, scope, name)),
         }
     }
 }

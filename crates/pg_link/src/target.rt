@@ -42,7 +42,7 @@ fn target_of(named: &Named, takes_enums: bool) -> Option<Target>
 
 impl Index {
     /// Why a name isn't found in the files that are seen.
-    fn unseen(&self, alloc: Global, scope: &[&str], name: &TypeName) -> Unresolved
+    pub(crate) fn unseen(&self, alloc: Global, scope: &[&str], name: &TypeName) -> Unresolved
         ensures { (visible : Names) → found visible (texts scope.now) (reference name.now) ≡ None
             → Refuses visible (names_seen self.now.names None) (texts scope.now) (reference name.now) result }
     {
