@@ -1,6 +1,7 @@
 //! Certificates of flat types: one file with `message M { SCALAR a = 1; }` on each side. What the bounds and the
 //! witness are is computed by hand from the public encoding guide.
 mod memory;
+mod messages;
 mod texts;
 
 use crate::{Bounds, BoundsError, CertError, Certificate, PairBound, Verdict, check};
