@@ -28,53 +28,82 @@ fn parts(alloc: Global, text: &str) -> Option<Parts> {
     parts_in(alloc, &tree).ok()
 }
 
+/// The item in that place.
+fn item<T>(items: &[T], place: usize) -> Result<&T, Fail> {
+    match items.get(place) {
+        Some(item) => Ok(item),
+        None => Err(Fail::from("there are fewer items")),
+    }
+}
+
 #[test]
 fn message_types(rt: HostRuntime) -> Result<(), Fail> {
     let parts = parts(rt.alloc(), ALL).ok_or("the text is refused")?;
-    let m = &parts.types[0];
+    let m = item(&parts.types, 0)?;
     assert_eq!(rt; m.name.as_str(), "p.q.M");
-    assert_eq!(rt; parts.types[1].name.as_str(), "p.q.M.N");
-    assert_eq!(rt; m.nested_types[0].index, 1);
-    assert_eq!(rt; m.nested_enums[0].index, 1);
-    assert_eq!(rt; m.declared[0], 9);
-    assert_eq!(rt; m.fields[0].number, 1);
-    assert_eq!(rt; m.fields[5].number, 9);
-    assert_eq!(rt; m.reserved_numbers[1].last, 536_870_911);
-    assert_eq!(rt; m.oneofs[0].as_str(), "k");
+    assert_eq!(rt; item(&parts.types, 1)?.name.as_str(), "p.q.M.N");
+    assert_eq!(rt; item(&m.nested_types, 0)?.index, 1);
+    assert_eq!(rt; item(&m.nested_enums, 0)?.index, 1);
+    Ok(())
+}
+
+#[test]
+fn bodies(rt: HostRuntime) -> Result<(), Fail> {
+    let parts = parts(rt.alloc(), ALL).ok_or("the text is refused")?;
+    let m = item(&parts.types, 0)?;
+    assert_eq!(rt; *item(&m.declared, 0)?, 9);
+    assert_eq!(rt; item(&m.fields, 0)?.number, 1);
+    assert_eq!(rt; item(&m.fields, 5)?.number, 9);
+    assert_eq!(rt; item(&m.reserved_numbers, 1)?.last, 536_870_911);
+    assert_eq!(rt; item(&m.oneofs, 0)?.as_str(), "k");
     Ok(())
 }
 
 #[test]
 fn fields(rt: HostRuntime) -> Result<(), Fail> {
     let parts = parts(rt.alloc(), ALL).ok_or("the text is refused")?;
-    let fields = &parts.types[0].fields;
+    let fields = &item(&parts.types, 0)?.fields;
+    let map = item(fields, 0)?;
+    let key = Scalar::String;
+    assert_eq!(rt; map.presence, Presence::Map { key });
+    assert_eq!(rt; map.element, Element::Scalar(Scalar::Bytes));
     assert_eq!(rt;
-        fields[0].presence,
-        Presence::Map {
-            key: Scalar::String
-        }
+        item(fields, 1)?.presence,
+        Presence::Repeated { packed: true }
     );
-    assert_eq!(rt; fields[0].element, Element::Scalar(Scalar::Bytes));
-    assert_eq!(rt; fields[1].presence, Presence::Repeated { packed: true });
-    assert_eq!(rt; fields[2].presence, Presence::Explicit);
-    assert_eq!(rt; fields[2].json_name.as_str(), "t");
-    assert_eq!(rt; fields[3].oneof, Some(0));
-    assert_eq!(rt; fields[5].presence, Presence::Implicit);
     Ok(())
 }
 
 #[test]
-fn files_and_enums(rt: HostRuntime) -> Result<(), Fail> {
+fn singular_fields(rt: HostRuntime) -> Result<(), Fail> {
     let parts = parts(rt.alloc(), ALL).ok_or("the text is refused")?;
-    let file = &parts.files[0];
+    let fields = &item(&parts.types, 0)?.fields;
+    assert_eq!(rt; item(fields, 2)?.presence, Presence::Explicit);
+    assert_eq!(rt; item(fields, 2)?.json_name.as_str(), "t");
+    assert_eq!(rt; item(fields, 3)?.oneof, Some(0));
+    assert_eq!(rt; item(fields, 5)?.presence, Presence::Implicit);
+    Ok(())
+}
+
+#[test]
+fn files(rt: HostRuntime) -> Result<(), Fail> {
+    let parts = parts(rt.alloc(), ALL).ok_or("the text is refused")?;
+    let file = item(&parts.files, 0)?;
     assert_eq!(rt; file.package.as_str(), "p.q");
-    assert_eq!(rt; file.imports[0].path.as_str(), "a.proto");
-    assert_eq!(rt; file.options[0].number, 9);
+    assert_eq!(rt; item(&file.imports, 0)?.path.as_str(), "a.proto");
+    assert_eq!(rt; item(&file.options, 0)?.number, 9);
     assert_eq!(rt; file.types.len(), 1);
-    assert_eq!(rt; file.enums[0].index, 2);
-    assert_eq!(rt; parts.enums[1].values[1].number, -1);
-    assert_eq!(rt; parts.enums[1].reserved_numbers[0].first, -5);
-    assert_eq!(rt; parts.enums[1].reserved_numbers[1].last, 2_147_483_647);
+    assert_eq!(rt; item(&file.enums, 0)?.index, 2);
+    Ok(())
+}
+
+#[test]
+fn enums(rt: HostRuntime) -> Result<(), Fail> {
+    let parts = parts(rt.alloc(), ALL).ok_or("the text is refused")?;
+    let found = item(&parts.enums, 1)?;
+    assert_eq!(rt; item(&found.values, 1)?.number, -1);
+    assert_eq!(rt; item(&found.reserved_numbers, 0)?.first, -5);
+    assert_eq!(rt; item(&found.reserved_numbers, 1)?.last, 2_147_483_647);
     Ok(())
 }
 
@@ -94,7 +123,7 @@ fn most_message_types(rt: HostRuntime) -> Result<(), Fail> {
     let most = many(alloc, 4095)?;
     assert_eq!(rt; told(alloc, &most)?.as_str(), "taken");
     let more = many(alloc, 4096)?;
-    let at = more.len() - "N4095 { } }".len() + 1;
+    let at = more.len().saturating_sub("4095 { } }".len());
     let wanted = format!(in alloc; "E413 2:{at}")?;
     assert_eq!(rt; told(alloc, &more)?.as_str(), wanted.as_str());
     Ok(())
@@ -106,9 +135,11 @@ fn large(alloc: Global) -> Result<String, AllocError> {
     for index in 1..10_001 {
         line.push_str(format!(in alloc; " int32 f{index} = {index};")?.as_str())?;
     }
-    for index in 0..1000 {
-        let from = 100_000 + 10 * index;
-        line.push_str(format!(in alloc; " reserved {from} to {};", from + 8)?.as_str())?;
+    let mut from: u32 = 100_000;
+    for _ in 0..1000 {
+        let to = from.wrapping_add(8);
+        line.push_str(format!(in alloc; " reserved {from} to {to};")?.as_str())?;
+        from = from.wrapping_add(10);
     }
     line.push_str(" enum E {")?;
     for index in 0..10_000 {
