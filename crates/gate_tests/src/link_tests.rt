@@ -25,39 +25,31 @@ fn expect<R: Abort + AllocGlobal, S: Sources, T: Sources>(
     Ok(())
 }
 
-/// The same of one file on both sides, with these lines behind the first.
+/// The same of one file on both sides.
 fn answer_of<R: Abort + AllocGlobal>(
     rt: &R,
     root: &str,
-    lines: &str,
+    file: &'static [u8],
     text: &str,
     status: u8,
 ) -> Result<(), Fail> {
-    let file = format!(in rt.alloc(); "syntax = \"proto3\";\n{lines}\n")?;
     let mut old = Listed {
-        files: &[("a.proto", file.as_bytes())],
+        files: &[("a.proto", file)],
     };
     let mut new = old;
     expect(rt, root, &mut old, &mut new, text, status)
 }
 
-/// The same of three files, of which each has these lines behind its first.
+/// The same of three files.
 fn answer_of_three<R: Abort + AllocGlobal>(
     rt: &R,
-    lines: [&str; 3],
+    texts: [&'static [u8]; 3],
     text: &str,
     status: u8,
 ) -> Result<(), Fail> {
-    let [a, b, c] = lines;
-    let a = format!(in rt.alloc(); "syntax = \"proto3\";\n{a}\n")?;
-    let b = format!(in rt.alloc(); "syntax = \"proto3\";\n{b}\n")?;
-    let c = format!(in rt.alloc(); "syntax = \"proto3\";\n{c}\n")?;
+    let [a, b, c] = texts;
     let mut old = Listed {
-        files: &[
-            ("a.proto", a.as_bytes()),
-            ("b.proto", b.as_bytes()),
-            ("c.proto", c.as_bytes()),
-        ],
+        files: &[("a.proto", a), ("b.proto", b), ("c.proto", c)],
     };
     let mut new = old;
     expect(rt, "M", &mut old, &mut new, text, status)
@@ -65,95 +57,110 @@ fn answer_of_three<R: Abort + AllocGlobal>(
 
 #[test]
 fn tells_circles_of_imports(rt: HostRuntime) -> Result<(), Fail> {
-    let alone = ["import \"a.proto\";", "", ""];
+    let alone: [&[u8]; 3] = [
+        b"syntax = \"proto3\";\nimport \"a.proto\";\n".as_slice(),
+        b"syntax = \"proto3\";\n\n".as_slice(),
+        b"syntax = \"proto3\";\n\n".as_slice(),
+    ];
     answer_of_three(&rt, alone, "refused old E302 a.proto:2:8\n", 2)?;
-    let two = [
-        "import \"b.proto\";\nmessage M { }",
-        "import \"a.proto\";",
-        "",
+    let two: [&[u8]; 3] = [
+        b"syntax = \"proto3\";\nimport \"b.proto\";\nmessage M { }\n".as_slice(),
+        b"syntax = \"proto3\";\nimport \"a.proto\";\n".as_slice(),
+        b"syntax = \"proto3\";\n\n".as_slice(),
     ];
     answer_of_three(&rt, two, "refused old E302 b.proto:2:8\n", 2)?;
-    let three = [
-        "import \"b.proto\";",
-        "import \"c.proto\";",
-        "\nimport \"a.proto\";",
+    let three: [&[u8]; 3] = [
+        b"syntax = \"proto3\";\nimport \"b.proto\";\n".as_slice(),
+        b"syntax = \"proto3\";\nimport \"c.proto\";\n".as_slice(),
+        b"syntax = \"proto3\";\n\nimport \"a.proto\";\n".as_slice(),
     ];
     answer_of_three(&rt, three, "refused old E302 c.proto:3:8\n", 2)
 }
 
 #[test]
 fn tells_imports_that_stand_twice_or_lack(rt: HostRuntime) -> Result<(), Fail> {
-    let twice = ["import \"b.proto\";\nimport \"b.proto\";", "", ""];
+    let twice: [&[u8]; 3] = [
+        b"syntax = \"proto3\";\nimport \"b.proto\";\nimport \"b.proto\";\n".as_slice(),
+        b"syntax = \"proto3\";\n\n".as_slice(),
+        b"syntax = \"proto3\";\n\n".as_slice(),
+    ];
     answer_of_three(&rt, twice, "refused old E303 a.proto:3:8\n", 2)?;
-    let lacks = ["import \"b.proto\";", "import public \"d.proto\";", ""];
+    let lacks: [&[u8]; 3] = [
+        b"syntax = \"proto3\";\nimport \"b.proto\";\n".as_slice(),
+        b"syntax = \"proto3\";\nimport public \"d.proto\";\n".as_slice(),
+        b"syntax = \"proto3\";\n\n".as_slice(),
+    ];
     answer_of_three(&rt, lacks, "refused old E301 b.proto:2:15\n", 2)
 }
 
 #[test]
 fn sees_through_public_imports_alone(rt: HostRuntime) -> Result<(), Fail> {
-    let hidden = [
-        "import \"b.proto\";\nmessage M { K k = 1; }",
-        "import \"c.proto\";",
-        "message K { }",
+    let hidden: [&[u8]; 3] = [
+        b"syntax = \"proto3\";\nimport \"b.proto\";\nmessage M { K k = 1; }\n".as_slice(),
+        b"syntax = \"proto3\";\nimport \"c.proto\";\n".as_slice(),
+        b"syntax = \"proto3\";\nmessage K { }\n".as_slice(),
     ];
     answer_of_three(&rt, hidden, "refused old E307 a.proto:3:13\n", 2)?;
-    let seen = [
-        "import \"b.proto\";\nmessage M { K k = 1; }",
-        "import public \"c.proto\";",
-        "message K { }",
+    let seen: [&[u8]; 3] = [
+        b"syntax = \"proto3\";\nimport \"b.proto\";\nmessage M { K k = 1; }\n".as_slice(),
+        b"syntax = \"proto3\";\nimport public \"c.proto\";\n".as_slice(),
+        b"syntax = \"proto3\";\nmessage K { }\n".as_slice(),
     ];
     answer_of_three(&rt, seen, "undecided M\n", 5)
 }
 
 /// Names of one file, and what the gate on them prints.
-static NAMES: [(&str, &str); 13] = [
+static NAMES: [(&[u8], &str); 13] = [
     (
-        "enum E { A = 0; } message M { .A a = 1; }",
+        b"syntax = \"proto3\";\nenum E { A = 0; } message M { .A a = 1; }\n",
         "refused old E306 a.proto:2:31\n",
     ),
     (
-        "message M { a b = 1; int32 a = 2; }",
+        b"syntax = \"proto3\";\nmessage M { a b = 1; int32 a = 2; }\n",
         "refused old E305 a.proto:2:13\n",
     ),
     (
-        "message M { map<int32, int32> foo = 1; .M.FooEntry.key a = 2; }",
+        b"syntax = \"proto3\";\nmessage M { map<int32, int32> foo = 1; .M.FooEntry.key a = 2; }\n",
         "refused old E305 a.proto:2:40\n",
     ),
     (
-        "message M { map<int32, int32> foo = 1; FooEntry a = 2; }",
+        b"syntax = \"proto3\";\nmessage M { map<int32, int32> foo = 1; FooEntry a = 2; }\n",
         "refused old E306 a.proto:2:40\n",
     ),
-    ("message M { M M = 1; }", "undecided M\n"),
     (
-        "message M { int32 a = 1; bool a = 2; }",
+        b"syntax = \"proto3\";\nmessage M { M M = 1; }\n",
+        "undecided M\n",
+    ),
+    (
+        b"syntax = \"proto3\";\nmessage M { int32 a = 1; bool a = 2; }\n",
         "refused old E304 a.proto:2:31\n",
     ),
     (
-        "enum E { A = 0; } enum F { A = 0; }",
+        b"syntax = \"proto3\";\nenum E { A = 0; } enum F { A = 0; }\n",
         "refused old E304 a.proto:2:28\n",
     ),
     (
-        "message M { Int32 a = 1; }",
+        b"syntax = \"proto3\";\nmessage M { Int32 a = 1; }\n",
         "refused old E305 a.proto:2:13\n",
     ),
     (
-        "message M { .int32 a = 1; }",
+        b"syntax = \"proto3\";\nmessage M { .int32 a = 1; }\n",
         "refused old E305 a.proto:2:13\n",
     ),
     (
-        "message M { map<K, bool> a = 1; }",
+        b"syntax = \"proto3\";\nmessage M { map<K, bool> a = 1; }\n",
         "refused old E305 a.proto:2:17\n",
     ),
     (
-        "message M { oneof k { int32.b a = 1; } }",
+        b"syntax = \"proto3\";\nmessage M { oneof k { int32.b a = 1; } }\n",
         "refused old E305 a.proto:2:23\n",
     ),
     (
-        "message M { .M.a b = 1; int32 a = 2; }",
+        b"syntax = \"proto3\";\nmessage M { .M.a b = 1; int32 a = 2; }\n",
         "refused old E306 a.proto:2:13\n",
     ),
     (
-        "message M { } enum E { A = 0; } service S { rpc R (M) returns (E); }",
+        b"syntax = \"proto3\";\nmessage M { } enum E { A = 0; } service S { rpc R (M) returns (E); }\n",
         "refused old E306 a.proto:2:64\n",
     ),
 ];
@@ -169,31 +176,33 @@ fn tells_names_that_name_no_type(rt: HostRuntime) -> Result<(), Fail> {
 
 #[test]
 fn seeks_the_first_part_of_a_name(rt: HostRuntime) -> Result<(), Fail> {
-    let inner = "package p;\nmessage A { message B { } }\nmessage C { message A { } A.B x = 1; }";
+    let inner =
+        b"syntax = \"proto3\";\npackage p;\nmessage A { message B { } }\nmessage C { message A { } A.B x = 1; }\n";
     answer_of(&rt, "p.C", inner, "refused old E305 a.proto:4:27\n", 2)?;
-    let full = "package p;\nmessage A { message B { } }\nmessage C { message A { } .p.A.B x = 1; }";
+    let full =
+        b"syntax = \"proto3\";\npackage p;\nmessage A { message B { } }\nmessage C { message A { } .p.A.B x = 1; }\n";
     answer_of(&rt, "p.C", full, "undecided p.C\n", 5)
 }
 
 /// Of several faults of names the first is told: files stand behind those that they import.
 #[test]
 fn tells_faults_of_names_in_order(rt: HostRuntime) -> Result<(), Fail> {
-    let unknown = [
-        "import \"b.proto\";\nmessage M { X x = 1; }",
-        "message N { Y y = 1; Z z = 2; }",
-        "",
+    let unknown: [&[u8]; 3] = [
+        b"syntax = \"proto3\";\nimport \"b.proto\";\nmessage M { X x = 1; }\n".as_slice(),
+        b"syntax = \"proto3\";\nmessage N { Y y = 1; Z z = 2; }\n".as_slice(),
+        b"syntax = \"proto3\";\n\n".as_slice(),
     ];
     answer_of_three(&rt, unknown, "refused old E305 b.proto:2:13\n", 2)?;
-    let twice = [
-        "import \"b.proto\";\nmessage M { } message M { }",
-        "message N { } message N { } message N { }",
-        "",
+    let twice: [&[u8]; 3] = [
+        b"syntax = \"proto3\";\nimport \"b.proto\";\nmessage M { } message M { }\n".as_slice(),
+        b"syntax = \"proto3\";\nmessage N { } message N { } message N { }\n".as_slice(),
+        b"syntax = \"proto3\";\n\n".as_slice(),
     ];
     answer_of_three(&rt, twice, "refused old E304 b.proto:2:23\n", 2)?;
-    let both = [
-        "import \"b.proto\";\nmessage M { } message M { }",
-        "message N { Y y = 1; }",
-        "",
+    let both: [&[u8]; 3] = [
+        b"syntax = \"proto3\";\nimport \"b.proto\";\nmessage M { } message M { }\n".as_slice(),
+        b"syntax = \"proto3\";\nmessage N { Y y = 1; }\n".as_slice(),
+        b"syntax = \"proto3\";\n\n".as_slice(),
     ];
     answer_of_three(&rt, both, "refused old E304 a.proto:3:23\n", 2)
 }
@@ -201,13 +210,17 @@ fn tells_faults_of_names_in_order(rt: HostRuntime) -> Result<(), Fail> {
 /// A part of a package is a name, at its place in the text.
 #[test]
 fn tells_a_package_that_bears_a_name(rt: HostRuntime) -> Result<(), Fail> {
-    let part = [
-        "import \"b.proto\";\npackage q.foo.r;\nmessage foo { }",
-        "package q;\nmessage foo { }",
-        "",
+    let part: [&[u8]; 3] = [
+        b"syntax = \"proto3\";\nimport \"b.proto\";\npackage q.foo.r;\nmessage foo { }\n".as_slice(),
+        b"syntax = \"proto3\";\npackage q;\nmessage foo { }\n".as_slice(),
+        b"syntax = \"proto3\";\n\n".as_slice(),
     ];
     answer_of_three(&rt, part, "refused old E304 a.proto:3:11\n", 2)?;
-    let shared = ["import \"b.proto\";\npackage q.r;", "package q.s;", ""];
+    let shared: [&[u8]; 3] = [
+        b"syntax = \"proto3\";\nimport \"b.proto\";\npackage q.r;\n".as_slice(),
+        b"syntax = \"proto3\";\npackage q.s;\n".as_slice(),
+        b"syntax = \"proto3\";\n\n".as_slice(),
+    ];
     answer_of_three(&rt, shared, "undecided M\n", 5)
 }
 
