@@ -16,7 +16,6 @@ use Rattle.pg_schema.specs.DeclaredNames.{entry_name}
 use Rattle.pg_schema.specs.EnumRules.{begins_with_zero, is_zero}
 use Rattle.pg_schema.specs.FieldRules.{has_presence, is_field_number, is_packed}
 use Rattle.pg_schema.specs.FileRules.{is_of_kind}
-use Rattle.pg_schema.specs.Flat.{IsFlat}
 use Rattle.pg_schema.specs.JsonName.{default_json_name}
 use Rattle.pg_schema.specs.MessageRules.{have_members}
 use Rattle.pg_schema.specs.PackageNames.{is_front}
@@ -113,12 +112,3 @@ pub record WorkedRules : Type 0 where
   pub option_unknown : is_of_kind 2 (options.Flag true) ≡ false
   pub part_of_a_package : list_all (λ name. is_front name (codes "p.q")) (codes "p" ∷ codes "p.q" ∷ []) ≡ true
   pub no_part_of_a_package : list_any (λ name. is_front name (codes "p.q")) (codes "q" ∷ codes "pq" ∷ codes "p.q.r" ∷ []) ≡ false
-  pub flat : IsFlat (of_field presences.Implicit text None) first_type
-  pub flat_without_fields : IsFlat ([] ∷ []) first_type
-  pub flat_for_want_of_the_type : IsFlat (of_field presences.Explicit text None) (record { index = 1 })
-  pub optional_is_not_flat : IsFlat (of_field presences.Explicit text None) first_type → ⊥
-  pub member_is_not_flat : IsFlat (of_field presences.Explicit text (Some 0)) first_type → ⊥
-  pub list_is_not_flat : IsFlat (of_field (presences.Repeated true) int32 None) first_type → ⊥
-  pub map_is_not_flat : IsFlat (of_field (presences.Map scalars.Int32) text None) first_type → ⊥
-  pub enum_is_not_flat : IsFlat (of_field presences.Implicit (elements.Enum (record { index = 0 })) None) first_type → ⊥
-  pub message_is_not_flat : IsFlat (of_field presences.Explicit (elements.Message first_type) None) first_type → ⊥

@@ -156,12 +156,6 @@ pub(crate) fn are_refused(alloc: Global, parts: Parts) -> Result<bool, AllocErro
     }
 }
 
-// Whether the first message type of the parts, which are taken, is flat.
-fn is_flat(alloc: Global, parts: Parts) -> Result<bool, Fail> {
-    let schema = Schema::from_parts(alloc, parts);
-    Ok(schema.ok().ok_or("refused")?.flat(TypeId { index: 0 }))
-}
-
 // The parts of a message of one such field.
 fn of_field(alloc: Global, field: Field) -> Result<Parts, AllocError> {
     let declared = vec![in alloc; field.number]?;
@@ -188,53 +182,15 @@ fn field_numbers(rt: HostRuntime) -> Result<(), Fail> {
     Ok(())
 }
 
-// Whether a message of one field of that presence and element, and no other, is flat.
-fn is_flat_field(alloc: Global, presence: Presence, element: Element) -> Result<bool, Fail> {
-    let mut field = scalar_field(alloc, 1, "a", Scalar::Bytes)?;
-    field.presence = presence;
-    field.element = element;
-    field.states_optional = presence == Presence::Explicit
-        && !matches!(element, Element::Message(_));
-    is_flat(alloc, of_field(alloc, field)?)
-}
-
-#[test]
-fn flat_fields(rt: HostRuntime) -> Result<(), Fail> {
-    let alloc = rt.alloc();
-    let bytes = Element::Scalar(Scalar::Bytes);
-    let message = Element::Message(TypeId { index: 0 });
-    for (presence, element, flat) in [
-        (Presence::Implicit, bytes, true),
-        (Presence::Explicit, bytes, false),
-        (Presence::Repeated { packed: false }, bytes, false),
-        (Presence::Map { key: Scalar::Bool }, bytes, false),
-        (Presence::Explicit, message, false),
-    ] {
-        assert_eq!(rt; is_flat_field(alloc, presence, element)?, flat);
-    }
-    Ok(())
-}
-
-// Neither fields nor a type are wanted of a flat type.
-#[test]
-fn flat_without_fields(rt: HostRuntime) -> Result<(), Fail> {
-    let alloc = rt.alloc();
-    let schema = schema(alloc)?;
-    assert!(rt; schema.flat(TypeId { index: 0 }));
-    assert!(rt; schema.flat(TypeId { index: 1 }));
-    assert!(rt; schema.flat(TypeId { index: 2 }));
-    Ok(())
-}
-
 #[test]
 fn stated_options(rt: HostRuntime) -> Result<(), Fail> {
     let alloc = rt.alloc();
     let mut field = scalar_field(alloc, 1, "a", Scalar::Int32)?;
     field.options.packed = Some(false);
-    assert!(rt; is_flat(alloc, of_field(alloc, field)?)?);
+    assert!(rt; !are_refused(alloc, of_field(alloc, field)?)?);
     let mut field = scalar_field(alloc, 1, "a", Scalar::Int32)?;
     field.options.deprecated = Some(false);
-    assert!(rt; is_flat(alloc, of_field(alloc, field)?)?);
+    assert!(rt; !are_refused(alloc, of_field(alloc, field)?)?);
     Ok(())
 }
 
@@ -368,16 +324,16 @@ fn oneofs_and_nested_types(rt: HostRuntime) -> Result<(), Fail> {
     let fields = vec![in alloc; member]?;
     let mut with_oneof = message_type(alloc, "p.M", fields, vec![in alloc; 1]?)?;
     with_oneof.oneofs.push(String::from_str(alloc, "k")?)?;
-    assert!(rt; !is_flat(alloc, of_types(alloc, with_oneof, None)?)?);
+    assert!(rt; !are_refused(alloc, of_types(alloc, with_oneof, None)?)?);
     let mut with_type = empty_type(alloc)?;
     with_type.nested_types.push(TypeId { index: 1 })?;
     let nested = message_type(alloc, "p.M.N", Vec::new(alloc), Vec::new(alloc))?;
-    assert!(rt; is_flat(alloc, of_types(alloc, with_type, Some(nested))?)?);
+    assert!(rt; !are_refused(alloc, of_types(alloc, with_type, Some(nested))?)?);
     let mut with_enum = empty_type(alloc)?;
     with_enum.nested_enums.push(EnumId { index: 0 })?;
     let mut parts = of_types(alloc, with_enum, None)?;
     parts.enums.push(color(alloc, "p.M.Color")?)?;
-    assert!(rt; is_flat(alloc, parts)?);
+    assert!(rt; !are_refused(alloc, parts)?);
     Ok(())
 }
 
@@ -388,15 +344,15 @@ fn types_with_more(rt: HostRuntime) -> Result<(), Fail> {
     with_range
         .reserved_numbers
         .push(ReservedFields { first: 2, last: 3 })?;
-    assert!(rt; is_flat(alloc, of_types(alloc, with_range, None)?)?);
+    assert!(rt; !are_refused(alloc, of_types(alloc, with_range, None)?)?);
     let mut with_name = empty_type(alloc)?;
     with_name
         .reserved_names
         .push(String::from_str(alloc, "a")?)?;
-    assert!(rt; is_flat(alloc, of_types(alloc, with_name, None)?)?);
+    assert!(rt; !are_refused(alloc, of_types(alloc, with_name, None)?)?);
     let mut deprecated = empty_type(alloc)?;
     deprecated.options.deprecated = Some(false);
-    assert!(rt; is_flat(alloc, of_types(alloc, deprecated, None)?)?);
+    assert!(rt; !are_refused(alloc, of_types(alloc, deprecated, None)?)?);
     Ok(())
 }
 

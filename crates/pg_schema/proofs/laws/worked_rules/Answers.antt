@@ -67,13 +67,4 @@ returns c = record {
   option_unknown = refl;
   part_of_a_package = refl;
   no_part_of_a_package = refl;
-  flat = (record { implicit = refl; scalar = _; scalar_is = refl; alone = refl }, tt);
-  flat_without_fields = tt;
-  flat_for_want_of_the_type = tt;
-  optional_is_not_flat = λ flat. let no = flat.0.implicit in cc (no);
-  member_is_not_flat = λ flat. let no = flat.0.implicit in cc (no);
-  list_is_not_flat = λ flat. let no = flat.0.implicit in cc (no);
-  map_is_not_flat = λ flat. let no = flat.0.implicit in cc (no);
-  enum_is_not_flat = λ flat. let no = flat.0.scalar_is in cc (no);
-  message_is_not_flat = λ flat. let no = flat.0.implicit in cc (no);
 }
