@@ -7,6 +7,7 @@ pub mod NumberLaws
 pub mod OrderLaws
 pub mod PathLaws
 pub mod PlaceLaws
+pub mod PlacedLaws
 pub mod ResolvesLaws
 pub mod SeesLaws
 pub mod SightLaws

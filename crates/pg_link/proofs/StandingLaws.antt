@@ -107,8 +107,8 @@ pub adds_none : (index : indexes.Index) → AddsAll index index []
 adds_none index = λ all holds. (subst (Lists index) (sym (append-nil all)) holds, λ none. subst NoneTwice (sym (append-nil all)) none)
 
 pub stands_twice : (old mid new : indexes.Index) (front : List Standing) (s : Standing) → AddsAll old mid front
-    → Adds mid new s false → (all : List Standing) → Lists old all → StandsTwice (all ++ front) s
-stands_twice old mid new front s before adds = λ all holds. adds (all ++ front) (before all holds).0
+    → Adds mid new s false → (all : List Standing) → Lists old all → StandsTwice (all ++ front) s × (NoneTwice all → NoneTwice (all ++ front))
+stands_twice old mid new front s before adds = λ all holds. let h = before all holds in (adds (all ++ front) h.0, h.1)
 
 pub split_standings : (file : ℕ) (ds : List made.DeclaredName) (i : ℕ) (d : made.DeclaredName) → i < length ds → d ≡ slice_index_or ds i d
     → map (standing_of file) ds ≡ map (standing_of file) (take i ds) ++ standing_of file d ∷ map (standing_of file) (drop (i + 1) ds)
@@ -155,19 +155,20 @@ standings_split n (x ∷ es) (suc i) =
     (h.0, ap (λ l. standings n x.1.tree ++ l) h.1 ∙ sym (append_assoc (standings n x.1.tree) (standings_from (n + 1) (take i es)) h.0))
 
 pub twice_in : (index : indexes.Index) (es : List Entry) (i : ℕ) (e : Entry) (path : Text) (err : errors.LinkError)
-    → slice_get es i ≡ Some e → path ≡ path_of e → Lists index (all_standings (take i es)) → IsTwice index i path e.1.bytes.items (standings i e.1.tree) err → IsTwiceIn es err
-twice_in index es i e path error.Memory at same holds twice = tt
-twice_in index es i e path (error.MissingFile place) at same holds twice = absurd twice
-twice_in index es i e path (error.ImportCycle place) at same holds twice = absurd twice
-twice_in index es i e path (error.DuplicateImport place) at same holds twice = absurd twice
-twice_in index es i e path (error.UnknownName place) at same holds twice = absurd twice
-twice_in index es i e path (error.NotAType place) at same holds twice = absurd twice
-twice_in index es i e path (error.NotImported place) at same holds twice = absurd twice
-twice_in index es i e path (error.TooManyFiles place) at same holds twice = absurd twice
-twice_in index es i e path (error.SourceFailed place) at same holds twice = absurd twice
-twice_in index es i e path (error.Lex f place) at same holds twice = absurd twice
-twice_in index es i e path (error.Syntax f place) at same holds twice = absurd twice
-twice_in index es i e path (error.DuplicateName place) at same holds (front, back, d, splits, is_place, stands) =
+    → slice_get es i ≡ Some e → path ≡ path_of e → Lists index (all_standings (take i es)) → NoneTwice (all_standings (take i es))
+    → IsTwice index i path e.1.bytes.items (standings i e.1.tree) err → IsTwiceIn es err
+twice_in index es i e path error.Memory at same holds once twice = tt
+twice_in index es i e path (error.MissingFile place) at same holds once twice = absurd twice
+twice_in index es i e path (error.ImportCycle place) at same holds once twice = absurd twice
+twice_in index es i e path (error.DuplicateImport place) at same holds once twice = absurd twice
+twice_in index es i e path (error.UnknownName place) at same holds once twice = absurd twice
+twice_in index es i e path (error.NotAType place) at same holds once twice = absurd twice
+twice_in index es i e path (error.NotImported place) at same holds once twice = absurd twice
+twice_in index es i e path (error.TooManyFiles place) at same holds once twice = absurd twice
+twice_in index es i e path (error.SourceFailed place) at same holds once twice = absurd twice
+twice_in index es i e path (error.Lex f place) at same holds once twice = absurd twice
+twice_in index es i e path (error.Syntax f place) at same holds once twice = absurd twice
+twice_in index es i e path (error.DuplicateName place) at same holds once (front, back, d, splits, is_place, stands) =
     let before = all_standings (take i es) in
     let s = standing i d in
     let rest = standings_split 0 es (i + 1) in
@@ -175,10 +176,7 @@ twice_in index es i e path (error.DuplicateName place) at same holds (front, bac
     let whole : all_standings es ≡ (before ++ front) ++ s ∷ (back ++ rest.0) =
     own ∙ (ap (λ l. (before ++ l) ++ rest.0) splits ∙ (append_assoc before (front ++ s ∷ back) rest.0 ∙ (ap (λ l. before ++ l) (append_assoc front (s ∷ back) rest.0)
     ∙ sym (append_assoc before front (s ∷ (back ++ rest.0)))))) in (
-      before ++ front,
-      back ++ rest.0,
       s,
-      whole,
-      stands before holds,
+      record { front = before ++ front; back = back ++ rest.0; splits = whole; none_before = (stands before holds).1 once; twice = (stands before holds).0 },
       (e, at, subst (λ (p : Text). IsPlace place p e.1.bytes.items d.at) same is_place),
     )

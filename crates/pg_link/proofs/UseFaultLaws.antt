@@ -1,10 +1,11 @@
 -- What the uses of files resolve to, and which are at fault: through the index, and by the files.
-use Rattle.std.proofs.Common.{◌≡◌, ◌∙◌, inl, inr, ℕ, ◌+◌, ◌<◌, Bool, List, [], ◌∷◌, ◌++◌, map, length, slice_get, get_or, refl, sym, ap, subst, Some, None, Vec, Err}
-use Rattle.std.proofs.lemmas.List.{map-append}
+use Rattle.std.proofs.Common.{◌≡◌, ◌∙◌, inl, inr, ℕ, ◌+◌, ◌<◌, Bool, List, [], ◌∷◌, ◌++◌, map, length, slice_get, get_or, take, drop, suc, Option, add-one, arith, drop-cons, refl, sym, ap, subst, Some, None, Vec, Err}
+use Rattle.std.proofs.lemmas.List.{map-append, take-append-drop}
+use Rattle.std.proofs.lemmas.List.Elements.{All-cons, All-head, All-tail}
 use Rattle.std.proofs.lemmas.Option.{slice_get-map, slice_get_read, slice_get_within, get_or_from_slice_get}
 use Rattle.std.specs.Global.{Global}
-use Rattle.std.specs.List.{IsAmong}
-use Rattle.std.specs.Option.{option_map}
+use Rattle.std.specs.List.{All, IsAmong}
+use Rattle.std.specs.Option.{IsSome, option_map}
 use Rattle.pg_syntax.specs.declared.tree as tree
 use Rattle.pg_link.specs.declared.error.LinkError as errors
 use Rattle.pg_link.specs.declared.error.LinkError.TheVariants as error
@@ -17,7 +18,7 @@ use Rattle.pg_link.specs.Names.{Text, Names}
 use Rattle.pg_link.specs.Outline.{file_names}
 use Rattle.pg_link.specs.Sights.{AreSights, IsMask, Marks}
 use Rattle.pg_link.specs.Standing.{IsNumbered, IsTwiceIn, Lists, NoneTwice, Standing, all_standings, declared_in, standing, standings, standings_from}
-use Rattle.pg_link.specs.Targets.{all_declared, file_targets, target_in}
+use Rattle.pg_link.specs.Targets.{Resolution, all_declared, file_targets, target_in}
 use Rattle.pg_link.specs.Unresolved.{RefusesUse}
 use Rattle.pg_link.specs.UseFaults.{IsNameFault, IsUseFault, IsUseFaultIn, Says}
 use Rattle.pg_link.specs.Uses.{Use, file_uses}
@@ -26,23 +27,24 @@ use Rattle.pg_link.proofs.BridgeLaws.{known_names, seen_names}
 
 -- ---- one use
 
-pub use_refused : (visible all : Names) (u : Use) (w : Unresolved) (path text : Text) (file : tree.FileTree.FileTree) (e : errors.LinkError) (front back : List Use)
-    → file_uses file ≡ front ++ u ∷ back → RefusesUse visible all u w → Says w path text u.at e → IsUseFault visible all path text file e
-use_refused visible all u w path text file (error.UnknownName place) front back splits refuses says =
-    record { front = front; u = u; back = back; splits = splits; is_place = says.1; holds = subst (RefusesUse visible all u) says.0 refuses }
-use_refused visible all u w path text file (error.NotAType place) front back splits refuses says =
-    record { front = front; u = u; back = back; splits = splits; is_place = says.1; holds = subst (RefusesUse visible all u) says.0 refuses }
-use_refused visible all u w path text file (error.NotImported place) front back splits refuses says =
-    record { front = front; u = u; back = back; splits = splits; is_place = says.1; holds = subst (RefusesUse visible all u) says.0 refuses }
-use_refused visible all u w path text file error.Memory front back splits refuses says = tt
-use_refused visible all u w path text file (error.MissingFile place) front back splits refuses says = absurd says
-use_refused visible all u w path text file (error.ImportCycle place) front back splits refuses says = absurd says
-use_refused visible all u w path text file (error.DuplicateImport place) front back splits refuses says = absurd says
-use_refused visible all u w path text file (error.DuplicateName place) front back splits refuses says = absurd says
-use_refused visible all u w path text file (error.TooManyFiles place) front back splits refuses says = absurd says
-use_refused visible all u w path text file (error.SourceFailed place) front back splits refuses says = absurd says
-use_refused visible all u w path text file (error.Lex f place) front back splits refuses says = absurd says
-use_refused visible all u w path text file (error.Syntax f place) front back splits refuses says = absurd says
+pub use_refused : (resolve : Resolution) (visible all : Names) (u : Use) (w : Unresolved) (path text : Text) (file : tree.FileTree.FileTree) (e : errors.LinkError) (front back : List Use)
+    → file_uses file ≡ front ++ u ∷ back → All (λ v. IsSome (resolve v)) front → RefusesUse visible all u w → Says w path text u.at e
+    → IsUseFault resolve visible all path text file e
+use_refused resolve visible all u w path text file (error.UnknownName place) front back splits before refuses says =
+    record { front = front; u = u; back = back; splits = splits; before = before; is_place = says.1; holds = subst (RefusesUse visible all u) says.0 refuses }
+use_refused resolve visible all u w path text file (error.NotAType place) front back splits before refuses says =
+    record { front = front; u = u; back = back; splits = splits; before = before; is_place = says.1; holds = subst (RefusesUse visible all u) says.0 refuses }
+use_refused resolve visible all u w path text file (error.NotImported place) front back splits before refuses says =
+    record { front = front; u = u; back = back; splits = splits; before = before; is_place = says.1; holds = subst (RefusesUse visible all u) says.0 refuses }
+use_refused resolve visible all u w path text file error.Memory front back splits before refuses says = tt
+use_refused resolve visible all u w path text file (error.MissingFile place) front back splits before refuses says = absurd says
+use_refused resolve visible all u w path text file (error.ImportCycle place) front back splits before refuses says = absurd says
+use_refused resolve visible all u w path text file (error.DuplicateImport place) front back splits before refuses says = absurd says
+use_refused resolve visible all u w path text file (error.DuplicateName place) front back splits before refuses says = absurd says
+use_refused resolve visible all u w path text file (error.TooManyFiles place) front back splits before refuses says = absurd says
+use_refused resolve visible all u w path text file (error.SourceFailed place) front back splits before refuses says = absurd says
+use_refused resolve visible all u w path text file (error.Lex f place) front back splits before refuses says = absurd says
+use_refused resolve visible all u w path text file (error.Syntax f place) front back splits before refuses says = absurd says
 
 -- ---- one file
 
@@ -77,16 +79,72 @@ targets_are index es e sight ts lists once marks found =
     ∙ (ap (λ (ds : List Declared). map (target_in ds (names_seen index.names (Some sight))) (file_uses e.1.tree)) (all_declared_are es)
     ∙ ap (λ (names : Names). map (target_in (all_declared es) names) (file_uses e.1.tree)) (visible_are index es e sight lists once marks))
 
-pub fault_is : (index : indexes.Index) (es : List Entry) (e : Entry) (sight : List Bool) (path : Text) (err : errors.LinkError) → Lists index (all_standings es)
-    → NoneTwice (all_standings es) → Marks es (seen_paths (outlines es) (path_of e)) sight → IsAmong es e → path ≡ path_of e
-    → IsUseFault (names_seen index.names (Some sight)) (names_seen index.names None) path e.1.bytes.items e.1.tree err → IsUseFaultIn es err
-fault_is index es e sight path err lists once marks among same fault = (
-  e,
-  among,
-  subst (λ (p : Text). IsUseFault (visible_names (outlines es) (path_of e)) (all_names (outlines es)) p e.1.bytes.items e.1.tree err) same
-      (subst (λ (names : Names). IsUseFault (visible_names (outlines es) (path_of e)) names path e.1.bytes.items e.1.tree err) (all_are index es lists once)
-      (subst (λ (names : Names). IsUseFault names (names_seen index.names None) path e.1.bytes.items e.1.tree err) (visible_are index es e sight lists once marks) fault)),
-)
+somes : (ts : List Target) → All IsSome (map Some ts)
+somes [] = λ k d within. absurd (omega arith)
+somes (t ∷ ts) = All-cons IsSome (Some t) (map Some ts) refl (somes ts)
+
+of_each : {X : Type 0} (f : X → Option Target) (xs : List X) → All IsSome (map f xs) → All (λ x. IsSome (f x)) xs
+of_each f [] all = λ k d within. absurd (omega arith)
+of_each f (x ∷ xs) all = All-cons (λ y. IsSome (f y)) x xs (All-head IsSome (f x) (map f xs) all) (of_each f xs (All-tail IsSome (f x) (map f xs) all))
+
+-- all that have targets resolve
+pub all_resolve : {X : Type 0} (f : X → Option Target) (xs : List X) (ts : List Target) → map Some ts ≡ map f xs → All (λ x. IsSome (f x)) xs
+all_resolve f xs ts same = of_each f xs (subst (All IsSome) same (somes ts))
+
+files_resolve : (es fs : List Entry) (ts : List (List Target)) → map (map Some) ts ≡ map (file_targets es) fs → All (λ f. All IsSome (file_targets es f)) fs
+files_resolve es [] ts same = λ k d within. absurd (omega arith)
+files_resolve es (f ∷ fs) [] same = absurd (omega (arith, ap length same))
+files_resolve es (f ∷ fs) (t ∷ ts) same =
+    All-cons (λ g. All IsSome (file_targets es g)) f fs (subst (All IsSome) (head_same same) (somes t)) (files_resolve es fs ts (tail_same same))
+  where
+    first : List (List (Option Target)) → List (Option Target)
+    first [] = []
+    first (l ∷ ls) = l
+
+    others : List (List (Option Target)) → List (List (Option Target))
+    others [] = []
+    others (l ∷ ls) = ls
+
+    head_same : map (map Some) (t ∷ ts) ≡ map (file_targets es) (f ∷ fs) → map Some t ≡ file_targets es f
+    head_same is = ap first is
+
+    tail_same : map (map Some) (t ∷ ts) ≡ map (file_targets es) (f ∷ fs) → map (map Some) ts ≡ map (file_targets es) fs
+    tail_same is = ap others is
+
+split_file : (es : List Entry) (i : ℕ) (e : Entry) → slice_get es i ≡ Some e → es ≡ take i es ++ e ∷ drop (i + 1) es
+split_file es i e at =
+    sym (take-append-drop i es) ∙ ap (λ l. take i es ++ l)
+    (drop-cons es i e (slice_get_within es i e at)
+    ∙ (ap (λ (f : Entry). f ∷ drop (suc i) es) (get_or_from_slice_get es i e e at) ∙ ap (λ n. e ∷ drop n es) (sym (add-one i))))
+
+-- the first fault, in the file and among the files
+pub fault_is : (index : indexes.Index) (es : List Entry) (i : ℕ) (e : Entry) (sight : List Bool) (path : Text) (err : errors.LinkError) (ts : List (List Target)) → Lists index (all_standings es)
+    → NoneTwice (all_standings es) → Marks es (seen_paths (outlines es) (path_of e)) sight → slice_get es i ≡ Some e → map (map Some) ts ≡ map (file_targets es) (take i es) → path ≡ path_of e
+    → ((all : List Standing) → IsNumbered index all → IsUseFault (target_in (declared_in all) (names_seen index.names (Some sight))) (names_seen index.names (Some sight)) (names_seen index.names None)
+    path e.1.bytes.items e.1.tree err) → IsUseFaultIn es err
+fault_is index es i e sight path err ts lists once marks at came same fault = record {
+  front = take i es;
+  file = e;
+  back = drop (i + 1) es;
+  splits = split_file es i e at;
+  before = files_resolve es (take i es) ts came;
+  fault =
+      subst (λ (p : Text). IsUseFault (target_in (all_declared es) (visible_names (outlines es) (path_of e))) (visible_names (outlines es) (path_of e)) (all_names (outlines es)) p e.1.bytes.items e.1.tree err) same
+      (subst (λ (names : Names). IsUseFault (target_in (all_declared es) (visible_names (outlines es) (path_of e))) (visible_names (outlines es) (path_of e)) names path e.1.bytes.items e.1.tree err) (all_are index es lists once)
+      (subst (λ (names : Names). IsUseFault (target_in (all_declared es) names) names (names_seen index.names None) path e.1.bytes.items e.1.tree err) (visible_are index es e sight lists once marks)
+      (subst (λ (ds : List Declared). IsUseFault (target_in ds (names_seen index.names (Some sight))) (names_seen index.names (Some sight)) (names_seen index.names None) path e.1.bytes.items e.1.tree err) (all_declared_are es)
+      (fault (all_standings es) lists.1))));
+}
+
+pub no_memory : (es : List Entry) (i : ℕ) (e : Entry) (ts : List (List Target)) → slice_get es i ≡ Some e → map (map Some) ts ≡ map (file_targets es) (take i es) → IsUseFaultIn es error.Memory
+no_memory es i e ts at came = record {
+  front = take i es;
+  file = e;
+  back = drop (i + 1) es;
+  splits = split_file es i e at;
+  before = files_resolve es (take i es) ts came;
+  fault = tt;
+}
 
 pub among_at : (es : List Entry) (i : ℕ) (e : Entry) → slice_get es i ≡ Some e → IsAmong es e
 among_at es i e at = (i, (slice_get_within es i e at, sym (get_or_from_slice_get es i e e at)))
@@ -117,21 +175,21 @@ twice_counts X es (error.SourceFailed place) fault = absurd fault
 twice_counts X es (error.Lex f place) fault = refl
 twice_counts X es (error.Syntax f place) fault = refl
 
-use_counts : (X : Type 0) (visible all : Names) (path text : Text) (file : tree.FileTree.FileTree) (e : errors.LinkError) → IsUseFault visible all path text file e
+use_counts : (X : Type 0) (resolve : Resolution) (visible all : Names) (path text : Text) (file : tree.FileTree.FileTree) (e : errors.LinkError) → IsUseFault resolve visible all path text file e
     → failures_of {X = X} (Err e) ≡ 0
-use_counts X visible all path text file (error.DuplicateName place) fault = refl
-use_counts X visible all path text file error.Memory fault = refl
-use_counts X visible all path text file (error.UnknownName place) fault = refl
-use_counts X visible all path text file (error.NotAType place) fault = refl
-use_counts X visible all path text file (error.NotImported place) fault = refl
-use_counts X visible all path text file (error.MissingFile place) fault = refl
-use_counts X visible all path text file (error.ImportCycle place) fault = refl
-use_counts X visible all path text file (error.DuplicateImport place) fault = refl
-use_counts X visible all path text file (error.TooManyFiles place) fault = refl
-use_counts X visible all path text file (error.SourceFailed place) fault = absurd fault
-use_counts X visible all path text file (error.Lex f place) fault = refl
-use_counts X visible all path text file (error.Syntax f place) fault = refl
+use_counts X resolve visible all path text file (error.DuplicateName place) fault = refl
+use_counts X resolve visible all path text file error.Memory fault = refl
+use_counts X resolve visible all path text file (error.UnknownName place) fault = refl
+use_counts X resolve visible all path text file (error.NotAType place) fault = refl
+use_counts X resolve visible all path text file (error.NotImported place) fault = refl
+use_counts X resolve visible all path text file (error.MissingFile place) fault = refl
+use_counts X resolve visible all path text file (error.ImportCycle place) fault = refl
+use_counts X resolve visible all path text file (error.DuplicateImport place) fault = refl
+use_counts X resolve visible all path text file (error.TooManyFiles place) fault = refl
+use_counts X resolve visible all path text file (error.SourceFailed place) fault = absurd fault
+use_counts X resolve visible all path text file (error.Lex f place) fault = refl
+use_counts X resolve visible all path text file (error.Syntax f place) fault = refl
 
 pub fault_counts : (X : Type 0) (es : List Entry) (e : errors.LinkError) → IsNameFault es e → failures_of {X = X} (Err e) ≡ 0
 fault_counts X es e (inl twice) = twice_counts X es e twice
-fault_counts X es e (inr (once, (file, among, fault))) = use_counts X _ _ _ _ _ e fault
+fault_counts X es e (inr (once, f)) = use_counts X _ _ _ _ _ _ e f.fault

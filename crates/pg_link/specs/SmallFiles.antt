@@ -48,6 +48,17 @@ shadowed = visible_names
     (names_of_file Done (word (codes "q") ∷ word (codes "p") ∷ []) (Within Message (word (codes "M")) Done Done))
     ∷ file (codes "a.proto") [] (names_of_file Done (word (codes "p") ∷ []) (Within Message (word (codes "K")) Done Done)) ∷ []) (codes "m.proto")
 
+-- package x.y; message M { } with these imports, of a.proto (package p; message K { }) and of c.proto (package x.p;)
+abbrev pub within_x : List Import → Names
+within_x imports = visible_names
+    (file (codes "m.proto") imports
+    (names_of_file Done (word (codes "x") ∷ word (codes "y") ∷ []) (Within Message (word (codes "M")) Done Done))
+    ∷ file (codes "a.proto") [] (names_of_file Done (word (codes "p") ∷ []) (Within Message (word (codes "K")) Done Done))
+    ∷ file (codes "c.proto") [] (names_of_file Done (word (codes "x") ∷ word (codes "p") ∷ []) Done) ∷ []) (codes "m.proto")
+
+abbrev pub in_x : List Text
+in_x = codes "x" ∷ codes "y" ∷ codes "M" ∷ []
+
 -- a.proto (message M { }) imports b.proto, which imports c.proto by this line; c.proto (message K { }) imports
 -- d.proto (enum E) publicly
 abbrev pub chain : Import → List File
@@ -84,6 +95,9 @@ pub record SmallFiles : Type 0 where
   -- the inner package part shadows the outer one
   pub package_shadows : found shadowed (codes "q" ∷ codes "M" ∷ []) (part (codes "p") (codes "K" ∷ [])) ≡ None
   pub leading_dot_sees_behind : found shadowed (codes "q" ∷ codes "M" ∷ []) (full (codes "p") (codes "K" ∷ [])) ≡ Some (codes ".p.K", Message)
+  -- a package part of a file that isn't seen shadows nothing
+  pub unseen_package_shadows_nothing : found (within_x (line (codes "a.proto") ∷ [])) in_x (part (codes "p") (codes "K" ∷ [])) ≡ Some (codes ".p.K", Message)
+  pub seen_package_shadows : found (within_x (line (codes "a.proto") ∷ line (codes "c.proto") ∷ [])) in_x (part (codes "p") (codes "K" ∷ [])) ≡ None
   pub import_is_not_handed_on : found (seen_by (codes "a.proto") (line (codes "c.proto"))) in_m (part (codes "K") []) ≡ None
   pub another_file_has_it : found (all_names (chain (line (codes "c.proto")))) in_m (part (codes "K") []) ≡ Some (codes ".K", Message)
   pub public_import_is_handed_on : found (seen_by (codes "a.proto") (public_line (codes "c.proto"))) in_m (part (codes "K") []) ≡ Some (codes ".K", Message)

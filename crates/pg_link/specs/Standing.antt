@@ -156,14 +156,22 @@ standing file declared = record { file = file; declared = declared }
 abbrev pub standings : ℕ → tree.FileTree.FileTree → List Standing
 standings file t = map (standing file) (file_names t)
 
+-- the first of the names that stands twice: none before it does
+pub record IsFirstTwice (all : List Standing) (s : Standing) : Type 0 where
+  pub front : List Standing
+  pub back : List Standing
+  pub splits : all ≡ front ++ s ∷ back
+  pub none_before : NoneTwice front
+  pub twice : StandsTwice front s
+
 -- the names have come behind the others, none twice
 abbrev pub AddsAll : indexes.Index → indexes.Index → List Standing → Type 0
 AddsAll old new more = (all : List Standing) → Lists old all → Lists new (all ++ more) × (NoneTwice all → NoneTwice (all ++ more))
 
--- one of the names stands twice, at this place in the file
+-- one of the names stands twice, the first that does, at this place in the file
 abbrev pub IsTwice : indexes.Index → ℕ → Text → Text → List Standing → errors.LinkError → Type 0
 IsTwice old number path text more (error.DuplicateName place) = (front back : List Standing) × (d : Declared) × (more ≡ front ++ standing number d ∷ back)
-    × IsPlace place path text d.at × ((all : List Standing) → Lists old all → StandsTwice (all ++ front) (standing number d))
+    × IsPlace place path text d.at × ((all : List Standing) → Lists old all → StandsTwice (all ++ front) (standing number d) × (NoneTwice all → NoneTwice (all ++ front)))
 IsTwice old number path text more error.Memory = Unit {0}
 IsTwice old number path text more (error.MissingFile place) = ⊥
 IsTwice old number path text more (error.ImportCycle place) = ⊥
@@ -184,10 +192,9 @@ standings_from number (e ∷ es) = standings number e.1.tree ++ standings_from (
 abbrev pub all_standings : List Entry → List Standing
 all_standings = standings_from 0
 
--- one of the names of the files stands twice, at its place
+-- one of the names of the files stands twice, at its place: the first that does, in their order
 abbrev pub IsTwiceIn : List Entry → errors.LinkError → Type 0
-IsTwiceIn entries (error.DuplicateName place) = (front back : List Standing) × (s : Standing) × (all_standings entries ≡ front ++ s ∷ back)
-    × StandsTwice front s × ((e : Entry) × (slice_get entries s.file ≡ Some e) × IsPlace place (path_of e) e.1.bytes.items s.declared.at)
+IsTwiceIn entries (error.DuplicateName place) = (s : Standing) × IsFirstTwice (all_standings entries) s × ((e : Entry) × (slice_get entries s.file ≡ Some e) × IsPlace place (path_of e) e.1.bytes.items s.declared.at)
 IsTwiceIn entries error.Memory = Unit {0}
 IsTwiceIn entries (error.MissingFile place) = ⊥
 IsTwiceIn entries (error.ImportCycle place) = ⊥

@@ -1,6 +1,6 @@
 -- What uses of type names resolve to, by number.
-use Rattle.std.specs.Prelude.{ℕ, Bool, true, false, List, map, flat_map, position, Option, None}
-use Rattle.std.specs.List.{filter}
+use Rattle.std.specs.Prelude.{◌==◌, ℕ, Bool, true, false, List, map, flat_map, position, Option, None}
+use Rattle.std.specs.List.{filter, find}
 use Rattle.std.specs.Option.{option_map, option_and_then}
 use Rattle.std.specs.Str.{bytes_eq}
 use Rattle.pg_link.specs.declared.names.Kind.{Kind}
@@ -74,3 +74,21 @@ target_in all visible u = option_and_then (λ f. numbered all u.takes_enums f.0 
 -- what the uses of a file resolve to, one by one
 abbrev pub file_targets : List FileEntry → FileEntry → List (Option Target)
 file_targets files file = map (target_in (all_declared files) (visible_names (outlines files) (path_of file))) (file_uses file.1.tree)
+
+-- ---- by places
+
+-- the first use that begins at this byte
+abbrev pub use_at : List Use → ℕ → Option Use
+use_at uses at = find (λ u. u.at == at) uses
+
+-- what each use resolves to
+abbrev pub Resolution : Type 0
+Resolution = Use → Option Target
+
+-- what the first use that begins at this byte resolves to
+abbrev pub resolved_at : Resolution → List Use → ℕ → Option Target
+resolved_at resolve uses at = option_and_then resolve (use_at uses at)
+
+-- the same in a file
+abbrev pub target_at : List FileEntry → FileEntry → ℕ → Option Target
+target_at files file = resolved_at (target_in (all_declared files) (visible_names (outlines files) (path_of file))) (file_uses file.1.tree)

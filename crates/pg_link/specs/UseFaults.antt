@@ -1,6 +1,7 @@
 -- Uses that resolve to nothing, each at its place.
 use Rattle.std.specs.Prelude.{◌≡◌, ◌⊎◌, ℕ, List, ◌∷◌, ◌++◌}
-use Rattle.std.specs.List.{IsAmong}
+use Rattle.std.specs.List.{All}
+use Rattle.std.specs.Option.{IsSome}
 use Rattle.pg_syntax.specs.declared.tree as tree
 use Rattle.pg_link.specs.declared.error.LinkError as errors
 use Rattle.pg_link.specs.declared.error.LinkError.TheVariants as error
@@ -11,33 +12,35 @@ use Rattle.pg_link.specs.Files.{all_names, visible_names}
 use Rattle.pg_link.specs.Names.{Text, Names}
 use Rattle.pg_link.specs.Standing.{IsTwiceIn, NoneTwice, all_standings}
 use Rattle.pg_link.specs.Resolves.{Reference, NamesNoType}
+use Rattle.pg_link.specs.Targets.{Resolution, all_declared, file_targets, target_in}
 use Rattle.pg_link.specs.Unresolved.{IsHidden, IsUnknown, NamesNoTarget}
 use Rattle.pg_link.specs.Uses.{Use, file_uses}
 use Rattle.pg_link.specs.Walk.{Entry, IsLinked, IsPlace, IsWhole, Refuses, World, outlines, path_of}
 
--- a use of the file that this holds of, at its place
-pub record IsAtUse (path text : Text) (file : tree.FileTree.FileTree) (place : places.Place) (P : Use → Type 0) : Type 0 where
+-- a use of the file that this holds of, at its place; all uses before it resolve
+pub record IsAtUse (resolve : Resolution) (path text : Text) (file : tree.FileTree.FileTree) (place : places.Place) (P : Use → Type 0) : Type 0 where
   pub front : List Use
   pub u : Use
   pub back : List Use
   pub splits : file_uses file ≡ front ++ u ∷ back
+  pub before : All (λ v. IsSome (resolve v)) front
   pub is_place : IsPlace place path text u.at
   pub holds : P u
 
--- A use is unknown, names what may not stand there, or stands in a file that isn't seen.
-abbrev pub IsUseFault : Names → Names → Text → Text → tree.FileTree.FileTree → errors.LinkError → Type 0
-IsUseFault visible all path text file (error.UnknownName place) = IsAtUse path text file place (λ u. IsUnknown visible all u.scope u.name)
-IsUseFault visible all path text file (error.NotAType place) = IsAtUse path text file place (NamesNoTarget visible)
-IsUseFault visible all path text file (error.NotImported place) = IsAtUse path text file place (λ u. IsHidden visible all u.scope u.name)
-IsUseFault visible all path text file error.Memory = Unit {0}
-IsUseFault visible all path text file (error.MissingFile place) = ⊥
-IsUseFault visible all path text file (error.ImportCycle place) = ⊥
-IsUseFault visible all path text file (error.DuplicateImport place) = ⊥
-IsUseFault visible all path text file (error.DuplicateName place) = ⊥
-IsUseFault visible all path text file (error.TooManyFiles place) = ⊥
-IsUseFault visible all path text file (error.SourceFailed place) = ⊥
-IsUseFault visible all path text file (error.Lex e place) = ⊥
-IsUseFault visible all path text file (error.Syntax e place) = ⊥
+-- A use is unknown, names what may not stand there, or stands in a file that isn't seen: the first that doesn't resolve.
+abbrev pub IsUseFault : Resolution → Names → Names → Text → Text → tree.FileTree.FileTree → errors.LinkError → Type 0
+IsUseFault resolve visible all path text file (error.UnknownName place) = IsAtUse resolve path text file place (λ u. IsUnknown visible all u.scope u.name)
+IsUseFault resolve visible all path text file (error.NotAType place) = IsAtUse resolve path text file place (NamesNoTarget visible)
+IsUseFault resolve visible all path text file (error.NotImported place) = IsAtUse resolve path text file place (λ u. IsHidden visible all u.scope u.name)
+IsUseFault resolve visible all path text file error.Memory = Unit {0}
+IsUseFault resolve visible all path text file (error.MissingFile place) = ⊥
+IsUseFault resolve visible all path text file (error.ImportCycle place) = ⊥
+IsUseFault resolve visible all path text file (error.DuplicateImport place) = ⊥
+IsUseFault resolve visible all path text file (error.DuplicateName place) = ⊥
+IsUseFault resolve visible all path text file (error.TooManyFiles place) = ⊥
+IsUseFault resolve visible all path text file (error.SourceFailed place) = ⊥
+IsUseFault resolve visible all path text file (error.Lex e place) = ⊥
+IsUseFault resolve visible all path text file (error.Syntax e place) = ⊥
 
 -- the fault that says why, at this byte
 abbrev pub Says : Unresolved → Text → Text → ℕ → errors.LinkError → Type 0
@@ -54,10 +57,15 @@ Says w path text at (error.SourceFailed place) = ⊥
 Says w path text at (error.Lex e place) = ⊥
 Says w path text at (error.Syntax e place) = ⊥
 
--- a use in one of the files is at fault
-abbrev pub IsUseFaultIn : List Entry → errors.LinkError → Type 0
-IsUseFaultIn files e = (file : Entry) × IsAmong files file
-    × IsUseFault (visible_names (outlines files) (path_of file)) (all_names (outlines files)) (path_of file) file.1.bytes.items file.1.tree e
+-- A use in one of the files is at fault: the first that doesn't resolve, in their order.
+pub record IsUseFaultIn (files : List Entry) (e : errors.LinkError) : Type 0 where
+  pub front : List Entry
+  pub file : Entry
+  pub back : List Entry
+  pub splits : files ≡ front ++ file ∷ back
+  pub before : All (λ f. All IsSome (file_targets files f)) front
+  pub fault : IsUseFault (target_in (all_declared files) (visible_names (outlines files) (path_of file)))
+      (visible_names (outlines files) (path_of file)) (all_names (outlines files)) (path_of file) file.1.bytes.items file.1.tree e
 
 -- a name of the files stands twice, or, where none does, a use is at fault
 abbrev pub IsNameFault : List Entry → errors.LinkError → Type 0

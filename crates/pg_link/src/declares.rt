@@ -14,7 +14,7 @@ use std::alloc::{AllocError, Global};
 
 /// A name that a file declares, in full and with a dot in front, and the first byte of the word that declares it.
 #[derive(Debug, Drop)]
-pub struct DeclaredName {
+pub(crate) struct DeclaredName {
     pub name: String,
     pub kind: Kind,
     pub at: usize,
@@ -24,7 +24,11 @@ pub struct DeclaredName {
 fn within(alloc: Global, scope: &str, word: &str) -> Result<String, AllocError>
     ensures { IfOk result (λ name. string_bytes name ≡ spec.within scope.now word.now) }
 {
-    format!(in alloc; "{scope}.{word}")
+    let room = scope.len().saturating_add(word.len()).saturating_add(1);
+    let mut name = String::with_capacity(alloc, room)?;
+    name.push_str(scope)?;
+    push_word(&mut name, word)?;
+    Ok(name)
 }
 
 /// Puts a name behind the others.
@@ -361,7 +365,10 @@ fn add_package(
 }
 
 /// The names that a file declares, in the order of the words that declare them.
-pub fn declared_names(alloc: Global, file: &FileTree) -> Result<Vec<DeclaredName>, AllocError>
+pub(crate) fn declared_names(
+    alloc: Global,
+    file: &FileTree,
+) -> Result<Vec<DeclaredName>, AllocError>
     ensures { IfOk result (λ names. map outline.declared_of names.items ≡ outline.file_names file.now) }
 {
     let mut names = Vec::new(alloc);

@@ -155,13 +155,16 @@ impl Index {
 /// in which their names are looked at; each is numbered by its place.
 ///
 /// E304 where a name is declared twice, and not both times as a part of a package: at the later of the two.
-pub fn index_names(alloc: Global, files: &IndexMap<String, SourceFile>) -> Result<Index, LinkError>
+pub(crate) fn index_names(
+    alloc: Global,
+    files: &IndexMap<String, SourceFile>,
+) -> Result<Index, LinkError>
     // The index holds just the names that the files declare, and none stands twice.
     ensures holds { IfOk result (λ index. spec.Holds index.names (spec.all_standings files.now.entries)) }
     ensures once { OnOk result (spec.NoneTwice (spec.all_standings files.now.entries)) }
     // Each message type and enum has its number.
     ensures numbered { IfOk result (λ index. spec.IsNumbered index (spec.all_standings files.now.entries)) }
-    // A name is refused only where it stands twice, at its place.
+    // A name is refused only where it is the first that stands twice, at its place.
     ensures twice { IfErr result (spec.IsTwiceIn files.now.entries) }
 {
     let mut index = Index {

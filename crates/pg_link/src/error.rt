@@ -16,13 +16,8 @@ pub struct Place {
     pub column: usize,
 }
 
-/// The place of a byte of the file's text.
-pub(crate) fn place_in(
-    alloc: Global,
-    file: &str,
-    text: &[u8],
-    at: usize,
-) -> Result<Place, AllocError>
+/// The place of a byte of the file's text, which may be its end. Fails only where memory is refused.
+pub fn place_in(alloc: Global, file: &str, text: &[u8], at: usize) -> Result<Place, AllocError>
     ensures { IfOk result (λ place. spec.IsPlace place file.now text.now at) }
 {
     let file = String::from_str(alloc, file)?;

@@ -22,6 +22,7 @@ pub struct Folder<'a, R> {
 }
 
 impl<'a, R: Files> Folder<'a, R> {
+    /// The files that these give. It has not failed yet.
     pub fn new(files: &'a R) -> Folder<'a, R> {
         Folder {
             files,

@@ -8,7 +8,7 @@ use std::alloc::{AllocError, Global};
 
 /// An import statement, with the first byte of its literal.
 #[derive(Debug, Drop)]
-pub struct ImportLine {
+pub(crate) struct ImportLine {
     pub path: String,
     pub is_public: bool,
     pub at: usize,

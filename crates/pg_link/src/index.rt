@@ -1,6 +1,6 @@
 //! The names of all files, by their full names.
 ghost use Rattle.std.specs.HashMap.{get_by_text};
-ghost use Rattle.std.specs.Prelude.{◌≡◌, ◌++◌, IfOk, IfSome, OnOk, Some, None, [], ◌∷◌, string_bytes};
+ghost use Rattle.std.specs.Prelude.{◌≡◌, ◌++◌, IfOk, IfSome, List, OnOk, Some, None, [], ◌∷◌, string_bytes, true, ℕ};
 ghost use Rattle.std.specs.Option.{option_map};
 ghost use Rattle.pg_link.specs.Index as spec;
 ghost use Rattle.pg_link.specs.Names as names;
@@ -11,15 +11,36 @@ use indexmap::IndexMap;
 use pg_syntax::tree::{Name, TypeName};
 use std::alloc::{AllocError, Global};
 
-/// Whether one of the files is seen. Without a sight all are.
-fn is_seen(sight: Option<&[bool]>, files: &[usize]) -> bool
+/// What a file sees: its own number, and for each file whether it sees it.
+#[derive(Clone, Copy)]
+pub(crate) struct Sight<'a> {
+    pub own: usize,
+    pub marks: &'a [bool],
+}
+
+/// Whether the file that sees is one of these, and sees itself.
+fn is_own(sight: Sight<'_>, files: &[usize]) -> bool
+    ensures { result ≡ true → spec.sees_one sight.entry.marks.now files.now ≡ true }
+{
+    match files.binary_search(&sight.own) {
+        Ok(_) => sight.marks.get(sight.own).copied().unwrap_or(false),
+        Err(_) => false,
+    }
+}
+
+/// Whether one of the files is seen. Without a sight all are. A part of a package may stand in all files, and mostly
+/// stands in the one that asks, so that is looked at first.
+fn is_seen(sight: Option<Sight<'_>>, files: &[usize]) -> bool
     ensures { result ≡ spec.is_seen (spec.sight_of sight.entry) files.now }
 {
     let Some(sight) = sight else {
         return true;
     };
+    if is_own(sight, files) {
+        return true;
+    }
     for file in files {
-        if sight.get(*file).copied().unwrap_or(false) {
+        if sight.marks.get(*file).copied().unwrap_or(false) {
             return true;
         }
     }
@@ -44,33 +65,43 @@ pub(crate) fn push_word(text: &mut String, word: &str) -> Result<(), AllocError>
     text.push_str(word)
 }
 
+/// As many bytes as most full names have, so that few texts of names grow twice.
+const ROOM: usize = 128;
+
 /// The full name of these words.
 fn called(alloc: Global, words: &[&str]) -> Result<String, AllocError>
     ensures { IfOk result (λ text. string_bytes text ≡ names.called (spec.texts words.now)) }
 {
-    let mut text = String::new(alloc);
+    let mut text = String::with_capacity(alloc, ROOM)?;
     for word in words {
         push_word(&mut text, word)?;
     }
     Ok(text)
 }
 
-/// A name as it would be written behind a dot.
-fn written(alloc: Global, name: &TypeName) -> Result<String, AllocError>
-    ensures { IfOk result (λ text. string_bytes text ≡ resolves.written (resolves.reference name.now)) }
+/// Takes a dot and the word behind it away from the end of the text.
+fn pop_word(text: &mut String, word: &str)
+    requires { (front : List ℕ) × (string_bytes text.old ≡ front ++ names.called (word.now ∷ [])) }
+    ensures { (front : List ℕ) → string_bytes text.old ≡ front ++ names.called (word.now ∷ []) → string_bytes text.new ≡ front }
 {
-    let mut text = String::new(alloc);
-    push_word(&mut text, name.path.first.text.as_str())?;
+    text.truncate(text.len() - word.len() - 1);
+}
+
+/// Puts a name behind the text, as it would be written behind a dot.
+fn push_name(text: &mut String, name: &TypeName) -> Result<(), AllocError>
+    ensures { OnOk result (string_bytes text.new ≡ string_bytes text.old ++ resolves.written (resolves.reference name.now)) }
+{
+    push_word(text, name.path.first.text.as_str())?;
     for part in &name.path.more {
-        push_word(&mut text, part.text.as_str())?;
+        push_word(text, part.text.as_str())?;
     }
-    Ok(text)
+    Ok(())
 }
 
 /// The names of all files, in the order in which they were first declared, and the places among them of the message types
 /// and of the enums.
 #[derive(Debug, Drop)]
-pub struct Index {
+pub(crate) struct Index {
     pub names: IndexMap<String, Named>,
     pub messages: Vec<usize>,
     pub enums: Vec<usize>,
@@ -78,7 +109,7 @@ pub struct Index {
 
 impl Index {
     /// What bears the name in the files that are seen.
-    fn seen(&self, sight: Option<&[bool]>, full: &str) -> Option<(&str, &Named)>
+    fn seen(&self, sight: Option<Sight<'_>>, full: &str) -> Option<(&str, &Named)>
         ensures borne { option_map (λ f. (f.0.now, f.1.now.kind)) result ≡ resolves.borne (spec.names_seen self.now.names (spec.sight_of sight.entry)) full.now }
         ensures held { IfSome result (λ f. get_by_text self.now.names full.now ≡ Some f.1.now) }
     {
@@ -91,7 +122,7 @@ impl Index {
     }
 
     /// Whether the search for the first part of a name ends at this full name.
-    fn ends(&self, sight: Option<&[bool]>, full: &str, parts: &[Name]) -> bool
+    fn ends(&self, sight: Option<Sight<'_>>, full: &str, parts: &[Name]) -> bool
         ensures { result ≡ names.bears (spec.names_seen self.now.names (spec.sight_of sight.entry)) (resolves.sought_among (resolves.part_words parts.now)) full.now }
     {
         match self.seen(sight, full) {
@@ -104,7 +135,7 @@ impl Index {
     fn innermost(
         &self,
         alloc: Global,
-        sight: Option<&[bool]>,
+        sight: Option<Sight<'_>>,
         parts: &[Name],
         word: &str,
         scope: &[&str],
@@ -113,27 +144,46 @@ impl Index {
             (resolves.innermost (spec.names_seen self.now.names (spec.sight_of sight.entry))
             (resolves.sought_among (resolves.part_words parts.now)) (names.called (word.now ∷ [])) (spec.texts scope.now))) }
     {
+        let mut full = called(alloc, scope)?;
         let mut len = scope.len();
         'scopes: loop {
-            let around = &scope[..len];
-            let outer = called(alloc, around)?;
-            let mut full = outer.clone()?;
             push_word(&mut full, word)?;
-            if self.ends(sight, full.as_str(), parts) {
-                return Ok(Some(outer));
+            let ends = self.ends(sight, full.as_str(), parts);
+            pop_word(&mut full, word);
+            if ends {
+                return Ok(Some(full));
             }
             if len == 0 {
                 return Ok(None);
             }
             len -= 1;
+            pop_word(&mut full, scope[len]);
         }
+    }
+
+    /// The full name of the scope in which a name is looked up: it is that of no words where the name has a dot in front.
+    fn scope_of(
+        &self,
+        alloc: Global,
+        sight: Option<Sight<'_>>,
+        scope: &[&str],
+        name: &TypeName,
+    ) -> Result<Option<String>, AllocError>
+        ensures { IfOk result (λ outer. option_map (λ o. string_bytes o ++ resolves.written (resolves.reference name.now)) outer ≡ resolves.meant
+            (spec.names_seen self.now.names (spec.sight_of sight.entry)) (spec.texts scope.now) (resolves.reference name.now)) }
+    {
+        if name.is_full {
+            return Ok(Some(String::with_capacity(alloc, ROOM)?));
+        }
+        let path = &name.path;
+        self.innermost(alloc, sight, &path.more, path.first.text.as_str(), scope)
     }
 
     /// What a name names in a scope, of the files that are seen.
     pub(crate) fn found(
         &self,
         alloc: Global,
-        sight: Option<&[bool]>,
+        sight: Option<Sight<'_>>,
         scope: &[&str],
         name: &TypeName,
     ) -> Result<Option<(&str, &Named)>, AllocError>
@@ -141,16 +191,10 @@ impl Index {
             (spec.names_seen self.now.names (spec.sight_of sight.entry)) (spec.texts scope.now) (resolves.reference name.now)) }
         ensures held { IfOk result (λ f. IfSome f (λ f. get_by_text self.now.names f.0.now ≡ Some f.1.now)) }
     {
-        let written = written(alloc, name)?;
-        if name.is_full {
-            return Ok(self.seen(sight, written.as_str()));
-        }
-        let path = &name.path;
-        let outer = self.innermost(alloc, sight, &path.more, path.first.text.as_str(), scope)?;
-        let Some(mut full) = outer else {
+        let Some(mut full) = self.scope_of(alloc, sight, scope, name)? else {
             return Ok(None);
         };
-        full.push_str(written.as_str())?;
+        push_name(&mut full, name)?;
         Ok(self.seen(sight, full.as_str()))
     }
 }

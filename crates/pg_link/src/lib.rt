@@ -26,24 +26,18 @@ mod targets;
 mod uses;
 mod walk;
 
-pub use below::read_below;
-pub use declares::{DeclaredName, declared_names};
-pub use declaring::index_names;
-pub use error::{LinkError, Place};
+pub use error::{LinkError, Place, place_in};
 pub use folder::Folder;
-pub use index::Index;
 pub use laws::{seen_paths_are_seen, small_files};
 pub use linked::Linked;
 pub use linking::link;
 pub use listed::Listed;
-pub use names::{Kind, Named};
 pub use record::Record;
-pub use resolve::Unresolved;
 pub use sources::{SourceError, Sources};
 pub use tally::Tally;
 pub use target::Target;
 pub use uses::is_scalar;
-pub use walk::{MAX_FILES, SourceFile, Walk, follow_imports};
+pub use walk::SourceFile;
 
 #[cfg(test)]
 mod tests;

@@ -3,7 +3,7 @@ ghost use Rattle.std.specs.Prelude.{◌≡◌, ◌<◌, IfErr, IfNone, IfOk, IfS
 
 use crate::declaring::index_names;
 use crate::error::LinkError;
-use crate::index::Index;
+use crate::index::{Index, Sight};
 use crate::looking::{first_place, is_behind_dot};
 use crate::resolve::Unresolved;
 use crate::sights::sights_of;
@@ -114,7 +114,11 @@ impl Linked {
         ensures refused { IfErr result (λ why. (e : Entry) → slice_get self.now.files file ≡ Some e
             → Refuses (visible_names (outlines self.now.files) (path_of e)) (all_names (outlines self.now.files)) (texts scope.now) (reference name.now) why) }
     {
-        self.index.resolve(alloc, &self.sights[file], scope, name)
+        let sight = Sight {
+            own: file,
+            marks: &self.sights[file],
+        };
+        self.index.resolve(alloc, sight, scope, name)
     }
 
     /// Where a full name, given without its dot, is first declared.

@@ -29,7 +29,8 @@ pub fn link<S: Sources>(
     ensures linked { IfOk result (λ linked. spec.IsLinked (spec.world (S.may_give source.old) (S.may_lack source.old) folder.now (texts roots.now)) linked.files) }
     // No name stands twice, and each use resolves to its target.
     ensures settled { IfOk result IsLinkedUp }
-    // Each refusal comes only where what it names is there, at its place.
+    // Each refusal comes only where what it names is there, at its place: of names that stand twice the first is told, and
+    // where none does the first use that resolves to nothing.
     ensures refused { IfErr result (LinkRefuses (spec.world (S.may_give source.old) (S.may_lack source.old) folder.now (texts roots.now))) }
     // A failure of the source is told as one, and nothing else is.
     ensures counted { S.failures source.new ≡ S.failures source.old + spec.failures_of result }

@@ -6,9 +6,10 @@ ghost use Rattle.pg_lex.specs.Symbol.{placed};
 ghost use Rattle.pg_lex.specs.Faults as lex;
 ghost use Rattle.pg_link.specs.Walk as spec;
 
+use crate::below::read_below;
 use crate::error::{LinkError, Place, place_in};
 use crate::walk::Asking;
-use crate::{SourceError, Sources, read_below};
+use crate::{SourceError, Sources};
 use pg_lex::{LexError, Token};
 use pg_syntax::SyntaxError;
 use pg_syntax::tree::FileTree;

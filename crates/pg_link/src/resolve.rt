@@ -4,14 +4,14 @@ ghost use Rattle.pg_link.specs.Index.{names_seen, texts};
 ghost use Rattle.pg_link.specs.Resolves.{Resolves, reference};
 ghost use Rattle.pg_link.specs.Unresolved.{Refuses, LeavesNone};
 
-use crate::index::Index;
+use crate::index::{Index, Sight};
 use pg_syntax::tree::TypeName;
 use std::alloc::{AllocError, Global};
 use thiserror::Error;
 
 /// Why a name doesn't resolve.
 #[derive(Clone, Copy, Debug, PartialEq, Eq, Error)]
-pub enum Unresolved {
+pub(crate) enum Unresolved {
     #[error("the name is unknown")]
     UnknownName,
     #[error("the name is neither a message type nor an enum")]
@@ -35,17 +35,17 @@ impl From<AllocError> for Unresolved {
 impl Index {
     /// The full name of the message type or enum that a name names in a scope, by the names in the files that
     /// are seen.
-    pub fn resolve(
+    pub(crate) fn resolve(
         &self,
         alloc: Global,
-        sight: &[bool],
+        sight: Sight<'_>,
         scope: &[&str],
         name: &TypeName,
     ) -> Result<&str, Unresolved>
-        ensures resolves { IfOk result (λ full. Resolves (names_seen self.now.names (Some sight.now)) (texts scope.now) (reference name.now) full.now) }
+        ensures resolves { IfOk result (λ full. Resolves (names_seen self.now.names (Some sight.entry.marks.now)) (texts scope.now) (reference name.now) full.now) }
         // Memory aside, a name is refused only where it resolves to none.
-        ensures refused { IfErr result (LeavesNone (names_seen self.now.names (Some sight.now)) (texts scope.now) (reference name.now)) }
-        ensures cause { IfErr result (Refuses (names_seen self.now.names (Some sight.now)) (names_seen self.now.names None) (texts scope.now) (reference name.now)) }
+        ensures refused { IfErr result (LeavesNone (names_seen self.now.names (Some sight.entry.marks.now)) (texts scope.now) (reference name.now)) }
+        ensures cause { IfErr result (Refuses (names_seen self.now.names (Some sight.entry.marks.now)) (names_seen self.now.names None) (texts scope.now) (reference name.now)) }
     {
         match self.found(alloc, Some(sight), scope, name)? {
             Some((full, named)) => {

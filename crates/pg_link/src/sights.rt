@@ -18,9 +18,7 @@ fn mark_all(marks: &mut Vec<bool>, other: &[bool])
     ensures both { (k : ℕ) → get_or marks.new.items k false ≡ (get_or marks.old.items k false || get_or other.now k false) }
 {
     for index in 0..other.len() {
-        if other[index] {
-            marks[index] = true;
-        }
+        marks[index] |= other[index];
     }
 }
 

@@ -8,7 +8,7 @@ ghost use Rattle.pg_link.specs.UseFaults.{IsUseFault, IsUseFaultIn, Says};
 ghost use Rattle.pg_link.specs.Uses.{file_uses};
 
 use crate::error::{LinkError, place_in};
-use crate::index::Index;
+use crate::index::{Index, Sight};
 use crate::resolve::Unresolved;
 use crate::target::Target;
 use crate::uses::uses_of;
@@ -35,13 +35,15 @@ fn use_fault(alloc: Global, path: &str, text: &[u8], at: usize, why: Unresolved)
 fn targets_of(
     alloc: Global,
     index: &Index,
-    sight: &[bool],
+    sight: Sight<'_>,
     path: &str,
     file: &SourceFile,
 ) -> Result<Vec<Target>, LinkError>
     ensures found { IfOk result (λ targets. (all : List Standing) → IsNumbered index.now all
-        → map Some targets.items ≡ map (target_in (declared_in all) (names_seen index.now.names (Some sight.now))) (file_uses file.now.tree)) }
-    ensures fault { IfErr result (IsUseFault (names_seen index.now.names (Some sight.now)) (names_seen index.now.names None) path.now file.now.bytes.items file.now.tree) }
+        → map Some targets.items ≡ map (target_in (declared_in all) (names_seen index.now.names (Some sight.entry.marks.now))) (file_uses file.now.tree)) }
+    // The fault is that of the first use that resolves to nothing.
+    ensures fault { IfErr result (λ e. (all : List Standing) → IsNumbered index.now all
+        → IsUseFault (target_in (declared_in all) (names_seen index.now.names (Some sight.entry.marks.now))) (names_seen index.now.names (Some sight.entry.marks.now)) (names_seen index.now.names None) path.now file.now.bytes.items file.now.tree e) }
 {
     let sites = uses_of(alloc, &file.tree)?;
     let mut targets = Vec::new(alloc);
@@ -69,6 +71,7 @@ pub(crate) fn all_targets(
     requires sights { AreSights files.now.entries (map (λ m. m.items) sights.now) }
     requires same_length { length sights.now ≡ length files.now.entries }
     ensures resolved { IfOk result (λ targets. map (map Some) (map (λ ts. ts.items) targets.items) ≡ map (file_targets files.now.entries) files.now.entries) }
+    // The fault is that of the first use that resolves to nothing, in the order of the files.
     ensures fault { IfErr result (IsUseFaultIn files.now.entries) }
 {
     let mut targets = Vec::new(alloc);
@@ -76,7 +79,10 @@ pub(crate) fn all_targets(
         let Some((path, file)) = files.get_index(number) else {
             continue;
         };
-        let sight = &sights[number];
+        let sight = Sight {
+            own: number,
+            marks: &sights[number],
+        };
         let own = targets_of(alloc, index, sight, path.as_str(), file)?;
         targets.push(own)?;
     }

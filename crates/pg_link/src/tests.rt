@@ -1,7 +1,9 @@
 mod declares_tests;
 mod declaring_tests;
 mod failing_source;
+mod folder_tests;
 mod link_tests;
 mod memory;
+mod scope_tests;
 mod shown;
 mod walk_tests;

@@ -14,7 +14,7 @@ use pg_syntax::tree::FileTree;
 use std::alloc::Global;
 
 /// The most files that are linked.
-pub const MAX_FILES: usize = 1024;
+pub(crate) const MAX_FILES: usize = 1024;
 
 /// A text that was read, and its tree.
 #[derive(Debug, Drop)]
@@ -33,7 +33,7 @@ pub(crate) struct Asking<'a> {
 
 /// The files that were read, and how far.
 #[derive(Debug, Drop)]
-pub struct Walk {
+pub(crate) struct Walk {
     /// By path, each behind those that it imports.
     pub files: IndexMap<String, SourceFile>,
     /// The paths from a root to here, each of which imports the next.
@@ -147,7 +147,7 @@ fn visit<S: Sources>(
 /// in which their imports were done with: each behind those that it imports.
 ///
 /// E301 to E303, E308 and E309 are answered, and the faults of the texts, at the place at which `LinkError` has them.
-pub fn follow_imports<S: Sources>(
+pub(crate) fn follow_imports<S: Sources>(
     alloc: Global,
     source: &mut S,
     folder: &str,

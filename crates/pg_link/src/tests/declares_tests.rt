@@ -1,4 +1,5 @@
-use crate::{Kind, declared_names};
+use crate::declares::declared_names;
+use crate::names::Kind;
 use std::alloc::{AllocError, Global};
 use std::test::*;
 

@@ -1,4 +1,7 @@
-use crate::{Kind, LinkError, Listed, follow_imports, index_names};
+use crate::declaring::index_names;
+use crate::names::Kind;
+use crate::walk::follow_imports;
+use crate::{LinkError, Listed};
 use std::alloc::{AllocError, Global};
 use std::test::*;
 

@@ -39,3 +39,20 @@ fn a_refused_growth_of_a_place_is_told(rt: HostRuntime) -> Result<(), Fail> {
     }
     Ok(())
 }
+
+/// What uses resolve to is listed by place, or memory was refused.
+#[test]
+fn a_refused_growth_of_targets_is_told(rt: HostRuntime) -> Result<(), Fail> {
+    let alloc = rt.alloc();
+    let files: [(&str, &[u8]); 1] = [("c.proto", C)];
+    let Ok(linked) = link(alloc, &mut Listed { files: &files }, ".", &["c.proto"]) else {
+        return Ok(());
+    };
+    if linked.files().is_empty() {
+        return Err(Fail::from("no file"));
+    }
+    if let Ok(found) = linked.targets_by_place(alloc, 0) {
+        assert_eq!(rt; found.len(), 1);
+    }
+    Ok(())
+}

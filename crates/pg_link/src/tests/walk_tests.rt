@@ -1,6 +1,7 @@
 use super::failing_source::FailingSource;
 use super::shown::line;
-use crate::{Listed, Sources, follow_imports, link};
+use crate::walk::follow_imports;
+use crate::{Listed, Sources, link};
 use std::alloc::{AllocError, Global};
 use std::test::*;
 
@@ -16,6 +17,13 @@ const TO_B_TWICE: &[u8] = b"syntax = \"proto3\";\nimport \"b.proto\";\nimport \"
 
 const TO_B_BY_AN_ESCAPE: &[u8] =
     b"syntax = \"proto3\";\nimport \"b.proto\";\nimport \"\\x62.pro\" \"to\";\n";
+
+const TO_B_IN_TWO_WAYS: &[u8] =
+    b"syntax = \"proto3\";\nimport \"b.proto\";\nimport \"./b.proto\";\n";
+
+const TO_NOTHING: &[u8] = b"syntax = \"proto3\";\nimport \"\";\n";
+
+const DECLARES_M: &[u8] = b"syntax = \"proto3\";\nmessage M { }\n";
 
 const OPEN_STRING: &[u8] = b"syntax = \"proto3;\n";
 
@@ -131,26 +139,127 @@ fn importing(alloc: Global, count: u32) -> Result<String, AllocError> {
     Ok(text)
 }
 
-/// What a walk is refused with from a root that imports this many files.
-fn with_imports(alloc: Global, count: u32) -> Result<String, AllocError> {
+/// What the source has for the last of many files.
+#[derive(Clone, Copy)]
+enum Last {
+    Nothing,
+    Empty,
+    OpenString,
+}
+
+/// What a walk is refused with from a root that imports this many files, of which all but the last are empty. The
+/// source fails at its read of this number, counted from 1.
+fn with_last(alloc: Global, count: u32, last: Last, fails_at: u64) -> Result<String, AllocError> {
     let text = importing(alloc, count)?;
+    let before = count.saturating_sub(1);
     let mut names = Vec::new(alloc);
-    for number in 0..count {
+    for number in 0..before {
         names.push(format!(in alloc; "{number}")?)?;
     }
+    let last_name = format!(in alloc; "{before}")?;
     let mut files = Vec::new(alloc);
     files.push(("a.proto", text.as_str().as_bytes()))?;
     for name in &names {
         files.push((name.as_str(), EMPTY))?;
     }
-    from_a(alloc, &files)
+    match last {
+        Last::Nothing => {}
+        Last::Empty => files.push((last_name.as_str(), EMPTY))?,
+        Last::OpenString => files.push((last_name.as_str(), OPEN_STRING))?,
+    }
+    let listed = Listed { files: &files };
+    walked(
+        alloc,
+        &mut FailingSource::new(listed, fails_at),
+        &["a.proto"],
+    )
 }
 
 #[test]
 fn as_many_files_as_there_may_be(rt: HostRuntime) -> Result<(), Fail> {
-    let most = with_imports(rt.alloc(), 1023)?;
+    let most = with_last(rt.alloc(), 1023, Last::Empty, 0)?;
     assert_eq!(rt; most.as_str(), "linked");
-    let more = with_imports(rt.alloc(), 1024)?;
+    let more = with_last(rt.alloc(), 1024, Last::Empty, 0)?;
     assert_eq!(rt; more.as_str(), "E308 a.proto:1025:8");
+    Ok(())
+}
+
+/// The source is asked for the file before the files are counted, and they are counted before its text is looked at.
+#[test]
+fn a_file_too_many_is_read_before_it_is_told(rt: HostRuntime) -> Result<(), Fail> {
+    let missing = with_last(rt.alloc(), 1024, Last::Nothing, 0)?;
+    assert_eq!(rt; missing.as_str(), "E301 a.proto:1025:8");
+    let failed = with_last(rt.alloc(), 1024, Last::Empty, 1025)?;
+    assert_eq!(rt; failed.as_str(), "E309 1023:0:0");
+    let broken = with_last(rt.alloc(), 1024, Last::OpenString, 0)?;
+    assert_eq!(rt; broken.as_str(), "E308 a.proto:1025:8");
+    Ok(())
+}
+
+/// The paths of the files from these roots, in their order.
+fn paths(alloc: Global, files: &[(&str, &[u8])], roots: &[&str]) -> Result<String, AllocError> {
+    let mut text = String::new(alloc);
+    let Ok(linked) = link(alloc, &mut Listed { files }, ".", roots) else {
+        return Ok(text);
+    };
+    for number in 0..linked.files().len() {
+        if let Some((path, _)) = linked.files().get_index(number) {
+            text.push_str(path.as_str())?;
+            text.push_str(" ")?;
+        }
+    }
+    Ok(text)
+}
+
+#[test]
+fn a_root_that_was_read_is_read_once(rt: HostRuntime) -> Result<(), Fail> {
+    let files: [(&str, &[u8]); 2] = [("a.proto", TO_B), ("b.proto", EMPTY)];
+    let twice = paths(rt.alloc(), &files, &["b.proto", "b.proto"])?;
+    assert_eq!(rt; twice.as_str(), "b.proto ");
+    let imported = paths(rt.alloc(), &files, &["a.proto", "b.proto"])?;
+    assert_eq!(rt; imported.as_str(), "b.proto a.proto ");
+    let importing = paths(rt.alloc(), &files, &["b.proto", "a.proto"])?;
+    assert_eq!(rt; importing.as_str(), "b.proto a.proto ");
+    // a third read would fail
+    let listed = Listed { files: &files };
+    let mut source = FailingSource::new(listed, 3);
+    let once = walked(rt.alloc(), &mut source, &["b.proto", "a.proto", "b.proto"])?;
+    assert_eq!(rt; once.as_str(), "linked");
+    Ok(())
+}
+
+/// Paths are compared and asked for as they stand.
+#[test]
+fn two_spellings_of_a_path_are_two_files(rt: HostRuntime) -> Result<(), Fail> {
+    let files: [(&str, &[u8]); 3] = [
+        ("a.proto", TO_B_IN_TWO_WAYS),
+        ("b.proto", DECLARES_M),
+        ("./b.proto", DECLARES_M),
+    ];
+    let named = from_a(rt.alloc(), &files)?;
+    assert_eq!(rt; named.as_str(), "E304 ./b.proto:2:9");
+    let empty = paths(
+        rt.alloc(),
+        &[
+            ("a.proto", TO_B_IN_TWO_WAYS),
+            ("b.proto", EMPTY),
+            ("./b.proto", EMPTY),
+        ],
+        &["a.proto"],
+    )?;
+    assert_eq!(rt; empty.as_str(), "b.proto ./b.proto a.proto ");
+    let none = from_a(rt.alloc(), &[("a.proto", TO_NOTHING)])?;
+    assert_eq!(rt; none.as_str(), "E301 a.proto:2:8");
+    Ok(())
+}
+
+#[test]
+fn a_folder_is_left_out_where_it_is_a_dot_alone(rt: HostRuntime) -> Result<(), Fail> {
+    let mut dotted = Listed {
+        files: &[(".//a.proto", EMPTY)],
+    };
+    assert!(rt; link(rt.alloc(), &mut dotted, "./", &["a.proto"]).is_ok());
+    assert!(rt; link(rt.alloc(), &mut dotted, ".", &["a.proto"]).is_err());
+    assert!(rt; link(rt.alloc(), &mut dotted, ".", &[".//a.proto"]).is_ok());
     Ok(())
 }

@@ -28,4 +28,4 @@ returns-in_err-add_file-clause-twice c =
     let at : slice_get es i ≡ Some e = sym c.in-Some.ensures.entry in
     let p = err_from_is_err_and c.from_residual.result c.from_residual.ensures.1 in
     rw (p.1, p.2) (twice_in c.loop-number.index es i e c.as_str.result.now c.in_err-add_file.field-0.0 at c.as_str.ensures.value
-    c.loop-number.invariant.lists c.in_err-add_file.ensures.twice)
+    c.loop-number.invariant.lists c.loop-number.invariant.once c.in_err-add_file.ensures.twice)

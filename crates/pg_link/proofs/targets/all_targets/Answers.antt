@@ -8,7 +8,7 @@ use Rattle.pg_link.specs.Files.{seen_paths}
 use Rattle.pg_link.specs.Sights.{Marks}
 use Rattle.pg_link.specs.Targets.{file_targets}
 use Rattle.pg_link.specs.Walk.{Entry, outlines, path_of}
-use Rattle.pg_link.proofs.UseFaultLaws.{among_at, fault_is, its_marks, targets_are}
+use Rattle.pg_link.proofs.UseFaultLaws.{fault_is, its_marks, no_memory, targets_are}
 use Rattle.pg_link.proofs.targets.all_targets.Goals as goal
 
 -- the targets of one file more
@@ -33,16 +33,17 @@ returns-in_err-own-clause-fault c =
     its_marks es c.args.sights.now i e c.index-sights-number.result c.deref.result.now c.requires.sights at
     (omega (arith, slice_get_within es i e at, c.requires.same_length)) c.index-sights-number.is c.deref.ensures.value in
     let p = err_from_is_err_and c.from_residual.result c.from_residual.ensures.1 in
-    rw (p.1, p.2) (fault_is c.args.index.now es e c.deref.result.now c.as_str.result.now c.in_err-own.field-0.0 c.requires.lists c.requires.once marks (among_at es i e at)
-    c.as_str.ensures.value c.in_err-own.ensures.fault)
+    rw (p.1, p.2) (fault_is c.args.index.now es i e c.deref.result.now c.as_str.result.now c.in_err-own.field-0.0 (map (λ (t : Vec Target Global). t.items) c.loop-number.targets.items)
+    c.requires.lists c.requires.once marks at c.loop-number.invariant c.as_str.ensures.value c.in_err-own.ensures.fault)
 
 pub returns-in_err-push-clause-fault : goal.returns-in_err-push-clause-fault
 returns-in_err-push-clause-fault c =
     let es : List Entry = c.args.files.now.entries in
     let e : Entry = (c.in-Some.path.now, c.in-Some.file.now) in
-    let at : slice_get es c.loop-number.number ≡ Some e = sym c.in-Some.ensures.entry in
+    let i : ℕ = c.loop-number.number in
+    let at : slice_get es i ≡ Some e = sym c.in-Some.ensures.entry in
     let p = err_from_is_err_and c.from_residual-in_err-push.result c.from_residual-in_err-push.ensures.1 in
-    rw (p.1, p.2) (e, among_at es c.loop-number.number e at, tt)
+    rw (p.1, p.2) (no_memory es i e (map (λ (t : Vec Target Global). t.items) c.loop-number.targets.items) at c.loop-number.invariant)
 
 pub loop-number-preserved : goal.loop-number-preserved
 loop-number-preserved c =

@@ -1,32 +1,50 @@
-use Rattle.std.proofs.Common.{◌≡◌, ◌∷◌, ◌++◌, [], ◌∙◌, ℕ, List, ap, sym, subst, take, true, false, string_bytes, arith}
+use Rattle.std.proofs.Common.{◌≡◌, ◌∷◌, ◌++◌, [], ◌∙◌, ◌+◌, ◌-◌, ◌≤◌, ◌≢◌, ℕ, List, ap, length, sym, subst, take, true, false, string_bytes, slice_index_or, arith}
+use Rattle.std.specs.Borrow.{Bor}
 use Rattle.pg_link.specs.Index.{texts, names_seen, sight_of}
-use Rattle.pg_link.specs.Names.{called, bears}
+use Rattle.pg_link.specs.Names.{Text, called, bears}
 use Rattle.pg_link.specs.Resolves.{sought_among, part_words}
-use Rattle.pg_link.proofs.ResolvesLaws.{ends_here, goes_outwards}
+use Rattle.pg_link.proofs.ResolvesLaws.{called-more, ends_here, goes_outwards}
 use Rattle.pg_link.proofs.index.Index.innermost.Goals as goal
+
+-- the full name of a scope ends in its last word
+last_word : (scope : List (Bor Text)) (len : ℕ) (text : Text) → len ≤ length scope → len ≢ 0 → text ≡ called (texts (take len scope))
+    → text ≡ called (texts (take (len - 1) scope)) ++ called ((slice_index_or scope (len - 1) (record { ref_ptr = (0, 0); now = [] })).now ∷ [])
+last_word scope len text within some is =
+    let next : (len - 1) + 1 ≡ len = omega arith in
+    is ∙ (ap (λ (n : ℕ). called (texts (take n scope))) (sym next) ∙ called-more (λ (w : Bor Text). w.now) scope (len - 1) (record { ref_ptr = (0, 0); now = [] }) (omega arith))
+
+pub pop_word-requires-in-scopes : goal.pop_word-requires-in-scopes
+pop_word-requires-in-scopes c = (
+  called (texts (take (c.scopes.len - 1) c.args.scope.now)),
+  last_word c.args.scope.now c.scopes.len (string_bytes c.pop_word.new.text) c.scopes.invariant.within c.if-len-eq0.false
+      (c.pop_word.ensures (string_bytes c.scopes.full) c.in_ok-push_word.ensures ∙ c.scopes.invariant.text),
+)
 
 pub returns-then-ends : goal.returns-then-ends
 returns-then-ends c =
     let names = names_seen c.args.self.now.names (sight_of c.args.sight) in
     let test = sought_among (part_words c.args.parts.now) in
     let part = called (c.args.word.now ∷ []) in
-    let made : c.as_str.result.now ≡ string_bytes c.in_ok-outer.outer ++ part =
-    c.as_str.ensures.value ∙ (c.in_ok-push_word.ensures ∙ ap (λ (t : List ℕ). t ++ part) c.in_ok-full.ensures.cases) in
-    let here : bears names test (string_bytes c.in_ok-outer.outer ++ part) ≡ true =
-    subst (λ (t : List ℕ). bears names test t ≡ true) made (sym c.ends.ensures ∙ c.if-ends.true) in
-    ends_here names test part (texts c.args.scope.now) (texts (take c.scopes.len c.args.scope.now)) (string_bytes c.in_ok-outer.outer)
-    c.scopes.invariant.same c.in_ok-outer.ensures here
+    let outer : Text = string_bytes c.scopes.full in
+    let same : string_bytes c.pop_word.new.text ≡ outer = c.pop_word.ensures outer c.in_ok-push_word.ensures in
+    let here : bears names test (string_bytes c.pop_word.new.text ++ part) ≡ true =
+    subst (λ (t : Text). bears names test t ≡ true) (c.as_str.ensures.value ∙ (c.in_ok-push_word.ensures ∙ ap (λ (t : Text). t ++ part) (sym same))) (sym c.ends-ends.ensures ∙ c.if-ends.true) in
+    ends_here names test part (texts c.args.scope.now) (texts (take c.scopes.len c.args.scope.now)) (string_bytes c.pop_word.new.text)
+    c.scopes.invariant.same (same ∙ c.scopes.invariant.text) here
 
 pub scopes-preserved : goal.scopes-preserved
 scopes-preserved c =
     let names = names_seen c.args.self.now.names (sight_of c.args.sight) in
     let test = sought_among (part_words c.args.parts.now) in
     let part = called (c.args.word.now ∷ []) in
-    let made : c.as_str.result.now ≡ called (texts (take c.scopes.len c.args.scope.now)) ++ part =
-    c.as_str.ensures.value ∙ (c.in_ok-push_word.ensures ∙ ap (λ (t : List ℕ). t ++ part) (c.in_ok-full.ensures.cases ∙ c.in_ok-outer.ensures)) in
     let none : bears names test (called (texts (take c.scopes.len c.args.scope.now)) ++ part) ≡ false =
-    subst (λ (t : List ℕ). bears names test t ≡ false) made (sym c.ends.ensures ∙ c.if-ends.false) in
+    subst (λ (t : Text). bears names test t ≡ false) (c.as_str.ensures.value ∙ (c.in_ok-push_word.ensures ∙ ap (λ (t : Text). t ++ part) c.scopes.invariant.text))
+    (sym c.ends-ends.ensures ∙ c.if-ends.false) in
     record {
-      within = omega arith;
+      within = omega (arith, c.scopes.invariant.within);
+      text =
+          c.pop_word-in-scopes.ensures (called (texts (take (c.scopes.len - 1) c.args.scope.now)))
+          (last_word c.args.scope.now c.scopes.len (string_bytes c.pop_word.new.text) c.scopes.invariant.within c.if-len-eq0.false
+          (c.pop_word.ensures (string_bytes c.scopes.full) c.in_ok-push_word.ensures ∙ c.scopes.invariant.text));
       same = goes_outwards names test part c.args.scope.now c.scopes.len c.scopes.invariant.within c.if-len-eq0.false none ∙ c.scopes.invariant.same;
     }

@@ -1,4 +1,4 @@
-use Rattle.std.proofs.Common.{◌≡◌, ◌≤◌, ◌∷◌, [], take, length}
+use Rattle.std.proofs.Common.{◌≡◌, ◌≤◌, ◌∷◌, [], take, length, string_bytes}
 use Rattle.pg_link.specs.Index.{texts, names_seen, sight_of}
 use Rattle.pg_link.specs.Names.{called}
 use Rattle.pg_link.specs.Resolves.{innermost, sought_among, part_words}
@@ -7,6 +7,7 @@ use Rattle.pg_link.proofs.index.Index.innermost.Given as goal
 abbrev pub invariant-scopes : goal.invariant-scopes
 invariant-scopes l = record {
   within : l.len ≤ length l.scope;
+  text : string_bytes l.full ≡ called (texts (take l.len l.scope));
   same : innermost (names_seen l.self.names (sight_of l.sight)) (sought_among (part_words l.parts)) (called (l.word ∷ [])) (texts (take l.len l.scope))
       ≡ innermost (names_seen l.self.names (sight_of l.sight)) (sought_among (part_words l.parts)) (called (l.word ∷ [])) (texts l.scope);
 }

@@ -1,5 +1,5 @@
 use Rattle.std.proofs.Common.{◌≡◌, ◌∙◌, ◌<◌, ℕ, List, Some, Vec, length, map, slice_get, refl, sym, ap, arith}
-use Rattle.std.proofs.lemmas.Option.{same_Some, slice_get-map, slice_get_read}
+use Rattle.std.proofs.lemmas.Option.{slice_get-map, slice_get_read}
 use Rattle.std.proofs.lemmas.List.{length-map}
 use Rattle.std.specs.Global.{Global}
 use Rattle.std.specs.Option.{option_map}
@@ -7,13 +7,8 @@ use Rattle.pg_link.specs.declared.target.Target.{Target}
 use Rattle.pg_link.specs.Linked.{LinkedFiles}
 use Rattle.pg_link.specs.Targets.{file_targets}
 use Rattle.pg_link.specs.Walk.{Entry}
+use Rattle.pg_link.proofs.PlacedLaws.{one_place}
 use Rattle.pg_link.proofs.linked.Linked.targets.Goals as goal
-
--- what stands at one place of equal lists
-one_place : {X Y Z : Type 0} (f : X → Z) (g : Y → Z) (xs : List X) (ys : List Y) (i : ℕ) (x : X) (y : Y) → map f xs ≡ map g ys → slice_get xs i ≡ Some x
-    → slice_get ys i ≡ Some y → f x ≡ g y
-one_place f g xs ys i x y same here there =
-    same_Some (f x) (g y) (sym (slice_get-map f xs i ∙ ap (option_map f) here) ∙ (ap (λ l. slice_get l i) same ∙ (slice_get-map g ys i ∙ ap (option_map g) there)))
 
 within_targets : {X Y Z : Type 0} (f : X → Z) (g : Y → Z) (xs : List X) (ys : List Y) (i : ℕ) → map f xs ≡ map g ys → i < length ys → i < length xs
 within_targets f g xs ys i same within = omega (arith, within, sym (length-map xs f) ∙ (ap length same ∙ length-map ys g))
