@@ -1,5 +1,5 @@
 -- The first rule that files break, one file after the other.
-use Rattle.std.proofs.Common.{◌≡◌, ◌∙◌, ℕ, suc, arith, ◌+◌, ◌-◌, ◌<◌, List, [], ◌∷◌, map, drop, get_or, length, Option, Some, None, sym, ap, subst}
+use Rattle.std.proofs.Common.{◌≡◌, ◌∙◌, ℕ, suc, arith, ◌+◌, ◌-◌, ◌<◌, List, [], ◌∷◌, map, drop, get_or, length, Option, Some, None, sym, ap}
 use Rattle.pg_check.specs.declared.declare.FileFault.{FileFault}
 use Rattle.pg_check.specs.declared.fault.Fault.{Fault}
 use Rattle.pg_check.specs.declared.made_parts.Source as code

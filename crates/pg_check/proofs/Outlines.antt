@@ -1,10 +1,10 @@
 -- A message as a part of another.
-use Rattle.std.proofs.Common.{◌≡◌, ◌∙◌, ℕ, List, [], ◌∷◌, ◌++◌, flat_map, refl, sym, ap}
+use Rattle.std.proofs.Common.{◌≡◌, ◌∙◌, ℕ, List, ◌∷◌, ◌++◌, flat_map, refl, ap}
 use Rattle.pg_syntax.specs.declared.tree as tree
-use Rattle.pg_syntax.specs.declared.tree.Part.{Part, Row_of-Part, end_of-Part, more_of-Part, items-the_row-Part, items_hidden-the_row-Part-0}
+use Rattle.pg_syntax.specs.declared.tree.Part.{Row_of-Part, end_of-Part, more_of-Part, items-the_row-Part, items_hidden-the_row-Part-0}
 use Rattle.pg_syntax.specs.declared.tree.Part.TheBlock.{hidden-the_row-Part-0}
 use Rattle.pg_syntax.specs.declared.tree.Part.TheVariants as parts
-use Rattle.pg_check.specs.Outline.{Message, messages_in, messages_of, row_messages, enums_in, enums_of, row_enums, row_list, full_name}
+use Rattle.pg_check.specs.Outline.{messages_in, messages_of, row_messages, enums_in, enums_of, row_enums, row_list, full_name}
 
 row_is : {m : _} (row : Row_of-Part m) → row_list row ≡ items-the_row-Part m row
 row_is end_of-Part = refl

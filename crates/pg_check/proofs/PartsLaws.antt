@@ -1,14 +1,13 @@
 -- What files declare, file after file.
 use Rattle.std.proofs.Common.{◌≡◌, ◌∙◌, ℕ, ◌+◌, ◌<◌, List, [], ◌∷◌, ◌++◌, map, take, get_or, length, sym, subst, ap, refl, Option}
 use Rattle.std.proofs.lemmas.List.{map-append, length-map}
-use Rattle.pg_schema.specs.declared.field.TypeId.{TypeId}
 use Rattle.pg_schema.specs.declared.service.ServiceId.{ServiceId}
 use Rattle.pg_schema.specs.declared.parts.Parts.{Parts}
-use Rattle.pg_check.specs.declared.types.Target.{Target}
+use Rattle.pg_link.specs.declared.target.Target.{Target}
 use Rattle.pg_check.specs.declared.made_parts.Made.{Made}
 use Rattle.pg_check.specs.Groups.{Placed, places_in, type_id, enum_id}
-use Rattle.pg_check.specs.MadeEnums.{enumeration, made_enum}
-use Rattle.pg_check.specs.MadeParts.{Declared, EachIs, FileShape, IsFileOf, IsTypeOf, Source, States, TypeTree, file_services, file_shape, grouped_shape, grouped_tree, placed_enums, placed_messages, type_tree, type_trees, with_file, with_files}
+use Rattle.pg_check.specs.MadeEnums.{enumeration}
+use Rattle.pg_check.specs.MadeParts.{Declared, EachIs, IsFileOf, IsTypeOf, Source, States, file_shape, grouped_shape, grouped_tree, placed_enums, placed_messages, type_tree, type_trees, with_file, with_files}
 use Rattle.pg_check.specs.MadeServices.{service}
 use Rattle.pg_check.specs.Outline.{Message, package_of}
 use Rattle.pg_check.specs.Sources.{IsMadeBy}

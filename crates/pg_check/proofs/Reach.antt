@@ -1,5 +1,5 @@
 -- Numbers among reserved items that stand by rising first numbers.
-use Rattle.std.proofs.Common.{◌≡◌, ◌∙◌, ℕ, zero, suc, ◌+◌, ◌<◌, ◌≤◌, max, Bool, true, false, cond, Some, ◌&&◌, ◌||◌, nat_le, List, [], ◌∷◌, length, map, take, get_or, sym, ap, subst, refl, arith}
+use Rattle.std.proofs.Common.{◌≡◌, ◌∙◌, ℕ, zero, suc, ◌<◌, ◌≤◌, max, Bool, true, false, cond, Some, ◌&&◌, ◌||◌, nat_le, List, [], ◌∷◌, length, take, get_or, sym, ap, refl, arith}
 use Rattle.std.specs.List.{list_any}
 use Rattle.std.specs.List.Sorted.{IsNonDecreasingBy, IsPartitionedBy, IsPartitionPoint, IsPermutation}
 use Rattle.std.proofs.lemmas.Bool.Decides.{nat_tests}

@@ -5,7 +5,7 @@ use Rattle.std.specs.String.{string_bytes}
 use Rattle.std.proofs.lemmas.List.{get_or-map, length-map, map_more}
 use Rattle.pg_schema.specs.TextSets.{is_among}
 use Rattle.pg_check.specs.declared.names.Titled.{Titled}
-use Rattle.pg_check.specs.Names.{Named, at, is_same, text_of, titled}
+use Rattle.pg_check.specs.Names.{at, is_same, text_of, titled}
 use Rattle.pg_check.specs.Numbers.{first_again}
 use Rattle.pg_check.proofs.FirstLaws.{again_more, again_found}
 use Rattle.pg_check.proofs.TextSets.{same_among}

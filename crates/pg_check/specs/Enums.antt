@@ -1,5 +1,5 @@
 -- Enums (proto3 language specification, "Enum definition"; proto3 language guide, "Enumerations", "Reserved Values").
-use Rattle.std.specs.Prelude.{ℕ, Bool, true, false, not, nat_eq, ◌&&◌, ◌||◌, List, [], ◌∷◌, map, flat_map, codes, Option, Some, None, string_bytes, if◌then◌else◌}
+use Rattle.std.specs.Prelude.{ℕ, Bool, true, false, nat_eq, ◌&&◌, List, [], ◌∷◌, map, flat_map, codes, Option, Some, None, string_bytes, if◌then◌else◌}
 use Rattle.std.specs.List.{list_any}
 use Rattle.pg_check.specs.declared.fault.Fault.{Fault}
 use Rattle.pg_check.specs.declared.fault.Rule.TheVariants as rules

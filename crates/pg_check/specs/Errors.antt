@@ -1,5 +1,5 @@
 -- How a broken rule is told.
-use Rattle.std.specs.Prelude.{◌≡◌, ℕ, List, map, Some, slice_get}
+use Rattle.std.specs.Prelude.{◌≡◌, List, Some, slice_get}
 use Rattle.pg_link.specs.declared.error.Place.{Place}
 use Rattle.pg_link.specs.Walk.{IsPlace}
 use Rattle.pg_schema.specs.declared.parts.Parts.{Parts}
@@ -9,9 +9,8 @@ use Rattle.pg_check.specs.declared.error.CheckError.{CheckError}
 use Rattle.pg_check.specs.declared.error.CheckError.TheVariants as errors
 use Rattle.pg_check.specs.declared.fault.Rule.{Rule}
 use Rattle.pg_check.specs.declared.fault.Rule.TheVariants as rules
-use Rattle.pg_check.specs.declared.made_parts.Source as code
 use Rattle.pg_check.specs.Declares.{Declares, first_broken}
-use Rattle.pg_check.specs.Sources.{source}
+use Rattle.pg_check.specs.MadeParts.{Source}
 
 abbrev pub error_of : Rule → Place → CheckError
 error_of rules.BadNumber place = errors.BadNumber place
@@ -30,23 +29,23 @@ error_of rules.TooManyTypes place = errors.TooManyTypes place
 error_of rules.EnumEmpty place = errors.EnumEmpty place
 
 -- the first rule that the files break is told at its place
-pub record IsTold (files : List code.Source) (e : CheckError) : Type 0 where
+pub record IsTold (files : List Source) (e : CheckError) : Type 0 where
   pub fault : FileFault
-  pub is_first : first_broken (map source files) ≡ Some fault
-  pub file : code.Source
+  pub is_first : first_broken files ≡ Some fault
+  pub file : Source
   pub is_there : slice_get files fault.file ≡ Some file
   pub place : Place
-  pub is_place : IsPlace place file.path.now file.text.now fault.fault.at
+  pub is_place : IsPlace place file.path file.text fault.fault.at
   pub is : e ≡ error_of fault.fault.rule place
 
 -- the files keep to the rules, and yet their parts are none of a schema
-pub record AreBadParts (files : List code.Source) : Type 0 where
+pub record AreBadParts (files : List Source) : Type 0 where
   pub parts : Parts
-  pub declared : Declares (map source files) parts
+  pub declared : Declares files parts
   pub unsound : IsSound parts → ⊥
 
 -- a refusal names the first rule that is broken, or finds the parts bad
-abbrev pub IsRefused : List code.Source → CheckError → Type 0
+abbrev pub IsRefused : List Source → CheckError → Type 0
 IsRefused files errors.Memory = Unit {0}
 IsRefused files (errors.BadParts place) = AreBadParts files
 IsRefused files (errors.BadNumber place) = IsTold files (errors.BadNumber place)

@@ -1,4 +1,5 @@
--- What the rules take and what they refuse, by small examples. Bytes stand for places of a text.
+-- What the rules take and what they refuse, by small examples. Bytes stand for places of a text. What takes a tree of a text
+-- to say (keys of maps, which options there are, a whole file) is shown by tests: such trees are long to write out.
 use Rattle.std.specs.Prelude.{◌≡◌, ℕ, Bool, true, false, List, [], ◌∷◌, codes, Option, Some, None}
 use Rattle.pg_schema.specs.JsonName.{default_json_name}
 use Rattle.pg_check.specs.declared.fault.Fault.{Fault}
@@ -8,12 +9,12 @@ use Rattle.pg_check.specs.declared.numbers.Keyed.{Keyed}
 use Rattle.pg_check.specs.declared.numbers.Numbers.{Numbers}
 use Rattle.pg_check.specs.Enums as enums
 use Rattle.pg_check.specs.Faults.{broken_at, earlier, option_fault}
-use Rattle.pg_check.specs.MadeNumbers.{field_number, of_rank, value_number}
+use Rattle.pg_check.specs.MadeNumbers.{field_number, value_number}
 use Rattle.pg_check.specs.Messages as messages
 use Rattle.pg_check.specs.Names as names
 use Rattle.pg_check.specs.Numbers.{rank, is_field_number}
 use Rattle.pg_check.specs.Options.{OptionAt, first_bad}
-use Rattle.pg_check.specs.Types.{is_packable_scalar}
+use Rattle.pg_check.specs.Types.{is_packable}
 use Rattle.pg_schema.specs.declared.field.Scalar.TheVariants as scalars
 use Rattle.std.specs.Prelude.{pos, negsuc}
 
@@ -58,7 +59,7 @@ pub record WorkedRules : Type 0 where
   pub no_value : enums.empty_at 17 [] ≡ Some 17
   pub wrong_option : first_bad (stated (codes "ctype") false 25 ∷ []) ≡ Some 25
   pub option_twice : first_bad (stated (codes "deprecated") true 12 ∷ stated (codes "deprecated") true 38 ∷ []) ≡ Some 38
-  pub packed_text : is_packable_scalar scalars.String ≡ false
+  pub packed_text : is_packable (Some scalars.String) None ≡ false
   pub option_before_packed : earlier (Some (option_fault rules.PackedNotAllowed 19 26)) (Some (option_fault rules.BadOption 19 41)) ≡ Some (option_fault rules.BadOption 19 41)
   pub first_in_text : earlier (told rules.BadOption 12) (told rules.BadNumber 30) ≡ told rules.BadOption 12
   pub made_number : field_number (rank false 7) ≡ 7

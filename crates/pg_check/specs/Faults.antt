@@ -1,6 +1,6 @@
 -- Rules that are broken, and which of them is told. That the first in the text is told, and of one declaration the one that
 -- comes first among the rules, is this profile's choice.
-use Rattle.std.specs.Prelude.{ℕ, Bool, true, false, nat_lt, nat_le, nat_eq, ◌&&◌, ◌||◌, List, [], ◌∷◌, Option, Some, None, if◌then◌else◌}
+use Rattle.std.specs.Prelude.{ℕ, Bool, true, false, nat_lt, nat_le, nat_eq, ◌&&◌, ◌||◌, List, [], ◌∷◌, Option, Some, None}
 use Rattle.std.specs.Option.{option_map}
 use Rattle.pg_check.specs.declared.fault.Fault.{Fault}
 use Rattle.pg_check.specs.declared.fault.Rule.{Rule}

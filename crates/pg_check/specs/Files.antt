@@ -1,11 +1,11 @@
 -- The rules of a whole file (proto3 language specification, "Option", "Service definition", "Proto file"). That there are at
 -- most 4,096 message types is this profile's choice.
-use Rattle.std.specs.Prelude.{ℕ, ◌-◌, List, [], ◌∷◌, ◌++◌, flat_map, length, Option, Some, None, slice_get}
+use Rattle.std.specs.Prelude.{ℕ, List, [], ◌∷◌, ◌++◌, flat_map, Option, Some, None, slice_get}
 use Rattle.std.specs.Option.{option_map}
 use Rattle.pg_check.specs.declared.fault.Fault.{Fault}
 use Rattle.pg_check.specs.declared.fault.Rule.TheVariants as rules
 use Rattle.pg_check.specs.declared.options.Owner.TheVariants as owners
-use Rattle.pg_check.specs.declared.types.Target.{Target}
+use Rattle.pg_link.specs.declared.target.Target.{Target}
 use Rattle.pg_check.specs.Enums.{enum_fault}
 use Rattle.pg_check.specs.Faults.{broken, earlier, earliest, first_fault}
 use Rattle.pg_check.specs.Messages.{body_fault}

@@ -21,5 +21,11 @@ pub mod MadeFiles
 pub mod MadeParts
 pub mod Sources
 pub mod Declares
+pub mod KeepsRules
+pub mod KeptParts
+pub mod NamedParts
+pub mod Rows
 pub mod Examples
 pub mod Errors
+pub mod PartFaults
+pub mod PartErrors

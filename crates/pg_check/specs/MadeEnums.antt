@@ -1,5 +1,5 @@
 -- What an enum declares, as a schema has it (proto3 language specification, "Enum definition").
-use Rattle.std.specs.Prelude.{ℕ, ℤ, Bool, List, [], ◌∷◌, map, flat_map, codes, Option, Some, None, string_bytes}
+use Rattle.std.specs.Prelude.{ℕ, ℤ, Bool, List, [], ◌∷◌, map, flat_map, codes, Option, string_bytes}
 use Rattle.pg_schema.specs.declared.enum_type.EnumType.{EnumType}
 use Rattle.pg_schema.specs.declared.enum_type.EnumValue.{EnumValue}
 use Rattle.pg_schema.specs.declared.enum_type.ReservedValues.{ReservedValues}

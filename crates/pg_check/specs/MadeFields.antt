@@ -12,8 +12,8 @@ use Rattle.pg_schema.specs.declared.field.Scalar.TheVariants as scalars
 use Rattle.pg_schema.specs.declared.options.FieldOptions.{FieldOptions}
 use Rattle.pg_schema.specs.FieldRules.{is_message, stated_or}
 use Rattle.pg_schema.specs.Shape.{is_packable}
-use Rattle.pg_check.specs.declared.types.Target.{Target}
-use Rattle.pg_check.specs.declared.types.Target.TheVariants as targets
+use Rattle.pg_link.specs.declared.target.Target.{Target}
+use Rattle.pg_link.specs.declared.target.Target.TheVariants as targets
 use Rattle.pg_check.specs.MadeNumbers.{field_number, index_of}
 use Rattle.pg_check.specs.MadeOptions.{flag_of}
 use Rattle.pg_check.specs.Members.{Member, Plain, Mapped, json_name, name_of, number_of, settings, settings_of}

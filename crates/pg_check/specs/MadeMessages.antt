@@ -7,11 +7,11 @@ use Rattle.pg_schema.specs.declared.field.TypeId.{TypeId}
 use Rattle.pg_schema.specs.declared.message_type.MessageType as types
 use Rattle.pg_schema.specs.declared.message_type.ReservedFields.{ReservedFields}
 use Rattle.pg_schema.specs.declared.options.MessageOptions.{MessageOptions}
-use Rattle.pg_check.specs.declared.types.Target.{Target}
+use Rattle.pg_link.specs.declared.target.Target.{Target}
 use Rattle.pg_check.specs.MadeFields.{MadeField, field, made_field, made_number}
 use Rattle.pg_check.specs.MadeNumbers.{field_range}
 use Rattle.pg_check.specs.MadeOptions.{flag_of}
-use Rattle.pg_check.specs.Members.{Member, members}
+use Rattle.pg_check.specs.Members.{members}
 use Rattle.pg_check.specs.Messages as rules
 use Rattle.pg_syntax.specs.declared.tree as tree
 use Rattle.pg_syntax.specs.declared.tree.Part.{Part}

@@ -1,5 +1,5 @@
 -- Numbers as a schema has them. A number that its kind can't have comes to 0; a file that breaks no rule has none.
-use Rattle.std.specs.Prelude.{ℕ, ◌-◌, ◌^◌, ℤ, pos, neg_ℤ, Bool, false, nat_lt, nat_le, if◌then◌else◌}
+use Rattle.std.specs.Prelude.{ℕ, ◌-◌, ◌^◌, ℤ, pos, neg_ℤ, false, nat_lt, nat_le, if◌then◌else◌}
 use Rattle.pg_schema.specs.declared.enum_type.ReservedValues.{ReservedValues}
 use Rattle.pg_schema.specs.declared.message_type.ReservedFields.{ReservedFields}
 use Rattle.pg_check.specs.declared.numbers.Numbers.{Numbers}

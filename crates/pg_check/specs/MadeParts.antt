@@ -6,7 +6,7 @@ use Rattle.pg_schema.specs.declared.file.File as files
 use Rattle.pg_schema.specs.declared.message_type.MessageType as messages
 use Rattle.pg_schema.specs.declared.parts.Parts.{Parts}
 use Rattle.pg_schema.specs.declared.service.ServiceId.{ServiceId}
-use Rattle.pg_check.specs.declared.types.Target.{Target}
+use Rattle.pg_link.specs.declared.target.Target.{Target}
 use Rattle.pg_check.specs.Groups.{Placed, placed_from, types_in, enums_in, type_id, enum_id}
 use Rattle.pg_check.specs.MadeEnums.{MadeEnum, enumeration, made_enum}
 use Rattle.pg_check.specs.MadeFiles.{AreOptions, file_import, made_imports, made_options}
@@ -23,9 +23,10 @@ EachIs is [] (y ∷ ys) = ⊥
 EachIs is (x ∷ xs) [] = ⊥
 EachIs is (x ∷ xs) (y ∷ ys) = is x y × EachIs is xs ys
 
--- a file by its path, and what the type name that begins at a byte of it names
+-- a file by its path, its text and its tree, and what the type name that begins at a byte of it names
 pub record Source : Type 0 where
   pub path : List ℕ
+  pub text : List ℕ
   pub tree : tree.FileTree.FileTree
   pub targets : ℕ → Option Target
 

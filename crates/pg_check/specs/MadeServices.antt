@@ -6,8 +6,8 @@ use Rattle.pg_schema.specs.declared.options.ServiceOptions.{ServiceOptions}
 use Rattle.pg_schema.specs.declared.service.Method as methods
 use Rattle.pg_schema.specs.declared.service.Service as services
 use Rattle.pg_schema.specs.declared.service.ServiceId.{ServiceId}
-use Rattle.pg_check.specs.declared.types.Target.{Target}
-use Rattle.pg_check.specs.declared.types.Target.TheVariants as targets
+use Rattle.pg_link.specs.declared.target.Target.{Target}
+use Rattle.pg_link.specs.declared.target.Target.TheVariants as targets
 use Rattle.pg_check.specs.Files.{rpc_body}
 use Rattle.pg_check.specs.MadeNumbers.{index_of}
 use Rattle.pg_check.specs.MadeOptions.{flag_of}

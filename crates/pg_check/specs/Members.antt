@@ -1,7 +1,6 @@
 -- The fields of a message, also maps and members of its oneofs, in order of declaration (proto3 language specification,
 -- "Message definition", "Oneof and oneof field", "Map field"; proto3 language guide, "JSON Mapping").
-use Rattle.std.specs.Prelude.{ℕ, ◌+◌, Bool, true, false, ◌&&◌, List, [], ◌∷◌, ◌++◌, map, flat_map, codes, Option, Some, None, string_bytes, is_some, if◌then◌else◌}
-use Rattle.std.specs.Option.{option_map}
+use Rattle.std.specs.Prelude.{ℕ, ◌+◌, false, List, [], ◌∷◌, ◌++◌, flat_map, codes, Option, Some, None, string_bytes, if◌then◌else◌}
 use Rattle.pg_schema.specs.JsonName.{default_json_name}
 use Rattle.pg_check.specs.declared.member.Member as code
 use Rattle.pg_check.specs.declared.member.Member.TheVariants as codes_of

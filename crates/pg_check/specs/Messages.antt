@@ -6,13 +6,13 @@ use Rattle.pg_check.specs.declared.fault.Rule.TheVariants as rules
 use Rattle.pg_check.specs.declared.numbers.Keyed.{Keyed}
 use Rattle.pg_check.specs.declared.numbers.Numbers.{Numbers}
 use Rattle.pg_check.specs.declared.options.Owner.TheVariants as owners
-use Rattle.pg_check.specs.declared.types.Target.{Target}
+use Rattle.pg_link.specs.declared.target.Target.{Target}
 use Rattle.pg_check.specs.Enums.{is_true}
 use Rattle.pg_check.specs.Faults.{broken, told_at, earlier, or_else, first_fault}
 use Rattle.pg_check.specs.Members.{Member, Plain, Mapped, members, key_of, named, json_named, place_of, settings, settings_of}
 use Rattle.pg_check.specs.Names as names
 use Rattle.pg_check.specs.Numbers as numbers
-use Rattle.pg_check.specs.Options.{OptionAt, in_line, in_settings, is_word, first_bad, first_wrong}
+use Rattle.pg_check.specs.Options.{OptionAt, in_line, in_settings, is_word, first_bad}
 use Rattle.pg_check.specs.ReservedItems.{numbers_in, names_in, items_fault}
 use Rattle.pg_check.specs.Types.{is_key_type, is_packable_type}
 use Rattle.pg_syntax.specs.declared.tree as tree

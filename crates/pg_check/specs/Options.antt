@@ -1,7 +1,6 @@
 -- Options (proto3 language specification, "Option"; descriptor.proto, `FileOptions` and the like). Which are taken, that each
 -- is stated once in its place, and that none stands in a oneof, is this profile's choice.
-use Rattle.std.specs.Prelude.{ℕ, Bool, true, false, not, ◌&&◌, ◌||◌, List, [], ◌∷◌, ◌++◌, map, codes, Option, Some, None, string_bytes, if◌then◌else◌}
-use Rattle.std.specs.List.{list_any}
+use Rattle.std.specs.Prelude.{ℕ, Bool, true, false, not, ◌&&◌, ◌||◌, List, [], ◌∷◌, map, codes, Option, Some, None, string_bytes, if◌then◌else◌}
 use Rattle.std.specs.Str.{bytes_eq}
 use Rattle.pg_check.specs.declared.options.Kind.{Kind}
 use Rattle.pg_check.specs.declared.options.Kind.TheVariants as kinds

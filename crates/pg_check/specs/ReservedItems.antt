@@ -1,7 +1,7 @@
 -- Reserved items (proto3 language specification, "Reserved"; proto3 language guide, "Reserved Fields", "Reserved Values"). That
 -- `max` is the highest number, that no item reaches beyond the numbers of its kind, and that items don't overlap, is this
 -- profile's choice.
-use Rattle.std.specs.Prelude.{ℕ, Bool, not, nat_lt, nat_le, ◌&&◌, List, [], ◌∷◌, ◌++◌, map, Option, Some, None, string_bytes}
+use Rattle.std.specs.Prelude.{ℕ, Bool, not, nat_lt, nat_le, ◌&&◌, List, [], ◌∷◌, map, Option, Some, None}
 use Rattle.pg_check.specs.declared.fault.Fault.{Fault}
 use Rattle.pg_check.specs.declared.fault.Rule.TheVariants as rules
 use Rattle.pg_check.specs.declared.numbers.Numbers.{Numbers}

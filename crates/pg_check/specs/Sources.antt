@@ -1,7 +1,9 @@
--- Files of the code, as sources, and what is made of one.
-use Rattle.std.specs.Prelude.{◌≡◌, ℕ, map}
+-- Files that are linked and files of the code, as sources, and what is made of one.
+use Rattle.std.specs.Prelude.{◌≡◌, ℕ, List, map}
 use Rattle.std.specs.BTreeMap.{get}
 use Rattle.std.specs.Ordering.{nat_cmp}
+use Rattle.pg_link.specs.Targets.{target_at}
+use Rattle.pg_link.specs.Walk.{Entry, path_of}
 use Rattle.pg_check.specs.declared.made_parts.Made.{Made}
 use Rattle.pg_check.specs.declared.made_parts.Source as code
 use Rattle.pg_check.specs.MadeEnums.{enumeration, made_enum}
@@ -10,7 +12,14 @@ use Rattle.pg_check.specs.MadeServices.{service}
 use Rattle.pg_check.specs.Outline.{file_enums}
 
 abbrev pub source : code.Source → Source
-source s = record { path = s.path.now; tree = s.tree.now; targets = get nat_cmp s.targets }
+source s = record { path = s.path.now; text = s.text.now; tree = s.tree.now; targets = get nat_cmp s.targets }
+
+-- a file among those that are linked
+abbrev pub linked_source : List Entry → Entry → Source
+linked_source files e = record { path = path_of e; text = e.1.bytes.items; tree = e.1.tree; targets = target_at files e }
+
+abbrev pub linked_sources : List Entry → List Source
+linked_sources files = map (linked_source files) files
 
 -- behind so many message types, enums and services
 pub record IsMadeBy (types enums services : ℕ) (s : Source) (made : Made) : Type 0 where

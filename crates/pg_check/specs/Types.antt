@@ -4,9 +4,10 @@ use Rattle.std.specs.Prelude.{ℕ, Bool, true, false, not, ◌&&◌, List, [], �
 use Rattle.std.specs.Str.{bytes_eq}
 use Rattle.pg_schema.specs.declared.field.Scalar.{Scalar}
 use Rattle.pg_schema.specs.declared.field.Scalar.TheVariants as scalars
-use Rattle.pg_schema.specs.Shape.{is_key}
-use Rattle.pg_check.specs.declared.types.Target.{Target}
-use Rattle.pg_check.specs.declared.types.Target.TheVariants as targets
+use Rattle.pg_schema.specs.declared.field.Element.TheVariants as elements
+use Rattle.pg_schema.specs.Shape.{is_key, is_packable as is_packable_element}
+use Rattle.pg_link.specs.declared.target.Target.{Target}
+use Rattle.pg_link.specs.declared.target.Target.TheVariants as targets
 use Rattle.pg_check.specs.Options.{is_alone}
 use Rattle.pg_syntax.specs.declared.tree as tree
 
@@ -50,11 +51,6 @@ is_key_scalar (Some s) = is_key s
 abbrev pub is_key_type : tree.TypeName.TypeName → Bool
 is_key_type name = is_key_scalar (scalar_named name)
 
-abbrev pub is_packable_scalar : Scalar → Bool
-is_packable_scalar scalars.String = false
-is_packable_scalar scalars.Bytes = false
-is_packable_scalar s = true
-
 abbrev pub is_enum : Option Target → Bool
 is_enum None = false
 is_enum (Some (targets.Message n)) = false
@@ -62,7 +58,7 @@ is_enum (Some (targets.Enum n)) = true
 
 abbrev pub is_packable : Option Scalar → Option Target → Bool
 is_packable None target = is_enum target
-is_packable (Some s) target = is_packable_scalar s
+is_packable (Some s) target = is_packable_element (elements.Scalar s)
 
 -- a number, bool or enum; `targets` says what the type name that begins at a byte of the file names
 abbrev pub is_packable_type : (ℕ → Option Target) → tree.TypeName.TypeName → Bool

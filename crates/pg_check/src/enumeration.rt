@@ -126,7 +126,7 @@ fn has_aliases(body: &[EnumPart]) -> bool
 }
 
 /// The place of the first value, where it isn't 0.
-fn first_not_zero(keys: &[Keyed]) -> Option<usize>
+pub(crate) fn first_not_zero(keys: &[Keyed]) -> Option<usize>
     ensures { result ≡ spec.first_not_zero keys.now }
 {
     match keys {
@@ -142,7 +142,7 @@ fn first_not_zero(keys: &[Keyed]) -> Option<usize>
 }
 
 /// The place of the first value with the number of one before it.
-fn first_alias(
+pub(crate) fn first_alias(
     alloc: Global,
     has_aliases: bool,
     keys: &[Keyed],
@@ -157,7 +157,7 @@ fn first_alias(
 }
 
 /// The place of the enum, where it has no value.
-fn empty_at(place: usize, keys: &[Keyed]) -> Option<usize>
+pub(crate) fn empty_at(place: usize, keys: &[Keyed]) -> Option<usize>
     ensures { result ≡ spec.empty_at place keys.now }
 {
     match keys {
@@ -242,7 +242,7 @@ pub(crate) fn enum_fault(alloc: Global, enumeration: &Enum) -> Result<Option<Fau
     let items = items(alloc, body)?;
     let numbers = numbers_fault(alloc, body, &keys, &items)?;
     let names = names_fault(alloc, body)?;
-    let reserved = items_fault(LOWEST_VALUE, HIGHEST_VALUE, &items);
+    let reserved = items_fault(alloc, LOWEST_VALUE, HIGHEST_VALUE, &items)?;
     let options = options_fault(alloc, body)?;
     let empty = broken(Rule::EnumEmpty, empty_at(enumeration.name.span.from, &keys));
     let in_body = earlier(numbers, earlier(names, earlier(reserved, options)));

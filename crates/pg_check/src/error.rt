@@ -1,17 +1,16 @@
 //! Why files or parts declare no schema.
 
-ghost use Rattle.std.specs.Prelude.{◌≡◌, IfOk};
+ghost use Rattle.std.specs.Prelude.{◌≡◌};
 ghost use Rattle.pg_check.specs.Errors as spec;
-ghost use Rattle.pg_link.specs.Walk.{IsPlace};
 
 use crate::fault::Rule;
 use pg_link::Place;
 use std::alloc::{AllocError, Global};
 use thiserror::Error;
 
-/// Why files declare no schema. Each place is that of the declared name, or of the first token of an
-/// option or a reserved item (proto3 language specification; proto3 language guide).
-#[derive(Debug, Drop, Error)]
+/// Why files or parts declare no schema. Of parts that come from no text, and of `BadParts`, the place is
+/// none; else it is that of the declared name, or of the first token of an option or a reserved item (proto3 language specification; proto3 language guide).
+#[derive(Debug, PartialEq, Eq, Drop, Error)]
 pub enum CheckError {
     /// E401: the number of a field, a value or a reserved item is none that may stand.
     #[error("the number may not stand")]
@@ -93,18 +92,4 @@ pub(crate) fn error_of(rule: Rule, place: Place) -> CheckError
         Rule::TooManyTypes => CheckError::TooManyTypes(place),
         Rule::EnumEmpty => CheckError::EnumEmpty(place),
     }
-}
-
-/// The place of a byte of a file's text.
-pub(crate) fn place_in(
-    alloc: Global,
-    file: &str,
-    text: &[u8],
-    at: usize,
-) -> Result<Place, AllocError>
-    ensures { IfOk result (λ place. IsPlace place file.now text.now at) }
-{
-    let file = String::from_str(alloc, file)?;
-    let (line, column) = pg_lex::place(text, at);
-    Ok(Place { file, line, column })
 }

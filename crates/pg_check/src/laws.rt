@@ -1,8 +1,35 @@
 //! Laws over the definitions alone.
 
+ghost use Rattle.std.specs.Prelude.{◌≡◌, ◌↔◌, List, None};
+ghost use Rattle.pg_schema.specs.Sound.{IsSound};
+ghost use Rattle.pg_schema.specs.declared.parts.Parts.{Parts};
+ghost use Rattle.pg_check.specs.Declares.{Declares, first_broken};
 ghost use Rattle.pg_check.specs.Examples.{WorkedRules};
+ghost use Rattle.pg_check.specs.KeepsRules.{KeepsRules};
+ghost use Rattle.pg_check.specs.KeptParts.{KeptParts};
+ghost use Rattle.pg_check.specs.MadeParts.{Source};
+ghost use Rattle.pg_check.specs.NamedParts.{NamedParts};
 
 /// What the rules take and what they refuse, by small examples.
 pub fn worked_rules()
     ensures { WorkedRules }
+{}
+
+/// No rule is told of files exactly where they keep to the rules, fact by fact: then each message
+/// type, enum, service and option of them does, and there are at most 4,096 message types.
+pub fn keeping_rules()
+    ensures { (files : List Source) → (first_broken files ≡ None) ↔ KeepsRules files }
+{}
+
+/// The parts of files that keep to the rules keep to them too, as far as these go: numbers, reserved
+/// items, presence, oneofs, map keys, packed lists, JSON names, enums, options of files and the count
+/// of message types.
+pub fn kept_parts()
+    ensures { (files : List Source) (parts : Parts) → Declares files parts → KeptParts parts }
+{}
+
+/// The parts of files that keep to the rules are those of a schema where their names stand: where
+/// they are words, what is named is there, each type stands once and in its scope, and full names differ.
+pub fn named_parts()
+    ensures { (files : List Source) (parts : Parts) → Declares files parts → NamedParts parts → IsSound parts }
 {}

@@ -1,8 +1,10 @@
 //! The rules of the proto3 language, from linked files to a checked schema.
 #![tactic(auto)]
 
-mod build;
+mod admitting;
+mod building;
 mod declare;
+mod enum_part_faults;
 mod enumeration;
 mod error;
 mod fault;
@@ -21,13 +23,18 @@ mod member;
 mod message;
 mod names;
 mod numbers;
+mod oneof_members;
 mod options;
 mod outline;
+mod overlaps;
+mod part_faults;
 mod reserved;
+mod types;
 
+pub use admitting::admit;
+pub use building::build;
 pub use error::CheckError;
-pub use laws::worked_rules;
+pub use laws::{keeping_rules, kept_parts, named_parts, worked_rules};
 
 #[cfg(test)]
 mod tests;
-mod types;

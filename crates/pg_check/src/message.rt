@@ -264,7 +264,7 @@ fn members_packed(targets: &Targets, list: &[Member<'_>]) -> Option<Fault>
 }
 
 /// The first rule that the members' numbers and the reserved items break.
-fn numbers_fault(
+pub(crate) fn numbers_fault(
     alloc: Global,
     keys: &[Keyed],
     items: &[Numbers],
@@ -273,7 +273,8 @@ fn numbers_fault(
 {
     let twice = first_twice(alloc, keys)?;
     let reserved = broken(Rule::ReservedNumber, first_reserved(alloc, items, keys)?);
-    let of_items = earlier(reserved, items_fault(LOWEST_FIELD, HIGHEST_FIELD, items));
+    let ranges = items_fault(alloc, LOWEST_FIELD, HIGHEST_FIELD, items)?;
+    let of_items = earlier(reserved, ranges);
     let of_twice = earlier(broken(Rule::DuplicateNumber, twice), of_items);
     Ok(earlier(broken(Rule::BadNumber, first_bad_number(keys)), of_twice))
 }

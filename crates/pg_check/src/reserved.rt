@@ -1,11 +1,11 @@
 //! Reserved items.
 
-ghost use Rattle.std.specs.Prelude.{◌≡◌, ◌++◌, OnOk, map, string_bytes};
-ghost use Rattle.std.specs.List.{list_any};
+ghost use Rattle.std.specs.Prelude.{◌≡◌, ◌++◌, IfOk, OnOk, map, string_bytes};
 ghost use Rattle.pg_check.specs.ReservedItems as spec;
 
 use crate::fault::{Fault, Rule, broken, earlier};
 use crate::numbers::{Numbers, is_within, rank_of};
+use crate::overlaps::first_overlapping;
 use pg_syntax::tree::{Bound, Range, ReservedItems, Text};
 use std::alloc::{AllocError, Global};
 
@@ -108,44 +108,17 @@ fn first_falling(items: &[Numbers]) -> Option<usize>
     None
 }
 
-/// Both items have a number.
-fn overlap(one: Numbers, other: Numbers) -> bool
-    ensures { result ≡ spec.overlap one other }
-{
-    (one.first <= one.last && other.first <= other.last)
-        && (one.first <= other.last && other.first <= one.last)
-}
-
-/// The item has a number of one of these.
-fn overlaps_one(items: &[Numbers], item: Numbers) -> bool
-    ensures { result ≡ list_any (spec.overlap item) items.now }
-{
-    for other in items {
-        if overlap(item, *other) {
-            return true;
-        }
-    }
-    false
-}
-
-/// The place of the first item that has a number of one before it.
-fn first_overlapping(items: &[Numbers]) -> Option<usize>
-    ensures { result ≡ spec.first_overlapping items.now }
-{
-    for (index, item) in items.iter().enumerate() {
-        if overlaps_one(&items[..index], *item) {
-            return Some(item.at);
-        }
-    }
-    None
-}
-
 /// The first rule that reserved items break.
-pub(crate) fn items_fault(lowest: u128, highest: u128, items: &[Numbers]) -> Option<Fault>
-    ensures { result ≡ spec.items_fault lowest highest items.now }
+pub(crate) fn items_fault(
+    alloc: Global,
+    lowest: u128,
+    highest: u128,
+    items: &[Numbers],
+) -> Result<Option<Fault>, AllocError>
+    ensures { IfOk result (λ fault. fault ≡ spec.items_fault lowest highest items.now) }
 {
     let beyond = broken(Rule::BadNumber, first_beyond(lowest, highest, items));
     let falling = broken(Rule::RangeOverlap, first_falling(items));
-    let overlapping = broken(Rule::RangeOverlap, first_overlapping(items));
-    earlier(beyond, earlier(falling, overlapping))
+    let overlapping = broken(Rule::RangeOverlap, first_overlapping(alloc, items)?);
+    Ok(earlier(beyond, earlier(falling, overlapping)))
 }

@@ -6,16 +6,10 @@ ghost use Rattle.std.specs.Ordering.{nat_cmp};
 ghost use Rattle.std.specs.BTreeMap.{get};
 ghost use Rattle.pg_check.specs.Types as spec;
 
-use pg_schema::Scalar;
+use pg_link::Target;
+use pg_schema::{Element, Scalar};
 use pg_syntax::tree::TypeName;
 use std::collections::BTreeMap;
-
-/// What a type name names: a message type or an enum, by its place among those of all files.
-#[derive(Clone, Copy, Debug, PartialEq, Eq)]
-pub(crate) enum Target {
-    Message(usize),
-    Enum(usize),
-}
 
 /// What the type names of a file name, by the byte at which each begins.
 pub(crate) type Targets = BTreeMap<usize, Target>;
@@ -88,7 +82,7 @@ pub(crate) fn is_packable_type(targets: &Targets, name: &TypeName) -> bool
     ensures { result ≡ spec.is_packable_type (get nat_cmp targets.now) name.now }
 {
     match scalar_named(name) {
-        Some(scalar) => !matches!(scalar, Scalar::String | Scalar::Bytes),
+        Some(scalar) => Element::Scalar(scalar).is_packable(),
         None => is_enum(targets, name.span.from),
     }
 }

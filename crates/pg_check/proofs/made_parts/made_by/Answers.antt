@@ -1,8 +1,6 @@
 use Rattle.std.proofs.Common.{◌∙◌, map, ap, subst}
-use Rattle.std.specs.BTreeMap.{get}
-use Rattle.std.specs.Ordering.{nat_cmp}
 use Rattle.pg_check.specs.Groups.{group}
-use Rattle.pg_check.specs.MadeEnums.{enumeration, made_enum}
+use Rattle.pg_check.specs.MadeEnums.{made_enum}
 use Rattle.pg_check.specs.MadeParts.{EachIs, IsFileOf, IsTypeOf, grouped_tree, placed_enums, placed_messages}
 use Rattle.pg_check.specs.MadeServices.{service, service_ids}
 use Rattle.pg_check.specs.Outline as outline

@@ -1,4 +1,4 @@
-use Rattle.std.proofs.Common.{◌≡◌, true, map, take, sym, subst}
+use Rattle.std.proofs.Common.{true, map, take, sym, subst}
 use Rattle.std.proofs.lemmas.Map.Text.{btree_set_updates_text}
 use Rattle.std.specs.String.{string_bytes}
 use Rattle.pg_schema.specs.TextSets.{IsSetOf}

@@ -1,5 +1,4 @@
 use Rattle.std.proofs.Common.{ap, ◌∙◌}
-use Rattle.pg_check.specs.declared.numbers.Numbers.{Numbers}
 use Rattle.pg_check.specs.Numbers.{first_reserved}
 use Rattle.pg_check.proofs.Reach.{reserved_moved}
 use Rattle.pg_check.proofs.numbers.first_reserved.Goals as goal

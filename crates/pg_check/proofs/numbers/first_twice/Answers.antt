@@ -1,4 +1,4 @@
-use Rattle.std.proofs.Common.{◌≡◌, ℕ, nat_eq, take, get_or, arith, sym, ◌∙◌, ap}
+use Rattle.std.proofs.Common.{get_or, arith, ap}
 use Rattle.std.proofs.lemmas.Grind.{common_steps}
 use Rattle.pg_check.specs.declared.numbers.Keyed.{Keyed}
 use Rattle.pg_check.specs.Numbers.{at, is_same}

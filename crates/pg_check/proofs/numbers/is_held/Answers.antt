@@ -1,4 +1,4 @@
-use Rattle.std.proofs.Common.{rules, nat_le, length, ap, arith, ◌≡◌, ◌∙◌, suc, ◌-◌, ◌<◌}
+use Rattle.std.proofs.Common.{rules, nat_le, length, ap, arith, ◌≡◌, ◌∙◌, ◌-◌}
 use Rattle.std.proofs.lemmas.List.Sorted.{IsPartitionPoint-from_clause}
 use Rattle.pg_check.specs.declared.numbers.Numbers.{Numbers}
 use Rattle.pg_check.proofs.Reach.{IsPoint, none_held, partitioned, some_held, tops_length}

@@ -1,5 +1,4 @@
 use Rattle.std.proofs.Common.{◌∙◌, ◌++◌, map, sym, ap}
-use Rattle.pg_syntax.specs.declared.tree.Part.{Part}
 use Rattle.pg_check.specs.Outline.{message, messages_in}
 use Rattle.pg_check.proofs.Outlines.{part_messages}
 use Rattle.pg_check.proofs.outline.+messages.Goals as goal

@@ -1,0 +1,22 @@
+use Rattle.std.proofs.Common.{◌≡◌, ◌+◌, ◌<◌, Some, length, map, subst, arith}
+use Rattle.std.proofs.lemmas.List.{length-map}
+use Rattle.pg_check.specs.Declares.{IsBroken, first_broken}
+use Rattle.pg_check.specs.Sources.{source}
+use Rattle.pg_check.proofs.FileFaults.{told_within}
+use Rattle.pg_check.proofs.building.schema_of.Goals as goal
+
+pub told-requires-clause-within : goal.told-requires-clause-within
+told-requires-clause-within c =
+    let files = c.args.files.now in
+    let found = c.in-Err-Broken.found in
+    let first : first_broken (map source files) ≡ Some found = subst (IsBroken (map source files)) c.in-Err-Broken.field-0-is c.in-Err-Broken.ensures.refused in
+    let less : found.file < 0 + length (map source files) = told_within 4096 0 (map source files) found first in
+    let same : length (map source files) ≡ length files = length-map files source in
+    omega (arith, less, same)
+
+pub returns-clause-refused : goal.returns-clause-refused
+returns-clause-refused c = record {
+  parts = c.in-Ok.parts;
+  declared = c.in-Ok.ensures.declared;
+  unsound = c.in-Err-Invariant-default.ensures.broken c.in-Err-Invariant-default.field-0-0-is;
+}

@@ -1,0 +1,8 @@
+use Rattle.std.proofs.Common.{◌≡◌, List, true}
+use Rattle.pg_schema.specs.declared.field.Field.{Field}
+use Rattle.pg_schema.specs.MessageRules.{have_members}
+use Rattle.pg_check.specs.PartFaults.{IsPlaceSet}
+use Rattle.pg_check.proofs.oneof_members.are_all_among.Given as goal
+
+abbrev pub invariant-loop-place : goal.invariant-loop-place
+invariant-loop-place l = (fields : List Field) → IsPlaceSet fields l.places → have_members l.place-counter fields ≡ true

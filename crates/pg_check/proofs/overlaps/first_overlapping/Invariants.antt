@@ -1,0 +1,12 @@
+-- The items before the one place are apart, and those before the other aren't.
+use Rattle.std.proofs.Common.{◌≡◌, ◌<◌, ◌≤◌, ◌-◌, true, false, take, length}
+use Rattle.pg_check.specs.KeepsRules.{are_apart}
+use Rattle.pg_check.specs.ReservedItems.{overlap}
+use Rattle.pg_check.proofs.Halves.{AreHalves}
+use Rattle.pg_check.proofs.overlaps.first_overlapping.Given as goal
+
+abbrev pub invariant-loop-high : goal.invariant-loop-high
+invariant-loop-high l = AreHalves l.items l.low l.high
+
+abbrev pub decreases-loop-high : goal.decreases-loop-high
+decreases-loop-high l = l.high - l.low

@@ -1,0 +1,46 @@
+//! From parts that come from no text to a checked schema.
+
+ghost use Rattle.std.specs.Prelude.{◌≡◌, IfErr, IfOk, OnOk};
+ghost use Rattle.pg_schema.specs.Sound.{IsSound};
+ghost use Rattle.pg_check.specs.PartErrors.{IsRefusedOf};
+
+use crate::error::{CheckError, error_of};
+use crate::part_faults::parts_fault;
+use pg_link::Place;
+use pg_schema::{Parts, PartsError, Schema};
+use std::alloc::Global;
+
+/// Why the parts are none of a schema.
+fn refusal_of(alloc: Global, parts: &Parts) -> CheckError
+    requires { IsSound parts.now → ⊥ }
+    ensures { IsRefusedOf parts.now result }
+{
+    let nowhere = Place {
+        file: String::new(alloc),
+        line: 0,
+        column: 0,
+    };
+    match parts_fault(alloc, parts) {
+        Ok(Some(fault)) => error_of(fault.rule, nowhere),
+        Ok(None) => CheckError::BadParts(nowhere),
+        Err(_) => CheckError::Memory,
+    }
+}
+
+/// The schema of parts that come from no text, as those of a descriptor set.
+///
+/// Refused are want of memory (`Memory`), and parts that break a rule, by its error at no place (no file,
+/// line and column 0): of the message types in their order, then the enums and the files, the first that
+/// breaks one, and of it the lowest code; more than 4,096 message types come before. Parts that break no
+/// rule of these and are no schema all the same are `BadParts`.
+pub fn admit(alloc: Global, parts: Parts) -> Result<Schema, CheckError>
+    ensures admitted { IfOk result (λ schema. schema ≡ parts) }
+    ensures sound { OnOk result (IsSound parts) }
+    ensures refused { IfErr result (IsRefusedOf parts) }
+{
+    match Schema::from_parts(alloc, parts) {
+        Ok(schema) => Ok(schema),
+        Err((PartsError::Memory, _)) => Err(CheckError::Memory),
+        Err((PartsError::Invariant, parts)) => Err(refusal_of(alloc, &parts)),
+    }
+}

@@ -1,0 +1,86 @@
+//! From linked files to a checked schema.
+
+ghost use Rattle.std.specs.Prelude.{◌≡◌, ◌<◌, IfErr, IfOk, Some, length, map};
+ghost use Rattle.pg_check.specs.Declares.{Declares, first_broken};
+ghost use Rattle.pg_check.specs.Errors as spec;
+ghost use Rattle.pg_check.specs.Sources.{linked_sources, source};
+
+use crate::declare::{FileFault, Refusal, declare};
+use crate::error::{CheckError, error_of};
+use crate::made_parts::Source;
+use pg_link::{Linked, Place, place_in};
+use pg_schema::{PartsError, Schema};
+use std::alloc::{AllocError, Global};
+
+/// The linked files in their order, each with what its type names name.
+fn sources_of<'a>(alloc: Global, linked: &'a Linked) -> Result<Vec<Source<'a>>, AllocError>
+    ensures { IfOk result (λ sources. map source sources.items ≡ linked_sources linked.now.files) }
+{
+    let files = linked.files();
+    let mut sources = Vec::new(alloc);
+    for number in 0..files.len() {
+        let Some((path, file)) = files.get_index(number) else {
+            continue;
+        };
+        let targets = linked.targets_by_place(alloc, number)?;
+        sources.push(Source {
+            path,
+            text: &file.bytes,
+            tree: &file.tree,
+            targets,
+        })?;
+    }
+    Ok(sources)
+}
+
+/// The error of the first rule that files break.
+fn told(alloc: Global, files: &[Source<'_>], found: FileFault) -> Result<CheckError, AllocError>
+    requires first { first_broken (map source files.now) ≡ Some found }
+    requires within { found.file < length files.now }
+    ensures { IfOk result (spec.IsTold (map source files.now)) }
+{
+    let file = &files[found.file];
+    let place = place_in(alloc, file.path, file.text, found.fault.at)?;
+    Ok(error_of(found.fault.rule, place))
+}
+
+/// The schema that the files declare. Refused where memory is, where a file breaks a rule, with the
+/// first rule that the first of such files breaks at its place, and where the parts of the files are
+/// none of a schema.
+fn schema_of(alloc: Global, files: &[Source<'_>]) -> Result<Schema, CheckError>
+    ensures built { IfOk result (λ schema. Declares (map source files.now) schema) }
+    ensures refused { IfErr result (spec.IsRefused (map source files.now)) }
+{
+    let parts = match declare(alloc, files) {
+        Ok(parts) => parts,
+        Err(Refusal::Memory) => return Err(CheckError::Memory),
+        Err(Refusal::Broken(found)) => return Err(told(alloc, files, found)?),
+    };
+    match Schema::from_parts(alloc, parts) {
+        Ok(schema) => Ok(schema),
+        Err((PartsError::Memory, _)) => Err(CheckError::Memory),
+        Err((PartsError::Invariant, _)) => Err(CheckError::BadParts(Place {
+            file: String::new(alloc),
+            line: 0,
+            column: 0,
+        })),
+    }
+}
+
+/// The schema that linked files declare: they keep to the rules of the language, and the schema has
+/// exactly the message types, fields and other parts that they state, in order of declaration
+/// (proto3 language specification, "Proto file").
+///
+/// Refused are want of memory (`Memory`) and the first rule that is broken, by its error at its place:
+/// of the files, each behind those that it imports, the first that breaks one; in it by order of
+/// declaration, and of one declaration the lowest code. Files that break none and whose parts are no
+/// schema all the same are `BadParts`, at no place; none are known.
+pub fn build(alloc: Global, linked: &Linked) -> Result<Schema, CheckError>
+    // The schema has just what the files declare, which keep to the rules.
+    ensures built { IfOk result (Declares (linked_sources linked.now.files)) }
+    // A refusal names a rule that is broken in the files, the first, at its place.
+    ensures refused { IfErr result (spec.IsRefused (linked_sources linked.now.files)) }
+{
+    let sources = sources_of(alloc, linked)?;
+    schema_of(alloc, &sources)
+}
