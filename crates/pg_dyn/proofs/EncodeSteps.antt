@@ -33,7 +33,7 @@ use Rattle.pg_dyn.specs.Written.{CanBePacked, LeafFits, capped, content_lengths,
 use Rattle.pg_dyn.proofs.Belonging.{child_type_is, fields-IsType}
 use Rattle.pg_dyn.proofs.EncodedFields.{encodes_by_fields}
 use Rattle.pg_dyn.proofs.Fields.{field_of}
-use Rattle.pg_dyn.proofs.FitsByContents.{item_is_key}
+use Rattle.pg_dyn.proofs.ItemLeaves.{item_is_key}
 use Rattle.pg_dyn.proofs.Flat.{each_at}
 use Rattle.pg_dyn.proofs.KeptParts.{fields_keep}
 use Rattle.pg_dyn.proofs.Lists.{each_weaker, flat_map-append', flat_map_same}
@@ -284,7 +284,7 @@ module _ (shape : Shape) (type : TypeId) where
 
   -- the whole message
 
-  flat_bytes : (xs : List (ℕ × Content)) → bytes_of (flat_map (content_records shape type) xs) ≡ flat_map (content_bytes shape type) xs
+  pub flat_bytes : (xs : List (ℕ × Content)) → bytes_of (flat_map (content_records shape type) xs) ≡ flat_map (content_bytes shape type) xs
   flat_bytes [] = refl
   flat_bytes (x ∷ xs) = flat_map-append' (λ (r : WireRecord). r.bytes) (content_records shape type x) (flat_map (content_records shape type) xs) ∙ ap (λ ys. content_bytes shape type x ++ ys) (flat_bytes xs)
 

@@ -171,7 +171,7 @@ with_room (Err e) old full room h = absurd (omega arith)
 
 -- Fields put in and taken out still rise, and facts of all stay.
 
-rises-filter : (test : ℕ × Content → Bool) (fs : List (ℕ × Content)) → Rises fs → Rises (filter test fs)
+pub rises-filter : (test : ℕ × Content → Bool) (fs : List (ℕ × Content)) → Rises fs → Rises (filter test fs)
 rises-filter test [] h = tt
 rises-filter test (f ∷ fs) h =
     elim (test f) as (λ b. test f ≡ b → Rises (cond b (f ∷ filter test fs) (filter test fs))) [
@@ -226,3 +226,9 @@ module _ (P : ℕ × Content → Type 0) (n : ℕ) where
 
   pub each_removed : (fs : List (ℕ × Content)) → AllByRecursion P fs → AllByRecursion P (remove_field n fs)
   each_removed fs h = each-append P (fields_below n fs) (fields_above n fs) (each_kept (λ (f : ℕ × Content). nat_lt f.0 n) fs h) (each_kept (λ (f : ℕ × Content). nat_lt n f.0) fs h)
+
+-- a field that is put where it stands changes nothing
+pub set_same : (fs : List (ℕ × Content)) (i : ℕ) (d : ℕ × Content) → i < length fs → d ≡ get_or fs i d → slice_set fs i (d.0, d.1) ≡ fs
+set_same [] i d inside is = refl
+set_same (f ∷ fs) zero d inside is = ap (λ x. x ∷ fs) is
+set_same (f ∷ fs) (suc i) d inside is = ap (λ xs. f ∷ xs) (set_same fs i d (omega arith) is)

@@ -1,11 +1,9 @@
 -- A message fits where each of its contents does, no two are members of one oneof, and its unknown records are unknown.
-use Rattle.std.proofs.Common.{Box, Vec, Global, ◌≡◌, ◌≢◌, ℕ, ◌<◌, ◌⊎◌, List, [], ◌∷◌, ◌++◌, length, map, Bool, true, false, not, ◌&&◌, Option, Some, None, refl, ap, sym, subst, ◌∙◌, arith, ⊎_elim, inl, inr, eq-eqb}
-use Rattle.std.specs.Prelude.{⊤}
+use Rattle.std.proofs.Common.{Vec, Global, ◌≡◌, ◌≢◌, ℕ, ◌<◌, ◌⊎◌, List, [], ◌∷◌, ◌++◌, length, map, Bool, true, false, not, ◌&&◌, Option, Some, None, refl, ap, sym, subst, ◌∙◌, arith, ⊎_elim, inl, inr, eq-eqb}
 use Rattle.std.specs.List.{AllByRecursion}
 use Rattle.std.specs.declared.cmp.Ordering.TheVariants.{Less}
 use Rattle.std.proofs.Math.Bool.{and-false}
 use Rattle.pg_schema.specs.declared.field.Scalar.{Scalar}
-use Rattle.pg_schema.specs.declared.field.Scalar.TheVariants.{Int32}
 use Rattle.pg_schema.specs.declared.field.TypeId.{TypeId}
 use Rattle.pg_schema.specs.declared.field.Element.{Element}
 use Rattle.pg_schema.specs.declared.field.Element.TheVariants as elements
@@ -15,108 +13,23 @@ use Rattle.pg_schema.specs.Shape.{Shape, FieldShape, IsField, IsShape, ElementFi
 use Rattle.pg_wire.specs.Records.{WireRecord}
 use Rattle.pg_dyn.specs.declared.message.Content.{Content}
 use Rattle.pg_dyn.specs.declared.message.Content.TheVariants as contents
-use Rattle.pg_dyn.specs.declared.message.Message.{Message}
 use Rattle.pg_dyn.specs.declared.message.Value.{Value}
 use Rattle.pg_dyn.specs.declared.message.Value.TheVariants as values
-use Rattle.pg_dyn.specs.Message.{Leaf, Place, places, is_zero, key_cmp}
-use Rattle.pg_dyn.specs.Coding.{InRange, scalar_form}
+use Rattle.pg_dyn.specs.Message.{Leaf, Place, places, key_cmp}
 use Rattle.pg_dyn.specs.Content.{same_oneof, is_rival}
 use Rattle.pg_dyn.specs.Encoding.{child_type}
 use Rattle.pg_dyn.specs.Kept.{Kept, ends, holds, type_of, message_of}
 use Rattle.pg_dyn.specs.Seen.{leaf_of, value_onto, items_onto, entries_onto, content_onto, fields_onto, Rises, IsFilled, IsKey, HasKeys}
-use Rattle.pg_dyn.specs.Belonging.{KeyFits, MayFollow, ComesBefore, IsPart, LeafFits, MayBeZero, IsUnknown, IsMessage}
+use Rattle.pg_dyn.specs.Belonging.{KeyFits, MayFollow, ComesBefore, IsPart, IsUnknown, IsMessage}
 use Rattle.pg_dyn.specs.Fits.{Fits, PartsAgree, is_listed, is_listed_by}
 use Rattle.pg_dyn.specs.ScalarItems.{IsItemOf}
-use Rattle.pg_dyn.specs.ContentFits.{is_zero_value, ItemFits, KeysRise, ContentFits, HoldsContent, AreApart, NoneRivals, FitsByContents}
+use Rattle.pg_dyn.specs.ContentFits.{ItemFits, KeysRise, ContentFits, HoldsContent, AreApart, NoneRivals, FitsByContents}
 use Rattle.pg_dyn.proofs.Belonging.{child_type_is, fields-IsType}
-use Rattle.pg_dyn.proofs.Fields.{field_of}
 use Rattle.pg_dyn.proofs.Flat.{each_at}
 use Rattle.pg_dyn.proofs.KeptParts.{unknown_of-items, unknown_of-entries, fields_keep}
 use Rattle.pg_dyn.proofs.Lists.{each_weaker, each-append}
+use Rattle.pg_dyn.proofs.ItemLeaves.{in_range, item_of_range, ZeroFits, zero_of_child, leaf_to, leaf_back, child_of}
 use Rattle.pg_dyn.proofs.Splitting.{found_number}
-
--- Items as leaves.
-
-pub in_range : (s : Scalar) (v : Value) → IsItemOf s v → InRange (scalar_form s) (leaf_of v)
-in_range s (values.Int x) h = h
-in_range s (values.F32 x) h = h
-in_range s (values.F64 x) h = h
-in_range s (values.Text x) h = h
-in_range s (values.Bytes x) h = h
-in_range s (values.Msg x) h = absurd h
-
-pub item_of_range : (s : Scalar) (v : Value) → IsKey v → InRange (scalar_form s) (leaf_of v) → IsItemOf s v
-item_of_range s (values.Int x) key h = h
-item_of_range s (values.F32 x) key h = h
-item_of_range s (values.F64 x) key h = h
-item_of_range s (values.Text x) key h = h
-item_of_range s (values.Bytes x) key h = h
-item_of_range s (values.Msg x) key h = absurd key
-
-pub item_is_key : (s : Scalar) (v : Value) → IsItemOf s v → IsKey v
-item_is_key s (values.Int x) h = tt
-item_is_key s (values.F32 x) h = tt
-item_is_key s (values.F64 x) h = tt
-item_is_key s (values.Text x) h = tt
-item_is_key s (values.Bytes x) h = tt
-item_is_key s (values.Msg x) h = absurd h
-
-pub zero_of_key : (v : Value) → IsKey v → is_zero_value v ≡ is_zero (leaf_of v)
-zero_of_key (values.Int x) key = refl
-zero_of_key (values.F32 x) key = refl
-zero_of_key (values.F64 x) key = refl
-zero_of_key (values.Text x) key = refl
-zero_of_key (values.Bytes x) key = refl
-zero_of_key (values.Msg x) key = absurd key
-
--- an implicit field holds no zero
-abbrev pub ZeroFits : Presence → Value → Type 0
-ZeroFits presences.Implicit v = is_zero_value v ≡ false
-ZeroFits presences.Explicit v = ⊤
-ZeroFits (presences.Repeated packed) v = ⊤
-ZeroFits (presences.Map key) v = ⊤
-
-zero_to : (p : Presence) (v : Value) → IsKey v → ZeroFits p v → MayBeZero p (leaf_of v)
-zero_to presences.Implicit v key h = sym (zero_of_key v key) ∙ h
-zero_to presences.Explicit v key h = tt
-zero_to (presences.Repeated packed) v key h = tt
-zero_to (presences.Map k) v key h = tt
-
-zero_back : (p : Presence) (v : Value) → IsKey v → MayBeZero p (leaf_of v) → ZeroFits p v
-zero_back presences.Implicit v key h = zero_of_key v key ∙ h
-zero_back presences.Explicit v key h = tt
-zero_back (presences.Repeated packed) v key h = tt
-zero_back (presences.Map k) v key h = tt
-
-zero_of_child : (p : Presence) (v : Value) → is_zero_value v ≡ false → ZeroFits p v
-zero_of_child presences.Implicit v h = h
-zero_of_child presences.Explicit v h = tt
-zero_of_child (presences.Repeated packed) v h = tt
-zero_of_child (presences.Map k) v h = tt
-
--- what is no message is no item of a message field
-no_leaf : (shape : Shape) (t : TypeId) (v : Value) → IsKey v → ItemFits shape (elements.Message t) v → ⊥
-no_leaf shape t (values.Int x) key h = h
-no_leaf shape t (values.F32 x) key h = h
-no_leaf shape t (values.F64 x) key h = h
-no_leaf shape t (values.Text x) key h = h
-no_leaf shape t (values.Bytes x) key h = h
-no_leaf shape t (values.Msg x) key h = absurd key
-
-leaf_to : (shape : Shape) (n : ℕ) (p : Presence) (e : Element) (o : Option ℕ) (v : Value) → IsKey v → ItemFits shape e v → ZeroFits p v → LeafFits (field_of n p e o) (leaf_of v)
-leaf_to shape n p (elements.Scalar s) o v key item zero = (in_range s v item, zero_to p v key zero)
-leaf_to shape n p (elements.Enum e) o v key item zero = (in_range Int32 v item, zero_to p v key zero)
-leaf_to shape n p (elements.Message t) o v key item zero = absurd (no_leaf shape t v key item)
-
-leaf_back : (shape : Shape) (n : ℕ) (p : Presence) (e : Element) (o : Option ℕ) (v : Value) → IsKey v → LeafFits (field_of n p e o) (leaf_of v) → ItemFits shape e v × ZeroFits p v
-leaf_back shape n p (elements.Scalar s) o v key h = (item_of_range s v key h.0, zero_back p v key h.1)
-leaf_back shape n p (elements.Enum e) o v key h = (item_of_range Int32 v key h.0, zero_back p v key h.1)
-leaf_back shape n p (elements.Message t) o v key h = absurd h
-
-child_of : (shape : Shape) (e : Element) (child : Box Message Global) → ItemFits shape e (values.Msg child) → (t : TypeId) × (e ≡ elements.Message t) × Fits shape child.value × (type_of child.value ≡ t)
-child_of shape (elements.Scalar s) child h = absurd h
-child_of shape (elements.Enum e) child h = absurd h
-child_of shape (elements.Message t) child h = (t, refl, h.0, h.1)
 
 -- Where parts stand.
 
@@ -150,7 +63,7 @@ each_before : {A : Type 0} (P : A → Type 0) (xs ys : List A) → AllByRecursio
 each_before P [] ys h = tt
 each_before P (x ∷ xs) ys h = (h.0, each_before P xs ys h.1)
 
-own_rival : (f : FieldShape) → is_rival f f ≡ false
+pub own_rival : (f : FieldShape) → is_rival f f ≡ false
 own_rival f = ap (λ b. same_oneof f.oneof f.oneof && not b) (eq-eqb f.number f.number refl) ∙ and-false (same_oneof f.oneof f.oneof)
 
 module _ (shape : Shape) (type : TypeId) where

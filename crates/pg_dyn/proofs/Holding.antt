@@ -18,7 +18,7 @@ use Rattle.pg_dyn.specs.Replacing.{with_parts, with_unknown, implicit_part}
 use Rattle.pg_dyn.proofs.Lists.{each-append}
 use Rattle.pg_dyn.proofs.ReplacingLaws.{shown, put_shows, remove_shows, unknown_more}
 
-key_seen : (v : Value) → IsKey v → item_seen false v ≡ Plain false (leaf_of v)
+pub key_seen : (v : Value) → IsKey v → item_seen false v ≡ Plain false (leaf_of v)
 key_seen (values.Int x) h = refl
 key_seen (values.F32 x) h = refl
 key_seen (values.F64 x) h = refl

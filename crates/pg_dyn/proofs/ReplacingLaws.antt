@@ -23,7 +23,7 @@ use Rattle.pg_dyn.specs.Replacing.{kept_part, kept_onto, kept_from, with_parts, 
 use Rattle.pg_dyn.proofs.Lists.{filter_all, filter_none, filter-append', each_weaker, each-map, each_of_all, map_same, flat_map-append', list_any_none}
 use Rattle.pg_dyn.proofs.Order.{NeverFalls, of_each, of_each_is, never_falls, places-parts, above_head}
 use Rattle.pg_dyn.proofs.Splitting.{found_later}
-use Rattle.pg_dyn.proofs.FlatFits.{no_rival}
+use Rattle.pg_dyn.proofs.NoRivals.{no_rival}
 
 -- the parts of all fields
 abbrev pub all_seen : List (ℕ × Content) → List (Part KeptItem)
@@ -109,7 +109,7 @@ module _ (test : ℕ → Bool) where
   kept_none : (n : ℕ) (ps : List (Part KeptItem)) → AllByRecursion (λ (p : Part KeptItem). p.number ≡ n) ps → test n ≡ false → filter (λ (p : Part KeptItem). test p.number) ps ≡ []
   kept_none n ps h miss = filter_none (λ (p : Part KeptItem). test p.number) ps (each_weaker (λ (p : Part KeptItem). p.number ≡ n) (λ (p : Part KeptItem). test p.number ≡ false) (λ p e. ap test e ∙ miss) ps h)
 
-  seen-filter : (ms : List (ℕ × Content)) → filter (λ (p : Part KeptItem). test p.number) (all_seen ms) ≡ all_seen (filter (λ (f : ℕ × Content). test f.0) ms)
+  pub seen-filter : (ms : List (ℕ × Content)) → filter (λ (p : Part KeptItem). test p.number) (all_seen ms) ≡ all_seen (filter (λ (f : ℕ × Content). test f.0) ms)
   seen-filter [] = refl
   seen-filter (m ∷ ms) =
       filter-append' (λ (p : Part KeptItem). test p.number) (content_seen m.0 m.1) (all_seen ms)
@@ -184,7 +184,7 @@ unknown-message_of (ends type us) = refl
 unknown-message_of (holds n k l leaf later) = unknown-message_of later
 unknown-message_of (nests n k l child later) = unknown-message_of later
 
-filter-part_item : (test : ℕ → Bool) (ps : List (Part KeptItem)) → filter (λ (p : Part Item). test p.number) (map part_item ps) ≡ map part_item (filter (λ (p : Part KeptItem). test p.number) ps)
+pub filter-part_item : (test : ℕ → Bool) (ps : List (Part KeptItem)) → filter (λ (p : Part Item). test p.number) (map part_item ps) ≡ map part_item (filter (λ (p : Part KeptItem). test p.number) ps)
 filter-part_item test [] = refl
 filter-part_item test (p ∷ ps) =
     elim (test p.number) as (λ b. test p.number ≡ b → cond b (part_item p ∷ filter (λ (q : Part Item). test q.number) (map part_item ps)) (filter (λ (q : Part Item). test q.number) (map part_item ps)) ≡ map part_item (cond b (p ∷ filter (λ (q : Part KeptItem). test q.number) ps) (filter (λ (q : Part KeptItem). test q.number) ps))) [
@@ -228,17 +228,17 @@ numbered n (p ∷ ps) =
       | false ↦ λ e. numbered n ps
     ] refl
 
-own_kept : (test : ℕ → Bool) (n : ℕ) (ps : List (Part Item)) → test n ≡ true → filter (λ (p : Part Item). test p.number) (filter (is_of n) ps) ≡ filter (is_of n) ps
+pub own_kept : (test : ℕ → Bool) (n : ℕ) (ps : List (Part Item)) → test n ≡ true → filter (λ (p : Part Item). test p.number) (filter (is_of n) ps) ≡ filter (is_of n) ps
 own_kept test n ps hit = filter_all (λ (p : Part Item). test p.number) (filter (is_of n) ps) (each_weaker (λ (p : Part Item). p.number ≡ n) (λ (p : Part Item). test p.number ≡ true) (λ p e. ap test e ∙ hit) (filter (is_of n) ps) (numbered n ps))
 
-own_dropped : (test : ℕ → Bool) (n : ℕ) (ps : List (Part Item)) → test n ≡ false → filter (λ (p : Part Item). test p.number) (filter (is_of n) ps) ≡ []
+pub own_dropped : (test : ℕ → Bool) (n : ℕ) (ps : List (Part Item)) → test n ≡ false → filter (λ (p : Part Item). test p.number) (filter (is_of n) ps) ≡ []
 own_dropped test n ps miss = filter_none (λ (p : Part Item). test p.number) (filter (is_of n) ps) (each_weaker (λ (p : Part Item). p.number ≡ n) (λ (p : Part Item). test p.number ≡ false) (λ p e. ap test e ∙ miss) (filter (is_of n) ps) (numbered n ps))
 
-each_kept : (test : ℕ → Bool) (fs : List FieldShape) (ps : List (Part Item)) → AllByRecursion (λ f. test f.number ≡ true) fs → filter (λ (p : Part Item). test p.number) (of_each fs ps) ≡ of_each fs ps
+pub each_kept : (test : ℕ → Bool) (fs : List FieldShape) (ps : List (Part Item)) → AllByRecursion (λ f. test f.number ≡ true) fs → filter (λ (p : Part Item). test p.number) (of_each fs ps) ≡ of_each fs ps
 each_kept test [] ps h = refl
 each_kept test (f ∷ fs) ps h = filter-append' (λ (p : Part Item). test p.number) (filter (is_of f.number) ps) (of_each fs ps) ∙ ap₂ (λ xs ys. xs ++ ys) (own_kept test f.number ps h.0) (each_kept test fs ps h.1)
 
-each_dropped : (test : ℕ → Bool) (fs : List FieldShape) (ps : List (Part Item)) → AllByRecursion (λ f. test f.number ≡ false) fs → filter (λ (p : Part Item). test p.number) (of_each fs ps) ≡ []
+pub each_dropped : (test : ℕ → Bool) (fs : List FieldShape) (ps : List (Part Item)) → AllByRecursion (λ f. test f.number ≡ false) fs → filter (λ (p : Part Item). test p.number) (of_each fs ps) ≡ []
 each_dropped test [] ps h = refl
 each_dropped test (f ∷ fs) ps h = filter-append' (λ (p : Part Item). test p.number) (filter (is_of f.number) ps) (of_each fs ps) ∙ ap₂ (λ xs ys. xs ++ ys) (own_dropped test f.number ps h.0) (each_dropped test fs ps h.1)
 

@@ -1,41 +1,36 @@
--- Contents by rising numbers, put into a message one after the other, in a schema of implicit scalars alone.
-use Rattle.std.proofs.Common.{◌≡◌, ◌≢◌, ℕ, pos, option_and_then, zero, suc, ◌<◌, ◌≤◌, List, [], ◌∷◌, ◌++◌, length, filter, flat_map, get_or, nat_eq, nat_lt, Bool, true, false, true≢false, cond, not, ◌&&◌, Option, Some, None, inl, inr, ⊎_elim, refl, ap, ap₂, sym, subst, ◌∙◌, arith, eq-eqb, ne_eqb, lt-ltb, le-ltb}
+-- Contents by rising numbers, put into a message one after the other.
+use Rattle.std.proofs.Common.{◌≡◌, ◌≢◌, ℕ, pos, zero, suc, ◌<◌, ◌≤◌, List, [], ◌∷◌, ◌++◌, length, filter, flat_map, get_or, nat_eq, nat_lt, Bool, true, false, true≢false, cond, not, ◌&&◌, Option, Some, None, ⊎_elim, refl, ap, ap₂, sym, subst, ◌∙◌, arith, eq-eqb, ne_eqb, lt-ltb, le-ltb}
 use Rattle.std.specs.List.{AllByRecursion}
-use Rattle.std.specs.List.Sorted.{IsNonDecreasingBy, IsPermutation, IsStableByKey, ties}
+use Rattle.std.specs.List.Sorted.{IsNonDecreasingBy, IsStableByKey, ties}
 use Rattle.std.specs.Ordering.{is_lt, nat_cmp}
 use Rattle.std.specs.Cmp.{nat_cmp_is}
 use Rattle.std.specs.declared.cmp.Ordering.TheVariants.{Less, Equal, Greater}
-use Rattle.std.proofs.lemmas.List.Sorted.{All-permutation}
 use Rattle.std.proofs.lemmas.List.{append-nil}
 use Rattle.std.proofs.lemmas.Bool.{cases_eq, eqb-true, ltb-true, ltb-false}
 use Rattle.pg_schema.specs.declared.field.TypeId.{TypeId}
-use Rattle.pg_schema.specs.declared.field.Presence.{Presence}
-use Rattle.pg_schema.specs.declared.field.Presence.TheVariants as presences
 use Rattle.pg_schema.specs.declared.parts.Parts.{Parts}
 use Rattle.pg_schema.specs.Parts.{shape_of}
 use Rattle.pg_schema.specs.Invariant.{IsSchema}
 use Rattle.pg_schema.specs.Shape.{FieldShape, fields, field_at}
-use Rattle.pg_dyn.specs.declared.error.DynError.{DynError}
-use Rattle.pg_dyn.specs.declared.error.DynError.TheVariants as errors
 use Rattle.pg_dyn.specs.declared.message.Content.{Content}
 use Rattle.pg_dyn.specs.declared.message.Content.TheVariants as contents
 use Rattle.pg_dyn.specs.declared.message.Value.TheVariants as values
-use Rattle.pg_dyn.specs.Content.{same_oneof}
 use Rattle.pg_dyn.specs.Message.{Part, is_of}
 use Rattle.pg_dyn.specs.Kept.{Kept, KeptItem, type_of, parts_of, unknown_of, of_number, ends}
 use Rattle.pg_dyn.specs.Seen.{content_seen, Rises}
-use Rattle.pg_schema.specs.Flat.{IsFlat}
-use Rattle.pg_dyn.specs.Replacing.{with_parts}
-use Rattle.pg_dyn.specs.ContentFaults.{AnyOf, PassTwice, ContentFault, ContentsFault, HasFieldTwice, is_in_oneof, code, IsLowest, HasNoFault, MayRefuseFor}
-use Rattle.pg_dyn.specs.Setting.{settled, settled_by, settled_parts, is_zero_kept, IsSetTo, IsWhole}
-use Rattle.pg_dyn.proofs.Lists.{filter_all, filter_none, filter-append', flat_map-append', each_weaker, each-filter, each_of_all}
-use Rattle.pg_dyn.proofs.KeptParts.{at_index, each_from_index}
-use Rattle.pg_dyn.proofs.Splitting.{found_number}
-use Rattle.pg_dyn.proofs.DecodeSteps.{flat_at}
-use Rattle.pg_dyn.proofs.ContentChecks.{lowest}
-use Rattle.pg_dyn.proofs.SetSteps.{may_refuse}
-use Rattle.pg_dyn.proofs.LowestFault.{none_any}
-use Rattle.pg_dyn.proofs.ReplacingLaws.{parts_of-kept_onto, unknown_of-kept_onto, type_of-kept_onto, content_number, no_rivals}
+use Rattle.pg_dyn.specs.Fits.{Fits}
+use Rattle.pg_dyn.specs.Replacing.{kept_from, with_parts, is_rival_number, without_rivals}
+use Rattle.pg_dyn.specs.ContentFits.{AreApart, NoneRivals}
+use Rattle.pg_dyn.specs.ContentFaults.{PassTwice}
+use Rattle.pg_dyn.specs.Setting.{settled, settled_parts, IsWhole}
+use Rattle.pg_dyn.specs.Told.{TakesContent}
+use Rattle.pg_dyn.proofs.Lists.{filter_all, filter_none, filter-append', flat_map-append', each_weaker, each_both}
+use Rattle.pg_dyn.proofs.KeptParts.{each_from_index}
+use Rattle.pg_dyn.proofs.DecodeSteps.{rising}
+use Rattle.pg_dyn.proofs.PutLaws.{no_self_rival, rivals_back, settled_number}
+use Rattle.pg_dyn.proofs.ReplacingLaws.{parts_of-kept_onto, unknown_of-kept_onto, type_of-kept_onto, kept_whole}
+use Rattle.pg_dyn.proofs.Standing.{StandsIn, all_in, passes_once}
+use Rattle.pg_dyn.proofs.WithoutRivals.{rival_found}
 
 -- A test after another.
 
@@ -115,16 +110,10 @@ module _ (n : ℕ) (ps : List (Part KeptItem)) (own : AllByRecursion (λ (p : Pa
 
 -- One content more.
 
-settled_number : (p : Presence) (n : ℕ) (c : Content) → p ≡ presences.Implicit → AllByRecursion (λ (q : Part KeptItem). q.number ≡ n) (settled_by p (content_seen n c))
-settled_number p n c implicit =
-    subst (λ x. AllByRecursion (λ (q : Part KeptItem). q.number ≡ n) (settled_by x (content_seen n c))) (sym implicit)
-    (each_weaker (λ (q : Part KeptItem). (q.number ≡ n) × (not (is_zero_kept q.item) ≡ true)) (λ (q : Part KeptItem). q.number ≡ n) (λ q k. k.0) (filter (λ (q : Part KeptItem). not (is_zero_kept q.item)) (content_seen n c))
-    (each-filter (λ (q : Part KeptItem). q.number ≡ n) (λ (q : Part KeptItem). not (is_zero_kept q.item)) (content_seen n c) (content_number n c)))
-
 abbrev pub of_field : ℕ → ℕ × Content → Bool
 of_field number c = nat_eq c.0 number
 
-module _ (parts : Parts) (h : IsSchema parts) (type : TypeId) (is_flat : IsFlat (shape_of parts) type) where
+module _ (parts : Parts) (type : TypeId) where
   abbrev fs : List FieldShape
   fs = fields (shape_of parts) type
 
@@ -153,24 +142,71 @@ module _ (parts : Parts) (h : IsSchema parts) (type : TypeId) (is_flat : IsFlat 
   pub whole_none : IsWhole (shape_of parts) type [] (ends type [])
   whole_none = record { of_type = refl; contents = λ number. refl; no_unknown = refl }
 
-  pub whole_more : (xs : List (ℕ × Content)) (n : ℕ) (c : Content) (m new : Kept) → IsWhole (shape_of parts) type xs m → AllByRecursion (λ (x : ℕ × Content). x.0 < n) xs → IsSetTo (shape_of parts) n c m new
-      → IsWhole (shape_of parts) type (xs ++ (n, c) ∷ []) new
-  whole_more xs n c m new whole below (f, found, is) =
-      let found_here : field_at fs n ≡ Some f = ap (λ t. field_at (fields (shape_of parts) t) n) (sym whole.of_type) ∙ found in
-      let flat = flat_at parts h type is_flat n f found_here in
-      let number : f.number ≡ n = found_number fs n f found_here in
+  pub whole_more : (xs : List (ℕ × Content)) (n : ℕ) (c : Content) (f : FieldShape) (m new : Kept) → IsWhole (shape_of parts) type xs m → AllByRecursion (λ (x : ℕ × Content). x.0 < n) xs → field_at (fields (shape_of parts) type) n ≡ Some f
+      → new ≡ with_parts n (settled f (content_seen n c)) m → IsWhole (shape_of parts) type (xs ++ (n, c) ∷ []) new
+  whole_more xs n c f m new whole below found is_new =
       let ps = settled f (content_seen n c) in
-      let is_new : new ≡ with_parts n ps m = is ∙ ap (with_parts f.number ps) (no_rivals (fields (shape_of parts) (type_of m)) f m flat.alone) ∙ ap (λ k. with_parts k ps m) number in
-      let own = settled_number f.presence n c flat.implicit in
+      let own = settled_number f.presence n c in
       record {
         of_type = ap type_of is_new ∙ type_with n ps m ∙ whole.of_type;
         contents = λ j. ⊎_elim
-            (λ same. ap (of_number j) is_new ∙ ap (λ k. of_number k (with_parts n ps m)) same ∙ under_own n ps own m ∙ sym (under_one n c f found_here)
+            (λ same. ap (of_number j) is_new ∙ ap (λ k. of_number k (with_parts n ps m)) same ∙ under_own n ps own m ∙ sym (under_one n c f found)
             ∙ ap (λ qs. qs ++ under n ((n, c) ∷ [])) (sym (under_none n xs below)) ∙ sym (under_more n xs (n, c)) ∙ ap (λ k. under k (xs ++ (n, c) ∷ [])) (sym same))
             (λ apart. ap (of_number j) is_new ∙ under_other n ps own m j apart ∙ whole.contents j ∙ sym (append-nil _) ∙ ap (λ qs. under j xs ++ qs) (sym (under_apart j n c apart)) ∙ sym (under_more j xs (n, c)))
             (cases_eq j n);
         no_unknown = ap unknown_of is_new ∙ unknown_with n ps m ∙ whole.no_unknown;
       }
+
+  -- each part of the message is under a number of the contents
+  whole_numbers : (Q : ℕ → Bool) (ys : List (ℕ × Content)) (m : Kept) → IsWhole (shape_of parts) type ys m → AllByRecursion (λ (y : ℕ × Content). Q y.0 ≡ true) ys → AllByRecursion (λ (p : Part KeptItem). Q p.number ≡ true) (parts_of m)
+  whole_numbers Q ys m whole each = all_in (λ (p : Part KeptItem). Q p.number ≡ true) (parts_of m) (λ p there. of p there (Q p.number) refl)
+    where
+      of : (p : Part KeptItem) → StandsIn p (parts_of m) → (b : Bool) → Q p.number ≡ b → Q p.number ≡ true
+      of p there true e = e
+      of p there false e =
+          let none : filter (of_field p.number) ys ≡ [] =
+          filter_none (of_field p.number) ys (each_weaker (λ (y : ℕ × Content). Q y.0 ≡ true) (λ (y : ℕ × Content). of_field p.number y ≡ false) (λ y yes. ne_eqb y.0 p.number (λ same. true≢false (sym yes ∙ ap Q same ∙ e))) ys each) in
+          let empty : of_number p.number m ≡ [] = whole.contents p.number ∙ ap (flat_map (settled_parts (fields (shape_of parts) type))) none in
+          let some : 0 < length (of_number p.number m) = passes_once (is_of p.number) p (parts_of m) there (eq-eqb p.number p.number refl) in
+          absurd (omega (arith, some, ap length empty))
+
+  without_same : (f : FieldShape) (m : Kept) → AllByRecursion (λ (p : Part KeptItem). not (is_rival_number (fields (shape_of parts) type) f p.number) ≡ true) (parts_of m) → without_rivals (fields (shape_of parts) type) f m ≡ m
+  without_same f m each =
+      ap (λ ps. kept_from (type_of m) ps (unknown_of m)) (filter_all (λ (p : Part KeptItem). not (is_rival_number (fields (shape_of parts) type) f p.number)) (parts_of m) each) ∙ kept_whole m
+
+  abbrev pub Takes : List (ℕ × Content) → Type 0
+  Takes cs = AllByRecursion (TakesContent (shape_of parts) type) cs
+
+  abbrev Stays : FieldShape → ℕ × Content → Type 0
+  Stays f y = not (is_rival_number (fields (shape_of parts) type) f y.0) ≡ true
+
+  at_last : (a : ℕ) (ws zs : List (ℕ × Content)) (x : ℕ × Content) → AllByRecursion (λ (l : ℕ × Content). AreApart (fields (shape_of parts) type) a l.0) (ws ++ x ∷ zs) → AreApart (fields (shape_of parts) type) a x.0
+  at_last a [] zs x k = k.0
+  at_last a (w ∷ ws) zs x k = at_last a ws zs x k.1
+
+  apart_before : (ys zs : List (ℕ × Content)) (x : ℕ × Content) → NoneRivals (fields (shape_of parts) type) (ys ++ x ∷ zs) → AllByRecursion (λ (y : ℕ × Content). AreApart (fields (shape_of parts) type) y.0 x.0) ys
+  apart_before [] zs x k = tt
+  apart_before (y ∷ ys) zs x k = (at_last y.0 ys zs x k.0, apart_before ys zs x k.1)
+
+  module _ (h : IsSchema parts) (n : ℕ) (f : FieldShape) (found : field_at (fields (shape_of parts) type) n ≡ Some f) where
+    stays : (y : ℕ × Content) → TakesContent (shape_of parts) type y → AreApart (fields (shape_of parts) type) y.0 n → Stays f y
+    stays y (g, taken) apart = ap not (rival_found (fields (shape_of parts) type) f g y.0 (rising parts h type) taken.found ∙ rivals_back g f (apart g f taken.found found))
+
+    each_last : (c : Content) (ys : List (ℕ × Content)) → AllByRecursion (Stays f) ys → AllByRecursion (Stays f) (ys ++ (n, c) ∷ [])
+    each_last c [] k = (ap not (no_self_rival parts h type f n found), tt)
+    each_last c (y ∷ ys) k = (k.0, each_last c ys k.1)
+
+    -- a content apart from those before is put in as into a message without rivals
+    pub fill_fits : (xs rest : List (ℕ × Content)) (c : Content) (m new : Kept) → IsWhole (shape_of parts) type xs m → IsWhole (shape_of parts) type (xs ++ (n, c) ∷ []) new → Takes xs → NoneRivals (fields (shape_of parts) type) (xs ++ (n, c) ∷ rest)
+        → (Fits (shape_of parts) (without_rivals (fields (shape_of parts) type) f m) → Fits (shape_of parts) (without_rivals (fields (shape_of parts) type) f new)) → Fits (shape_of parts) m → Fits (shape_of parts) new
+    fill_fits xs rest c m new whole whole_new takes apart put fits =
+        let Q = λ (k : ℕ). not (is_rival_number (fields (shape_of parts) type) f k) in
+        let each =
+        each_weaker (λ (y : ℕ × Content). TakesContent (shape_of parts) type y × AreApart (fields (shape_of parts) type) y.0 n) (Stays f) (λ y k. stays y k.0 k.1) xs
+        (each_both (TakesContent (shape_of parts) type) (λ (y : ℕ × Content). AreApart (fields (shape_of parts) type) y.0 n) xs takes (apart_before xs rest (n, c) apart)) in
+        let old_same = without_same f m (whole_numbers Q xs m whole each) in
+        let new_same = without_same f new (whole_numbers Q (xs ++ (n, c) ∷ []) new whole_new (each_last c xs each)) in
+        subst (Fits (shape_of parts)) new_same (put (subst (Fits (shape_of parts)) (sym old_same) fits))
 
 -- Rows by rising numbers.
 
@@ -247,115 +283,6 @@ kept_under xs ys stable number =
     let same : (x : ℕ × Content) → of_field number x ≡ test x = λ x. sym (tied number c x.1 x.0) in
     filter_same (of_field number) test same ys ∙ stable (number, c) ∙ sym (filter_same (of_field number) test same xs)
 
--- Of all contents.
-
-pub all_at : (P : ℕ × Content → Type 0) (xs ys : List (ℕ × Content)) → IsPermutation xs ys → AllByRecursion P xs → AllByRecursion P ys
-all_at P xs ys moved h = each_from_index P ys (All-permutation P xs ys moved (λ k d inside. at_index P xs k d inside h))
-
-rising_once : (xs : List (ℕ × Content)) (n : ℕ) → Rises xs → length (filter (of_field n) xs) ≤ 1
-rising_once [] n h = omega arith
-rising_once (x ∷ xs) n h = of (nat_eq x.0 n) refl (rising_once xs n h.1)
-  where
-    of : (b : Bool) → nat_eq x.0 n ≡ b → length (filter (of_field n) xs) ≤ 1 → length (cond b (x ∷ filter (of_field n) xs) (filter (of_field n) xs)) ≤ 1
-    of true e rest =
-        let none : filter (of_field n) xs ≡ [] = filter_none (of_field n) xs (each_weaker (λ (c : ℕ × Content). x.0 < c.0) (λ (c : ℕ × Content). of_field n c ≡ false) (λ c above. ne_eqb c.0 n (λ k. let same = eqb-true x.0 n e in absurd (omega arith))) xs h.0) in
-        omega (arith, ap length none)
-    of false e rest = rest
-
-module _ (parts : Parts) (h : IsSchema parts) (type : TypeId) (is_flat : IsFlat (shape_of parts) type) where
-  abbrev Right : List (ℕ × Content) → Type 0
-  Right cs = AllByRecursion (λ (c : ℕ × Content). HasNoFault (ContentFault (shape_of parts) type c.0 c.1)) cs
-
-  no_member : (o n : ℕ) → is_in_oneof (fields (shape_of parts) type) o n ≡ false
-  no_member o n = of (field_at (fields (shape_of parts) type) n) refl
-    where
-      of : (x : Option FieldShape) → field_at (fields (shape_of parts) type) n ≡ x → same_oneof (option_and_then (λ f. f.oneof) x) (Some o) ≡ false
-      of None e = refl
-      of (Some f) e = ap (λ k. same_oneof k (Some o)) (flat_at parts h type is_flat n f e).alone
-
-  pub once : (cs : List (ℕ × Content)) → ((n : ℕ) → length (filter (of_field n) cs) ≤ 1) → HasFieldTwice (fields (shape_of parts) type) cs → ⊥
-  once cs each (inl (n, two)) = let one = each n in omega arith
-  once cs each (inr (o, two)) =
-      let none : filter (λ (c : ℕ × Content). is_in_oneof (fields (shape_of parts) type) o c.0) cs ≡ [] =
-      filter_none (λ (c : ℕ × Content). is_in_oneof (fields (shape_of parts) type) o c.0) cs (each_of_all (λ (c : ℕ × Content). is_in_oneof (fields (shape_of parts) type) o c.0 ≡ false) (λ c. no_member o c.0) cs) in
-      omega (arith, ap length none)
-
-  abbrev Faults : List (ℕ × Content) → DynError → Type 0
-  Faults cs = ContentsFault (shape_of parts) type cs
-
-  none_at : (cs : List (ℕ × Content)) → Right cs → (e : DynError) → AnyOf (λ (c : ℕ × Content). ContentFault (shape_of parts) type c.0 c.1 e) cs → ⊥
-  none_at cs right e k = none_any (λ (c : ℕ × Content). ContentFault (shape_of parts) type c.0 c.1) cs e right k
-
-  pub whole_accepted : (cs : List (ℕ × Content)) → Right cs → ((n : ℕ) → length (filter (of_field n) cs) ≤ 1) → HasNoFault (Faults cs)
-  whole_accepted cs right each = none
-    where
-      none : (e : DynError) → Faults cs e → ⊥
-      none errors.Memory k = none_at cs right errors.Memory k
-      none errors.NoSuchField k = none_at cs right errors.NoSuchField k
-      none errors.WrongKind k = none_at cs right errors.WrongKind k
-      none errors.OutOfRange k = none_at cs right errors.OutOfRange k
-      none (errors.NotUtf8 at) k = none_at cs right (errors.NotUtf8 at) k
-      none errors.OneofTwice k = once cs each k
-      none errors.DuplicateKey k = none_at cs right errors.DuplicateKey k
-      none errors.TooLong k = none_at cs right errors.TooLong k
-      none (errors.TooDeep at) k = none_at cs right (errors.TooDeep at) k
-      none (errors.Wire w) k = none_at cs right (errors.Wire w) k
-
-  pub whole_twice : (cs : List (ℕ × Content)) → Right cs → (n : ℕ) → PassTwice (of_field n) cs → MayRefuseFor (Faults cs) errors.OneofTwice
-  whole_twice cs right n two = lowest (Faults cs) errors.OneofTwice (inl (n, two)) (omega arith) (λ k. none_at cs right errors.Memory k) (λ low k. none_at cs right errors.NoSuchField k) (λ low k. none_at cs right errors.WrongKind k)
-      (λ low k. none_at cs right errors.OutOfRange k) (λ low at k. none_at cs right (errors.NotUtf8 at) k)
-
-  abbrev AnyFault : List (ℕ × Content) → DynError → Type 0
-  AnyFault cs e = AnyOf (λ (c : ℕ × Content). ContentFault (shape_of parts) type c.0 c.1 e) cs
-
-  to_faults : (cs : List (ℕ × Content)) (e : DynError) → code e < 605 → AnyFault cs e → Faults cs e
-  to_faults cs errors.Memory early k = k
-  to_faults cs errors.NoSuchField early k = k
-  to_faults cs errors.WrongKind early k = k
-  to_faults cs errors.OutOfRange early k = k
-  to_faults cs (errors.NotUtf8 at) early k = k
-  to_faults cs errors.OneofTwice early k = absurd (omega arith)
-  to_faults cs errors.DuplicateKey early k = k
-  to_faults cs errors.TooLong early k = k
-  to_faults cs (errors.TooDeep at) early k = k
-  to_faults cs (errors.Wire w) early k = k
-
-  from_faults : (cs : List (ℕ × Content)) (e : DynError) → code e < 605 → Faults cs e → AnyFault cs e
-  from_faults cs errors.Memory early k = k
-  from_faults cs errors.NoSuchField early k = k
-  from_faults cs errors.WrongKind early k = k
-  from_faults cs errors.OutOfRange early k = k
-  from_faults cs (errors.NotUtf8 at) early k = k
-  from_faults cs errors.OneofTwice early k = absurd (omega arith)
-  from_faults cs errors.DuplicateKey early k = k
-  from_faults cs errors.TooLong early k = k
-  from_faults cs (errors.TooDeep at) early k = k
-  from_faults cs (errors.Wire w) early k = k
-
-  pub whole_refused : (cs : List (ℕ × Content)) (e : DynError) → IsLowest (AnyFault cs) e → code e < 605 → MayRefuseFor (Faults cs) e
-  whole_refused cs e fault early =
-      may_refuse (Faults cs) e (to_faults cs e early fault.0, λ other low k. let lt : code other < 605 = omega arith in fault.1 other low (from_faults cs other lt k))
-
-  -- the message of sorted contents is that of the contents
-  pub whole_unsorted : (xs ys : List (ℕ × Content)) (m : Kept) → ((number : ℕ) → filter (of_field number) ys ≡ filter (of_field number) xs) → IsWhole (shape_of parts) type ys m → IsWhole (shape_of parts) type xs m
-  whole_unsorted xs ys m same whole = record {
-    of_type = whole.of_type;
-    contents = λ number. whole.contents number ∙ ap (flat_map (settled_parts (fields (shape_of parts) type))) (same number);
-    no_unknown = whole.no_unknown;
-  }
-
-  pub once_unsorted : (xs ys : List (ℕ × Content)) → ((number : ℕ) → filter (of_field number) ys ≡ filter (of_field number) xs) → Rises ys → (n : ℕ) → length (filter (of_field n) xs) ≤ 1
-  once_unsorted xs ys same rises n = let one = rising_once ys n rises in let len = ap length (same n) in omega arith
-
--- A content of which nothing is wrong is refused for memory alone.
-pub memory_alone : (F : DynError → Type 0) (e : DynError) → HasNoFault F → MayRefuseFor F e → e ≡ errors.Memory
-memory_alone F errors.Memory none h = refl
-memory_alone F errors.NoSuchField none h = absurd (none errors.NoSuchField h.0)
-memory_alone F errors.WrongKind none h = absurd (none errors.WrongKind h.0)
-memory_alone F errors.OutOfRange none h = absurd (none errors.OutOfRange h.0)
-memory_alone F (errors.NotUtf8 at) none h = absurd (none (errors.NotUtf8 at) h.0)
-memory_alone F errors.OneofTwice none h = absurd (none errors.OneofTwice h.0)
-memory_alone F errors.DuplicateKey none h = absurd (none errors.DuplicateKey h.0)
-memory_alone F errors.TooLong none h = absurd (none errors.TooLong h.0)
-memory_alone F (errors.TooDeep at) none h = absurd (none (errors.TooDeep at) h.0)
-memory_alone F (errors.Wire w) none h = absurd (none (errors.Wire w) h.0)
+pub facts_before : (P : ℕ × Content → Type 0) (xs ys : List (ℕ × Content)) → AllByRecursion P (xs ++ ys) → AllByRecursion P xs
+facts_before P [] ys h = tt
+facts_before P (x ∷ xs) ys h = (h.0, facts_before P xs ys h.1)

@@ -41,13 +41,20 @@ items_in f (contents.One value) = (f.element, value) ∷ []
 items_in f (contents.Many vs) = map (λ value. (f.element, value)) vs.items
 items_in f (contents.Map es) = flat_map (λ (e : Value × Value). (key_element f.presence, e.0) ∷ (f.element, e.1) ∷ []) es.items
 
+-- what is no message of the type that fits
+abbrev pub IsNotOf : Shape → TypeId → Value → Type 0
+IsNotOf shape t (values.Msg child) = Fits shape child.value × (type_of child.value ≡ t) → ⊥
+IsNotOf shape t value = ⊤
+
+abbrev pub ChildFault : Shape → TypeId → Value → DynError → Type 0
+ChildFault shape t value errors.WrongKind = IsNotOf shape t value
+ChildFault shape t value e = ⊥
+
 -- what is wrong with an item of an element; an enum takes the numbers of int32
 abbrev pub ElementFault : Shape → Element → Value → DynError → Type 0
 ElementFault shape (elements.Scalar s) value e = IsFaultOf s value e
 ElementFault shape (elements.Enum enum) value e = IsFaultOf Int32 value e
-ElementFault shape (elements.Message t) (values.Msg child) errors.WrongKind = Fits shape child.value × (type_of child.value ≡ t) → ⊥
-ElementFault shape (elements.Message t) value errors.WrongKind = ⊤
-ElementFault shape (elements.Message t) value e = ⊥
+ElementFault shape (elements.Message t) value e = ChildFault shape t value e
 
 abbrev pub AnyOf : {A : Type 0} → (A → Type 0) → List A → Type 0
 AnyOf P [] = ⊥
@@ -61,10 +68,13 @@ abbrev pub PassTwice : {A : Type 0} → (A → Bool) → List A → Type 0
 PassTwice test xs = 1 < length (filter test xs)
 
 -- two entries have one key
+abbrev pub HasEntryTwice : List (Value × Value) → Type 0
+HasEntryTwice es = (key : Leaf) × PassTwice (λ (e : Value × Value). leaf_eq (leaf_of e.0) key) es
+
 abbrev pub HasKeyTwice : Content → Type 0
 HasKeyTwice (contents.One value) = ⊥
 HasKeyTwice (contents.Many vs) = ⊥
-HasKeyTwice (contents.Map es) = (key : Leaf) × PassTwice (λ (e : Value × Value). leaf_eq (leaf_of e.0) key) es.items
+HasKeyTwice (contents.Map es) = HasEntryTwice es.items
 
 -- the content of a field has what the error names
 abbrev pub FieldFault : Shape → FieldShape → Content → DynError → Type 0

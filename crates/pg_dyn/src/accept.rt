@@ -31,6 +31,13 @@ fn is_packable(element: Element) -> bool
     )
 }
 
+/// Whether the wire type is that of an element's own records.
+pub(crate) fn is_own(wire_type: WireType, element: Element) -> bool
+    ensures { result ≡ same_wire wire_type (form_wire (form element)) }
+{
+    wire_type == element_wire_type(element)
+}
+
 /// Whether the field accepts a record of the wire type.
 pub(crate) fn accepts(field: &Field, wire_type: WireType) -> bool
     ensures { result ≡ (same_wire wire_type (own_wire (field_shape field.now)) || (same_wire wire_type Len && is_repeated field.now.presence && is_packable field.now.element)) }

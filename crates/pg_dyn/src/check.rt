@@ -1,19 +1,20 @@
-ghost use Rattle.std.specs.Prelude.{◌≡◌, ◌↔◌, ◌⊎◌, ◌<◌, false, None, IfErr, IfOk, IsOk, IsTrue};
-ghost use Rattle.pg_schema.specs.Flat.{IsFlat};
-ghost use Rattle.pg_schema.specs.Invariant.{IsSchema};
-ghost use Rattle.pg_schema.specs.Parts.{shape_of};
-ghost use Rattle.pg_schema.specs.Shape.{fields};
-ghost use Rattle.pg_dyn.specs.ContentFaults.{code, ContentFault, IsLowest};
-ghost use Rattle.pg_dyn.specs.Coding.{InRange, Text, scalar_form};
-ghost use Rattle.pg_dyn.specs.Message.{Bytes, F32, F64};
-ghost use Rattle.pg_dyn.specs.ScalarItems.{HoldsBytes, IsFaultOf, IsItemOf, TakesItem};
-ghost use Rattle.pg_dyn.specs.declared.error.DynError.TheVariants as errors;
+ghost use Rattle.std.specs.Prelude.{◌≡◌, ◌↔◌, ◌⊎◌, ◌<◌, ◌≤◌, false, None, IfErr, IfOk, IsOk, IsTrue};
+ghost use Rattle.std.specs.List.{AllByRecursion};
 ghost use Rattle.std.specs.Str.{is_utf8};
+ghost use Rattle.pg_schema.specs.Invariant.{IsSchema};
+ghost use Rattle.pg_schema.specs.Parts.{field_shape, shape_of};
+ghost use Rattle.pg_dyn.specs.declared.error.DynError.TheVariants as errors;
+ghost use Rattle.pg_dyn.specs.Coding.{InRange, Text, scalar_form};
+ghost use Rattle.pg_dyn.specs.ContentFaults.{AnyOf, code, ContentFault, ElementFault, FieldFault, IsLowest};
+ghost use Rattle.pg_dyn.specs.ContentFits.{ItemFits};
+ghost use Rattle.pg_dyn.specs.Message.{Bytes, F32, F64};
+ghost use Rattle.pg_dyn.specs.ScalarItems.{HoldsBytes, IsFaultOf, IsItemOf};
+ghost use Rattle.pg_dyn.specs.Told.{code_told, EntryFault, EntryFits, IsTaken, ItemsFit, Tells};
 ghost use Rattle.pg_dyn.specs.WordOf.{IsInteger, IsIntegerOf};
 
 use crate::error::DynError;
 use crate::message::{Content, Value};
-use pg_schema::{Element, Scalar, Schema, TypeId};
+use pg_schema::{Element, Field, Presence, Scalar, Schema, TypeId};
 
 // Whether the scalar's items are integers.
 fn is_integer(scalar: Scalar) -> bool
@@ -99,28 +100,124 @@ pub(crate) fn check_item(scalar: Scalar, value: &Value) -> Result<(), DynError>
     }
 }
 
-/// The scalar of the field with the number, of which the content is to be one item. The error is the first of
-/// what is wrong with the content.
-pub(crate) fn check_content(
+/// Of two answers the one of the lower code, so that nothing is told only where both tell nothing.
+pub(crate) fn lower(
+    first: Result<(), DynError>,
+    second: Result<(), DynError>,
+) -> Result<(), DynError>
+    ensures one { (result ≡ first) ⊎ (result ≡ second) }
+    ensures lowest { (code_told result ≤ code_told first) × (code_told result ≤ code_told second) }
+{
+    match (first, second) {
+        (Ok(()), _) => second,
+        (Err(_), Ok(())) => first,
+        (Err(one), Err(other)) => {
+            if other.code() < one.code() {
+                second
+            } else {
+                first
+            }
+        }
+    }
+}
+
+// Whether an item is one of the element; an enum takes the numbers of int32.
+fn check_element(schema: &Schema, element: Element, value: &Value) -> Result<(), DynError>
+    requires { IsSchema schema.now }
+    ensures { Tells (ItemFits (shape_of schema.now) element value.now) (ElementFault (shape_of schema.now) element value.now) result }
+{
+    match element {
+        Element::Scalar(scalar) => check_item(scalar, value),
+        Element::Enum(_) => check_item(Scalar::Int32, value),
+        Element::Message(_) => {
+            if value.fits(schema, element) {
+                Ok(())
+            } else {
+                Err(DynError::WrongKind)
+            }
+        }
+    }
+}
+
+// The same of all items of a list.
+fn check_values(schema: &Schema, element: Element, values: &[Value]) -> Result<(), DynError>
+    requires { IsSchema schema.now }
+    ensures { Tells (AllByRecursion (ItemFits (shape_of schema.now) element) values.now) (λ e. AnyOf (λ v. ElementFault (shape_of schema.now) element v e) values.now) result }
+{
+    let mut told = Ok(());
+    for value in values {
+        told = lower(told, check_element(schema, element, value));
+    }
+    told
+}
+
+// The same of the key and the value of an entry.
+fn check_entry(
     schema: &Schema,
+    key: Scalar,
+    element: Element,
+    entry: &(Value, Value),
+) -> Result<(), DynError>
+    requires { IsSchema schema.now }
+    ensures { Tells (EntryFits (shape_of schema.now) key element entry.now) (EntryFault (shape_of schema.now) key element entry.now) result }
+{
+    let of_key = check_element(schema, Element::Scalar(key), &entry.0);
+    lower(of_key, check_element(schema, element, &entry.1))
+}
+
+// The same of all entries of a map.
+fn check_entries(
+    schema: &Schema,
+    key: Scalar,
+    element: Element,
+    entries: &[(Value, Value)],
+) -> Result<(), DynError>
+    requires { IsSchema schema.now }
+    ensures { Tells (AllByRecursion (EntryFits (shape_of schema.now) key element) entries.now) (λ e. AnyOf (λ x. EntryFault (shape_of schema.now) key element x e) entries.now) result }
+{
+    let mut told = Ok(());
+    for entry in entries {
+        told = lower(told, check_entry(schema, key, element, entry));
+    }
+    told
+}
+
+// Whether the content is one of the field, but for keys that stand twice.
+fn check_field(schema: &Schema, field: &Field, content: &Content) -> Result<(), DynError>
+    requires { IsSchema schema.now }
+    ensures { Tells (ItemsFit (shape_of schema.now) field.now.presence field.now.element content.now) (FieldFault (shape_of schema.now) (field_shape field.now) content.now) result }
+{
+    match (field.presence, content) {
+        (Presence::Implicit, Content::One(value)) => check_element(schema, field.element, value),
+        (Presence::Explicit, Content::One(value)) => check_element(schema, field.element, value),
+        (Presence::Repeated { .. }, Content::Many(values)) => {
+            check_values(schema, field.element, values)
+        }
+        (Presence::Map { key }, Content::Map(entries)) => {
+            check_entries(schema, key, field.element, entries)
+        }
+        _ => Err(DynError::WrongKind),
+    }
+}
+
+/// The field of the number, of which the content is to be one. The error is the first of what is wrong with the
+/// content, but for keys that stand twice.
+pub(crate) fn check_content<'a>(
+    schema: &'a Schema,
     type_id: TypeId,
     number: u32,
     content: &Content,
-) -> Result<Scalar, DynError>
-    requires is_schema { IsSchema schema.now }
-    requires flat { IsFlat (shape_of schema.now) type_id }
-    ensures ok { IfOk result (λ s. TakesItem (fields (shape_of schema.now) type_id) s number content.now) }
+) -> Result<&'a Field, DynError>
+    requires { IsSchema schema.now }
+    ensures ok { IfOk result (λ f. IsTaken (shape_of schema.now) type_id number content.now (field_shape f.now)) }
     ensures err { IfErr result (IsLowest (ContentFault (shape_of schema.now) type_id number content.now)) }
     ensures early { IfErr result (λ e. code e < 605) }
 {
     let Some(field) = schema.field(type_id, number) else {
         return Err(DynError::NoSuchField);
     };
-    match (field.element, content) {
-        (Element::Scalar(scalar), Content::One(value)) => match check_item(scalar, value) {
-            Ok(()) => Ok(scalar),
-            Err(error) => Err(error),
-        },
-        _ => Err(DynError::WrongKind),
+    match check_field(schema, field, content) {
+        Ok(()) => Ok(field),
+        Err(error) => Err(error),
     }
 }

@@ -178,9 +178,10 @@ impl Value {
 }
 
 impl Content {
-    // How many bytes the records of the content take, of a field of that number.
+    /// How many bytes the records of the content take, of a field of that number. The lengths of the messages in it
+    /// come behind the others.
     #[cycle(count)]
-    fn count(
+    pub(crate) fn count(
         &self,
         schema: &Schema,
         number: u32,

@@ -204,9 +204,9 @@ impl Value {
 }
 
 impl Content {
-    // Adds the records of the content, of a field of that number, likewise.
+    /// Adds the records of the content, of a field of that number, likewise.
     #[cycle(write)]
-    fn write<'a>(
+    pub(crate) fn write<'a>(
         &self,
         out: &mut Vec<u8>,
         schema: &Schema,

@@ -1,30 +1,32 @@
-ghost use Rattle.std.specs.Prelude.{◌≡◌, ◌⊎◌, ℕ, ◌<◌, ◌≤◌, length, false, nat_eq, OnOk, IfOk, IfErr, IsTrue};
+ghost use Rattle.std.specs.Prelude.{◌≡◌, ◌⊎◌, ℕ, ◌<◌, ◌≤◌, length, filter, false, nat_eq, option_and_then, OnOk, IfOk, IfErr, IsTrue};
 ghost use Rattle.std.specs.List.{AllByRecursion};
-ghost use Rattle.std.specs.List.Sorted.{IsNonDecreasingBy};
-ghost use Rattle.pg_schema.specs.Flat.{IsFlat};
+ghost use Rattle.std.specs.List.Sorted.{IsNonDecreasing, IsNonDecreasingBy};
 ghost use Rattle.pg_schema.specs.Invariant.{IsSchema};
 ghost use Rattle.pg_schema.specs.Parts.{shape_of};
-ghost use Rattle.pg_dyn.specs.declared.error.DynError.TheVariants.{Memory};
-ghost use Rattle.pg_dyn.specs.ContentFaults.{AnyOf, code, ContentFault, ContentsFault, HasNoFault, IsLowest, MayRefuseFor, PassTwice};
+ghost use Rattle.pg_schema.specs.Shape.{field_at, fields};
+ghost use Rattle.pg_dyn.specs.declared.error.DynError.TheVariants as errors;
+ghost use Rattle.pg_dyn.specs.ContentFaults.{AnyOf, code, ContentFault, ContentsFault, HasKeyTwice, HasNoFault, is_in_oneof, MayRefuseFor, PassTwice};
+ghost use Rattle.pg_dyn.specs.ContentFits.{NoneRivals};
 ghost use Rattle.pg_dyn.specs.Fits.{Fits};
 ghost use Rattle.pg_dyn.specs.Seen.{Rises};
 ghost use Rattle.pg_dyn.specs.Setting.{IsWhole};
+ghost use Rattle.pg_dyn.specs.Told.{count_of, TakesContent, Tells};
 
-use crate::check::check_content;
+use crate::check::{check_content, lower};
 use crate::error::DynError;
+use crate::keys::check_keys;
 use crate::message::{Content, Message};
 use pg_schema::{Schema, TypeId};
-use std::alloc::Global;
+use std::alloc::{AllocError, Global};
 
-// The error of the lower code; of equal ones the first.
-fn lower(first: DynError, second: DynError) -> DynError
-    ensures one { (result ≡ first) ⊎ (result ≡ second) }
-    ensures lowest { (code result ≤ code first) × (code result ≤ code second) }
+// What is wrong with one content, but for keys that stand twice.
+fn check_one(schema: &Schema, type_id: TypeId, one: &(u32, Content)) -> Result<(), DynError>
+    requires { IsSchema schema.now }
+    ensures { Tells (TakesContent (shape_of schema.now) type_id one.now) (ContentFault (shape_of schema.now) type_id one.now.0 one.now.1) result }
 {
-    if second.code() < first.code() {
-        second
-    } else {
-        first
+    match check_content(schema, type_id, one.0, &one.1) {
+        Ok(_) => Ok(()),
+        Err(error) => Err(error),
     }
 }
 
@@ -34,22 +36,34 @@ fn check_contents(
     type_id: TypeId,
     contents: &[(u32, Content)],
 ) -> Result<(), DynError>
-    requires is_schema { IsSchema schema.now }
-    requires flat { IsFlat (shape_of schema.now) type_id }
-    ensures ok { OnOk result (AllByRecursion (λ c. HasNoFault (ContentFault (shape_of schema.now) type_id c.0 c.1)) contents.now) }
-    ensures err { IfErr result (IsLowest (λ e. AnyOf (λ c. ContentFault (shape_of schema.now) type_id c.0 c.1 e) contents.now)) }
-    ensures early { IfErr result (λ e. code e < 605) }
+    requires { IsSchema schema.now }
+    ensures { Tells (AllByRecursion (TakesContent (shape_of schema.now) type_id) contents.now) (λ e. AnyOf (λ c. ContentFault (shape_of schema.now) type_id c.0 c.1 e) contents.now) result }
 {
-    let mut lowest: Result<(), DynError> = Ok(());
-    for (number, content) in contents {
-        if let Err(error) = check_content(schema, type_id, *number, content) {
-            lowest = match lowest {
-                Ok(()) => Err(error),
-                Err(first) => Err(lower(first, error)),
-            };
+    let mut told = Ok(());
+    for one in contents {
+        told = lower(told, check_one(schema, type_id, one));
+    }
+    told
+}
+
+// Whether no key stands twice in one of the contents.
+fn check_all_keys(
+    alloc: Global,
+    schema: &Schema,
+    type_id: TypeId,
+    contents: &[(u32, Content)],
+) -> Result<(), DynError>
+    requires schema { IsSchema schema.now }
+    requires taken { AllByRecursion (TakesContent (shape_of schema.now) type_id) contents.now }
+    ensures ok { OnOk result (AllByRecursion (λ c. HasKeyTwice c.1 → ⊥) contents.now) }
+    ensures err { IfErr result (λ e. (e ≡ errors.Memory) ⊎ ((e ≡ errors.DuplicateKey) × AnyOf (λ c. HasKeyTwice c.1) contents.now)) }
+{
+    for (_, content) in contents {
+        if let Err(error) = check_keys(alloc, content) {
+            return Err(error);
         }
     }
-    lowest
+    Ok(())
 }
 
 // Whether two of the contents are of one number.
@@ -66,7 +80,80 @@ fn has_number_twice(contents: &[(u32, Content)]) -> bool
     false
 }
 
+// The oneof of which the field of the number is a member.
+fn oneof_of(schema: &Schema, type_id: TypeId, number: u32) -> Option<u32>
+    ensures { result ≡ option_and_then (λ f. f.oneof) (field_at (fields (shape_of schema.now) type_id) number) }
+{
+    match schema.field(type_id, number) {
+        Some(field) => field.oneof,
+        None => None,
+    }
+}
+
+// The oneofs of which the contents are members, in order; each stands as often as members of it do.
+fn sorted_oneofs(
+    alloc: Global,
+    schema: &Schema,
+    type_id: TypeId,
+    contents: &[(u32, Content)],
+) -> Result<Vec<u32>, AllocError>
+    ensures counted { IfOk result (λ os. (oneof : ℕ) → count_of oneof os.items ≡ length (filter (λ c. is_in_oneof (fields (shape_of schema.now) type_id) oneof c.0) contents.now)) }
+    ensures sorted { IfOk result (λ os. IsNonDecreasing os.items) }
+{
+    let mut oneofs = Vec::new(alloc);
+    for (number, _) in contents {
+        if let Some(oneof) = oneof_of(schema, type_id, *number) {
+            oneofs.push(oneof)?;
+        }
+    }
+    oneofs.sort_unstable();
+    Ok(oneofs)
+}
+
+// Whether a number stands twice in a list in order.
+fn has_twice(sorted: &[u32]) -> bool
+    requires { IsNonDecreasing sorted.now }
+    ensures twice { IsTrue result → (number : ℕ) × (1 < count_of number sorted.now) }
+    ensures once { result ≡ false → (number : ℕ) → count_of number sorted.now ≤ 1 }
+{
+    for next in 1..sorted.len() {
+        if sorted[next - 1] == sorted[next] {
+            return true;
+        }
+    }
+    false
+}
+
 impl Message {
+    ghost use Rattle.std.specs.Prelude.{Some};
+    ghost use Rattle.pg_schema.specs.Shape.{FieldShape};
+    ghost use Rattle.pg_dyn.specs.Kept.{type_of};
+    ghost use Rattle.pg_dyn.specs.Replacing.{with_parts, without_rivals};
+    ghost use Rattle.pg_dyn.specs.Seen.{content_seen};
+    ghost use Rattle.pg_dyn.specs.Setting.{settled};
+
+    // Puts a content that its field takes; none may stand in another member of the field's oneof.
+    fn add(&mut self, schema: &Schema, number: u32, content: Content) -> Result<(), DynError>
+        requires is_schema { IsSchema schema.now }
+        requires taken { TakesContent (shape_of schema.now) (type_of self.old) (number, content) }
+        requires once { HasKeyTwice content → ⊥ }
+        ensures ok { OnOk result ((f : FieldShape) → field_at (fields (shape_of schema.now) (type_of self.old)) number ≡ Some f
+            → self.new ≡ with_parts number (settled f (content_seen number content)) self.old) }
+        ensures fits { OnOk result ((f : FieldShape) → field_at (fields (shape_of schema.now) (type_of self.old)) number ≡ Some f
+            → Fits (shape_of schema.now) (without_rivals (fields (shape_of schema.now) (type_of self.old)) f self.old)
+            → Fits (shape_of schema.now) (without_rivals (fields (shape_of schema.now) (type_of self.old)) f self.new)) }
+        ensures err { IfErr result (λ e. e ≡ errors.Memory) }
+    {
+        // A content that is taken has a field.
+        let Some(field) = schema.field(self.type_id, number) else {
+            return Err(DynError::Memory);
+        };
+        match self.put_content(schema, field, content) {
+            Ok(()) => Ok(()),
+            Err(_) => Err(DynError::Memory),
+        }
+    }
+
     // The message of contents by rising numbers, of which nothing is wrong.
     fn filled(
         alloc: Global,
@@ -76,26 +163,27 @@ impl Message {
     ) -> Result<Message, DynError>
         requires schema { IsSchema schema.now }
         requires type_id { type_id.index < length (shape_of schema.now) }
-        requires flat { IsFlat (shape_of schema.now) type_id }
         requires rises { Rises contents.items }
-        requires right { AllByRecursion (λ c. HasNoFault (ContentFault (shape_of schema.now) type_id c.0 c.1)) contents.items }
+        requires taken { AllByRecursion (TakesContent (shape_of schema.now) type_id) contents.items }
+        requires once { AllByRecursion (λ c. HasKeyTwice c.1 → ⊥) contents.items }
+        requires apart { NoneRivals (fields (shape_of schema.now) type_id) contents.items }
         ensures ok { IfOk result (IsWhole (shape_of schema.now) type_id contents.items) }
         ensures fits { IfOk result (Fits (shape_of schema.now)) }
-        ensures err { IfErr result (λ e. e ≡ Memory) }
+        ensures err { IfErr result (λ e. e ≡ errors.Memory) }
     {
         let mut message = Message::empty(alloc, type_id);
         for (number, content) in contents {
-            match message.set(schema, number, content) {
+            match message.add(schema, number, content) {
                 Ok(()) => {}
-                Err((error, _content)) => return Err(error),
+                Err(error) => return Err(error),
             }
         }
         Ok(message)
     }
 
     /// The message of the type with just these contents, each with the number of its field, in any order. A zero
-    /// in a field without presence, an empty list and an empty map leave none, and texts and bytes are one kind,
-    /// as for `set`.
+    /// in a field without presence, an empty list and an empty map leave none, texts and bytes are one kind, and a
+    /// map's entries may come in any order, as for `set`.
     ///
     /// The errors are `NoSuchField`, `WrongKind`, `OutOfRange`, `NotUtf8`, `OneofTwice` where two contents are of
     /// one number or of members of one oneof (proto3 language guide, "Oneof"), `DuplicateKey`, of several the
@@ -107,7 +195,6 @@ impl Message {
         contents: Vec<(u32, Content)>,
     ) -> Result<Message, DynError>
         requires type_id { type_id.index < length (shape_of schema.now) }
-        requires flat { IsFlat (shape_of schema.now) type_id }
         ensures ok { IfOk result (IsWhole (shape_of schema.now) type_id contents.items) }
         ensures fits { IfOk result (Fits (shape_of schema.now)) }
         ensures accepted { OnOk result (HasNoFault (ContentsFault (shape_of schema.now) type_id contents.items)) }
@@ -121,6 +208,11 @@ impl Message {
         if has_number_twice(&sorted) {
             return Err(DynError::OneofTwice);
         }
+        let oneofs = sorted_oneofs(alloc, schema, type_id, &sorted)?;
+        if has_twice(&oneofs) {
+            return Err(DynError::OneofTwice);
+        }
+        check_all_keys(alloc, schema, type_id, &sorted)?;
         Message::filled(alloc, schema, type_id, sorted)
     }
 }

@@ -56,7 +56,7 @@ impl Value {
 }
 
 // Whether each key is below all later ones.
-fn keys_rise(entries: &[(Value, Value)]) -> bool
+pub(crate) fn keys_rise(entries: &[(Value, Value)]) -> bool
     requires { AllByRecursion (λ e. IsKey e.0) entries.now }
     ensures { IsTrue result ↔ KeysRise entries.now }
 {
@@ -69,7 +69,7 @@ fn keys_rise(entries: &[(Value, Value)]) -> bool
 }
 
 // Whether both are one oneof.
-fn is_same_oneof(first: Option<u32>, second: Option<u32>) -> bool
+pub(crate) fn is_same_oneof(first: Option<u32>, second: Option<u32>) -> bool
     ensures { result ≡ same_oneof first second }
 {
     match (first, second) {
@@ -158,7 +158,7 @@ fn unknown_fit(schema: &Schema, type_id: TypeId, unknown: &[UnknownRecord]) -> b
 impl Value {
     // Whether the item is one of the element.
     #[cycle(fits)]
-    fn fits(&self, schema: &Schema, element: Element) -> bool
+    pub(crate) fn fits(&self, schema: &Schema, element: Element) -> bool
         requires { IsSchema schema.now }
         ensures { IsTrue result ↔ ItemFits (shape_of schema.now) element self.now }
     {

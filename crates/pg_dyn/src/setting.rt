@@ -1,22 +1,24 @@
-ghost use Rattle.std.specs.Prelude.{◌≡◌, OnOk, IfErr};
-ghost use Rattle.pg_schema.specs.Flat.{IsFlat};
-ghost use Rattle.pg_schema.specs.Parts.{shape_of};
-ghost use Rattle.pg_dyn.specs.ContentFaults.{ContentFault, HasNoFault, MayRefuseFor};
+ghost use Rattle.std.specs.Prelude.{◌≡◌, OnOk, IfErr, Some};
+ghost use Rattle.pg_schema.specs.Parts.{field_shape, shape_of};
+ghost use Rattle.pg_schema.specs.Shape.{field_at, fields};
+ghost use Rattle.pg_dyn.specs.ContentFaults.{ContentFault, HasKeyTwice, HasNoFault, MayRefuseFor};
 ghost use Rattle.pg_dyn.specs.Fits.{Fits};
 ghost use Rattle.pg_dyn.specs.Kept.{type_of};
 ghost use Rattle.pg_dyn.specs.Setting.{IsSetTo};
 
 use crate::check::check_content;
 use crate::error::DynError;
+use crate::field_list::{put, remove, reserve};
+use crate::keys::check_keys;
 use crate::message::{Content, Message};
-use pg_schema::{Scalar, Schema};
+use pg_schema::{Field, Schema};
 
 impl Message {
     /// Sets the content of the field with the number, in place of the one that stands there. A zero in a field
     /// without presence, an empty list and an empty map take the content out. Setting a member of a oneof takes
     /// out the other members (proto3 language guide, "Field Presence", "Oneof"). Texts and bytes are one kind
     /// here: a text field takes bytes that are UTF-8 and keeps them as text, and a bytes field takes a text and
-    /// keeps it as bytes.
+    /// keeps it as bytes. A map's entries may come in any order, and are kept by rising key.
     ///
     /// Refused, the message is unchanged and the content comes back as it was handed in. The errors are
     /// `NoSuchField`, `WrongKind`, `OutOfRange`, `NotUtf8`, `DuplicateKey`, of several the first in this order,
@@ -28,7 +30,6 @@ impl Message {
         content: Content,
     ) -> Result<(), (DynError, Content)>
         requires fits { Fits (shape_of schema.now) self.old }
-        requires flat { IsFlat (shape_of schema.now) (type_of self.old) }
         ensures ok { OnOk result (IsSetTo (shape_of schema.now) number content self.old self.new) }
         ensures fits { OnOk result (Fits (shape_of schema.now) self.new) }
         ensures accepted { OnOk result (HasNoFault (ContentFault (shape_of schema.now) (type_of self.old) number content)) }
@@ -36,33 +37,60 @@ impl Message {
     {
         // What holds of every schema.
         schema.parts();
-        match check_content(schema, self.type_id, number, &content) {
-            Ok(scalar) => match self.put_content(number, scalar, content) {
-                Ok(()) => Ok(()),
-                Err(back) => Err((DynError::Memory, back)),
-            },
-            Err(error) => Err((error, content)),
+        let field = match check_content(schema, self.type_id, number, &content) {
+            Ok(field) => field,
+            Err(error) => return Err((error, content)),
+        };
+        let alloc = *self.fields.allocator();
+        if let Err(error) = check_keys(alloc, &content) {
+            return Err((error, content));
+        }
+        match self.put_content(schema, field, content) {
+            Ok(()) => {
+                self.clear_rivals(schema, field);
+                Ok(())
+            }
+            Err(back) => Err((DynError::Memory, back)),
         }
     }
 }
 
 impl Message {
-    ghost use Rattle.pg_schema.specs.declared.field.Presence.TheVariants.{Implicit};
-    ghost use Rattle.pg_dyn.specs.Replacing.{with_parts};
-    ghost use Rattle.pg_dyn.specs.ScalarItems.{IsContentOf};
+    ghost use Rattle.pg_schema.specs.Invariant.{IsSchema};
+    ghost use Rattle.pg_dyn.specs.Replacing.{with_parts, without_rivals};
     ghost use Rattle.pg_dyn.specs.Seen.{content_seen};
-    ghost use Rattle.pg_dyn.specs.Setting.{settled_by};
+    ghost use Rattle.pg_dyn.specs.Setting.{settled};
+    ghost use Rattle.pg_dyn.specs.Told.{ItemsFit};
 
-    // Puts a content of an implicit field of the scalar. Where memory is refused, it comes back.
-    fn put_content(&mut self, number: u32, scalar: Scalar, content: Content) -> Result<(), Content>
-        requires { IsContentOf scalar content }
-        ensures ok { OnOk result (self.new ≡ with_parts number (settled_by Implicit (content_seen number content)) self.old) }
+    /// Puts a content that is one of the field, in place of the one that stands there, whatever stands in other
+    /// members of the field's oneof. Where memory is refused, the content comes back as it was handed in.
+    pub(crate) fn put_content(
+        &mut self,
+        schema: &Schema,
+        field: &Field,
+        content: Content,
+    ) -> Result<(), Content>
+        requires is_schema { IsSchema schema.now }
+        requires found { field_at (fields (shape_of schema.now) (type_of self.old)) field.now.number ≡ Some (field_shape field.now) }
+        requires items { ItemsFit (shape_of schema.now) field.now.presence field.now.element content }
+        requires once { HasKeyTwice content → ⊥ }
+        ensures ok { OnOk result (self.new ≡ with_parts field.now.number (settled (field_shape field.now) (content_seen field.now.number content)) self.old) }
+        ensures fits { OnOk result (Fits (shape_of schema.now) (without_rivals (fields (shape_of schema.now) (type_of self.old)) (field_shape field.now) self.old)
+            → Fits (shape_of schema.now) (without_rivals (fields (shape_of schema.now) (type_of self.old)) (field_shape field.now) self.new)) }
         ensures err { IfErr result (λ back. (back ≡ content) × (self.new ≡ self.old)) }
     {
-        match content {
-            Content::One(value) => self.put_item(number, scalar, value),
-            // In a flat schema each content is one item.
-            Content::Many(_) | Content::Map(_) => Ok(()),
+        if content.is_nothing(field) {
+            remove(&mut self.fields, field.number);
+            return Ok(());
         }
+        if reserve(&mut self.fields, field.number).is_err() {
+            return Err(content);
+        }
+        put(
+            &mut self.fields,
+            field.number,
+            content.settled(schema, field),
+        );
+        Ok(())
     }
 }

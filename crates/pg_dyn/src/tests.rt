@@ -1,8 +1,13 @@
-//! Messages of flat types. The bytes are those of the public encoding guide and of the Python runtime.
+//! Messages. The bytes are those of the public encoding guide and of the Python runtime.
+mod copying;
 mod memory;
+mod nested;
 mod numbers;
 mod reading;
+mod rows;
+mod runtime;
 mod setting;
+mod shapes;
 mod writing;
 
 use crate::{Content, DynError, Message, Value, decode, encode, fits};
@@ -83,7 +88,7 @@ fn schema_from(alloc: Global, fields: Vec<Field>, oneofs: Vec<String>) -> Result
 
 /// The message that the bytes are read as, by the type of `schema_of`.
 fn read(alloc: Global, schema: &Schema, bytes: &[u8]) -> Result<Message, DynError> {
-    if !schema.has(M) || !schema.flat(M) {
+    if !schema.has(M) {
         return Err(DynError::NoSuchField);
     }
     decode(alloc, schema, M, bytes, 1)
@@ -110,7 +115,7 @@ fn set(
     number: u32,
     content: Content,
 ) -> Result<(), (DynError, Content)> {
-    if !schema.flat(message.type_id()) || !fits(schema, message) {
+    if !fits(schema, message) {
         return Err((DynError::TooLong, content));
     }
     message.set(schema, number, content)
@@ -122,7 +127,7 @@ fn whole(
     schema: &Schema,
     contents: Vec<(u32, Content)>,
 ) -> Result<Message, DynError> {
-    if !schema.has(M) || !schema.flat(M) {
+    if !schema.has(M) {
         return Err(DynError::TooLong);
     }
     Message::whole(alloc, schema, M, contents)

@@ -92,7 +92,7 @@ fn faults(rt: HostRuntime) -> Result<(), Fail> {
 #[test]
 fn depth(rt: HostRuntime) -> Result<(), Fail> {
     let schema = schema_of(rt.alloc(), &[(1, Scalar::Int32)])?;
-    assert!(rt; schema.has(M) && schema.flat(M));
+    assert!(rt; schema.has(M));
     match decode(rt.alloc(), &schema, M, b"\x08\x05", 0) {
         Err(error) => assert_eq!(rt; error, DynError::TooDeep { at: 0 }),
         Ok(_) => panic!(rt; "the root is too deep"),

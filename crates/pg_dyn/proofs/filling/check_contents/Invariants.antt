@@ -1,9 +1,13 @@
-use Rattle.std.proofs.Common.{take}
+-- what is told of the contents so far
+use Rattle.std.proofs.Common.{ℕ, take}
 use Rattle.pg_schema.specs.Parts.{shape_of}
+use Rattle.pg_dyn.specs.declared.message.Content.{Content}
 use Rattle.pg_dyn.specs.ContentFaults.{ContentFault}
-use Rattle.pg_dyn.proofs.LowestFault.{Tells}
+use Rattle.pg_dyn.specs.Told.{TakesContent}
+use Rattle.pg_dyn.proofs.ContentChecks.{takes_early}
+use Rattle.pg_dyn.proofs.LowestFault.{TellsRow}
 use Rattle.pg_dyn.proofs.filling.check_contents.Given as goal
 
--- what is told of the contents so far
-abbrev pub invariant-loop-number : goal.invariant-loop-number
-invariant-loop-number l = Tells (λ c. ContentFault (shape_of l.schema) l.type_id c.0 c.1) (take l.number-index l.contents) l.lowest
+abbrev pub invariant-loop-one : goal.invariant-loop-one
+invariant-loop-one l =
+    TellsRow (TakesContent (shape_of l.schema) l.type_id) (λ (x : ℕ × Content). ContentFault (shape_of l.schema) l.type_id x.0 x.1) (takes_early (shape_of l.schema) l.type_id) (take l.one-index l.contents) l.told

@@ -1,9 +1,9 @@
-use Rattle.std.proofs.Common.{◌≡◌, Some, None, ap, sym, subst, ◌∙◌}
-use Rattle.pg_schema.specs.Parts.{field_shape, shape_of}
-use Rattle.pg_schema.specs.Shape.{FieldShape, field_at, fields}
+use Rattle.std.proofs.Common.{ap, sym, ◌∙◌}
+use Rattle.pg_schema.specs.Parts.{field_shape}
+use Rattle.pg_schema.specs.Shape.{FieldShape}
 use Rattle.pg_dyn.proofs.FitsChecks.{same_field}
 use Rattle.pg_dyn.proofs.FitsSteps.{some_not_none}
-use Rattle.pg_dyn.proofs.FlatFits.{no_rival}
+use Rattle.pg_dyn.proofs.NoRivals.{no_rival}
 use Rattle.pg_dyn.proofs.fitting.is_member.Goals as goal
 
 pub returns-in_default : goal.returns-in_default

@@ -15,7 +15,8 @@ use Rattle.pg_dyn.specs.ContentFits.{ContentFits, HoldsContent, ItemFits, NoneRi
 use Rattle.pg_dyn.specs.Content.{is_unknown}
 use Rattle.pg_dyn.specs.ScalarItems.{IsItemOf}
 use Rattle.pg_dyn.specs.Seen.{IsKey, record_seen}
-use Rattle.pg_dyn.proofs.FitsByContents.{fits_from_contents, contents_from_fits, item_is_key}
+use Rattle.pg_dyn.proofs.FitsByContents.{fits_from_contents, contents_from_fits}
+use Rattle.pg_dyn.proofs.ItemLeaves.{item_is_key}
 use Rattle.pg_dyn.proofs.FitsChecks.{same_field, all_unknown, none_accepted}
 use Rattle.pg_dyn.proofs.FitsSteps.{each_more, some_not_none}
 use Rattle.pg_dyn.proofs.Lists.{each_weaker}

@@ -7,7 +7,7 @@ use Rattle.pg_dyn.specs.Seen.{leaf_of, IsFilled, HasKeys, Rises, record_seen}
 use Rattle.pg_dyn.specs.Message.{is_zero}
 use Rattle.pg_dyn.specs.FieldList.{put_field}
 use Rattle.pg_dyn.specs.Replacing.{with_parts, implicit_part}
-use Rattle.pg_dyn.proofs.FitsByContents.{item_is_key, zero_of_key}
+use Rattle.pg_dyn.proofs.ItemLeaves.{item_is_key, zero_of_key}
 use Rattle.pg_dyn.proofs.ContentChecks.{key_of_item}
 use Rattle.pg_dyn.proofs.FieldListLaws.{rises_put, rises_remove, each_put, each_removed}
 use Rattle.pg_dyn.proofs.Holding.{held_none, held_one}

@@ -1,47 +1,81 @@
--- A content that passes the test is put in, and one that doesn't comes back.
-use Rattle.std.proofs.Common.{map, refl, ap, sym, subst, ◌∙◌}
+-- A content that passes the tests is put in and the rivals taken out; one that doesn't comes back.
+use Rattle.std.proofs.Common.{◌≡◌, map, ⊎_elim, refl, ap, sym, subst, ◌∙◌}
 use Rattle.pg_schema.specs.declared.field.TypeId.{TypeId}
-use Rattle.pg_schema.specs.Flat.{IsFlat}
-use Rattle.pg_schema.specs.Parts.{shape_of}
-use Rattle.pg_dyn.specs.ContentFaults.{ContentFault, IsLowest}
+use Rattle.pg_schema.specs.Parts.{field_shape, shape_of}
+use Rattle.pg_schema.specs.Shape.{fields, field_at}
+use Rattle.pg_dyn.specs.declared.error.DynError.{DynError}
+use Rattle.pg_dyn.specs.ContentFaults.{ContentFault, IsLowest, MayRefuseFor}
+use Rattle.pg_dyn.specs.Fits.{Fits}
 use Rattle.pg_dyn.specs.Kept.{type_of}
+use Rattle.pg_dyn.specs.Replacing.{without_rivals}
 use Rattle.pg_dyn.specs.Seen.{record_seen}
+use Rattle.pg_dyn.specs.Told.{IsTaken}
+use Rattle.pg_dyn.proofs.PutLaws.{cleared_fits, content_alike}
 use Rattle.pg_dyn.proofs.ReplacingLaws.{type_shown}
-use Rattle.pg_dyn.proofs.SetSteps.{set_to, set_fits, accepted, may_refuse}
+use Rattle.pg_dyn.proofs.SetSteps.{accepted, key_twice, may_refuse, number_is, set_to, with_parts_type}
 use Rattle.pg_dyn.proofs.message.Message.set.Goals as goal
-
-pub returns-in-Ok-put_content-clause-ok : goal.returns-in-Ok-put_content-clause-ok
-returns-in-Ok-put_content-clause-ok c =
-    let a = c.self.inside in
-    let same = sym (ap type_of c.self.view_is) ∙ type_shown a.type_id a.fields.items (map record_seen a.unknown.items) in
-    set_to c.args.schema.now c.parts.ensures.checked c.args.self.now a.type_id same (subst (IsFlat (shape_of c.args.schema.now)) same c.requires.flat) c.args.number c.args.content c.in-Ok.scalar c.in-Ok.ensures.ok c.put_content.new.self c.in-Ok-put_content.ensures.ok
-
-pub returns-in-Ok-put_content-clause-fits : goal.returns-in-Ok-put_content-clause-fits
-returns-in-Ok-put_content-clause-fits c =
-    let a = c.self.inside in
-    let us = map record_seen a.unknown.items in
-    let same = sym (ap type_of c.self.view_is) ∙ type_shown a.type_id a.fields.items us in
-    set_fits c.args.schema.now c.parts.ensures.checked c.args.self.now a.type_id same (subst (IsFlat (shape_of c.args.schema.now)) same c.requires.flat) c.args.number c.args.content c.in-Ok.scalar c.in-Ok.ensures.ok c.put_content.new.self a.fields.items us c.in-Ok-put_content.ensures.ok
-    c.self.view_is c.self.invariant.rises c.self.invariant.filled c.self.invariant.keys c.requires.fits
-
-pub returns-in-Ok-put_content-clause-accepted : goal.returns-in-Ok-put_content-clause-accepted
-returns-in-Ok-put_content-clause-accepted c =
-    let a = c.self.inside in
-    let same = sym (ap type_of c.self.view_is) ∙ type_shown a.type_id a.fields.items (map record_seen a.unknown.items) in
-    accepted c.args.schema.now c.parts.ensures.checked c.args.self.now a.type_id same (subst (IsFlat (shape_of c.args.schema.now)) same c.requires.flat) c.args.number c.args.content c.in-Ok.scalar c.in-Ok.ensures.ok c.put_content.new.self
 
 pub returns-in-Err-clause-refused : goal.returns-in-Err-clause-refused
 returns-in-Err-clause-refused c =
     let a = c.self.inside in
-    let same = sym (ap type_of c.self.view_is) ∙ type_shown a.type_id a.fields.items (map record_seen a.unknown.items) in (
+    let same : type_of c.args.self.now ≡ a.type_id = sym (ap type_of c.self.view_is) ∙ type_shown a.type_id a.fields.items (map record_seen a.unknown.items) in (
       refl,
       refl,
       may_refuse (ContentFault (shape_of c.args.schema.now) (type_of c.args.self.now) c.args.number c.args.content) c.in-Err.error
           (subst (λ (t : TypeId). IsLowest (ContentFault (shape_of c.args.schema.now) t c.args.number c.args.content) c.in-Err.error) (sym same) c.in-Err.ensures.err),
     )
 
-pub check_content-requires-clause-flat : goal.check_content-requires-clause-flat
-check_content-requires-clause-flat c =
+pub check_keys-requires : goal.check_keys-requires
+check_keys-requires c =
+    content_alike c.args.schema.now c.parts.ensures.checked c.self.inside.type_id c.args.number (field_shape c.in-Ok.field.now) c.args.content c.in-Ok.ensures.ok.found c.in-Ok.ensures.ok.items
+
+pub returns-in-Err-check_keys-clause-refused : goal.returns-in-Err-check_keys-clause-refused
+returns-in-Err-check_keys-clause-refused c =
     let a = c.self.inside in
-    let same = sym (ap type_of c.self.view_is) ∙ type_shown a.type_id a.fields.items (map record_seen a.unknown.items) in
-    subst (IsFlat (shape_of c.args.schema.now)) same c.requires.flat
+    let same : type_of c.args.self.now ≡ a.type_id = sym (ap type_of c.self.view_is) ∙ type_shown a.type_id a.fields.items (map record_seen a.unknown.items) in
+    let taken = subst (λ (t : TypeId). IsTaken (shape_of c.args.schema.now) t c.args.number c.args.content (field_shape c.in-Ok.field.now)) (sym same) c.in-Ok.ensures.ok in
+    let may = λ (e : DynError). MayRefuseFor (ContentFault (shape_of c.args.schema.now) (type_of c.args.self.now) c.args.number c.args.content) e in (
+      refl,
+      refl,
+      ⊎_elim (λ is. subst may (sym is) tt)
+          (λ twice. subst may (sym twice.0) (key_twice c.args.schema.now c.parts.ensures.checked c.args.number c.args.content (field_shape c.in-Ok.field.now) (type_of c.args.self.now) taken twice.1)) c.in-Err-check_keys.ensures.err,
+    )
+
+pub put_content-requires-clause-found : goal.put_content-requires-clause-found
+put_content-requires-clause-found c =
+    let a = c.self.inside in
+    let same : type_of c.args.self.now ≡ a.type_id = sym (ap type_of c.self.view_is) ∙ type_shown a.type_id a.fields.items (map record_seen a.unknown.items) in
+    let taken = subst (λ (t : TypeId). IsTaken (shape_of c.args.schema.now) t c.args.number c.args.content (field_shape c.in-Ok.field.now)) (sym same) c.in-Ok.ensures.ok in
+    ap (field_at (fields (shape_of c.args.schema.now) (type_of c.args.self.now))) (number_is c.args.schema.now c.parts.ensures.checked c.args.number c.args.content (field_shape c.in-Ok.field.now) (type_of c.args.self.now) taken) ∙ taken.found
+
+pub returns-in-Ok-put_content-clause-ok : goal.returns-in-Ok-put_content-clause-ok
+returns-in-Ok-put_content-clause-ok c =
+    let a = c.self.inside in
+    let f = field_shape c.in-Ok.field.now in
+    let same : type_of c.args.self.now ≡ a.type_id = sym (ap type_of c.self.view_is) ∙ type_shown a.type_id a.fields.items (map record_seen a.unknown.items) in
+    let taken = subst (λ (t : TypeId). IsTaken (shape_of c.args.schema.now) t c.args.number c.args.content (field_shape c.in-Ok.field.now)) (sym same) c.in-Ok.ensures.ok in
+    let put = c.put_content.new.self in
+    let put_type : type_of put ≡ type_of c.args.self.now = ap type_of c.in-Ok-put_content.ensures.ok ∙ with_parts_type f.number _ c.args.self.now in
+    let new = c.clear_rivals.ensures ∙ ap (λ (t : TypeId). without_rivals (fields (shape_of c.args.schema.now) t) (field_shape c.in-Ok.field.now) c.put_content.new.self) put_type in
+    set_to c.args.schema.now c.parts.ensures.checked c.args.number c.args.content f c.args.self.now put c.clear_rivals.new.self taken c.in-Ok-put_content.ensures.ok new
+
+pub returns-in-Ok-put_content-clause-fits : goal.returns-in-Ok-put_content-clause-fits
+returns-in-Ok-put_content-clause-fits c =
+    let a = c.self.inside in
+    let us = map record_seen a.unknown.items in
+    let f = field_shape c.in-Ok.field.now in
+    let shape = shape_of c.args.schema.now in
+    let same : type_of c.args.self.now ≡ a.type_id = sym (ap type_of c.self.view_is) ∙ type_shown a.type_id a.fields.items us in
+    let put = c.put_content.new.self in
+    let put_type : type_of put ≡ type_of c.args.self.now = ap type_of c.in-Ok-put_content.ensures.ok ∙ with_parts_type f.number _ c.args.self.now in
+    let new = c.clear_rivals.ensures ∙ ap (λ (t : TypeId). without_rivals (fields (shape_of c.args.schema.now) t) (field_shape c.in-Ok.field.now) c.put_content.new.self) put_type in
+    let cleared = cleared_fits c.args.schema.now c.parts.ensures.checked a.type_id f c.args.number c.in-Ok.ensures.ok.found a.fields.items us c.args.self.now c.self.view_is c.self.invariant.rises c.self.invariant.filled c.self.invariant.keys c.requires.fits in
+    let here = subst (λ (t : TypeId). Fits (shape_of c.args.schema.now) (without_rivals (fields (shape_of c.args.schema.now) t) (field_shape c.in-Ok.field.now) c.args.self.now)) (sym same) cleared in
+    subst (Fits shape) (sym new) (c.in-Ok-put_content.ensures.fits here)
+
+pub returns-in-Ok-put_content-clause-accepted : goal.returns-in-Ok-put_content-clause-accepted
+returns-in-Ok-put_content-clause-accepted c =
+    let a = c.self.inside in
+    let same : type_of c.args.self.now ≡ a.type_id = sym (ap type_of c.self.view_is) ∙ type_shown a.type_id a.fields.items (map record_seen a.unknown.items) in
+    let taken = subst (λ (t : TypeId). IsTaken (shape_of c.args.schema.now) t c.args.number c.args.content (field_shape c.in-Ok.field.now)) (sym same) c.in-Ok.ensures.ok in
+    accepted c.args.schema.now c.parts.ensures.checked c.args.number c.args.content (field_shape c.in-Ok.field.now) (type_of c.args.self.now) taken c.in_default.ensures.ok

@@ -1,24 +1,24 @@
--- Contents that pass the test, by rising numbers, and each number once.
-use Rattle.std.proofs.Common.{◌≡◌, ◌<◌, ℕ, List, Result, Ok, Err, IfErr, IfOk, OnOk, length, filter, refl, sym, subst, rules}
+-- Contents that pass the tests, by rising numbers, each number and each oneof once.
+use Rattle.std.proofs.Common.{◌≡◌, ◌<◌, ◌≤◌, ℕ, List, Result, Ok, Err, IfErr, IfOk, OnOk, length, filter, inl, inr, ⊎_elim, refl, sym, subst, arith, rules}
 use Rattle.std.proofs.lemmas.Fn.{always_returns_same}
-use Rattle.std.proofs.lemmas.List.Sorted.{IsNonDecreasingBy-from_sort_by_key}
+use Rattle.std.proofs.lemmas.List.Sorted.{IsNonDecreasingBy-from_sort_by_key, IsPermutation-sym}
 use Rattle.std.proofs.lemmas.Result.{err_from_is_err_and}
 use Rattle.std.specs.List.{AllByRecursion}
 use Rattle.std.specs.List.Sorted.{IsNonDecreasingBy}
-use Rattle.pg_schema.specs.declared.field.TypeId.{TypeId}
 use Rattle.pg_schema.specs.Parts.{shape_of}
-use Rattle.pg_schema.specs.Shape.{Shape}
+use Rattle.pg_schema.specs.Shape.{fields}
 use Rattle.pg_dyn.specs.declared.error.DynError.{DynError}
 use Rattle.pg_dyn.specs.declared.message.Content.{Content}
 use Rattle.pg_dyn.specs.declared.message.Message.{Message}
 use Rattle.pg_dyn.specs.Seen.{Rises}
-use Rattle.pg_dyn.specs.ContentFaults.{AnyOf, PassTwice, ContentsFault, ContentFault, HasNoFault, IsLowest, MayRefuseFor}
+use Rattle.pg_dyn.specs.ContentFaults.{AnyOf, PassTwice, ContentsFault, ContentFault, HasKeyTwice, is_in_oneof, IsLowest, MayRefuseFor}
 use Rattle.pg_dyn.specs.Setting.{IsWhole}
-use Rattle.pg_dyn.proofs.WholeSteps.{of_field, kept_under, all_at, whole_accepted, whole_twice, whole_refused, whole_unsorted, once_unsorted}
+use Rattle.pg_dyn.specs.Told.{count_of, TakesContent}
+use Rattle.pg_dyn.proofs.KeyLaws.{count_moved, each_moved}
+use Rattle.pg_dyn.proofs.Standing.{any_moved}
+use Rattle.pg_dyn.proofs.WholeSteps.{of_field, kept_under}
+use Rattle.pg_dyn.proofs.WholeFaults.{no_rivals_from, once, once_unsorted, whole_accepted, whole_key_twice, whole_refused, whole_twice, whole_unsorted}
 use Rattle.pg_dyn.proofs.message.Message.whole.Goals as goal
-
-abbrev Right : Shape → TypeId → ℕ × Content → Type 0
-Right shape type y = HasNoFault (ContentFault shape type y.0 y.1)
 
 if_ok : {T E : Type 0} (r : Result T E) (P Q : T → Type 0) → ((x : T) → P x → Q x) → IfOk r P → IfOk r Q
 if_ok (Ok x) P Q f h = f x h
@@ -32,9 +32,9 @@ pub returns-in_err-check_contents-clause-refused : goal.returns-in_err-check_con
 returns-in_err-check_contents-clause-refused c =
     let (y, is, from) = err_from_is_err_and c.from_residual.result c.from_residual.ensures.1 in
     let may : DynError → Type 0 = MayRefuseFor (ContentsFault (shape_of c.args.schema.now) c.args.type_id c.args.contents.items) in
-    subst (λ (x : Result Message DynError). IfErr x may) (sym is) (subst may (sym from) (whole_refused c.args.schema.now c.parts.ensures.checked c.args.type_id c.requires.flat c.args.contents.items c.in_err-check_contents.field-0.0
-    (subst (λ (xs : List (ℕ × Content)). IsLowest (λ e. AnyOf (λ (x : ℕ × Content). ContentFault (shape_of c.args.schema.now) c.args.type_id x.0 x.1 e) xs) c.in_err-check_contents.field-0.0) c.deref.ensures.value c.in_err-check_contents.ensures.err)
-    c.in_err-check_contents.ensures.early))
+    let error = c.in_err-check_contents.field-0.0 in
+    let lowest = subst (λ (xs : List (ℕ × Content)). IsLowest (λ e. AnyOf (λ (x : ℕ × Content). ContentFault (shape_of c.args.schema.now) c.args.type_id x.0 x.1 e) xs) c.in_err-check_contents.field-0.0) c.deref.ensures.value c.in_err-check_contents.ensures.0 in
+    subst (λ (x : Result Message DynError). IfErr x may) (sym is) (subst may (sym from) (whole_refused c.args.schema.now c.args.type_id c.args.contents.items error lowest c.in_err-check_contents.ensures.1))
 
 pub has_number_twice-requires : goal.has_number_twice-requires
 has_number_twice-requires c =
@@ -44,30 +44,94 @@ has_number_twice-requires c =
 pub returns-then-has_number_twice-clause-refused : goal.returns-then-has_number_twice-clause-refused
 returns-then-has_number_twice-clause-refused c =
     let xs = c.args.contents.items in
+    let ys = c.sort_by_key.new.self.items in
     let (number, two) = c.if-has_number_twice.ensures.twice refl in
-    let same : (j : ℕ) → filter (of_field j) c.sort_by_key.new.self.items ≡ filter (of_field j) xs =
-    kept_under xs c.sort_by_key.new.self.items (c.sort_by_key.ensures.stable (λ (y : ℕ × Content). y.0) (always_returns_same _ _ _ (λ a r f k. search rules))) in
-    let right = subst (AllByRecursion (Right (shape_of c.args.schema.now) c.args.type_id)) c.deref.ensures.value c.in_ok-check_contents.ensures.ok in
-    whole_twice c.args.schema.now c.parts.ensures.checked c.args.type_id c.requires.flat xs right number (subst (λ (ys : List (ℕ × Content)). 1 < length ys) (same number) (subst (PassTwice (of_field number)) c.deref-2.ensures.value two))
+    let here = subst (PassTwice (of_field number)) c.deref-2.ensures.value two in
+    let count = count_moved (of_field number) xs ys c.sort_by_key.ensures.permutation in
+    let takes = subst (AllByRecursion (TakesContent (shape_of c.args.schema.now) c.args.type_id)) c.deref.ensures.value c.in_ok-check_contents.ensures in
+    whole_twice c.args.schema.now c.args.type_id xs takes (inl (number, omega (arith, here, count)))
 
-pub filled-requires-clause-right : goal.filled-requires-clause-right
-filled-requires-clause-right c =
-    all_at (Right (shape_of c.args.schema.now) c.args.type_id) c.args.contents.items c.sort_by_key.new.self.items c.sort_by_key.ensures.permutation
-    (subst (AllByRecursion (Right (shape_of c.args.schema.now) c.args.type_id)) c.deref.ensures.value c.in_ok-check_contents.ensures.ok)
+pub returns-then-has_twice-clause-refused : goal.returns-then-has_twice-clause-refused
+returns-then-has_twice-clause-refused c =
+    let xs = c.args.contents.items in
+    let ys = c.sort_by_key.new.self.items in
+    let (oneof, two) = c.if-has_twice.ensures.twice refl in
+    let test = λ (x : ℕ × Content). is_in_oneof (fields (shape_of c.args.schema.now) c.args.type_id) oneof x.0 in
+    let here = subst (λ (os : List ℕ). 1 < count_of oneof os) c.deref-4.ensures.value two in
+    let there = subst (λ (zs : List (ℕ × Content)). count_of oneof c.in_ok-oneofs.oneofs.items ≡ length (filter (λ (x : ℕ × Content). is_in_oneof (fields (shape_of c.args.schema.now) c.args.type_id) oneof x.0) zs)) c.deref-3.ensures.value (c.in_ok-oneofs.ensures.counted oneof) in
+    let count = count_moved test xs ys c.sort_by_key.ensures.permutation in
+    let takes = subst (AllByRecursion (TakesContent (shape_of c.args.schema.now) c.args.type_id)) c.deref.ensures.value c.in_ok-check_contents.ensures in
+    whole_twice c.args.schema.now c.args.type_id xs takes (inr (oneof, omega (arith, here, there, count)))
+
+pub check_all_keys-requires-clause-taken : goal.check_all_keys-requires-clause-taken
+check_all_keys-requires-clause-taken c =
+    let P = TakesContent (shape_of c.args.schema.now) c.args.type_id in
+    let takes = subst (AllByRecursion (TakesContent (shape_of c.args.schema.now) c.args.type_id)) c.deref.ensures.value c.in_ok-check_contents.ensures in
+    subst (AllByRecursion P) (sym c.deref-5.ensures.value) (each_moved P c.args.contents.items c.sort_by_key.new.self.items c.sort_by_key.ensures.permutation takes)
+
+pub returns-in_err-check_all_keys-clause-refused : goal.returns-in_err-check_all_keys-clause-refused
+returns-in_err-check_all_keys-clause-refused c =
+    let xs = c.args.contents.items in
+    let ys = c.sort_by_key.new.self.items in
+    let moved = c.sort_by_key.ensures.permutation in
+    let fs = fields (shape_of c.args.schema.now) c.args.type_id in
+    let takes = subst (AllByRecursion (TakesContent (shape_of c.args.schema.now) c.args.type_id)) c.deref.ensures.value c.in_ok-check_contents.ensures in
+    let rises = subst Rises c.deref-2.ensures.value (c.if-has_number_twice.ensures.rises refl) in
+    let same : (j : ℕ) → filter (of_field j) ys ≡ filter (of_field j) xs =
+    kept_under xs ys (c.sort_by_key.ensures.stable (λ (y : ℕ × Content). y.0) (always_returns_same _ _ _ (λ a r f k. search rules))) in
+    let oneof_once : (o : ℕ) → length (filter (λ (x : ℕ × Content). is_in_oneof (fields (shape_of c.args.schema.now) c.args.type_id) o x.0) xs) ≤ 1 =
+    λ o.
+    let here = subst (λ (os : List ℕ). count_of o os ≤ 1) c.deref-4.ensures.value (c.if-has_twice.ensures.once refl o) in
+    let there = subst (λ (zs : List (ℕ × Content)). count_of o c.in_ok-oneofs.oneofs.items ≡ length (filter (λ (x : ℕ × Content). is_in_oneof (fields (shape_of c.args.schema.now) c.args.type_id) o x.0) zs)) c.deref-3.ensures.value (c.in_ok-oneofs.ensures.counted o) in
+    let count = count_moved (λ (x : ℕ × Content). is_in_oneof (fields (shape_of c.args.schema.now) c.args.type_id) o x.0) xs ys moved in
+    omega (arith, here, there, count) in
+    let fields_once = once fs xs (once_unsorted c.args.schema.now c.args.type_id xs ys same rises) oneof_once in
+    let (y, is, from) = err_from_is_err_and c.from_residual-in_err-check_all_keys.result c.from_residual-in_err-check_all_keys.ensures.1 in
+    let may : DynError → Type 0 = MayRefuseFor (ContentsFault (shape_of c.args.schema.now) c.args.type_id c.args.contents.items) in
+    subst (λ (x : Result Message DynError). IfErr x may) (sym is)
+    (subst may (sym from)
+    (⊎_elim (λ memory. subst may (sym memory) tt)
+    (λ twice.
+    subst may (sym twice.0)
+    (whole_key_twice c.args.schema.now c.args.type_id xs takes fields_once
+    (any_moved (λ (x : ℕ × Content). HasKeyTwice x.1) xs ys moved (subst (λ (zs : List (ℕ × Content)). AnyOf (λ (x : ℕ × Content). HasKeyTwice x.1) zs) c.deref-5.ensures.value twice.1)))) c.in_err-check_all_keys.ensures.err))
+
+pub filled-requires-clause-taken : goal.filled-requires-clause-taken
+filled-requires-clause-taken c =
+    let takes = subst (AllByRecursion (TakesContent (shape_of c.args.schema.now) c.args.type_id)) c.deref.ensures.value c.in_ok-check_contents.ensures in
+    each_moved (TakesContent (shape_of c.args.schema.now) c.args.type_id) c.args.contents.items c.sort_by_key.new.self.items c.sort_by_key.ensures.permutation takes
+
+pub filled-requires-clause-apart : goal.filled-requires-clause-apart
+filled-requires-clause-apart c =
+    no_rivals_from (fields (shape_of c.args.schema.now) c.args.type_id) c.sort_by_key.new.self.items (λ o.
+    let here = subst (λ (os : List ℕ). count_of o os ≤ 1) c.deref-4.ensures.value (c.if-has_twice.ensures.once refl o) in
+    let there = subst (λ (zs : List (ℕ × Content)). count_of o c.in_ok-oneofs.oneofs.items ≡ length (filter (λ (x : ℕ × Content). is_in_oneof (fields (shape_of c.args.schema.now) c.args.type_id) o x.0) zs)) c.deref-3.ensures.value (c.in_ok-oneofs.ensures.counted o) in
+    omega (arith, here, there))
 
 pub returns-clause-ok : goal.returns-clause-ok
 returns-clause-ok c =
     let xs = c.args.contents.items in
     let same : (j : ℕ) → filter (of_field j) c.sort_by_key.new.self.items ≡ filter (of_field j) xs =
     kept_under xs c.sort_by_key.new.self.items (c.sort_by_key.ensures.stable (λ (y : ℕ × Content). y.0) (always_returns_same _ _ _ (λ a r f k. search rules))) in
-    if_ok c.filled.result (λ m. IsWhole (shape_of c.args.schema.now) c.args.type_id c.sort_by_key.new.self.items m) (λ m. IsWhole (shape_of c.args.schema.now) c.args.type_id xs m) (λ m k. whole_unsorted c.args.schema.now c.parts.ensures.checked c.args.type_id c.requires.flat xs c.sort_by_key.new.self.items m same k) c.filled.ensures.ok
+    if_ok c.filled.result (λ m. IsWhole (shape_of c.args.schema.now) c.args.type_id c.sort_by_key.new.self.items m) (λ m. IsWhole (shape_of c.args.schema.now) c.args.type_id xs m)
+    (λ m k. whole_unsorted c.args.schema.now c.args.type_id xs c.sort_by_key.new.self.items m same k) c.filled.ensures.ok
 
 pub returns-clause-accepted : goal.returns-clause-accepted
 returns-clause-accepted c =
     let xs = c.args.contents.items in
     let ys = c.sort_by_key.new.self.items in
+    let moved = c.sort_by_key.ensures.permutation in
+    let fs = fields (shape_of c.args.schema.now) c.args.type_id in
+    let takes = subst (AllByRecursion (TakesContent (shape_of c.args.schema.now) c.args.type_id)) c.deref.ensures.value c.in_ok-check_contents.ensures in
+    let rises = subst Rises c.deref-2.ensures.value (c.if-has_number_twice.ensures.rises refl) in
     let same : (j : ℕ) → filter (of_field j) ys ≡ filter (of_field j) xs =
     kept_under xs ys (c.sort_by_key.ensures.stable (λ (y : ℕ × Content). y.0) (always_returns_same _ _ _ (λ a r f k. search rules))) in
-    let right = subst (AllByRecursion (Right (shape_of c.args.schema.now) c.args.type_id)) c.deref.ensures.value c.in_ok-check_contents.ensures.ok in
-    let rises = subst Rises c.deref-2.ensures.value (c.if-has_number_twice.ensures.rises refl) in
-    on_ok c.filled.result (whole_accepted c.args.schema.now c.parts.ensures.checked c.args.type_id c.requires.flat xs right (once_unsorted c.args.schema.now c.parts.ensures.checked c.args.type_id c.requires.flat xs ys same rises))
+    let oneof_once : (o : ℕ) → length (filter (λ (x : ℕ × Content). is_in_oneof (fields (shape_of c.args.schema.now) c.args.type_id) o x.0) xs) ≤ 1 =
+    λ o.
+    let here = subst (λ (os : List ℕ). count_of o os ≤ 1) c.deref-4.ensures.value (c.if-has_twice.ensures.once refl o) in
+    let there = subst (λ (zs : List (ℕ × Content)). count_of o c.in_ok-oneofs.oneofs.items ≡ length (filter (λ (x : ℕ × Content). is_in_oneof (fields (shape_of c.args.schema.now) c.args.type_id) o x.0) zs)) c.deref-3.ensures.value (c.in_ok-oneofs.ensures.counted o) in
+    let count = count_moved (λ (x : ℕ × Content). is_in_oneof (fields (shape_of c.args.schema.now) c.args.type_id) o x.0) xs ys moved in
+    omega (arith, here, there, count) in
+    let fields_once = once fs xs (once_unsorted c.args.schema.now c.args.type_id xs ys same rises) oneof_once in
+    let keys = subst (AllByRecursion (λ (x : ℕ × Content). HasKeyTwice x.1 → ⊥)) c.deref-5.ensures.value c.in_ok-check_all_keys.ensures.ok in
+    on_ok c.filled.result (whole_accepted c.args.schema.now c.args.type_id xs takes fields_once (each_moved (λ (x : ℕ × Content). HasKeyTwice x.1 → ⊥) ys xs (IsPermutation-sym xs ys moved) keys))

@@ -1,0 +1,207 @@
+-- Packed lists, element by element.
+use Rattle.std.proofs.Common.{◌≡◌, ℕ, zero, suc, ◌+◌, ◌-◌, ◌<◌, ◌≤◌, List, [], ◌∷◌, ◌++◌, length, map, take, drop, Some, option_and_then, Result, Ok, Err, IfOk, IfErr, true, refl, ap, ap₂, sym, ◌∙◌, arith, lt-ltb, le-ltb, length-append, length-drop, drop-drop, drop_at, append_assoc}
+use Rattle.std.specs.List.{AllByRecursion}
+use Rattle.std.proofs.lemmas.List.{append-nil, map-append, drop_all, take_at, take_all}
+use Rattle.pg_schema.specs.declared.field.Scalar.{Scalar}
+use Rattle.pg_schema.specs.declared.field.Scalar.TheVariants as scalars
+use Rattle.pg_schema.specs.declared.field.Element.TheVariants as elements
+use Rattle.pg_schema.specs.Shape.{is_packable}
+use Rattle.pg_wire.specs.declared.error.WireError.{WireError}
+use Rattle.pg_wire.specs.declared.record.WireType.{WireType}
+use Rattle.pg_wire.specs.declared.record.WireType.TheVariants.{Varint, I64, Len, I32}
+use Rattle.pg_wire.specs.Reading.{Fault, Front, ◌>>=◌, exactly, row, row_within, Truncated}
+use Rattle.pg_wire.specs.Errors.{error_at, fault_of, place_of, placed}
+use Rattle.pg_wire.proofs.Results.{fault_of-error_at}
+use Rattle.pg_wire.specs.Reads.{value_at}
+use Rattle.pg_wire.specs.Varint.{varint_at, varint_value}
+use Rattle.pg_wire.proofs.RecordLaws.{exactly_takes}
+use Rattle.pg_wire.proofs.Varints.{varint_at_takes, length-IsVarint}
+use Rattle.pg_dyn.specs.declared.message.Value.{Value}
+use Rattle.pg_dyn.specs.Coding.{Text, form_wire, leaf_in, element_at, scalar_form}
+use Rattle.pg_dyn.specs.Content.{packed_leaves, option_from}
+use Rattle.pg_dyn.specs.Optional.{all_some}
+use Rattle.pg_dyn.specs.ScalarItems.{HasShape, IsItemOf}
+use Rattle.pg_dyn.specs.Seen.{leaf_of}
+use Rattle.pg_dyn.proofs.Lists.{each-append}
+use Rattle.pg_dyn.proofs.ReadsOn.{all_some-append}
+
+-- One element at the front.
+
+pub exact_ok : (n : ℕ) (bytes : List ℕ) → n ≤ length bytes → exactly n bytes ≡ Ok (take n bytes, drop n bytes)
+unfolding exactly
+exact_ok n bytes h = rw (le-ltb (length bytes) n h)
+
+pub exact_err : (n : ℕ) (bytes : List ℕ) → length bytes < n → exactly n bytes ≡ Err Truncated
+unfolding exactly
+exact_err n bytes h = rw (lt-ltb (length bytes) n h)
+
+abbrev pub IsOne : WireType → List ℕ → ℕ → Type 0
+IsOne wire bytes n = (element_at wire bytes ≡ Ok (take n bytes, drop n bytes)) × (1 ≤ n) × (n ≤ length bytes)
+
+ok_pair_is : (a b : ℕ) (x y : ℕ) → ◌≡◌ {A = Result (ℕ × ℕ) WireError} (Ok (a, b)) (Ok (x, y)) → b ≡ y
+ok_pair_is a b x y h = let e : ◌≡◌ {A = ℕ × ℕ} (a, b) (x, y) = cc in ap (λ p. p.1) e
+
+pub varint_one : (bytes : List ℕ) (word n : ℕ) → ◌≡◌ {A = Result (ℕ × ℕ) WireError} (Ok (word, n)) (value_at bytes) → IsOne Varint bytes n
+varint_one bytes word n h = of (varint_at bytes) refl h
+  where
+    of : (read : Front (List ℕ)) → varint_at bytes ≡ read → ◌≡◌ {A = Result (ℕ × ℕ) WireError} (Ok (word, n)) (placed 0 (read >>= λ r. Ok (varint_value r.0, length r.0))) → IsOne Varint bytes n
+    of (Err f) is e = absurd (cc)
+    of (Ok r) is e =
+        let taken = varint_at_takes bytes r.0 r.1 is in
+        let len : n ≡ length r.0 = ok_pair_is word n (varint_value r.0) (length r.0) e in
+        let size = length-append r.0 r.1 in
+        let front : take n bytes ≡ r.0 = ap₂ take len taken.1 ∙ take_at r.0 r.1 (length r.0) refl in
+        let back : drop n bytes ≡ r.1 = ap₂ drop len taken.1 ∙ drop_at r.0 r.1 (length r.0) refl in
+        (is ∙ ap₂ (λ x y. Ok (x, y)) (sym front) (sym back), omega (arith, length-IsVarint r.0 taken.0), omega (arith, ap length taken.1))
+
+pub varint_none : (bytes : List ℕ) (e : WireError) → ◌≡◌ {A = Result (ℕ × ℕ) WireError} (Err e) (value_at bytes) → (fault : Fault) × (varint_at bytes ≡ Err fault) × (e ≡ error_at fault 0)
+varint_none bytes e h = of (varint_at bytes) refl h
+  where
+    of : (read : Front (List ℕ)) → varint_at bytes ≡ read → ◌≡◌ {A = Result (ℕ × ℕ) WireError} (Err e) (placed 0 (read >>= λ r. Ok (varint_value r.0, length r.0))) → (fault : Fault) × (varint_at bytes ≡ Err fault) × (e ≡ error_at fault 0)
+    of (Ok r) is k = absurd (cc)
+    of (Err f) is k = (f, is, cc)
+
+-- Rows, step by step.
+
+abbrev Shortens : {A : Type 0} → (List ℕ → Front A) → Type 0
+Shortens {A} read = (bytes : List ℕ) (a : A) (rest : List ℕ) → read bytes ≡ Ok (a, rest) → length rest < length bytes
+
+module _ {A : Type 0} (read : List ℕ → Front A) (shortens : Shortens read) where
+  enough : (n m : ℕ) (bytes : List ℕ) → length bytes ≤ n → length bytes ≤ m → row_within n read bytes ≡ row_within m read bytes
+  enough zero zero bytes h k = refl
+  enough zero (suc m) [] h k = refl
+  enough zero (suc m) (b ∷ bytes) h k = absurd (omega arith)
+  enough (suc n) zero [] h k = refl
+  enough (suc n) zero (b ∷ bytes) h k = absurd (omega arith)
+  enough (suc n) (suc m) [] h k = refl
+  enough (suc n) (suc m) (b ∷ bytes) h k = of (λ rest shorter. enough n m rest (omega arith) (omega arith)) (read (b ∷ bytes)) refl
+    where
+      of : ((rest : List ℕ) → length rest < length (b ∷ bytes) → row_within n read rest ≡ row_within m read rest) → (front : Front A) → read (b ∷ bytes) ≡ front
+          → (front >>= λ first. row_within n read first.1 >>= λ others. Ok (first.0 ∷ others)) ≡ (front >>= λ first. row_within m read first.1 >>= λ others. Ok (first.0 ∷ others))
+      of below (Err f) is = refl
+      of below (Ok first) is = ap (λ r. r >>= λ others. Ok (first.0 ∷ others)) (below first.1 (shortens (b ∷ bytes) first.0 first.1 is))
+
+  pub row-step : (bytes : List ℕ) (a : A) (rest : List ℕ) → read bytes ≡ Ok (a, rest) → row read bytes ≡ (row read rest >>= λ others. Ok (a ∷ others))
+  unfolding row
+  row-step [] a rest is = absurd (let shorter = shortens [] a rest is in omega arith)
+  row-step (b ∷ bytes) a rest is =
+      let shorter = shortens (b ∷ bytes) a rest is in
+      enough (length (b ∷ bytes)) (suc (length (b ∷ bytes))) (b ∷ bytes) (omega arith) (omega arith)
+      ∙ ap (λ front. front >>= λ first. row_within (length (b ∷ bytes)) read first.1 >>= λ others. Ok (first.0 ∷ others)) is
+      ∙ ap (λ r. r >>= λ others. Ok (a ∷ others)) (enough (length (b ∷ bytes)) (length rest) rest (omega arith) (omega arith))
+
+  pub row-stop : (bytes : List ℕ) (f : Fault) → 1 ≤ length bytes → read bytes ≡ Err f → row read bytes ≡ Err f
+  unfolding row
+  row-stop [] f some is = absurd (omega arith)
+  row-stop (b ∷ bytes) f some is =
+      enough (length (b ∷ bytes)) (suc (length (b ∷ bytes))) (b ∷ bytes) (omega arith) (omega arith)
+      ∙ ap (λ front. front >>= λ first. row_within (length (b ∷ bytes)) read first.1 >>= λ others. Ok (first.0 ∷ others)) is
+
+  pub row-end : row read [] ≡ Ok []
+  unfolding row
+  row-end = refl
+
+pub element_shortens : (wire : WireType) → Shortens (element_at wire)
+element_shortens Varint bytes a rest h = let taken = varint_at_takes bytes a rest h in omega (arith, ap length taken.1, length-append a rest, length-IsVarint a taken.0)
+element_shortens I64 bytes a rest h = let taken = exactly_takes 8 bytes a rest h in omega (arith, ap length taken.1, length-append a rest, taken.0)
+element_shortens I32 bytes a rest h = let taken = exactly_takes 4 bytes a rest h in omega (arith, ap length taken.1, length-append a rest, taken.0)
+element_shortens Len bytes a rest h = absurd (cc)
+
+-- the items that are read of a packed list up to a place
+pub record RowSoFar (s : Scalar) (body : List ℕ) (start : ℕ) (old now : List Value) : Type 0 where
+  pub inside : start ≤ length body
+  pub done : List (List ℕ)
+  pub values : List Value
+  pub now_is : now ≡ old ++ values
+  pub leaves : all_some (map (leaf_in (scalar_form s)) done) ≡ Some (map leaf_of values)
+  pub items : AllByRecursion (IsItemOf s) values
+  pub row_ok : (others : List (List ℕ)) → row (element_at (form_wire (scalar_form s))) (drop start body) ≡ Ok others → row (element_at (form_wire (scalar_form s))) body ≡ Ok (done ++ others)
+  pub row_err : (f : Fault) → row (element_at (form_wire (scalar_form s))) (drop start body) ≡ Err f → row (element_at (form_wire (scalar_form s))) body ≡ Err f
+
+module _ (s : Scalar) (body : List ℕ) (old : List Value) where
+  pub row_begin : RowSoFar s body 0 old old
+  row_begin = record {
+    inside = omega arith;
+    done = [];
+    values = [];
+    now_is = sym (append-nil old);
+    leaves = refl;
+    items = tt;
+    row_ok = λ others h. h;
+    row_err = λ f h. h;
+  }
+
+  module _ (start : ℕ) (now : List Value) (a : RowSoFar s body start old now) where
+    pub row_done : length body ≤ start → (values : List Value) × (now ≡ old ++ values) × (packed_leaves (scalar_form s) body ≡ Some (map leaf_of values)) × AllByRecursion (IsItemOf s) values
+    row_done end =
+        let none : drop start body ≡ [] = drop_all start body end in
+        let whole = a.row_ok [] (ap (row (element_at (form_wire (scalar_form s)))) none ∙ row-end (element_at (form_wire (scalar_form s))) (element_shortens (form_wire (scalar_form s)))) in
+        (a.values, a.now_is, (ap (λ r. option_and_then (λ bodies. all_some (map (leaf_in (scalar_form s)) bodies)) (option_from r)) whole ∙ ap (λ bs. all_some (map (leaf_in (scalar_form s)) bs)) (append-nil a.done) ∙ a.leaves), a.items)
+
+    pub row_broken : start < length body → (f : Fault) → element_at (form_wire (scalar_form s)) (drop start body) ≡ Err f → row (element_at (form_wire (scalar_form s))) body ≡ Err f
+    row_broken inside f h = a.row_err f (row-stop (element_at (form_wire (scalar_form s))) (element_shortens (form_wire (scalar_form s))) (drop start body) f (omega (arith, length-drop start body)) h)
+
+    pub row_onward : (n : ℕ) (v : Value) → IsOne (form_wire (scalar_form s)) (drop start body) n → leaf_in (scalar_form s) (take n (drop start body)) ≡ Some (leaf_of v) → IsItemOf s v → RowSoFar s body (start + n) old (now ++ v ∷ [])
+    row_onward n v one read item =
+        let rest_is : drop n (drop start body) ≡ drop (start + n) body = drop-drop n start body in
+        let step = row-step (element_at (form_wire (scalar_form s))) (element_shortens (form_wire (scalar_form s))) (drop start body) (take n (drop start body)) (drop n (drop start body)) one.0
+        ∙ ap (λ xs. row (element_at (form_wire (scalar_form s))) xs >>= λ others. Ok (take n (drop start body) ∷ others)) rest_is in
+        record {
+          inside = omega (arith, one.2, length-drop start body);
+          done = a.done ++ take n (drop start body) ∷ [];
+          values = a.values ++ v ∷ [];
+          now_is = ap (λ xs. xs ++ v ∷ []) a.now_is ∙ append_assoc old a.values (v ∷ []);
+          leaves = ap all_some (map-append (leaf_in (scalar_form s)) a.done (take n (drop start body) ∷ []))
+              ∙ all_some-append (map (leaf_in (scalar_form s)) a.done) (leaf_in (scalar_form s) (take n (drop start body))) (map leaf_of a.values) (leaf_of v) a.leaves read
+              ∙ ap (λ xs. Some xs) (sym (map-append leaf_of a.values (v ∷ [])));
+          items = each-append (IsItemOf s) a.values (v ∷ []) a.items (item, tt);
+          row_ok = λ others h.
+              a.row_ok (take n (drop start body) ∷ others) (step ∙ ap (λ r. r >>= λ others. Ok (take n (drop start body) ∷ others)) h)
+              ∙ ap (λ xs. Ok xs) (sym (append_assoc a.done (take n (drop start body) ∷ []) others));
+          row_err = λ f h. a.row_err f (step ∙ ap (λ r. r >>= λ others. Ok (take n (drop start body) ∷ others)) h);
+        }
+
+-- a body of the shape of the element's wire type
+pub one_shape : (wire : WireType) (bytes : List ℕ) (n : ℕ) → IsOne wire bytes n → HasShape wire (take n bytes)
+one_shape Varint bytes n h = (varint_at_takes bytes (take n bytes) (drop n bytes) h.0).0
+one_shape I64 bytes n h = (exactly_takes 8 bytes (take n bytes) (drop n bytes) h.0).0
+one_shape I32 bytes n h = (exactly_takes 4 bytes (take n bytes) (drop n bytes) h.0).0
+one_shape Len bytes n h = tt
+
+-- no text is packed
+pub no_packed_text : (s : Scalar) → is_packable (elements.Scalar s) ≡ true → scalar_form s ≡ Text → ⊥
+no_packed_text scalars.String h e = absurd (cc)
+no_packed_text scalars.Bytes h e = absurd (cc)
+no_packed_text scalars.Double h e = cc
+no_packed_text scalars.Float h e = cc
+no_packed_text scalars.Int32 h e = cc
+no_packed_text scalars.Int64 h e = cc
+no_packed_text scalars.Uint32 h e = cc
+no_packed_text scalars.Uint64 h e = cc
+no_packed_text scalars.Sint32 h e = cc
+no_packed_text scalars.Sint64 h e = cc
+no_packed_text scalars.Fixed32 h e = cc
+no_packed_text scalars.Fixed64 h e = cc
+no_packed_text scalars.Sfixed32 h e = cc
+no_packed_text scalars.Sfixed64 h e = cc
+no_packed_text scalars.Bool h e = cc
+
+-- a length that is there, or isn't
+pub if_there : (wire : WireType) (len : ℕ) (bytes : List ℕ) (r : Result ℕ WireError) → 1 ≤ len → element_at wire bytes ≡ exactly len bytes → IfOk r (λ n. (n ≡ len) × (len ≤ length bytes)) → IfOk r (IsOne wire bytes)
+if_there wire len bytes (Ok n) some is h = (is ∙ exact_ok len bytes h.1 ∙ ap (λ k. Ok (take k bytes, drop k bytes)) (sym h.0), (let e = h.0 in omega arith), (let e = h.0 in let k = h.1 in omega arith))
+if_there wire len bytes (Err e) some is h = tt
+
+pub if_short : (wire : WireType) (len : ℕ) (bytes : List ℕ) (r : Result ℕ WireError) → element_at wire bytes ≡ exactly len bytes → IfErr r (λ e. (e ≡ error_at Truncated 0) × (length bytes < len))
+    → IfErr r (λ e. (fault : Fault) × (element_at wire bytes ≡ Err fault) × (e ≡ error_at fault 0))
+if_short wire len bytes (Ok n) is h = tt
+if_short wire len bytes (Err e) is h = (Truncated, is ∙ exact_err len bytes h.1, h.0)
+
+-- an error of what stands first, that many bytes further
+pub error_after : (f : Fault) (e : WireError) (at : ℕ) → e ≡ error_at f 0 → error_at (fault_of e) (place_of e + at) ≡ error_at f at
+error_after f e at is =
+    let k = fault_of-error_at f 0 in
+    let there : place_of e + at ≡ at = omega (arith, ap place_of is, k.1) in
+    ap₂ error_at (ap fault_of is ∙ k.0) there
+
+pub to_end : (body : List ℕ) (start : ℕ) → take (length body - start) (drop start body) ≡ drop start body
+to_end body start = take_all (length body - start) (drop start body) (omega (arith, length-drop start body))

@@ -1,0 +1,50 @@
+-- The place of the number is that of its field, or one where none of it stands.
+use Rattle.std.proofs.Common.{◌≡◌, ◌<◌, ◌≢◌, ℕ, List, ◌∷◌, take, drop, length, get_or, ap, sym, ◌∙◌, subst, arith}
+use Rattle.pg_dyn.specs.declared.message.Content.{Content}
+use Rattle.pg_dyn.specs.FieldList.{put_field}
+use Rattle.pg_dyn.proofs.FieldListLaws.{AllBelow, AllFrom, put_there, nothing_removed, apart_past_end, apart_there, number_at, set_same}
+use Rattle.pg_dyn.proofs.lifting.take_out.Goals.{else-place-len-via-then-place-len+else-index-number, else-place-len-via-else-place-len}
+use Rattle.pg_dyn.proofs.lifting.take_out.Goals as goal
+
+pub returns-then-index-number-clause-held : goal.returns-then-index-number-clause-held
+returns-then-index-number-clause-held c =
+    let fs = c.args.fields.now.items in
+    let place = c.place_of-place.result in
+    let low = subst (λ (xs : List (ℕ × Content)). AllBelow c.args.number (take place xs)) c.deref.ensures.value c.place_of-place.ensures.below in
+    let high = subst (λ (xs : List (ℕ × Content)). AllFrom c.args.number (drop place xs)) c.deref.ensures.value c.place_of-place.ensures.from_there in
+    let inside : place < length fs = omega (arith, c.if-place-len.true, c.len.ensures, c.args.fields.now.ok.0) in
+    let d = c.index_mut.result.now in
+    let here = number_at fs place c.args.number c.index.result.now d inside c.index.ensures c.if-index-number.true in
+    let one : d ≡ get_or fs place d = c.index_mut.ensures.value in
+    let value : c.replace.result ≡ d.1 = c.replace.ensures.value in
+    sym (set_same fs place d inside one)
+    ∙ put_there fs place c.args.number c.requires low high inside d here d.0 d.1 (ap (λ (f : ℕ × Content). f.0) one ∙ here)
+    ∙ ap (λ (x : Content). put_field c.args.number x fs) (sym value)
+
+pub returns-then-index-number-clause-rest : goal.returns-then-index-number-clause-rest
+returns-then-index-number-clause-rest c =
+    let fs = c.args.fields.now.items in
+    let place = c.place_of-place.result in
+    let low = subst (λ (xs : List (ℕ × Content)). AllBelow c.args.number (take place xs)) c.deref.ensures.value c.place_of-place.ensures.below in
+    let high = subst (λ (xs : List (ℕ × Content)). AllFrom c.args.number (drop place xs)) c.deref.ensures.value c.place_of-place.ensures.from_there in
+    let inside : place < length fs = omega (arith, c.if-place-len.true, c.len.ensures, c.args.fields.now.ok.0) in
+    let d = c.index_mut.result.now in
+    let here = number_at fs place c.args.number c.index.result.now d inside c.index.ensures c.if-index-number.true in
+    put_there fs place c.args.number c.requires low high inside d here d.0 c.replace.new.dest (ap (λ (f : ℕ × Content). f.0) c.index_mut.ensures.value ∙ here)
+    ∙ ap (λ (x : Content). put_field c.args.number x fs) c.replace.ensures.after
+
+pub returns-clause-held : goal.returns-clause-held
+returns-clause-held c =
+    let fs = c.args.fields.now.items in
+    let place = c.place_of-place.result in
+    let low = subst (λ (xs : List (ℕ × Content)). AllBelow c.args.number (take place xs)) c.deref.ensures.value c.place_of-place.ensures.below in
+    let high = subst (λ (xs : List (ℕ × Content)). AllFrom c.args.number (drop place xs)) c.deref.ensures.value c.place_of-place.ensures.from_there in
+    let apart : (y : ℕ × Content) (zs : List (ℕ × Content)) → drop place fs ≡ y ∷ zs → y.0 ≢ c.args.number =
+    elim c.else-place-len.branch as (λ b. (y : ℕ × Content) (zs : List (ℕ × Content)) → drop place fs ≡ y ∷ zs → y.0 ≢ c.args.number) [
+      | else-place-len-via-then-place-len+else-index-number w ↦
+          let inside : place < length fs = omega (arith, w.if-place-len.true, c.len.ensures, c.args.fields.now.ok.0) in
+          apart_there fs place c.args.number w.index.result.now inside (λ e. w.if-index-number.false (ap (λ (f : ℕ × Content). f.0) w.index.ensures ∙ e))
+      | else-place-len-via-else-place-len w ↦
+          apart_past_end fs place c.args.number (omega (arith, w.if-place-len.false, c.len.ensures, c.args.fields.now.ok.0))
+    ] in
+    nothing_removed fs place c.args.number c.requires low high apart

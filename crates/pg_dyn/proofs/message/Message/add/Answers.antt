@@ -1,0 +1,74 @@
+-- The field that takes the content is the one that is found.
+use Rattle.std.proofs.Common.{◌≡◌, ℕ, Some, Result, OnOk, map, ap, sym, subst, ◌∙◌}
+use Rattle.pg_schema.specs.declared.field.TypeId.{TypeId}
+use Rattle.pg_schema.specs.Parts.{field_shape, shape_of}
+use Rattle.pg_schema.specs.Shape.{FieldShape, fields, field_at}
+use Rattle.pg_dyn.specs.declared.error.DynError.{DynError}
+use Rattle.pg_dyn.specs.Fits.{Fits}
+use Rattle.pg_dyn.specs.Kept.{type_of}
+use Rattle.pg_dyn.specs.Replacing.{with_parts, without_rivals}
+use Rattle.pg_dyn.specs.Seen.{content_seen, record_seen}
+use Rattle.pg_dyn.specs.Setting.{settled}
+use Rattle.pg_dyn.specs.Told.{ItemsFit}
+use Rattle.pg_dyn.proofs.FitsChecks.{same_field}
+use Rattle.pg_dyn.proofs.ReplacingLaws.{type_shown}
+use Rattle.pg_dyn.proofs.Splitting.{found_number}
+use Rattle.pg_dyn.proofs.message.Message.add.Goals.{in-Ok, in-Err}
+use Rattle.pg_dyn.proofs.message.Message.add.Goals as goal
+
+pub put_content-requires-clause-found : goal.put_content-requires-clause-found
+put_content-requires-clause-found c =
+    let a = c.self.inside in
+    let same : type_of c.args.self.now ≡ a.type_id = sym (ap type_of c.self.view_is) ∙ type_shown a.type_id a.fields.items (map record_seen a.unknown.items) in
+    let found = sym c.in-Some.ensures.shape in
+    let number = found_number (fields (shape_of c.args.schema.now) a.type_id) c.args.number (field_shape c.in-Some.field.now) found in
+    ap (λ (t : TypeId). field_at (fields (shape_of c.args.schema.now) t) c.in-Some.field.now.number) same ∙ ap (field_at (fields (shape_of c.args.schema.now) a.type_id)) number ∙ found
+
+pub put_content-requires-clause-items : goal.put_content-requires-clause-items
+put_content-requires-clause-items c =
+    let a = c.self.inside in
+    let same : type_of c.args.self.now ≡ a.type_id = sym (ap type_of c.self.view_is) ∙ type_shown a.type_id a.fields.items (map record_seen a.unknown.items) in
+    let (g, taken) = c.requires.taken in
+    let found = ap (λ (t : TypeId). field_at (fields (shape_of c.args.schema.now) t) c.args.number) same ∙ sym c.in-Some.ensures.shape in
+    let is = same_field g (field_shape c.in-Some.field.now) (sym taken.found ∙ found) in
+    subst (λ (f : FieldShape). ItemsFit (shape_of c.args.schema.now) f.presence f.element c.args.content) is taken.items
+
+pub returns-clause-ok : goal.returns-clause-ok
+returns-clause-ok c =
+    let a = c.self.inside in
+    let same : type_of c.args.self.now ≡ a.type_id = sym (ap type_of c.self.view_is) ∙ type_shown a.type_id a.fields.items (map record_seen a.unknown.items) in
+    let f = field_shape c.in-Some.field.now in
+    let found = ap (λ (t : TypeId). field_at (fields (shape_of c.args.schema.now) t) c.args.number) same ∙ sym c.in-Some.ensures.shape in
+    let number = found_number (fields (shape_of c.args.schema.now) a.type_id) c.args.number f (sym c.in-Some.ensures.shape) in
+    elim c.match-put_content.branch as (λ b. OnOk c.match-put_content.result ((g : FieldShape) → field_at (fields (shape_of c.args.schema.now) (type_of c.args.self.now)) c.args.number ≡ Some g → c.put_content.new.self ≡ with_parts c.args.number (settled g (content_seen c.args.number c.args.content)) c.args.self.now)) [
+      | in-Ok w ↦
+          subst (λ (r : Result (Unit {0}) DynError). OnOk r ((g : FieldShape) → field_at (fields (shape_of c.args.schema.now) (type_of c.args.self.now)) c.args.number ≡ Some g → c.put_content.new.self ≡ with_parts c.args.number (settled g (content_seen c.args.number c.args.content)) c.args.self.now))
+          (sym w.result-is)
+          (λ g there.
+          w.in-Ok.ensures.ok ∙ ap (λ (k : ℕ). with_parts k (settled (field_shape c.in-Some.field.now) (content_seen k c.args.content)) c.args.self.now) number
+          ∙ ap (λ (x : FieldShape). with_parts c.args.number (settled x (content_seen c.args.number c.args.content)) c.args.self.now) (same_field f g (sym found ∙ there)))
+      | in-Err w ↦
+          subst (λ (r : Result (Unit {0}) DynError). OnOk r ((g : FieldShape) → field_at (fields (shape_of c.args.schema.now) (type_of c.args.self.now)) c.args.number ≡ Some g → c.put_content.new.self ≡ with_parts c.args.number (settled g (content_seen c.args.number c.args.content)) c.args.self.now))
+          (sym w.result-is) tt
+    ]
+
+pub returns-clause-fits : goal.returns-clause-fits
+returns-clause-fits c =
+    let a = c.self.inside in
+    let same : type_of c.args.self.now ≡ a.type_id = sym (ap type_of c.self.view_is) ∙ type_shown a.type_id a.fields.items (map record_seen a.unknown.items) in
+    let f = field_shape c.in-Some.field.now in
+    let found = ap (λ (t : TypeId). field_at (fields (shape_of c.args.schema.now) t) c.args.number) same ∙ sym c.in-Some.ensures.shape in
+    elim c.match-put_content.branch as (λ b. OnOk c.match-put_content.result ((g : FieldShape) → field_at (fields (shape_of c.args.schema.now) (type_of c.args.self.now)) c.args.number ≡ Some g
+    → Fits (shape_of c.args.schema.now) (without_rivals (fields (shape_of c.args.schema.now) (type_of c.args.self.now)) g c.args.self.now) → Fits (shape_of c.args.schema.now) (without_rivals (fields (shape_of c.args.schema.now) (type_of c.args.self.now)) g c.put_content.new.self))) [
+      | in-Ok w ↦
+          subst (λ (r : Result (Unit {0}) DynError). OnOk r ((g : FieldShape) → field_at (fields (shape_of c.args.schema.now) (type_of c.args.self.now)) c.args.number ≡ Some g
+          → Fits (shape_of c.args.schema.now) (without_rivals (fields (shape_of c.args.schema.now) (type_of c.args.self.now)) g c.args.self.now) → Fits (shape_of c.args.schema.now) (without_rivals (fields (shape_of c.args.schema.now) (type_of c.args.self.now)) g c.put_content.new.self)))
+          (sym w.result-is)
+          (λ g there.
+          subst (λ (x : FieldShape). Fits (shape_of c.args.schema.now) (without_rivals (fields (shape_of c.args.schema.now) (type_of c.args.self.now)) x c.args.self.now) → Fits (shape_of c.args.schema.now) (without_rivals (fields (shape_of c.args.schema.now) (type_of c.args.self.now)) x c.put_content.new.self))
+          (same_field f g (sym found ∙ there)) w.in-Ok.ensures.fits)
+      | in-Err w ↦
+          subst (λ (r : Result (Unit {0}) DynError). OnOk r ((g : FieldShape) → field_at (fields (shape_of c.args.schema.now) (type_of c.args.self.now)) c.args.number ≡ Some g
+          → Fits (shape_of c.args.schema.now) (without_rivals (fields (shape_of c.args.schema.now) (type_of c.args.self.now)) g c.args.self.now) → Fits (shape_of c.args.schema.now) (without_rivals (fields (shape_of c.args.schema.now) (type_of c.args.self.now)) g c.put_content.new.self)))
+          (sym w.result-is) tt
+    ]

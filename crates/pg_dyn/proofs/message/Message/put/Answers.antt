@@ -1,0 +1,70 @@
+-- The content is put into the field that takes it, and the rivals are taken out.
+use Rattle.std.proofs.Common.{◌≡◌, None, Some, Option, map, ap, sym, subst, ◌∙◌}
+use Rattle.pg_schema.specs.declared.field.TypeId.{TypeId}
+use Rattle.pg_schema.specs.Parts.{field_shape, shape_of}
+use Rattle.pg_schema.specs.Shape.{FieldShape, fields, field_at}
+use Rattle.pg_dyn.specs.Fits.{Fits}
+use Rattle.pg_dyn.specs.Kept.{type_of}
+use Rattle.pg_dyn.specs.Replacing.{without_rivals}
+use Rattle.pg_dyn.specs.Seen.{record_seen}
+use Rattle.pg_dyn.specs.Told.{IsTaken, ItemsFit}
+use Rattle.pg_dyn.proofs.FitsChecks.{same_field}
+use Rattle.pg_dyn.proofs.PutLaws.{cleared_fits}
+use Rattle.pg_dyn.proofs.ReplacingLaws.{type_shown}
+use Rattle.pg_dyn.proofs.SetSteps.{set_to, with_parts_type}
+use Rattle.pg_dyn.proofs.Splitting.{found_number}
+use Rattle.pg_dyn.proofs.message.Message.put.Goals as goal
+
+none_found : (f : FieldShape) → ◌≡◌ {A = Option FieldShape} None (Some f) → ⊥
+none_found f e = cc
+
+pub put_content-requires-clause-found : goal.put_content-requires-clause-found
+put_content-requires-clause-found c =
+    let a = c.self.inside in
+    let same : type_of c.args.self.now ≡ a.type_id = sym (ap type_of c.self.view_is) ∙ type_shown a.type_id a.fields.items (map record_seen a.unknown.items) in
+    let found = sym c.in-Some.ensures.shape in
+    let number = found_number (fields (shape_of c.args.schema.now) a.type_id) c.args.number (field_shape c.in-Some.field.now) found in
+    ap (λ (t : TypeId). field_at (fields (shape_of c.args.schema.now) t) c.in-Some.field.now.number) same ∙ ap (field_at (fields (shape_of c.args.schema.now) a.type_id)) number ∙ found
+
+pub put_content-requires-clause-items : goal.put_content-requires-clause-items
+put_content-requires-clause-items c =
+    let a = c.self.inside in
+    let same : type_of c.args.self.now ≡ a.type_id = sym (ap type_of c.self.view_is) ∙ type_shown a.type_id a.fields.items (map record_seen a.unknown.items) in
+    let (g, taken) = c.requires.taken in
+    let found = ap (λ (t : TypeId). field_at (fields (shape_of c.args.schema.now) t) c.args.number) same ∙ sym c.in-Some.ensures.shape in
+    let is = same_field g (field_shape c.in-Some.field.now) (sym taken.found ∙ found) in
+    subst (λ (f : FieldShape). ItemsFit (shape_of c.args.schema.now) f.presence f.element c.args.content) is taken.items
+
+pub unreachable-requires : goal.unreachable-requires
+unreachable-requires c =
+    let a = c.self.inside in
+    let same : type_of c.args.self.now ≡ a.type_id = sym (ap type_of c.self.view_is) ∙ type_shown a.type_id a.fields.items (map record_seen a.unknown.items) in
+    let (g, taken) = c.requires.taken in
+    none_found g (c.in_default.ensures.shape ∙ ap (λ (t : TypeId). field_at (fields (shape_of c.args.schema.now) t) c.args.number) (sym same) ∙ taken.found)
+
+pub returns-clause-ok : goal.returns-clause-ok
+returns-clause-ok c =
+    let a = c.self.inside in
+    let f = field_shape c.in-Some.field.now in
+    let same : type_of c.args.self.now ≡ a.type_id = sym (ap type_of c.self.view_is) ∙ type_shown a.type_id a.fields.items (map record_seen a.unknown.items) in
+    let (g, given) = c.requires.taken in
+    let found = ap (λ (t : TypeId). field_at (fields (shape_of c.args.schema.now) t) c.args.number) same ∙ sym c.in-Some.ensures.shape in
+    let taken = subst (IsTaken (shape_of c.args.schema.now) (type_of c.args.self.now) c.args.number c.args.content) (same_field g f (sym given.found ∙ found)) given in
+    let put = c.put_content.new.self in
+    let put_type : type_of put ≡ type_of c.args.self.now = ap type_of c.in_ok-put_content.ensures.ok ∙ with_parts_type f.number _ c.args.self.now in
+    let new = c.clear_rivals.ensures ∙ ap (λ (t : TypeId). without_rivals (fields (shape_of c.args.schema.now) t) (field_shape c.in-Some.field.now) c.put_content.new.self) put_type in
+    set_to c.args.schema.now c.parts.ensures.checked c.args.number c.args.content f c.args.self.now put c.clear_rivals.new.self taken c.in_ok-put_content.ensures.ok new
+
+pub returns-clause-fits : goal.returns-clause-fits
+returns-clause-fits c =
+    let a = c.self.inside in
+    let us = map record_seen a.unknown.items in
+    let f = field_shape c.in-Some.field.now in
+    let shape = shape_of c.args.schema.now in
+    let same : type_of c.args.self.now ≡ a.type_id = sym (ap type_of c.self.view_is) ∙ type_shown a.type_id a.fields.items us in
+    let put = c.put_content.new.self in
+    let put_type : type_of put ≡ type_of c.args.self.now = ap type_of c.in_ok-put_content.ensures.ok ∙ with_parts_type f.number _ c.args.self.now in
+    let new = c.clear_rivals.ensures ∙ ap (λ (t : TypeId). without_rivals (fields (shape_of c.args.schema.now) t) (field_shape c.in-Some.field.now) c.put_content.new.self) put_type in
+    let cleared = cleared_fits c.args.schema.now c.parts.ensures.checked a.type_id f c.args.number (sym c.in-Some.ensures.shape) a.fields.items us c.args.self.now c.self.view_is c.self.invariant.rises c.self.invariant.filled c.self.invariant.keys c.requires.fits in
+    let here = subst (λ (t : TypeId). Fits (shape_of c.args.schema.now) (without_rivals (fields (shape_of c.args.schema.now) t) (field_shape c.in-Some.field.now) c.args.self.now)) (sym same) cleared in
+    subst (Fits shape) (sym new) (c.in_ok-put_content.ensures.fits here)

@@ -1,0 +1,9 @@
+-- What a writer writes of the fields that another type doesn't have, field by field.
+use Rattle.std.specs.Prelude.{ℕ, List, [], is_none, if◌then◌else◌}
+use Rattle.pg_schema.specs.declared.field.TypeId.{TypeId}
+use Rattle.pg_schema.specs.Shape.{Shape, FieldShape, field_at}
+use Rattle.pg_dyn.specs.declared.message.Content.{Content}
+use Rattle.pg_dyn.specs.Written.{field_written}
+
+abbrev pub outside_written : Shape → TypeId → List FieldShape → ℕ × Content → List ℕ
+outside_written shape type gs c = if is_none (field_at gs c.0) then field_written shape type c else []

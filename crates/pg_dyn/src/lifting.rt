@@ -1,0 +1,79 @@
+ghost use Rattle.std.specs.Prelude.{◌≡◌, MatchOption};
+ghost use Rattle.pg_dyn.specs.FieldList.{put_field, remove_field};
+ghost use Rattle.pg_dyn.specs.Held.{placeholder};
+ghost use Rattle.pg_dyn.specs.Seen.{Rises};
+
+use crate::error::DynError;
+use crate::field_list::{place_of, put, remove, reserve};
+use crate::message::{Content, Message, Value};
+use pg_schema::{Field, Schema};
+
+// Takes the content out from under the number, where there is one, and leaves a zero in its place.
+fn take_out(fields: &mut Vec<(u32, Content)>, number: u32) -> Option<Content>
+    requires { Rises fields.old.items }
+    ensures held { MatchOption result (fields.old.items ≡ remove_field number fields.old.items) (λ content. fields.old.items ≡ put_field number content fields.old.items) }
+    ensures rest { MatchOption result (fields.new.items ≡ fields.old.items) (λ _. fields.new.items ≡ put_field number placeholder fields.old.items) }
+{
+    let place = place_of(fields, number);
+    if place < fields.len() && fields[place].0 == number {
+        return Some(std::mem::replace(&mut fields[place].1, Content::One(Value::Int(0))));
+    }
+    None
+}
+
+impl Message {
+    ghost use Rattle.std.specs.Prelude.{ℕ, List, Some, OnOk, IfErr};
+    ghost use Rattle.pg_schema.specs.Invariant.{IsSchema};
+    ghost use Rattle.pg_schema.specs.Parts.{field_shape, shape_of};
+    ghost use Rattle.pg_schema.specs.Shape.{field_at, fields};
+    ghost use Rattle.pg_dyn.specs.declared.error.DynError.TheVariants as errors;
+    ghost use Rattle.pg_dyn.specs.Fits.{Fits};
+    ghost use Rattle.pg_dyn.specs.Kept.{KeptItem, of_number, type_of};
+    ghost use Rattle.pg_dyn.specs.Message.{Part};
+    ghost use Rattle.pg_dyn.specs.Replacing.{with_content, with_parts, without_rivals};
+    ghost use Rattle.pg_dyn.specs.Steps.{HeldFits, MayHold, parts_held};
+
+    // Takes out what the field holds. What is left may hold another content of the field; in a oneof the contents of the
+    // other members are dropped.
+    pub(crate) fn lift(&mut self, schema: &Schema, field: &Field) -> Option<Content>
+        requires is_schema { IsSchema schema.now }
+        requires fits { Fits (shape_of schema.now) self.old }
+        requires found { field_at (fields (shape_of schema.now) (type_of self.old)) field.now.number ≡ Some (field_shape field.now) }
+        ensures parts { of_number field.now.number self.old ≡ parts_held field.now.number result }
+        ensures held_fits { HeldFits (shape_of schema.now) (field_shape field.now) result }
+        ensures same { (ps : List (Part KeptItem)) → with_parts field.now.number ps self.new ≡ with_content (fields (shape_of schema.now) (type_of self.old)) (field_shape field.now) ps self.old }
+        ensures may_hold { MayHold (shape_of schema.now) (field_shape field.now) self.new }
+        ensures of_type { type_of self.new ≡ type_of self.old }
+        ensures others { Fits (shape_of schema.now) (without_rivals (fields (shape_of schema.now) (type_of self.old)) (field_shape field.now) self.old) }
+    {
+        // What holds of the message before.
+        let _type_id = self.type_id;
+        self.clear_rivals(schema, field);
+        take_out(&mut self.fields, field.number)
+    }
+
+    // Puts in what the field holds from now on. Where memory is refused, it is dropped.
+    pub(crate) fn lower(
+        &mut self,
+        schema: &Schema,
+        field: &Field,
+        held: Option<Content>,
+    ) -> Result<(), DynError>
+        requires is_schema { IsSchema schema.now }
+        requires may_hold { MayHold (shape_of schema.now) (field_shape field.now) self.old }
+        requires found { field_at (fields (shape_of schema.now) (type_of self.old)) field.now.number ≡ Some (field_shape field.now) }
+        requires held_fits { HeldFits (shape_of schema.now) (field_shape field.now) held }
+        ensures ok { OnOk result (self.new ≡ with_parts field.now.number (parts_held field.now.number held) self.old) }
+        ensures fits { OnOk result (Fits (shape_of schema.now) self.new) }
+        ensures err { IfErr result (λ e. e ≡ errors.Memory) }
+    {
+        let number = field.number;
+        let Some(content) = held else {
+            remove(&mut self.fields, number);
+            return Ok(());
+        };
+        reserve(&mut self.fields, number)?;
+        put(&mut self.fields, number, content);
+        Ok(())
+    }
+}

@@ -1,0 +1,93 @@
+//! The bytes of the fields that another type doesn't have.
+
+ghost use Rattle.std.specs.Prelude.{◌≡◌, ◌<◌, ◌++◌, length, OnOk, IfOk};
+ghost use Rattle.pg_schema.specs.Invariant.{IsSchema};
+ghost use Rattle.pg_schema.specs.Parts.{shape_of};
+ghost use Rattle.pg_schema.specs.Shape.{fields};
+ghost use Rattle.pg_dyn.specs.Comparison.{unshared_bytes};
+ghost use Rattle.pg_dyn.specs.ContentFits.{HoldsContent};
+ghost use Rattle.pg_dyn.specs.Fits.{Fits};
+ghost use Rattle.pg_dyn.specs.Kept.{message_of, type_of};
+ghost use Rattle.pg_dyn.specs.Outside.{outside_written};
+ghost use Rattle.pg_dyn.specs.Written.{field_written};
+
+use crate::error::DynError;
+use crate::message::{Content, Message};
+use pg_schema::{Schema, TypeId};
+use std::alloc::Global;
+
+// Adds the records of a content that the type's field of the number holds.
+fn push_content(
+    alloc: Global,
+    out: &mut Vec<u8>,
+    schema: &Schema,
+    type_id: TypeId,
+    held: &(u32, Content),
+) -> Result<(), DynError>
+    requires is_schema { IsSchema schema.now }
+    requires holds { HoldsContent (shape_of schema.now) type_id held.now }
+    ensures { OnOk result (out.new.items ≡ out.old.items ++ field_written (shape_of schema.now) type_id held.now) }
+{
+    let (number, content) = held;
+    let Some(field) = schema.field(type_id, *number) else {
+        return Ok(());
+    };
+    let mut lengths = Vec::new(alloc);
+    content.count(schema, *number, field, &mut lengths)?;
+    content.write(out, schema, *number, field, &lengths)?;
+    Ok(())
+}
+
+// The same, where another type has no field of the number; else nothing.
+fn push_outside(
+    alloc: Global,
+    out: &mut Vec<u8>,
+    schemas: &Other<'_>,
+    type_id: TypeId,
+    held: &(u32, Content),
+) -> Result<(), DynError>
+    requires is_schema { IsSchema schemas.now.own.now }
+    requires holds { HoldsContent (shape_of schemas.now.own.now) type_id held.now }
+    ensures { OnOk result (out.new.items ≡ out.old.items ++ outside_written (shape_of schemas.now.own.now) type_id (fields (shape_of schemas.now.other.now) schemas.now.other_type) held.now) }
+{
+    match schemas.other.field(schemas.other_type, held.0) {
+        Some(_) => Ok(()),
+        None => push_content(alloc, out, schemas.own, type_id, held),
+    }
+}
+
+/// A schema, and another with a type of its own.
+#[derive(Drop)]
+struct Other<'a> {
+    own: &'a Schema,
+    other: &'a Schema,
+    other_type: TypeId,
+}
+
+/// Of a message's encoding the records of the fields whose numbers another type doesn't have, in their order: what a
+/// reader of that type keeps as unknown (proto3 language guide, "Unknown Fields").
+///
+/// The errors are `TooLong`, only where the message's encoding is, and `Memory`.
+pub fn encode_outside(
+    alloc: Global,
+    schema: &Schema,
+    message: &Message,
+    other: &Schema,
+    other_type: TypeId,
+) -> Result<Vec<u8>, DynError>
+    requires { Fits (shape_of schema.now) message.now }
+    ensures { IfOk result (λ bytes. bytes.items ≡ unshared_bytes (shape_of schema.now) (type_of message.now) (fields (shape_of other.now) other_type) (message_of message.now)) }
+{
+    // What holds of every schema.
+    schema.parts();
+    let schemas = Other {
+        own: schema,
+        other,
+        other_type,
+    };
+    let mut out = Vec::new(alloc);
+    for held in &message.fields {
+        push_outside(alloc, &mut out, &schemas, message.type_id, held)?;
+    }
+    Ok(out)
+}
