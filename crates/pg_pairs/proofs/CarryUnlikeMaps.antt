@@ -13,7 +13,7 @@ use Rattle.pg_wire.specs.declared.record.WireType.TheVariants.{Len}
 use Rattle.pg_wire.specs.Varint.{varint}
 use Rattle.pg_wire.specs.Records.{WireRecord, tag, written}
 use Rattle.pg_dyn.specs.Optional.{first_or}
-use Rattle.pg_dyn.specs.Message.{Leaf, Int, Bytes, Item, Plain, Msg, Message, ends, nests, leaf_eq}
+use Rattle.pg_dyn.specs.Message.{Leaf, Int, Bytes, Item, Plain, Msg, Message, ends, holds, nests, leaf_eq}
 use Rattle.pg_dyn.specs.Coding.{Form, Integer, Single, Double, Text, Raw, form, form_wire, word_bytes, zero_leaf, InRange}
 use Rattle.pg_dyn.specs.Content.{same_wire, is_accepted, takes, plain_content, key_field, value_field, entry_part, leaf_bytes}
 use Rattle.pg_dyn.specs.Writing.{item_record, entry_bytes, records_in, bytes_of}
@@ -32,7 +32,8 @@ use Rattle.pg_pairs.specs.Gaps.{body_length}
 use Rattle.pg_pairs.specs.Costs.{with_length, least_body, entry_cost}
 use Rattle.pg_dyn.specs.Comparison.{Cell}
 use Rattle.pg_pairs.specs.Fields.{is_field_kept}
-use Rattle.pg_pairs.specs.Laws.{IsReached}
+use Rattle.pg_pairs.specs.Laws.{ReachedBy}
+use Rattle.pg_pairs.specs.Carried.{far_leaf}
 use Rattle.pg_pairs.proofs.Leaves.{leaf_eq-true, alike_equal}
 use Rattle.pg_pairs.proofs.GapItems.{IsLeafy}
 use Rattle.pg_pairs.proofs.Costs.{length-len_record}
@@ -46,14 +47,6 @@ use Rattle.pg_pairs.proofs.CarryMaps.{nested, reach_entry}
 use Rattle.pg_pairs.proofs.CarryMapChild.{empty_length}
 use Rattle.pg_pairs.proofs.EntriesRead.{entry_broken, entry_parts}
 use Rattle.pg_pairs.proofs.Meeting.{no_parts}
-
--- a least item that isn't an integer's default
-abbrev pub far_leaf : Form → Leaf
-far_leaf (Integer w) = Int (pos 1)
-far_leaf Single = zero_leaf Single
-far_leaf Double = zero_leaf Double
-far_leaf Text = zero_leaf Text
-far_leaf Raw = zero_leaf Raw
 
 pub far_in_range : (e : Element) → IsLeafy e → InRange (form e) (far_leaf (form e))
 far_in_range (elements.Scalar scalars.String) leafy = zero_in_range (elements.Scalar scalars.String) tt
@@ -195,7 +188,7 @@ module _ (sight : Sight) (old new : Shape) (shape_old : IsShape old) (shape_new 
           leaf_unmet sight.alike (map_of e) beside d value y (apart leafy_new) (read_item (dec new) d) leafy_new (leafy_reader (dec new) d leafy_new).read_is item h
 
   -- a map of leaves
-  pub reach_far_leaves : (e : Element) (leafy : IsLeafy e) → field_at (fields old pair.old) number ≡ Some (map_of e) → field_at (fields new pair.new) number ≡ Some beside → (key value : Leaf) → InRange (form (elements.Scalar k)) key → InRange (form e) value → IsFar e key value → entry_cost number (body_length (form (elements.Scalar k)) key) (body_length (form e) value) ≤ cap → IsReached sight old new pair (entry_cost number (body_length (form (elements.Scalar k)) key) (body_length (form e) value))
+  pub reach_far_leaves : (e : Element) (leafy : IsLeafy e) → field_at (fields old pair.old) number ≡ Some (map_of e) → field_at (fields new pair.new) number ≡ Some beside → (key value : Leaf) → InRange (form (elements.Scalar k)) key → InRange (form e) value → IsFar e key value → entry_cost number (body_length (form (elements.Scalar k)) key) (body_length (form e) value) ≤ cap → ReachedBy sight old new pair (holds number (Some key) value (ends [])) (entry_cost number (body_length (form (elements.Scalar k)) key) (body_length (form e) value))
   reach_far_leaves e leafy found at key value key_range range far small =
       let key_reads = Reads-from_range (elements.Scalar k) key key_range in
       let value_reads = Reads-from_range e value range in
@@ -212,9 +205,8 @@ module _ (sight : Sight) (old new : Shape) (shape_old : IsShape old) (shape_new 
       far))
 
   -- a map of messages, with an empty one
-  pub reach_far_child : (s : TypeId) → field_at (fields old pair.old) number ≡ Some (map_of (elements.Message s)) → field_at (fields new pair.new) number ≡ Some beside → (key : Leaf) → InRange (form (elements.Scalar k)) key → ((like (elements.Scalar k) (elements.Scalar l) ≡ false) × (key ≡ far_leaf (form (elements.Scalar k)))) ⊎ (like (elements.Message s) d ≡ false) → entry_cost number (body_length (form (elements.Scalar k)) key) (least_body (elements.Message s)) ≤ cap → IsReached sight old new pair (entry_cost number (body_length (form (elements.Scalar k)) key) (least_body (elements.Message s)))
+  pub reach_far_child : (s : TypeId) → field_at (fields old pair.old) number ≡ Some (map_of (elements.Message s)) → field_at (fields new pair.new) number ≡ Some beside → (key : Leaf) → InRange (form (elements.Scalar k)) key → ((like (elements.Scalar k) (elements.Scalar l) ≡ false) × (key ≡ far_leaf (form (elements.Scalar k)))) ⊎ (like (elements.Message s) d ≡ false) → entry_cost number (body_length (form (elements.Scalar k)) key) (least_body (elements.Message s)) ≤ cap → ReachedBy sight old new pair (nests number (Some key) (ends []) (ends [])) (entry_cost number (body_length (form (elements.Scalar k)) key) (least_body (elements.Message s)))
   reach_far_child s found at key range far small = (
-    v,
     record {
       is_message = is;
       is_plain = (tt, tt);

@@ -3,11 +3,17 @@ pub mod Views
 pub mod Likeness
 pub mod Gaps
 pub mod Costs
+pub mod Carried
+pub mod CarriedItems
 pub mod Choices
+pub mod Cheapest
 pub mod Covering
+pub mod Comparing
 pub mod Members
 pub mod Fields
+pub mod FirstSeen
 pub mod Settling
 pub mod Contents
 pub mod Laws
+pub mod LeastCosts
 pub mod SmallPairs

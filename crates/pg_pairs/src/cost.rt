@@ -11,7 +11,7 @@ ghost use Rattle.pg_wire.specs.declared.record.WireType.TheVariants.{Len};
 ghost use Rattle.pg_dyn.specs.Coding.{form, form_wire};
 ghost use Rattle.pg_pairs.specs.Costs.{entry_cost, least_body, least_content, nonzero_body, one_item, with_length};
 
-use crate::element::wire_type;
+use pg_dyn::element_wire_type;
 use pg_schema::{Element, Field, Presence, Scalar};
 use pg_wire::{WireType, tag_len, varint_len};
 
@@ -46,7 +46,7 @@ pub(crate) fn least_body(element: Element) -> u64
     ensures bytes { result ≡ least_body element }
     ensures few { result ≤ 8 }
 {
-    match wire_type(element) {
+    match element_wire_type(element) {
         WireType::Varint | WireType::Len => 1,
         WireType::I32 => 4,
         WireType::I64 => 8,

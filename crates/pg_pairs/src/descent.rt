@@ -3,9 +3,10 @@
 ghost use Rattle.std.specs.Prelude.{◌≡◌, map, IfOk, option_to_list};
 ghost use Rattle.pg_schema.specs.Parts.{field_shape, shape_of};
 ghost use Rattle.pg_schema.specs.Shape.{field_at, fields};
+ghost use Rattle.pg_pairs.specs.Carried.{child_pair, choice_child, has_child};
 ghost use Rattle.pg_pairs.specs.Covering.{all_children, children, children_beside, distinct, field_children, message_pair};
 
-use crate::choice::Pair;
+use crate::choice::{Choice, Pair};
 use crate::element::are_like;
 use pg_schema::{Element, Field, Presence, Schema, TypeId};
 use std::alloc::{AllocError, Global};
@@ -13,7 +14,8 @@ use std::collections::HashSet;
 
 // The pair of two elements that are messages.
 fn message_pair(old: Element, new: Element) -> Option<Pair>
-    ensures { option_to_list result ≡ message_pair old new }
+    ensures pair { result ≡ child_pair old new }
+    ensures list { option_to_list result ≡ message_pair old new }
 {
     match (old, new) {
         (Element::Message(old), Element::Message(new)) => Some(Pair { old, new }),
@@ -81,4 +83,23 @@ pub fn children(
         Some(message_type) => children_of(alloc, new, pair.new, &message_type.fields),
         None => Ok(Vec::new(alloc)),
     }
+}
+
+// Whether a choice of that case and part has a child: an item that is one, or the value of an entry.
+fn has_child(case: u8, part: u32) -> bool
+    ensures { result ≡ has_child case part }
+{
+    case == 3 || (case == 5 && part == 2)
+}
+
+/// The pair of the child that the message of the choice holds; `None` where it holds none.
+pub fn choice_child(old: &Schema, new: &Schema, pair: Pair, choice: &Choice) -> Option<Pair>
+    ensures { result ≡ choice_child (shape_of old.now) (shape_of new.now) pair choice.now }
+{
+    let field = old.field(pair.old, choice.number)?;
+    let beside = new.field(pair.new, choice.number)?;
+    if !has_child(choice.case, choice.part) {
+        return None;
+    }
+    message_pair(field.element, beside.element)
 }

@@ -1,29 +1,11 @@
 //! What elements have in common.
 
 ghost use Rattle.std.specs.Prelude.{◌≡◌};
-ghost use Rattle.pg_dyn.specs.Coding.{form, form_wire};
 ghost use Rattle.pg_pairs.specs.Likeness.{like};
 
 use crate::gap_kind::Gap;
 use crate::scalar_gap::gap;
 use pg_schema::{Element, Scalar};
-use pg_wire::WireType;
-
-/// The wire type of an element's own records (Protocol Buffers encoding guide, "Message Structure").
-pub(crate) fn wire_type(element: Element) -> WireType
-    ensures { result ≡ form_wire (form element) }
-{
-    match element {
-        Element::Enum(_) => WireType::Varint,
-        Element::Message(_) => WireType::Len,
-        Element::Scalar(scalar) => match scalar {
-            Scalar::Double | Scalar::Fixed64 | Scalar::Sfixed64 => WireType::I64,
-            Scalar::Float | Scalar::Fixed32 | Scalar::Sfixed32 => WireType::I32,
-            Scalar::String | Scalar::Bytes => WireType::Len,
-            _ => WireType::Varint,
-        },
-    }
-}
 
 // Whether the scalars' items are of one kind and stand in one wire type.
 fn scalars_are_like(old: Scalar, new: Scalar) -> bool

@@ -18,8 +18,8 @@ use std::alloc::AllocError;
 /// An encoding has at most that many bytes (Protocol Buffers encoding guide, "Message Structure").
 const CAP: u64 = 0x7fff_ffff;
 
-// Whether zero counts as an item of the old field beside the new one.
-fn zero_counts(old: &Field, new: &Field) -> bool
+/// Whether zero counts as an item of the old field beside the new one.
+pub(crate) fn zero_counts(old: &Field, new: &Field) -> bool
     ensures { result ≡ zero_counts (field_shape old.now) (field_shape new.now) }
 {
     match (old.presence, new.presence) {

@@ -15,6 +15,7 @@ use crate::gap_kind::Gap;
 use crate::scalar_gap::gap;
 use crate::table::Table;
 use crate::view::View;
+use pg_dyn::complement_64;
 use pg_schema::{Element, EnumId, Scalar, Schema};
 
 // The body of the gap's item between two scalar types.
@@ -28,24 +29,12 @@ fn scalar_gap_body(old: Scalar, new: Scalar) -> Option<u64>
     }
 }
 
-// The word of 64 bits in two's complement (Protocol Buffers encoding guide, "Signed Integers").
-fn complement(number: i32) -> u64
-    ensures { result ≡ twos_complement (2 ^ 64) number }
-{
-    let wide = i128::from(number);
-    if wide < 0 {
-        (wide + 0x1_0000_0000_0000_0000) as u64
-    } else {
-        wide as u64
-    }
-}
-
 // The bytes of an enum's number, which are few.
 fn number_bytes(number: i32) -> u64
     ensures bytes { result ≡ length (varint (twos_complement (2 ^ 64) number)) }
     ensures few { result ≤ 10 }
 {
-    varint_bytes(complement(number))
+    varint_bytes(complement_64(i128::from(number)))
 }
 
 // The body of the least number that isn't alike in two enums.

@@ -1,8 +1,12 @@
 //! Laws about the definitions. Each is the contract of a function that does nothing.
 
+ghost use Rattle.pg_pairs.specs.Carried.{EachChildCostsLess, EachChoiceIsCarried};
+ghost use Rattle.pg_pairs.specs.Cheapest.{CheapestIsLeast};
 ghost use Rattle.pg_pairs.specs.Contents.{ContentsCost};
+ghost use Rattle.pg_pairs.specs.FirstSeen.{OnePairMore};
 ghost use Rattle.pg_pairs.specs.Gaps.{GapTable};
 ghost use Rattle.pg_pairs.specs.Laws.{CoveringBounds, EachChoiceIsReached, ExactIsLeast, NoneIsCompatible};
+ghost use Rattle.pg_pairs.specs.LeastCosts.{LeastCostsAreExact, LeastCostsAreLengths, LowerTablesCostNoMore};
 ghost use Rattle.pg_pairs.specs.SmallPairs.{SmallPairs};
 ghost use Rattle.pg_pairs.specs.Sight.{IsSight, by_numbers};
 ghost use Rattle.pg_pairs.specs.Settling.{OneSolution, SettledByInduction};
@@ -53,7 +57,43 @@ pub fn each_choice_is_reached()
     ensures { EachChoiceIsReached }
 {}
 
+/// The message of a choice breaks and has the choice's cost, if its child, where it has one, breaks and has the
+/// length of its pair's bound.
+pub fn each_choice_is_carried()
+    ensures { EachChoiceIsCarried }
+{}
+
+/// A choice through a child costs more than the child's bound.
+pub fn each_child_costs_less()
+    ensures { EachChildCostsLess }
+{}
+
+/// The cheapest of choices is one of them, of which none costs less; there is none only of no choices.
+pub fn cheapest_is_least()
+    ensures { CheapestIsLeast }
+{}
+
 /// A table whose every bound is the least cost of its pair's choices says the least length of each pair's breaking messages.
 pub fn exact_is_least()
     ensures { ExactIsLeast }
+{}
+
+/// Where the numbers of a table are no more, each pair's least cost is no more.
+pub fn lower_tables_cost_no_more()
+    ensures { LowerTablesCostNoMore }
+{}
+
+/// A pair's least cost is a length that the encoding of a breaking message may have.
+pub fn least_costs_are_lengths()
+    ensures { LeastCostsAreLengths }
+{}
+
+/// As its bound, a pair's least cost is exact.
+pub fn least_costs_are_exact()
+    ensures { LeastCostsAreExact }
+{}
+
+/// One pair more at the end of a list stands among its distinct pairs if it isn't one of them.
+pub fn one_pair_more()
+    ensures { OnePairMore }
 {}

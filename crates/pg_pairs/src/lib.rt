@@ -1,32 +1,44 @@
 //! Pairs of an old and a new type: what of the one the other doesn't see, and how long the shortest message is that shows it.
 #![tactic(auto)]
 
+mod breaking;
+mod carried;
+mod carrying;
 mod choice;
+mod comparing;
 mod cost;
 mod descent;
 mod element;
 mod field_choice;
 mod gap_cost;
 mod gap_kind;
+mod item;
 mod joint;
 mod laws;
+mod least_cost;
 mod member;
 mod option_list;
 mod scalar_gap;
+mod shown;
 mod table;
 mod view;
 
+pub use breaking::breaks;
+pub use carrying::carry;
 pub use choice::{Choice, Pair};
-pub use descent::children;
+pub use descent::{children, choice_child};
 pub use gap_kind::Gap;
 pub use laws::{
-    contents_cost, covering_bounds, each_choice_is_reached, exact_is_least, gap_table,
-    none_is_compatible, numbers_sight, one_solution, settled_by_induction, small_pairs,
+    cheapest_is_least, contents_cost, covering_bounds, each_child_costs_less,
+    each_choice_is_carried, each_choice_is_reached, exact_is_least, gap_table,
+    least_costs_are_exact, least_costs_are_lengths, lower_tables_cost_no_more, none_is_compatible,
+    numbers_sight, one_pair_more, one_solution, settled_by_induction, small_pairs,
 };
+pub use least_cost::cheapest;
 pub use option_list::options;
 pub use scalar_gap::gap;
 pub use table::Table;
-pub use view::{Numbers, View};
+pub use view::{Numbers, View, sees};
 
 #[cfg(test)]
 mod tests;

@@ -1,7 +1,10 @@
 //! The table of gaps, and small pairs with their choices and children.
 
+mod breaking;
+mod carrying;
 mod children;
 mod choices;
+mod least_cost;
 mod maps;
 mod memory;
 mod schemas;

@@ -1,0 +1,103 @@
+-- What a message's encoding is read as decides whether it breaks.
+use Rattle.std.proofs.Common.{◌≡◌, ◌<◌, ◌≤◌, ◌^◌, ◌↔◌, ℕ, zero, suc, List, [], ◌∷◌, length, get_or, filter, Bool, true, false, not, IsTrue, nat_eq, Some, None, refl, ap, sym, ◌∙◌, subst, arith, eqb-true, eq-eqb, true≢false}
+use Rattle.std.specs.List.{list_all}
+use Rattle.pg_schema.specs.declared.field.TypeId.{TypeId}
+use Rattle.pg_schema.specs.Shape.{Shape, FieldShape, IsShape, fields, field_at}
+use Rattle.pg_wire.specs.Records.{WireRecord}
+use Rattle.pg_dyn.specs.Belonging.{IsMessage}
+use Rattle.pg_dyn.specs.Breaking.{Breaks, is_kept}
+use Rattle.pg_dyn.specs.Comparison.{View, same}
+use Rattle.pg_dyn.specs.Decoding.{Reader, dec, read_records}
+use Rattle.pg_dyn.specs.Encoding.{cap, enc, encoded_parts}
+use Rattle.pg_dyn.specs.Fits.{Fits}
+use Rattle.pg_dyn.specs.Kept.{Kept, message_of, type_of}
+use Rattle.pg_dyn.specs.Kept as kept
+use Rattle.pg_dyn.specs.Message.{Message}
+use Rattle.pg_dyn.specs.Message as model
+use Rattle.pg_dyn.specs.Writing.{records_in}
+use Rattle.pg_dyn.proofs.ByField.{kept_from, records_are}
+use Rattle.pg_dyn.proofs.Depth.{dec_is}
+
+pub plain_kept : (m : Kept) → kept.IsPlain m → model.IsPlain (message_of m)
+plain_kept (kept.ends type []) h = tt
+plain_kept (kept.ends type (r ∷ rs)) h = h
+plain_kept (kept.holds number key listed leaf later) h = plain_kept later h
+plain_kept (kept.nests number key listed child later) h = (plain_kept child h.0, plain_kept later h.1)
+
+pub kept_plain : (m : Kept) → model.IsPlain (message_of m) → kept.IsPlain m
+kept_plain (kept.ends type []) h = tt
+kept_plain (kept.ends type (r ∷ rs)) h = h
+kept_plain (kept.holds number key listed leaf later) h = kept_plain later h
+kept_plain (kept.nests number key listed child later) h = (kept_plain child h.0, kept_plain later h.1)
+
+-- ---- types
+
+pub same_type : (s t : TypeId) (differ : Bool) → differ ≡ not (nat_eq s.index t.index) → differ ≡ false → s ≡ t
+same_type s t differ is h = ap (λ index. record { index = index }) (eqb-true s.index t.index (agree (nat_eq s.index t.index) (sym is ∙ h)))
+  where
+    agree : (b : Bool) → not b ≡ false → b ≡ true
+    agree true k = refl
+    agree false k = absurd (cc)
+
+pub other_type : (s t : TypeId) (differ : Bool) → differ ≡ not (nat_eq s.index t.index) → differ ≡ true → s ≡ t → ⊥
+other_type s t differ is h same =
+    let agree = eq-eqb s.index t.index (ap (λ (x : TypeId). x.index) same) in
+    true≢false (sym h ∙ is ∙ ap not agree)
+
+-- ---- a type that isn't there keeps everything
+
+past_end : (s : Shape) (i : ℕ) → (i < length s → ⊥) → get_or s i [] ≡ []
+past_end [] i h = refl
+past_end (fs ∷ s) zero h = absurd (h (omega arith))
+past_end (fs ∷ s) (suc i) h = past_end s i (λ k. h (omega arith))
+
+all_true : (rs : List WireRecord) → list_all (λ (r : WireRecord). true) rs ≡ true
+all_true [] = refl
+all_true (r ∷ rs) = all_true rs
+
+read_by_none : (child : Reader) (rs : List WireRecord) → (w : Message) × (read_records child [] rs ≡ Some w)
+read_by_none child rs = (model.message_from [] (filter (λ (r : WireRecord). true) rs), rw (all_true rs) refl)
+
+pub absent_keeps : (view : View) (old new : Shape) (a b : TypeId) (v : Message) → IsShape old → IsShape new → IsMessage old a v → model.IsPlain v → length (enc old a v) ≤ cap → (b.index < length new → ⊥) → is_kept view old new a b v ≡ true
+absent_keeps view old new a b v is_old is_new is_message plain short absent =
+    let below : length (enc old a v) < 2 ^ 64 = omega (arith, short) in
+    let none : fields new b ≡ [] = past_end new b.index absent in
+    let rs = records_in (fields old a) (encoded_parts old a v) in
+    let all = read_by_none (dec new) (records_in (fields old a) (encoded_parts old a v)) in
+    let read : dec new b (enc old a v) ≡ Some all.0 =
+    rw (dec_is new b (enc old a v), records_are view old new a b v is_old is_new is_message plain below) (ap (λ (gs : List FieldShape). read_records (dec new) gs (records_in (fields old a) (encoded_parts old a v))) none ∙ all.1) in
+    kept_from view old new a b v is_old is_new is_message plain below all.0 read (λ n f g found_f found_g.
+    let clash : None ≡ Some g = ap (λ (gs : List FieldShape). field_at gs n) (sym none) ∙ found_g in absurd (cc))
+
+-- ---- what is read decides
+
+pub kept_is : (view : View) (old new : Shape) (a b : TypeId) (v w : Message) → dec new b (enc old a v) ≡ Some w → is_kept view old new a b v ≡ same view old new a b v w
+unfolding is_kept
+kept_is view old new a b v w read = rw read refl
+
+pub unread_is : (view : View) (old new : Shape) (a b : TypeId) (v : Message) → dec new b (enc old a v) ≡ None → is_kept view old new a b v ≡ false
+unfolding is_kept
+unread_is view old new a b v read = rw read refl
+
+module _ (view : View) (old new : Shape) (m : Kept) (a b : TypeId) where
+  -- just what breaks, of the type
+  abbrev pub Answers : Bool → Type 0
+  Answers so = IsTrue so ↔ ((type_of m ≡ a) × Breaks view old new a b (message_of m))
+
+  not_true : (x : Bool) → not x ≡ true → x ≡ false
+  not_true false h = refl
+  not_true true h = absurd (cc)
+
+  pub answered : (x : Bool) → type_of m ≡ a → Fits old m → kept.IsPlain m → length (enc old (type_of m) (message_of m)) ≤ cap → is_kept view old new (type_of m) b (message_of m) ≡ x → Answers (not x)
+  answered x type_is fits plain short is = (
+    λ e.
+        subst (λ t. (type_of m ≡ t) × Breaks view old new t b (message_of m)) type_is
+        (refl, record { is_message = fits.is_message; is_plain = plain_kept m plain; has_encoding = short; not_kept = is ∙ not_true x e }),
+    λ k. ap not (sym is ∙ subst (λ t. is_kept view old new t b (message_of m) ≡ false) (sym type_is) k.1.not_kept),
+  )
+
+  pub of_read : (read : Kept) (x : Bool) → x ≡ same view old new (type_of m) (type_of read) (message_of m) (message_of read) → type_of read ≡ b → dec new b (enc old (type_of m) (message_of m)) ≡ Some (message_of read) → is_kept view old new (type_of m) b (message_of m) ≡ x
+  of_read read x is type_is found =
+      kept_is view old new (type_of m) b (message_of m) (message_of read) found
+      ∙ ap (λ t. same view old new (type_of m) t (message_of m) (message_of read)) (sym type_is)
+      ∙ sym is

@@ -1,0 +1,81 @@
+-- A message shows the same where each shared field does and what its type lacks comes back as it was written.
+use Rattle.std.proofs.Common.{◌≡◌, Bor, ◌<◌, ℕ, ℤ, List, [], ◌∷◌, ◌++◌, map, flat_map, length, get_or, Bool, true, false, ◌&&◌, cond, is_none, Option, Some, None, refl, ap, sym, ◌∙◌, subst, true≢false}
+use Rattle.std.specs.List.{AllByRecursion, list_all}
+use Rattle.std.specs.Option.{option_copied}
+use Rattle.std.specs.Str.{bytes_eq}
+use Rattle.std.proofs.lemmas.Bool.{false_from_ne_true}
+use Rattle.pg_schema.specs.declared.enum_type.EnumType.{EnumType}
+use Rattle.pg_schema.specs.declared.field.Field.{Field}
+use Rattle.pg_schema.specs.declared.field.TypeId.{TypeId}
+use Rattle.pg_schema.specs.declared.parts.Parts.{Parts}
+use Rattle.pg_schema.specs.declared.message_type.MessageType.{MessageType}
+use Rattle.pg_schema.specs.Parts.{field_shape, shape_of, type_at}
+use Rattle.pg_schema.specs.Shape.{Shape, FieldShape, IsShape, fields, field_at}
+use Rattle.pg_dyn.specs.declared.message.UnknownRecord.{UnknownRecord}
+use Rattle.pg_dyn.specs.Message as model
+use Rattle.pg_dyn.specs.Kept.{Kept, type_of, message_of, unknown_of}
+use Rattle.pg_dyn.specs.Kept as kept
+use Rattle.pg_dyn.specs.Seen.{record_seen}
+use Rattle.pg_dyn.specs.Writing.{bytes_of}
+use Rattle.pg_dyn.specs.Comparison.{records_outside, unshared_bytes, same}
+use Rattle.pg_dyn.proofs.Splitting.{each_found}
+use Rattle.pg_dyn.proofs.Belonging.{fields-IsType}
+use Rattle.pg_dyn.proofs.Joining.{list_all_true}
+use Rattle.pg_dyn.proofs.Plainness.{each_at_index}
+use Rattle.pg_pairs.specs.Comparing.{is_same, is_same_beside, outside_record}
+use Rattle.pg_pairs.proofs.ChildSteps.{past}
+use Rattle.pg_pairs.proofs.SameSteps.{list_all-map, each-unmap}
+
+pub outside_all : (gs : List FieldShape) (us : List UnknownRecord) → flat_map (outside_record gs) us ≡ bytes_of (records_outside gs (map record_seen us))
+outside_all gs [] = refl
+outside_all gs (u ∷ us) =
+    let rest = outside_all gs us in
+    elim (is_none (field_at gs u.number)) as (λ b. cond b u.bytes.items [] ++ flat_map (outside_record gs) us ≡ bytes_of (cond b (record_seen u ∷ records_outside gs (map record_seen us)) (records_outside gs (map record_seen us)))) [
+      | true ↦ ap (λ bytes. u.bytes.items ++ bytes) rest
+      | false ↦ rest
+    ]
+
+unknown_same : (m : Kept) → model.unknown_of (message_of m) ≡ unknown_of m
+unknown_same (kept.ends type unknown) = refl
+unknown_same (kept.holds number key listed leaf later) = unknown_same later
+unknown_same (kept.nests number key listed child later) = unknown_same later
+
+-- one that isn't so makes it false of all
+pub one_false : {A : Type 0} (test : A → Bool) (xs : List A) (i : ℕ) (x : A) → i < length xs → x ≡ get_or xs i x → test x ≡ false → false ≡ list_all test xs
+one_false test xs i x inside is untrue =
+    sym (false_from_ne_true (list_all test xs) (λ e. true≢false (sym (each_at_index (λ y. test y ≡ true) xs xs i x refl inside is (list_all_true test xs e)) ∙ untrue)))
+
+-- the fields of a type are found by their numbers
+pub all_found : (shape : Shape) (type : TypeId) (list : List Field) → IsShape shape → map field_shape list ≡ fields shape type → AllByRecursion (λ f. field_at (fields shape type) f.number ≡ Some (field_shape f)) list
+all_found shape type list is_shape are =
+    each-unmap (λ (f : FieldShape). field_at (fields shape type) f.number ≡ Some f) field_shape list
+    (subst (AllByRecursion (λ (f : FieldShape). field_at (fields shape type) f.number ≡ Some f)) (sym are) (each_found (fields shape type) (fields-IsType shape type is_shape).rising))
+
+module _ (alike : EnumType → EnumType → ℤ → Bool) (old new : Parts) (v w : Kept) where
+  abbrev same_by : FieldShape → Bool
+  same_by f = is_same_beside alike old new v w f (field_at (fields (shape_of new) (type_of w)) f.number)
+
+  abbrev outside_same : Bool
+  outside_same = bytes_eq (bytes_of (records_outside (fields (shape_of new) (type_of w)) (unknown_of w))) (unshared_bytes (shape_of old) (type_of v) (fields (shape_of new) (type_of w)) (message_of v))
+
+  same_is : is_same alike old new v w ≡ (list_all same_by (fields (shape_of old) (type_of v)) && outside_same)
+  unfolding same
+  same_is = ap (λ us. list_all same_by (fields (shape_of old) (type_of v)) && bytes_eq (bytes_of (records_outside (fields (shape_of new) (type_of w)) us)) (unshared_bytes (shape_of old) (type_of v) (fields (shape_of new) (type_of w)) (message_of v))) (unknown_same w)
+
+  module _ (list : List Field) (are : map field_shape list ≡ fields (shape_of old) (type_of v)) (so : Bool) (is : so ≡ list_all (λ f. same_by (field_shape f)) list) where
+    all_is : list_all same_by (fields (shape_of old) (type_of v)) ≡ so
+    all_is = ap (list_all same_by) (sym are) ∙ list_all-map same_by field_shape list ∙ sym is
+
+    pub same_of_none : so ≡ false → false ≡ is_same alike old new v w
+    same_of_none h = sym (same_is ∙ ap (λ b. b && outside_same) (all_is ∙ h))
+
+    pub same_of_all : so ≡ true → outside_same ≡ is_same alike old new v w
+    same_of_all h = sym (same_is ∙ ap (λ b. b && outside_same) (all_is ∙ h))
+
+-- a type that isn't there has no fields
+pub no_fields : (old : Parts) (type : TypeId) → type_at old type ≡ None → map field_shape [] ≡ fields (shape_of old) type
+no_fields old type h = sym (past (λ (t : MessageType). map field_shape t.fields.items) [] old.types.items type.index h)
+
+pub none_is : {A : Type 0} (o : Option (Bor A)) → ((x : Bor A) → o ≡ Some x → ⊥) → (p : Option A) → option_copied o ≡ p → p ≡ None
+none_is None h p is = sym is
+none_is (Some x) h p is = absurd (h x refl)

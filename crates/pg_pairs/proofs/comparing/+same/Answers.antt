@@ -1,0 +1,190 @@
+-- Two messages show the same where their fields do, and these where their items do.
+use Rattle.std.proofs.Common.{◌≡◌, ◌∙◌, ◌+◌, ◌&&◌, [], true, false, Some, None, map, drop, ap, ap₂, refl, sym, arith}
+use Rattle.std.specs.Option.{option_copied}
+use lib.Pointwise.{pointwise}
+use Rattle.pg_schema.specs.declared.field.Field.{Field}
+use Rattle.pg_schema.specs.Parts.{field_shape, shape_of, type_at}
+use Rattle.pg_schema.specs.Shape.{field_at, fields}
+use Rattle.pg_dyn.specs.Comparison.{hides_zero}
+use Rattle.pg_dyn.specs.Kept.{type_of, weight}
+use Rattle.pg_dyn.specs.Kept as kept
+use Rattle.pg_dyn.specs.Seen.{item_seen}
+use Rattle.pg_dyn.proofs.EncodeSteps.{if_ok}
+use Rattle.pg_dyn.proofs.Lists.{list_all_each}
+use Rattle.pg_dyn.proofs.Plainness.{each_at_index, each_from_take}
+use Rattle.pg_pairs.specs.Comparing.{items_meet, keyed, keyed_if, keyed_meet, keyed_shown}
+use Rattle.pg_pairs.proofs.SameSteps.{both_go_on, each_got, held_weight, of_number_seen, shown_weight, total, total_got, weight_is}
+use Rattle.pg_pairs.proofs.SameFields.{HeldFits, beside_with, first_alone, key_lent, keyed_fits, message_fits, second_alone, shown_filled, shown_fits}
+use Rattle.pg_pairs.proofs.SameMessages.{all_found, no_fields, none_is, same_of_all, same_of_none}
+use Rattle.pg_pairs.proofs.comparing.+same.Goals.{is_same_message-in-Some+in_ok-are_same_fields+else-not-branch, is_same_message-in_default}
+use Rattle.pg_pairs.proofs.comparing.+same.Goals as goal
+
+pub are_same_fields-is_same_field-requires : goal.are_same_fields-is_same_field-requires
+are_same_fields-is_same_field-requires g t c κs within =
+    let found = each_at_index (λ (f : Field). field_at (fields (shape_of c.args.sides.now.old.now) (type_of c.args.message.now)) f.number ≡ Some (field_shape f)) c.args.list.now c.args.list.now c.loop-field.field-index c.field-item.result refl c.loop-field-test.true c.field-item.is c.requires.found in
+    (omega (arith, c.decreases, weight_is c.args.message.now), (within, (c.requires.old_schema, (c.requires.new_schema, (c.requires.fits, (c.requires.read_fits, found))))))
+
+pub are_same_fields-returns : goal.are_same_fields-returns
+are_same_fields-returns g t c =
+    sym (list_all_each _ c.args.list.now (each_from_take _ c.args.list.now c.args.list.now c.loop-field.field-index refl c.loop-field-test.false c.loop-field.invariant))
+
+pub is_same_content-is_same_key-requires-clause-first : goal.is_same_content-is_same_key-requires-clause-first
+is_same_content-is_same_key-requires-clause-first g t c =
+    key_lent c.held_at-first.result.key
+    (each_got (HeldFits (shape_of c.args.sides.now.old.now) c.args.fields.now.old.now.element) (keyed c.args.content.now) c.loop-at.at (option_copied c.held_at-first.result.key, c.held_at-first.result.item.now)
+    (keyed_fits (shape_of c.args.sides.now.old.now) c.args.fields.now.old.now.presence c.args.fields.now.old.now.element c.args.content.now c.requires.fits) c.held_at-first.ensures).0
+
+pub is_same_content-is_same_key-requires-clause-second : goal.is_same_content-is_same_key-requires-clause-second
+is_same_content-is_same_key-requires-clause-second g t c =
+    key_lent c.held_at-second.result.key
+    (each_got (HeldFits (shape_of c.args.sides.now.new.now) c.args.fields.now.new.now.element) (keyed c.args.read.now) c.loop-at.at (option_copied c.held_at-second.result.key, c.held_at-second.result.item.now)
+    (keyed_fits (shape_of c.args.sides.now.new.now) c.args.fields.now.new.now.presence c.args.fields.now.new.now.element c.args.read.now c.requires.read_fits) c.held_at-second.ensures).0
+
+pub is_same_content-returns-then-not-is_same_key : goal.is_same_content-returns-then-not-is_same_key
+is_same_content-returns-then-not-is_same_key g t c =
+    let test = keyed_meet (g.V.View.is_alike c.args.sides.now.view.now) c.args.sides.now.old.now c.args.sides.now.new.now (field_shape c.args.fields.now.old.now) (field_shape c.args.fields.now.new.now) in
+    let meets = items_meet (g.V.View.is_alike c.args.sides.now.view.now) c.args.sides.now.old.now c.args.sides.now.new.now (field_shape c.args.fields.now.old.now) (field_shape c.args.fields.now.new.now) c.held_at-first.result.item.now c.held_at-second.result.item.now in
+    let rest = pointwise test (drop (c.loop-at.at + 1) (keyed c.args.content.now)) (drop (c.loop-at.at + 1) (keyed c.args.read.now)) in
+    sym (sym c.loop-at.invariant
+    ∙ both_go_on test (keyed c.args.content.now) (keyed c.args.read.now) c.loop-at.at (option_copied c.held_at-first.result.key, c.held_at-first.result.item.now) (option_copied c.held_at-second.result.key, c.held_at-second.result.item.now) c.held_at-first.ensures c.held_at-second.ensures
+    ∙ ap (λ b. (b && meets) && rest) (sym c.is_same_key.ensures ∙ c.if-not-is_same_key.true))
+
+pub is_same_content-is_same_item-requires : goal.is_same_content-is_same_item-requires
+is_same_content-is_same_item-requires g t c κs within =
+    let old = shape_of c.args.sides.now.old.now in
+    let new = shape_of c.args.sides.now.new.now in
+    let first = each_got (HeldFits (shape_of c.args.sides.now.old.now) c.args.fields.now.old.now.element) (keyed c.args.content.now) c.loop-at.at (option_copied c.held_at-first.result.key, c.held_at-first.result.item.now)
+    (keyed_fits (shape_of c.args.sides.now.old.now) c.args.fields.now.old.now.presence c.args.fields.now.old.now.element c.args.content.now c.requires.fits) c.held_at-first.ensures in
+    let second = each_got (HeldFits (shape_of c.args.sides.now.new.now) c.args.fields.now.new.now.element) (keyed c.args.read.now) c.loop-at.at (option_copied c.held_at-second.result.key, c.held_at-second.result.item.now)
+    (keyed_fits (shape_of c.args.sides.now.new.now) c.args.fields.now.new.now.presence c.args.fields.now.new.now.element c.args.read.now c.requires.read_fits) c.held_at-second.ensures in
+    let less = total_got (keyed c.args.content.now) c.loop-at.at (option_copied c.held_at-first.result.key, c.held_at-first.result.item.now) c.held_at-first.ensures in
+    (omega (arith, c.decreases, less), (within, (c.requires.old_schema, (c.requires.new_schema, (first.1, second.1)))))
+
+pub is_same_content-returns-then-not-branch : goal.is_same_content-returns-then-not-branch
+is_same_content-returns-then-not-branch g t c =
+    let test = keyed_meet (g.V.View.is_alike c.args.sides.now.view.now) c.args.sides.now.old.now c.args.sides.now.new.now (field_shape c.args.fields.now.old.now) (field_shape c.args.fields.now.new.now) in
+    let rest = pointwise test (drop (c.loop-at.at + 1) (keyed c.args.content.now)) (drop (c.loop-at.at + 1) (keyed c.args.read.now)) in
+    sym (sym c.loop-at.invariant
+    ∙ both_go_on test (keyed c.args.content.now) (keyed c.args.read.now) c.loop-at.at (option_copied c.held_at-first.result.key, c.held_at-first.result.item.now) (option_copied c.held_at-second.result.key, c.held_at-second.result.item.now) c.held_at-first.ensures c.held_at-second.ensures
+    ∙ ap₂ (λ a b. (a && b) && rest) (sym c.is_same_key.ensures ∙ c.if-not-is_same_key.false) (sym c.in_ok-is_same_item.ensures ∙ c.if-not-branch.true))
+
+pub is_same_content-loop-at-preserved : goal.is_same_content-loop-at-preserved
+is_same_content-loop-at-preserved g t c =
+    let test = keyed_meet (g.V.View.is_alike c.args.sides.now.view.now) c.args.sides.now.old.now c.args.sides.now.new.now (field_shape c.args.fields.now.old.now) (field_shape c.args.fields.now.new.now) in
+    let rest = pointwise test (drop (c.loop-at.at + 1) (keyed c.args.content.now)) (drop (c.loop-at.at + 1) (keyed c.args.read.now)) in
+    sym (both_go_on test (keyed c.args.content.now) (keyed c.args.read.now) c.loop-at.at (option_copied c.held_at-first.result.key, c.held_at-first.result.item.now) (option_copied c.held_at-second.result.key, c.held_at-second.result.item.now) c.held_at-first.ensures c.held_at-second.ensures
+    ∙ ap₂ (λ a b. (a && b) && rest) (sym c.is_same_key.ensures ∙ c.if-not-is_same_key.false) (sym c.in_ok-is_same_item.ensures ∙ c.if-not-branch.false))
+    ∙ c.loop-at.invariant
+
+pub is_same_field-is_same_content-requires : goal.is_same_field-is_same_content-requires
+is_same_field-is_same_content-requires g t c κs within =
+    let f = field_shape c.args.field.now in
+    let beside = field_shape c.in-Some.beside.now in
+    let found : field_at (fields (shape_of c.args.sides.now.new.now) (type_of c.args.read.now)) c.args.field.now.number ≡ Some (field_shape c.in-Some.beside.now) =
+    ap (λ type. field_at (fields (shape_of c.args.sides.now.new.now) type) c.args.field.now.number) (sym c.type_id.ensures) ∙ sym c.in-Some.ensures.shape in
+    let same : keyed c.in-Some-Some.content.now ≡ keyed_shown (hides_zero (field_shape c.args.field.now) (field_shape c.in-Some.beside.now)) (option_copied c.get.result) =
+    sym (ap (λ o. keyed_if (option_copied o)) c.in-Some-Some.is-0) ∙ c.shown-content.ensures.items in
+    let less = shown_weight c.args.field.now.number c.args.message.now (option_copied c.get.result) (hides_zero (field_shape c.args.field.now) (field_shape c.in-Some.beside.now)) (of_number_seen c.args.field.now.number c.args.message.now c.get.result c.get.ensures.content) in (
+      omega (arith, c.decreases, ap total same, less),
+      (
+        within,
+        (
+          c.requires.old_schema,
+          (
+            c.requires.new_schema,
+            (
+              shown_fits (shape_of c.args.sides.now.old.now) c.args.message.now c.args.field.now.number (field_shape c.args.field.now) c.requires.old_schema.shape c.requires.fits c.requires.found c.get.result c.shown-content.result c.in-Some-Some.content c.get.ensures.fits c.shown-content.ensures.same c.in-Some-Some.is-0,
+              shown_fits (shape_of c.args.sides.now.new.now) c.args.read.now c.args.field.now.number (field_shape c.in-Some.beside.now) c.requires.new_schema.shape c.requires.read_fits found c.get-2.result c.shown-other.result c.in-Some-Some.other c.get-2.ensures.fits c.shown-other.ensures.same c.in-Some-Some.is-1,
+            ),
+          ),
+        ),
+      ),
+    )
+
+pub is_same_field-returns-in-Some-Some : goal.is_same_field-returns-in-Some-Some
+is_same_field-returns-in-Some-Some g t c =
+    let found : field_at (fields (shape_of c.args.sides.now.new.now) (type_of c.args.read.now)) c.args.field.now.number ≡ Some (field_shape c.in-Some.beside.now) =
+    ap (λ type. field_at (fields (shape_of c.args.sides.now.new.now) type) c.args.field.now.number) (sym c.type_id.ensures) ∙ sym c.in-Some.ensures.shape in
+    if_ok _ _ c.is_same_content.result (λ so h.
+    h
+    ∙ beside_with (g.V.View.is_alike c.args.sides.now.view.now) c.args.sides.now.old.now c.args.sides.now.new.now (field_shape c.args.field.now) (field_shape c.in-Some.beside.now) c.args.message.now c.args.read.now c.requires.old_schema.shape c.requires.fits c.requires.found found c.get.result c.get-2.result c.shown-content.result c.shown-other.result (Some c.in-Some-Some.content) (Some c.in-Some-Some.other) c.get.ensures.content c.get-2.ensures.content c.get.ensures.fits c.shown-content.ensures.items c.shown-other.ensures.items c.in-Some-Some.is-0 c.in-Some-Some.is-1)
+    c.is_same_content.ensures
+
+pub is_same_field-returns-in-None-None : goal.is_same_field-returns-in-None-None
+is_same_field-returns-in-None-None g t c =
+    let found : field_at (fields (shape_of c.args.sides.now.new.now) (type_of c.args.read.now)) c.args.field.now.number ≡ Some (field_shape c.in-Some.beside.now) =
+    ap (λ type. field_at (fields (shape_of c.args.sides.now.new.now) type) c.args.field.now.number) (sym c.type_id.ensures) ∙ sym c.in-Some.ensures.shape in
+    beside_with (g.V.View.is_alike c.args.sides.now.view.now) c.args.sides.now.old.now c.args.sides.now.new.now (field_shape c.args.field.now) (field_shape c.in-Some.beside.now) c.args.message.now c.args.read.now c.requires.old_schema.shape c.requires.fits c.requires.found found c.get.result c.get-2.result c.shown-content.result c.shown-other.result None None c.get.ensures.content c.get-2.ensures.content c.get.ensures.fits c.shown-content.ensures.items c.shown-other.ensures.items c.in-None-None.is-0 c.in-None-None.is-1
+
+pub is_same_field-returns-in_default-2 : goal.is_same_field-returns-in_default-2
+is_same_field-returns-in_default-2 g t c =
+    let found : field_at (fields (shape_of c.args.sides.now.new.now) (type_of c.args.read.now)) c.args.field.now.number ≡ Some (field_shape c.in-Some.beside.now) =
+    ap (λ type. field_at (fields (shape_of c.args.sides.now.new.now) type) c.args.field.now.number) (sym c.type_id.ensures) ∙ sym c.in-Some.ensures.shape in
+    let test = keyed_meet (g.V.View.is_alike c.args.sides.now.view.now) c.args.sides.now.old.now c.args.sides.now.new.now (field_shape c.args.field.now) (field_shape c.in-Some.beside.now) in
+    first_alone test (keyed c.in_default-2.field-0-0.now) (shown_filled c.get.result c.shown-content.result c.in_default-2.field-0-0 c.get.ensures.filled c.shown-content.ensures.same c.in_default-2.is-0)
+    ∙ beside_with (g.V.View.is_alike c.args.sides.now.view.now) c.args.sides.now.old.now c.args.sides.now.new.now (field_shape c.args.field.now) (field_shape c.in-Some.beside.now) c.args.message.now c.args.read.now c.requires.old_schema.shape c.requires.fits c.requires.found found c.get.result c.get-2.result c.shown-content.result c.shown-other.result (Some c.in_default-2.field-0-0) None c.get.ensures.content c.get-2.ensures.content c.get.ensures.fits c.shown-content.ensures.items c.shown-other.ensures.items c.in_default-2.is-0 c.in_default-2.is-1
+
+pub is_same_field-returns-in_default-2-2 : goal.is_same_field-returns-in_default-2-2
+is_same_field-returns-in_default-2-2 g t c =
+    let found : field_at (fields (shape_of c.args.sides.now.new.now) (type_of c.args.read.now)) c.args.field.now.number ≡ Some (field_shape c.in-Some.beside.now) =
+    ap (λ type. field_at (fields (shape_of c.args.sides.now.new.now) type) c.args.field.now.number) (sym c.type_id.ensures) ∙ sym c.in-Some.ensures.shape in
+    let test = keyed_meet (g.V.View.is_alike c.args.sides.now.view.now) c.args.sides.now.old.now c.args.sides.now.new.now (field_shape c.args.field.now) (field_shape c.in-Some.beside.now) in
+    second_alone test (keyed c.in_default-2.field-0-1.now) (shown_filled c.get-2.result c.shown-other.result c.in_default-2.field-0-1 c.get-2.ensures.filled c.shown-other.ensures.same c.in_default-2.is-1)
+    ∙ beside_with (g.V.View.is_alike c.args.sides.now.view.now) c.args.sides.now.old.now c.args.sides.now.new.now (field_shape c.args.field.now) (field_shape c.in-Some.beside.now) c.args.message.now c.args.read.now c.requires.old_schema.shape c.requires.fits c.requires.found found c.get.result c.get-2.result c.shown-content.result c.shown-other.result None (Some c.in_default-2.field-0-1) c.get.ensures.content c.get-2.ensures.content c.get.ensures.fits c.shown-content.ensures.items c.shown-other.ensures.items c.in_default-2.is-0 c.in_default-2.is-1
+
+pub is_same_item-is_same_message-requires : goal.is_same_item-is_same_message-requires
+is_same_item-is_same_message-requires g t c κs within =
+    let child = ap (item_seen false) c.in-Msg-Msg.is-0 ∙ ap (kept.Msg false) (sym c.deref.ensures) in
+    let other = ap (item_seen false) c.in-Msg-Msg.is-1 ∙ ap (kept.Msg false) (sym c.deref-in-Msg-Msg.ensures) in (
+      omega (arith, c.decreases, ap held_weight c.in-Msg-Msg.is-0, ap weight c.deref.ensures, weight_is c.deref.result.now),
+      (
+        within,
+        (
+          c.requires.old_schema,
+          (
+            c.requires.new_schema,
+            (
+              message_fits (shape_of c.args.sides.now.old.now) c.args.fields.now.old.now.element c.args.value.now c.deref.result.now child c.requires.fits,
+              message_fits (shape_of c.args.sides.now.new.now) c.args.fields.now.new.now.element c.args.read.now c.deref-in-Msg-Msg.result.now other c.requires.read_fits,
+            ),
+          ),
+        ),
+      ),
+    )
+
+pub is_same_message-are_same_fields-requires : goal.is_same_message-are_same_fields-requires
+is_same_message-are_same_fields-requires g t c κs within =
+    let are : map field_shape c.deref.result.now ≡ fields (shape_of c.args.sides.now.old.now) (type_of c.args.message.now) =
+    ap (map field_shape) c.deref.ensures.value ∙ c.in-Some.ensures.fields ∙ ap (fields (shape_of c.args.sides.now.old.now)) c.type_id.ensures in (
+      omega (arith, c.decreases, weight_is c.args.message.now),
+      (
+        within,
+        (
+          c.requires.old_schema,
+          (
+            c.requires.new_schema,
+            (c.requires.fits, (c.requires.read_fits, all_found (shape_of c.args.sides.now.old.now) (type_of c.args.message.now) c.deref.result.now c.requires.old_schema.shape are)),
+          ),
+        ),
+      ),
+    )
+
+pub is_same_message-returns-then-not-branch : goal.is_same_message-returns-then-not-branch
+is_same_message-returns-then-not-branch g t c =
+    let are : map field_shape c.deref.result.now ≡ fields (shape_of c.args.sides.now.old.now) (type_of c.args.message.now) =
+    ap (map field_shape) c.deref.ensures.value ∙ c.in-Some.ensures.fields ∙ ap (fields (shape_of c.args.sides.now.old.now)) c.type_id.ensures in
+    same_of_none (g.V.View.is_alike c.args.sides.now.view.now) c.args.sides.now.old.now c.args.sides.now.new.now c.args.message.now c.args.read.now c.deref.result.now are c.in_ok-are_same_fields.field-0 c.in_ok-are_same_fields.ensures c.if-not-branch.true
+
+pub is_same_message-returns : goal.is_same_message-returns
+is_same_message-returns g t c =
+    if_ok _ _ c.is_same_outside.result (λ so h.
+    h
+    ∙ elim c.match-message_type.branch [
+      | is_same_message-in-Some+in_ok-are_same_fields+else-not-branch w ↦
+          same_of_all (g.V.View.is_alike c.args.sides.now.view.now) c.args.sides.now.old.now c.args.sides.now.new.now c.args.message.now c.args.read.now w.deref.result.now
+          (ap (map field_shape) w.deref.ensures.value ∙ w.in-Some.ensures.fields ∙ ap (fields (shape_of c.args.sides.now.old.now)) c.type_id.ensures) w.in_ok-are_same_fields.field-0 w.in_ok-are_same_fields.ensures w.if-not-branch.false
+      | is_same_message-in_default w ↦
+          same_of_all (g.V.View.is_alike c.args.sides.now.view.now) c.args.sides.now.old.now c.args.sides.now.new.now c.args.message.now c.args.read.now []
+          (no_fields c.args.sides.now.old.now (type_of c.args.message.now) (ap (type_at c.args.sides.now.old.now) (sym c.type_id.ensures) ∙ none_is c.message_type.result w.in_default.not-Some (type_at c.args.sides.now.old.now c.type_id.result) c.message_type.ensures.exact)) true refl refl
+    ])
+    c.is_same_outside.ensures

@@ -1,0 +1,34 @@
+-- Each call goes to a part of the old message. The fields before the index are the same; of two contents the items from the index on decide.
+use Rattle.std.proofs.Common.{◌≡◌, ◌+◌, ◌-◌, ◌*◌, true, take, drop}
+use Rattle.std.specs.List.{AllByRecursion}
+use Rattle.pg_schema.specs.Parts.{field_shape, shape_of}
+use Rattle.pg_schema.specs.Shape.{field_at, fields}
+use Rattle.pg_schema.specs.declared.field.Field.{Field}
+use Rattle.pg_dyn.specs.Kept.{type_of, weight}
+use Rattle.pg_pairs.specs.Comparing.{all_meet, is_same_beside, keyed}
+use Rattle.pg_pairs.proofs.SameSteps.{held_weight, total}
+use Rattle.pg_pairs.proofs.comparing.+same.Given as goal
+
+abbrev pub decreases-is_same_item : goal.decreases-is_same_item
+decreases-is_same_item g l = 8 * held_weight l.value.now
+
+abbrev pub decreases-is_same_content : goal.decreases-is_same_content
+decreases-is_same_content g l = 8 * total (keyed l.content.now) + 1
+
+abbrev pub decreases-is_same_field : goal.decreases-is_same_field
+decreases-is_same_field g l = 8 * weight l.message.now - 6
+
+abbrev pub decreases-are_same_fields : goal.decreases-are_same_fields
+decreases-are_same_fields g l = 8 * weight l.message.now - 5
+
+abbrev pub decreases-is_same_message : goal.decreases-is_same_message
+decreases-is_same_message g l = 8 * weight l.message.now - 4
+
+abbrev pub invariant-are_same_fields-loop-field : goal.invariant-are_same_fields-loop-field
+invariant-are_same_fields-loop-field g l =
+    AllByRecursion (λ (f : Field). is_same_beside (g.V.View.is_alike l.sides.view.now) l.sides.old.now l.sides.new.now l.message l.read (field_shape f) (field_at (fields (shape_of l.sides.new.now) (type_of l.read)) f.number) ≡ true) (take l.field-index l.list)
+
+abbrev pub invariant-is_same_content-loop-at : goal.invariant-is_same_content-loop-at
+invariant-is_same_content-loop-at g l =
+    all_meet (g.V.View.is_alike l.sides.view.now) l.sides.old.now l.sides.new.now (field_shape l.fields.old.now) (field_shape l.fields.new.now) (drop l.at (keyed l.content)) (drop l.at (keyed l.read))
+    ≡ all_meet (g.V.View.is_alike l.sides.view.now) l.sides.old.now l.sides.new.now (field_shape l.fields.old.now) (field_shape l.fields.new.now) (keyed l.content) (keyed l.read)

@@ -1,0 +1,5 @@
+use Rattle.pg_pairs.proofs.Reached as Reached
+use Rattle.pg_pairs.proofs.laws.each_child_costs_less.Goals as goal
+
+pub returns : goal.returns
+returns c = Reached.child_costs_less

@@ -1,0 +1,191 @@
+-- The message that a choice is reached by.
+use Rattle.std.specs.Prelude.{◌≡◌, ℕ, ◌<◌, nat_eq, pos, ⊤, [], ◌∷◌, Bool, true, false, ◌&&◌, ◌||◌, if◌then◌else◌, Option, Some, None}
+use Rattle.pg_schema.specs.declared.field.Scalar.{Scalar}
+use Rattle.pg_schema.specs.declared.field.Scalar.TheVariants.{Int32}
+use Rattle.pg_schema.specs.declared.field.Element.{Element}
+use Rattle.pg_schema.specs.declared.field.Element.TheVariants as elements
+use Rattle.pg_schema.specs.declared.field.Presence.{Presence}
+use Rattle.pg_schema.specs.declared.field.Presence.TheVariants as presences
+use Rattle.pg_schema.specs.Shape.{Shape, FieldShape, IsShape, fields, field_at}
+use Rattle.pg_dyn.specs.Message.{Leaf, Int, F32, F64, Bytes, Item, Plain, Msg, Message, ends, holds, nests}
+use Rattle.pg_dyn.specs.Coding.{Form, Integer, Single, Double, Text, Raw, form, zero_leaf}
+use Rattle.pg_pairs.specs.declared.choice.Choice.{Choice}
+use Rattle.pg_pairs.specs.declared.choice.Pair.{Pair}
+use Rattle.pg_pairs.specs.Sight.{Sight, IsSight}
+use Rattle.pg_pairs.specs.Likeness.{like}
+use Rattle.pg_pairs.specs.Gaps.{gap_item}
+use Rattle.pg_pairs.specs.Choices.{Table, zero_counts, choices}
+use Rattle.pg_pairs.specs.Settling.{IsAmong}
+use Rattle.pg_pairs.specs.Laws.{ReachedBy}
+
+-- Items with the least bodies: zero; one that isn't zero; and one that isn't an integer's default.
+
+abbrev pub nonzero_leaf : Form → Leaf
+nonzero_leaf (Integer w) = Int (pos 1)
+nonzero_leaf Single = F32 1
+nonzero_leaf Double = F64 1
+nonzero_leaf Text = Bytes (97 ∷ [])
+nonzero_leaf Raw = Bytes (97 ∷ [])
+
+abbrev pub far_leaf : Form → Leaf
+far_leaf (Integer w) = Int (pos 1)
+far_leaf Single = zero_leaf Single
+far_leaf Double = zero_leaf Double
+far_leaf Text = zero_leaf Text
+far_leaf Raw = zero_leaf Raw
+
+-- an item of an element by its form's leaf; of messages it is the empty one
+abbrev pub item_by : (Form → Leaf) → Element → Item
+item_by leaf (elements.Message t) = Msg (ends [])
+item_by leaf (elements.Scalar s) = Plain (leaf (form (elements.Scalar s)))
+item_by leaf (elements.Enum e) = Plain (leaf (form (elements.Enum e)))
+
+-- a key or a value beside the new one: zero where they are like, else what isn't an integer's default
+abbrev pub apart_leaf : Element → Element → Leaf
+apart_leaf e d = if like e d then zero_leaf (form e) else far_leaf (form e)
+
+abbrev pub apart_item : Element → Element → Item
+apart_item e d = if like e d then item_by zero_leaf e else item_by far_leaf e
+
+-- an implicit field's least item isn't zero; the empty message has no bytes
+abbrev pub least_leaf : Presence → Element → Leaf
+least_leaf presences.Implicit e = nonzero_leaf (form e)
+least_leaf presences.Explicit e = zero_leaf (form e)
+least_leaf (presences.Repeated packed) e = zero_leaf (form e)
+least_leaf (presences.Map k) e = zero_leaf (form e)
+
+abbrev pub least_key : Presence → Option Leaf
+least_key (presences.Map k) = Some (zero_leaf (form (elements.Scalar k)))
+least_key presences.Implicit = None
+least_key presences.Explicit = None
+least_key (presences.Repeated packed) = None
+
+-- A field's least part, before others.
+abbrev pub least_part_of : ℕ → Presence → Element → Message → Message
+least_part_of number p (elements.Message t) later = nests number (least_key p) (ends []) later
+least_part_of number p (elements.Scalar s) later = holds number (least_key p) (least_leaf p (elements.Scalar s)) later
+least_part_of number p (elements.Enum s) later = holds number (least_key p) (least_leaf p (elements.Enum s)) later
+
+abbrev pub least_part : FieldShape → Message → Message
+least_part f later = least_part_of f.number f.presence f.element later
+
+-- one part before others, and a message of one part
+abbrev pub part_onto : ℕ → Option Leaf → Item → Message → Message
+part_onto number key (Plain leaf) later = holds number key leaf later
+part_onto number key (Msg child) later = nests number key child later
+
+abbrev pub alone : ℕ → Option Leaf → Item → Message
+alone number key item = part_onto number key item (ends [])
+
+-- the least content of unlike fields; where zero doesn't count an item that isn't zero
+abbrev pub unlike_message : FieldShape → FieldShape → Message
+unlike_message f g = if zero_counts f g then least_part f (ends []) else alone f.number (least_key f.presence) (item_by nonzero_leaf f.element)
+
+-- a message of the item of a gap, and of a child, where there is one
+abbrev pub leaf_alone : ℕ → Option Leaf → Option Leaf → Message
+leaf_alone number key (Some leaf) = holds number key leaf (ends [])
+leaf_alone number key None = ends []
+
+abbrev pub child_alone : ℕ → Option Leaf → Option Message → Message
+child_alone number key (Some child) = nests number key child (ends [])
+child_alone number key None = ends []
+
+-- a list that the new field doesn't keep: two zeros beside an explicit field, of which one is read, else one
+abbrev pub lost_onto : ℕ → Presence → Presence → Item → Message
+lost_onto number (presences.Repeated false) presences.Explicit zero = part_onto number None zero (alone number None zero)
+lost_onto number p q zero = alone number None zero
+
+abbrev pub key_of : Presence → Scalar
+key_of (presences.Map key) = key
+key_of presences.Implicit = Int32
+key_of presences.Explicit = Int32
+key_of (presences.Repeated packed) = Int32
+
+-- an entry whose key has a gap
+abbrev pub key_alone : ℕ → Element → Option Leaf → Message
+key_alone number e (Some key) = alone number (Some key) (item_by zero_leaf e)
+key_alone number e None = ends []
+
+-- an entry whose value is a child, or has a gap
+abbrev pub value_alone : ℕ → Leaf → Option Message → Option Leaf → Message
+value_alone number key (Some child) leaf = nests number (Some key) child (ends [])
+value_alone number key None leaf = leaf_alone number (Some key) leaf
+
+abbrev pub entry_message : Sight → ℕ → Scalar → Scalar → Element → Element → ℕ → Option Message → Message
+entry_message sight number k l e d part child =
+    if nat_eq part 1 then key_alone number e (gap_item sight true (elements.Scalar k) (elements.Scalar l))
+    else if nat_eq part 2 then value_alone number (zero_leaf (form (elements.Scalar k))) child (gap_item sight true e d)
+    else alone number (Some (apart_leaf (elements.Scalar k) (elements.Scalar l))) (apart_item e d)
+
+-- the message of a field's choice, of that case and part, round that child
+abbrev pub carried_field : Sight → FieldShape → FieldShape → ℕ → ℕ → Option Message → Message
+carried_field sight f g case part child =
+    if nat_eq case 1 then unlike_message f g
+    else if nat_eq case 2 then leaf_alone f.number None (gap_item sight (zero_counts f g) f.element g.element)
+    else if nat_eq case 3 then child_alone f.number None child
+    else if nat_eq case 4 then lost_onto f.number f.presence g.presence (item_by zero_leaf f.element)
+    else entry_message sight f.number (key_of f.presence) (key_of g.presence) f.element g.element part child
+
+-- two fields that meet: the least contents of both
+abbrev pub carried_two : FieldShape → Option FieldShape → Message
+carried_two f (Some e) = least_part f (least_part e (ends []))
+carried_two f None = ends []
+
+abbrev pub carried_of : Sight → Option FieldShape → Option FieldShape → Option FieldShape → Choice → Option Message → Message
+carried_of sight (Some f) (Some g) e c child = if nat_eq c.case 6 then carried_two f e else carried_field sight f g c.case c.part child
+carried_of sight (Some f) None e c child = ends []
+carried_of sight None g e c child = ends []
+
+-- the message of a choice
+abbrev pub carried : Sight → Shape → Shape → Pair → Choice → Option Message → Message
+carried sight old new pair c child =
+    carried_of sight (field_at (fields old pair.old) c.number) (field_at (fields new pair.new) c.number) (field_at (fields old pair.old) c.part) c child
+
+-- Which choices have a child, and of which pair.
+
+abbrev pub child_pair : Element → Element → Option Pair
+child_pair (elements.Message s) (elements.Message t) = Some (record { old = s; new = t })
+child_pair (elements.Message s) (elements.Scalar t) = None
+child_pair (elements.Message s) (elements.Enum t) = None
+child_pair (elements.Scalar s) t = None
+child_pair (elements.Enum s) t = None
+
+-- an item that is a child, and the value of an entry
+abbrev pub has_child : ℕ → ℕ → Bool
+has_child case part = nat_eq case 3 || (nat_eq case 5 && nat_eq part 2)
+
+abbrev pub field_child : FieldShape → FieldShape → ℕ → ℕ → Option Pair
+field_child f g case part = if has_child case part then child_pair f.element g.element else None
+
+abbrev pub child_of : Option FieldShape → Option FieldShape → Choice → Option Pair
+child_of (Some f) (Some g) c = field_child f g c.case c.part
+child_of (Some f) None c = None
+child_of None g c = None
+
+abbrev pub choice_child : Shape → Shape → Pair → Choice → Option Pair
+choice_child old new pair c = child_of (field_at (fields old pair.old) c.number) (field_at (fields new pair.new) c.number) c
+
+-- The child comes just where there is one, and has the length of its pair's bound.
+abbrev pub ChildReached : Sight → Shape → Shape → Table → Option Pair → Option Message → Type 0
+ChildReached sight old new table None None = ⊤
+ChildReached sight old new table None (Some m) = ⊥
+ChildReached sight old new table (Some p) None = ⊥
+ChildReached sight old new table (Some p) (Some m) = (x : ℕ) × (table p ≡ Some (Some x)) × ReachedBy sight old new p m x
+
+-- What a table has for the child of a choice of that cost, where the choice has one: a smaller number.
+abbrev pub ChildThere : Table → Option Pair → ℕ → Type 0
+ChildThere table None cost = ⊤
+ChildThere table (Some p) cost = (x : ℕ) × (table p ≡ Some (Some x)) × (x < cost)
+
+-- Each choice through a child costs more than the child's bound.
+abbrev pub EachChildCostsLess : Type 0
+EachChildCostsLess =
+    (sight : Sight) (old new : Shape) (table : Table) → IsSight sight → IsShape old → IsShape new →
+    (pair : Pair) (c : Choice) → IsAmong c (choices sight table old new pair) → ChildThere table (choice_child old new pair c) c.cost
+
+-- The message of each choice breaks and has the choice's cost.
+abbrev pub EachChoiceIsCarried : Type 0
+EachChoiceIsCarried =
+    (sight : Sight) (old new : Shape) (table : Table) → IsSight sight → IsShape old → IsShape new →
+    (pair : Pair) (c : Choice) → IsAmong c (choices sight table old new pair) →
+    (child : Option Message) → ChildReached sight old new table (choice_child old new pair c) child → ReachedBy sight old new pair (carried sight old new pair c child) c.cost

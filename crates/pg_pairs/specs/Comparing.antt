@@ -1,0 +1,90 @@
+-- An old message beside a new one, content by content: whether the new one shows what the old one holds.
+use Rattle.std.specs.Prelude.{ℕ, ℤ, ⊤, List, [], ◌∷◌, map, filter, Bool, true, not, ◌&&◌, if◌then◌else◌, Option, Some, None, option_map, is_none}
+use lib.Pointwise.{pointwise}
+use Rattle.pg_schema.specs.declared.enum_type.EnumType.{EnumType}
+use Rattle.pg_schema.specs.declared.field.Element.{Element}
+use Rattle.pg_schema.specs.declared.field.Element.TheVariants as elements
+use Rattle.pg_schema.specs.declared.field.TypeId.{TypeId}
+use Rattle.pg_schema.specs.declared.parts.Parts.{Parts}
+use Rattle.pg_schema.specs.Parts.{enum_at, shape_of}
+use Rattle.pg_schema.specs.Shape.{FieldShape, field_at}
+use Rattle.pg_dyn.specs.declared.message.Content.{Content}
+use Rattle.pg_dyn.specs.declared.message.Content.TheVariants as contents
+use Rattle.pg_dyn.specs.declared.message.UnknownRecord.{UnknownRecord}
+use Rattle.pg_dyn.specs.declared.message.Value.{Value}
+use Rattle.pg_dyn.specs.declared.message.Value.TheVariants as values
+use Rattle.pg_dyn.specs.Message.{Leaf, Int, Item, Plain, Msg, parts}
+use Rattle.pg_dyn.specs.Kept.{Kept, type_of, message_of}
+use Rattle.pg_dyn.specs.Seen.{leaf_of}
+use Rattle.pg_dyn.specs.ContentFits.{is_zero_value}
+use Rattle.pg_dyn.specs.Encoding.{element_type}
+use Rattle.pg_dyn.specs.Comparison.{View, Sought, Alike, same_content, same_key, meets, sought, same}
+use Rattle.pg_dyn.specs.Comparison as comparison
+use Rattle.pg_pairs.specs.Views.{alike_at}
+
+-- the numbers that a view finds alike in enums of two schemas
+abbrev pub view_by : (EnumType → EnumType → ℤ → Bool) → Parts → Parts → View
+view_by alike old new = λ a b n. alike_at alike (enum_at old a) (enum_at new b) n
+
+module _ (alike : EnumType → EnumType → ℤ → Bool) (old new : Parts) where
+  -- the new message shows what the old one means
+  abbrev pub is_same : Kept → Kept → Bool
+  is_same v w = same (view_by alike old new) (shape_of old) (shape_of new) (type_of v) (type_of w) (message_of v) (message_of w)
+
+  -- it does so in one field of the old type, beside the new type's field of its number
+  abbrev pub is_same_beside : Kept → Kept → FieldShape → Option FieldShape → Bool
+  is_same_beside v w f (Some g) = same_content (view_by alike old new) f g (sought (view_by alike old new) (shape_of old) (shape_of new) (type_of v) (type_of w) (message_of v)) (parts (message_of w))
+  is_same_beside v w f None = true
+
+  -- what an item of a field whose messages are read as that type has to be met by
+  abbrev pub value_sought : TypeId → Value → Sought
+  value_sought b (values.Msg child) = comparison.Kept (same (view_by alike old new) (shape_of old) (shape_of new) (type_of child.value) b (message_of child.value))
+  value_sought b value = Alike (leaf_of value)
+
+  abbrev pub value_item : Value → Item
+  value_item (values.Msg child) = Msg (message_of child.value)
+  value_item value = Plain (leaf_of value)
+
+  -- a leaf of an enum is alike by the view, any other by itself
+  abbrev pub is_alike_leaf : Element → Element → Leaf → Bool
+  is_alike_leaf (elements.Enum e) (elements.Enum g) (Int n) = view_by alike old new e g n
+  is_alike_leaf e g leaf = true
+
+  abbrev pub items_meet : FieldShape → FieldShape → Value → Value → Bool
+  items_meet f g a b = meets (view_by alike old new) f g (value_sought (element_type g.element) a) (value_item b)
+
+-- the items of a content, each with its key in a map
+abbrev pub Keyed : Type 0
+Keyed = Option Value × Value
+
+abbrev pub keyed : Content → List Keyed
+keyed (contents.One value) = (None, value) ∷ []
+keyed (contents.Many vs) = map (λ value. (None, value)) vs.items
+keyed (contents.Map es) = map (λ (e : Value × Value). (Some e.0, e.1)) es.items
+
+abbrev pub keyed_if : Option Content → List Keyed
+keyed_if (Some content) = keyed content
+keyed_if None = []
+
+-- those that are shown
+abbrev pub keyed_shown : Bool → Option Content → List Keyed
+keyed_shown hidden content = filter (λ (x : Keyed). not (hidden && is_zero_value x.1)) (keyed_if content)
+
+-- one item at most, in no list
+abbrev pub IsSingle : Option Content → Type 0
+IsSingle (Some (contents.One value)) = ⊤
+IsSingle (Some (contents.Many vs)) = ⊥
+IsSingle (Some (contents.Map es)) = ⊥
+IsSingle None = ⊤
+
+module _ (alike : EnumType → EnumType → ℤ → Bool) (old new : Parts) where
+  abbrev pub keyed_meet : FieldShape → FieldShape → Keyed → Keyed → Bool
+  keyed_meet f g x y = same_key (option_map leaf_of x.0) (option_map leaf_of y.0) && items_meet alike old new f g x.1 y.1
+
+  -- as many items on both sides, with equal keys, and each is met
+  abbrev pub all_meet : FieldShape → FieldShape → List Keyed → List Keyed → Bool
+  all_meet f g xs ys = pointwise (keyed_meet f g) xs ys
+
+-- the bytes of a record whose number the type hasn't
+abbrev pub outside_record : List FieldShape → UnknownRecord → List ℕ
+outside_record gs r = if is_none (field_at gs r.number) then r.bytes.items else []

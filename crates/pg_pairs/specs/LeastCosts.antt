@@ -1,0 +1,43 @@
+-- The least cost of a pair's choices: it doesn't rise when the table falls, and as the pair's bound it is exact.
+use Rattle.std.specs.Prelude.{ℕ, ◌≤◌, ⊤, Option, Some, None, option_map, IfSome}
+use Rattle.std.specs.List.{AllByRecursion}
+use Rattle.pg_schema.specs.Shape.{Shape}
+use Rattle.pg_dyn.specs.Encoding.{cap}
+use Rattle.pg_pairs.specs.declared.choice.Choice.{Choice}
+use Rattle.pg_pairs.specs.declared.choice.Pair.{Pair}
+use Rattle.pg_pairs.specs.Sight.{Sight}
+use Rattle.pg_pairs.specs.Choices.{Table, number_for, choices}
+use Rattle.pg_pairs.specs.Cheapest.{cheapest}
+use Rattle.pg_pairs.specs.Covering.{children, IsThere}
+use Rattle.pg_pairs.specs.Laws.{IsExact}
+
+-- what a cheapest choice of the pair costs; none where it has no choice
+abbrev pub least_cost : Sight → Table → Shape → Shape → Pair → Option ℕ
+least_cost sight table old new pair = option_map (λ (c : Choice). c.cost) (cheapest (choices sight table old new pair))
+
+-- Of two bounds the former is no more. Every bound is no more than 'none', and 'none' is more than every number.
+abbrev pub IsNoMore : Option ℕ → Option ℕ → Type 0
+IsNoMore m None = ⊤
+IsNoMore None (Some n) = ⊥
+IsNoMore (Some m) (Some n) = m ≤ n
+
+-- each pair's number in the one table is no more than in the other
+abbrev pub IsNoHigher : Table → Table → Type 0
+IsNoHigher low high = (pair : Pair) → IsNoMore (number_for low pair) (number_for high pair)
+
+-- Where the table's numbers are no more, each pair's least cost is no more.
+abbrev pub LowerTablesCostNoMore : Type 0
+LowerTablesCostNoMore =
+    (sight : Sight) (old new : Shape) (low high : Table) → IsNoHigher low high →
+    (pair : Pair) → IsNoMore (least_cost sight low old new pair) (least_cost sight high old new pair)
+
+-- A least cost is a length that an encoding of a breaking message may have.
+abbrev pub LeastCostsAreLengths : Type 0
+LeastCostsAreLengths =
+    (sight : Sight) (old new : Shape) (table : Table) (pair : Pair) → IfSome (least_cost sight table old new pair) (λ n. (1 ≤ n) × (n ≤ cap))
+
+-- Where a pair's children are there, its least cost is exact as its bound.
+abbrev pub LeastCostsAreExact : Type 0
+LeastCostsAreExact =
+    (sight : Sight) (old new : Shape) (table : Table) (pair : Pair) → AllByRecursion (IsThere table) (children old new pair) →
+    IsExact sight old new table pair (least_cost sight table old new pair)

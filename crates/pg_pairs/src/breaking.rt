@@ -1,0 +1,52 @@
+//! Whether a message breaks.
+
+ghost use Rattle.std.specs.Prelude.{◌≡◌, ◌↔◌, ◌⊎◌, ◌<◌, ◌≤◌, length, IsTrue, IfErr, IfOk, OnOk};
+ghost use Rattle.pg_schema.specs.Parts.{shape_of};
+ghost use Rattle.pg_dyn.specs.declared.error.DynError.TheVariants as errors;
+ghost use Rattle.pg_dyn.specs.Breaking.{Breaks};
+ghost use Rattle.pg_dyn.specs.Encoding.{cap, enc};
+ghost use Rattle.pg_dyn.specs.Fits.{Fits};
+ghost use Rattle.pg_dyn.specs.Kept.{message_of, type_of};
+ghost use Rattle.pg_pairs.specs.Views.{sight_of};
+
+use crate::choice::Pair;
+use crate::comparing::is_same_message;
+use crate::item::Sides;
+use crate::view::View;
+use pg_dyn::{DynError, Message, decode_unlimited, encode};
+use pg_schema::Schema;
+use std::alloc::Global;
+
+/// Whether the message breaks: it is one of the pair's old type without unknown records, and the new type's reader,
+/// at any depth, can't read its encoding or sees something else in it than was meant. The message is one of the old
+/// schema; of another type it doesn't break, nor where the new schema hasn't the pair's new type.
+///
+/// The errors are `TooLong`, just where the message's encoding has more than 2,147,483,647 bytes, and `Memory`.
+pub fn breaks<V: View>(
+    alloc: Global,
+    view: &V,
+    old: &Schema,
+    new: &Schema,
+    pair: Pair,
+    message: &Message,
+) -> Result<bool, DynError>
+    requires { Fits (shape_of old.now) message.now }
+    ensures exact { IfOk result (λ b. IsTrue b ↔ ((type_of message.now ≡ pair.old) × Breaks (sight_of (V.is_alike view.now) (V.least_differing view.now) old.now new.now).alike (shape_of old.now) (shape_of new.now) pair.old pair.new (message_of message.now))) }
+    ensures encoded { OnOk result (length (enc (shape_of old.now) (type_of message.now) (message_of message.now)) ≤ cap) }
+    ensures refused { IfErr result (λ e. (e ≡ errors.Memory) ⊎ ((e ≡ errors.TooLong) × (cap < length (enc (shape_of old.now) (type_of message.now) (message_of message.now))))) }
+{
+    // What holds of every schema.
+    old.parts();
+    new.parts();
+    let bytes = encode(alloc, old, message)?;
+    if message.type_id() != pair.old || !message.is_plain() || !new.has(pair.new) {
+        return Ok(false);
+    }
+    match decode_unlimited(alloc, new, pair.new, &bytes)? {
+        Some(read) => {
+            let sides = Sides { view, old, new };
+            Ok(!is_same_message(alloc, &sides, message, &read)?)
+        }
+        None => Ok(true),
+    }
+}

@@ -1,0 +1,222 @@
+//! An old message beside what a new type reads of it.
+
+ghost use Rattle.std.specs.Prelude.{◌≡◌, ◌++◌, Some, IfOk, IfSome, OnOk};
+ghost use Rattle.std.specs.List.{AllByRecursion, list_all};
+ghost use Rattle.std.specs.Option.{option_copied};
+ghost use Rattle.std.specs.Str.{bytes_eq};
+ghost use Rattle.pg_schema.specs.Invariant.{IsSchema};
+ghost use Rattle.pg_schema.specs.Parts.{field_shape, shape_of};
+ghost use Rattle.pg_schema.specs.Shape.{field_at, fields};
+ghost use Rattle.pg_dyn.specs.Comparison.{records_outside, unshared_bytes};
+ghost use Rattle.pg_dyn.specs.ContentFits.{ContentFits, ItemFits};
+ghost use Rattle.pg_dyn.specs.Fits.{Fits};
+ghost use Rattle.pg_dyn.specs.Kept.{message_of, type_of, unknown_of};
+ghost use Rattle.pg_dyn.specs.Seen.{IsKey, leaf_of};
+ghost use Rattle.pg_dyn.specs.Writing.{bytes_of};
+ghost use Rattle.pg_pairs.specs.Comparing.{all_meet, is_alike_leaf, is_same, is_same_beside, items_meet, keyed, keyed_if, outside_record};
+
+use crate::carried::Beside;
+use crate::item::Sides;
+use crate::shown::{count, held_at, is_same_key, is_same_leaf, shown};
+use crate::view::View;
+use pg_dyn::{Content, Message, UnknownRecord, Value, encode_outside};
+use pg_schema::{Element, Field, Schema, TypeId};
+use std::alloc::{AllocError, Global};
+
+// Whether the view finds the number alike in the two enums; one that isn't there has no say.
+fn is_alike<V: View>(sides: &Sides<'_, V>, fields: &Beside<'_>, value: &Value) -> bool
+    requires key { IsKey value.now }
+    requires fits { ItemFits (shape_of sides.now.old.now) fields.now.old.now.element value.now }
+    ensures { result ≡ is_alike_leaf (V.is_alike sides.now.view.now) sides.now.old.now sides.now.new.now fields.now.old.now.element fields.now.new.now.element (leaf_of value.now) }
+{
+    let (Element::Enum(old), Element::Enum(new)) = (fields.old.element, fields.new.element) else {
+        return true;
+    };
+    let (Some(from), Some(to)) = (sides.old.enum_type(old), sides.new.enum_type(new)) else {
+        return true;
+    };
+    match value {
+        Value::Int(number) => sides.view.alike(from, to, *number as i32),
+        _ => true,
+    }
+}
+
+// Adds the bytes of a record whose number the type hasn't.
+fn push_outside(
+    bytes: &mut Vec<u8>,
+    schema: &Schema,
+    type_id: TypeId,
+    found: &UnknownRecord,
+) -> Result<(), AllocError>
+    ensures { OnOk result (bytes.new.items ≡ bytes.old.items ++ outside_record (fields (shape_of schema.now) type_id) found.now) }
+{
+    match schema.field(type_id, found.number) {
+        Some(_) => Ok(()),
+        None => bytes.extend_from_slice(&found.bytes),
+    }
+}
+
+// The bytes of the records whose numbers the type of the message hasn't.
+fn outside_bytes(alloc: Global, schema: &Schema, message: &Message) -> Result<Vec<u8>, AllocError>
+    ensures { IfOk result (λ bytes. bytes.items ≡ bytes_of (records_outside (fields (shape_of schema.now) (type_of message.now)) (unknown_of message.now))) }
+{
+    let type_id = message.type_id();
+    let unknown = message.unknown();
+    let mut bytes = Vec::new(alloc);
+    for found in unknown {
+        push_outside(&mut bytes, schema, type_id, found)?;
+    }
+    Ok(bytes)
+}
+
+// Whether the reader keeps just what was written of the fields that its type hasn't.
+fn is_same_outside<V: View>(
+    alloc: Global,
+    sides: &Sides<'_, V>,
+    message: &Message,
+    read: &Message,
+) -> Result<bool, AllocError>
+    requires { Fits (shape_of sides.now.old.now) message.now }
+    ensures { IfOk result (λ is. is ≡ bytes_eq (bytes_of (records_outside (fields (shape_of sides.now.new.now) (type_of read.now)) (unknown_of read.now))) (unshared_bytes (shape_of sides.now.old.now) (type_of message.now) (fields (shape_of sides.now.new.now) (type_of read.now)) (message_of message.now))) }
+{
+    let kept = outside_bytes(alloc, sides.new, read)?;
+    match encode_outside(alloc, sides.old, message, sides.new, read.type_id()) {
+        Ok(written) => Ok(kept.as_slice() == written.as_slice()),
+        // What the reader read isn't too long.
+        Err(_) => Err(AllocError),
+    }
+}
+
+// Whether the new field's item is what the old one's means.
+#[cycle(same)]
+fn is_same_item<V: View>(
+    alloc: Global,
+    sides: &Sides<'_, V>,
+    fields: &Beside<'_>,
+    value: &Value,
+    read: &Value,
+) -> Result<bool, AllocError>
+    requires old_schema { IsSchema sides.now.old.now }
+    requires new_schema { IsSchema sides.now.new.now }
+    requires fits { ItemFits (shape_of sides.now.old.now) fields.now.old.now.element value.now }
+    requires read_fits { ItemFits (shape_of sides.now.new.now) fields.now.new.now.element read.now }
+    ensures { IfOk result (λ is. is ≡ items_meet (V.is_alike sides.now.view.now) sides.now.old.now sides.now.new.now (field_shape fields.now.old.now) (field_shape fields.now.new.now) value.now read.now) }
+{
+    match (value, read) {
+        (Value::Msg(child), Value::Msg(other)) => is_same_message(alloc, sides, child, other),
+        (Value::Msg(_), _) | (_, Value::Msg(_)) => Ok(false),
+        _ => Ok(is_same_leaf(value, read) && is_alike(sides, fields, value)),
+    }
+}
+
+// Whether the new field's content shows what the old one's means.
+#[cycle(same)]
+fn is_same_content<V: View>(
+    alloc: Global,
+    sides: &Sides<'_, V>,
+    fields: &Beside<'_>,
+    content: &Content,
+    read: &Content,
+) -> Result<bool, AllocError>
+    requires old_schema { IsSchema sides.now.old.now }
+    requires new_schema { IsSchema sides.now.new.now }
+    requires fits { ContentFits (shape_of sides.now.old.now) fields.now.old.now.presence fields.now.old.now.element content.now }
+    requires read_fits { ContentFits (shape_of sides.now.new.now) fields.now.new.now.presence fields.now.new.now.element read.now }
+    ensures { IfOk result (λ is. is ≡ all_meet (V.is_alike sides.now.view.now) sides.now.old.now sides.now.new.now (field_shape fields.now.old.now) (field_shape fields.now.new.now) (keyed content.now) (keyed read.now)) }
+{
+    let len = count(content);
+    if len != count(read) {
+        return Ok(false);
+    }
+    for at in 0..len {
+        let first = held_at(content, at);
+        let second = held_at(read, at);
+        if !is_same_key(first.key, second.key) {
+            return Ok(false);
+        }
+        if !is_same_item(alloc, sides, fields, first.item, second.item)? {
+            return Ok(false);
+        }
+    }
+    Ok(true)
+}
+
+// Whether the new type's field of the number shows what the old field means; where there is none, nothing is shown.
+#[cycle(same)]
+fn is_same_field<V: View>(
+    alloc: Global,
+    sides: &Sides<'_, V>,
+    field: &Field,
+    message: &Message,
+    read: &Message,
+) -> Result<bool, AllocError>
+    requires old_schema { IsSchema sides.now.old.now }
+    requires new_schema { IsSchema sides.now.new.now }
+    requires fits { Fits (shape_of sides.now.old.now) message.now }
+    requires read_fits { Fits (shape_of sides.now.new.now) read.now }
+    requires found { field_at (fields (shape_of sides.now.old.now) (type_of message.now)) field.now.number ≡ Some (field_shape field.now) }
+    ensures { IfOk result (λ is. is ≡ is_same_beside (V.is_alike sides.now.view.now) sides.now.old.now sides.now.new.now message.now read.now (field_shape field.now) (field_at (fields (shape_of sides.now.new.now) (type_of read.now)) field.now.number)) }
+{
+    let Some(beside) = sides.new.field(read.type_id(), field.number) else {
+        return Ok(true);
+    };
+    let fields = Beside {
+        old: field,
+        new: beside,
+    };
+    let content = shown(&fields, message.get(field.number));
+    let other = shown(&fields, read.get(field.number));
+    match (content, other) {
+        (Some(content), Some(other)) => is_same_content(alloc, sides, &fields, content, other),
+        (None, None) => Ok(true),
+        _ => Ok(false),
+    }
+}
+
+// Whether each of the old fields is shown as it is meant.
+#[cycle(same)]
+fn are_same_fields<V: View>(
+    alloc: Global,
+    sides: &Sides<'_, V>,
+    list: &[Field],
+    message: &Message,
+    read: &Message,
+) -> Result<bool, AllocError>
+    requires old_schema { IsSchema sides.now.old.now }
+    requires new_schema { IsSchema sides.now.new.now }
+    requires fits { Fits (shape_of sides.now.old.now) message.now }
+    requires read_fits { Fits (shape_of sides.now.new.now) read.now }
+    requires found { AllByRecursion (λ f. field_at (fields (shape_of sides.now.old.now) (type_of message.now)) f.number ≡ Some (field_shape f)) list.now }
+    ensures { IfOk result (λ is. is ≡ list_all (λ f. is_same_beside (V.is_alike sides.now.view.now) sides.now.old.now sides.now.new.now message.now read.now (field_shape f) (field_at (fields (shape_of sides.now.new.now) (type_of read.now)) f.number)) list.now) }
+{
+    for field in list {
+        if !is_same_field(alloc, sides, field, message, read)? {
+            return Ok(false);
+        }
+    }
+    Ok(true)
+}
+
+/// Whether the new message shows what the old one means, at every depth.
+///
+/// Refused only where memory is.
+#[cycle(same)]
+pub(crate) fn is_same_message<V: View>(
+    alloc: Global,
+    sides: &Sides<'_, V>,
+    message: &Message,
+    read: &Message,
+) -> Result<bool, AllocError>
+    requires old_schema { IsSchema sides.now.old.now }
+    requires new_schema { IsSchema sides.now.new.now }
+    requires fits { Fits (shape_of sides.now.old.now) message.now }
+    requires read_fits { Fits (shape_of sides.now.new.now) read.now }
+    ensures { IfOk result (λ is. is ≡ is_same (V.is_alike sides.now.view.now) sides.now.old.now sides.now.new.now message.now read.now) }
+{
+    if let Some(message_type) = sides.old.message_type(message.type_id()) {
+        if !are_same_fields(alloc, sides, &message_type.fields, message, read)? {
+            return Ok(false);
+        }
+    }
+    is_same_outside(alloc, sides, message, read)
+}

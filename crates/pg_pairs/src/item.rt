@@ -1,0 +1,133 @@
+//! Items that the messages of choices hold.
+
+ghost use Rattle.std.specs.Prelude.{◌≡◌, Bool, option_map, IfOk, IfSome};
+ghost use Rattle.pg_dyn.specs.Seen.{item_seen, leaf_of, IsKey};
+ghost use Rattle.pg_dyn.specs.Coding.{scalar_form, Raw};
+ghost use Rattle.pg_dyn.specs.Message.{Bytes};
+ghost use Rattle.pg_pairs.specs.Gaps.{gap, gap_item, item_of};
+ghost use Rattle.pg_pairs.specs.Views.{sight_of};
+ghost use Rattle.pg_pairs.specs.CarriedItems.{kept_item, leaf_by};
+
+use crate::gap_kind::Gap;
+use crate::scalar_gap::gap;
+use crate::view::View;
+use pg_dyn::{Message, Value};
+use pg_schema::{Element, EnumId, Scalar, Schema};
+use std::alloc::{AllocError, Global};
+
+/// An item with a short body: zero; one that isn't zero; or zero but for integers, of which it is 1.
+#[derive(Clone, Copy)]
+pub(crate) enum Small {
+    Zero,
+    NotZero,
+    Far,
+}
+
+/// Two schemas and the view that their enums are compared by.
+#[derive(Drop)]
+pub(crate) struct Sides<'a, V> {
+    pub view: &'a V,
+    pub old: &'a Schema,
+    pub new: &'a Schema,
+}
+
+// Such an item of bytes, or of a text.
+fn small_bytes(alloc: Global, small: Small) -> Result<Vec<u8>, AllocError>
+    ensures { IfOk result (λ bytes. Bytes bytes.items ≡ leaf_by small Raw) }
+{
+    match small {
+        Small::NotZero => Vec::from_slice(alloc, &[0x61]),
+        Small::Zero | Small::Far => Ok(Vec::new(alloc)),
+    }
+}
+
+/// Such an item of the scalar.
+pub(crate) fn small_leaf(alloc: Global, scalar: Scalar, small: Small) -> Result<Value, AllocError>
+    ensures leaf { IfOk result (λ value. leaf_of value ≡ leaf_by small (scalar_form scalar)) }
+    ensures key { IfOk result IsKey }
+{
+    let integer = match small {
+        Small::Zero => 0,
+        Small::NotZero | Small::Far => 1,
+    };
+    let bits = match small {
+        Small::NotZero => 1,
+        Small::Zero | Small::Far => 0,
+    };
+    match scalar {
+        Scalar::Float => Ok(Value::F32(bits)),
+        Scalar::Double => Ok(Value::F64(u64::from(bits))),
+        Scalar::String | Scalar::Bytes => Ok(Value::Bytes(small_bytes(alloc, small)?)),
+        _ => Ok(Value::Int(integer)),
+    }
+}
+
+/// Such an item of the element; of messages it is the empty one.
+pub(crate) fn small_item(alloc: Global, element: Element, small: Small) -> Result<Value, AllocError>
+    ensures { IfOk result (λ value. (listed : Bool) → item_seen listed value ≡ kept_item small listed element) }
+{
+    match element {
+        Element::Message(type_id) => {
+            Ok(Value::Msg(Box::new(alloc, Message::empty(alloc, type_id))?))
+        }
+        Element::Scalar(scalar) => small_leaf(alloc, scalar, small),
+        Element::Enum(_) => small_leaf(alloc, Scalar::Int32, small),
+    }
+}
+
+// The item of the gap between two scalar types, where there is one.
+fn scalar_gap_item(alloc: Global, old: Scalar, new: Scalar) -> Result<Option<Value>, AllocError>
+    ensures item { IfOk result (λ item. option_map leaf_of item ≡ item_of (scalar_form old) (gap old new)) }
+    ensures key { IfOk result (λ item. IfSome item IsKey) }
+{
+    match gap(old, new) {
+        Gap::Unlike | Gap::None => Ok(None),
+        Gap::Least { value, .. } => match old {
+            // The one gap of bytes: a byte that is no text.
+            Scalar::String | Scalar::Bytes => {
+                Ok(Some(Value::Bytes(Vec::from_slice(alloc, &[0x80])?)))
+            }
+            _ => Ok(Some(Value::Int(value))),
+        },
+    }
+}
+
+// The least number of an old enum that isn't alike in the new one.
+fn enum_gap_item<V: View>(
+    view: &V,
+    old: &Schema,
+    new: &Schema,
+    zero: bool,
+    pair: (EnumId, EnumId),
+) -> Option<Value>
+    ensures item { option_map leaf_of result ≡ gap_item (sight_of (V.is_alike view.now) (V.least_differing view.now) old.now new.now) zero (Element.Enum pair.0) (Element.Enum pair.1) }
+    ensures key { IfSome result IsKey }
+{
+    let (Some(from), Some(to)) = (old.enum_type(pair.0), new.enum_type(pair.1)) else {
+        return None;
+    };
+    let number = view.least(from, to, zero)?;
+    Some(Value::Int(i128::from(number)))
+}
+
+/// The item of the gap between two elements, where there is one: one that counts, with the least body of those that
+/// the new element's reader doesn't read as the same item. A scalar beside an enum goes by int32.
+pub(crate) fn gap_item<V: View>(
+    alloc: Global,
+    sides: &Sides<'_, V>,
+    zero: bool,
+    pair: (Element, Element),
+) -> Result<Option<Value>, AllocError>
+    ensures item { IfOk result (λ item. option_map leaf_of item ≡ gap_item (sight_of (V.is_alike sides.now.view.now) (V.least_differing sides.now.view.now) sides.now.old.now sides.now.new.now) zero pair.0 pair.1) }
+    ensures key { IfOk result (λ item. IfSome item IsKey) }
+{
+    match pair {
+        (Element::Scalar(from), Element::Scalar(to)) => scalar_gap_item(alloc, from, to),
+        (Element::Scalar(from), Element::Enum(_)) => scalar_gap_item(alloc, from, Scalar::Int32),
+        (Element::Enum(_), Element::Scalar(to)) => scalar_gap_item(alloc, Scalar::Int32, to),
+        (Element::Enum(from), Element::Enum(to)) => {
+            Ok(enum_gap_item(sides.view, sides.old, sides.new, zero, (from, to)))
+        }
+        _ => Ok(None),
+    }
+}
