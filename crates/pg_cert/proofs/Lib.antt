@@ -15,3 +15,5 @@ pub mod Places
 pub mod FullNames
 pub mod OneSpelling
 pub mod Witnesses
+pub mod Setting
+pub mod WitnessSteps

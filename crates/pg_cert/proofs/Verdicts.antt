@@ -7,8 +7,9 @@ use Rattle.pg_pairs.specs.Covering.{Covers}
 use Rattle.pg_pairs.specs.Laws.{CoveringBounds, NoneIsCompatible}
 use Rattle.pg_cert.specs.declared.bounds.PairBound.{PairBound}
 use Rattle.pg_cert.specs.declared.verdict.Verdict.{Verdict}
+use Rattle.pg_cert.specs.declared.verdict.Verdict.TheVariants as verdicts
 use Rattle.pg_cert.specs.Bounds.{bound_in}
-use Rattle.pg_cert.specs.Certificate.{Claim, Holds, IsWitnessedIfThere, bound_verdict, verdict_of}
+use Rattle.pg_cert.specs.Certificate.{Claim, Holds, IsWitnessed, IsWitnessedIfThere, bound_verdict, verdict_of}
 use Rattle.pg_cert.specs.Laws.{Says, VerdictsAreTrue}
 
 module _ (covering : CoveringBounds) (compatible : NoneIsCompatible) (sight : Sight) (old new : Shape) (root : Pair) (bounds : List PairBound) (is_sight : IsSight sight) (is_old : IsShape old) (is_new : IsShape new) where
@@ -53,3 +54,18 @@ says true_ sight old new claim is_sight is_old is_new covers no_witness verdict 
     without : (witness : Option (List ℕ)) → witness ≡ None → bound_verdict (bound_in claim.bounds claim.root) ≡ verdict_of (record { root = claim.root; bounds = claim.bounds; witness = witness })
     without None h = refl
     without (Some bytes) h = absurd (cc)
+
+-- That of a claim with a witness: it is a least one.
+pub says_witnessed : VerdictsAreTrue → (sight : Sight) (old new : Shape) (claim : Claim) → IsSight sight → IsShape old → IsShape new → Covers sight old new (bound_in claim.bounds) claim.root → (bytes : List ℕ) → claim.witness ≡ Some bytes →
+    IsWitnessed sight old new claim.root (bound_in claim.bounds claim.root) bytes → Says sight old new claim verdicts.Breaks
+says_witnessed true_ sight old new claim is_sight is_old is_new covers bytes is witnessed =
+    subst (Says sight old new claim) (with_one claim.witness is)
+    (true_ sight old new claim is_sight is_old is_new (record { covers = covers; witnessed = there claim.witness is }))
+  where
+    there : (witness : Option (List ℕ)) → witness ≡ Some bytes → IsWitnessedIfThere sight old new claim.root (bound_in claim.bounds claim.root) witness
+    there None h = absurd (cc)
+    there (Some xs) h = let same : bytes ≡ xs = cc in subst (IsWitnessed sight old new claim.root (bound_in claim.bounds claim.root)) same witnessed
+
+    with_one : (witness : Option (List ℕ)) → witness ≡ Some bytes → verdict_of (record { root = claim.root; bounds = claim.bounds; witness = witness }) ≡ verdicts.Breaks
+    with_one None h = absurd (cc)
+    with_one (Some xs) h = refl

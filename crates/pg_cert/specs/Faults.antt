@@ -1,6 +1,6 @@
 -- Where a table fails to cover its root: the first fault, in the order of this profile. The root first; then pair by pair in the
 -- table's order, of each pair its first missing child, then its first choice that costs less than the bound.
-use Rattle.std.specs.Prelude.{ℕ, nat_le, List, [], ◌∷◌, find, Bool, false, not, Option, Some, None, option_map, is_some, if◌then◌else◌}
+use Rattle.std.specs.Prelude.{◌≡◌, ◌≤◌, ◌⊎◌, ℕ, length, nat_le, List, [], ◌∷◌, find, Bool, false, not, Option, Some, None, option_map, is_some, if◌then◌else◌}
 use Rattle.std.specs.Option.{option_or}
 use Rattle.pg_schema.specs.Shape.{Shape}
 use Rattle.pg_pairs.specs.declared.choice.Choice.{Choice}
@@ -12,7 +12,10 @@ use Rattle.pg_cert.specs.declared.bounds.PairBound.{PairBound}
 use Rattle.pg_cert.specs.declared.error.CertError.{CertError}
 use Rattle.pg_cert.specs.declared.error.CertError.TheVariants.{Memory, BadText, RootMissing, PairMissing, BoundTooHigh, WitnessNotWritten, WitnessLength, WitnessKeeps}
 use Rattle.pg_cert.specs.Bounds.{bound_in}
-use Rattle.pg_cert.specs.Certificate.{IsWritten, HasLength, IsWitnessed}
+use Rattle.pg_dyn.specs.Encoding.{cap, enc}
+use Rattle.pg_dyn.specs.Fits.{Fits}
+use Rattle.pg_dyn.specs.Kept.{Kept, IsPlain, message_of, type_of}
+use Rattle.pg_cert.specs.Certificate.{Claim, IsWritten, HasLength, IsWitnessed}
 
 -- a bound is at most the cost; 'none' is above every cost
 abbrev pub is_within : Option ℕ → ℕ → Bool
@@ -54,3 +57,25 @@ WitnessFault sight old new root bound bytes BadText = ⊥
 WitnessFault sight old new root bound bytes RootMissing = ⊥
 WitnessFault sight old new root bound bytes (PairMissing pair) = ⊥
 WitnessFault sight old new root bound bytes (BoundTooHigh pair number case) = ⊥
+
+abbrev pub WitnessFaultIfThere : Sight → Shape → Shape → Pair → Option (Option ℕ) → Option (List ℕ) → CertError → Type 0
+WitnessFaultIfThere sight old new root bound (Some bytes) fault = WitnessFault sight old new root bound bytes fault
+WitnessFaultIfThere sight old new root bound None fault = ⊥
+
+-- The first fault of a claim: of its table, and only where that has none, of its witness.
+abbrev pub IsFirstFault : Sight → Shape → Shape → Claim → CertError → Type 0
+IsFirstFault sight old new claim fault =
+    (first_fault sight old new claim.bounds claim.root ≡ Some fault)
+    ⊎ ((first_fault sight old new claim.bounds claim.root ≡ None) × WitnessFaultIfThere sight old new claim.root (bound_in claim.bounds claim.root) claim.witness fault)
+
+-- what a reader makes of a witness: the message of which the old writer writes it, or nothing where there is none
+pub record IsWriting (old : Shape) (root : Pair) (bytes : List ℕ) (m : Kept) : Type 0 where
+  pub fits : Fits old m
+  pub type_is : type_of m ≡ root.old
+  pub is_plain : IsPlain m
+  pub has_encoding : length (enc old root.old (message_of m)) ≤ cap
+  pub written : enc old root.old (message_of m) ≡ bytes
+
+abbrev pub IsReadBack : Shape → Pair → List ℕ → Option Kept → Type 0
+IsReadBack old root bytes (Some m) = IsWriting old root bytes m
+IsReadBack old root bytes None = IsWritten old root bytes → ⊥

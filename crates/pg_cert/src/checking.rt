@@ -7,14 +7,15 @@ ghost use Rattle.pg_pairs.specs.Sight.{by_numbers};
 ghost use Rattle.pg_cert.specs.declared.error.CertError.TheVariants as errors;
 ghost use Rattle.pg_cert.specs.Bounds.{bound_in};
 ghost use Rattle.pg_cert.specs.Certificate.{Holds, bound_verdict, verdict_of};
-ghost use Rattle.pg_cert.specs.Faults.{cheaper_choice, first_fault, first_pair_fault, is_within, missing_child, pair_fault};
+ghost use Rattle.pg_cert.specs.Faults.{IsFirstFault, cheaper_choice, first_fault, first_pair_fault, is_within, missing_child, pair_fault};
 ghost use Rattle.pg_cert.specs.Laws.{Says};
 
 use crate::bounds::{Bounds, PairBound};
 use crate::certificate::Certificate;
 use crate::error::CertError;
-use crate::laws::{covers_without_fault, verdicts_are_true};
+use crate::laws::{covers_without_fault, verdicts_are_true, witness_faults_are_real};
 use crate::verdict::Verdict;
+use crate::witness::check_witness;
 use pg_pairs::{Choice, Numbers, Pair, Table, children, numbers_sight, options};
 use pg_schema::Schema;
 use std::alloc::{AllocError, Global};
@@ -147,23 +148,25 @@ fn bound_verdict(bound: Option<Option<u32>>) -> Verdict
     }
 }
 
-/// Whether what the certificate claims holds: its table covers its root. Of a certificate without a
-/// witness it answers `Compatible` where the root's bound is 'none', and else `AtLeast` that number.
+/// Whether what the certificate claims holds: its table covers its root, and its witness, where there is
+/// one, is what the old writer writes of a message without unknown records, has just as many bytes as the
+/// root's bound says, and breaks. With a witness it answers `Breaks`; without one `Compatible` where the
+/// root's bound is 'none', and else `AtLeast` that number. Messages are read at any depth.
 ///
 /// The errors are, in this order, `RootMissing`; then pair by pair in the table's order `PairMissing`
 /// with the first child that the table lacks, and `BoundTooHigh` with the pair's first choice, by
-/// number, case and part, that costs less than the bound; and `Memory` where memory was refused.
+/// number, case and part, that costs less than the bound; then `WitnessNotWritten`, `WitnessLength` and
+/// `WitnessKeeps`; and `Memory` where memory was refused.
 pub fn check(
     alloc: Global,
     old: &Schema,
     new: &Schema,
     certificate: &Certificate,
 ) -> Result<Verdict, CertError>
-    requires { certificate.now.witness ≡ None }
     ensures holds { OnOk result (Holds by_numbers (shape_of old.now) (shape_of new.now) certificate.now) }
     ensures verdict { IfOk result (λ verdict. verdict ≡ verdict_of certificate.now) }
     ensures says { IfOk result (λ verdict. Says by_numbers (shape_of old.now) (shape_of new.now) certificate.now verdict) }
-    ensures first_fault { IfErr result (λ e. (e ≡ errors.Memory) ⊎ (first_fault by_numbers (shape_of old.now) (shape_of new.now) certificate.now.bounds certificate.now.root ≡ Some e)) }
+    ensures first_fault { IfErr result (λ e. (e ≡ errors.Memory) ⊎ IsFirstFault by_numbers (shape_of old.now) (shape_of new.now) certificate.now e) }
     ensures refused { IfErr result (λ e. (e ≡ errors.Memory) ⊎ ¬ (Holds by_numbers (shape_of old.now) (shape_of new.now) certificate.now)) }
 {
     // What holds of every schema and every view, and what a table without fault shows.
@@ -172,8 +175,16 @@ pub fn check(
     numbers_sight();
     covers_without_fault();
     verdicts_are_true();
+    witness_faults_are_real();
     let root = certificate.root();
     let bounds = certificate.bounds();
     check_table(alloc, old, new, bounds, root)?;
-    Ok(bound_verdict(bounds.bound(root)))
+    let bound = bounds.bound(root);
+    match certificate.witness() {
+        Some(bytes) => {
+            check_witness(alloc, old, new, root, bound, bytes)?;
+            Ok(Verdict::Breaks)
+        }
+        None => Ok(bound_verdict(bound)),
+    }
 }

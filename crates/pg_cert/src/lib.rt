@@ -8,6 +8,7 @@ mod error;
 mod laws;
 mod reading;
 mod verdict;
+mod witness;
 mod writing;
 
 pub use bounds::{Bounds, BoundsError, PairBound};

@@ -1,8 +1,9 @@
-//! Certificates of flat types: one file with `message M { SCALAR a = 1; }` on each side. What the bounds and the
+//! Certificates of types of one field: one file with `message M { SCALAR a = 1; }` on each side. What the bounds and the
 //! witness are is computed by hand from the public encoding guide.
 mod memory;
 mod messages;
 mod texts;
+mod witnesses;
 
 use crate::{Bounds, BoundsError, CertError, Certificate, PairBound, Verdict, check};
 use pg_pairs::{Pair, Table};
@@ -196,6 +197,23 @@ fn the_bounds_of_a_table(rt: HostRuntime) -> Result<(), Fail> {
     );
     assert_eq!(rt; table.get(1), Some(line(OTHER, None)));
     assert_eq!(rt; table.get(2), None);
+    Ok(())
+}
+
+#[test]
+fn another_bound(rt: HostRuntime) -> Result<(), Fail> {
+    let alloc = rt.alloc();
+    let bounds = vec![in alloc; line(ROOT, None), line(OTHER, Some(11))]?;
+    let table = Bounds::new(alloc, bounds);
+    let mut table = table.ok().ok_or("the bounds are a table")?;
+    table.set_bound(0, Some(8));
+    assert_eq!(rt; table.get(0), Some(line(ROOT, Some(8))));
+    assert_eq!(rt; table.bound(ROOT), Some(Some(8)));
+    table.set_bound(1, None);
+    table.set_bound(2, Some(3));
+    assert_eq!(rt; table.bound(ROOT), Some(Some(8)));
+    assert_eq!(rt; table.bound(OTHER), Some(None));
+    assert_eq!(rt; table.len(), 2);
     Ok(())
 }
 

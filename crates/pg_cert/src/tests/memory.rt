@@ -1,5 +1,5 @@
 //! Each allocation refused in turn: `rt try --test --fail-alloc N`.
-use super::{ROOT, line, schema_of};
+use super::{MINUS_ONE, ROOT, line, schema_of};
 use crate::{Bounds, BoundsError, CertError, Certificate, Verdict, check, from_text, to_text};
 use pg_schema::Scalar;
 use std::test::Fail;
@@ -26,6 +26,28 @@ fn a_refused_check(rt: HostRuntime) -> Result<(), Fail> {
     };
     match check(alloc, &old, &new, &certificate) {
         Ok(verdict) => assert_eq!(rt; verdict, Verdict::AtLeast(11)),
+        Err(error) => assert_eq!(rt; error, CertError::Memory),
+    }
+    Ok(())
+}
+
+// The same of a certificate with a witness.
+#[test]
+fn a_refused_witness(rt: HostRuntime) -> Result<(), Fail> {
+    let alloc = rt.alloc();
+    let old = schema_of(alloc, Scalar::Int32)?;
+    let new = schema_of(alloc, Scalar::Uint32)?;
+    let bounds = vec![in alloc; line(ROOT, Some(11))]?;
+    let table = Bounds::new(alloc, bounds);
+    let Ok(table) = table else {
+        return Ok(());
+    };
+    let witness = Vec::from_slice(alloc, &MINUS_ONE)?;
+    let Ok(certificate) = Certificate::new(ROOT, table, Some(witness)) else {
+        return Err("a certificate with a witness".into());
+    };
+    match check(alloc, &old, &new, &certificate) {
+        Ok(verdict) => assert_eq!(rt; verdict, Verdict::Breaks),
         Err(error) => assert_eq!(rt; error, CertError::Memory),
     }
     Ok(())

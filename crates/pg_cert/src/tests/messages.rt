@@ -12,9 +12,9 @@ use std::test::Fail;
 
 const N: TypeId = TypeId { index: 1 };
 
-const INNER: Pair = Pair { old: M, new: M };
+pub(super) const INNER: Pair = Pair { old: M, new: M };
 
-const OUTER: Pair = Pair { old: N, new: N };
+pub(super) const OUTER: Pair = Pair { old: N, new: N };
 
 const TEXT: &str =
     "protogate-certificate 1\nroot N N\npair N N 8\npair M M 6\nwitness 1206088080808008\nend\n";
@@ -56,7 +56,11 @@ fn holder(alloc: Global, name: &str, fields: Vec<Field>) -> Result<MessageType, 
 }
 
 /// The schema of these types, which a file without a package declares.
-fn schema_of(alloc: Global, types: Vec<MessageType>, ids: Vec<TypeId>) -> Result<Schema, Fail> {
+pub(super) fn schema_of(
+    alloc: Global,
+    types: Vec<MessageType>,
+    ids: Vec<TypeId>,
+) -> Result<Schema, Fail> {
     let file = File {
         name: String::from_str(alloc, "m.proto")?,
         package: String::new(alloc),
@@ -77,7 +81,7 @@ fn schema_of(alloc: Global, types: Vec<MessageType>, ids: Vec<TypeId>) -> Result
 }
 
 /// `M` with a field of the scalar, and `N`.
-fn linked(alloc: Global, scalar: Scalar) -> Result<Schema, Fail> {
+pub(super) fn linked(alloc: Global, scalar: Scalar) -> Result<Schema, Fail> {
     let fields = vec![in alloc;
         child(alloc, 1, "next", Presence::Explicit, N)?,
         child(alloc, 2, "m", Presence::Explicit, M)?,
@@ -87,7 +91,7 @@ fn linked(alloc: Global, scalar: Scalar) -> Result<Schema, Fail> {
 }
 
 /// A type that holds itself, once and many times.
-fn tree(alloc: Global) -> Result<Schema, Fail> {
+pub(super) fn tree(alloc: Global) -> Result<Schema, Fail> {
     let fields = vec![in alloc;
         child(alloc, 1, "next", Presence::Explicit, M)?,
         child(alloc, 2, "kids", Presence::Repeated { packed: false }, M)?,

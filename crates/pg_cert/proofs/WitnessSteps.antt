@@ -1,0 +1,78 @@
+-- What the old writer writes is what is read again, so that there is one message of it.
+use Rattle.std.proofs.Common.{◌≡◌, ◌<◌, ◌↔◌, Bool, IsTrue, ℕ, zero, suc, List, [], ◌∷◌, length, get_or, true, Option, Some, None, option_map, refl, ap, sym, ◌∙◌, subst, arith}
+use Rattle.pg_schema.specs.declared.parts.Parts.{Parts}
+use Rattle.pg_schema.specs.Parts.{shape_of}
+use Rattle.pg_schema.specs.Shape.{Shape, FieldShape, IsShape, fields, field_at}
+use Rattle.pg_dyn.specs.Belonging.{IsMessage}
+use Rattle.pg_dyn.specs.Breaking.{Breaks}
+use Rattle.pg_dyn.specs.Decoding.{dec}
+use Rattle.pg_dyn.specs.Encoding.{enc}
+use Rattle.pg_dyn.specs.Kept.{Kept, message_of, type_of}
+use Rattle.pg_dyn.specs.Kept as kept
+use Rattle.pg_dyn.specs.Laws.{ReadsAgain}
+use Rattle.pg_dyn.specs.Message.{Message, IsPlain, ends, holds, nests}
+use Rattle.pg_pairs.specs.declared.choice.Pair.{Pair}
+use Rattle.pg_pairs.specs.Sight.{Sight, by_numbers}
+use Rattle.pg_pairs.specs.Views.{sight_of}
+use Rattle.pg_cert.proofs.Sights.{by_numbers-between}
+use Rattle.pg_pairs.proofs.BreakSteps.{kept_plain, plain_kept}
+use Rattle.pg_cert.specs.Certificate.{HasLength, IsWitnessed, IsWritten, is_witness}
+use Rattle.pg_cert.specs.Faults.{IsWriting}
+
+past_end : (s : Shape) (i : ℕ) → (i < length s → ⊥) → get_or s i [] ≡ []
+past_end [] i h = refl
+past_end (fs ∷ s) zero h = absurd (h (omega arith))
+past_end (fs ∷ s) (suc i) h = past_end s i (λ k. h (omega arith))
+
+module _ (old : Shape) (root : Pair) (bytes : List ℕ) where
+  -- a type that isn't there has the empty message alone
+  none_written : fields old root.old ≡ [] → (v : Message) → IsMessage old root.old v → IsPlain v → enc old root.old v ≡ []
+  unfolding enc
+  none_written none (ends []) is plain = rw none refl
+  none_written none (ends (r ∷ rs)) is plain = absurd plain
+  none_written none (holds number key leaf later) is plain =
+      let clash : None ≡ Some is.0.field = ap (λ (fs : List FieldShape). field_at fs number) (sym none) ∙ is.0.found in absurd (cc)
+  none_written none (nests number key child later) is plain =
+      let clash : None ≡ Some is.0.field = ap (λ (fs : List FieldShape). field_at fs number) (sym none) ∙ is.0.found in absurd (cc)
+
+  pub no_type : (root.old.index < length old → ⊥) → is_witness (Some bytes) ≡ true → IsWritten old root bytes → ⊥
+  no_type absent some is =
+      let empty : bytes ≡ [] = sym is.written ∙ none_written (past_end old root.old.index absent) is.message is.is_message is.is_plain in
+      let clash : is_witness (Some []) ≡ true = subst (λ xs. is_witness (Some xs) ≡ true) empty some in cc
+
+  module _ (again : ReadsAgain) (is_shape : IsShape old) where
+    -- the message that is written is the one that is read
+    read_of : (is : IsWritten old root bytes) → dec old root.old bytes ≡ Some is.message
+    read_of is = ap (dec old root.old) (sym is.written) ∙ again old root.old is.message is_shape is.is_message is.has_encoding
+
+    message_is : (v : Message) (is : IsWritten old root bytes) → dec old root.old bytes ≡ Some v → is.message ≡ v
+    message_is v is read = let both : ◌≡◌ {A = Option Message} (Some is.message) (Some v) = sym (read_of is) ∙ read in cc
+
+    pub not_plain : (m : Kept) (o : Option Kept) → option_map message_of o ≡ dec old root.old bytes → o ≡ Some m → (kept.IsPlain m → ⊥) → IsWritten old root bytes → ⊥
+    not_plain m o read found unplain is =
+        unplain (kept_plain m (subst IsPlain (message_is (message_of m) is (sym read ∙ ap (option_map message_of) found)) is.is_plain))
+
+  module _ (m : Kept) (writing : IsWriting old root bytes m) where
+    pub written_of : IsWritten old root bytes
+    written_of = record {
+      message = message_of m;
+      is_message = subst (λ t. IsMessage old t (message_of m)) writing.type_is writing.fits.is_message;
+      is_plain = plain_kept m writing.is_plain;
+      has_encoding = writing.has_encoding;
+      written = writing.written;
+    }
+
+    module _ (sight : Sight) (new : Shape) (bound : Option (Option ℕ)) where
+      pub witnessed_of : HasLength bound bytes → Breaks sight.alike old new root.old root.new (message_of m) → IsWitnessed sight old new root bound bytes
+      witnessed_of long breaks = record { message = message_of m; breaks = breaks; written = writing.written; length_is = long }
+
+      pub keeps_of : ReadsAgain → IsShape old → (Breaks sight.alike old new root.old root.new (message_of m) → ⊥) → IsWitnessed sight old new root bound bytes → ⊥
+      unfolding written_of
+      keeps_of again is_shape kept_ is =
+          let written : IsWritten old root bytes = record { message = is.message; is_message = is.breaks.is_message; is_plain = is.breaks.is_plain; has_encoding = is.breaks.has_encoding; written = is.written } in
+          kept_ (subst (Breaks sight.alike old new root.old root.new) (message_is again is_shape (message_of m) written (read_of again is_shape written_of)) is.breaks)
+
+-- What the checker tells is told of the view by numbers.
+pub told : (old new : Parts) (root : Pair) (m : Kept) (so : Bool) → IsTrue so ↔ ((type_of m ≡ root.old) × Breaks (sight_of (λ _ _ _. true) (λ _ _ _. None) old new).alike (shape_of old) (shape_of new) root.old root.new (message_of m))
+    → IsTrue so ↔ ((type_of m ≡ root.old) × Breaks by_numbers.alike (shape_of old) (shape_of new) root.old root.new (message_of m))
+told old new root m so h = subst (λ (sight : Sight). IsTrue so ↔ ((type_of m ≡ root.old) × Breaks sight.alike (shape_of old) (shape_of new) root.old root.new (message_of m))) (by_numbers-between old new) h

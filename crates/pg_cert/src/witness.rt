@@ -1,0 +1,112 @@
+//! Witnesses: whether the old writer writes them, and whether they break.
+
+ghost use Rattle.std.specs.Prelude.{◌≡◌, ◌⊎◌, ◌↔◌, ◌<◌, ◌≤◌, true, length, Some, MatchOption, MatchResult, IfOk, IsTrue};
+ghost use Rattle.pg_schema.specs.Parts.{shape_of};
+ghost use Rattle.pg_dyn.specs.Encoding.{cap, enc};
+ghost use Rattle.pg_dyn.specs.Fits.{Fits};
+ghost use Rattle.pg_dyn.specs.Kept.{message_of, type_of};
+ghost use Rattle.pg_pairs.specs.Sight.{by_numbers};
+ghost use Rattle.pg_cert.specs.declared.error.CertError.TheVariants as errors;
+ghost use Rattle.pg_cert.specs.Certificate.{HasLength, IsWitnessed, is_witness};
+ghost use Rattle.pg_cert.specs.Faults.{IsReadBack, WitnessFault};
+
+use crate::error::CertError;
+use pg_dyn::{DynError, Message, decode_unlimited, encode, reads_again};
+use pg_pairs::{Numbers, Pair, breaks};
+use pg_schema::Schema;
+use std::alloc::{AllocError, Global};
+
+// The encoding of a message that fits; `None` where it is too long.
+fn encoded(alloc: Global, old: &Schema, message: &Message) -> Result<Option<Vec<u8>>, AllocError>
+    requires { Fits (shape_of old.now) message.now }
+    ensures { IfOk result (λ found. MatchOption found
+        (cap < length (enc (shape_of old.now) (type_of message.now) (message_of message.now)))
+        (λ bytes. (bytes.items ≡ enc (shape_of old.now) (type_of message.now) (message_of message.now)) × (length bytes.items ≤ cap))) }
+{
+    match encode(alloc, old, message) {
+        Ok(bytes) => Ok(Some(bytes)),
+        Err(error) => {
+            if matches!(error, DynError::TooLong) {
+                return Ok(None);
+            }
+            Err(AllocError)
+        }
+    }
+}
+
+// The message without unknown records that the old writer writes as those bytes, at any depth; `None` where it
+// writes none so.
+fn read_back(
+    alloc: Global,
+    old: &Schema,
+    root: Pair,
+    bytes: &[u8],
+) -> Result<Option<Message>, AllocError>
+    requires { is_witness (Some bytes.now) ≡ true }
+    ensures { IfOk result (λ found. IsReadBack (shape_of old.now) root bytes.now found) }
+{
+    // What holds of every schema, and of what a type writes.
+    old.parts();
+    reads_again();
+    if !old.has(root.old) {
+        return Ok(None);
+    }
+    let Some(message) = decode_unlimited(alloc, old, root.old, bytes)? else {
+        return Ok(None);
+    };
+    if !message.is_plain() {
+        return Ok(None);
+    }
+    let Some(again) = encoded(alloc, old, &message)? else {
+        return Ok(None);
+    };
+    if again.as_slice() != bytes {
+        return Ok(None);
+    }
+    Ok(Some(message))
+}
+
+// Whether the bound is a number, and just so many bytes.
+fn has_length(bound: Option<Option<u32>>, bytes: &[u8]) -> bool
+    ensures { IsTrue result ↔ HasLength bound bytes.now }
+{
+    match bound {
+        Some(Some(most)) => most as usize == bytes.len(),
+        _ => false,
+    }
+}
+
+/// Whether the bytes are a witness of the pair of root types whose bound that is: the old writer writes them of a
+/// message without unknown records, which breaks, and the bound is their number. The error is the first of
+/// `WitnessNotWritten`, `WitnessLength` and `WitnessKeeps` that is there, or `Memory`.
+pub(crate) fn check_witness(
+    alloc: Global,
+    old: &Schema,
+    new: &Schema,
+    root: Pair,
+    bound: Option<Option<u32>>,
+    bytes: &[u8],
+) -> Result<(), CertError>
+    requires { is_witness (Some bytes.now) ≡ true }
+    ensures { MatchResult result
+        (λ _. IsWitnessed by_numbers (shape_of old.now) (shape_of new.now) root bound bytes.now)
+        (λ e. (e ≡ errors.Memory) ⊎ WitnessFault by_numbers (shape_of old.now) (shape_of new.now) root bound bytes.now e) }
+{
+    // What holds of every schema, and of what a type writes.
+    old.parts();
+    reads_again();
+    let Some(message) = read_back(alloc, old, root, bytes)? else {
+        return Err(CertError::WitnessNotWritten);
+    };
+    if !has_length(bound, bytes) {
+        return Err(CertError::WitnessLength);
+    }
+    // What was written has an encoding.
+    let Ok(so) = breaks(alloc, &Numbers, old, new, root, &message) else {
+        return Err(CertError::Memory);
+    };
+    if !so {
+        return Err(CertError::WitnessKeeps);
+    }
+    Ok(())
+}
