@@ -1,0 +1,154 @@
+-- The way down of a witness, by the cheapest choices.
+use Rattle.std.proofs.Common.{◌≡◌, ℕ, ◌<◌, ◌≤◌, List, [], ◌∷◌, ◌++◌, length, true, is_some, option_and_then, Option, Some, None, ⊎_elim, refl, ap, sym, ◌∙◌, subst, arith}
+use Rattle.std.specs.List.{AllByRecursion}
+use Rattle.std.proofs.lemmas.Bool.{cases_lt}
+use Rattle.std.proofs.lemmas.List.{get_or_past}
+use Rattle.pg_schema.specs.Shape.{Shape, fields}
+use Rattle.pg_dyn.specs.Message.{Message}
+use Rattle.pg_dyn.specs.Fits.{Fits}
+use Rattle.pg_dyn.specs.Kept.{Kept, message_of, type_of}
+use Rattle.pg_pairs.specs.declared.choice.Choice.{Choice}
+use Rattle.pg_pairs.specs.declared.choice.Pair.{Pair}
+use Rattle.pg_pairs.specs.Sight.{Sight}
+use Rattle.pg_pairs.specs.Carried.{ChildReached, ChildThere, choice_child}
+use Rattle.pg_pairs.specs.Cheapest.{cheapest, IsCheapest, CheapestIsLeast}
+use Rattle.pg_pairs.specs.Choices.{Table, number_for, all_choices, affordable, choices}
+use Rattle.pg_pairs.specs.Covering.{IsWithin}
+use Rattle.pg_pairs.specs.Laws.{ReachedBy}
+use Rattle.pg_pairs.specs.Settling.{IsAmong}
+use Rattle.pg_least.specs.declared.witness.Step.{Step}
+use Rattle.pg_least.specs.Descent.{IsExactTable, IsStep, IsWayDown, IsWholeWay, first_step}
+
+among_each : {A : Type 0} (P : A → Type 0) (x : A) (xs : List A) → IsAmong x xs → AllByRecursion P xs → P x
+among_each P x [] among h = absurd among
+among_each P x (y ∷ ys) among h = ⊎_elim (λ same. subst P (sym same) h.0) (λ later. among_each P x ys later h.1) among
+
+-- the number of a pair's bound
+pub number_there : (table : Table) (pair : Pair) → is_some (number_for table pair) ≡ true → (n : ℕ) × (table pair ≡ Some (Some n))
+number_there table pair h = of (table pair) h
+  where
+    of : (o : Option (Option ℕ)) → is_some (option_and_then (λ bound. bound) o) ≡ true → (n : ℕ) × (o ≡ Some (Some n))
+    of (Some (Some n)) h = (n, refl)
+    of (Some None) h = absurd (cc)
+    of None h = absurd (cc)
+
+pub number_of : (table : Table) (pair : Pair) (n : ℕ) → table pair ≡ Some (Some n) → is_some (number_for table pair) ≡ true
+number_of table pair n is = rw is refl
+
+same_number : {n m : ℕ} {o : Option (Option ℕ)} → o ≡ Some (Some n) → o ≡ Some (Some m) → n ≡ m
+same_number h k = cc
+
+pub first_on : (steps : List Step) (last next : Step) → first_step (steps ++ last ∷ []) next ≡ first_step steps last
+first_on [] last next = refl
+first_on (s ∷ steps) last next = refl
+
+module _ (sight : Sight) (old new : Shape) (table : Table) where
+  -- a type with a choice is there
+  pub type_there : (pair : Pair) (c : Choice) → IsAmong c (choices sight table old new pair) → pair.old.index < length old
+  type_there pair c among =
+      ⊎_elim (λ h. h) (λ past.
+      let none : fields old pair.old ≡ [] = get_or_past old pair.old.index [] past in
+      absurd (subst (λ fs. IsAmong c (affordable (all_choices sight table (fields new pair.new) fs))) none among)) (cases_lt pair.old.index (length old))
+
+  module _ (exact : IsExactTable sight old new table) (least : CheapestIsLeast) (pair : Pair) (number : is_some (number_for table pair) ≡ true) where
+    is_cheapest : (o : Option Choice) → cheapest (choices sight table old new pair) ≡ o → IsCheapest o (choices sight table old new pair)
+    is_cheapest o is = subst (λ x. IsCheapest x (choices sight table old new pair)) is (least (choices sight table old new pair))
+
+    -- the cheapest choice costs what the bound says
+    pub cheapest_step : (c : Choice) → cheapest (choices sight table old new pair) ≡ Some c → IsStep sight old new table (record { pair = pair; choice = c })
+    cheapest_step c is =
+        let (n, there) = number_there table pair number in
+        let (d, chosen, cost) = (exact pair (Some n) there).chosen n refl in
+        let (among, all) = is_cheapest (Some c) is in
+        let above : c.cost ≤ d.cost = among_each (λ (x : Choice). c.cost ≤ x.cost) d (choices sight table old new pair) chosen all in
+        let below : n ≤ c.cost = among_each (λ (x : Choice). IsWithin (Some n) x.cost) c (choices sight table old new pair) among (exact pair (Some n) there).covered.bound_below in
+        let same : n ≡ c.cost = omega arith in
+        record { among = among; costs = there ∙ ap (λ x. Some (Some x)) same }
+
+    pub never_none : cheapest (choices sight table old new pair) ≡ None → ⊥
+    never_none is =
+        let (n, there) = number_there table pair number in
+        let (d, chosen, cost) = (exact pair (Some n) there).chosen n refl in
+        subst (IsAmong d) (is_cheapest None is) chosen
+
+  -- One step more at the end.
+  pub way_on : (steps : List Step) (last next : Step) → IsWayDown sight old new table steps last → choice_child old new last.pair last.choice ≡ Some next.pair → IsStep sight old new table next → IsWayDown sight old new table (steps ++ last ∷ []) next
+  way_on [] last next way child step = (way, child, step)
+  way_on (s ∷ steps) last next (here, down, later) child step =
+      (here, down ∙ ap (λ (x : Step). Some x.pair) (sym (first_on steps last next)), way_on steps last next later child step)
+
+  -- the last step of a way, and the way without it
+  pub last_step : (steps : List Step) (last : Step) → IsWayDown sight old new table steps last → IsStep sight old new table last
+  last_step [] last way = way
+  last_step (s ∷ steps) last way = last_step steps last way.2
+
+  pub way_off : (steps : List Step) (s last : Step) → IsWayDown sight old new table (steps ++ s ∷ []) last → IsWayDown sight old new table steps s × (choice_child old new s.pair s.choice ≡ Some last.pair)
+  way_off [] s last (here, down, later) = (here, down)
+  way_off (x ∷ steps) s last (here, down, later) =
+      let (way, child) = way_off steps s last later in
+      ((here, down ∙ ap (λ (y : Step). Some y.pair) (first_on steps s last), way), child)
+
+  -- The child of a step costs less than it.
+  pub child_number : (child : Pair) (c : Choice) (o : Option Pair) → o ≡ Some child → ChildThere table o c.cost → (n : ℕ) × (table child ≡ Some (Some n)) × (n < c.cost)
+  child_number child c o is there = subst (λ x. ChildThere table x c.cost) is there
+
+  pub costs_less : (child : Pair) (c : Choice) (o : Option Pair) (next : Step) → o ≡ Some child → ChildThere table o c.cost → next.pair ≡ child → IsStep sight old new table next → next.choice.cost < c.cost
+  costs_less child c o next is there at step =
+      let (n, bound, less) = child_number child c o is there in
+      let same : next.choice.cost ≡ n = same_number (sym (ap table at) ∙ step.costs) bound in
+      omega arith
+
+  -- What is given to a step's message: nothing, or the message of its child.
+  pub no_child : (o : Option Pair) → o ≡ None → ChildReached sight old new table o None
+  no_child o is = subst (λ x. ChildReached sight old new table x None) (sym is) tt
+
+  pub child_given : (o : Option Pair) (last : Step) (m : Message) → o ≡ Some last.pair → IsStep sight old new table last → ReachedBy sight old new last.pair m last.choice.cost → ChildReached sight old new table o (Some m)
+  child_given o last m is step reached = subst (λ x. ChildReached sight old new table x (Some m)) (sym is) (last.choice.cost, step.costs, reached)
+
+-- the choice's message round that child, in every table that has it
+abbrev pub IsBuilt : Sight → Shape → Shape → Step → Option Message → Kept → Type 0
+IsBuilt sight old new step child m =
+    (table : Table) → IsAmong step.choice (choices sight table old new step.pair) → ChildReached sight old new table (choice_child old new step.pair step.choice) child → ReachedBy sight old new step.pair (message_of m) step.choice.cost
+
+-- The message of the last of these steps, on the way to which stands that first one.
+pub record IsInside (sight : Sight) (old new : Shape) (first : Step) (steps : List Step) (m : Kept) : Type 0 where
+  pub table : Table
+  pub last : Step
+  pub way : IsWayDown sight old new table steps last
+  pub first_is : first_step steps last ≡ first
+  pub fits : Fits old m
+  pub type_is : type_of m ≡ last.pair.old
+  pub reached : ReachedBy sight old new last.pair (message_of m) last.choice.cost
+
+module _ (sight : Sight) (old new : Shape) where
+  pub innermost : (table : Table) (steps : List Step) (last : Step) (m : Kept) → IsWholeWay sight old new table steps last → Fits old m → type_of m ≡ last.pair.old → IsBuilt sight old new last None m → IsInside sight old new (first_step steps last) steps m
+  innermost table steps last m whole fits type_is made = record {
+    table = table;
+    last = last;
+    way = whole.way;
+    first_is = refl;
+    fits = fits;
+    type_is = type_is;
+    reached = made table (last_step sight old new table steps last whole.way).among (no_child sight old new table (choice_child old new last.pair last.choice) whole.ends);
+  }
+
+  -- one step out
+  pub round : (first step : Step) (steps all : List Step) (inner m : Kept) → IsInside sight old new first all inner → all ≡ steps ++ step ∷ [] → Fits old m → type_of m ≡ step.pair.old → IsBuilt sight old new step (Some (message_of inner)) m → IsInside sight old new first steps m
+  round first step steps all inner m inside is fits type_is made =
+      let whole : IsWayDown sight old new inside.table (steps ++ step ∷ []) inside.last = subst (λ ss. IsWayDown sight old new inside.table ss inside.last) is inside.way in
+      let (way, child) = way_off sight old new inside.table steps step inside.last whole in
+      record {
+        table = inside.table;
+        last = step;
+        way = way;
+        first_is = sym (first_on steps step inside.last) ∙ ap (λ ss. first_step ss inside.last) (sym is) ∙ inside.first_is;
+        fits = fits;
+        type_is = type_is;
+        reached = made inside.table (last_step sight old new inside.table steps step way).among (child_given sight old new inside.table (choice_child old new step.pair step.choice) inside.last (message_of inner) child (last_step sight old new inside.table all inside.last inside.way) inside.reached);
+      }
+
+  -- the type of a step that stands next is there
+  pub next_there : (first step : Step) (steps all : List Step) (inner : Kept) → IsInside sight old new first all inner → all ≡ steps ++ step ∷ [] → step.pair.old.index < length old
+  next_there first step steps all inner inside is =
+      let whole : IsWayDown sight old new inside.table (steps ++ step ∷ []) inside.last = subst (λ ss. IsWayDown sight old new inside.table ss inside.last) is inside.way in
+      type_there sight old new inside.table step.pair step.choice (last_step sight old new inside.table steps step (way_off sight old new inside.table steps step inside.last whole).0).among

@@ -1,0 +1,43 @@
+-- How a witness goes down: from a pair by a choice to the choice's child, as long as there is one.
+use Rattle.std.specs.Prelude.{◌≡◌, ℕ, List, [], ◌∷◌, Option, Some, None}
+use Rattle.pg_schema.specs.Shape.{Shape}
+use Rattle.pg_pairs.specs.declared.choice.Pair.{Pair}
+use Rattle.pg_pairs.specs.Sight.{Sight}
+use Rattle.pg_pairs.specs.Carried.{choice_child}
+use Rattle.pg_pairs.specs.Choices.{Table, choices}
+use Rattle.pg_pairs.specs.Laws.{IsExact}
+use Rattle.pg_pairs.specs.Settling.{IsAmong}
+use Rattle.pg_cert.specs.declared.bounds.PairBound.{PairBound}
+use Rattle.pg_cert.specs.Bounds.{bound_in}
+use Rattle.pg_least.specs.Exact.{pairs_of}
+use Rattle.pg_least.specs.Reached.{IsReachedInOrder}
+use Rattle.pg_least.specs.declared.witness.Step.{Step}
+
+-- each bound of the table is the least cost of its pair's choices
+abbrev pub IsExactTable : Sight → Shape → Shape → Table → Type 0
+IsExactTable sight old new table = (pair : Pair) (bound : Option ℕ) → table pair ≡ Some bound → IsExact sight old new table pair bound
+
+-- Just the pairs that the root leads to, in order, each with the least cost of its choices.
+pub record IsTableOf (sight : Sight) (old new : Shape) (root : Pair) (bounds : List PairBound) : Type 0 where
+  pub reached : IsReachedInOrder old new root (pairs_of bounds)
+  pub exact : IsExactTable sight old new (bound_in bounds)
+
+-- a choice of the pair, which costs what the table says
+pub record IsStep (sight : Sight) (old new : Shape) (table : Table) (step : Step) : Type 0 where
+  pub among : IsAmong step.choice (choices sight table old new step.pair)
+  pub costs : table step.pair ≡ Some (Some step.choice.cost)
+
+abbrev pub first_step : List Step → Step → Step
+first_step [] last = last
+first_step (s ∷ ss) last = s
+
+-- Steps to a last one, each with the pair of the next for its child.
+abbrev pub IsWayDown : Sight → Shape → Shape → Table → List Step → Step → Type 0
+IsWayDown sight old new table [] last = IsStep sight old new table last
+IsWayDown sight old new table (s ∷ ss) last =
+    IsStep sight old new table s × (choice_child old new s.pair s.choice ≡ Some (first_step ss last).pair) × IsWayDown sight old new table ss last
+
+-- the last of them has no child
+pub record IsWholeWay (sight : Sight) (old new : Shape) (table : Table) (steps : List Step) (last : Step) : Type 0 where
+  pub way : IsWayDown sight old new table steps last
+  pub ends : choice_child old new last.pair last.choice ≡ None

@@ -1,0 +1,5 @@
+pub mod Reached
+pub mod Pairs
+pub mod Settled
+pub mod Exact
+pub mod Descent

@@ -1,0 +1,59 @@
+//! The pairs that a root pair leads to.
+
+ghost use Rattle.std.specs.Prelude.{◌≡◌, ◌++◌, IfOk, OnOk};
+ghost use Rattle.pg_schema.specs.Parts.{shape_of};
+ghost use Rattle.pg_pairs.specs.Covering.{distinct};
+ghost use Rattle.pg_least.specs.Pairs.{AreSeen, IsClosed};
+ghost use Rattle.pg_least.specs.Reached.{IsReachedInOrder};
+
+use pg_pairs::{Pair, children, one_pair_more};
+use pg_schema::Schema;
+use std::alloc::{AllocError, Global};
+use std::collections::HashSet;
+
+// Adds those of the pairs found that weren't seen yet, in their order.
+fn add_unseen(
+    pairs: &mut Vec<Pair>,
+    seen: &mut HashSet<(u32, u32)>,
+    found: &[Pair],
+) -> Result<(), AllocError>
+    requires once { distinct pairs.old.items ≡ pairs.old.items }
+    requires seen { AreSeen pairs.old.items seen.old }
+    ensures added { OnOk result (pairs.new.items ≡ distinct (pairs.old.items ++ found.now)) }
+    ensures seen { OnOk result (AreSeen pairs.new.items seen.new) }
+{
+    one_pair_more();
+    for pair in found {
+        if seen.insert((pair.old.index, pair.new.index))? {
+            pairs.push(*pair)?;
+        }
+    }
+    Ok(())
+}
+
+/// The root, then the children of each pair in turn, each pair once, where it was first seen.
+///
+/// Refused only where memory is.
+pub(crate) fn reached(
+    alloc: Global,
+    old: &Schema,
+    new: &Schema,
+    root: Pair,
+) -> Result<Vec<Pair>, AllocError>
+    ensures in_order { IfOk result (λ pairs. IsReachedInOrder (shape_of old.now) (shape_of new.now) root pairs.items) }
+    ensures once { IfOk result (λ pairs. distinct pairs.items ≡ pairs.items) }
+    ensures closed { IfOk result (λ pairs. IsClosed (shape_of old.now) (shape_of new.now) pairs.items) }
+{
+    one_pair_more();
+    let mut pairs = Vec::new(alloc);
+    let mut seen = HashSet::new(alloc);
+    add_unseen(&mut pairs, &mut seen, &[root])?;
+    for at in 0..usize::MAX {
+        let Some(pair) = pairs.get(at).copied() else {
+            break;
+        };
+        let found = children(alloc, old, new, pair)?;
+        add_unseen(&mut pairs, &mut seen, &found)?;
+    }
+    Ok(pairs)
+}

@@ -1,0 +1,176 @@
+//! Schemas of a few fields.
+
+use pg_schema::{
+    Element, Field, FieldOptions, File, MessageOptions, MessageType, Parts, Presence, Scalar,
+    Schema, TypeId,
+};
+use std::alloc::{AllocError, Global};
+use std::test::Fail;
+
+/// A field of a message type, without its name.
+#[derive(Clone, Copy)]
+pub(crate) struct Line {
+    number: u32,
+    presence: Presence,
+    element: Element,
+    oneof: Option<u32>,
+}
+
+// A field of that presence and element, in no oneof.
+fn field(number: u32, presence: Presence, element: Element) -> Line {
+    Line {
+        number,
+        presence,
+        element,
+        oneof: None,
+    }
+}
+
+/// `SCALAR f = NUMBER;`
+pub(crate) fn singular(number: u32, scalar: Scalar) -> Line {
+    field(number, Presence::Implicit, Element::Scalar(scalar))
+}
+
+/// `optional SCALAR f = NUMBER;`
+pub(crate) fn optional(number: u32, scalar: Scalar) -> Line {
+    field(number, Presence::Explicit, Element::Scalar(scalar))
+}
+
+/// `repeated SCALAR f = NUMBER;`
+pub(crate) fn repeated(number: u32, scalar: Scalar) -> Line {
+    let element = Element::Scalar(scalar);
+    let packed = element.is_packable();
+    field(number, Presence::Repeated { packed }, element)
+}
+
+/// `repeated SCALAR f = NUMBER [packed = false];`
+pub(crate) fn unpacked(number: u32, scalar: Scalar) -> Line {
+    field(
+        number,
+        Presence::Repeated { packed: false },
+        Element::Scalar(scalar),
+    )
+}
+
+/// `map<KEY, ELEMENT> f = NUMBER;`
+pub(crate) fn map(number: u32, key: Scalar, element: Element) -> Line {
+    field(number, Presence::Map { key }, element)
+}
+
+/// `M f = NUMBER;`, of the message type at that place.
+pub(crate) fn child(number: u32, index: u32) -> Line {
+    field(
+        number,
+        Presence::Explicit,
+        Element::Message(TypeId { index }),
+    )
+}
+
+/// The field as a member of the oneof at that place.
+pub(crate) fn member(line: Line, oneof: u32) -> Line {
+    Line {
+        number: line.number,
+        presence: Presence::Explicit,
+        element: line.element,
+        oneof: Some(oneof),
+    }
+}
+
+/// `repeated M f = NUMBER;`, of the message type at that place.
+pub(crate) fn children(number: u32, index: u32) -> Line {
+    field(
+        number,
+        Presence::Repeated { packed: false },
+        Element::Message(TypeId { index }),
+    )
+}
+
+fn field_of(alloc: Global, line: Line) -> Result<Field, AllocError> {
+    let states_optional = line.presence == Presence::Explicit
+        && line.oneof.is_none()
+        && !matches!(line.element, Element::Message(_));
+    let packed = if line.presence == (Presence::Repeated { packed: false }) {
+        Some(false)
+    } else {
+        None
+    };
+    Ok(Field {
+        number: line.number,
+        name: format!(in alloc; "f{}", line.number)?,
+        presence: line.presence,
+        element: line.element,
+        oneof: line.oneof,
+        json_name: format!(in alloc; "f{}", line.number)?,
+        states_optional,
+        options: FieldOptions {
+            packed,
+            deprecated: None,
+        },
+    })
+}
+
+// The names of as many oneofs as these fields are members of.
+fn oneofs_of(alloc: Global, lines: &[Line]) -> Result<Vec<String>, AllocError> {
+    let mut count = 0;
+    for line in lines {
+        if let Some(oneof) = line.oneof {
+            count = count.max(oneof.saturating_add(1));
+        }
+    }
+    let mut oneofs = Vec::new(alloc);
+    for place in 0..count {
+        oneofs.push(format!(in alloc; "k{place}")?)?;
+    }
+    Ok(oneofs)
+}
+
+// `message NAME { .. }` of these fields.
+fn message_type(alloc: Global, name: String, lines: &[Line]) -> Result<MessageType, AllocError> {
+    let mut fields = Vec::new(alloc);
+    let mut declared = Vec::new(alloc);
+    for line in lines {
+        fields.push(field_of(alloc, *line)?)?;
+        declared.push(line.number)?;
+    }
+    Ok(MessageType {
+        name,
+        fields,
+        declared,
+        oneofs: oneofs_of(alloc, lines)?,
+        nested_types: Vec::new(alloc),
+        nested_enums: Vec::new(alloc),
+        reserved_numbers: Vec::new(alloc),
+        reserved_names: Vec::new(alloc),
+        options: MessageOptions { deprecated: None },
+    })
+}
+
+/// The schema of the message types `M0`, `M1` and so on with these fields.
+pub(crate) fn schema(alloc: Global, types: &[&[Line]]) -> Result<Schema, Fail> {
+    let mut message_types = Vec::new(alloc);
+    let mut places = Vec::new(alloc);
+    let mut index = 0_u32;
+    for lines in types {
+        let name = format!(in alloc; "M{index}")?;
+        message_types.push(message_type(alloc, name, lines)?)?;
+        places.push(TypeId { index })?;
+        index = index.saturating_add(1);
+    }
+    let file = File {
+        name: String::from_str(alloc, "m.proto")?,
+        package: String::new(alloc),
+        imports: Vec::new(alloc),
+        types: places,
+        enums: Vec::new(alloc),
+        services: Vec::new(alloc),
+        options: Vec::new(alloc),
+    };
+    let parts = Parts {
+        files: vec![in alloc; file]?,
+        types: message_types,
+        enums: Vec::new(alloc),
+        services: Vec::new(alloc),
+    };
+    let schema = Schema::from_parts(alloc, parts);
+    Ok(schema.ok().ok_or("the parts are a schema")?)
+}

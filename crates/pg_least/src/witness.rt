@@ -1,0 +1,124 @@
+//! The messages that bounds tell of.
+
+ghost use Rattle.std.specs.Prelude.{◌≡◌, ℕ, true, is_some, Some, IfOk};
+ghost use Rattle.pg_schema.specs.Parts.{shape_of};
+ghost use Rattle.pg_dyn.specs.Fits.{Fits};
+ghost use Rattle.pg_dyn.specs.Kept.{message_of, type_of};
+ghost use Rattle.pg_pairs.specs.Choices.{Table, number_for};
+ghost use Rattle.pg_pairs.specs.Laws.{ReachedBy};
+ghost use Rattle.pg_pairs.specs.Sight.{by_numbers};
+ghost use Rattle.pg_cert.specs.Bounds.{bound_in};
+ghost use Rattle.pg_least.specs.Descent.{IsExactTable, IsStep, IsWholeWay, first_step};
+
+use pg_cert::Bounds;
+use pg_dyn::Message;
+use pg_pairs::{
+    Choice, Numbers, Pair, carry, cheapest, cheapest_is_least, choice_child, each_child_costs_less,
+    numbers_sight,
+};
+use pg_schema::Schema;
+use std::alloc::{AllocError, Global};
+
+/// A pair and a choice of it.
+#[derive(Clone, Copy)]
+pub(crate) struct Step {
+    pub pair: Pair,
+    pub choice: Choice,
+}
+
+// The step by the cheapest choice of a pair whose bound is a number.
+fn step_at(
+    alloc: Global,
+    old: &Schema,
+    new: &Schema,
+    bounds: &Bounds,
+    pair: Pair,
+) -> Result<Step, AllocError>
+    requires exact { IsExactTable by_numbers (shape_of old.now) (shape_of new.now) (bound_in bounds.now) }
+    requires number { is_some (number_for (bound_in bounds.now) pair) ≡ true }
+    ensures pair { IfOk result (λ step. step.pair ≡ pair) }
+    ensures step { IfOk result (λ step. IsStep by_numbers (shape_of old.now) (shape_of new.now) (bound_in bounds.now) step) }
+{
+    // The cheapest choice costs what an exact bound says.
+    cheapest_is_least();
+    match cheapest(alloc, &Numbers, old, new, pair, bounds)? {
+        Some(choice) => Ok(Step { pair, choice }),
+        None => unreachable!(),
+    }
+}
+
+// The steps from a pair down, and the last of them, whose choice has no child.
+fn steps_down(
+    alloc: Global,
+    old: &Schema,
+    new: &Schema,
+    bounds: &Bounds,
+    pair: Pair,
+) -> Result<(Vec<Step>, Step), AllocError>
+    requires exact { IsExactTable by_numbers (shape_of old.now) (shape_of new.now) (bound_in bounds.now) }
+    requires number { is_some (number_for (bound_in bounds.now) pair) ≡ true }
+    ensures first { IfOk result (λ steps. (first_step steps.0.items steps.1).pair ≡ pair) }
+    ensures whole { IfOk result (λ steps. IsWholeWay by_numbers (shape_of old.now) (shape_of new.now) (bound_in bounds.now) steps.0.items steps.1) }
+{
+    // What holds of every schema and every view, so that the costs fall.
+    old.parts();
+    new.parts();
+    numbers_sight();
+    each_child_costs_less();
+    let mut steps = Vec::new(alloc);
+    let mut last = step_at(alloc, old, new, bounds, pair)?;
+    while let Some(child) = choice_child(old, new, last.pair, &last.choice) {
+        steps.push(last)?;
+        last = step_at(alloc, old, new, bounds, child)?;
+    }
+    Ok((steps, last))
+}
+
+// The message of the first step's choice, built from the last step's out.
+fn built(
+    alloc: Global,
+    old: &Schema,
+    new: &Schema,
+    mut steps: Vec<Step>,
+    last: Step,
+) -> Result<Message, AllocError>
+    requires { (table : Table) × IsWholeWay by_numbers (shape_of old.now) (shape_of new.now) table steps.items last }
+    ensures fits { IfOk result (λ m. Fits (shape_of old.now) m) }
+    ensures type_is { IfOk result (λ m. type_of m ≡ (first_step steps.items last).pair.old) }
+    ensures reached { IfOk result (λ m. ReachedBy by_numbers (shape_of old.now) (shape_of new.now) (first_step steps.items last).pair (message_of m) (first_step steps.items last).choice.cost) }
+{
+    let mut message = carry(alloc, &Numbers, old, new, last.pair, &last.choice, None)?;
+    while let Some(step) = steps.pop() {
+        message = carry(
+            alloc,
+            &Numbers,
+            old,
+            new,
+            step.pair,
+            &step.choice,
+            Some(message),
+        )?;
+    }
+    Ok(message)
+}
+
+/// The message of the cheapest choices of a pair and of their children in turn: one that breaks and has as many
+/// bytes as the pair's bound says, which is a number.
+///
+/// Refused only where memory is.
+pub(crate) fn witness(
+    alloc: Global,
+    old: &Schema,
+    new: &Schema,
+    bounds: &Bounds,
+    pair: Pair,
+) -> Result<Message, AllocError>
+    requires exact { IsExactTable by_numbers (shape_of old.now) (shape_of new.now) (bound_in bounds.now) }
+    requires number { is_some (number_for (bound_in bounds.now) pair) ≡ true }
+    ensures fits { IfOk result (λ m. Fits (shape_of old.now) m) }
+    ensures type_is { IfOk result (λ m. type_of m ≡ pair.old) }
+    ensures reached { IfOk result (λ m. (bytes : ℕ) → bound_in bounds.now pair ≡ Some (Some bytes) → ReachedBy by_numbers (shape_of old.now) (shape_of new.now) pair (message_of m) bytes) }
+{
+    let (steps, last) = steps_down(alloc, old, new, bounds, pair)?;
+    built(alloc, old, new, steps, last)
+}
