@@ -1,0 +1,11 @@
+pub mod Descriptor
+pub mod Places
+pub mod Items
+pub mod Fields
+pub mod Synthetic
+pub mod Entries
+pub mod Messages
+pub mod Set
+pub mod Rows
+pub mod Examples
+pub mod Pieces

@@ -1,0 +1,14 @@
+//! Laws about the definitions. Each is the contract of a function that does nothing.
+
+ghost use Rattle.pg_fds.specs.Examples.{WorkedSets};
+ghost use Rattle.pg_fds.specs.Pieces.{WorkedPieces};
+
+/// The bytes of the sets of two small files.
+pub fn worked_sets()
+    ensures { WorkedSets }
+{}
+
+/// Names, codes, ranges, options and marks of sets, by small examples.
+pub fn worked_pieces()
+    ensures { WorkedPieces }
+{}
