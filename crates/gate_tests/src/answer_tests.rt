@@ -89,13 +89,127 @@ static ANSWERS: [(&str, &str, &str, u8); 16] = [
         "breaks M 3\nwitness 0a0161\n",
         1,
     ),
-    ("int32 a = 1;", "int32 a = 1;", "undecided M\n", 5),
+    ("int32 a = 1;", "int32 a = 1;", "compatible M\n", 0),
     (
         "int32 a = 1; string b = 2;",
         "int32 a = 1;",
-        "undecided M\n",
-        5,
+        "compatible M\n",
+        0,
     ),
+];
+
+/// The same of fields with labels, in oneofs and maps, and of messages.
+static SHAPES: [(&str, &str, &str, u8); 20] = [
+    (
+        "optional string a = 1;",
+        "string a = 1;",
+        "compatible M\n",
+        0,
+    ),
+    (
+        "optional string a = 1;",
+        "optional M a = 1;",
+        "breaks M 2\nwitness 0a00\n",
+        1,
+    ),
+    (
+        "repeated string a = 1;",
+        "optional string a = 1;",
+        "breaks M 4\nwitness 0a000a00\n",
+        1,
+    ),
+    (
+        "repeated string a = 1;",
+        "string a = 1;",
+        "breaks M 2\nwitness 0a00\n",
+        1,
+    ),
+    (
+        "repeated int32 a = 1;",
+        "optional int32 a = 1;",
+        "breaks M 3\nwitness 0a0100\n",
+        1,
+    ),
+    (
+        "repeated int32 a = 1 [packed = false];",
+        "optional int32 a = 1;",
+        "breaks M 4\nwitness 08000800\n",
+        1,
+    ),
+    (
+        "int32 a = 1; int32 b = 2;",
+        "oneof k { int32 a = 1; int32 b = 2; }",
+        "breaks M 4\nwitness 08011001\n",
+        1,
+    ),
+    (
+        "optional int32 a = 1; optional int32 b = 2;",
+        "oneof k { int32 a = 1; int32 b = 2; }",
+        "breaks M 4\nwitness 08001000\n",
+        1,
+    ),
+    (
+        "oneof k { int32 a = 1; int32 b = 2; }",
+        "oneof k { int32 a = 1; int32 b = 2; }",
+        "compatible M\n",
+        0,
+    ),
+    (
+        "map<uint32, string> a = 1;",
+        "map<int32, string> a = 1;",
+        "breaks M 10\nwitness 0a080880808080081200\n",
+        1,
+    ),
+    (
+        "map<int32, bool> a = 1;",
+        "map<fixed32, bool> a = 1;",
+        "breaks M 6\nwitness 0a0408011000\n",
+        1,
+    ),
+    (
+        "int32 a = 1; repeated int32 b = 2;",
+        "bool a = 1;",
+        "breaks M 2\nwitness 0802\n",
+        1,
+    ),
+    (
+        "optional int32 a = 1;",
+        "bool a = 1;",
+        "breaks M 2\nwitness 0802\n",
+        1,
+    ),
+    (
+        "map<int32, int32> a = 1;",
+        "bool a = 1;",
+        "breaks M 6\nwitness 0a0408001000\n",
+        1,
+    ),
+    (
+        "int32 a = 1; M m = 2;",
+        "bool a = 1;",
+        "breaks M 2\nwitness 0802\n",
+        1,
+    ),
+    (
+        "bool a = 1;",
+        "int32 a = 1; repeated int32 b = 2;",
+        "compatible M\n",
+        0,
+    ),
+    ("bool a = 1;", "optional int32 a = 1;", "compatible M\n", 0),
+    (
+        "bool a = 1;",
+        "int32 b = 2; oneof k { int32 a = 1; }",
+        "compatible M\n",
+        0,
+    ),
+    (
+        "bool a = 1;",
+        "map<int32, int32> a = 1;",
+        "breaks M 2\nwitness 0801\n",
+        1,
+    ),
+    ("bool a = 1;", "int32 a = 1; M m = 2;", "compatible M\n", 0),
 ];
 
 fn expect<R: Abort + AllocGlobal>(
@@ -112,14 +226,27 @@ fn expect<R: Abort + AllocGlobal>(
     Ok(())
 }
 
-#[test]
-fn prints_the_shortest_breaking_message(rt: HostRuntime) -> Result<(), Fail> {
-    for (old, new, text, status) in ANSWERS {
+/// Expects the answers on files with these fields.
+fn expect_each<R: Abort + AllocGlobal>(
+    rt: &R,
+    answers: &[(&str, &str, &str, u8)],
+) -> Result<(), Fail> {
+    for (old, new, text, status) in answers {
         let old = file_of(rt.alloc(), old)?;
         let new = file_of(rt.alloc(), new)?;
-        expect(&rt, &old, &new, text, status)?;
+        expect(rt, &old, &new, text, *status)?;
     }
     Ok(())
+}
+
+#[test]
+fn prints_the_shortest_breaking_message(rt: HostRuntime) -> Result<(), Fail> {
+    expect_each(&rt, &ANSWERS)
+}
+
+#[test]
+fn compares_fields_of_all_kinds(rt: HostRuntime) -> Result<(), Fail> {
+    expect_each(&rt, &SHAPES)
 }
 
 /// Of two that are equally short the one of the lower field number, wherever it is declared.

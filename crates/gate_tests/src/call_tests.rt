@@ -58,21 +58,46 @@ fn schema_of(alloc: Global, scalar: Scalar) -> Result<Schema, Fail> {
     Ok(schema.ok().ok_or("the parts are a schema")?)
 }
 
-/// Whether the answer is a breaking message.
-fn breaks(answer: &Result<Answer, GateError>) -> bool {
-    matches!(answer, Ok(Answer::Breaks { .. }))
+/// Whether the answer is a breaking message, with a certificate of these bytes and one pair.
+fn breaks(answer: &Result<Answer, GateError>, bytes: &[u8]) -> bool {
+    match answer {
+        Ok(Answer::Breaks { certificate, .. }) => {
+            certificate.witness() == Some(bytes) && certificate.bounds().len() == 1
+        }
+        _ => false,
+    }
 }
 
+/// Whether the answer is that the types are compatible, with a certificate of one pair.
+fn is_compatible(answer: &Result<Answer, GateError>) -> bool {
+    match answer {
+        Ok(Answer::Compatible(certificate)) => {
+            certificate.witness().is_none() && certificate.bounds().len() == 1
+        }
+        _ => false,
+    }
+}
+
+/// The number -1 as an int32.
+static MINUS_ONE: [u8; 11] = [
+    0x08, 0xff, 0xff, 0xff, 0xff, 0xff, 0xff, 0xff, 0xff, 0xff, 0x01,
+];
+
 #[test]
-fn a_gate_finds_what_breaks(rt: HostRuntime) -> Result<(), Fail> {
+fn a_gate_answers_one_of_two(rt: HostRuntime) -> Result<(), Fail> {
     let alloc = rt.alloc();
     let old = schema_of(alloc, Scalar::Int32)?;
     let new = schema_of(alloc, Scalar::Uint32)?;
-    assert_eq!(rt; breaks(&gate(alloc, &old, &new, "M")), true);
-    assert_eq!(rt;
-        matches!(gate(alloc, &old, &old, "M"), Ok(Answer::Undecided)),
-        true
-    );
+    assert!(rt; breaks(&gate(alloc, &old, &new, "M"), &MINUS_ONE));
+    assert!(rt; is_compatible(&gate(alloc, &old, &old, "M")));
+    Ok(())
+}
+
+#[test]
+fn a_gate_refuses_a_missing_root(rt: HostRuntime) -> Result<(), Fail> {
+    let alloc = rt.alloc();
+    let old = schema_of(alloc, Scalar::Int32)?;
+    let new = schema_of(alloc, Scalar::Uint32)?;
     assert_eq!(rt;
         matches!(gate(alloc, &old, &new, "N"), Err(GateError::RootMissingOld)),
         true
@@ -81,7 +106,7 @@ fn a_gate_finds_what_breaks(rt: HostRuntime) -> Result<(), Fail> {
 }
 
 #[test]
-fn a_gate_over_files_finds_what_breaks(rt: HostRuntime) -> Result<(), Fail> {
+fn a_gate_over_files_answers_one_of_two(rt: HostRuntime) -> Result<(), Fail> {
     let alloc = rt.alloc();
     let old_text = file_of(alloc, "int32 a = 1;")?;
     let new_text = file_of(alloc, "uint32 a = 1;")?;
@@ -92,8 +117,22 @@ fn a_gate_over_files_finds_what_breaks(rt: HostRuntime) -> Result<(), Fail> {
         files: &[("n.proto", new_text.as_bytes())],
     };
     let answer = gate_files(alloc, &mut old, &mut new, &["o.proto"], &["n.proto"], "M");
-    assert_eq!(rt; breaks(&answer), true);
-    let missing = gate_files(alloc, &mut old, &mut new, &["o.proto"], &["n.proto"], "N");
+    assert!(rt; breaks(&answer, &MINUS_ONE));
+    let mut same = old;
+    let answer = gate_files(alloc, &mut old, &mut same, &["o.proto"], &["o.proto"], "M");
+    assert!(rt; is_compatible(&answer));
+    Ok(())
+}
+
+#[test]
+fn a_gate_over_files_refuses_a_missing_root(rt: HostRuntime) -> Result<(), Fail> {
+    let alloc = rt.alloc();
+    let text = file_of(alloc, "int32 a = 1;")?;
+    let mut old = Listed {
+        files: &[("o.proto", text.as_bytes())],
+    };
+    let mut new = old;
+    let missing = gate_files(alloc, &mut old, &mut new, &["o.proto"], &["o.proto"], "N");
     assert_eq!(rt; matches!(missing, Err(GateError::RootMissingOld)), true);
     Ok(())
 }

@@ -5,13 +5,19 @@
 mod answer_tests;
 #[cfg(test)]
 mod call_tests;
+#[cfg(test)]
+mod certificate_tests;
 mod failing_sink;
 mod failing_source;
+#[cfg(test)]
+mod graph_tests;
 #[cfg(test)]
 mod link_tests;
 mod one_byte;
 #[cfg(test)]
 mod refusal_tests;
+#[cfg(test)]
+mod rule_tests;
 #[cfg(test)]
 mod runs;
 #[cfg(test)]

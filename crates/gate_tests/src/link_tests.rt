@@ -106,7 +106,7 @@ fn sees_through_public_imports_alone(rt: HostRuntime) -> Result<(), Fail> {
         b"syntax = \"proto3\";\nimport public \"c.proto\";\n".as_slice(),
         b"syntax = \"proto3\";\nmessage K { }\n".as_slice(),
     ];
-    answer_of_three(&rt, seen, "undecided M\n", 5)
+    answer_of_three(&rt, seen, "compatible M\n", 0)
 }
 
 /// Names of one file, and what the gate on them prints.
@@ -129,7 +129,7 @@ static NAMES: [(&[u8], &str); 13] = [
     ),
     (
         b"syntax = \"proto3\";\nmessage M { M M = 1; }\n",
-        "undecided M\n",
+        "compatible M\n",
     ),
     (
         b"syntax = \"proto3\";\nmessage M { int32 a = 1; bool a = 2; }\n",
@@ -168,7 +168,7 @@ static NAMES: [(&[u8], &str); 13] = [
 #[test]
 fn tells_names_that_name_no_type(rt: HostRuntime) -> Result<(), Fail> {
     for (lines, text) in NAMES {
-        let status = if text.starts_with("undecided") { 5 } else { 2 };
+        let status = if text.starts_with("compatible") { 0 } else { 2 };
         answer_of(&rt, "M", lines, text, status)?;
     }
     Ok(())
@@ -181,7 +181,7 @@ fn seeks_the_first_part_of_a_name(rt: HostRuntime) -> Result<(), Fail> {
     answer_of(&rt, "p.C", inner, "refused old E305 a.proto:4:27\n", 2)?;
     let full =
         b"syntax = \"proto3\";\npackage p;\nmessage A { message B { } }\nmessage C { message A { } .p.A.B x = 1; }\n";
-    answer_of(&rt, "p.C", full, "undecided p.C\n", 5)
+    answer_of(&rt, "p.C", full, "compatible p.C\n", 0)
 }
 
 /// Of several faults of names the first is told: files stand behind those that they import.
@@ -221,7 +221,7 @@ fn tells_a_package_that_bears_a_name(rt: HostRuntime) -> Result<(), Fail> {
         b"syntax = \"proto3\";\npackage q.s;\n".as_slice(),
         b"syntax = \"proto3\";\n\n".as_slice(),
     ];
-    answer_of_three(&rt, shared, "undecided M\n", 5)
+    answer_of_three(&rt, shared, "refused E901\n", 2)
 }
 
 /// The file that couldn't be read is told, whoever imports it.

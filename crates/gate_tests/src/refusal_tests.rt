@@ -181,7 +181,7 @@ fn asks_for_files_in_their_folder(rt: HostRuntime) -> Result<(), Fail> {
         files: &[("a/m", ONE), ("b/m", ONE)],
     };
     let mut more = files;
-    expect(&rt, &words, &mut files, &mut more, "undecided M\n", 5)?;
+    expect(&rt, &words, &mut files, &mut more, "compatible M\n", 0)?;
     let mut here = Listed {
         files: &[("m", ONE)],
     };
@@ -219,7 +219,7 @@ fn refuses_a_source_that_fails(rt: HostRuntime) -> Result<(), Fail> {
 }
 
 /// Words that are no call.
-static USAGE: [&[&str]; 14] = [
+static USAGE: [&[&str]; 16] = [
     &[],
     &["help"],
     &["--help"],
@@ -233,7 +233,20 @@ static USAGE: [&[&str]; 14] = [
     &[
         "gate", "--old", "m", "--old", "m", "--new", "m", "--type", "M",
     ],
-    &["gate", "--old", "m", "--new", "m", "--type", "M", "--cert"],
+    &["verify", "--old", "m", "--new", "m", "c"],
+    &[
+        "gate", "--old", "m", "--new", "m", "--type", "M", "--cert", "--cert",
+    ],
+    &[
+        "gate",
+        "--old",
+        "m",
+        "--new",
+        "m",
+        "--type",
+        "M",
+        "--cert=true",
+    ],
     &["gate", "--old", "m", "--new", "m", "--type", "M", "--both"],
     &["gate", "--old", "m", "--new", "m", "--type", "M", "m"],
 ];
@@ -268,25 +281,26 @@ fn names_what_is_missing(rt: HostRuntime) -> Result<(), Fail> {
     assert!(rt; printed.contains("--type <NAME>"), "{printed}");
     let printed = printed_of(&rt, &["--help"])?;
     assert!(rt;
-        printed.contains("Find a message of the old type"),
+        printed.contains("Find whether a reader of the new type"),
         "{printed}"
     );
     Ok(())
 }
 
 /// Help names the subcommand, its options and each status.
-static HELP: [&str; 11] = [
+static HELP: [&str; 12] = [
     "gate",
     "--old-dir",
     "--new-dir",
     "--old ",
     "--new ",
     "--type",
+    "--cert",
+    "  0  ",
     "  1  ",
     "  2  ",
     "  3  ",
     "  4  ",
-    "  5  ",
 ];
 
 #[test]

@@ -59,3 +59,24 @@ pub(crate) fn run_missing<W: Sink>(
     };
     run(alloc, &MISSING, &mut old, &mut new, sink)
 }
+
+/// The words of a gate that writes the certificate alone.
+static CERTIFICATE: [&str; 8] = [
+    "gate", "--old", "o.proto", "--new", "n.proto", "--type", "M", "--cert",
+];
+
+/// Runs the gate on the two texts for the certificate alone.
+pub(crate) fn run_certificate<W: Sink>(
+    alloc: Global,
+    old: &[u8],
+    new: &[u8],
+    sink: &mut W,
+) -> Result<u8, GateError> {
+    let mut old = Listed {
+        files: &[("o.proto", old)],
+    };
+    let mut new = Listed {
+        files: &[("n.proto", new)],
+    };
+    run(alloc, &CERTIFICATE, &mut old, &mut new, sink)
+}

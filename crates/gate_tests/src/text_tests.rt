@@ -1,9 +1,9 @@
-//! What the whole grammar refuses, and texts of more than flat messages.
-use crate::runs::{buffer, run_missing, run_on, text_of};
+//! What the whole grammar takes and refuses.
+use crate::runs::{buffer, run_on, text_of};
 use std::process::Abort;
 use std::test::Fail;
 
-/// A flat text with the message `M`.
+/// A text with the message `M`.
 static ONE: &str = "syntax = \"proto3\";\nmessage M { int32 a = 1; }\n";
 
 /// Expects what the gate on the two texts prints, and its status.
@@ -84,60 +84,9 @@ fn refuses_a_text_that_is_too_long(rt: HostRuntime) -> Result<(), Fail> {
     answer_of(&rt, text.as_bytes(), ONE.as_bytes(), printed, 2)
 }
 
-/// Lines that hold something else than messages of scalar fields without labels.
-static OTHER: [&str; 16] = [
-    "package p;",
-    "option java_package = \"x\";",
-    "enum E { A = 0; }",
-    "service S { }",
-    ";",
-    "message N { message O { } }",
-    "message N { enum E { A = 0; } }",
-    "message N { oneof k { int32 a = 1; } }",
-    "message N { map<int32, int32> a = 1; }",
-    "message N { reserved 2; }",
-    "message N { option deprecated = true; }",
-    "message N { ; }",
-    "message N { repeated int32 a = 1; }",
-    "message N { optional int32 a = 1; }",
-    "message N { int32 a = 1 [deprecated = true]; }",
-    "message N { N a = 1; }",
-];
-
-/// Expects that the gate on the two texts is undecided of a message that none declares.
-fn is_undecided<R: Abort + AllocGlobal>(rt: &R, old: &[u8], new: &[u8]) -> Result<(), Fail> {
-    let mut sink = buffer(rt.alloc())?;
-    let ended = run_missing(rt.alloc(), old, new, &mut sink)?;
-    assert_eq!(rt; ended, 5);
-    assert!(rt; sink.bytes.as_slice() == b"undecided Z\n".as_slice());
-    Ok(())
-}
-
-/// That is told on either side, before a missing root is.
+/// The faults of both texts come before a missing root, the old side's first.
 #[test]
-fn leaves_other_files_undecided(rt: HostRuntime) -> Result<(), Fail> {
-    for line in OTHER {
-        let other = text_of(rt.alloc(), line)?;
-        is_undecided(&rt, other.as_bytes(), ONE.as_bytes())?;
-        is_undecided(&rt, ONE.as_bytes(), other.as_bytes())?;
-    }
-    Ok(())
-}
-
-/// So are fields of one JSON name, which are no schema.
-#[test]
-fn leaves_one_json_name_undecided(rt: HostRuntime) -> Result<(), Fail> {
-    let clash = text_of(
-        rt.alloc(),
-        "message M { int32 foo_bar = 1; int32 fooBar = 2; }",
-    )?;
-    is_undecided(&rt, clash.as_bytes(), ONE.as_bytes())?;
-    is_undecided(&rt, ONE.as_bytes(), clash.as_bytes())
-}
-
-/// The faults of both texts come before that, also of a flat text its names and numbers.
-#[test]
-fn tells_faults_before_it_is_undecided(rt: HostRuntime) -> Result<(), Fail> {
+fn tells_faults_before_a_missing_root(rt: HostRuntime) -> Result<(), Fail> {
     let other = text_of(rt.alloc(), "enum E { A = 0; }")?;
     let open = text_of(rt.alloc(), "option x = \"a;")?;
     let twice = text_of(rt.alloc(), "message M { int32 a = 1; int32 b = 1; }")?;
@@ -163,7 +112,7 @@ fn takes_messages_64_deep(rt: HostRuntime) -> Result<(), Fail> {
     let deep = "message M { ".repeat(rt.alloc(), 64)?;
     let ends = "} ".repeat(rt.alloc(), 64)?;
     let text = format!(in rt.alloc(); "syntax = \"proto3\";\n{deep}{ends}\n")?;
-    answer_of(&rt, text.as_bytes(), ONE.as_bytes(), "undecided M\n", 5)?;
+    answer_of(&rt, text.as_bytes(), ONE.as_bytes(), "compatible M\n", 0)?;
     let text = format!(in rt.alloc(); "syntax = \"proto3\";\n{deep}message M {{ }} {ends}\n")?;
     let printed = "refused old E207 o.proto:2:769\n";
     answer_of(&rt, text.as_bytes(), ONE.as_bytes(), printed, 2)
@@ -171,7 +120,7 @@ fn takes_messages_64_deep(rt: HostRuntime) -> Result<(), Fail> {
 
 /// Numbers are taken in each of their forms, and comments and a byte order mark are blanks.
 #[test]
-fn takes_all_spellings_of_a_flat_text(rt: HostRuntime) -> Result<(), Fail> {
+fn takes_all_spellings_of_a_text(rt: HostRuntime) -> Result<(), Fail> {
     let old = "\u{feff}syntax = 'pro' \"to3\"; // C\nmessage M { int32 message = 0x10; /* */ }";
     let new = text_of(rt.alloc(), "message M { bool stream = 020; }")?;
     let printed = "breaks M 3\nwitness 800102\n";

@@ -1,24 +1,139 @@
--- What is answered between two schemas, as the answer of two sides.
-use Rattle.std.proofs.Common.{inr}
+-- What a search answers, as the gate's answer; and this as the answer of two sides.
+use Rattle.std.proofs.Common.{◌≡◌, ◌∙◌, ℕ, List, length, Bool, true, false, Option, Some, None, refl, ap, sym, subst, option_and_then, is_some}
 use Rattle.clap.specs.Words.{Text}
 use Rattle.pg_schema.specs.declared.parts.Parts.{Parts}
-use Rattle.pg_gate.specs.Breaking.{IsAnswer, IsRefusedRoot}
-use Rattle.pg_gate.specs.Grants.{IsAnswerOfFiles, IsFinding, IsFindingOf, IsGateError, IsSideSchema, Seen, SideFiles}
-use Rattle.pg_gate.specs.declared.breaking.Answer.{Answer}
-use Rattle.pg_gate.specs.declared.breaking.Answer.TheVariants as answers
+use Rattle.pg_schema.specs.Parts.{shape_of}
+use Rattle.pg_schema.specs.Shape.{IsShape, Shape}
+use Rattle.pg_dyn.specs.Breaking.{Compatible, is_kept}
+use Rattle.pg_dyn.specs.Comparison.{numbers}
+use Rattle.pg_dyn.specs.Decoding.{dec}
+use Rattle.pg_dyn.specs.Encoding.{enc}
+use Rattle.pg_dyn.specs.Kept.{Kept, message_of}
+use Rattle.pg_dyn.specs.Message.{Message}
+use Rattle.pg_pairs.specs.declared.choice.Pair.{Pair}
+use Rattle.pg_pairs.specs.Choices.{number_for}
+use Rattle.pg_pairs.specs.Sight.{by_numbers}
+use Rattle.pg_cert.specs.Bounds.{bound_in}
+use Rattle.pg_cert.specs.Certificate.{Claim, IsWitnessedIfThere}
+use Rattle.pg_cert.specs.Text.{IsClaimOf}
+use Rattle.pg_least.specs.Exact.{IsBesideClaim, IsSearched, IsWitnessMessage}
+use Rattle.pg_gate.specs.Answer.{AreRoots, IsAnswer, IsBroken, IsCompatible, IsRefusedRoot, NewSees, OldWrites, certificate_of}
+use Rattle.pg_gate.specs.Grants.{IsAnswerOfFiles, IsFinding, IsFindingOf, IsGateError, IsSideSchema, Seen, SideFiles, Tells}
+use Rattle.pg_gate.specs.declared.answer.Answer.{Answer}
+use Rattle.pg_gate.specs.declared.answer.Answer.TheVariants as answers
 use Rattle.pg_gate.specs.declared.error.GateError.{GateError}
 use Rattle.pg_gate.specs.declared.error.GateError.TheVariants as errors
 use Rattle.pg_gate.specs.declared.reply.Finding.{Finding}
 use Rattle.pg_gate.specs.declared.reply.Finding.TheVariants as findings
+use Rattle.pg_gate.proofs.Ranges.{searched_there}
+use Rattle.pg_gate.proofs.Roots.{named_there}
+
+-- ---- what a search answers
+
+abbrev pub answer_with : Claim → Option Kept → Answer
+answer_with claim (Some kept) = answers.Breaks kept claim
+answer_with claim None = answers.Compatible claim
+
+-- a bound that is there and no number is 'none'
+none_is_there : (o : Option (Option ℕ)) → is_some o ≡ true → is_some (option_and_then (λ bound. bound) o) ≡ false → o ≡ Some None
+none_is_there None there no_number = absurd (cc)
+none_is_there (Some None) there no_number = refl
+none_is_there (Some (Some n)) there no_number = absurd (cc)
+
+-- a message that is kept is seen whole
+seen_whole : (old new : Shape) (pair : Pair) (v : Message) → is_kept numbers old new pair.old pair.new v ≡ true → NewSees old new pair v
+unfolding is_kept
+seen_whole old new pair v kept = of (dec new pair.new (enc old pair.old v)) refl
+  where
+    of : (o : Option Message) → dec new pair.new (enc old pair.old v) ≡ o → NewSees old new pair v
+    of (Some w) is = record { read = w; reads = is; same = rw is at kept }
+    of None is = absurd (let no = rw is at kept in cc)
+
+-- what the old writer encodes is kept, where no message breaks
+each_kept : (old new : Shape) (pair : Pair) → Compatible numbers old new pair.old pair.new → (v : Message) → OldWrites old pair v → NewSees old new pair v
+each_kept old new pair compatible v writes = seen_whole old new pair v (of (is_kept numbers old new pair.old pair.new v) refl)
+  where
+    of : (b : Bool) → is_kept numbers old new pair.old pair.new v ≡ b → is_kept numbers old new pair.old pair.new v ≡ true
+    of true is = is
+    of false is = absurd (compatible v (record { is_message = writes.is_message; is_plain = writes.is_plain; has_encoding = writes.has_encoding; not_kept = is }))
+
+module _ (old new : Parts) (root : Text) (claim : Claim) (roots : AreRoots old new root claim.root) (searched : IsSearched by_numbers (shape_of old) (shape_of new) claim.root claim) where
+  compatible_without : claim.witness ≡ None → IsCompatible old new root claim
+  compatible_without none =
+      let no_number : is_some (number_for (bound_in claim.bounds) claim.root) ≡ false = sym searched.witness_where_it_breaks ∙ ap is_some none in
+      let bound = none_is_there (bound_in claim.bounds claim.root) searched.holds.covers.root_there no_number in
+      let compatible = searched.says claim.root None bound in
+      record {
+        roots = roots;
+        searched = searched;
+        bound_is_none = bound;
+        no_witness = none;
+        compatible = compatible;
+        each_is_seen = each_kept (shape_of old) (shape_of new) claim.root compatible;
+      }
+
+  broken_with : (kept : Kept) → IsWitnessMessage by_numbers (shape_of old) (shape_of new) claim kept → IsBroken old new root kept claim
+  broken_with kept is =
+      let bound = bound_in claim.bounds claim.root in
+      let witnessed = subst (λ o. IsWitnessedIfThere by_numbers (shape_of old) (shape_of new) claim.root bound o) is.written searched.holds.witnessed in
+      record {
+        roots = roots;
+        searched = searched;
+        fits = is.fits;
+        type_is = is.type_is;
+        breaks = is.breaks;
+        least = searched.says claim.root (Some (length (enc (shape_of old) claim.root.old (message_of kept)))) witnessed.length_is;
+        bytes_are = is.written;
+      }
+
+  -- what is found beside the claim makes its answer
+  answered_here : (witness : Option Kept) → IsBesideClaim by_numbers (shape_of old) (shape_of new) claim witness → IsAnswer old new root (answer_with claim witness)
+  answered_here (Some kept) beside = broken_with kept beside
+  answered_here None beside = compatible_without beside
+
+-- what a search of the roots finds is the gate's answer
+pub answered : (old new : Parts) (root : Text) (pair : Pair) (claim : Claim) (witness : Option Kept) → AreRoots old new root pair → IsSearched by_numbers (shape_of old) (shape_of new) pair claim
+    → IsBesideClaim by_numbers (shape_of old) (shape_of new) claim witness → IsAnswer old new root (answer_with claim witness)
+answered old new root pair claim witness roots searched beside =
+    let same = sym searched.root_is in
+    answered_here old new root claim (subst (λ (p : Pair). AreRoots old new root p) same roots)
+    (subst (λ (p : Pair). IsSearched by_numbers (shape_of old) (shape_of new) p claim) same searched) witness beside
+
+-- the certificate of an answer is one of the schemas' types
+pub claim_of_answer : (old new : Parts) (root : Text) → IsShape (shape_of old) → IsShape (shape_of new) → (answer : Answer) → IsAnswer old new root answer → IsClaimOf old new (certificate_of answer)
+claim_of_answer old new root is_old is_new (answers.Compatible certificate) is = of certificate is.roots is.searched
+  where
+    of : (claim : Claim) → AreRoots old new root claim.root → IsSearched by_numbers (shape_of old) (shape_of new) claim.root claim → IsClaimOf old new claim
+    of claim roots searched =
+        searched_there by_numbers old new claim is_old is_new (named_there old root claim.root.old roots.old_named) (named_there new root claim.root.new roots.new_named) searched
+claim_of_answer old new root is_old is_new (answers.Breaks witness certificate) is = of certificate is.roots is.searched
+  where
+    of : (claim : Claim) → AreRoots old new root claim.root → IsSearched by_numbers (shape_of old) (shape_of new) claim.root claim → IsClaimOf old new claim
+    of claim roots searched =
+        searched_there by_numbers old new claim is_old is_new (named_there old root claim.root.old roots.old_named) (named_there new root claim.root.new roots.new_named) searched
+
+-- ---- what is told of an answer
+
+-- what is told of an answer's certificate is what is found
+pub found_by : (old new : Parts) (root : Text) (answer : Answer) (certificate_only : Bool) (finding : Finding) → IsAnswer old new root answer
+    → Tells old new (certificate_of answer) certificate_only finding → IsFindingOf old new root certificate_only finding
+found_by old new root (answers.Compatible certificate) false findings.Compatible is tells = record { certificate = certificate; compatible = is }
+found_by old new root (answers.Breaks message certificate) false findings.Compatible is tells = absurd (let no : ◌≡◌ {A = Option (List ℕ)} None (Some _) = sym tells ∙ is.bytes_are in cc)
+found_by old new root (answers.Compatible certificate) false (findings.Breaks bytes) is tells = absurd (let no : ◌≡◌ {A = Option (List ℕ)} None (Some bytes.items) = sym is.no_witness ∙ tells in cc)
+found_by old new root (answers.Breaks message certificate) false (findings.Breaks bytes) is tells = record { message = message; certificate = certificate; broken = is; bytes_are = tells }
+found_by old new root answer false (findings.Certified text breaks) is tells = absurd tells
+found_by old new root answer true findings.Compatible is tells = absurd tells
+found_by old new root answer true (findings.Breaks bytes) is tells = absurd tells
+found_by old new root answer true (findings.Certified text breaks) is tells = record { answer = answer; is_answer = is; certifies = tells.0; breaks_is = tells.1 }
+
+-- ---- sides
 
 module _ (root : Text) (old new : Seen) (old_files new_files : SideFiles) (a b : Parts) (of_old : IsSideSchema old old_files a) (of_new : IsSideSchema new new_files b) where
   pub answer_of_files : (answer : Answer) → IsAnswer a b root answer → IsAnswerOfFiles root old new old_files new_files answer
-  answer_of_files (answers.Breaks witness) is = record { old_schema = a; new_schema = b; of_old = of_old; of_new = of_new; so = is }
-  answer_of_files answers.Undecided is = inr (inr (record { old_schema = a; new_schema = b; of_old = of_old; of_new = of_new; so = is }))
+  answer_of_files answer is = record { old_schema = a; new_schema = b; of_old = of_old; of_new = of_new; so = is }
 
-  pub finding_of_files : (finding : Finding) → IsFindingOf a b root finding → IsFinding root old new old_files new_files finding
-  finding_of_files (findings.Breaks witness) is = record { old_schema = a; new_schema = b; of_old = of_old; of_new = of_new; so = is }
-  finding_of_files findings.Undecided is = inr (inr (record { old_schema = a; new_schema = b; of_old = of_old; of_new = of_new; so = is }))
+  pub finding_of_files : (certificate_only : Bool) (finding : Finding) → IsFindingOf a b root certificate_only finding → IsFinding root certificate_only old new old_files new_files finding
+  finding_of_files certificate_only finding is = record { old_schema = a; new_schema = b; of_old = of_old; of_new = of_new; so = is }
 
   pub refused_of_files : (error : GateError) → IsRefusedRoot a b root error → IsGateError root old new old_files new_files error
   refused_of_files errors.Memory is = tt

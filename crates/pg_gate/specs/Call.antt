@@ -1,6 +1,8 @@
 -- What the words of a command line call for.
-use Rattle.std.specs.Prelude.{List, [], ◌∷◌, Option, None, codes}
+use Rattle.std.specs.Prelude.{Bool, false, List, [], ◌∷◌, Option, None, codes}
 use Rattle.std.specs.Prelude.{unwrap_or, option_map}
+use Rattle.std.specs.Option.{option_map_or}
+use Rattle.std.specs.Str.{bytes_eq}
 use Rattle.clap.specs.Words.{Kinds, Row, Text, fault_of, first_of, subcommand_of}
 use Rattle.pg_gate.specs.CommandLine.{whole_app}
 use Rattle.pg_gate.specs.declared.call.Call.{Call}
@@ -16,7 +18,7 @@ pub record SideTexts : Type 0 where
 
 -- a call, as texts
 pub data Request : Type 0 where
-  gate : (sides : SideTexts) (root : Text) → Request
+  gate : (sides : SideTexts) (root : Text) (certificate_only : Bool) → Request
 
 abbrev pub sides_of : Sides → SideTexts
 sides_of s = record {
@@ -27,12 +29,15 @@ sides_of s = record {
 }
 
 abbrev pub request_of : Call → Request
-request_of (call.Gate sides root) = gate (sides_of sides) root.now
+request_of (call.Gate sides root certificate_only) = gate (sides_of sides) root.now certificate_only
 
 -- ---- from clap's matches
 
 abbrev pub text_at : Text → List Row → Text
 text_at id rows = unwrap_or (first_of id rows) []
+
+abbrev pub flag_at : Text → List Row → Bool
+flag_at id rows = option_map_or (λ value. bytes_eq value (codes "true")) (first_of id rows) false
 
 abbrev pub sides_in : List Row → SideTexts
 sides_in rows = record {
@@ -43,7 +48,7 @@ sides_in rows = record {
 }
 
 abbrev pub gate_in : List Row → Request
-gate_in rows = gate (sides_in rows) (text_at (codes "type") rows)
+gate_in rows = gate (sides_in rows) (text_at (codes "type") rows) (flag_at (codes "cert") rows)
 
 -- the call of a subcommand and its matches; clap has only this one
 abbrev pub request_in : Text × List Row → Request

@@ -1,6 +1,7 @@
 -- The command line, as clap's contracts see a command.
 use Rattle.std.specs.Prelude.{◌≡◌, List, [], ◌∷◌, Some, true, false, codes}
 use Rattle.clap.specs.Words.{App, Rule, Text, app_of, new_app, new_rule, with_rule, with_subcommand}
+use Rattle.clap.specs.declared.ArgAction.TheVariants.{SetTrue}
 use Rattle.clap.specs.declared.Command.{Command}
 use Rattle.clap.specs.declared.Command.TheViews.{out-Command}
 
@@ -15,6 +16,10 @@ folder name =
 abbrev pub named : Text → Rule
 named name = record (new_rule name) { long = Some name; value_names = 1; required = true }
 
+-- `--NAME`
+abbrev pub flag : Text → Rule
+flag name = record (new_rule name) { long = Some name; action = Some SetTrue }
+
 -- ---- commands
 
 abbrev pub with_rules : App → List Rule → App
@@ -23,7 +28,7 @@ with_rules app (rule ∷ rules) = with_rules (with_rule app rule) rules
 
 abbrev pub gate_app : App
 gate_app = with_rules (new_app (codes "gate")) (folder (codes "old-dir") ∷ folder (codes "new-dir")
-    ∷ named (codes "old") ∷ named (codes "new") ∷ named (codes "type") ∷ [])
+    ∷ named (codes "old") ∷ named (codes "new") ∷ named (codes "type") ∷ flag (codes "cert") ∷ [])
 
 abbrev pub top_app : App
 top_app = let app = new_app (codes "protogate") in

@@ -1,16 +1,15 @@
 -- What a call may be answered, by what its sources may give and lack.
-use Rattle.std.specs.Prelude.{◌≡◌, ◌⊎◌, ◌+◌, ◌≤◌, ℕ, Bool, List, [], ◌∷◌, Some, None}
+use Rattle.std.specs.Prelude.{◌≡◌, ◌+◌, ◌≤◌, ℕ, Bool, true, false, List, [], ◌∷◌, Some, None, is_some, string_bytes}
 use Rattle.clap.specs.Words.{Text}
-use Rattle.pg_dyn.specs.Encoding.{enc}
-use Rattle.pg_dyn.specs.Kept.{Kept, message_of, type_of}
+use Rattle.pg_cert.specs.Certificate.{Claim}
+use Rattle.pg_cert.specs.Text.{Certifies}
+use Rattle.pg_dyn.specs.Kept.{Kept}
 use Rattle.pg_schema.specs.declared.parts.Parts.{Parts}
-use Rattle.pg_schema.specs.Parts.{shape_of}
 use Rattle.pg_gate.specs.Call.{Request, gate}
 use Rattle.pg_link.specs.Walk.{World, world}
 use Rattle.pg_gate.specs.Files.{IsCompiled, IsFaultOf, fault_failures}
-use Rattle.pg_gate.specs.Breaking.{HaveRoot, IsBreaking, Lacks}
-use Rattle.pg_gate.specs.declared.breaking.Answer.{Answer}
-use Rattle.pg_gate.specs.declared.breaking.Answer.TheVariants as answers
+use Rattle.pg_gate.specs.Answer.{IsAnswer, IsBroken, IsCompatible, Lacks, certificate_of}
+use Rattle.pg_gate.specs.declared.answer.Answer.{Answer}
 use Rattle.pg_gate.specs.Refusals.{refusal_of}
 use Rattle.pg_gate.specs.declared.error.Fault.{Fault}
 use Rattle.pg_gate.specs.declared.error.GateError.{GateError}
@@ -50,11 +49,7 @@ world_of s files = world s.may_give s.may_lack files.folder files.paths
 
 -- the schema of texts of the side, which its source may give
 abbrev pub IsSideSchema : Seen → SideFiles → Parts → Type 0
-IsSideSchema s files parts = IsCompiled (world_of s files) (Some parts)
-
--- texts of the side, which its source may give, are more than flat messages
-abbrev pub IsOtherSide : Seen → SideFiles → Type 0
-IsOtherSide s files = IsCompiled (world_of s files) None
+IsSideSchema s files parts = IsCompiled (world_of s files) parts
 
 -- a fault of the side's files; a source failed only where it counted a failure
 pub record IsSideFault (s : Seen) (files : SideFiles) (fault : Fault) : Type 0 where
@@ -78,28 +73,55 @@ IsGateError root old new old_files new_files (errors.Compile sides.Old fault) = 
 IsGateError root old new old_files new_files (errors.Compile sides.New fault) = IsSideFault new new_files fault
 IsGateError root old new old_files new_files errors.WriteFailed = ⊥
 
--- two sides that are undecided: one isn't flat, or both have the root
-abbrev pub AreUndecided : Text → Seen → Seen → SideFiles → SideFiles → Type 0
-AreUndecided root old new old_files new_files =
-    IsOtherSide old old_files ⊎ (IsOtherSide new new_files ⊎ Between old new old_files new_files (λ a b. HaveRoot a b root))
-
 abbrev pub IsAnswerOfFiles : Text → Seen → Seen → SideFiles → SideFiles → Answer → Type 0
-IsAnswerOfFiles root old new old_files new_files (answers.Breaks witness) = Between old new old_files new_files (λ a b. IsBreaking a b root witness)
-IsAnswerOfFiles root old new old_files new_files answers.Undecided = AreUndecided root old new old_files new_files
+IsAnswerOfFiles root old new old_files new_files answer = Between old new old_files new_files (λ a b. IsAnswer a b root answer)
 
--- the bytes are those of a message that breaks between the schemas
-pub record IsWitness (old new : Parts) (root : Text) (bytes : List ℕ) : Type 0 where
+-- the types are compatible, as some certificate shows
+pub record IsShownCompatible (old new : Parts) (root : Text) : Type 0 where
+  pub certificate : Claim
+  pub compatible : IsCompatible old new root certificate
+
+-- the bytes are those of a message that breaks, and no message that breaks has fewer, as some certificate shows
+pub record IsLeastWitness (old new : Parts) (root : Text) (bytes : List ℕ) : Type 0 where
   pub message : Kept
-  pub breaks : IsBreaking old new root message
-  pub bytes_are : bytes ≡ enc (shape_of old) (type_of message) (message_of message)
+  pub certificate : Claim
+  pub broken : IsBroken old new root message certificate
+  pub bytes_are : certificate.witness ≡ Some bytes
 
-abbrev pub IsFindingOf : Parts → Parts → Text → Finding → Type 0
-IsFindingOf old new root (findings.Breaks witness) = IsWitness old new root witness.items
-IsFindingOf old new root findings.Undecided = HaveRoot old new root
+-- the text is that of the certificate of an answer, and this is whether a message breaks
+pub record IsCertificateText (old new : Parts) (root text : Text) (breaks : Bool) : Type 0 where
+  pub answer : Answer
+  pub is_answer : IsAnswer old new root answer
+  pub certifies : Certifies old new text (certificate_of answer)
+  pub breaks_is : breaks ≡ is_some (certificate_of answer).witness
 
-abbrev pub IsFinding : Text → Seen → Seen → SideFiles → SideFiles → Finding → Type 0
-IsFinding root old new old_files new_files (findings.Breaks witness) = Between old new old_files new_files (λ a b. IsWitness a b root witness.items)
-IsFinding root old new old_files new_files findings.Undecided = AreUndecided root old new old_files new_files
+-- what is found of the types of that name; the certificate where that is asked for, and nowhere else
+abbrev pub IsFindingOf : Parts → Parts → Text → Bool → Finding → Type 0
+IsFindingOf old new root false findings.Compatible = IsShownCompatible old new root
+IsFindingOf old new root false (findings.Breaks witness) = IsLeastWitness old new root witness.items
+IsFindingOf old new root false (findings.Certified text breaks) = ⊥
+IsFindingOf old new root true findings.Compatible = ⊥
+IsFindingOf old new root true (findings.Breaks witness) = ⊥
+IsFindingOf old new root true (findings.Certified text breaks) = IsCertificateText old new root (string_bytes text) breaks
+
+abbrev pub IsFinding : Text → Bool → Seen → Seen → SideFiles → SideFiles → Finding → Type 0
+IsFinding root certificate_only old new old_files new_files finding = Between old new old_files new_files (λ a b. IsFindingOf a b root certificate_only finding)
+
+-- a finding tells a certificate's witness, or that it has none
+abbrev pub TellsAnswer : Claim → Finding → Type 0
+TellsAnswer certificate findings.Compatible = certificate.witness ≡ None
+TellsAnswer certificate (findings.Breaks witness) = certificate.witness ≡ Some witness.items
+TellsAnswer certificate (findings.Certified text breaks) = ⊥
+
+-- a finding tells a certificate's text, and whether it has a witness
+abbrev pub TellsCertificate : Parts → Parts → Claim → Finding → Type 0
+TellsCertificate old new certificate findings.Compatible = ⊥
+TellsCertificate old new certificate (findings.Breaks witness) = ⊥
+TellsCertificate old new certificate (findings.Certified text breaks) = Certifies old new (string_bytes text) certificate × (breaks ≡ is_some certificate.witness)
+
+abbrev pub Tells : Parts → Parts → Claim → Bool → Finding → Type 0
+Tells old new certificate false finding = TellsAnswer certificate finding
+Tells old new certificate true finding = TellsCertificate old new certificate finding
 
 -- a refusal that is printed for such an error
 pub record IsRefusal (errors : GateError → Type 0) (refusal : Refusal) : Type 0 where
@@ -107,8 +129,14 @@ pub record IsRefusal (errors : GateError → Type 0) (refusal : Refusal) : Type 
   pub is_error : errors error
   pub printed : refusal_of error ≡ Some refusal
 
+-- what is found for a call
+abbrev pub IsFoundFor : Seen → Seen → Request → Finding → Type 0
+IsFoundFor old new (gate sides root certificate_only) finding = IsFinding root certificate_only old new (files_at sides.old_dir (sides.old ∷ [])) (files_at sides.new_dir (sides.new ∷ [])) finding
+
+-- why nothing is found for a call
+abbrev pub IsErrorFor : Seen → Seen → Request → GateError → Type 0
+IsErrorFor old new (gate sides root certificate_only) error = IsGateError root old new (files_at sides.old_dir (sides.old ∷ [])) (files_at sides.new_dir (sides.new ∷ [])) error
+
 abbrev pub Grants : Seen → Seen → Request → Reply → Type 0
-Grants old new (gate sides root) (replies.Found finding) =
-    IsFinding root old new (files_at sides.old_dir (sides.old ∷ [])) (files_at sides.new_dir (sides.new ∷ [])) finding
-Grants old new (gate sides root) (replies.Refused refusal) =
-    IsRefusal (IsGateError root old new (files_at sides.old_dir (sides.old ∷ [])) (files_at sides.new_dir (sides.new ∷ []))) refusal
+Grants old new call (replies.Found finding) = IsFoundFor old new call finding
+Grants old new call (replies.Refused refusal) = IsRefusal (IsErrorFor old new call) refusal

@@ -11,10 +11,11 @@ use Rattle.pg_gate.specs.declared.reply.Reply.TheVariants as reply
 
 -- ---- statuses
 
--- 1 breaks, 5 undecided
+-- 0 compatible, 1 breaks; a certificate has its answer's
 abbrev pub finding_status : Finding → ℕ
+finding_status finding.Compatible = 0
 finding_status (finding.Breaks witness) = 1
-finding_status finding.Undecided = 5
+finding_status (finding.Certified text breaks) = if breaks then 1 else 0
 
 -- 3 for a source that failed, and else 2
 abbrev pub refusal_status : Refusal → ℕ
@@ -32,7 +33,7 @@ text_of root (reply.Refused r) = refusal_of r
 
 -- the name of the root types
 abbrev pub root_of : Request → Text
-root_of (gate sides root) = root
+root_of (gate sides root certificate_only) = root
 
 pub record Printed : Type 0 where
   pub text : Text

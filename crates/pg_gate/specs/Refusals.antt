@@ -1,5 +1,7 @@
 -- The refusal that is printed for an error: its code, and where the fault is.
 use Rattle.std.specs.Prelude.{ℕ, Bool, true, false, nat_eq, Option, Some, None}
+use Rattle.pg_check.specs.declared.error.CheckError.{CheckError}
+use Rattle.pg_check.specs.declared.error.CheckError.TheVariants as checks
 use Rattle.pg_lex.specs.declared.error.LexError.{LexError}
 use Rattle.pg_lex.specs.declared.error.LexError.TheVariants as lex
 use Rattle.pg_link.specs.declared.error.LinkError.{LinkError}
@@ -11,8 +13,6 @@ use Rattle.pg_gate.specs.declared.error.Fault.{Fault}
 use Rattle.pg_gate.specs.declared.error.Fault.TheVariants as faults
 use Rattle.pg_gate.specs.declared.error.GateError.{GateError}
 use Rattle.pg_gate.specs.declared.error.GateError.TheVariants.{Memory, RootMissingOld, RootMissingNew, Compile, WriteFailed}
-use Rattle.pg_gate.specs.declared.error.RuleError.{RuleError}
-use Rattle.pg_gate.specs.declared.error.RuleError.TheVariants as rules
 use Rattle.pg_gate.specs.declared.refusal.Location.{Location}
 use Rattle.pg_gate.specs.declared.refusal.Location.TheVariants.{Nowhere, InPlace, InFile}
 use Rattle.pg_gate.specs.declared.refusal.Refusal.{Refusal}
@@ -64,14 +64,28 @@ told_of_link (links.Lex e place) = told_at (lex_code e) place
 told_of_link (links.Syntax e place) = told_at (syntax_code e) place
 told_of_link links.Memory = record { code = 1; location = Nowhere }
 
-abbrev pub rule_code : RuleError → ℕ
-rule_code rules.BadNumber = 401
-rule_code rules.DuplicateNumber = 402
-rule_code rules.TooManyTypes = 413
+-- parts that are told bad have no place in a text
+abbrev pub told_of_check : CheckError → Told
+told_of_check (checks.BadNumber place) = told_at 401 place
+told_of_check (checks.DuplicateNumber place) = told_at 402 place
+told_of_check (checks.ReservedNumber place) = told_at 403 place
+told_of_check (checks.ReservedName place) = told_at 404 place
+told_of_check (checks.RangeOverlap place) = told_at 405 place
+told_of_check (checks.JsonNameClash place) = told_at 406 place
+told_of_check (checks.BadMapKey place) = told_at 407 place
+told_of_check (checks.BadOneofMember place) = told_at 408 place
+told_of_check (checks.EnumFirstNotZero place) = told_at 409 place
+told_of_check (checks.EnumAlias place) = told_at 410 place
+told_of_check (checks.BadOption place) = told_at 411 place
+told_of_check (checks.PackedNotAllowed place) = told_at 412 place
+told_of_check (checks.TooManyTypes place) = told_at 413 place
+told_of_check (checks.EnumEmpty place) = told_at 414 place
+told_of_check (checks.BadParts place) = record { code = 415; location = Nowhere }
+told_of_check checks.Memory = record { code = 1; location = Nowhere }
 
 abbrev pub told_of : Fault → Told
 told_of (faults.Link error) = told_of_link error
-told_of (faults.Rule error place) = told_at (rule_code error) place
+told_of (faults.Check error) = told_of_check error
 
 -- want of memory and a sink that failed aren't printed
 abbrev pub refusal_of : GateError → Option Refusal

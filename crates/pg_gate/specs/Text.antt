@@ -33,12 +33,13 @@ hex_of (byte ∷ bytes) = digits_of (byte ∷ bytes)
 
 -- ---- what the gate finds
 
--- `breaks NAME LENGTH` and `witness HEX`, or `undecided NAME`
+-- `compatible NAME`; `breaks NAME LENGTH` and `witness HEX`; or a certificate's text alone
 abbrev pub finding_of : Text → Finding → Text
-finding_of root finding.Undecided = codes "undecided " ++ (root ++ line_end)
+finding_of root finding.Compatible = codes "compatible " ++ (root ++ line_end)
 finding_of root (finding.Breaks witness) =
     codes "breaks " ++ (root ++ (codes " " ++ (decimal (length witness.items) ++ (line_end
     ++ (codes "witness " ++ (hex_of witness.items ++ line_end))))))
+finding_of root (finding.Certified text breaks) = string_bytes text
 
 -- ---- refusals
 

@@ -1,91 +1,123 @@
-//! What a call is answered, from its sources.
-ghost use Rattle.std.specs.Prelude.{◌≡◌, [], ◌∷◌, IfErr, IfOk};
-ghost use Rattle.pg_gate.specs.Breaking.{IsRefusedRoot};
-ghost use Rattle.pg_gate.specs.Call.{request_of, sides_of};
+//! The gate: whether a reader of the new type sees all that a writer of the old one writes.
+ghost use Rattle.std.specs.Prelude.{◌≡◌, Err, codes, IfErr, IfOk};
+ghost use Rattle.pg_gate.specs.Answer.{AreRoots, IsAnswer, IsRefusedRoot, Lacks, certificate_of};
 ghost use Rattle.pg_gate.specs.Files.{paths_of};
-ghost use Rattle.pg_gate.specs.Grants.{Grants, IsFinding, IsFindingOf, IsGateError, files_at, seen};
+ghost use Rattle.pg_gate.specs.Grants.{IsAnswerOfFiles, IsGateError, files_at, seen};
+ghost use Rattle.pg_gate.specs.declared.error.GateError.TheVariants as errors;
 
-use crate::call::{Call, Sides};
 use crate::compile::compile;
 use crate::error::{GateError, Side};
-use crate::refusal::refusal_of;
-use crate::reply::{Finding, Reply};
-use crate::trial::search;
+use pg_cert::Certificate;
+use pg_dyn::Message;
+use pg_least::{Found, find};
 use pg_link::Sources;
+use pg_pairs::Pair;
 use pg_schema::Schema;
-use std::alloc::{AllocError, Global};
+use std::alloc::Global;
 
-/// What the gate finds between two schemas.
-fn between(alloc: Global, old: &Schema, new: &Schema, root: &str) -> Result<Finding, GateError>
-    ensures found { IfOk result (IsFindingOf old.now new.now root.now) }
-    ensures refused { IfErr result (IsRefusedRoot old.now new.now root.now) }
-{
-    match search(alloc, old, new, root)? {
-        Some(found) => Ok(Finding::Breaks {
-            witness: found.bytes,
-        }),
-        None => Ok(Finding::Undecided),
+/// What the gate says of two message types, with the certificate that shows it.
+#[derive(Drop)]
+pub enum Answer {
+    /// No message breaks: of each message that the old writer encodes the new reader sees the same
+    /// values in the fields of both types, and gives back all others.
+    Compatible(Certificate),
+    /// A message of the old type that breaks, without unknown records. No message that breaks has
+    /// fewer bytes.
+    Breaks {
+        witness: Message,
+        certificate: Certificate,
+    },
+}
+
+impl Answer {
+    /// The certificate.
+    pub(crate) fn certificate(&self) -> &Certificate
+        ensures { result.now ≡ certificate_of self.now }
+    {
+        match self {
+            Answer::Compatible(certificate) => certificate,
+            Answer::Breaks { certificate, .. } => certificate,
+        }
     }
 }
 
-/// What the gate finds between the two sides.
-fn find<S: Sources, T: Sources>(
+/// The old and the new message type of the full name.
+fn roots(old: &Schema, new: &Schema, root: &str) -> Result<Pair, GateError>
+    ensures named { IfOk result (AreRoots old.now new.now root.now) }
+    ensures old_missing { Lacks old.now root.now → result ≡ Err errors.RootMissingOld }
+    ensures new_missing { (Lacks old.now root.now → ⊥) → Lacks new.now root.now
+        → result ≡ Err errors.RootMissingNew }
+    ensures refused { IfErr result (IsRefusedRoot old.now new.now root.now) }
+{
+    let Some(old_root) = old.message(root) else {
+        return Err(GateError::RootMissingOld);
+    };
+    let Some(new_root) = new.message(root) else {
+        return Err(GateError::RootMissingNew);
+    };
+    Ok(Pair {
+        old: old_root,
+        new: new_root,
+    })
+}
+
+/// Whether the new reader sees all that the old writer writes, for the message types of this full
+/// name: that it does, or a message of the old type that breaks, of which none has fewer bytes;
+/// either with the certificate of the two types, which a checker takes.
+///
+/// Refused are want of memory (`Memory`), an old schema without the name (`RootMissingOld`), and
+/// else a new one without it (`RootMissingNew`).
+pub fn gate(alloc: Global, old: &Schema, new: &Schema, root: &str) -> Result<Answer, GateError>
+    ensures answer { IfOk result (IsAnswer old.now new.now root.now) }
+    ensures old_missing { Lacks old.now root.now → result ≡ Err errors.RootMissingOld }
+    ensures new_missing { (Lacks old.now root.now → ⊥) → Lacks new.now root.now
+        → result ≡ Err errors.RootMissingNew }
+    ensures refused { IfErr result (IsRefusedRoot old.now new.now root.now) }
+{
+    let pair = roots(old, new, root)?;
+    let Found {
+        certificate,
+        witness,
+    } = find(alloc, old, new, pair)?;
+    match witness {
+        Some(witness) => Ok(Answer::Breaks {
+            witness,
+            certificate,
+        }),
+        None => Ok(Answer::Compatible(certificate)),
+    }
+}
+
+/// The same over two sources: the schemas are those of the files at these paths and of all that they
+/// import, each read once, the old side first.
+///
+/// Refused are want of memory (`Memory`); a side with its first fault (`Compile`): what its files can't
+/// be linked for, or the first rule of the language that they break, at its place; and a missing root,
+/// as `gate` refuses it.
+pub fn gate_files<S: Sources, T: Sources>(
     alloc: Global,
-    sides: &Sides<'_>,
-    root: &str,
     old: &mut S,
     new: &mut T,
-) -> Result<Finding, GateError>
-    ensures found { IfOk result (IsFinding root.now
+    old_roots: &[&str],
+    new_roots: &[&str],
+    root: &str,
+) -> Result<Answer, GateError>
+    // The answer is that of texts that the sources may give, and so is each refusal.
+    ensures answer { IfOk result (IsAnswerOfFiles root.now
         (seen (S.may_give old.old) (S.may_lack old.old) (S.failures old.old) (S.failures old.new))
         (seen (T.may_give new.old) (T.may_lack new.old) (T.failures new.old) (T.failures new.new))
-        (files_at sides.now.old_dir.now (sides.now.old.now ∷ []))
-        (files_at sides.now.new_dir.now (sides.now.new.now ∷ []))) }
+        (files_at (codes ".") (paths_of old_roots.now)) (files_at (codes ".") (paths_of new_roots.now))) }
     ensures refused { IfErr result (IsGateError root.now
         (seen (S.may_give old.old) (S.may_lack old.old) (S.failures old.old) (S.failures old.new))
         (seen (T.may_give new.old) (T.may_lack new.old) (T.failures new.old) (T.failures new.new))
-        (files_at sides.now.old_dir.now (sides.now.old.now ∷ []))
-        (files_at sides.now.new_dir.now (sides.now.new.now ∷ []))) }
+        (files_at (codes ".") (paths_of old_roots.now)) (files_at (codes ".") (paths_of new_roots.now))) }
+    // The sources' reads leave what they may give and lack.
     ensures old_given { S.may_give old.new ≡ S.may_give old.old }
     ensures old_lacked { S.may_lack old.new ≡ S.may_lack old.old }
     ensures new_given { T.may_give new.new ≡ T.may_give new.old }
     ensures new_lacked { T.may_lack new.new ≡ T.may_lack new.old }
 {
-    let old_schema = compile(alloc, old, Side::Old, sides.old_dir, &[sides.old])?;
-    let new_schema = compile(alloc, new, Side::New, sides.new_dir, &[sides.new])?;
-    let Some(old_schema) = &old_schema else {
-        return Ok(Finding::Undecided);
-    };
-    let Some(new_schema) = &new_schema else {
-        return Ok(Finding::Undecided);
-    };
-    between(alloc, old_schema, new_schema, root)
-}
-
-/// The answer to a call, from its sources.
-pub(crate) fn answer<S: Sources, T: Sources>(
-    alloc: Global,
-    call: &Call<'_>,
-    old: &mut S,
-    new: &mut T,
-) -> Result<Reply, AllocError>
-    ensures granted { IfOk result (Grants
-        (seen (S.may_give old.old) (S.may_lack old.old) (S.failures old.old) (S.failures old.new))
-        (seen (T.may_give new.old) (T.may_lack new.old) (T.failures new.old) (T.failures new.new))
-        (request_of call.now)) }
-    ensures old_given { S.may_give old.new ≡ S.may_give old.old }
-    ensures old_lacked { S.may_lack old.new ≡ S.may_lack old.old }
-    ensures new_given { T.may_give new.new ≡ T.may_give new.old }
-    ensures new_lacked { T.may_lack new.new ≡ T.may_lack new.old }
-{
-    let found = match call {
-        Call::Gate { sides, root } => find(alloc, sides, root, old, new),
-    };
-    match found {
-        Ok(finding) => Ok(Reply::Found(finding)),
-        Err(error) => match refusal_of(error) {
-            Some(refusal) => Ok(Reply::Refused(refusal)),
-            None => Err(AllocError),
-        },
-    }
+    let old_schema = compile(alloc, old, Side::Old, ".", old_roots)?;
+    let new_schema = compile(alloc, new, Side::New, ".", new_roots)?;
+    gate(alloc, &old_schema, &new_schema, root)
 }

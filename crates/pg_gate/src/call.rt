@@ -3,7 +3,13 @@
 /// The words of a command line, as they are meant.
 #[derive(Clone, Copy, Debug)]
 pub enum Call<'a> {
-    Gate { sides: Sides<'a>, root: &'a str },
+    /// What a reader of the new type sees of the messages that a writer of the old one writes; the
+    /// certificate alone where that is asked for.
+    Gate {
+        sides: Sides<'a>,
+        root: &'a str,
+        certificate_only: bool,
+    },
 }
 
 /// The folders and the files of the old and the new side.

@@ -8,16 +8,16 @@ ghost use Rattle.pg_gate.specs.CommandLine as command_line;
 
 use crate::call::{Call, Sides};
 use clap::error::ErrorKind;
-use clap::{Arg, ArgMatches, Command, Error};
+use clap::{Arg, ArgAction, ArgMatches, Command, Error};
 use std::alloc::{AllocError, Global};
 
 /// What help says of the statuses.
 const STATUSES: &str = "Statuses:
-  1  a breaking message was found
+  0  compatible: the new reader sees all that the old writer writes
+  1  breaks: it doesn't see all of some message
   2  refused: a fault in a file, or the message type is missing
   3  out of memory, or a file or the output failed
-  4  help, or words that are no call
-  5  undecided: no breaking message was found, and there may be one";
+  4  help, or words that are no call";
 
 /// A folder, by default the current one.
 fn folder<'a>(alloc: Global, name: &'a str, help: &'a str) -> Arg<'a>
@@ -43,17 +43,33 @@ fn named<'a>(alloc: Global, name: &'a str, value: &'a str, help: &'a str) -> Arg
         .help(help)
 }
 
+/// An option without a value.
+fn flag<'a>(alloc: Global, name: &'a str, help: &'a str) -> Arg<'a>
+    ensures rule { rule_of result ≡ command_line.flag name.entry.now }
+    ensures local { result.global ≡ false }
+{
+    Arg::new(alloc, name)
+        .long(name)
+        .action(ArgAction::SetTrue)
+        .help(help)
+}
+
 fn gate_command<'a>(alloc: Global) -> Result<Command<'a>, AllocError>
     ensures { IfOk result (HasApp command_line.gate_app) }
 {
     Command::new(alloc, "gate")
-        .about("Find a message of the old type that a reader of the new type doesn't keep")
+        .about("Find whether a reader of the new type sees all that a writer of the old one writes")
         .after_help(STATUSES)
         .arg(folder(alloc, "old-dir", "The folder of the old file"))?
         .arg(folder(alloc, "new-dir", "The folder of the new file"))?
         .arg(named(alloc, "old", "F", "The old proto3 file"))?
         .arg(named(alloc, "new", "F", "The new proto3 file"))?
-        .arg(named(alloc, "type", "NAME", "The message type, by its full name"))
+        .arg(named(alloc, "type", "NAME", "The message type, by its full name"))?
+        .arg(flag(
+            alloc,
+            "cert",
+            "Write the certificate alone, which shows the answer",
+        ))
 }
 
 /// The whole command line, but for the program's name.
@@ -76,6 +92,16 @@ fn text<'a>(found: &ArgMatches<'a>, name: &str) -> &'a str
     found.get_str(name).unwrap_or("")
 }
 
+/// Whether an option without a value is there.
+fn is_set(found: &ArgMatches<'_>, name: &str) -> bool
+    ensures { result ≡ spec.flag_at name.now (rows_of (found_of found.now)) }
+{
+    match found.get_str(name) {
+        Some(value) => value == "true",
+        None => false,
+    }
+}
+
 fn sides<'a>(found: &ArgMatches<'a>) -> Sides<'a>
     ensures { spec.sides_of result ≡ spec.sides_in (rows_of (found_of found.now)) }
 {
@@ -93,6 +119,7 @@ fn gate_call<'a>(found: &ArgMatches<'a>) -> Call<'a>
     Call::Gate {
         sides: sides(found),
         root: text(found, "type"),
+        certificate_only: is_set(found, "cert"),
     }
 }
 

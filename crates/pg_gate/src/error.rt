@@ -1,7 +1,8 @@
 //! Why there is no answer.
 
 use crate::sink::SinkError;
-use pg_link::{LinkError, Place};
+use pg_check::CheckError;
+use pg_link::LinkError;
 use std::alloc::{AllocError, AllocFailed};
 use std::fmt;
 use thiserror::Error;
@@ -13,29 +14,15 @@ pub enum Side {
     New,
 }
 
-/// What is wrong with a number.
-#[derive(Clone, Copy, Debug, PartialEq, Eq, Error)]
-pub enum RuleError {
-    /// E401: a field number is from 1 to 536,870,911, and not from 19,000 to 19,999.
-    #[error("field number out of range")]
-    BadNumber,
-    /// E402: the message has the field number already.
-    #[error("field number used twice")]
-    DuplicateNumber,
-    /// E413: there are more than 4,096 message types.
-    #[error("too many message types")]
-    TooManyTypes,
-}
-
 /// Why a side does not compile.
 #[derive(Debug, PartialEq, Eq, Drop, Error)]
 pub enum Fault {
     /// Its files can't be linked: by the code of that fault, at its place.
     #[error("{0}")]
     Link(LinkError),
-    /// A declaration breaks a rule. At its name.
-    #[error("{error}")]
-    Rule { error: RuleError, place: Place },
+    /// They break a rule of the language: by its code, at its place.
+    #[error("{0}")]
+    Check(CheckError),
 }
 
 /// Why the gate gives no answer.

@@ -2,29 +2,26 @@
 #![tactic(auto)]
 
 mod answer;
-mod breaking;
 mod buffer;
 mod call;
 mod command_line;
 mod compile;
 mod error;
+mod finding;
 mod hex;
 mod program;
-mod reading;
 mod refusal;
 mod reply;
-mod shows;
 mod sink;
 mod standard_output;
-mod text;
-mod trial;
-mod tried;
 
-pub use breaking::{Answer, gate, gate_files};
+pub use answer::{Answer, gate, gate_files};
 pub use buffer::Buffer;
 pub use call::{Call, Sides};
-pub use error::{Fault, GateError, RuleError, Side};
+pub use error::{Fault, GateError, Side};
 pub use hex::{Digits, Hex};
+pub use pg_cert::Certificate;
+pub use pg_check::CheckError;
 pub use pg_link::{LinkError, Listed, Place, SourceError, Sources};
 pub use program::run;
 pub use refusal::{Location, Refusal};

@@ -7,10 +7,10 @@ ghost use Rattle.pg_gate.specs.Grants.{Grants, seen};
 ghost use Rattle.pg_gate.specs.Printed.{root_of};
 ghost use Rattle.pg_gate.specs.Run.{Begins, IsRunError, Prints, failures_in};
 
-use crate::answer::answer;
 use crate::call::Call;
 use crate::command_line;
 use crate::error::GateError;
+use crate::finding::answer;
 use crate::sink::{Sink, write_all};
 use clap::error::ErrorKind;
 use pg_link::Sources;
@@ -51,9 +51,9 @@ fn usage<W: Sink>(alloc: Global, error: &clap::Error, sink: &mut W) -> Result<u8
 /// The whole program, on the words after its name: answers the call from its sources, writes the
 /// answer's text to the sink, and gives the exit status.
 ///
-/// 1: a breaking message was found. 2: refused. 3: a source failed. 4: help, or words that are no
-/// call. 5: undecided. The only errors are `Memory`, with the sink untouched, and `WriteFailed`,
-/// after which the sink took a beginning of the text.
+/// 0: compatible. 1: breaks. 2: refused. 3: a source failed. 4: help, or words that are no call. The
+/// only errors are `Memory`, with the sink untouched, and `WriteFailed`, after which the sink took a
+/// beginning of the text.
 pub fn run<S: Sources, T: Sources, W: Sink>(
     alloc: Global,
     words: &[&str],

@@ -5,7 +5,8 @@ ghost use Rattle.pg_gate.specs.Refusals as refusals;
 ghost use Rattle.pg_gate.specs.Text as spec;
 ghost use Rattle.pg_gate.specs.declared.error.GateError.TheVariants as errors;
 
-use crate::error::{Fault, GateError, RuleError, Side};
+use crate::error::{Fault, GateError, Side};
+use pg_check::CheckError;
 use pg_lex::LexError;
 use pg_link::{LinkError, Place};
 use pg_syntax::SyntaxError;
@@ -16,6 +17,9 @@ const OUT_OF_MEMORY: u16 = 1;
 
 /// The code of a source that failed.
 const SOURCE_FAILED: u16 = 309;
+
+/// The code of parts that are none of a schema, which have no place in a text.
+const BAD_PARTS: u16 = 415;
 
 /// The code of a root type that the old schema does not have.
 const ROOT_MISSING_OLD: u16 = 901;
@@ -129,13 +133,33 @@ fn told_of_link(error: LinkError) -> Told
     }
 }
 
-fn rule_code(error: RuleError) -> u16
-    ensures { result ≡ refusals.rule_code error }
+/// What is told of files that break a rule.
+fn told_of_check(error: CheckError) -> Told
+    ensures { result ≡ refusals.told_of_check error }
 {
     match error {
-        RuleError::BadNumber => 401,
-        RuleError::DuplicateNumber => 402,
-        RuleError::TooManyTypes => 413,
+        CheckError::BadNumber(place) => told_at(401, place),
+        CheckError::DuplicateNumber(place) => told_at(402, place),
+        CheckError::ReservedNumber(place) => told_at(403, place),
+        CheckError::ReservedName(place) => told_at(404, place),
+        CheckError::RangeOverlap(place) => told_at(405, place),
+        CheckError::JsonNameClash(place) => told_at(406, place),
+        CheckError::BadMapKey(place) => told_at(407, place),
+        CheckError::BadOneofMember(place) => told_at(408, place),
+        CheckError::EnumFirstNotZero(place) => told_at(409, place),
+        CheckError::EnumAlias(place) => told_at(410, place),
+        CheckError::BadOption(place) => told_at(411, place),
+        CheckError::PackedNotAllowed(place) => told_at(412, place),
+        CheckError::TooManyTypes(place) => told_at(413, place),
+        CheckError::EnumEmpty(place) => told_at(414, place),
+        CheckError::BadParts(_) => Told {
+            code: BAD_PARTS,
+            location: Location::Nowhere,
+        },
+        CheckError::Memory => Told {
+            code: OUT_OF_MEMORY,
+            location: Location::Nowhere,
+        },
     }
 }
 
@@ -145,7 +169,7 @@ fn refusal_of_side(side: Side, fault: Fault) -> Refusal
 {
     let told = match fault {
         Fault::Link(error) => told_of_link(error),
-        Fault::Rule { error, place } => told_at(rule_code(error), place),
+        Fault::Check(error) => told_of_check(error),
     };
     Refusal {
         side: Some(side),

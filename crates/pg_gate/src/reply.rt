@@ -1,7 +1,7 @@
 //! What a call is answered, its text and its status.
 ghost use Rattle.std.specs.Prelude.{◌≡◌, Some, IfOk};
 ghost use Rattle.pg_gate.specs.Text as spec;
-ghost use Rattle.pg_gate.specs.Printed.{status_of, text_of};
+ghost use Rattle.pg_gate.specs.Printed.{finding_status, status_of, text_of};
 
 use crate::hex::Hex;
 use crate::refusal::Refusal;
@@ -15,12 +15,15 @@ pub enum Reply {
     Refused(Refusal),
 }
 
-/// What the gate finds.
+/// What the gate finds, as it is printed.
 #[derive(Debug, Drop)]
 pub enum Finding {
-    /// The bytes of a breaking message.
+    /// No message breaks.
+    Compatible,
+    /// The bytes of a message that breaks. None that breaks has fewer.
     Breaks { witness: Vec<u8> },
-    Undecided,
+    /// The text of the certificate, and whether a message breaks.
+    Certified { text: String, breaks: bool },
 }
 
 /// What the gate finds of the types of this name.
@@ -36,8 +39,7 @@ impl Reply {
         ensures { result ≡ status_of self.now }
     {
         match self {
-            Reply::Found(Finding::Breaks { witness: _ }) => 1,
-            Reply::Found(Finding::Undecided) => 5,
+            Reply::Found(finding) => finding.status(),
             Reply::Refused(refusal) => refusal.status(),
         }
     }
@@ -60,19 +62,33 @@ impl Reply {
     }
 }
 
+impl Finding {
+    /// 0 where no message breaks, and else 1.
+    fn status(&self) -> u8
+        ensures { result ≡ finding_status self.now }
+    {
+        match self {
+            Finding::Compatible => 0,
+            Finding::Breaks { .. } => 1,
+            Finding::Certified { breaks, .. } => if *breaks { 1 } else { 0 },
+        }
+    }
+}
+
 impl fmt::Display for Report<'_> {
     ghost output = { λ it. Some (spec.finding_of it.root.now it.finding.now) };
 
     fn fmt<W: fmt::Write>(&self, f: &mut fmt::Formatter<W>) -> fmt::Result {
         let root = self.root;
         match self.finding {
-            Finding::Undecided => writeln!(f, "undecided {root}"),
+            Finding::Compatible => writeln!(f, "compatible {root}"),
             Finding::Breaks { witness } => {
                 let length = witness.len();
                 let witness = Hex(witness);
                 writeln!(f, "breaks {root} {length}")?;
                 writeln!(f, "witness {witness}")
             }
+            Finding::Certified { text, .. } => write!(f, "{text}"),
         }
     }
 }

@@ -14,4 +14,5 @@ returns c =
     let with_2 = with_arg c.in_ok-arg-2.field-0 with_1 c.folder-2.ensures.rule c.folder-2.ensures.local (c.in_ok-arg-2.ensures.shape c.folder-2.ensures.local) c.in_ok-arg-2.ensures.globals in
     let with_3 = with_arg c.in_ok-arg-3.field-0 with_2 c.named.ensures.rule c.named.ensures.local (c.in_ok-arg-3.ensures.shape c.named.ensures.local) c.in_ok-arg-3.ensures.globals in
     let with_4 = with_arg c.in_ok-arg-4.field-0 with_3 c.named-2.ensures.rule c.named-2.ensures.local (c.in_ok-arg-4.ensures.shape c.named-2.ensures.local) c.in_ok-arg-4.ensures.globals in
-    IfOk-weaker c.arg-5.result _ _ (λ r adds. with_arg r with_4 c.named-3.ensures.rule c.named-3.ensures.local (adds.shape c.named-3.ensures.local) adds.globals) c.arg-5.ensures
+    let with_5 = with_arg c.in_ok-arg-5.field-0 with_4 c.named-3.ensures.rule c.named-3.ensures.local (c.in_ok-arg-5.ensures.shape c.named-3.ensures.local) c.in_ok-arg-5.ensures.globals in
+    IfOk-weaker c.arg-6.result _ _ (λ r adds. with_arg r with_5 c.flag.ensures.rule c.flag.ensures.local (adds.shape c.flag.ensures.local) adds.globals) c.arg-6.ensures

@@ -1,0 +1,89 @@
+-- What the gate answers of the old and the new message type of one full name. What contracts see of a certificate is a claim.
+use Rattle.std.specs.Prelude.{◌≡◌, ◌≢◌, ◌≤◌, length, true, Some, None}
+use Rattle.clap.specs.Words.{Text}
+use Rattle.pg_schema.specs.declared.field.TypeId.{TypeId}
+use Rattle.pg_schema.specs.declared.parts.Parts.{Parts}
+use Rattle.pg_schema.specs.Parts.{name_at, shape_of}
+use Rattle.pg_schema.specs.Shape.{Shape}
+use Rattle.pg_dyn.specs.Belonging.{IsMessage}
+use Rattle.pg_dyn.specs.Breaking.{Breaks, Compatible, Least}
+use Rattle.pg_dyn.specs.Comparison.{numbers, same}
+use Rattle.pg_dyn.specs.Decoding.{dec}
+use Rattle.pg_dyn.specs.Encoding.{cap, enc}
+use Rattle.pg_dyn.specs.Fits.{Fits}
+use Rattle.pg_dyn.specs.Kept.{Kept, message_of, type_of}
+use Rattle.pg_dyn.specs.Message.{IsPlain, Message}
+use Rattle.pg_pairs.specs.declared.choice.Pair.{Pair}
+use Rattle.pg_pairs.specs.Sight.{by_numbers}
+use Rattle.pg_cert.specs.Bounds.{bound_in}
+use Rattle.pg_cert.specs.Certificate.{Claim}
+use Rattle.pg_least.specs.Exact.{IsSearched}
+use Rattle.pg_gate.specs.declared.answer.Answer.{Answer}
+use Rattle.pg_gate.specs.declared.answer.Answer.TheVariants as answers
+use Rattle.pg_gate.specs.declared.error.GateError.{GateError}
+use Rattle.pg_gate.specs.declared.error.GateError.TheVariants as errors
+
+-- the message type of that full name
+abbrev pub IsNamed : Parts → Text → TypeId → Type 0
+IsNamed parts name id = name_at parts.types.items id ≡ Some name
+
+-- no message type has the name
+abbrev pub Lacks : Parts → Text → Type 0
+Lacks parts name = (id : TypeId) → name_at parts.types.items id ≢ Some name
+
+-- the two message types of that full name
+pub record AreRoots (old new : Parts) (root : Text) (pair : Pair) : Type 0 where
+  pub old_named : IsNamed old root pair.old
+  pub new_named : IsNamed new root pair.new
+
+-- a message that the old writer encodes: one of the type, without unknown records, of no more bytes than an encoding may have
+pub record OldWrites (old : Shape) (pair : Pair) (message : Message) : Type 0 where
+  pub is_message : IsMessage old pair.old message
+  pub is_plain : IsPlain message
+  pub has_encoding : length (enc old pair.old message) ≤ cap
+
+-- The new reader reads the old writer's bytes. It sees the same values in the fields of both types, at every depth, and gives back
+-- all others.
+pub record NewSees (old new : Shape) (pair : Pair) (message : Message) : Type 0 where
+  pub read : Message
+  pub reads : dec new pair.new (enc old pair.old message) ≡ Some read
+  pub same : same numbers old new pair.old pair.new message read ≡ true
+
+-- No message breaks: each message that the old writer encodes the new reader sees whole. The certificate is that of the root types,
+-- which a checker takes, with each bound least; the root's bound in it is 'none', and there is no witness.
+pub record IsCompatible (old new : Parts) (root : Text) (certificate : Claim) : Type 0 where
+  pub roots : AreRoots old new root certificate.root
+  pub searched : IsSearched by_numbers (shape_of old) (shape_of new) certificate.root certificate
+  pub bound_is_none : bound_in certificate.bounds certificate.root ≡ Some None
+  pub no_witness : certificate.witness ≡ None
+  pub compatible : Compatible numbers (shape_of old) (shape_of new) certificate.root.old certificate.root.new
+  pub each_is_seen : (message : Message) → OldWrites (shape_of old) certificate.root message → NewSees (shape_of old) (shape_of new) certificate.root message
+
+-- The witness is a message of the old root type, without unknown records, and it breaks: the new reader doesn't see it whole. No message
+-- that breaks has fewer bytes. The certificate is that of the root types, which a checker takes, with each bound least; the witness's
+-- bytes stand in it.
+pub record IsBroken (old new : Parts) (root : Text) (witness : Kept) (certificate : Claim) : Type 0 where
+  pub roots : AreRoots old new root certificate.root
+  pub searched : IsSearched by_numbers (shape_of old) (shape_of new) certificate.root certificate
+  pub fits : Fits (shape_of old) witness
+  pub type_is : type_of witness ≡ certificate.root.old
+  pub breaks : Breaks numbers (shape_of old) (shape_of new) certificate.root.old certificate.root.new (message_of witness)
+  pub least : Least numbers (shape_of old) (shape_of new) certificate.root.old certificate.root.new (length (enc (shape_of old) certificate.root.old (message_of witness)))
+  pub bytes_are : certificate.witness ≡ Some (enc (shape_of old) certificate.root.old (message_of witness))
+
+-- The headline: of two schemas with a message type of that name the gate answers one of the two, and nothing else.
+abbrev pub IsAnswer : Parts → Parts → Text → Answer → Type 0
+IsAnswer old new root (answers.Compatible certificate) = IsCompatible old new root certificate
+IsAnswer old new root (answers.Breaks witness certificate) = IsBroken old new root witness certificate
+
+abbrev pub certificate_of : Answer → Claim
+certificate_of (answers.Compatible certificate) = certificate
+certificate_of (answers.Breaks witness certificate) = certificate
+
+-- a refusal names a root that is missing: the old one first
+abbrev pub IsRefusedRoot : Parts → Parts → Text → GateError → Type 0
+IsRefusedRoot old new root errors.Memory = Unit {0}
+IsRefusedRoot old new root errors.RootMissingOld = Lacks old root
+IsRefusedRoot old new root errors.RootMissingNew = (Lacks old root → ⊥) × Lacks new root
+IsRefusedRoot old new root (errors.Compile side fault) = ⊥
+IsRefusedRoot old new root errors.WriteFailed = ⊥

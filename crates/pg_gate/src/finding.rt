@@ -1,0 +1,166 @@
+//! What a call is answered, from its sources.
+ghost use Rattle.std.specs.Prelude.{◌≡◌, [], ◌∷◌, IfErr, IfOk};
+ghost use Rattle.pg_cert.specs.Text.{IsClaimOf};
+ghost use Rattle.pg_gate.specs.Answer.{IsRefusedRoot};
+ghost use Rattle.pg_gate.specs.Call.{request_of, sides_of};
+ghost use Rattle.pg_gate.specs.Files.{paths_of};
+ghost use Rattle.pg_gate.specs.Grants.{Grants, IsErrorFor, IsFinding, IsFindingOf, IsFoundFor, IsGateError, Tells, TellsAnswer, TellsCertificate, files_at, seen};
+
+use crate::answer::gate;
+use crate::call::{Call, Sides};
+use crate::compile::compile;
+use crate::error::{GateError, Side};
+use crate::refusal::refusal_of;
+use crate::reply::{Finding, Reply};
+use pg_cert::{Certificate, to_text};
+use pg_link::Sources;
+use pg_schema::Schema;
+use std::alloc::{AllocError, Global};
+
+/// What is told of an answer with this certificate: its witness's bytes, where it has one.
+fn told(alloc: Global, certificate: &Certificate) -> Result<Finding, AllocError>
+    ensures { IfOk result (TellsAnswer certificate.now) }
+{
+    match certificate.witness() {
+        Some(bytes) => Ok(Finding::Breaks {
+            witness: Vec::from_slice(alloc, bytes)?,
+        }),
+        None => Ok(Finding::Compatible),
+    }
+}
+
+/// The text of the certificate, and whether a message breaks.
+fn certified(
+    alloc: Global,
+    old: &Schema,
+    new: &Schema,
+    certificate: &Certificate,
+) -> Result<Finding, AllocError>
+    requires { IsClaimOf old.now new.now certificate.now }
+    ensures { IfOk result (TellsCertificate old.now new.now certificate.now) }
+{
+    Ok(Finding::Certified {
+        text: to_text(alloc, old, new, certificate)?,
+        breaks: certificate.witness().is_some(),
+    })
+}
+
+/// What is told of the answer with this certificate: the certificate alone where that is asked for.
+fn finding_of(
+    alloc: Global,
+    old: &Schema,
+    new: &Schema,
+    certificate: &Certificate,
+    certificate_only: bool,
+) -> Result<Finding, AllocError>
+    requires { IsClaimOf old.now new.now certificate.now }
+    ensures { IfOk result (Tells old.now new.now certificate.now certificate_only) }
+{
+    if certificate_only {
+        certified(alloc, old, new, certificate)
+    } else {
+        told(alloc, certificate)
+    }
+}
+
+/// What the gate finds between two schemas.
+fn between(
+    alloc: Global,
+    old: &Schema,
+    new: &Schema,
+    root: &str,
+    certificate_only: bool,
+) -> Result<Finding, GateError>
+    ensures found { IfOk result (IsFindingOf old.now new.now root.now certificate_only) }
+    ensures refused { IfErr result (IsRefusedRoot old.now new.now root.now) }
+{
+    // What holds of every schema.
+    old.parts();
+    new.parts();
+    let answer = gate(alloc, old, new, root)?;
+    let finding = finding_of(alloc, old, new, answer.certificate(), certificate_only)?;
+    Ok(finding)
+}
+
+/// What the gate finds between the two sides.
+fn find<S: Sources, T: Sources>(
+    alloc: Global,
+    sides: &Sides<'_>,
+    root: &str,
+    certificate_only: bool,
+    old: &mut S,
+    new: &mut T,
+) -> Result<Finding, GateError>
+    ensures found { IfOk result (IsFinding root.now certificate_only
+        (seen (S.may_give old.old) (S.may_lack old.old) (S.failures old.old) (S.failures old.new))
+        (seen (T.may_give new.old) (T.may_lack new.old) (T.failures new.old) (T.failures new.new))
+        (files_at sides.now.old_dir.now (sides.now.old.now ∷ []))
+        (files_at sides.now.new_dir.now (sides.now.new.now ∷ []))) }
+    ensures refused { IfErr result (IsGateError root.now
+        (seen (S.may_give old.old) (S.may_lack old.old) (S.failures old.old) (S.failures old.new))
+        (seen (T.may_give new.old) (T.may_lack new.old) (T.failures new.old) (T.failures new.new))
+        (files_at sides.now.old_dir.now (sides.now.old.now ∷ []))
+        (files_at sides.now.new_dir.now (sides.now.new.now ∷ []))) }
+    ensures old_given { S.may_give old.new ≡ S.may_give old.old }
+    ensures old_lacked { S.may_lack old.new ≡ S.may_lack old.old }
+    ensures new_given { T.may_give new.new ≡ T.may_give new.old }
+    ensures new_lacked { T.may_lack new.new ≡ T.may_lack new.old }
+{
+    let old_schema = compile(alloc, old, Side::Old, sides.old_dir, &[sides.old])?;
+    let new_schema = compile(alloc, new, Side::New, sides.new_dir, &[sides.new])?;
+    between(alloc, &old_schema, &new_schema, root, certificate_only)
+}
+
+/// What is found for a call.
+fn find_for<S: Sources, T: Sources>(
+    alloc: Global,
+    call: &Call<'_>,
+    old: &mut S,
+    new: &mut T,
+) -> Result<Finding, GateError>
+    ensures found { IfOk result (IsFoundFor
+        (seen (S.may_give old.old) (S.may_lack old.old) (S.failures old.old) (S.failures old.new))
+        (seen (T.may_give new.old) (T.may_lack new.old) (T.failures new.old) (T.failures new.new))
+        (request_of call.now)) }
+    ensures refused { IfErr result (IsErrorFor
+        (seen (S.may_give old.old) (S.may_lack old.old) (S.failures old.old) (S.failures old.new))
+        (seen (T.may_give new.old) (T.may_lack new.old) (T.failures new.old) (T.failures new.new))
+        (request_of call.now)) }
+    ensures old_given { S.may_give old.new ≡ S.may_give old.old }
+    ensures old_lacked { S.may_lack old.new ≡ S.may_lack old.old }
+    ensures new_given { T.may_give new.new ≡ T.may_give new.old }
+    ensures new_lacked { T.may_lack new.new ≡ T.may_lack new.old }
+{
+    match call {
+        Call::Gate {
+            sides,
+            root,
+            certificate_only,
+        } => find(alloc, sides, root, *certificate_only, old, new),
+    }
+}
+
+/// The answer to a call, from its sources.
+pub(crate) fn answer<S: Sources, T: Sources>(
+    alloc: Global,
+    call: &Call<'_>,
+    old: &mut S,
+    new: &mut T,
+) -> Result<Reply, AllocError>
+    ensures granted { IfOk result (Grants
+        (seen (S.may_give old.old) (S.may_lack old.old) (S.failures old.old) (S.failures old.new))
+        (seen (T.may_give new.old) (T.may_lack new.old) (T.failures new.old) (T.failures new.new))
+        (request_of call.now)) }
+    ensures old_given { S.may_give old.new ≡ S.may_give old.old }
+    ensures old_lacked { S.may_lack old.new ≡ S.may_lack old.old }
+    ensures new_given { T.may_give new.new ≡ T.may_give new.old }
+    ensures new_lacked { T.may_lack new.new ≡ T.may_lack new.old }
+{
+    match find_for(alloc, call, old, new) {
+        Ok(finding) => Ok(Reply::Found(finding)),
+        Err(error) => match refusal_of(error) {
+            Some(refusal) => Ok(Reply::Refused(refusal)),
+            None => Err(AllocError),
+        },
+    }
+}
