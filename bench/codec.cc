@@ -1,6 +1,10 @@
-// Times C++ DynamicMessage on the message of codec.proto: encode and decode, each a million times.
+// Times C++ DynamicMessage: decode and encode of files of bytes, the least of several turns.
+// usage: codec FOLDER FILE..    FOLDER has codec.proto; a file is named TYPE.NAME.bin.
+#include <algorithm>
 #include <chrono>
 #include <cstdio>
+#include <fstream>
+#include <iterator>
 #include <memory>
 #include <string>
 
@@ -18,53 +22,46 @@ class Failures : public google::protobuf::compiler::MultiFileErrorCollector {
   }
 };
 
-void fill(Message* message) {
-  const auto* type = message->GetDescriptor();
-  const auto* fields = message->GetReflection();
-  fields->SetInt32(message, type->FindFieldByNumber(1), -1);
-  fields->SetInt64(message, type->FindFieldByNumber(2), int64_t{1} << 40);
-  fields->SetUInt32(message, type->FindFieldByNumber(3), 300);
-  fields->SetUInt64(message, type->FindFieldByNumber(4), uint64_t{1} << 63);
-  fields->SetInt32(message, type->FindFieldByNumber(5), -1);
-  fields->SetUInt64(message, type->FindFieldByNumber(6), 6);
-  fields->SetDouble(message, type->FindFieldByNumber(7), 7.5);
-  fields->SetFloat(message, type->FindFieldByNumber(8), 8.5f);
-  fields->SetString(message, type->FindFieldByNumber(9), "twelve bytes");
-  fields->SetString(message, type->FindFieldByNumber(10), "8 bytes.");
-}
-
 template <typename Work>
-double microseconds(int turns, Work work) {
-  const auto begin = std::chrono::steady_clock::now();
-  for (int turn = 0; turn < turns; ++turn) work();
-  const std::chrono::duration<double, std::micro> spent = std::chrono::steady_clock::now() - begin;
-  return spent.count() / turns;
+double least_microseconds(size_t size, Work work) {
+  const int turns = std::max<int>(5, std::min<int>(2000, 2000000 / static_cast<int>(size)));
+  double least = 1e12;
+  for (int turn = 0; turn < turns; ++turn) {
+    const auto begin = std::chrono::steady_clock::now();
+    work();
+    const std::chrono::duration<double, std::micro> spent = std::chrono::steady_clock::now() - begin;
+    least = std::min(least, spent.count());
+  }
+  return least;
 }
 
 }  // namespace
 
 int main(int argc, char** argv) {
-  if (argc != 2) return 4;
+  if (argc < 3) return 4;
   google::protobuf::compiler::DiskSourceTree tree;
   tree.MapPath("", argv[1]);
   Failures failures;
   google::protobuf::compiler::Importer importer(&tree, &failures);
-  const auto* file = importer.Import("codec.proto");
-  if (file == nullptr) return 2;
+  const auto* proto = importer.Import("codec.proto");
+  if (proto == nullptr) return 2;
   google::protobuf::DynamicMessageFactory factory;
-  const Message* prototype = factory.GetPrototype(file->FindMessageTypeByName("Scalars"));
-  std::unique_ptr<Message> message(prototype->New());
-  fill(message.get());
-  const std::string bytes = message->SerializeAsString();
-  const int turns = 1000000;
-  size_t total = 0;
-  const double encode = microseconds(turns, [&] { total += message->SerializeAsString().size(); });
-  bool read = true;
-  const double decode = microseconds(turns, [&] {
-    std::unique_ptr<Message> other(prototype->New());
-    read = read && other->ParseFromString(bytes);
-  });
-  if (!read || total != bytes.size() * static_cast<size_t>(turns)) return 1;
-  std::printf("c++ dynamic message: %zu bytes, encode %.3f us, decode %.3f us\n", bytes.size(), encode, decode);
+  for (int at = 2; at < argc; ++at) {
+    std::ifstream file(argv[at], std::ios::binary);
+    const std::string bytes((std::istreambuf_iterator<char>(file)), std::istreambuf_iterator<char>());
+    const std::string path(argv[at]);
+    const std::string name = path.substr(path.rfind('/') + 1);
+    const Message* prototype = factory.GetPrototype(proto->FindMessageTypeByName(name.substr(0, name.find('.'))));
+    std::unique_ptr<Message> message(prototype->New());
+    if (!message->ParseFromString(bytes)) return 1;
+    size_t total = 0;
+    const double decode = least_microseconds(bytes.size(), [&] {
+      std::unique_ptr<Message> other(prototype->New());
+      total += other->ParseFromString(bytes);
+    });
+    const double encode = least_microseconds(bytes.size(), [&] { total += message->SerializeAsString().size(); });
+    if (total == 0) return 1;
+    std::printf("c++ dynamic message %s: %zu bytes, decode %.2f us, encode %.2f us\n", name.c_str(), bytes.size(), decode, encode);
+  }
   return 0;
 }

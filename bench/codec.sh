@@ -1,14 +1,16 @@
 #!/usr/bin/env bash
-# Times encode and decode of the message of codec.proto, beside C++ DynamicMessage and python3-protobuf.
+# Times decode and encode of messages of codec.proto, from 81 bytes to 10 MB, beside C++ DynamicMessage and python3-protobuf.
 # usage: bench/codec.sh [FOLDER]    FOLDER keeps the built program for the next run.
 # Wants Debian's libprotobuf-dev, protobuf-compiler, python3-protobuf and g++.
 set -eu
 top=$(cd "$(dirname "$0")/.." && pwd)
 work=${1:-$(mktemp -d)}
 . "$top/bench/build.sh"
-build_bench "$top" "$work" codec_time codec_main.rt.txt "pg_schema pg_dyn anyhow"
+build_bench "$top" "$work" codec_time codec_main.rt.txt "pg_schema pg_dyn pg_link pg_check anyhow"
 g++ -O2 -o "$work/codec" "$top/bench/codec.cc" -lprotobuf -lpthread
 protoc --proto_path="$top/bench" --descriptor_set_out="$work/codec.pb" codec.proto
-"$work/crates/codec_time/out/codec_time"
-"$work/codec" "$top/bench"
-/usr/bin/python3 "$top/bench/codec.py" "$work/codec.pb"
+mkdir -p "$work/files"
+/usr/bin/python3 "$top/bench/codec.py" write "$work/codec.pb" "$work/files"
+"$work/crates/codec_time/out/codec_time" "$top/bench" "$work"/files/*.bin
+"$work/codec" "$top/bench" "$work"/files/*.bin
+/usr/bin/python3 "$top/bench/codec.py" time "$work/codec.pb" "$work"/files/*.bin

@@ -7,9 +7,5 @@ work=${1:-$(mktemp -d)}
 . "$top/bench/build.sh"
 build_bench "$top" "$work" link_time link_main.rt.txt "pg_link"
 python3 "$top/bench/link.py" "$work/files"
-for turn in 1 2 3 4 5; do
-    "$work/crates/link_time/out/link_time" "$work/files"
-done
 cd "$work/files"
-echo "protoc --descriptor_set_out:"
-time protoc --descriptor_set_out=../link.bin f1023.proto
+python3 "$top/bench/timed.py" 10 "$work/crates/link_time/out/link_time" "$work/files" -- protoc --descriptor_set_out=../link.bin f1023.proto
