@@ -22,6 +22,3 @@ pub use laws::{
 pub use reading::from_text;
 pub use verdict::Verdict;
 pub use writing::to_text;
-
-#[cfg(test)]
-mod tests;

@@ -35,6 +35,3 @@ pub use admitting::admit;
 pub use building::build;
 pub use error::CheckError;
 pub use laws::{keeping_rules, kept_parts, named_parts, worked_rules};
-
-#[cfg(test)]
-mod tests;

@@ -8,6 +8,3 @@ mod types;
 
 pub use descriptor::descriptor_schema;
 pub use laws::{worked_pieces, worked_sets};
-
-#[cfg(test)]
-mod tests;

@@ -7,6 +7,3 @@ mod settling;
 mod witness;
 
 pub use searching::{Found, find, search};
-
-#[cfg(test)]
-mod tests;

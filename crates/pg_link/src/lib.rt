@@ -38,6 +38,3 @@ pub use tally::Tally;
 pub use target::Target;
 pub use uses::is_scalar;
 pub use walk::SourceFile;
-
-#[cfg(test)]
-mod tests;

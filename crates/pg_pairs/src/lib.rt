@@ -39,6 +39,3 @@ pub use option_list::options;
 pub use scalar_gap::gap;
 pub use table::Table;
 pub use view::{Numbers, View, sees};
-
-#[cfg(test)]
-mod tests;

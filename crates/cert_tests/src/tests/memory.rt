@@ -1,0 +1,70 @@
+//! Each allocation refused in turn: `rt try --test --fail-alloc N`.
+use super::{MINUS_ONE, ROOT, line, schema_of};
+use pg_cert::{Bounds, BoundsError, CertError, Certificate, Verdict, check, from_text, to_text};
+use pg_schema::Scalar;
+use std::test::Fail;
+
+const TEXT: &str = "protogate-certificate 1\nroot M M\npair M M 11\nwitness 0102\nend\n";
+
+// The bounds come back where memory is refused, and checking answers the verdict or that memory was refused.
+#[test]
+fn a_refused_check(rt: HostRuntime) -> Result<(), Fail> {
+    let alloc = rt.alloc();
+    let old = schema_of(alloc, Scalar::Int32)?;
+    let new = schema_of(alloc, Scalar::Uint32)?;
+    let bounds = vec![in alloc; line(ROOT, Some(11))]?;
+    let table = match Bounds::new(alloc, bounds) {
+        Ok(table) => table,
+        Err((error, back)) => {
+            assert_eq!(rt; error, BoundsError::Memory);
+            assert_eq!(rt; back.len(), 1);
+            return Ok(());
+        }
+    };
+    let Ok(certificate) = Certificate::new(ROOT, table, None) else {
+        return Err("a certificate without a witness".into());
+    };
+    match check(alloc, &old, &new, &certificate) {
+        Ok(verdict) => assert_eq!(rt; verdict, Verdict::AtLeast(11)),
+        Err(error) => assert_eq!(rt; error, CertError::Memory),
+    }
+    Ok(())
+}
+
+// The same of a certificate with a witness.
+#[test]
+fn a_refused_witness(rt: HostRuntime) -> Result<(), Fail> {
+    let alloc = rt.alloc();
+    let old = schema_of(alloc, Scalar::Int32)?;
+    let new = schema_of(alloc, Scalar::Uint32)?;
+    let bounds = vec![in alloc; line(ROOT, Some(11))]?;
+    let table = Bounds::new(alloc, bounds);
+    let Ok(table) = table else {
+        return Ok(());
+    };
+    let witness = Vec::from_slice(alloc, &MINUS_ONE)?;
+    let Ok(certificate) = Certificate::new(ROOT, table, Some(witness)) else {
+        return Err("a certificate with a witness".into());
+    };
+    match check(alloc, &old, &new, &certificate) {
+        Ok(verdict) => assert_eq!(rt; verdict, Verdict::Breaks),
+        Err(error) => assert_eq!(rt; error, CertError::Memory),
+    }
+    Ok(())
+}
+
+#[test]
+fn refused_texts(rt: HostRuntime) -> Result<(), Fail> {
+    let alloc = rt.alloc();
+    let old = schema_of(alloc, Scalar::Int32)?;
+    let new = schema_of(alloc, Scalar::Uint32)?;
+    match from_text(alloc, &old, &new, TEXT.as_bytes()) {
+        Ok(certificate) => {
+            if let Ok(text) = to_text(alloc, &old, &new, &certificate) {
+                assert_eq!(rt; text.as_str(), TEXT);
+            }
+        }
+        Err(error) => assert_eq!(rt; error, CertError::Memory),
+    }
+    Ok(())
+}

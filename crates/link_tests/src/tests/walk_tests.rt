@@ -1,0 +1,264 @@
+use super::failing_source::FailingSource;
+use super::shown::line;
+use pg_link::{Listed, Sources, link};
+use std::alloc::{AllocError, Global};
+use std::test::*;
+
+const EMPTY: &[u8] = b"syntax = \"proto3\";\n";
+
+const TO_A: &[u8] = b"syntax = \"proto3\";\nimport \"a.proto\";\n";
+
+const TO_B: &[u8] = b"syntax = \"proto3\";\nimport \"b.proto\";\n";
+
+const TO_C: &[u8] = b"syntax = \"proto3\"; package p;\n  import \"c.proto\";\n";
+
+const TO_B_TWICE: &[u8] = b"syntax = \"proto3\";\nimport \"b.proto\";\nimport \"b.proto\";\n";
+
+const TO_B_BY_AN_ESCAPE: &[u8] =
+    b"syntax = \"proto3\";\nimport \"b.proto\";\nimport \"\\x62.pro\" \"to\";\n";
+
+const TO_B_IN_TWO_WAYS: &[u8] =
+    b"syntax = \"proto3\";\nimport \"b.proto\";\nimport \"./b.proto\";\n";
+
+const TO_NOTHING: &[u8] = b"syntax = \"proto3\";\nimport \"\";\n";
+
+const DECLARES_M: &[u8] = b"syntax = \"proto3\";\nmessage M { }\n";
+
+const OPEN_STRING: &[u8] = b"syntax = \"proto3;\n";
+
+/// What a walk from these roots is refused with, or `linked`.
+fn walked<S: Sources>(alloc: Global, source: &mut S, roots: &[&str]) -> Result<String, AllocError> {
+    match link(alloc, source, ".", roots) {
+        Ok(_) => String::from_str(alloc, "linked"),
+        Err(error) => line(alloc, &error),
+    }
+}
+
+/// The same of a walk from `a.proto` over these files.
+fn from_a(alloc: Global, files: &[(&str, &[u8])]) -> Result<String, AllocError> {
+    walked(alloc, &mut Listed { files }, &["a.proto"])
+}
+
+#[test]
+fn a_file_stands_behind_those_that_it_imports(rt: HostRuntime) -> Result<(), Fail> {
+    let mut source = Listed {
+        files: &[("b.proto", TO_C), ("c.proto", EMPTY), ("a.proto", TO_B)],
+    };
+    let linked = link(rt.alloc(), &mut source, ".", &["a.proto", "b.proto"])
+        .ok()
+        .ok_or("the imports are followed")?;
+    assert_eq!(rt; linked.files().get_index_of("c.proto"), Some(0));
+    assert_eq!(rt; linked.files().get_index_of("b.proto"), Some(1));
+    assert_eq!(rt; linked.files().get_index_of("a.proto"), Some(2));
+    Ok(())
+}
+
+#[test]
+fn a_circle_of_one_file_is_refused(rt: HostRuntime) -> Result<(), Fail> {
+    let one = from_a(rt.alloc(), &[("a.proto", TO_A)])?;
+    assert_eq!(rt; one.as_str(), "E302 a.proto:2:8");
+    Ok(())
+}
+
+#[test]
+fn circles_of_two_and_three_files_are_refused_at_the_import_that_closes_them(
+    rt: HostRuntime,
+) -> Result<(), Fail> {
+    let two = from_a(rt.alloc(), &[("a.proto", TO_B), ("b.proto", TO_A)])?;
+    assert_eq!(rt; two.as_str(), "E302 b.proto:2:8");
+    let three = from_a(
+        rt.alloc(),
+        &[("a.proto", TO_B), ("b.proto", TO_C), ("c.proto", TO_A)],
+    )?;
+    assert_eq!(rt; three.as_str(), "E302 c.proto:2:8");
+    Ok(())
+}
+
+#[test]
+fn one_path_twice_in_a_file_is_refused(rt: HostRuntime) -> Result<(), Fail> {
+    let twice = from_a(rt.alloc(), &[("a.proto", TO_B_TWICE), ("b.proto", EMPTY)])?;
+    assert_eq!(rt; twice.as_str(), "E303 a.proto:3:8");
+    let escaped = from_a(
+        rt.alloc(),
+        &[("a.proto", TO_B_BY_AN_ESCAPE), ("b.proto", EMPTY)],
+    )?;
+    assert_eq!(rt; escaped.as_str(), "E303 a.proto:3:8");
+    Ok(())
+}
+
+#[test]
+fn the_first_import_is_followed_before_the_second_is_looked_at(
+    rt: HostRuntime,
+) -> Result<(), Fail> {
+    let fault = from_a(
+        rt.alloc(),
+        &[("a.proto", TO_B_TWICE), ("b.proto", OPEN_STRING)],
+    )?;
+    assert_eq!(rt; fault.as_str(), "lex b.proto:1:10");
+    Ok(())
+}
+
+#[test]
+fn a_missing_file_is_told_where_it_is_asked_for(rt: HostRuntime) -> Result<(), Fail> {
+    let root = from_a(rt.alloc(), &[])?;
+    assert_eq!(rt; root.as_str(), "E301 a.proto:0:0");
+    let import = from_a(rt.alloc(), &[("a.proto", TO_C)])?;
+    assert_eq!(rt; import.as_str(), "E301 a.proto:2:10");
+    Ok(())
+}
+
+#[test]
+fn a_text_of_no_file_is_refused_in_its_file(rt: HostRuntime) -> Result<(), Fail> {
+    let lexical = from_a(rt.alloc(), &[("a.proto", OPEN_STRING)])?;
+    assert_eq!(rt; lexical.as_str(), "lex a.proto:1:10");
+    let empty = from_a(rt.alloc(), &[("a.proto", TO_B), ("b.proto", b"")])?;
+    assert_eq!(rt; empty.as_str(), "syntax b.proto:1:1");
+    Ok(())
+}
+
+#[test]
+fn a_source_that_fails_at_its_second_call(rt: HostRuntime) -> Result<(), Fail> {
+    let files = Listed {
+        files: &[("a.proto", TO_B), ("b.proto", EMPTY)],
+    };
+    let failed = walked(rt.alloc(), &mut FailingSource::new(files, 2), &["a.proto"])?;
+    assert_eq!(rt; failed.as_str(), "E309 b.proto:0:0");
+    let never = walked(rt.alloc(), &mut FailingSource::new(files, 3), &["a.proto"])?;
+    assert_eq!(rt; never.as_str(), "linked");
+    Ok(())
+}
+
+/// A text with this many imports, of the files `0`, `1` and so on.
+fn importing(alloc: Global, count: u32) -> Result<String, AllocError> {
+    let mut text = String::from_str(alloc, "syntax = \"proto3\";\n")?;
+    for number in 0..count {
+        let import = format!(in alloc; "import \"{number}\";\n")?;
+        text.push_str(import.as_str())?;
+    }
+    Ok(text)
+}
+
+/// What the source has for the last of many files.
+#[derive(Clone, Copy)]
+enum Last {
+    Nothing,
+    Empty,
+    OpenString,
+}
+
+/// What a walk is refused with from a root that imports this many files, of which all but the last are empty. The
+/// source fails at its read of this number, counted from 1.
+fn with_last(alloc: Global, count: u32, last: Last, fails_at: u64) -> Result<String, AllocError> {
+    let text = importing(alloc, count)?;
+    let before = count.saturating_sub(1);
+    let mut names = Vec::new(alloc);
+    for number in 0..before {
+        names.push(format!(in alloc; "{number}")?)?;
+    }
+    let last_name = format!(in alloc; "{before}")?;
+    let mut files = Vec::new(alloc);
+    files.push(("a.proto", text.as_str().as_bytes()))?;
+    for name in &names {
+        files.push((name.as_str(), EMPTY))?;
+    }
+    match last {
+        Last::Nothing => {}
+        Last::Empty => files.push((last_name.as_str(), EMPTY))?,
+        Last::OpenString => files.push((last_name.as_str(), OPEN_STRING))?,
+    }
+    let listed = Listed { files: &files };
+    walked(
+        alloc,
+        &mut FailingSource::new(listed, fails_at),
+        &["a.proto"],
+    )
+}
+
+#[test]
+fn as_many_files_as_there_may_be(rt: HostRuntime) -> Result<(), Fail> {
+    let most = with_last(rt.alloc(), 1023, Last::Empty, 0)?;
+    assert_eq!(rt; most.as_str(), "linked");
+    let more = with_last(rt.alloc(), 1024, Last::Empty, 0)?;
+    assert_eq!(rt; more.as_str(), "E308 a.proto:1025:8");
+    Ok(())
+}
+
+/// The source is asked for the file before the files are counted, and they are counted before its text is looked at.
+#[test]
+fn a_file_too_many_is_read_before_it_is_told(rt: HostRuntime) -> Result<(), Fail> {
+    let missing = with_last(rt.alloc(), 1024, Last::Nothing, 0)?;
+    assert_eq!(rt; missing.as_str(), "E301 a.proto:1025:8");
+    let failed = with_last(rt.alloc(), 1024, Last::Empty, 1025)?;
+    assert_eq!(rt; failed.as_str(), "E309 1023:0:0");
+    let broken = with_last(rt.alloc(), 1024, Last::OpenString, 0)?;
+    assert_eq!(rt; broken.as_str(), "E308 a.proto:1025:8");
+    Ok(())
+}
+
+/// The paths of the files from these roots, in their order.
+fn paths(alloc: Global, files: &[(&str, &[u8])], roots: &[&str]) -> Result<String, AllocError> {
+    let mut text = String::new(alloc);
+    let Ok(linked) = link(alloc, &mut Listed { files }, ".", roots) else {
+        return Ok(text);
+    };
+    for number in 0..linked.files().len() {
+        if let Some((path, _)) = linked.files().get_index(number) {
+            text.push_str(path.as_str())?;
+            text.push_str(" ")?;
+        }
+    }
+    Ok(text)
+}
+
+#[test]
+fn a_root_that_was_read_is_read_once(rt: HostRuntime) -> Result<(), Fail> {
+    let files: [(&str, &[u8]); 2] = [("a.proto", TO_B), ("b.proto", EMPTY)];
+    let twice = paths(rt.alloc(), &files, &["b.proto", "b.proto"])?;
+    assert_eq!(rt; twice.as_str(), "b.proto ");
+    let imported = paths(rt.alloc(), &files, &["a.proto", "b.proto"])?;
+    assert_eq!(rt; imported.as_str(), "b.proto a.proto ");
+    let importing = paths(rt.alloc(), &files, &["b.proto", "a.proto"])?;
+    assert_eq!(rt; importing.as_str(), "b.proto a.proto ");
+    // a third read would fail
+    let listed = Listed { files: &files };
+    let mut source = FailingSource::new(listed, 3);
+    let once = walked(rt.alloc(), &mut source, &["b.proto", "a.proto", "b.proto"])?;
+    assert_eq!(rt; once.as_str(), "linked");
+    Ok(())
+}
+
+/// Paths are compared and asked for as they stand.
+#[test]
+fn two_spellings_of_a_path_are_two_files(rt: HostRuntime) -> Result<(), Fail> {
+    let files: [(&str, &[u8]); 3] = [
+        ("a.proto", TO_B_IN_TWO_WAYS),
+        ("b.proto", DECLARES_M),
+        ("./b.proto", DECLARES_M),
+    ];
+    let named = from_a(rt.alloc(), &files)?;
+    assert_eq!(rt; named.as_str(), "E304 ./b.proto:2:9");
+    let empty = paths(
+        rt.alloc(),
+        &[
+            ("a.proto", TO_B_IN_TWO_WAYS),
+            ("b.proto", EMPTY),
+            ("./b.proto", EMPTY),
+        ],
+        &["a.proto"],
+    )?;
+    assert_eq!(rt; empty.as_str(), "b.proto ./b.proto a.proto ");
+    let none = from_a(rt.alloc(), &[("a.proto", TO_NOTHING)])?;
+    assert_eq!(rt; none.as_str(), "E301 a.proto:2:8");
+    Ok(())
+}
+
+#[test]
+fn a_folder_is_left_out_where_it_is_a_dot_alone(rt: HostRuntime) -> Result<(), Fail> {
+    let mut dotted = Listed {
+        files: &[(".//a.proto", EMPTY)],
+    };
+    assert!(rt; link(rt.alloc(), &mut dotted, "./", &["a.proto"]).is_ok());
+    assert!(rt; link(rt.alloc(), &mut dotted, ".", &["a.proto"]).is_err());
+    assert!(rt; link(rt.alloc(), &mut dotted, ".", &[".//a.proto"]).is_ok());
+    Ok(())
+}

@@ -1,0 +1,304 @@
+//! The table of gaps, and small pairs with their choices and children.
+
+mod breaking;
+mod carrying;
+mod children;
+mod choices;
+mod least_cost;
+mod maps;
+mod memory;
+mod schemas;
+mod tables;
+
+use pg_pairs::{Gap, gap};
+use pg_schema::Scalar;
+
+const UNLIKE: Gap = Gap::Unlike;
+
+const NONE: Gap = Gap::None;
+
+const SCALARS: [Scalar; 15] = [
+    Scalar::Int32,
+    Scalar::Int64,
+    Scalar::Uint32,
+    Scalar::Uint64,
+    Scalar::Bool,
+    Scalar::Sint32,
+    Scalar::Sint64,
+    Scalar::Fixed32,
+    Scalar::Fixed64,
+    Scalar::Sfixed32,
+    Scalar::Sfixed64,
+    Scalar::Float,
+    Scalar::Double,
+    Scalar::String,
+    Scalar::Bytes,
+];
+
+// A row for each old scalar type, and in it a cell for each new one, in the order above.
+const GAPS: [[Gap; 15]; 15] = [
+    [
+        NONE,
+        NONE,
+        Gap::Least {
+            body: 10,
+            value: -1,
+        },
+        Gap::Least {
+            body: 10,
+            value: -1,
+        },
+        Gap::Least { body: 1, value: 2 },
+        Gap::Least { body: 1, value: 1 },
+        Gap::Least { body: 1, value: 1 },
+        UNLIKE,
+        UNLIKE,
+        UNLIKE,
+        UNLIKE,
+        UNLIKE,
+        UNLIKE,
+        UNLIKE,
+        UNLIKE,
+    ],
+    [
+        Gap::Least {
+            body: 5,
+            value: 0x8000_0000,
+        },
+        NONE,
+        Gap::Least {
+            body: 5,
+            value: 0x1_0000_0000,
+        },
+        Gap::Least {
+            body: 10,
+            value: -1,
+        },
+        Gap::Least { body: 1, value: 2 },
+        Gap::Least { body: 1, value: 1 },
+        Gap::Least { body: 1, value: 1 },
+        UNLIKE,
+        UNLIKE,
+        UNLIKE,
+        UNLIKE,
+        UNLIKE,
+        UNLIKE,
+        UNLIKE,
+        UNLIKE,
+    ],
+    [
+        Gap::Least {
+            body: 5,
+            value: 0x8000_0000,
+        },
+        NONE,
+        NONE,
+        NONE,
+        Gap::Least { body: 1, value: 2 },
+        Gap::Least { body: 1, value: 1 },
+        Gap::Least { body: 1, value: 1 },
+        UNLIKE,
+        UNLIKE,
+        UNLIKE,
+        UNLIKE,
+        UNLIKE,
+        UNLIKE,
+        UNLIKE,
+        UNLIKE,
+    ],
+    [
+        Gap::Least {
+            body: 5,
+            value: 0x8000_0000,
+        },
+        Gap::Least {
+            body: 10,
+            value: 0x8000_0000_0000_0000,
+        },
+        Gap::Least {
+            body: 5,
+            value: 0x1_0000_0000,
+        },
+        NONE,
+        Gap::Least { body: 1, value: 2 },
+        Gap::Least { body: 1, value: 1 },
+        Gap::Least { body: 1, value: 1 },
+        UNLIKE,
+        UNLIKE,
+        UNLIKE,
+        UNLIKE,
+        UNLIKE,
+        UNLIKE,
+        UNLIKE,
+        UNLIKE,
+    ],
+    [
+        NONE,
+        NONE,
+        NONE,
+        NONE,
+        NONE,
+        Gap::Least { body: 1, value: 1 },
+        Gap::Least { body: 1, value: 1 },
+        UNLIKE,
+        UNLIKE,
+        UNLIKE,
+        UNLIKE,
+        UNLIKE,
+        UNLIKE,
+        UNLIKE,
+        UNLIKE,
+    ],
+    [
+        Gap::Least { body: 1, value: -1 },
+        Gap::Least { body: 1, value: -1 },
+        Gap::Least { body: 1, value: -1 },
+        Gap::Least { body: 1, value: -1 },
+        Gap::Least { body: 1, value: -1 },
+        NONE,
+        NONE,
+        UNLIKE,
+        UNLIKE,
+        UNLIKE,
+        UNLIKE,
+        UNLIKE,
+        UNLIKE,
+        UNLIKE,
+        UNLIKE,
+    ],
+    [
+        Gap::Least { body: 1, value: -1 },
+        Gap::Least { body: 1, value: -1 },
+        Gap::Least { body: 1, value: -1 },
+        Gap::Least { body: 1, value: -1 },
+        Gap::Least { body: 1, value: -1 },
+        Gap::Least {
+            body: 5,
+            value: 0x8000_0000,
+        },
+        NONE,
+        UNLIKE,
+        UNLIKE,
+        UNLIKE,
+        UNLIKE,
+        UNLIKE,
+        UNLIKE,
+        UNLIKE,
+        UNLIKE,
+    ],
+    [
+        UNLIKE,
+        UNLIKE,
+        UNLIKE,
+        UNLIKE,
+        UNLIKE,
+        UNLIKE,
+        UNLIKE,
+        NONE,
+        UNLIKE,
+        Gap::Least {
+            body: 4,
+            value: 0x8000_0000,
+        },
+        UNLIKE,
+        UNLIKE,
+        UNLIKE,
+        UNLIKE,
+        UNLIKE,
+    ],
+    [
+        UNLIKE,
+        UNLIKE,
+        UNLIKE,
+        UNLIKE,
+        UNLIKE,
+        UNLIKE,
+        UNLIKE,
+        UNLIKE,
+        NONE,
+        UNLIKE,
+        Gap::Least {
+            body: 8,
+            value: 0x8000_0000_0000_0000,
+        },
+        UNLIKE,
+        UNLIKE,
+        UNLIKE,
+        UNLIKE,
+    ],
+    [
+        UNLIKE,
+        UNLIKE,
+        UNLIKE,
+        UNLIKE,
+        UNLIKE,
+        UNLIKE,
+        UNLIKE,
+        Gap::Least { body: 4, value: -1 },
+        UNLIKE,
+        NONE,
+        UNLIKE,
+        UNLIKE,
+        UNLIKE,
+        UNLIKE,
+        UNLIKE,
+    ],
+    [
+        UNLIKE,
+        UNLIKE,
+        UNLIKE,
+        UNLIKE,
+        UNLIKE,
+        UNLIKE,
+        UNLIKE,
+        UNLIKE,
+        Gap::Least { body: 8, value: -1 },
+        UNLIKE,
+        NONE,
+        UNLIKE,
+        UNLIKE,
+        UNLIKE,
+        UNLIKE,
+    ],
+    [
+        UNLIKE, UNLIKE, UNLIKE, UNLIKE, UNLIKE, UNLIKE, UNLIKE, UNLIKE, UNLIKE, UNLIKE, UNLIKE,
+        NONE, UNLIKE, UNLIKE, UNLIKE,
+    ],
+    [
+        UNLIKE, UNLIKE, UNLIKE, UNLIKE, UNLIKE, UNLIKE, UNLIKE, UNLIKE, UNLIKE, UNLIKE, UNLIKE,
+        UNLIKE, NONE, UNLIKE, UNLIKE,
+    ],
+    [
+        UNLIKE, UNLIKE, UNLIKE, UNLIKE, UNLIKE, UNLIKE, UNLIKE, UNLIKE, UNLIKE, UNLIKE, UNLIKE,
+        UNLIKE, UNLIKE, NONE, NONE,
+    ],
+    [
+        UNLIKE,
+        UNLIKE,
+        UNLIKE,
+        UNLIKE,
+        UNLIKE,
+        UNLIKE,
+        UNLIKE,
+        UNLIKE,
+        UNLIKE,
+        UNLIKE,
+        UNLIKE,
+        UNLIKE,
+        UNLIKE,
+        Gap::Least {
+            body: 2,
+            value: 0x80,
+        },
+        NONE,
+    ],
+];
+
+#[test]
+fn gaps_are_those_of_the_table(rt: HostRuntime) {
+    for old in 0..15 {
+        for new in 0..15 {
+            assert_eq!(rt; gap(SCALARS[old], SCALARS[new]), GAPS[old][new]);
+        }
+    }
+}

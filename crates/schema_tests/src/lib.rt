@@ -1,0 +1,7 @@
+//! Tests of `pg_schema` by its public calls, in a crate of their own so that what they test is proved once.
+#![tactic(auto)]
+
+#[cfg(test)]
+mod rule_tests;
+#[cfg(test)]
+mod tests;
