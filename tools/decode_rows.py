@@ -1,7 +1,7 @@
 #!/usr/bin/python3
-"""Makes the rows of crates/pg_dyn/src/tests/rows.rt: byte strings, and what python3-protobuf (its C++ core) reads and writes again.
+"""Makes the rows of crates/dyn_tests/src/tests/rows.rt: byte strings, and what python3-protobuf (its C++ core) reads and writes again.
 
-Run `/usr/bin/python3 tools/decode_rows.py > crates/pg_dyn/src/tests/rows.rt`, then `rt fmt` in crates/pg_dyn. The rows are always the
+Run `/usr/bin/python3 tools/decode_rows.py > crates/dyn_tests/src/tests/rows.rt`, then `rt fmt` in crates/dyn_tests. The rows are always the
 same. They leave out what is told apart by choice: groups, which that runtime skips; unknown records with longer varints, which it
 writes with the shortest; and unknown records in a map's entry, which it keeps until the map is looked at.
 """
