@@ -1,0 +1,24 @@
+#!/bin/sh
+# Gates message types against an earlier release: is what it wrote read whole by what would be released?
+# usage: gate.sh REVISION FOLDER FILE TYPE..
+# FOLDER is below the top of the repository, FILE below FOLDER. The status is the highest of the gate's.
+set -eu
+if [ $# -lt 4 ]; then
+    echo "usage: $0 REVISION FOLDER FILE TYPE.." >&2
+    exit 4
+fi
+revision=$1
+folder=$2
+file=$3
+shift 3
+old=$(mktemp -d)
+trap 'rm -rf -- "$old"' EXIT
+git archive --format=tar "$revision" -- "$folder" >"$old/old.tar"
+tar -xf "$old/old.tar" -C "$old"
+worst=0
+for type in "$@"; do
+    status=0
+    "${PROTOGATE:-protogate}" gate --old-dir "$old/$folder" --new-dir "$folder" --old "$file" --new "$file" --type "$type" || status=$?
+    [ "$status" -le "$worst" ] || worst=$status
+done
+exit "$worst"

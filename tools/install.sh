@@ -1,0 +1,16 @@
+#!/bin/sh
+# Installs the built program and its page: tools/install.sh [PREFIX], by default /usr/local. It proves and builds first where it has to.
+set -eu
+root=$(CDPATH= cd -- "$(dirname -- "$0")/.." && pwd -P)
+prefix=${1:-/usr/local}
+status=0
+"$root/protogate" --help >/dev/null || status=$?
+# Help ends with 4.
+if [ "$status" -ne 4 ]; then
+    echo "install: protogate isn't built" >&2
+    exit 1
+fi
+mkdir -p -- "$prefix/bin" "$prefix/share/man/man1"
+install -m 755 "$root/crates/protogate/out/protogate" "$prefix/bin/protogate"
+install -m 644 "$root/docs/protogate.1" "$prefix/share/man/man1/protogate.1"
+echo "installed $prefix/bin/protogate"
