@@ -3,6 +3,7 @@ mod declaring_tests;
 mod failing_source;
 mod folder_tests;
 mod link_tests;
+mod linking;
 mod memory;
 mod scope_tests;
 mod shown;

@@ -1,5 +1,6 @@
 //! Where the names of a file stand, one by one.
-use pg_link::{Linked, Listed, link};
+use super::linking::linked;
+use pg_link::Linked;
 use std::alloc::Global;
 use std::test::*;
 
@@ -7,15 +8,9 @@ use std::test::*;
 const FILE: &str = "m.proto";
 
 /// The links of a file of this text.
-fn linked(alloc: Global, text: &[u8]) -> Result<Linked, Fail> {
-    let mut source = Listed {
-        files: &[(FILE, text)],
-    };
-    Ok(
-        link(alloc, &mut source, ".", &[FILE])
-            .ok()
-            .ok_or("the file is linked")?,
-    )
+fn links(alloc: Global, text: &[u8]) -> Result<Linked, Fail> {
+    let found = linked(alloc, &[(FILE, text)], ".", &[FILE]);
+    Ok(found.ok().ok_or("the file is linked")?)
 }
 
 const EACH_KIND: &[u8] = b"syntax = \"proto3\"; enum E { A = 0; } package a.b;
@@ -27,7 +22,7 @@ const ENTRIES: &[u8] =
 
 #[test]
 fn each_declaration_has_its_full_name(rt: HostRuntime) -> Result<(), Fail> {
-    let files = linked(rt.alloc(), EACH_KIND)?;
+    let files = links(rt.alloc(), EACH_KIND)?;
     assert_eq!(rt; files.place("a.b.E"), Some((FILE, 1, 25)));
     // A value is a sibling of its enum.
     assert_eq!(rt; files.place("a.b.A"), Some((FILE, 1, 29)));
@@ -46,7 +41,7 @@ fn each_declaration_has_its_full_name(rt: HostRuntime) -> Result<(), Fail> {
 /// The type of a map's entries stands at the map's name, and a member beside its oneof.
 #[test]
 fn a_map_declares_its_entries(rt: HostRuntime) -> Result<(), Fail> {
-    let files = linked(rt.alloc(), ENTRIES)?;
+    let files = links(rt.alloc(), ENTRIES)?;
     assert_eq!(rt; files.place("M.foo_bar"), Some((FILE, 2, 27)));
     assert_eq!(rt; files.place("M.FooBarEntry"), Some((FILE, 2, 27)));
     assert_eq!(rt; files.place("M.o"), Some((FILE, 2, 46)));

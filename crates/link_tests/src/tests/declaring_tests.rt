@@ -1,6 +1,5 @@
 //! Which names may stand twice, and which may not.
-use super::shown::line;
-use pg_link::{Listed, link};
+use super::linking::{linked, told};
 use std::alloc::{AllocError, Global};
 use std::test::*;
 
@@ -8,19 +7,11 @@ const PART_P: &[u8] = b"syntax = \"proto3\";\npackage p.q;\n";
 
 const MESSAGE_P: &[u8] = b"syntax = \"proto3\";\nmessage p { }\n";
 
-/// What is wrong with the names of these files, of which each is a root, or `linked`.
-fn named(alloc: Global, files: &[(&str, &[u8])], roots: &[&str]) -> Result<String, AllocError> {
-    match link(alloc, &mut Listed { files }, ".", roots) {
-        Ok(_) => String::from_str(alloc, "linked"),
-        Err(error) => line(alloc, &error),
-    }
-}
-
-/// The same of one file with this second line.
+/// What is wrong with the names of a file with this second line, or `linked`.
 fn second_line(alloc: Global, line: &str) -> Result<String, AllocError> {
     let mut text = String::from_str(alloc, "syntax = \"proto3\";\n")?;
     text.push_str(line)?;
-    named(
+    told(
         alloc,
         &[("m.proto", text.as_str().as_bytes())],
         &["m.proto"],
@@ -65,22 +56,19 @@ fn the_entries_of_a_map_are_declared_behind_its_field(rt: HostRuntime) -> Result
 
 #[test]
 fn a_package_part_stands_in_several_files(rt: HostRuntime) -> Result<(), Fail> {
-    let mut source = Listed {
-        files: &[("a.proto", PART_P), ("b.proto", PART_P)],
-    };
-    let linked = link(rt.alloc(), &mut source, ".", &["a.proto", "b.proto"])
-        .ok()
-        .ok_or("a package may stand in two files")?;
-    assert_eq!(rt; linked.place("p.q"), Some(("a.proto", 2, 11)));
+    let files: [(&str, &[u8]); 2] = [("a.proto", PART_P), ("b.proto", PART_P)];
+    let found = linked(rt.alloc(), &files, ".", &["a.proto", "b.proto"]);
+    let found = found.ok().ok_or("a package may stand in two files")?;
+    assert_eq!(rt; found.place("p.q"), Some(("a.proto", 2, 11)));
     Ok(())
 }
 
 #[test]
 fn a_package_part_clashes_with_a_message(rt: HostRuntime) -> Result<(), Fail> {
     let files: [(&str, &[u8]); 2] = [("a.proto", PART_P), ("b.proto", MESSAGE_P)];
-    let message = named(rt.alloc(), &files, &["a.proto", "b.proto"])?;
+    let message = told(rt.alloc(), &files, &["a.proto", "b.proto"])?;
     assert_eq!(rt; message.as_str(), "E304 b.proto:2:9");
-    let part = named(rt.alloc(), &files, &["b.proto", "a.proto"])?;
+    let part = told(rt.alloc(), &files, &["b.proto", "a.proto"])?;
     assert_eq!(rt; part.as_str(), "E304 a.proto:2:9");
     Ok(())
 }

@@ -1,5 +1,6 @@
+use super::linking::{linked, told};
 use super::shown::line;
-use pg_link::{Linked, Listed, Target, link};
+use pg_link::{Linked, Target};
 use pg_syntax::tree::{Part, Statement};
 use std::alloc::{AllocError, Global};
 use std::test::*;
@@ -14,19 +15,15 @@ const USES_K: &[u8] = b"syntax = \"proto3\";\nimport \"b.proto\";\nmessage M { K
 
 const DECLARES_K: &[u8] = b"syntax = \"proto3\";\nmessage K { }\n";
 
-/// `linked`, or what the program prints of the refusal.
-fn from_root(alloc: Global, files: &[(&str, &[u8])], root: &str) -> Result<String, AllocError> {
-    match link(alloc, &mut Listed { files }, ".", &[root]) {
-        Ok(_) => String::from_str(alloc, "linked"),
-        Err(error) => line(alloc, &error),
-    }
-}
-
-/// The same of one file with these lines behind the first.
+/// `linked`, or what the program prints of the refusal of one file with these lines behind the first.
 fn lines(alloc: Global, lines: &str) -> Result<String, AllocError> {
     let mut text = String::from_str(alloc, "syntax = \"proto3\";\n")?;
     text.push_str(lines)?;
-    from_root(alloc, &[("m.proto", text.as_str().as_bytes())], "m.proto")
+    told(
+        alloc,
+        &[("m.proto", text.as_str().as_bytes())],
+        &["m.proto"],
+    )
 }
 
 /// The targets of the first file, each by a letter and its number.
@@ -45,13 +42,13 @@ fn letters(alloc: Global, linked: &Linked) -> Result<String, AllocError> {
     Ok(text)
 }
 
-/// The same of one file with these lines behind the first.
+/// Those of one file with these lines behind the first.
 fn targets(alloc: Global, lines: &str) -> Result<String, AllocError> {
     let mut text = String::from_str(alloc, "syntax = \"proto3\";\n")?;
     text.push_str(lines)?;
     let files: [(&str, &[u8]); 1] = [("m.proto", text.as_str().as_bytes())];
-    match link(alloc, &mut Listed { files: &files }, ".", &["m.proto"]) {
-        Ok(linked) => letters(alloc, &linked),
+    match linked(alloc, &files, ".", &["m.proto"]) {
+        Ok(found) => letters(alloc, &found),
         Err(error) => line(alloc, &error),
     }
 }
@@ -71,24 +68,24 @@ fn the_first_part_of_a_dotted_name_decides(rt: HostRuntime) -> Result<(), Fail> 
 
 #[test]
 fn an_import_hands_on_what_it_imports_publicly(rt: HostRuntime) -> Result<(), Fail> {
-    let hidden = from_root(
+    let hidden = told(
         rt.alloc(),
         &[
             ("a.proto", USES_K),
             ("b.proto", TO_C),
             ("c.proto", DECLARES_K),
         ],
-        "a.proto",
+        &["a.proto"],
     )?;
     assert_eq!(rt; hidden.as_str(), "E307 a.proto:3:13");
-    let public = from_root(
+    let public = told(
         rt.alloc(),
         &[
             ("a.proto", USES_K),
             ("b.proto", K_PUBLICLY),
             ("c.proto", DECLARES_K),
         ],
-        "a.proto",
+        &["a.proto"],
     )?;
     assert_eq!(rt; public.as_str(), "linked");
     Ok(())
@@ -170,7 +167,7 @@ fn an_rpc_takes_message_types(rt: HostRuntime) -> Result<(), Fail> {
 
 #[test]
 fn an_enum_that_is_not_imported_is_hidden_from_an_rpc(rt: HostRuntime) -> Result<(), Fail> {
-    let hidden = from_root(
+    let hidden = told(
         rt.alloc(),
         &[
             (
@@ -180,7 +177,7 @@ fn an_enum_that_is_not_imported_is_hidden_from_an_rpc(rt: HostRuntime) -> Result
             ("b.proto", TO_C),
             ("c.proto", b"syntax = \"proto3\";\nenum E { A = 0; }\n"),
         ],
-        "a.proto",
+        &["a.proto"],
     )?;
     assert_eq!(rt; hidden.as_str(), "E307 a.proto:3:20");
     Ok(())
@@ -209,15 +206,12 @@ const WITH_PACKAGE: &[u8] = b"syntax = \"proto3\";\npackage p;\nmessage M {\n  M
 
 #[test]
 fn a_full_name_has_the_place_of_its_word(rt: HostRuntime) -> Result<(), Fail> {
-    let mut source = Listed {
-        files: &[("d/m.proto", WITH_PACKAGE)],
-    };
-    let linked = link(rt.alloc(), &mut source, "d", &["m.proto"])
-        .ok()
-        .ok_or("the file is linked")?;
-    assert_eq!(rt; linked.place("p.M"), Some(("m.proto", 3, 9)));
-    assert_eq!(rt; linked.place("p.M.field"), Some(("m.proto", 4, 5)));
-    assert_eq!(rt; linked.place(".p.M"), None);
+    let files: [(&str, &[u8]); 1] = [("d/m.proto", WITH_PACKAGE)];
+    let found = linked(rt.alloc(), &files, "d", &["m.proto"]);
+    let found = found.ok().ok_or("the file is linked")?;
+    assert_eq!(rt; found.place("p.M"), Some(("m.proto", 3, 9)));
+    assert_eq!(rt; found.place("p.M.field"), Some(("m.proto", 4, 5)));
+    assert_eq!(rt; found.place(".p.M"), None);
     Ok(())
 }
 
@@ -243,15 +237,12 @@ fn resolved(alloc: Global, linked: &Linked, scope: &[&str]) -> Result<String, Al
 
 #[test]
 fn a_name_is_resolved_in_a_scope(rt: HostRuntime) -> Result<(), Fail> {
-    let mut source = Listed {
-        files: &[("m.proto", WITH_PACKAGE)],
-    };
-    let linked = link(rt.alloc(), &mut source, ".", &["m.proto"])
-        .ok()
-        .ok_or("the file is linked")?;
-    let inside = resolved(rt.alloc(), &linked, &["p", "M"])?;
+    let files: [(&str, &[u8]); 1] = [("m.proto", WITH_PACKAGE)];
+    let found = linked(rt.alloc(), &files, ".", &["m.proto"]);
+    let found = found.ok().ok_or("the file is linked")?;
+    let inside = resolved(rt.alloc(), &found, &["p", "M"])?;
     assert_eq!(rt; inside.as_str(), "p.M");
-    let outside = resolved(rt.alloc(), &linked, &[])?;
+    let outside = resolved(rt.alloc(), &found, &[])?;
     assert_eq!(rt; outside.as_str(), "E305 m.proto:0:0");
     Ok(())
 }

@@ -1,6 +1,6 @@
 //! Each allocation refused in turn: `rt try --test --fail-alloc N`.
+use super::linking::linked;
 use super::shown::line;
-use pg_link::{Listed, link};
 use std::test::*;
 
 const A: &[u8] = b"syntax = \"proto3\";\npackage p.q;\nimport \"b.proto\";\nimport \"c.proto\";\n\
@@ -18,8 +18,8 @@ const LACKS: &[u8] = b"syntax = \"proto3\";\nimport \"d.proto\";\n";
 fn a_refused_growth_of_links_is_told(rt: HostRuntime) -> Result<(), Fail> {
     let alloc = rt.alloc();
     let files: [(&str, &[u8]); 3] = [("a.proto", A), ("b.proto", B), ("c.proto", C)];
-    match link(alloc, &mut Listed { files: &files }, ".", &["a.proto"]) {
-        Ok(linked) => assert_eq!(rt; linked.files().len(), 3),
+    match linked(alloc, &files, ".", &["a.proto"]) {
+        Ok(links) => assert_eq!(rt; links.files().len(), 3),
         Err(error) => assert_eq!(rt; line(alloc, &error)?.as_str(), "E001"),
     }
     Ok(())
@@ -30,7 +30,7 @@ fn a_refused_growth_of_links_is_told(rt: HostRuntime) -> Result<(), Fail> {
 fn a_refused_growth_of_a_place_is_told(rt: HostRuntime) -> Result<(), Fail> {
     let alloc = rt.alloc();
     let files: [(&str, &[u8]); 1] = [("a.proto", LACKS)];
-    match link(alloc, &mut Listed { files: &files }, ".", &["a.proto"]) {
+    match linked(alloc, &files, ".", &["a.proto"]) {
         Ok(_) => return Err(Fail::from("linked")),
         Err(error) => {
             let told = line(alloc, &error)?;
@@ -45,13 +45,13 @@ fn a_refused_growth_of_a_place_is_told(rt: HostRuntime) -> Result<(), Fail> {
 fn a_refused_growth_of_targets_is_told(rt: HostRuntime) -> Result<(), Fail> {
     let alloc = rt.alloc();
     let files: [(&str, &[u8]); 1] = [("c.proto", C)];
-    let Ok(linked) = link(alloc, &mut Listed { files: &files }, ".", &["c.proto"]) else {
+    let Ok(links) = linked(alloc, &files, ".", &["c.proto"]) else {
         return Ok(());
     };
-    if linked.files().is_empty() {
+    if links.files().is_empty() {
         return Err(Fail::from("no file"));
     }
-    if let Ok(found) = linked.targets_by_place(alloc, 0) {
+    if let Ok(found) = links.targets_by_place(alloc, 0) {
         assert_eq!(rt; found.len(), 1);
     }
     Ok(())

@@ -1,22 +1,14 @@
 //! Which of several faults of names is told, and where names are sought.
-use super::shown::line;
-use pg_link::{Listed, Target, link, place_in};
+use super::linking::{linked, told};
+use pg_link::{Target, place_in};
 use std::alloc::{AllocError, Global};
 use std::test::*;
 
-/// `linked`, or what the program prints of the refusal of these files from these roots.
-fn from(alloc: Global, files: &[(&str, &[u8])], roots: &[&str]) -> Result<String, AllocError> {
-    match link(alloc, &mut Listed { files }, ".", roots) {
-        Ok(_) => String::from_str(alloc, "linked"),
-        Err(error) => line(alloc, &error),
-    }
-}
-
-/// The same of one file with these lines behind the first.
+/// `linked`, or what the program prints of the refusal of one file with these lines behind the first.
 fn lines(alloc: Global, lines: &str) -> Result<String, AllocError> {
     let mut text = String::from_str(alloc, "syntax = \"proto3\";\n")?;
     text.push_str(lines)?;
-    from(
+    told(
         alloc,
         &[("m.proto", text.as_str().as_bytes())],
         &["m.proto"],
@@ -33,13 +25,13 @@ const PACKAGE_LAST: &[u8] = b"syntax = \"proto3\";\nmessage X { } message X { } 
 #[test]
 fn of_names_that_stand_twice_the_first_is_told(rt: HostRuntime) -> Result<(), Fail> {
     let roots: [&str; 2] = ["a.proto", "b.proto"];
-    let first = from(
+    let first = told(
         rt.alloc(),
         &[("a.proto", MESSAGE_P), ("b.proto", PACKAGE_FIRST)],
         &roots,
     )?;
     assert_eq!(rt; first.as_str(), "E304 b.proto:2:9");
-    let last = from(
+    let last = told(
         rt.alloc(),
         &[("a.proto", MESSAGE_P), ("b.proto", PACKAGE_LAST)],
         &roots,
@@ -64,9 +56,9 @@ const FOO_IN: &[u8] = b"syntax = \"proto3\";\npackage q.foo.r;\n";
 #[test]
 fn a_part_of_a_package_clashes_with_what_bears_its_name(rt: HostRuntime) -> Result<(), Fail> {
     let files: [(&str, &[u8]); 2] = [("a.proto", IN_FOO), ("b.proto", FOO_IN)];
-    let part = from(rt.alloc(), &files, &["a.proto", "b.proto"])?;
+    let part = told(rt.alloc(), &files, &["a.proto", "b.proto"])?;
     assert_eq!(rt; part.as_str(), "E304 b.proto:2:11");
-    let message = from(rt.alloc(), &files, &["b.proto", "a.proto"])?;
+    let message = told(rt.alloc(), &files, &["b.proto", "a.proto"])?;
     assert_eq!(rt; message.as_str(), "E304 a.proto:3:9");
     Ok(())
 }
@@ -74,7 +66,7 @@ fn a_part_of_a_package_clashes_with_what_bears_its_name(rt: HostRuntime) -> Resu
 /// Names differ in all files that are linked, also in files that don't see each other.
 #[test]
 fn files_that_do_not_see_each_other_share_no_name(rt: HostRuntime) -> Result<(), Fail> {
-    let twice = from(
+    let twice = told(
         rt.alloc(),
         &[("a.proto", MESSAGE_P), ("b.proto", MESSAGE_P)],
         &["a.proto", "b.proto"],
@@ -144,7 +136,7 @@ const USES_S: &[u8] = b"syntax = \"proto3\";\nmessage M { .S s = 1; }\n";
 #[test]
 fn what_is_seen_is_sought_before_what_is_not(rt: HostRuntime) -> Result<(), Fail> {
     let roots: [&str; 2] = ["a.proto", "c.proto"];
-    let field = from(
+    let field = told(
         rt.alloc(),
         &[
             ("a.proto", USES_NF),
@@ -154,7 +146,7 @@ fn what_is_seen_is_sought_before_what_is_not(rt: HostRuntime) -> Result<(), Fail
         &roots,
     )?;
     assert_eq!(rt; field.as_str(), "E306 a.proto:4:13");
-    let service = from(
+    let service = told(
         rt.alloc(),
         &[("a.proto", USES_S), ("c.proto", SERVICE_S)],
         &roots,
@@ -176,7 +168,7 @@ const PACKAGE_XP: &[u8] = b"syntax = \"proto3\";\npackage x.p;\n";
 #[test]
 fn a_part_of_a_package_that_is_not_seen_shadows_nothing(rt: HostRuntime) -> Result<(), Fail> {
     let roots: [&str; 2] = ["a.proto", "c.proto"];
-    let unseen = from(
+    let unseen = told(
         rt.alloc(),
         &[
             ("a.proto", USES_PK),
@@ -186,7 +178,7 @@ fn a_part_of_a_package_that_is_not_seen_shadows_nothing(rt: HostRuntime) -> Resu
         &roots,
     )?;
     assert_eq!(rt; unseen.as_str(), "linked");
-    let seen = from(
+    let seen = told(
         rt.alloc(),
         &[
             ("a.proto", USES_PK_SEES_XP),
@@ -220,12 +212,9 @@ const USES_E_AND_M: &[u8] =
 
 #[test]
 fn what_a_use_resolves_to_is_found_by_its_first_byte(rt: HostRuntime) -> Result<(), Fail> {
-    let mut source = Listed {
-        files: &[("m.proto", USES_E_AND_M)],
-    };
-    let linked = link(rt.alloc(), &mut source, ".", &["m.proto"])
-        .ok()
-        .ok_or("the file is linked")?;
+    let files: [(&str, &[u8]); 1] = [("m.proto", USES_E_AND_M)];
+    let linked = linked(rt.alloc(), &files, ".", &["m.proto"]);
+    let linked = linked.ok().ok_or("the file is linked")?;
     if linked.files().is_empty() {
         return Err(Fail::from("no file"));
     }

@@ -1,6 +1,6 @@
 use super::failing_source::FailingSource;
-use super::shown::line;
-use pg_link::{Listed, Sources, link};
+use super::linking::{linked, told, told_by};
+use pg_link::Listed;
 use std::alloc::{AllocError, Global};
 use std::test::*;
 
@@ -26,30 +26,19 @@ const DECLARES_M: &[u8] = b"syntax = \"proto3\";\nmessage M { }\n";
 
 const OPEN_STRING: &[u8] = b"syntax = \"proto3;\n";
 
-/// What a walk from these roots is refused with, or `linked`.
-fn walked<S: Sources>(alloc: Global, source: &mut S, roots: &[&str]) -> Result<String, AllocError> {
-    match link(alloc, source, ".", roots) {
-        Ok(_) => String::from_str(alloc, "linked"),
-        Err(error) => line(alloc, &error),
-    }
-}
-
-/// The same of a walk from `a.proto` over these files.
+/// What a walk from `a.proto` over these files is refused with, or `linked`.
 fn from_a(alloc: Global, files: &[(&str, &[u8])]) -> Result<String, AllocError> {
-    walked(alloc, &mut Listed { files }, &["a.proto"])
+    told(alloc, files, &["a.proto"])
 }
 
 #[test]
 fn a_file_stands_behind_those_that_it_imports(rt: HostRuntime) -> Result<(), Fail> {
-    let mut source = Listed {
-        files: &[("b.proto", TO_C), ("c.proto", EMPTY), ("a.proto", TO_B)],
-    };
-    let linked = link(rt.alloc(), &mut source, ".", &["a.proto", "b.proto"])
-        .ok()
-        .ok_or("the imports are followed")?;
-    assert_eq!(rt; linked.files().get_index_of("c.proto"), Some(0));
-    assert_eq!(rt; linked.files().get_index_of("b.proto"), Some(1));
-    assert_eq!(rt; linked.files().get_index_of("a.proto"), Some(2));
+    let found = paths(
+        rt.alloc(),
+        &[("b.proto", TO_C), ("c.proto", EMPTY), ("a.proto", TO_B)],
+        &["a.proto", "b.proto"],
+    )?;
+    assert_eq!(rt; found.as_str(), "c.proto b.proto a.proto ");
     Ok(())
 }
 
@@ -121,9 +110,9 @@ fn a_source_that_fails_at_its_second_call(rt: HostRuntime) -> Result<(), Fail> {
     let files = Listed {
         files: &[("a.proto", TO_B), ("b.proto", EMPTY)],
     };
-    let failed = walked(rt.alloc(), &mut FailingSource::new(files, 2), &["a.proto"])?;
+    let failed = told_by(rt.alloc(), &mut FailingSource::new(files, 2), &["a.proto"])?;
     assert_eq!(rt; failed.as_str(), "E309 b.proto:0:0");
-    let never = walked(rt.alloc(), &mut FailingSource::new(files, 3), &["a.proto"])?;
+    let never = told_by(rt.alloc(), &mut FailingSource::new(files, 3), &["a.proto"])?;
     assert_eq!(rt; never.as_str(), "linked");
     Ok(())
 }
@@ -167,7 +156,7 @@ fn with_last(alloc: Global, count: u32, last: Last, fails_at: u64) -> Result<Str
         Last::OpenString => files.push((last_name.as_str(), OPEN_STRING))?,
     }
     let listed = Listed { files: &files };
-    walked(
+    told_by(
         alloc,
         &mut FailingSource::new(listed, fails_at),
         &["a.proto"],
@@ -198,11 +187,11 @@ fn a_file_too_many_is_read_before_it_is_told(rt: HostRuntime) -> Result<(), Fail
 /// The paths of the files from these roots, in their order.
 fn paths(alloc: Global, files: &[(&str, &[u8])], roots: &[&str]) -> Result<String, AllocError> {
     let mut text = String::new(alloc);
-    let Ok(linked) = link(alloc, &mut Listed { files }, ".", roots) else {
+    let Ok(found) = linked(alloc, files, ".", roots) else {
         return Ok(text);
     };
-    for number in 0..linked.files().len() {
-        if let Some((path, _)) = linked.files().get_index(number) {
+    for number in 0..found.files().len() {
+        if let Some((path, _)) = found.files().get_index(number) {
             text.push_str(path.as_str())?;
             text.push_str(" ")?;
         }
@@ -222,7 +211,7 @@ fn a_root_that_was_read_is_read_once(rt: HostRuntime) -> Result<(), Fail> {
     // a third read would fail
     let listed = Listed { files: &files };
     let mut source = FailingSource::new(listed, 3);
-    let once = walked(rt.alloc(), &mut source, &["b.proto", "a.proto", "b.proto"])?;
+    let once = told_by(rt.alloc(), &mut source, &["b.proto", "a.proto", "b.proto"])?;
     assert_eq!(rt; once.as_str(), "linked");
     Ok(())
 }
@@ -254,11 +243,9 @@ fn two_spellings_of_a_path_are_two_files(rt: HostRuntime) -> Result<(), Fail> {
 
 #[test]
 fn a_folder_is_left_out_where_it_is_a_dot_alone(rt: HostRuntime) -> Result<(), Fail> {
-    let mut dotted = Listed {
-        files: &[(".//a.proto", EMPTY)],
-    };
-    assert!(rt; link(rt.alloc(), &mut dotted, "./", &["a.proto"]).is_ok());
-    assert!(rt; link(rt.alloc(), &mut dotted, ".", &["a.proto"]).is_err());
-    assert!(rt; link(rt.alloc(), &mut dotted, ".", &[".//a.proto"]).is_ok());
+    let files: [(&str, &[u8]); 1] = [(".//a.proto", EMPTY)];
+    assert!(rt; linked(rt.alloc(), &files, "./", &["a.proto"]).is_ok());
+    assert!(rt; linked(rt.alloc(), &files, ".", &["a.proto"]).is_err());
+    assert!(rt; linked(rt.alloc(), &files, ".", &[".//a.proto"]).is_ok());
     Ok(())
 }
