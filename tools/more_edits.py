@@ -3,7 +3,8 @@
 
 usage: tools/more_edits.py [CRATE..]    all crates that have some, where none is named
 
-Works on a copy of the repository, over the checks that the crates keep in out/. A crate takes minutes.
+Works on a copy of the repository, over the libraries that earlier checks built in out/. A crate takes minutes, since its first edit
+costs a whole check.
 """
 
 import os
@@ -18,7 +19,7 @@ TOP = os.path.dirname(os.path.dirname(os.path.abspath(__file__)))
 def main(names):
     with tempfile.TemporaryDirectory(prefix="more-edits-") as room:
         copy = f"{room}/repository"
-        shutil.copytree(TOP, copy, ignore=shutil.ignore_patterns(".git"), symlinks=True)
+        shutil.copytree(TOP, copy, ignore=shutil.ignore_patterns(".git", "incremental"), symlinks=True)
         subprocess.run(["git", "init", "-q", copy], check=True)
         found = []
         for name in sorted(os.listdir(f"{copy}/crates")):
