@@ -1,5 +1,5 @@
 -- The cheapest choice of a field with later ones is the one with the least of them; two of each new oneof are enough to find it.
-use Rattle.std.proofs.Common.{◌≡◌, ℕ, ◌+◌, List, [], ◌∷◌, ◌++◌, Bool, true, false, not, ◌&&◌, cond, if◌then◌else◌, nat_eq, nat_le, Option, Some, None, refl, ap, sym, ◌∙◌, subst, arith, append-nil, eqb-true, eq-eqb}
+use Rattle.std.proofs.Common.{◌≡◌, ℕ, ◌+◌, List, [], ◌∷◌, ◌++◌, Bool, true, false, not, ◌&&◌, cond, if◌then◌else◌, nat_eq, nat_le, Option, Some, None, refl, ap, sym, ◌∙◌, subst, arith, append-nil, eqb-true}
 use Rattle.std.specs.HashMap.{HashMap, get, Updates}
 use Rattle.std.proofs.lemmas.Bool.{leb-true, leb-false, le-leb, lt-leb}
 use Rattle.pg_schema.specs.Shape.{FieldShape}
@@ -12,6 +12,7 @@ use Rattle.pg_pairs.specs.Choices.{choice, joins, joined_choices, affordable}
 use Rattle.pg_pairs.specs.Cheapest.{cheaper, cheapest}
 use Rattle.pg_pairs.specs.Members.{new_oneof}
 use Rattle.pg_pairs.specs.LeastMembers.{member_of, lesser, least_member, joined_with, met_choices, beside, IsOrdered, KeepsLeast}
+use Rattle.pg_pairs.proofs.Linking.{turned}
 use Rattle.pg_pairs.proofs.Joined.{in_oneof_is}
 
 -- the choice with the least
@@ -53,10 +54,6 @@ in_none gs old [] = refl
 in_none gs old (f ∷ fs) = in_none gs old fs
 
 -- what is kept of each new oneof, with one more field
-
-turned : (j k : ℕ) (b : Bool) → nat_eq j k ≡ b → nat_eq k j ≡ b
-turned j k true h = eq-eqb k j (sym (eqb-true j k h))
-turned j k false h = elim (nat_eq k j) as (λ b. nat_eq k j ≡ b → b ≡ false) [ true ↦ λ e. absurd (let same : nat_eq j k ≡ true = eq-eqb j k (sym (eqb-true k j e)) in cc) | false ↦ λ e. refl ] refl
 
 module _ {S : Type 0} (gs : List FieldShape) (f : FieldShape) (fs : List FieldShape) (kept : HashMap ℕ Two S) (is : KeepsLeast gs fs kept) where
   pub none_more : new_oneof gs f ≡ None → KeepsLeast gs (f ∷ fs) kept
