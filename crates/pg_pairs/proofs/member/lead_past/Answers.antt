@@ -8,10 +8,7 @@ use Rattle.pg_pairs.proofs.member.lead_past.Goals as goal
 
 pub returns-then-same_oneof-clause-passes : goal.returns-then-same_oneof-clause-passes
 returns-then-same_oneof-clause-passes c oneofs passes =
-    let list = c.args.list.now in
     let long = c.requires.long in
-    let first = c.index-list-at.result in
-    let next = c.index-list-next.result in
     let there : c.index-next.result.now < length c.args.list.now = c.if-next-list.false in
     let next_is = get_or_read c.args.others.now.items c.args.at c.index-next.result.now (omega arith) c.index-next.ensures 0 in
     let other_is = get_or_read c.args.others.now.items c.index-next.result.now c.index.result.now (omega arith) c.index.ensures 0 in
