@@ -1,8 +1,9 @@
 -- Bounds that fall to least costs stay above these, and have less to fall.
-use Rattle.std.proofs.Common.{◌≡◌, ℕ, zero, suc, ◌<◌, ◌≤◌, List, [], ◌∷◌, map, slice_get, Bool, true, false, not, ◌&&◌, nat_eq, cond, Option, Some, None, option_map, is_some, find, IfSome, refl, ap, sym, ◌∙◌, subst, arith, eq-eqb, le-leb, subst₂, option_and_then, ◌⊎◌, ⊎_elim, inl, inr}
+use Rattle.std.proofs.Common.{◌≡◌, ℕ, zero, suc, ◌<◌, ◌≤◌, List, [], ◌∷◌, map, length, slice_get, Bool, true, false, not, ◌&&◌, nat_eq, cond, Option, Some, None, option_map, is_some, find, IfSome, refl, ap, sym, ◌∙◌, subst, arith, eq-eqb, le-leb, subst₂, option_and_then, ◌⊎◌, ⊎_elim, inl, inr}
 use Rattle.std.specs.List.{AllByRecursion}
 use Rattle.std.specs.Option.{option_eq}
 use Rattle.std.proofs.lemmas.Bool.{and_parts, cases_lt}
+use Rattle.std.proofs.lemmas.Option.{slice_get_past}
 use Rattle.pg_schema.specs.Shape.{Shape}
 use Rattle.pg_dyn.specs.Encoding.{cap}
 use Rattle.pg_pairs.specs.declared.choice.Pair.{Pair}
@@ -97,6 +98,14 @@ pub least_found : (sight : Sight) (old new : Shape) (bounds : List PairBound) �
 least_found sight old new bounds least pair bound found =
     let (at, here) = place_of bounds pair bound found in
     subst (λ o. IfSome o (λ b. b.bound ≡ least_cost sight (bound_in bounds) old new b.pair)) here (least at)
+
+-- behind the last place there is none
+pub least_below : (sight : Sight) (old new : Shape) (bounds : List PairBound) → ((at : ℕ) → at < length bounds → IsLeastAt sight old new bounds at) → (at : ℕ) → IsLeastAt sight old new bounds at
+least_below sight old new bounds least at = of (cases_lt at (length bounds))
+  where
+    of : (at < length bounds) ⊎ (length bounds ≤ at) → IsLeastAt sight old new bounds at
+    of (inl inside) = least at inside
+    of (inr past) = subst (λ o. IfSome o (λ b. b.bound ≡ least_cost sight (bound_in bounds) old new b.pair)) (sym (slice_get_past bounds at past)) tt
 
 -- another bound at a place: the table differs there alone
 pub set_found : (bounds : List PairBound) (at : ℕ) (b : PairBound) (bound : Option ℕ) → are_bounds bounds ≡ true → slice_get bounds at ≡ Some b → (q : Pair) → bound_in (with_bound bounds at bound) q ≡ cond (same_pair q b.pair) (Some bound) (bound_in bounds q)

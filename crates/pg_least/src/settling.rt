@@ -69,10 +69,7 @@ fn settle_at(
 }
 
 // Lowers each bound to its pair's least cost, the last pair's first; whether one wasn't that yet.
-//
-// Pairs stand before most of the pairs that they lead to, so that few rounds serve; a cycle met against this order takes one
-// round more for each step back, and the last round changes nothing.
-fn settle_each(
+fn settle_backward(
     alloc: Global,
     old: &Schema,
     new: &Schema,
@@ -93,6 +90,51 @@ fn settle_each(
         }
     }
     Ok(changed)
+}
+
+// The same, the first pair's first.
+fn settle_forward(
+    alloc: Global,
+    old: &Schema,
+    new: &Schema,
+    bounds: &mut Bounds,
+) -> Result<bool, AllocError>
+    requires above { AreAbove by_numbers (shape_of old.now) (shape_of new.now) (bound_in bounds.old) }
+    ensures pairs { OnOk result (pairs_of bounds.new ≡ pairs_of bounds.old) }
+    ensures above { OnOk result (AreAbove by_numbers (shape_of old.now) (shape_of new.now) (bound_in bounds.new)) }
+    ensures fallen { IfOk result (λ changed. changed ≡ true → total_height bounds.new < total_height bounds.old) }
+    ensures least { IfOk result (λ changed. changed ≡ false → AreLeast by_numbers (shape_of old.now) (shape_of new.now) (bound_in bounds.new)) }
+{
+    let mut changed = false;
+    for at in 0..bounds.len() {
+        if settle_at(alloc, old, new, bounds, at)? {
+            changed = true;
+        }
+    }
+    Ok(changed)
+}
+
+// Lowers each bound to its pair's least cost, once from the last pair to the first and once back; whether the
+// last time one wasn't that yet.
+//
+// Pairs stand before most of the pairs that they lead to, so that the first time mostly serves; a row of pairs of
+// which each leads to the one before it falls as one when the pairs are gone through from the first on.
+fn settle_each(
+    alloc: Global,
+    old: &Schema,
+    new: &Schema,
+    bounds: &mut Bounds,
+) -> Result<bool, AllocError>
+    requires above { AreAbove by_numbers (shape_of old.now) (shape_of new.now) (bound_in bounds.old) }
+    ensures pairs { OnOk result (pairs_of bounds.new ≡ pairs_of bounds.old) }
+    ensures above { OnOk result (AreAbove by_numbers (shape_of old.now) (shape_of new.now) (bound_in bounds.new)) }
+    ensures fallen { IfOk result (λ changed. changed ≡ true → total_height bounds.new < total_height bounds.old) }
+    ensures least { IfOk result (λ changed. changed ≡ false → AreLeast by_numbers (shape_of old.now) (shape_of new.now) (bound_in bounds.new)) }
+{
+    if !settle_backward(alloc, old, new, bounds)? {
+        return Ok(false);
+    }
+    settle_forward(alloc, old, new, bounds)
 }
 
 // Lowers the bounds until each is its pair's least cost.

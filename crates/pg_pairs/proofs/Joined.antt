@@ -1,6 +1,6 @@
 -- The later fields of one new oneof, along the links between them.
-use Rattle.std.proofs.Common.{◌≡◌, ℕ, zero, suc, ◌+◌, ◌-◌, ◌<◌, ◌≤◌, List, [], ◌∷◌, ◌++◌, map, length, drop, get_or, slice_index_or, Bool, true, false, not, if◌then◌else◌, nat_le, Option, Some, None, option_and_then, refl, ap, sym, ◌∙◌, subst, arith, eqb-true}
-use Rattle.std.proofs.lemmas.Bool.{and_right}
+use Rattle.std.proofs.Common.{◌≡◌, ℕ, zero, suc, ◌+◌, ◌-◌, ◌<◌, ◌≤◌, List, [], ◌∷◌, ◌++◌, map, length, drop, get_or, slice_index_or, Bool, true, false, not, if◌then◌else◌, nat_le, Option, Some, None, option_and_then, refl, ap, sym, ◌∙◌, subst, arith, eqb-true, ◌⊎◌, inl, inr, set, length-set, get_or-set_same, get_or-set_other}
+use Rattle.std.proofs.lemmas.Bool.{and_left, and_right, cases_eq}
 use Rattle.std.proofs.Math.Bool.{and-true}
 use Rattle.std.proofs.lemmas.List.{append_assoc}
 use Rattle.pg_schema.specs.declared.field.Field.{Field}
@@ -12,7 +12,7 @@ use Rattle.pg_dyn.proofs.Lists.{filter-append'}
 use Rattle.pg_pairs.specs.declared.choice.Choice.{Choice}
 use Rattle.pg_pairs.specs.Costs.{least_content}
 use Rattle.pg_pairs.specs.Choices.{choice, in_one_oneof, joins, joined_choices, affordable}
-use Rattle.pg_pairs.specs.Members.{new_oneof, next_in, links}
+use Rattle.pg_pairs.specs.Members.{new_oneof, next_in, links, PassesTo, PassesBy}
 use Rattle.pg_pairs.proofs.Linking.{drop_at, length-drop'}
 
 -- lists by place
@@ -86,7 +86,7 @@ length-links at (o ∷ os) = ap suc (length-links (suc at) os)
 
 -- fields between a field and the next of its oneof make no choice with it
 
-in_oneof_is : (gs : List FieldShape) (a b : FieldShape) → in_one_oneof (field_at gs a.number) (field_at gs b.number) ≡ same_oneof (new_oneof gs a) (new_oneof gs b)
+pub in_oneof_is : (gs : List FieldShape) (a b : FieldShape) → in_one_oneof (field_at gs a.number) (field_at gs b.number) ≡ same_oneof (new_oneof gs a) (new_oneof gs b)
 in_oneof_is gs a b = of (field_at gs a.number) (field_at gs b.number)
   where
     no_second : (o : Option ℕ) → false ≡ same_oneof o None
@@ -188,30 +188,117 @@ module _ (list : List Field) (oneofs : List (Option ℕ)) (next : List ℕ) (lon
     pub oneof_at : (f : Field) (p : ℕ) → p < length list → f ≡ slice_index_or list p f → get_or oneofs p None ≡ new_oneof gs (field_shape f)
     oneof_at f p h is = ap (λ os. get_or os p None) oneofs_are ∙ get_map (λ f. new_oneof gs (field_shape f)) list p f None h is
 
-    -- the choice with the field at p, and all later ones
-    pub joins_at : (f b : Field) (at p : ℕ) → at < length list → p < length list → f ≡ slice_index_or list at f → b ≡ slice_index_or list p b → same_oneof (get_or oneofs at None) (get_or oneofs p None) ≡ true →
+    -- the choice with the field at p, and all from a place on up to which there are none
+    pub joins_at : (f b : Field) (at p n : ℕ) → at < length list → p < length list → f ≡ slice_index_or list at f → b ≡ slice_index_or list p b → same_oneof (get_or oneofs at None) (get_or oneofs p None) ≡ true →
+        joined_choices gs (field_shape f) (map field_shape (drop (suc p) list)) ≡ joined_choices gs (field_shape f) (map field_shape (drop n list)) →
         joined_choices gs (field_shape f) (map field_shape (drop p list))
-        ≡ (if not (same_oneof f.oneof b.oneof) then choice f.number 6 b.number (least_content (field_shape f) + least_content (field_shape b)) ∷ [] else []) ++ joined_choices gs (field_shape f) (map field_shape (drop (get_or next p 0) list))
-    joins_at f b at p inside there f_is b_is same =
+        ≡ (if not (same_oneof f.oneof b.oneof) then choice f.number 6 b.number (least_content (field_shape f) + least_content (field_shape b)) ∷ [] else []) ++ joined_choices gs (field_shape f) (map field_shape (drop n list))
+    joins_at f b at p n inside there f_is b_is same jump =
         let first = oneof_at f at inside f_is in
         let second = oneof_at b p there b_is in
         let one : same_oneof (new_oneof gs (field_shape f)) (new_oneof gs (field_shape b)) ≡ true = subst (λ o. same_oneof o (new_oneof gs (field_shape b)) ≡ true) first (subst (λ o. same_oneof (get_or oneofs at None) o ≡ true) second same) in
-        let own : get_or oneofs p None ≡ new_oneof gs (field_shape f) = sym (same_is (get_or oneofs at None) (get_or oneofs p None) same) ∙ first in
         ap (λ fs. joined_choices gs (field_shape f) (map field_shape fs)) (drop_at list p b b there b_is)
         ∙ together gs (field_shape f) b (drop (suc p) list) one
-        ∙ ap (λ cs. (if not (same_oneof f.oneof b.oneof) then choice f.number 6 b.number (least_content (field_shape f) + least_content (field_shape b)) ∷ [] else []) ++ cs) (jumps (field_shape f) p there own)
+        ∙ ap (λ cs. (if not (same_oneof f.oneof b.oneof) then choice f.number 6 b.number (least_content (field_shape f) + least_content (field_shape b)) ∷ [] else []) ++ cs) jump
 
     -- one turn of the loop
-    pub turn : (before now after : List Choice) (f a b : Field) (at p : ℕ) → at < length list → p < length list → f ≡ slice_index_or list at f → a ≡ slice_index_or list at a → b ≡ slice_index_or list p b → same_oneof (get_or oneofs at None) (get_or oneofs p None) ≡ true →
+    own_turn : (before now after : List Choice) (f b : Field) (at p n : ℕ) → at < length list → p < length list → f ≡ slice_index_or list at f → b ≡ slice_index_or list p b → same_oneof (get_or oneofs at None) (get_or oneofs p None) ≡ true →
+        joined_choices gs (field_shape f) (map field_shape (drop (suc p) list)) ≡ joined_choices gs (field_shape f) (map field_shape (drop n list)) →
         now ++ affordable (joined_choices gs (field_shape f) (map field_shape (drop p list))) ≡ before ++ affordable (joined_choices gs (field_shape f) (map field_shape (drop (suc at) list))) →
-        after ≡ now ++ affordable (if not (same_oneof a.oneof b.oneof) then choice a.number 6 b.number (least_content (field_shape a) + least_content (field_shape b)) ∷ [] else []) →
-        after ++ affordable (joined_choices gs (field_shape f) (map field_shape (drop (get_or next p 0) list))) ≡ before ++ affordable (joined_choices gs (field_shape f) (map field_shape (drop (suc at) list)))
-    turn before now after f a b at p inside there f_is a_is b_is same kept made =
-        let same_field : a ≡ f = item_is list at a f inside a_is f_is in
-        let emitted : Field → List Choice = λ (x : Field). if not (same_oneof x.oneof b.oneof) then choice x.number 6 b.number (least_content (field_shape x) + least_content (field_shape b)) ∷ [] else [] in
-        let rest = joined_choices gs (field_shape f) (map field_shape (drop (get_or next p 0) list)) in
-        ap (λ cs. cs ++ affordable (joined_choices gs (field_shape f) (map field_shape (drop (get_or next p 0) list)))) (made ∙ ap (λ (x : Field). now ++ affordable (if not (same_oneof x.oneof b.oneof) then choice x.number 6 b.number (least_content (field_shape x) + least_content (field_shape b)) ∷ [] else [])) same_field)
-        ∙ append_assoc now (affordable (if not (same_oneof f.oneof b.oneof) then choice f.number 6 b.number (least_content (field_shape f) + least_content (field_shape b)) ∷ [] else [])) (affordable (joined_choices gs (field_shape f) (map field_shape (drop (get_or next p 0) list))))
-        ∙ ap (λ cs. now ++ cs) (sym (filter-append' (λ (c : Choice). nat_le c.cost cap) (if not (same_oneof f.oneof b.oneof) then choice f.number 6 b.number (least_content (field_shape f) + least_content (field_shape b)) ∷ [] else []) (joined_choices gs (field_shape f) (map field_shape (drop (get_or next p 0) list)))))
-        ∙ ap (λ cs. now ++ affordable cs) (sym (joins_at f b at p inside there f_is b_is same))
+        after ≡ now ++ affordable (if not (same_oneof f.oneof b.oneof) then choice f.number 6 b.number (least_content (field_shape f) + least_content (field_shape b)) ∷ [] else []) →
+        after ++ affordable (joined_choices gs (field_shape f) (map field_shape (drop n list))) ≡ before ++ affordable (joined_choices gs (field_shape f) (map field_shape (drop (suc at) list)))
+    own_turn before now after f b at p n inside there f_is b_is same jump kept made =
+        let offered = if not (same_oneof f.oneof b.oneof) then choice f.number 6 b.number (least_content (field_shape f) + least_content (field_shape b)) ∷ [] else [] in
+        ap (λ cs. cs ++ affordable (joined_choices gs (field_shape f) (map field_shape (drop n list)))) made
+        ∙ append_assoc now (affordable offered) (affordable (joined_choices gs (field_shape f) (map field_shape (drop n list))))
+        ∙ ap (λ cs. now ++ cs) (sym (filter-append' (λ (c : Choice). nat_le c.cost cap) offered (joined_choices gs (field_shape f) (map field_shape (drop n list)))))
+        ∙ ap (λ cs. now ++ affordable cs) (sym (joins_at f b at p n inside there f_is b_is same jump))
         ∙ kept
+
+    -- the same for each name of the first field
+    pub turn : (before now after : List Choice) (f a b : Field) (at p n : ℕ) → at < length list → p < length list → f ≡ slice_index_or list at f → a ≡ slice_index_or list at a → b ≡ slice_index_or list p b → same_oneof (get_or oneofs at None) (get_or oneofs p None) ≡ true →
+        joined_choices gs (field_shape a) (map field_shape (drop (suc p) list)) ≡ joined_choices gs (field_shape a) (map field_shape (drop n list)) →
+        now ++ affordable (joined_choices gs (field_shape a) (map field_shape (drop p list))) ≡ before ++ affordable (joined_choices gs (field_shape a) (map field_shape (drop (suc at) list))) →
+        after ≡ now ++ affordable (if not (same_oneof a.oneof b.oneof) then choice a.number 6 b.number (least_content (field_shape a) + least_content (field_shape b)) ∷ [] else []) →
+        after ++ affordable (joined_choices gs (field_shape f) (map field_shape (drop n list))) ≡ before ++ affordable (joined_choices gs (field_shape f) (map field_shape (drop (suc at) list)))
+    turn before now after f a b at p n inside there f_is a_is b_is same jump kept made =
+        subst (λ (x : Field). after ++ affordable (joined_choices gs (field_shape x) (map field_shape (drop n list))) ≡ before ++ affordable (joined_choices gs (field_shape x) (map field_shape (drop (suc at) list)))) (item_is list at a f inside a_is f_is)
+        (own_turn before now after a b at p n inside there a_is b_is same jump kept made)
+
+-- fields that aren't met, along places that lead past them
+
+abbrev Beside : Option ℕ → Option ℕ → Type 0
+Beside a b = same_oneof a b ≡ true
+
+same_on : (a b c : Option ℕ) → Beside a b → Beside b c → Beside a c
+same_on a b c h k = subst (λ o. same_oneof o c ≡ true) (sym (same_is a b h)) k
+
+module _ (list : List Field) (oneofs : List (Option ℕ)) (long : length oneofs ≡ length list) where
+  -- the next place of the oneof is one
+  pub next_passes : (next : List ℕ) → next ≡ links 0 oneofs → PassesBy list oneofs next
+  next_passes next links_are = record {
+    long = ap length links_are ∙ length-links 0 oneofs ∙ long;
+    each = λ p h. record {
+      later = later list oneofs next long links_are p h;
+      same = next_same list oneofs next long links_are (get_or oneofs p None) p h refl;
+      none_met = λ gs are f f_is a one same. jumps list oneofs next long links_are gs are a p h (oneof_at list oneofs next long links_are gs are f p h f_is ∙ one);
+    };
+  }
+
+-- and from a place that is in the old oneof it goes on to the next
+pub passes_on : (list : List Field) (oneofs : List (Option ℕ)) (p q other : ℕ) (f b : Field) → p < length list → q < length list → f ≡ slice_index_or list p f → b ≡ slice_index_or list q b → Beside f.oneof b.oneof →
+    PassesTo list oneofs p q → PassesTo list oneofs q other → PassesTo list oneofs p other
+passes_on list oneofs p q other f b p_in q_in f_is b_is beside first second = record {
+  later = let one = first.later in let two = second.later in omega arith;
+  same = λ h. same_on (get_or oneofs p None) (get_or oneofs q None) (get_or oneofs other None) (first.same q_in) (second.same h);
+  none_met = λ gs are g g_is a one old.
+      let same_field : g ≡ f = item_is list p g f p_in g_is f_is in
+      let second_one : new_oneof gs (field_shape b) ≡ new_oneof gs a =
+      sym (get_map (λ f. new_oneof gs (field_shape f)) list q b None q_in b_is) ∙ ap (λ os. get_or os q None) (sym are)
+      ∙ sym (same_is (get_or oneofs p None) (get_or oneofs q None) (first.same q_in)) ∙ ap (λ os. get_or os p None) are ∙ get_map (λ f. new_oneof gs (field_shape f)) list p g None p_in g_is ∙ one in
+      let second_old : Beside a.oneof b.oneof = same_on a.oneof f.oneof b.oneof (subst (λ (x : Field). Beside a.oneof x.oneof) same_field old) beside in
+      first.none_met gs are g g_is a one old ∙ not_met gs a b q q_in b_is second_one second_old ∙ second.none_met gs are b b_is a second_one second_old;
+}
+  where
+    not_met : (gs : List FieldShape) (a : FieldShape) (b : Field) (q : ℕ) → q < length list → b ≡ slice_index_or list q b → new_oneof gs (field_shape b) ≡ new_oneof gs a → Beside a.oneof b.oneof →
+        joined_choices gs a (map field_shape (drop q list)) ≡ joined_choices gs a (map field_shape (drop (suc q) list))
+    not_met gs a b q q_in b_is one old =
+        let none : joins gs a (field_shape b) ≡ false = and_left (not (same_oneof a.oneof b.oneof)) (in_one_oneof (field_at gs a.number) (field_at gs b.number)) (ap not old) in
+        ap (λ fs. joined_choices gs a (map field_shape fs)) (drop_at list q b b q_in b_is) ∙ rw none refl
+
+-- the place that the loop goes on to
+pub jump_on : (list : List Field) (oneofs : List (Option ℕ)) (next others : List ℕ) (long : length oneofs ≡ length list) (links_are : next ≡ links 0 oneofs) (gs : List FieldShape) (are : oneofs ≡ map (λ f. new_oneof gs (field_shape f)) list) →
+    PassesBy list oneofs others → (f b : Field) (at p : ℕ) → at < length list → p < length list → f ≡ slice_index_or list at f → b ≡ slice_index_or list p b → Beside (get_or oneofs at None) (get_or oneofs p None) →
+    joined_choices gs (field_shape f) (map field_shape (drop (suc p) list)) ≡ joined_choices gs (field_shape f) (map field_shape (drop (if same_oneof f.oneof b.oneof then get_or others p 0 else get_or next p 0) list))
+jump_on list oneofs next others long links_are gs are passes f b at p inside there f_is b_is same =
+    let first = oneof_at list oneofs next long links_are gs are f at inside f_is in
+    let second = oneof_at list oneofs next long links_are gs are b p there b_is in
+    let one = same_is (get_or oneofs at None) (get_or oneofs p None) same in
+    elim (same_oneof f.oneof b.oneof) as (λ t. same_oneof f.oneof b.oneof ≡ t → joined_choices gs (field_shape f) (map field_shape (drop (suc p) list)) ≡ joined_choices gs (field_shape f) (map field_shape (drop (if t then get_or others p 0 else get_or next p 0) list))) [
+      | true ↦ λ e. (passes.each p there).none_met gs are b b_is (field_shape f) (sym second ∙ sym one ∙ first) e
+      | false ↦ λ e. jumps list oneofs next long links_are gs are (field_shape f) p there (sym one ∙ first)
+    ] refl
+
+module _ (list : List Field) (oneofs : List (Option ℕ)) (next others : List ℕ) (long : length oneofs ≡ length list) (links_are : next ≡ links 0 oneofs) (passes : PassesBy list oneofs others) (p : ℕ) (there : p < length list) (t : Bool) where
+  abbrev on : ℕ
+  on = if t then get_or others p 0 else get_or next p 0
+
+  pub on_later : p < on
+  on_later = elim t as (λ t. p < (if t then get_or others p 0 else get_or next p 0)) [ true ↦ (passes.each p there).later | false ↦ later list oneofs next long links_are p there ]
+
+  pub on_same : (o : Option ℕ) → Beside o (get_or oneofs p None) → on < length list → Beside o (get_or oneofs on None)
+  on_same o same = elim t as (λ t. (if t then get_or others p 0 else get_or next p 0) < length list → Beside o (get_or oneofs (if t then get_or others p 0 else get_or next p 0) None)) [
+    | true ↦ λ h. same_on o (get_or oneofs p None) (get_or oneofs (get_or others p 0) None) same ((passes.each p there).same h)
+    | false ↦ λ h. same_on o (get_or oneofs p None) (get_or oneofs (get_or next p 0) None) same (next_same list oneofs next long links_are (get_or oneofs p None) p there refl h)
+  ]
+
+-- one place goes on: the others pass to where they did
+pub goes_on : (list : List Field) (oneofs : List (Option ℕ)) (others : List ℕ) (at other : ℕ) → at < length list → PassesBy list oneofs others → PassesTo list oneofs at other → PassesBy list oneofs (set others at other)
+goes_on list oneofs others at other inside passes here = record {
+  long = length-set others at other ∙ passes.long;
+  each = λ p h. of p h (cases_eq p at);
+}
+  where
+    of : (p : ℕ) → p < length list → (p ≡ at) ⊎ (p ≡ at → ⊥) → PassesTo list oneofs p (get_or (set others at other) p 0)
+    of p h (inl same) = let own : at < length others = let long = passes.long in omega arith in subst (λ n. PassesTo list oneofs n (get_or (set others at other) n 0)) (sym same) (subst (PassesTo list oneofs at) (sym (get_or-set_same others at other 0 own)) here)
+    of p h (inr apart) = subst (PassesTo list oneofs p) (sym (get_or-set_other others at p other 0 apart)) (passes.each p h)

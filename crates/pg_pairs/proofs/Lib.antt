@@ -45,8 +45,10 @@ pub mod ChildSteps
 pub mod Linking
 pub mod Joined
 pub mod OptionSteps
+pub mod CheapestSteps
 pub mod EntryRecords
 pub mod Cheaper
+pub mod LeastMembers
 pub mod SetTypes
 pub mod LeastCosts
 pub mod SameSteps

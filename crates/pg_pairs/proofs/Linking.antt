@@ -19,6 +19,11 @@ length-drop' xs zero h = omega arith
 length-drop' [] (suc n) h = absurd (omega arith)
 length-drop' (x ∷ xs) (suc n) h = let rest = length-drop' xs n (omega arith) in omega arith
 
+-- a test of two numbers, the other way round
+pub turned : (j k : ℕ) (b : Bool) → nat_eq j k ≡ b → nat_eq k j ≡ b
+turned j k true h = eq-eqb k j (sym (eqb-true j k h))
+turned j k false h = elim (nat_eq k j) as (λ b. nat_eq k j ≡ b → b ≡ false) [ true ↦ λ e. absurd (let same : nat_eq j k ≡ true = eq-eqb j k (sym (eqb-true k j e)) in cc) | false ↦ λ e. refl ] refl
+
 module _ {S : Type 0} (os : List (Option ℕ)) (n : ℕ) (oneof d : Option ℕ) (heads after : HashMap ℕ ℕ S) (next : ℕ) (inside : n < length os) (is : oneof ≡ get_or os n d)
     (kept : (k : ℕ) → unwrap_or (get nat_eq heads k) (length os) ≡ next_in (Some k) (suc n) (drop (suc n) os)) where
   next_is : (o : Option ℕ) → IsLink heads after o n (length os) next → next ≡ next_in o (suc n) (drop (suc n) os)
@@ -29,13 +34,9 @@ module _ {S : Type 0} (os : List (Option ℕ)) (n : ℕ) (oneof d : Option ℕ) 
   heads_are None (at_end, same) k = ap (λ m. unwrap_or (get nat_eq m k) (length os)) same ∙ kept k
   heads_are (Some j) (found, updates) k = ap (λ v. unwrap_or v (length os)) (updates.0 k) ∙ of (nat_eq j k) refl
     where
-      turned : (b : Bool) → nat_eq j k ≡ b → nat_eq k j ≡ b
-      turned true h = eq-eqb k j (sym (eqb-true j k h))
-      turned false h = elim (nat_eq k j) as (λ b. nat_eq k j ≡ b → b ≡ false) [ true ↦ λ e. absurd (let same : nat_eq j k ≡ true = eq-eqb j k (sym (eqb-true k j e)) in cc) | false ↦ λ e. refl ] refl
-
       of : (b : Bool) → nat_eq j k ≡ b → unwrap_or (cond (nat_eq j k) (Some n) (get nat_eq heads k)) (length os) ≡ cond (nat_eq k j) n (next_in (Some k) (suc n) (drop (suc n) os))
-      of true h = rw (h, turned true h) refl
-      of false h = rw (h, turned false h) (kept k)
+      of true h = rw (h, turned j k true h) refl
+      of false h = rw (h, turned j k false h) (kept k)
 
   pub linked : IsLink heads after oneof n (length os) next → (next ≡ next_in oneof (suc n) (drop (suc n) os)) × ((k : ℕ) → unwrap_or (get nat_eq after k) (length os) ≡ next_in (Some k) n (drop n os))
   linked h = (next_is oneof h, λ k. heads_are oneof h k ∙ ap (next_in (Some k) n) (sym (drop_at os n oneof d inside is)))

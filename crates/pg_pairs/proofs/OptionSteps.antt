@@ -18,7 +18,7 @@ use Rattle.pg_pairs.specs.Choices.{Table, choices_beside, joined_choices, all_ch
 use Rattle.pg_pairs.proofs.Linking.{drop_at}
 use Rattle.pg_pairs.proofs.ChildSteps.{past}
 
-affordable-append : (xs ys : List Choice) → affordable (xs ++ ys) ≡ affordable xs ++ affordable ys
+pub affordable-append : (xs ys : List Choice) → affordable (xs ++ ys) ≡ affordable xs ++ affordable ys
 affordable-append xs ys = filter-append' (λ (c : Choice). nat_le c.cost cap) xs ys
 
 pub field_more : (sight : Sight) (table : Table) (gs : List FieldShape) (list : List Field) (at : ℕ) (f : Field) (now beside after total : List Choice) → at < length list → f ≡ slice_index_or list at f →

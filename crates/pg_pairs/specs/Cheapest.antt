@@ -14,6 +14,11 @@ abbrev pub cheapest : List Choice → Option Choice
 cheapest [] = None
 cheapest (c ∷ cs) = Some (cheaper c (cheapest cs))
 
+-- the cheapest of a former choice, where there is one, and of later ones
+abbrev pub first_of : Option Choice → Option Choice → Option Choice
+first_of None later = later
+first_of (Some c) later = Some (cheaper c later)
+
 -- one of the choices, of which none costs less; none only where there is no choice
 abbrev pub IsCheapest : Option Choice → List Choice → Type 0
 IsCheapest (Some c) cs = IsAmong c cs × AllByRecursion (λ (d : Choice). c.cost ≤ d.cost) cs

@@ -10,6 +10,7 @@ pub mod Cheapest
 pub mod Covering
 pub mod Comparing
 pub mod Members
+pub mod LeastMembers
 pub mod Fields
 pub mod FirstSeen
 pub mod Settling

@@ -1,5 +1,5 @@
 -- Fields that come into one oneof of a new type, each linked to the next one.
-use Rattle.std.specs.Prelude.{◌≡◌, ℕ, suc, nat_eq, List, [], ◌∷◌, ◌++◌, map, drop, slice_index_or, if◌then◌else◌, Option, Some, None, option_and_then, unwrap_or}
+use Rattle.std.specs.Prelude.{◌≡◌, ℕ, suc, ◌<◌, nat_eq, true, length, get_or, List, [], ◌∷◌, ◌++◌, map, drop, slice_index_or, if◌then◌else◌, Option, Some, None, option_and_then, unwrap_or}
 use Rattle.std.specs.HashMap.{HashMap, get, Updates}
 use Rattle.pg_schema.specs.Shape.{FieldShape, field_at}
 use Rattle.pg_schema.specs.declared.field.Field.{Field}
@@ -31,3 +31,15 @@ IsLink old new (Some oneof) at end next = (next ≡ unwrap_or (get nat_eq old on
 abbrev pub JoinsWith : List FieldShape → List Field → ℕ → List Choice → List Choice → Type 0
 JoinsWith gs fs at old new =
     (f : Field) → f ≡ slice_index_or fs at f → new ≡ old ++ affordable (joined_choices gs (field_shape f) (map field_shape (drop (suc at) fs)))
+
+-- A later place of the new oneof that the field at p is in, or the end. Fields of this oneof before it are in p's old oneof too, so that no field of both meets one.
+pub record PassesTo (list : List Field) (oneofs : List (Option ℕ)) (p other : ℕ) : Type 0 where
+  pub later : p < other
+  pub same : other < length list → same_oneof (get_or oneofs p None) (get_or oneofs other None) ≡ true
+  pub none_met : (gs : List FieldShape) → oneofs ≡ map (λ f. new_oneof gs (field_shape f)) list → (f : Field) → f ≡ slice_index_or list p f → (a : FieldShape) → new_oneof gs (field_shape f) ≡ new_oneof gs a →
+      same_oneof a.oneof f.oneof ≡ true → joined_choices gs a (map field_shape (drop (suc p) list)) ≡ joined_choices gs a (map field_shape (drop other list))
+
+-- such a place for each
+pub record PassesBy (list : List Field) (oneofs : List (Option ℕ)) (others : List ℕ) : Type 0 where
+  pub long : length others ≡ length list
+  pub each : (p : ℕ) → p < length list → PassesTo list oneofs p (get_or others p 0)

@@ -105,7 +105,8 @@ fn add_broken<V: View>(
 /// the choice is one of the pair's, under some table of bounds, and its child breaks and has the length of the bound
 /// of its pair, the message breaks and has just the choice's cost.
 ///
-/// The child fits the old schema. Refused only where memory is; then the child is dropped.
+/// The child fits the old schema. Refused where memory is; for a choice that isn't the pair's, or a child that
+/// isn't the choice's, also where the field doesn't take such a content. The child is then dropped.
 pub fn carry<V: View>(
     alloc: Global,
     view: &V,

@@ -1,8 +1,9 @@
 //! The choices of one field.
 
 ghost use Rattle.std.specs.Prelude.{◌≡◌, ◌++◌, ◌<◌, ◌^◌, OnOk, IfSome, option_map};
-ghost use Rattle.pg_schema.specs.Parts.{field_shape};
-ghost use Rattle.pg_pairs.specs.Choices.{affordable, choice_of, field_choices, map_choices, plain_choices, singular_cost, unlike_cost, zero_counts};
+ghost use Rattle.pg_schema.specs.Parts.{field_shape, shape_of};
+ghost use Rattle.pg_schema.specs.Shape.{field_at, fields};
+ghost use Rattle.pg_pairs.specs.Choices.{affordable, choice_of, choices_beside, field_choices, map_choices, plain_choices, singular_cost, unlike_cost, zero_counts};
 ghost use Rattle.pg_pairs.specs.Costs.{entry_cost, least_body, one_item};
 ghost use Rattle.pg_pairs.specs.Views.{sight_of};
 
@@ -12,7 +13,7 @@ use crate::element::are_like;
 use crate::gap_cost::{child_body, gap_body};
 use crate::table::Table;
 use crate::view::View;
-use pg_schema::{Element, Field, Presence, Scalar, Schema};
+use pg_schema::{Element, Field, Presence, Scalar, Schema, TypeId};
 use std::alloc::AllocError;
 
 /// An encoding has at most that many bytes (Protocol Buffers encoding guide, "Message Structure").
@@ -176,5 +177,21 @@ pub(crate) fn offer_field<V: View, T: Table>(
             offer(choices, old.number, 1, 0, Some(unlike_cost(old, new)))
         }
         _ => offer_plain(between, choices, old, new),
+    }
+}
+
+/// Puts the choices of a field with the new type's field of its number behind the others.
+pub(crate) fn offer_beside<V: View, T: Table>(
+    between: &Between<'_, V, T>,
+    choices: &mut Vec<Choice>,
+    type_id: TypeId,
+    field: &Field,
+) -> Result<(), AllocError>
+    requires { field.now.number < 2 ^ 29 }
+    ensures { OnOk result (choices.new.items ≡ choices.old.items ++ affordable (choices_beside (sight_of (V.is_alike between.now.view.now) (V.least_differing between.now.view.now) between.now.old.now between.now.new.now) (T.bounds between.now.table.now) (field_shape field.now) (field_at (fields (shape_of between.now.new.now) type_id) field.now.number))) }
+{
+    match between.new.field(type_id, field.number) {
+        Some(beside) => offer_field(between, choices, field, beside),
+        None => Ok(()),
     }
 }

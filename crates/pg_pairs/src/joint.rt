@@ -8,23 +8,14 @@ ghost use Rattle.pg_schema.specs.Shape.{FieldShape};
 ghost use Rattle.pg_dyn.specs.Content.{same_oneof};
 ghost use Rattle.pg_pairs.specs.Choices.{affordable, choice};
 ghost use Rattle.pg_pairs.specs.Costs.{least_content};
-ghost use Rattle.pg_pairs.specs.Members.{JoinsWith, links, new_oneof};
+ghost use Rattle.pg_pairs.specs.Members.{JoinsWith, PassesBy, links, new_oneof};
 
 use crate::choice::Choice;
 use crate::cost::least_content;
 use crate::field_choice::offer;
+use crate::member::same_oneof;
 use pg_schema::Field;
 use std::alloc::AllocError;
-
-// Whether two fields are in one oneof.
-fn same_oneof(first: Option<u32>, second: Option<u32>) -> bool
-    ensures { result ≡ same_oneof first second }
-{
-    match (first, second) {
-        (Some(first), Some(second)) => first == second,
-        _ => false,
-    }
-}
 
 // The choice of two fields of one new oneof, which isn't one where they are in one old oneof too.
 fn offer_meeting(choices: &mut Vec<Choice>, first: &Field, second: &Field) -> Result<(), AllocError>
@@ -39,25 +30,39 @@ fn offer_meeting(choices: &mut Vec<Choice>, first: &Field, second: &Field) -> Re
     offer(choices, first.number, 6, second.number, Some(cost))
 }
 
+// The place that a field goes on to behind a later one: where this is in its old oneof, past that oneof.
+fn behind(field: &Field, later: &Field, next: usize, other: usize) -> usize
+    ensures { result ≡ (if same_oneof field.now.oneof later.now.oneof then other else next) }
+{
+    if same_oneof(field.oneof, later.oneof) {
+        return other;
+    }
+    next
+}
+
 /// Puts the choices of a field with each later one of its new oneof behind the others. A link leads
-/// from each field to the next of its new oneof.
+/// from each field to the next of its new oneof, and `others` to the next that isn't in its old oneof.
 pub(crate) fn offer_joined(
     choices: &mut Vec<Choice>,
     list: &[Field],
     oneofs: &[Option<u32>],
     next: &[usize],
+    others: &[usize],
     at: usize,
 ) -> Result<(), AllocError>
     requires at { at < length list.now }
     requires numbers { AllByRecursion (λ (f : Field). f.number < 2 ^ 29) list.now }
     requires oneofs { length oneofs.now ≡ length list.now }
     requires next { next.now ≡ links 0 oneofs.now }
+    requires others { PassesBy list.now oneofs.now others.now }
     ensures { OnOk result ((gs : List FieldShape) → oneofs.now ≡ map (λ f. new_oneof gs (field_shape f)) list.now → JoinsWith gs list.now at choices.old.items choices.new.items) }
 {
     let mut place = next[at];
     while place < list.len() {
-        offer_meeting(choices, &list[at], &list[place])?;
-        place = next[place];
+        let first = &list[at];
+        let second = &list[place];
+        offer_meeting(choices, first, second)?;
+        place = behind(first, second, next[place], others[place]);
     }
     Ok(())
 }

@@ -1,17 +1,23 @@
 //! The cheapest choice of a pair.
 
-ghost use Rattle.std.specs.Prelude.{◌≡◌, IfOk};
-ghost use Rattle.pg_schema.specs.Parts.{shape_of};
-ghost use Rattle.pg_pairs.specs.Cheapest.{cheapest};
-ghost use Rattle.pg_pairs.specs.Choices.{choices};
+ghost use Rattle.std.specs.Prelude.{◌≡◌, ◌<◌, ◌^◌, map, IfOk};
+ghost use Rattle.std.specs.List.{AllByRecursion};
+ghost use Rattle.pg_schema.specs.declared.field.Field.{Field};
+ghost use Rattle.pg_schema.specs.Parts.{field_shape, shape_of};
+ghost use Rattle.pg_schema.specs.Shape.{fields};
+ghost use Rattle.pg_pairs.specs.Cheapest.{cheapest, first_of};
+ghost use Rattle.pg_pairs.specs.Choices.{affordable, all_choices, choices};
 ghost use Rattle.pg_pairs.specs.Views.{sight_of};
 
 use crate::choice::{Choice, Pair};
-use crate::option_list::options;
+use crate::field_choice::{Between, offer_beside};
+use crate::least_member::meet;
+use crate::member::new_oneof;
 use crate::table::Table;
 use crate::view::View;
-use pg_schema::Schema;
+use pg_schema::{Field, Schema, TypeId};
 use std::alloc::{AllocError, Global};
+use std::collections::HashMap;
 
 // The first of those choices that cost the least.
 fn first_cheapest(choices: &[Choice]) -> Option<Choice>
@@ -25,6 +31,50 @@ fn first_cheapest(choices: &[Choice]) -> Option<Choice>
         }
     }
     found
+}
+
+// A former choice, or a later one that costs less.
+fn first_of(former: Option<Choice>, later: Option<Choice>) -> Option<Choice>
+    ensures { result ≡ first_of former later }
+{
+    let Some(kept) = former else {
+        return later;
+    };
+    match later {
+        Some(later) if later.cost < kept.cost => Some(later),
+        _ => former,
+    }
+}
+
+// The cheapest choice of those fields. They are gone through from the last on: of all choices of a field
+// with later ones of its new oneof the cheapest is enough.
+fn cheapest_of<V: View, T: Table>(
+    alloc: Global,
+    between: &Between<'_, V, T>,
+    type_id: TypeId,
+    list: &[Field],
+) -> Result<Option<Choice>, AllocError>
+    requires { AllByRecursion (λ (f : Field). f.number < 2 ^ 29) list.now }
+    ensures { IfOk result (λ found. found ≡ cheapest (affordable (all_choices (sight_of (V.is_alike between.now.view.now) (V.least_differing between.now.view.now) between.now.old.now between.now.new.now) (T.bounds between.now.table.now) (fields (shape_of between.now.new.now) type_id) (map field_shape list.now)))) }
+{
+    let mut kept = HashMap::new(alloc);
+    let mut choices = Vec::new(alloc);
+    let mut found = None;
+    let mut at = list.len();
+    while at > 0 {
+        at -= 1;
+        let field = &list[at];
+        choices.clear();
+        offer_beside(between, &mut choices, type_id, field)?;
+        meet(
+            &mut choices,
+            &mut kept,
+            field,
+            new_oneof(between.new, type_id, field),
+        )?;
+        found = first_of(first_cheapest(&choices), found);
+    }
+    Ok(found)
 }
 
 /// The choice of the pair with the least cost, of several the first by number, case and part; `None`
@@ -41,6 +91,16 @@ pub fn cheapest<V: View, T: Table>(
 ) -> Result<Option<Choice>, AllocError>
     ensures { IfOk result (λ found. found ≡ cheapest (choices (sight_of (V.is_alike view.now) (V.least_differing view.now) old.now new.now) (T.bounds table.now) (shape_of old.now) (shape_of new.now) pair)) }
 {
-    let choices = options(alloc, view, old, new, pair, table)?;
-    Ok(first_cheapest(&choices))
+    // What holds of every schema.
+    old.parts();
+    let between = Between {
+        view,
+        table,
+        old,
+        new,
+    };
+    match old.message_type(pair.old) {
+        Some(message_type) => cheapest_of(alloc, &between, pair.new, &message_type.fields),
+        None => Ok(None),
+    }
 }

@@ -16,6 +16,7 @@ mod item;
 mod joint;
 mod laws;
 mod least_cost;
+mod least_member;
 mod member;
 mod option_list;
 mod scalar_gap;

@@ -1,37 +1,21 @@
 //! The choices of a pair.
 
-ghost use Rattle.std.specs.Prelude.{◌≡◌, ◌++◌, ◌<◌, ◌^◌, map, IfOk, OnOk};
+ghost use Rattle.std.specs.Prelude.{◌≡◌, ◌<◌, ◌^◌, map, IfOk};
 ghost use Rattle.std.specs.List.{AllByRecursion};
 ghost use Rattle.pg_schema.specs.declared.field.Field.{Field};
 ghost use Rattle.pg_schema.specs.Parts.{field_shape, shape_of};
-ghost use Rattle.pg_schema.specs.Shape.{field_at, fields};
-ghost use Rattle.pg_pairs.specs.Choices.{affordable, all_choices, choices, choices_beside};
+ghost use Rattle.pg_schema.specs.Shape.{fields};
+ghost use Rattle.pg_pairs.specs.Choices.{affordable, all_choices, choices};
 ghost use Rattle.pg_pairs.specs.Views.{sight_of};
 
 use crate::choice::{Choice, Pair};
-use crate::field_choice::{Between, offer_field};
+use crate::field_choice::{Between, offer_beside};
 use crate::joint::offer_joined;
-use crate::member::{links_of, new_oneofs};
+use crate::member::{links_of, new_oneofs, others_of};
 use crate::table::Table;
 use crate::view::View;
 use pg_schema::{Field, Schema, TypeId};
 use std::alloc::{AllocError, Global};
-
-// The choices of a field beside the new type's field of its number.
-fn offer_beside<V: View, T: Table>(
-    between: &Between<'_, V, T>,
-    choices: &mut Vec<Choice>,
-    type_id: TypeId,
-    field: &Field,
-) -> Result<(), AllocError>
-    requires { field.now.number < 2 ^ 29 }
-    ensures { OnOk result (choices.new.items ≡ choices.old.items ++ affordable (choices_beside (sight_of (V.is_alike between.now.view.now) (V.least_differing between.now.view.now) between.now.old.now between.now.new.now) (T.bounds between.now.table.now) (field_shape field.now) (field_at (fields (shape_of between.now.new.now) type_id) field.now.number))) }
-{
-    match between.new.field(type_id, field.number) {
-        Some(beside) => offer_field(between, choices, field, beside),
-        None => Ok(()),
-    }
-}
 
 // The choices of those fields.
 fn choices_of<V: View, T: Table>(
@@ -45,10 +29,11 @@ fn choices_of<V: View, T: Table>(
 {
     let oneofs = new_oneofs(alloc, between.new, type_id, list)?;
     let next = links_of(alloc, &oneofs)?;
+    let others = others_of(alloc, list, &next)?;
     let mut choices = Vec::new(alloc);
     for at in 0..list.len() {
         offer_beside(between, &mut choices, type_id, &list[at])?;
-        offer_joined(&mut choices, list, &oneofs, &next, at)?;
+        offer_joined(&mut choices, list, &oneofs, &next, &others, at)?;
     }
     Ok(choices)
 }

@@ -56,6 +56,36 @@ fn a_way_round(rt: HostRuntime) -> Result<(), Fail> {
     Ok(())
 }
 
+// `message M0 { M1 f1 = 1; M2 f2 = 2; M3 f3 = 3; } message M1 { uint32 f1 = 1; } message M2 { M1 f1 = 1; }
+// message M3 { M2 f1 = 1; }`, then int32: each pair leads to the one before it.
+#[test]
+fn a_row_that_leads_back(rt: HostRuntime) -> Result<(), Fail> {
+    let alloc = rt.alloc();
+    let root = [child(1, 1), child(2, 2), child(3, 3)];
+    let old: [&[Line]; 4] = [
+        &root,
+        &[singular(1, Scalar::Uint32)],
+        &[child(1, 1)],
+        &[child(1, 2)],
+    ];
+    let new: [&[Line]; 4] = [
+        &root,
+        &[singular(1, Scalar::Int32)],
+        &[child(1, 1)],
+        &[child(1, 2)],
+    ];
+    let (rows, bytes) = searched(alloc, &old, &new, same(0))?;
+    let wanted = [
+        (0, 0, Some(8)),
+        (1, 1, Some(6)),
+        (2, 2, Some(8)),
+        (3, 3, Some(10)),
+    ];
+    assert_eq!(rt; rows.as_slice(), wanted.as_slice());
+    assert_eq!(rt; bytes.map(|bytes| bytes.len()), Some(8));
+    Ok(())
+}
+
 // A list of two fixed64 takes 18 bytes, and the child that stands before its pair only 8.
 #[test]
 fn a_number_that_falls(rt: HostRuntime) -> Result<(), Fail> {

@@ -202,6 +202,39 @@ fn three_in_one_oneof(rt: HostRuntime) -> Result<(), Fail> {
     Ok(())
 }
 
+// Each field meets the later ones that aren't in its old oneof, wherever these stand.
+#[test]
+fn two_old_oneofs_come_into_one(rt: HostRuntime) -> Result<(), Fail> {
+    let alloc = rt.alloc();
+    let old = [
+        member(1, Scalar::Int32, 0),
+        member(2, Scalar::Int32, 0),
+        member(3, Scalar::Int32, 1),
+        member(4, Scalar::Int32, 0),
+        member(5, Scalar::Int32, 1),
+        member(6, Scalar::Int32, 1),
+    ];
+    let new = [
+        member(1, Scalar::Int32, 0),
+        member(2, Scalar::Int32, 0),
+        member(3, Scalar::Int32, 0),
+        member(4, Scalar::Int32, 0),
+        member(5, Scalar::Int32, 0),
+        member(6, Scalar::Int32, 1),
+    ];
+    let rows = choices_of(alloc, &old, &new)?;
+    let wanted = [
+        (1, 6, 3, 4),
+        (1, 6, 5, 4),
+        (2, 6, 3, 4),
+        (2, 6, 5, 4),
+        (3, 6, 4, 4),
+        (4, 6, 5, 4),
+    ];
+    assert_eq!(rt; rows.as_slice(), wanted.as_slice());
+    Ok(())
+}
+
 // A type that a schema doesn't have has no fields, and so no choices.
 #[test]
 fn missing_types(rt: HostRuntime) -> Result<(), Fail> {

@@ -1,7 +1,7 @@
 //! The cheapest choices of small pairs, and their children.
 
 use crate::tests::choices::FIRST;
-use crate::tests::schemas::{Line, child, map, schema, singular};
+use crate::tests::schemas::{Line, child, map, member, optional, schema, singular};
 use crate::tests::tables::Bounds;
 use pg_pairs::{Choice, Numbers, Pair, cheapest, choice_child};
 use pg_schema::{Element, Scalar, TypeId};
@@ -66,6 +66,115 @@ fn equal_costs(rt: HostRuntime) -> Result<(), Fail> {
     assert_eq!(rt;
         found(alloc, &[&old], &[&new])?,
         Some((choice(2, 2, 0, 2), None))
+    );
+    Ok(())
+}
+
+// Of two fields that meet in one new oneof both contents count. The contents of an int32 take two bytes,
+// those of a fixed32 five and those of a fixed64 nine; with a number of two bytes one more.
+#[test]
+fn members_of_old_oneofs(rt: HostRuntime) -> Result<(), Fail> {
+    use Scalar::{Fixed32, Fixed64, Int32};
+    let alloc = rt.alloc();
+    // The two cheapest are in one old oneof, and so meet only others.
+    let old: [Line; 4] = [
+        member(1, Int32, 0),
+        member(2, Int32, 0),
+        member(3, Fixed32, 0),
+        member(4, Fixed64, 1),
+    ];
+    let new: [Line; 4] = [
+        member(1, Int32, 0),
+        member(2, Int32, 0),
+        member(3, Fixed32, 0),
+        member(4, Fixed64, 0),
+    ];
+    assert_eq!(rt;
+        found(alloc, &[&old], &[&new])?,
+        Some((choice(1, 6, 4, 11), None))
+    );
+    // The cheapest field is in the first one's old oneof; the next cheapest isn't.
+    let old: [Line; 4] = [
+        member(1, Int32, 1),
+        member(2, Int32, 1),
+        member(3, Fixed32, 0),
+        member(4, Fixed64, 0),
+    ];
+    assert_eq!(rt;
+        found(alloc, &[&old], &[&new])?,
+        Some((choice(1, 6, 3, 7), None))
+    );
+    assert_eq!(rt; found(alloc, &[&new], &[&new])?, None);
+    Ok(())
+}
+
+// Fields outside of old oneofs meet each other too.
+#[test]
+fn members_of_no_old_oneof(rt: HostRuntime) -> Result<(), Fail> {
+    use Scalar::{Bool, Fixed32, Fixed64, Int32};
+    let alloc = rt.alloc();
+    let old: [Line; 5] = [
+        member(1, Fixed64, 0),
+        optional(2, Fixed32),
+        singular(3, Bool),
+        optional(4, Int32),
+        optional(16, Int32),
+    ];
+    let new: [Line; 5] = [
+        member(1, Fixed64, 0),
+        member(2, Fixed32, 0),
+        member(3, Bool, 0),
+        member(4, Int32, 0),
+        member(16, Int32, 0),
+    ];
+    assert_eq!(rt;
+        found(alloc, &[&old], &[&new])?,
+        Some((choice(3, 6, 4, 4), None))
+    );
+    let other: [Line; 5] = [
+        member(1, Fixed64, 0),
+        member(2, Fixed32, 0),
+        member(3, Bool, 1),
+        member(4, Int32, 0),
+        member(16, Int32, 1),
+    ];
+    assert_eq!(rt;
+        found(alloc, &[&old], &[&other])?,
+        Some((choice(3, 6, 16, 5), None))
+    );
+    Ok(())
+}
+
+// Of equal costs the first two fields count, and a field's own choice before one with a later field.
+#[test]
+fn equal_costs_of_members(rt: HostRuntime) -> Result<(), Fail> {
+    use Scalar::{Bool, Int32};
+    let alloc = rt.alloc();
+    let old: [Line; 4] = [
+        member(1, Int32, 0),
+        member(2, Int32, 0),
+        member(3, Int32, 1),
+        member(4, Int32, 1),
+    ];
+    let new: [Line; 4] = [
+        member(1, Int32, 0),
+        member(2, Int32, 0),
+        member(3, Int32, 0),
+        member(4, Int32, 0),
+    ];
+    assert_eq!(rt;
+        found(alloc, &[&old], &[&new])?,
+        Some((choice(1, 6, 3, 4), None))
+    );
+    let new: [Line; 4] = [
+        member(1, Int32, 0),
+        member(2, Int32, 0),
+        member(3, Bool, 0),
+        member(4, Int32, 0),
+    ];
+    assert_eq!(rt;
+        found(alloc, &[&old], &[&new])?,
+        Some((choice(3, 2, 0, 2), None))
     );
     Ok(())
 }

@@ -1,8 +1,6 @@
 -- A child of the field's type is an item of its element.
 use Rattle.std.proofs.Common.{◌≡◌, Option, Some, Result, Ok, Err, IfOk, ap, sym, subst, ◌∙◌}
-use Rattle.pg_schema.specs.declared.field.Element.{Element}
 use Rattle.pg_schema.specs.declared.field.Element.TheVariants as elements
-use Rattle.pg_schema.specs.Shape.{Shape}
 use Rattle.pg_dyn.specs.ContentFits.{ItemFits}
 use Rattle.pg_dyn.specs.Fits.{Fits}
 use Rattle.pg_dyn.specs.Kept.{Kept, type_of}

@@ -2,7 +2,7 @@ use Rattle.std.proofs.Common.{arith}
 use Rattle.pg_schema.specs.Parts.{shape_of}
 use Rattle.pg_pairs.specs.Sight.{by_numbers}
 use Rattle.pg_least.proofs.Falling.{least_found}
-use Rattle.pg_least.proofs.settling.settle_each.Goals as goal
+use Rattle.pg_least.proofs.settling.settle_backward.Goals as goal
 
 pub returns-clause-least : goal.returns-clause-least
 returns-clause-least c unchanged =

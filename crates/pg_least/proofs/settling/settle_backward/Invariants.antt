@@ -4,7 +4,7 @@ use Rattle.pg_pairs.specs.Sight.{by_numbers}
 use Rattle.pg_cert.specs.Bounds.{bound_in}
 use Rattle.pg_least.specs.Exact.{pairs_of}
 use Rattle.pg_least.specs.Settled.{AreAbove, IsLeastAt, total_height}
-use Rattle.pg_least.proofs.settling.settle_each.Given as goal
+use Rattle.pg_least.proofs.settling.settle_backward.Given as goal
 
 abbrev pub invariant-loop-at : goal.invariant-loop-at
 invariant-loop-at l =

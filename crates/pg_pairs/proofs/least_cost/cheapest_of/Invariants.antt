@@ -1,0 +1,21 @@
+use Rattle.std.proofs.Common.{◌≡◌, ◌≤◌, length, map, drop}
+use Rattle.pg_schema.specs.Parts.{field_shape, shape_of}
+use Rattle.pg_schema.specs.Shape.{fields}
+use Rattle.pg_pairs.specs.Cheapest.{cheapest}
+use Rattle.pg_pairs.specs.Choices.{affordable, all_choices}
+use Rattle.pg_pairs.specs.LeastMembers.{KeepsLeast}
+use Rattle.pg_pairs.specs.Views.{sight_of}
+use Rattle.pg_pairs.proofs.least_cost.cheapest_of.Given as goal
+
+abbrev pub decreases-loop-at : goal.decreases-loop-at
+decreases-loop-at g l = l.at
+
+abbrev pub invariant-loop-at : goal.invariant-loop-at
+invariant-loop-at g l =
+    record {
+      place : l.at ≤ length l.list;
+      found :
+          l.found
+          ≡ cheapest (affordable (all_choices (sight_of (g.V.View.is_alike l.between.view.now) (g.V.View.least_differing l.between.view.now) l.between.old.now l.between.new.now) (g.T.Table.bounds l.between.table.now) (fields (shape_of l.between.new.now) l.type_id) (map field_shape (drop l.at l.list))));
+      kept : KeepsLeast (fields (shape_of l.between.new.now) l.type_id) (map field_shape (drop l.at l.list)) l.kept;
+    }

@@ -1,0 +1,135 @@
+//! The cheapest fields of each new oneof, of which a field before them meets one.
+
+ghost use Rattle.std.specs.Prelude.{◌≡◌, ◌++◌, ◌<◌, ◌^◌, ℕ, List, ◌∷◌, Option, Some, if◌then◌else◌, not, OnOk};
+ghost use Rattle.pg_schema.specs.Parts.{field_shape};
+ghost use Rattle.pg_schema.specs.Shape.{FieldShape};
+ghost use Rattle.pg_dyn.specs.Content.{same_oneof};
+ghost use Rattle.pg_pairs.specs.Choices.{affordable};
+ghost use Rattle.pg_pairs.specs.LeastMembers.{IsOrdered, KeepsLeast, beside, least_member, lesser, member_of, met_choices};
+ghost use Rattle.pg_pairs.specs.Members.{new_oneof};
+
+use crate::choice::Choice;
+use crate::cost::least_content;
+use crate::field_choice::offer;
+use crate::member::same_oneof;
+use pg_schema::Field;
+use std::alloc::AllocError;
+use std::collections::HashMap;
+
+/// A field that others meet.
+#[derive(Clone, Copy, Debug, PartialEq, Eq)]
+pub(crate) struct Member {
+    /// Its number.
+    pub number: u32,
+    /// What its least content costs.
+    pub cost: u64,
+    /// The old oneof that it is in.
+    pub oneof: Option<u32>,
+}
+
+/// Of fields in one new oneof one of the least cost, and one of those that aren't in its old oneof.
+#[derive(Clone, Copy, Debug, PartialEq, Eq)]
+pub(crate) struct Two {
+    pub first: Member,
+    pub other: Option<Member>,
+}
+
+// What a field is met as.
+fn member_of(field: &Field) -> Member
+    requires { field.now.number < 2 ^ 29 }
+    ensures { result ≡ member_of (field_shape field.now) }
+{
+    Member {
+        number: field.number,
+        cost: least_content(field),
+        oneof: field.oneof,
+    }
+}
+
+// Of equal costs the former.
+fn lesser(former: Member, later: Option<Member>) -> Member
+    ensures { result ≡ lesser former later }
+{
+    match later {
+        Some(later) if later.cost < former.cost => later,
+        _ => former,
+    }
+}
+
+// The one of the two that isn't in that old oneof.
+fn beside(two: Option<Two>, oneof: Option<u32>) -> Option<Member>
+    ensures { result ≡ beside two oneof }
+{
+    let two = two?;
+    if same_oneof(oneof, two.first.oneof) {
+        return two.other;
+    }
+    Some(two.first)
+}
+
+// The two with one more field before the others.
+fn with_member(two: Option<Two>, member: Member) -> Two
+    ensures met { IsOrdered two → (old : Option ℕ) → beside (Some result) old ≡ (if not (same_oneof old member.oneof) then Some (lesser member (beside two old)) else beside two old) }
+    ensures ordered { IsOrdered two → IsOrdered (Some result) }
+{
+    let Some(later) = two else {
+        return Two {
+            first: member,
+            other: None,
+        };
+    };
+    if member.cost <= later.first.cost {
+        return Two {
+            first: member,
+            other: beside(two, member.oneof),
+        };
+    }
+    if same_oneof(later.first.oneof, member.oneof) {
+        return later;
+    }
+    Two {
+        first: later.first,
+        other: Some(lesser(member, later.other)),
+    }
+}
+
+// Puts the choice of a field with the one that it meets behind the others, where it meets one.
+fn offer_with(
+    choices: &mut Vec<Choice>,
+    member: &Member,
+    met: Option<Member>,
+) -> Result<(), AllocError>
+    ensures { OnOk result (choices.new.items ≡ choices.old.items ++ affordable (met_choices member.now met)) }
+{
+    let Some(met) = met else {
+        return Ok(());
+    };
+    offer(
+        choices,
+        member.number,
+        6,
+        met.number,
+        member.cost.checked_add(met.cost),
+    )
+}
+
+/// Puts the cheapest choice of a field with a later one of that new oneof behind the others, where
+/// there is one. The field is then one of those that fields before it meet.
+pub(crate) fn meet(
+    choices: &mut Vec<Choice>,
+    kept: &mut HashMap<u32, Two>,
+    field: &Field,
+    oneof: Option<u32>,
+) -> Result<(), AllocError>
+    requires { field.now.number < 2 ^ 29 }
+    ensures { OnOk result ((gs fs : List FieldShape) → oneof ≡ new_oneof gs (field_shape field.now) → KeepsLeast gs fs kept.old → (choices.new.items ≡ choices.old.items ++ affordable (met_choices (member_of (field_shape field.now)) (least_member gs oneof field.now.oneof fs))) × KeepsLeast gs (field_shape field.now ∷ fs) kept.new) }
+{
+    let Some(oneof) = oneof else {
+        return Ok(());
+    };
+    let member = member_of(field);
+    let later = kept.get(&oneof).copied();
+    offer_with(choices, &member, beside(later, field.oneof))?;
+    kept.insert(oneof, with_member(later, member))?;
+    Ok(())
+}
