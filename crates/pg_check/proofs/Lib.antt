@@ -25,3 +25,13 @@ pub mod Rising
 pub mod KeptOneofs
 pub mod KeptOptions
 pub mod Wholes
+pub mod WordTrees
+pub mod WordedFiles
+pub mod NamedTypes
+pub mod LinkedParts
+pub mod Totals
+pub mod Regrouped
+pub mod NamedOnce
+pub mod DeclaredTotals
+pub mod ScopesOnce
+pub mod DeclaredPlaces
