@@ -46,6 +46,10 @@ looked_up scope_of h w before (x ∷ xs) few at =
     small : (n : ℕ) → n < 2 ^ 32 → cond (nat_lt n (2 ^ 32)) n 0 ≡ n + 0
     small n less = grind (arith, nat_tests)
 
+-- the scope of each service
+abbrev pub service_scopes : Source → List (List ℕ)
+service_scopes s = map (λ (x : MadeService). package_of s.tree) (file_services s)
+
 module _ (h : List ℕ → ℕ → ℕ) where
   -- ---- message types
 
@@ -158,9 +162,6 @@ module _ (h : List ℕ → ℕ → ℕ) where
   service_places : (scope : List ℕ) (before : ℕ) (xs : List MadeService) → total (λ (id : ServiceId). h scope id.index) (service_ids before xs) ≡ total (of_place h) (placed_from before (map (λ (x : MadeService). scope) xs))
   service_places scope before [] = refl
   service_places scope before (x ∷ xs) = ap (λ n. h scope (index_of before) + n) (service_places scope (before + 1) xs)
-
-  abbrev pub service_scopes : Source → List (List ℕ)
-  service_scopes s = map (λ (x : MadeService). package_of s.tree) (file_services s)
 
   pub all_service_places : (d : Declared) (ss : List Source)
       → services_of (with_files d ss) ≡ services_of d + total (of_place h) (placed_from (length d.services) (flat_map service_scopes ss))

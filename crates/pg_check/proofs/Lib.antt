@@ -35,3 +35,5 @@ pub mod NamedOnce
 pub mod DeclaredTotals
 pub mod ScopesOnce
 pub mod DeclaredPlaces
+pub mod PartPlaces
+pub mod PartNames
