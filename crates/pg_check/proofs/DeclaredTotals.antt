@@ -237,7 +237,7 @@ module _ (f : Text → ℕ) where
 
 -- ---- packages
 
-more_dotted : (text : List ℕ) (ns : List tree.Name.Name) → 46 ∷ dotted_more text ns ≡ (46 ∷ text) ++ called (map (λ (w : Word). w.text) (map word ns))
+pub more_dotted : (text : List ℕ) (ns : List tree.Name.Name) → 46 ∷ dotted_more text ns ≡ (46 ∷ text) ++ called (map (λ (w : Word). w.text) (map word ns))
 more_dotted text [] = sym (append-nil (46 ∷ text))
 more_dotted text (n ∷ ns) =
     more_dotted (text ++ 46 ∷ string_bytes n.text) ns ∙ append_assoc (46 ∷ text) (46 ∷ string_bytes n.text) (called (map (λ (w : Word). w.text) (map word ns)))

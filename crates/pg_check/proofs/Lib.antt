@@ -37,3 +37,4 @@ pub mod ScopesOnce
 pub mod DeclaredPlaces
 pub mod PartPlaces
 pub mod PartNames
+pub mod PlacedNames

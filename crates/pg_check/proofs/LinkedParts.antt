@@ -360,7 +360,7 @@ differ_before f a b h = by (bytes_eq a b) refl
         absurd (false≢true (ap not (sym eq) ∙ h))
     by false is = ap not is
 
-distinct_before : (f : List ℕ → List ℕ) (xs : List (List ℕ)) → are_distinct (map f xs) ≡ true → are_distinct xs ≡ true
+pub distinct_before : (f : List ℕ → List ℕ) (xs : List (List ℕ)) → are_distinct (map f xs) ≡ true → are_distinct xs ≡ true
 distinct_before f xs h = pairs_weaker (λ a b. differ (f a) (f b)) differ (differ_before f) xs (sym (pairs_of_map differ f xs) ∙ h)
 
 fields_once : (enums : List EnumType) (t : MessageType) → are_distinct (type_names enums t) ≡ true → are_distinct (field_names t.fields.items) ≡ true

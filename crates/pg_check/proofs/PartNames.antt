@@ -163,10 +163,10 @@ module _ (y : List ℕ) where
   f = one (46 ∷ y)
 
   -- without what the values of its enums count
-  abbrev own_counts : MessageType → ℕ
+  abbrev pub own_counts : MessageType → ℕ
   own_counts t = one y (string_bytes t.name) + ((total (inside f (string_bytes t.name)) (field_names t.fields.items) + total (inside f (string_bytes t.name)) (map string_bytes t.oneofs.items)) + total (inside f (string_bytes t.name)) (entry_names t.fields.items))
 
-  abbrev tree_counts : TypeTree → ℕ
+  abbrev pub tree_counts : TypeTree → ℕ
   tree_counts w = counts f w.full + total (inside f w.full) (flat_map part_names w.body)
 
   pub own_is : (w : TypeTree) (t : MessageType) → IsTypeOf w t → own_counts t ≡ tree_counts w
@@ -180,7 +180,7 @@ module _ (y : List ℕ) where
       omega (arith, same, fields, one_ofs, body)
 
   -- what the values of the enums in a scope count
-  abbrev values_count : List EnumType → List ℕ → ℕ → ℕ
+  abbrev pub values_count : List EnumType → List ℕ → ℕ → ℕ
   values_count es scope i = total (inside f scope) (values_of (slice_get es i))
 
   pub type_is : (es : List EnumType) (t : MessageType) → times y (type_names es t) ≡ own_counts t + total (λ (id : EnumId). values_count es (string_bytes t.name) id.index) t.nested_enums.items
@@ -225,7 +225,7 @@ module _ (y : List ℕ) where
       texts (enum_parts.Reserved r ∷ ps) = texts ps
       texts (enum_parts.Value v ∷ ps) = ap (λ ns. string_bytes v.name.text ∷ ns) (texts ps)
 
-  values_looked : (es : List EnumType) (ms : List Enum) → map enumeration es ≡ map made_enum ms → (i : ℕ) (m : Enum) → slice_get ms i ≡ Some m → values_count es m.scope (0 + i) ≡ total (inside f m.scope) (value_texts m.tree.parts.items)
+  pub values_looked : (es : List EnumType) (ms : List Enum) → map enumeration es ≡ map made_enum ms → (i : ℕ) (m : Enum) → slice_get ms i ≡ Some m → values_count es m.scope (0 + i) ≡ total (inside f m.scope) (value_texts m.tree.parts.items)
   values_looked es ms same i m at =
       let none : 0 + i ≡ i = omega arith in
       ap (values_count es m.scope) none ∙ ap (total (inside f m.scope)) (found es ms same i at)

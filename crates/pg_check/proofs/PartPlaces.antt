@@ -194,17 +194,17 @@ pub record IsSettledSource (s : Source) : Type 0 where
   pub good : IsGoodFile s.tree
   pub scoped : IsScoped s.tree
 
-scoped_all : (ss : List Source) → AllByRecursion IsSettledSource ss → AllByRecursion (λ (s : Source). IsScoped s.tree) ss
+pub scoped_all : (ss : List Source) → AllByRecursion IsSettledSource ss → AllByRecursion (λ (s : Source). IsScoped s.tree) ss
 scoped_all [] h = tt
 scoped_all (s ∷ ss) h = (h.0.scoped, scoped_all ss h.1)
 
-abbrev MessageUnder : Message → Type 0
+abbrev pub MessageUnder : Message → Type 0
 MessageUnder m = IsUnder m.scope m.full
 
-abbrev EnumUnder : Enum → Type 0
+abbrev pub EnumUnder : Enum → Type 0
 EnumUnder e = IsUnder e.scope e.full
 
-abbrev ServiceUnder : List ℕ × MadeService → Type 0
+abbrev pub ServiceUnder : List ℕ × MadeService → Type 0
 ServiceUnder s = IsUnder s.0 s.1.name
 
 messages_under : (ms : List Message) → AllByRecursion IsGoodMessage ms → AllByRecursion MessageUnder ms
@@ -215,22 +215,22 @@ enums_under : (es : List Enum) → AllByRecursion IsGoodEnum es → AllByRecursi
 enums_under [] h = tt
 enums_under (e ∷ es) h = (record { word = string_bytes e.tree.name.text; is_a_word = h.0.name; is = h.0.is_full }, enums_under es h.1)
 
-all_messages_under : (ss : List Source) → AllByRecursion IsSettledSource ss → AllByRecursion MessageUnder (flat_map source_messages ss)
+pub all_messages_under : (ss : List Source) → AllByRecursion IsSettledSource ss → AllByRecursion MessageUnder (flat_map source_messages ss)
 all_messages_under [] h = tt
 all_messages_under (s ∷ ss) h = joined_all MessageUnder (file_messages s.tree) (flat_map source_messages ss) (messages_under (file_messages s.tree) h.0.good.messages) (all_messages_under ss h.1)
 
-all_enums_under : (ss : List Source) → AllByRecursion IsSettledSource ss → AllByRecursion EnumUnder (flat_map source_enums ss)
+pub all_enums_under : (ss : List Source) → AllByRecursion IsSettledSource ss → AllByRecursion EnumUnder (flat_map source_enums ss)
 all_enums_under [] h = tt
 all_enums_under (s ∷ ss) h = joined_all EnumUnder (file_enums s.tree) (flat_map source_enums ss) (enums_under (file_enums s.tree) h.0.good.enums) (all_enums_under ss h.1)
 
 -- each service beside its scope
-abbrev beside : List ℕ → MadeService → List ℕ × MadeService
+abbrev pub beside : List ℕ → MadeService → List ℕ × MadeService
 beside scope s = (scope, s)
 
 abbrev pub scoped_services : Source → List (List ℕ × MadeService)
 scoped_services s = map (beside (package_of s.tree)) (file_services s)
 
-abbrev service_scope : List ℕ × MadeService → List ℕ
+abbrev pub service_scope : List ℕ × MadeService → List ℕ
 service_scope s = s.0
 
 services_under : (targets : ℕ → Option Target) (scope : List ℕ) (xs : List tree.Statement.Statement) → AllByRecursion IsGoodStatement xs → AllByRecursion ServiceUnder (map (beside scope) (made_services targets scope xs))
@@ -242,7 +242,7 @@ services_under targets scope (statements.Message m ∷ xs) h = services_under ta
 services_under targets scope (statements.Enum e ∷ xs) h = services_under targets scope xs h.1
 services_under targets scope (statements.Service s ∷ xs) h = (record { word = string_bytes s.name.text; is_a_word = h.0.1.0; is = refl }, services_under targets scope xs h.1)
 
-all_services_under : (ss : List Source) → AllByRecursion IsSettledSource ss → AllByRecursion ServiceUnder (flat_map scoped_services ss)
+pub all_services_under : (ss : List Source) → AllByRecursion IsSettledSource ss → AllByRecursion ServiceUnder (flat_map scoped_services ss)
 all_services_under [] h = tt
 all_services_under (s ∷ ss) h =
     let scope = package_of s.tree in
@@ -398,7 +398,7 @@ module _ (ss : List Source) (parts : Parts) (are : ArePartsOf ss parts) (settled
       let none : total (λ (m : Message). 0) all_ms ≡ 0 = total_none all_ms in
       omega (arith, summed, looked, none)
 
-  enum_names_are : map (λ (e : EnumType). string_bytes e.name) enums ≡ map (λ (e : Enum). e.full) all_es
+  pub enum_names_are : map (λ (e : EnumType). string_bytes e.name) enums ≡ map (λ (e : Enum). e.full) all_es
   enum_names_are = again enums all_es enums_made
     where
       again : (xs : List EnumType) (ys : List Enum) → map enumeration xs ≡ map made_enum ys → map (λ (e : EnumType). string_bytes e.name) xs ≡ map (λ (e : Enum). e.full) ys

@@ -238,7 +238,7 @@ one_word_more text w h k =
     ∙ (list_all-append is_word (parts_at_dots text) (parts_at_dots w)
     ∙ and_both (are_words text) (are_words w) h (word_alone w k))
 
-abbrev IsGoodDotted : tree.Name.Name → Type 0
+abbrev pub IsGoodDotted : tree.Name.Name → Type 0
 IsGoodDotted n = IsGood (view.dot_name n)
 
 more_words : (text : List ℕ) (ns : List tree.Name.Name) → are_words text ≡ true → AllByRecursion IsGoodDotted ns → are_words (dotted_more text ns) ≡ true

@@ -1,6 +1,5 @@
 use Rattle.pg_check.proofs.LinkedParts as proved
-use Rattle.pg_check.proofs.PartPlaces as part_places
-use Rattle.pg_check.proofs.PartNames as part_names
+use Rattle.pg_check.proofs.PlacedNames as placed_names
 use Rattle.pg_check.proofs.laws.linked_parts.Goals as goal
 
 pub returns : goal.returns
