@@ -28,6 +28,7 @@ pub mod Wholes
 pub mod WordTrees
 pub mod WordedFiles
 pub mod NamedTypes
+pub mod PlacedParts
 pub mod LinkedParts
 pub mod Totals
 pub mod Regrouped
@@ -38,3 +39,5 @@ pub mod DeclaredPlaces
 pub mod PartPlaces
 pub mod PartNames
 pub mod PlacedNames
+pub mod FreePackages
+pub mod SoundParts

@@ -45,7 +45,7 @@ use Rattle.pg_check.specs.MadeServices.{MadeMethod, MadeService, made_method, ma
 use Rattle.pg_check.specs.Members.{Member, Mapped, Plain, members}
 use Rattle.pg_check.specs.NamedParts.{NamedEnum, NamedMessage, NamedParts, has_package, is_named_field}
 use Rattle.pg_check.specs.Outline.{Enum, Message, file_enums, file_messages, package_of, statements_behind}
-use Rattle.pg_check.specs.PlacedParts.{HasValuesOnce, PlacedParts}
+use Rattle.pg_check.proofs.PlacedParts.{HasValuesOnce, PlacedParts}
 use Rattle.pg_check.specs.Sources.{linked_source, linked_sources}
 use Rattle.pg_check.specs.Types.{scalar_named}
 use Rattle.pg_check.proofs.Eachs.{each-length}

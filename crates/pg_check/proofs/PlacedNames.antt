@@ -28,7 +28,7 @@ use Rattle.pg_check.specs.MadeEnums.{enumeration, made_enum}
 use Rattle.pg_check.specs.MadeParts.{ArePartsOf, Declared, EachIs, FileShape, IsFileOf, IsTypeOf, Source, TypeTree, file_services, nothing, placed_enums, placed_messages, type_tree, type_trees, with_file, with_files}
 use Rattle.pg_check.specs.MadeServices.{MadeMethod, MadeService, service}
 use Rattle.pg_check.specs.Outline.{Enum, Message, enum_scope, file_enums, file_messages, package_in, package_of, statements_behind}
-use Rattle.pg_check.specs.PlacedParts.{HasValuesOnce}
+use Rattle.pg_check.proofs.PlacedParts.{HasValuesOnce}
 use Rattle.pg_check.specs.Sources.{linked_source, linked_sources}
 use Rattle.pg_check.proofs.DeclaredPlaces.{looked_up}
 use Rattle.pg_check.proofs.DeclaredTotals.{file_is, inside, more_dotted, of_enum_type, of_made_service, of_message_type, part_names, value_texts}
@@ -70,7 +70,7 @@ module _ (y : List ℕ) where
   services_back scope [] = refl
   services_back scope (x ∷ xs) = ap (λ zs. x ∷ zs) (services_back scope xs)
 
-  abbrev in_all : List Source → ℕ
+  abbrev pub in_all : List Source → ℕ
   in_all ss = (total (of_message_type f) (flat_map source_messages ss) + total (of_enum_type f) (flat_map source_enums ss)) + total (of_made_service f) (map second (flat_map scoped_services ss))
 
   files_counted : (all files : List Entry) → AllByRecursion IsSettledSource (map (linked_source all) files) → total (weight f) (all_declared files) ≡ in_all (map (linked_source all) files)
@@ -115,7 +115,7 @@ module _ (l : LinkedFiles) (up : IsLinkedUp l) (parts : Parts) (are : ArePartsOf
   abbrev enums : List EnumType
   enums = parts.enums.items
 
-  names_in_files : (y : List ℕ) → total (weight (one (46 ∷ y))) (all_declared l.files) ≡ in_all y ss
+  pub names_in_files : (y : List ℕ) → total (weight (one (46 ∷ y))) (all_declared l.files) ≡ in_all y ss
   names_in_files y = files_counted y l.files l.files settled
 
   types_count : (y : List ℕ) → times y (flat_map (type_names enums) parts.types.items) ≡ total (of_message_type (one (46 ∷ y))) (flat_map source_messages ss) + total (nested_enums (values_count y enums)) parts.types.items

@@ -24,7 +24,6 @@ pub mod Declares
 pub mod KeepsRules
 pub mod KeptParts
 pub mod NamedParts
-pub mod PlacedParts
 pub mod Rows
 pub mod Examples
 pub mod Errors

@@ -1,6 +1,5 @@
--- What is left of a schema's facts where its files are linked and keep to the rules: that each type stands once and in its
--- scope, and that full names differ (proto3 language specification, "Package", "Message definition").
-use Rattle.std.specs.Prelude.{◌≡◌, Bool, true, List, length}
+-- Of a schema's facts, where its files are linked and keep to the rules, those on places and full names.
+use Rattle.std.proofs.Common.{◌≡◌, Bool, true, List, length}
 use Rattle.std.specs.List.{list_all, AllByRecursion}
 use Rattle.pg_schema.specs.declared.enum_type.EnumType.{EnumType}
 use Rattle.pg_schema.specs.declared.message_type.MessageType.{MessageType}
