@@ -41,3 +41,4 @@ pub mod PartNames
 pub mod PlacedNames
 pub mod FreePackages
 pub mod SoundParts
+pub mod CountableParts

@@ -1,6 +1,6 @@
 -- What is left of a schema's facts beside those that follow from the rules: names that are words, what is named, and where it
 -- stands (proto3 language specification, "Identifiers", "Packages").
-use Rattle.std.specs.Prelude.{◌≡◌, ◌≤◌, ◌^◌, ℕ, Bool, true, ◌&&◌, List, map, length}
+use Rattle.std.specs.Prelude.{◌≡◌, ℕ, Bool, true, ◌&&◌, List, map, length}
 use Rattle.std.specs.List.{list_all, AllByRecursion}
 use Rattle.std.specs.String.{string_bytes}
 use Rattle.pg_schema.specs.declared.enum_type.EnumType.{EnumType}
@@ -44,8 +44,3 @@ pub record NamedParts (parts : Parts) : Type 0 where
   pub type_scopes : list_all (is_type_scope parts.types.items parts.enums.items) parts.types.items ≡ true
   pub names : are_distinct (declared_names parts) ≡ true
   pub free_packages : are_free_of (declared_names parts) parts.files.items ≡ true
-
--- places of 32 bits are enough for the enums and the services
-pub record IsCountable (parts : Parts) : Type 0 where
-  pub enums : length parts.enums.items ≤ 2 ^ 32
-  pub services : length parts.services.items ≤ 2 ^ 32

@@ -9,7 +9,7 @@ ghost use Rattle.pg_check.specs.Examples.{WorkedRules};
 ghost use Rattle.pg_check.specs.KeepsRules.{KeepsRules};
 ghost use Rattle.pg_check.specs.KeptParts.{KeptParts};
 ghost use Rattle.pg_check.specs.MadeParts.{Source};
-ghost use Rattle.pg_check.specs.NamedParts.{IsCountable, NamedParts};
+ghost use Rattle.pg_check.specs.NamedParts.{NamedParts};
 ghost use Rattle.pg_check.specs.Sources.{linked_sources};
 
 /// What the rules take and what they refuse, by small examples.
@@ -36,9 +36,8 @@ pub fn named_parts()
     ensures { (files : List Source) (parts : Parts) → Declares files parts → NamedParts parts → IsSound parts }
 {}
 
-/// The parts of linked files that keep to the rules are those of a schema, where they have at most
-/// 4,294,967,296 enums and as many services: their names are words, what is named is there, each type
-/// stands once and in its scope, and full names differ.
+/// The parts of linked files that keep to the rules are those of a schema: their names are words, what is
+/// named is there, each type stands once and in its scope, and full names differ.
 pub fn linked_parts()
-    ensures { (linked : LinkedFiles) (parts : Parts) → IsLinkedUp linked → Declares (linked_sources linked.files) parts → IsCountable parts → IsSound parts }
+    ensures { (linked : LinkedFiles) (parts : Parts) → IsLinkedUp linked → Declares (linked_sources linked.files) parts → IsSound parts }
 {}
