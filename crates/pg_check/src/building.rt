@@ -1,6 +1,7 @@
 //! From linked files to a checked schema.
 
-ghost use Rattle.std.specs.Prelude.{◌≡◌, ◌<◌, IfErr, IfOk, Some, length, map};
+ghost use Rattle.std.specs.Prelude.{◌≡◌, ◌<◌, IfErr, IfOk, OnOk, Some, length, map};
+ghost use Rattle.pg_link.specs.Linked.{IsLinkedUp};
 ghost use Rattle.pg_schema.specs.Sound.{IsSound};
 ghost use Rattle.pg_schema.specs.declared.parts.Parts.{Parts};
 ghost use Rattle.pg_check.specs.Declares.{Declares, first_broken};
@@ -16,7 +17,8 @@ use std::alloc::{AllocError, Global};
 
 /// The linked files in their order, each with what its type names name.
 fn sources_of<'a>(alloc: Global, linked: &'a Linked) -> Result<Vec<Source<'a>>, AllocError>
-    ensures { IfOk result (λ sources. map source sources.items ≡ linked_sources linked.now.files) }
+    ensures sources { IfOk result (λ sources. map source sources.items ≡ linked_sources linked.now.files) }
+    ensures linked { OnOk result (IsLinkedUp linked.now) }
 {
     let files = linked.files();
     let mut sources = Vec::new(alloc);
