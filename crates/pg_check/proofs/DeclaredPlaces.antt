@@ -1,5 +1,5 @@
 -- What files and message types declare by place, as sums over all that is declared, one by one.
-use Rattle.std.proofs.Common.{◌≡◌, ◌∙◌, ℕ, zero, suc, ◌+◌, ◌^◌, ◌<◌, ◌≤◌, Bool, true, false, cond, nat_lt, List, [], ◌∷◌, ◌++◌, length, map, flat_map, Option, Some, None, slice_get, sym, ap, subst, refl, arith, length-append}
+use Rattle.std.proofs.Common.{◌≡◌, ◌∙◌, ℕ, suc, ◌+◌, ◌^◌, ◌<◌, ◌≤◌, cond, nat_lt, List, [], ◌∷◌, ◌++◌, length, map, flat_map, Some, slice_get, sym, ap, refl, arith, length-append}
 use Rattle.std.specs.List.{AllByRecursion}
 use Rattle.std.proofs.lemmas.Bool.Decides.{nat_tests}
 use Rattle.std.proofs.lemmas.List.{length-map, map-append}
@@ -10,9 +10,9 @@ use Rattle.pg_check.specs.Groups.{Placed, enum_id, enums_in as enum_ids_in, plac
 use Rattle.pg_check.specs.KeepsRules.{source_messages}
 use Rattle.pg_check.specs.MadeEnums.{made_enum}
 use Rattle.pg_check.specs.MadeNumbers.{index_of}
-use Rattle.pg_check.specs.MadeParts.{Declared, FileShape, Source, TypeTree, file_services, file_shape, nothing, placed_enums, placed_messages, type_tree, type_trees, with_file, with_files}
+use Rattle.pg_check.specs.MadeParts.{Declared, FileShape, Source, TypeTree, file_services, file_shape, placed_enums, placed_messages, type_tree, type_trees, with_file, with_files}
 use Rattle.pg_check.specs.MadeServices.{MadeService, service_ids}
-use Rattle.pg_check.specs.Outline.{Enum, Message, enum_scope, file_enums, file_messages, message_scope, package_of}
+use Rattle.pg_check.specs.Outline.{Message, enum_scope, file_enums, file_messages, message_scope, package_of}
 use Rattle.pg_check.proofs.KeptFiles.{source_enums}
 use Rattle.pg_check.proofs.Regrouped.{everywhere, regrouped}
 use Rattle.pg_check.proofs.ScopesOnce.{IsScoped, full_of, scopes_of}

@@ -1,20 +1,18 @@
 -- What names of a file count, by what declares them: message types, enums and services, each with what is in it.
-use Rattle.std.proofs.Common.{◌≡◌, ◌∙◌, ℕ, zero, suc, ◌+◌, ◌<◌, ◌≤◌, Bool, true, false, cond, ◌&&◌, List, [], ◌∷◌, ◌++◌, length, map, flat_map, Option, Some, None, string_bytes, sym, ap, subst, refl, arith, append_assoc}
+use Rattle.std.proofs.Common.{◌≡◌, ◌∙◌, ℕ, ◌+◌, true, List, [], ◌∷◌, ◌++◌, map, flat_map, Option, Some, None, string_bytes, sym, ap, refl, arith, append_assoc}
 use Rattle.std.specs.List.{AllByRecursion}
 use Rattle.std.proofs.lemmas.Bool.{false≢true}
 use Rattle.std.proofs.lemmas.List.{append-nil}
-use Rattle.pg_link.specs.declared.names.Kind.{Kind}
-use Rattle.pg_link.specs.declared.names.Kind.TheVariants as kinds
 use Rattle.pg_link.specs.declared.target.Target.{Target}
 use Rattle.pg_link.specs.Declares.{Declarations, Done, Word, entry_name, names_in, package_names, package_scope, within as linked_within}
 use Rattle.pg_link.specs.Files.{Declared}
-use Rattle.pg_link.specs.Names.{Text, called, is_package}
-use Rattle.pg_link.specs.Outline.{all_of, dotted_words, file_names, of_enum, of_enum_part, of_message, of_oneof, of_oneof_part, of_part, of_row, of_service, of_service_part, of_statement, package_words, word}
+use Rattle.pg_link.specs.Names.{Text, called}
+use Rattle.pg_link.specs.Outline.{all_of, file_names, of_enum, of_enum_part, of_oneof, of_oneof_part, of_part, of_row, of_service, of_service_part, of_statement, package_words, word}
 use Rattle.pg_schema.specs.DeclaredNames.{within}
 use Rattle.pg_schema.specs.Words.{is_word}
 use Rattle.pg_check.specs.Enums as enums
 use Rattle.pg_check.specs.MadeServices.{MadeMethod, MadeService, made_methods, made_service, made_services, service_in}
-use Rattle.pg_check.specs.Outline.{Enum, Message, all_enums, all_messages, dotted, dotted_more, enums_in, file_enums, file_messages, full_name, messages_in, package_in, package_of, row_enums, row_list, row_messages, statement_enums, statement_messages, statements_behind}
+use Rattle.pg_check.specs.Outline.{Enum, Message, all_enums, all_messages, dotted_more, enums_in, file_enums, file_messages, full_name, messages_in, package_in, package_of, row_enums, row_list, row_messages, statement_enums, statement_messages, statements_behind}
 use Rattle.pg_check.proofs.NamedOnce.{weight}
 use Rattle.pg_check.proofs.Totals.{total, total_joined}
 use Rattle.pg_check.proofs.WordTrees.{IsGood, rows_good}
@@ -260,7 +258,7 @@ package_scope_is (Some p) h =
 
 pub file_is : (f : Text → ℕ) (targets : ℕ → Option Target) (file : tree.FileTree.FileTree) → IsGoodFile file
     → total (weight f) (file_names file) ≡ (total (of_message_type f) (file_messages file) + total (of_enum_type f) (file_enums file))
-        + total (of_made_service f) (made_services targets (package_of file) file.statements.items ++ made_services targets (package_of file) (statements_behind file.packaged))
+    + total (of_made_service f) (made_services targets (package_of file) file.statements.items ++ made_services targets (package_of file) (statements_behind file.packaged))
 file_is f targets file good =
     let words = package_words file.packaged in
     let scope = package_of file in

@@ -1,5 +1,5 @@
 -- No full name of the parts of linked files is a part of a package.
-use Rattle.std.proofs.Common.{◌≡◌, ◌∙◌, ◌⊎◌, inl, inr, ℕ, zero, suc, ◌+◌, ◌^◌, ◌<◌, ◌≤◌, Bool, true, false, not, ◌&&◌, nat_eq, List, [], ◌∷◌, ◌++◌, length, map, flat_map, Option, Some, None, string_bytes, sym, ap, subst, refl, arith, append_assoc}
+use Rattle.std.proofs.Common.{◌≡◌, ◌∙◌, ℕ, ◌+◌, ◌^◌, ◌≤◌, Bool, true, false, not, ◌&&◌, nat_eq, List, [], ◌∷◌, ◌++◌, length, map, flat_map, Option, Some, None, string_bytes, sym, ap, subst, refl, arith, append_assoc}
 use Rattle.std.specs.List.{list_all, AllByRecursion}
 use Rattle.std.proofs.lemmas.Bool.{false≢true}
 use Rattle.std.proofs.lemmas.Bool.Decides.{nat_tests}
@@ -26,9 +26,9 @@ use Rattle.pg_check.proofs.DeclaredTotals.{inside, method_counts, more_dotted, o
 use Rattle.pg_check.proofs.KeptFiles.{all_joined, source_enums}
 use Rattle.pg_check.proofs.NamedOnce.{none_of, once_named, part, weight}
 use Rattle.pg_check.proofs.NoneLaws.{and_both, and_left, and_right}
-use Rattle.pg_check.proofs.PartPlaces.{IsSettledSource, IsUnder, ServiceUnder, all_enums_under, all_services_under, scoped_services}
+use Rattle.pg_check.proofs.PartPlaces.{IsSettledSource, ServiceUnder, all_services_under, scoped_services}
 use Rattle.pg_check.proofs.PlacedNames.{in_all, names_counted, names_in_files, settled_files}
-use Rattle.pg_check.proofs.Totals.{one, one_from, same_one, times, total, total_joined}
+use Rattle.pg_check.proofs.Totals.{one, same_one, times, total, total_joined}
 use Rattle.pg_check.proofs.WordTrees.{IsGood, rows_good}
 use Rattle.pg_check.proofs.WordedFiles.{IsGoodDotted, IsGoodEnum, IsGoodEnumPart, IsGoodMessage, IsGoodFile, joined_all, some_within, word_bytes}
 use Rattle.pg_syntax.specs.declared.tree as tree

@@ -1,5 +1,5 @@
 -- The parts of files that keep to the rules.
-use Rattle.std.proofs.Common.{◌≡◌, ◌∙◌, ℕ, ◌+◌, ◌≤◌, List, [], ◌∷◌, ◌++◌, length, map, flat_map, Option, None, sym, ap, subst, refl, arith, length-append, append_assoc}
+use Rattle.std.proofs.Common.{◌≡◌, ◌∙◌, ℕ, ◌+◌, ◌≤◌, List, [], ◌∷◌, ◌++◌, length, map, flat_map, Option, sym, ap, refl, arith, length-append, append_assoc}
 use Rattle.std.specs.List.{AllByRecursion}
 use Rattle.std.proofs.lemmas.List.{length-map, map-append}
 use Rattle.pg_schema.specs.declared.enum_type.EnumType.{EnumType}
@@ -12,7 +12,7 @@ use Rattle.pg_check.specs.Files.{file_lines}
 use Rattle.pg_check.specs.Groups.{Placed}
 use Rattle.pg_check.specs.KeepsRules.{EnumKeeps, FileKeeps, KeepsRules, MessageKeeps, OptionsKeep, source_messages}
 use Rattle.pg_check.specs.KeptParts.{KeptEnum, KeptFile, KeptMessage, KeptParts}
-use Rattle.pg_check.specs.MadeEnums.{MadeEnum, enumeration, made_enum}
+use Rattle.pg_check.specs.MadeEnums.{enumeration, made_enum}
 use Rattle.pg_check.specs.MadeParts.{Declared, EachIs, FileShape, IsFileOf, IsTypeOf, Source, TypeTree, file_shape, nothing, placed_enums, placed_messages, type_tree, type_trees, with_file, with_files}
 use Rattle.pg_check.specs.Outline.{Enum, Message, file_enums, file_messages}
 use Rattle.pg_check.proofs.Eachs.{each-length}

@@ -1,26 +1,23 @@
 -- The parts of linked files: their names are words, and what is named is there.
-use Rattle.std.proofs.Common.{◌≡◌, ◌∙◌, ℕ, ◌+◌, ◌^◌, ◌<◌, ◌≤◌, Bool, true, false, cond, not, ◌&&◌, nat_lt, List, [], ◌∷◌, ◌++◌, length, map, flat_map, Option, Some, None, string_bytes, sym, ap, subst, refl, arith, length-append, append_assoc}
-use Rattle.std.specs.List.{list_all, AllByRecursion, All}
-use Rattle.std.specs.List.Sorted.{IsPermutation}
+use Rattle.std.proofs.Common.{◌≡◌, ◌∙◌, ℕ, ◌+◌, ◌^◌, ◌<◌, Bool, true, false, cond, not, ◌&&◌, nat_lt, List, [], ◌∷◌, ◌++◌, length, map, flat_map, Option, Some, None, string_bytes, sym, ap, subst, refl, arith}
+use Rattle.std.specs.List.{list_all, AllByRecursion}
 use Rattle.std.proofs.lemmas.Bool.{false≢true}
 use Rattle.std.proofs.lemmas.Bool.Decides.{nat_tests}
-use Rattle.std.proofs.lemmas.List.{append-nil, length-map, map-append}
+use Rattle.std.proofs.lemmas.List.{length-map}
 use Rattle.std.proofs.lemmas.List.Elements.{recursion_from_All}
 use Rattle.std.proofs.lemmas.List.Folds.{list_all-append, list_all-map}
 use Rattle.std.proofs.lemmas.Slice.Eq.{bytes_eq-Decides}
 use Rattle.std.specs.Str.{bytes_eq}
 use Rattle.pg_schema.specs.declared.enum_type.EnumType.{EnumType}
-use Rattle.pg_schema.specs.declared.field.Field.{Field}
 use Rattle.pg_schema.specs.declared.field.Scalar.{Scalar}
 use Rattle.pg_schema.specs.declared.file.File.{File}
 use Rattle.pg_schema.specs.declared.message_type.MessageType.{MessageType}
 use Rattle.pg_schema.specs.declared.parts.Parts.{Parts}
-use Rattle.pg_schema.specs.declared.service.Method as schema_methods
 use Rattle.pg_schema.specs.declared.service.Service as schema_services
 use Rattle.pg_schema.specs.DeclaredNames.{declared_names, entry_names, file_names, service_names, type_names, values_at, within}
 use Rattle.pg_schema.specs.EnumRules.{is_value}
 use Rattle.pg_schema.specs.FieldRules.{is_known}
-use Rattle.pg_schema.specs.FileRules.{is_method, is_service}
+use Rattle.pg_schema.specs.FileRules.{is_service}
 use Rattle.pg_schema.specs.MessageRules.{field_names}
 use Rattle.pg_schema.specs.Pairs.{are_distinct, differ}
 use Rattle.pg_schema.specs.Words.{is_package, is_word}
@@ -29,19 +26,19 @@ use Rattle.pg_link.specs.declared.target.Target.TheVariants as targets
 use Rattle.pg_link.specs.Files as linked
 use Rattle.pg_link.specs.Linked.{IsLinkedUp, LinkedFiles}
 use Rattle.pg_link.specs.Names.{Text}
-use Rattle.pg_link.specs.Targets.{all_declared, enum_names, file_targets, message_names, target_at, target_in}
-use Rattle.pg_link.specs.Uses.{Use, file_scope, file_uses, in_rpc, service_part_uses, service_uses, statement_uses}
+use Rattle.pg_link.specs.Targets.{all_declared, enum_names, file_targets, message_names, target_in}
+use Rattle.pg_link.specs.Uses.{Use, file_scope, file_uses, in_rpc, service_part_uses, statement_uses}
 use Rattle.pg_link.specs.Walk.{Entry, IsParsed, outlines, path_of}
 use Rattle.pg_check.specs.Declares.{Declares}
 use Rattle.pg_check.specs.Enums as enums
 use Rattle.pg_check.specs.Groups.{Placed}
 use Rattle.pg_check.specs.KeepsRules.{source_messages}
-use Rattle.pg_check.specs.MadeEnums.{MadeEnum, MadeValue, enumeration, made_enum, made_value, made_values, made_values_in, value}
+use Rattle.pg_check.specs.MadeEnums.{MadeEnum, MadeValue, enumeration, made_enum, made_values, value}
 use Rattle.pg_check.specs.MadeFields.{MadeField, element_of, field, made_field}
-use Rattle.pg_check.specs.MadeMessages.{AreFields, IsMessage, made_fields, oneofs}
+use Rattle.pg_check.specs.MadeMessages.{made_fields, oneofs}
 use Rattle.pg_check.specs.MadeNumbers.{index_of}
 use Rattle.pg_check.specs.MadeParts.{Declared, EachIs, FileShape, IsFileOf, IsTypeOf, Source, TypeTree, file_services, file_shape, nothing, placed_enums, placed_messages, type_tree, type_trees, with_file, with_files}
-use Rattle.pg_check.specs.MadeServices.{MadeMethod, MadeService, made_method, made_methods, made_service, made_services, message_at, method, method_in, service, service_in}
+use Rattle.pg_check.specs.MadeServices.{MadeMethod, MadeService, made_method, made_methods, made_service, made_services, message_at, method, service}
 use Rattle.pg_check.specs.Members.{Member, Mapped, Plain, members}
 use Rattle.pg_check.specs.NamedParts.{NamedEnum, NamedMessage, NamedParts, has_package, is_named_field}
 use Rattle.pg_check.specs.Outline.{Enum, Message, file_enums, file_messages, package_of, statements_behind}
@@ -51,9 +48,9 @@ use Rattle.pg_check.specs.Types.{scalar_named}
 use Rattle.pg_check.proofs.Eachs.{each-length}
 use Rattle.pg_check.proofs.KeptFiles.{all_joined, enums_are, source_enums, tree_count}
 use Rattle.pg_check.proofs.Moved.{all_moved, all_weaker, pairs_weaker, pairs_of_map}
-use Rattle.pg_check.proofs.NamedTypes.{Fits, IfFits, at_fits, enum_count, message_count, some_message}
+use Rattle.pg_check.proofs.NamedTypes.{IfFits, at_fits, enum_count, message_count, some_message}
 use Rattle.pg_check.proofs.NoneLaws.{and_both, and_left, and_right}
-use Rattle.pg_check.proofs.WordTrees.{IsGood, file_good, rows_good}
+use Rattle.pg_check.proofs.WordTrees.{file_good, rows_good}
 use Rattle.pg_check.proofs.WordedFiles.{IsGoodEnum, IsGoodEnumPart, IsGoodFile, IsGoodMessage, IsGoodServicePart, IsGoodStatement, good_file, is_word_member, members_worded, oneofs_worded}
 use Rattle.pg_syntax.specs.declared.tree as tree
 use Rattle.pg_syntax.specs.declared.tree.EnumPart.TheVariants as enum_parts

@@ -1,16 +1,13 @@
 -- Of names that stand once: what is no package's part has its name alone.
-use Rattle.std.proofs.Common.{◌≡◌, ◌∙◌, ◌⊎◌, inl, inr, ℕ, zero, suc, ◌+◌, ◌<◌, ◌≤◌, Bool, true, false, cond, ◌&&◌, List, [], ◌∷◌, ◌++◌, map, flat_map, reverse, Option, Some, None, sym, ap, subst, refl, arith}
-use Rattle.std.specs.List.{filter}
+use Rattle.std.proofs.Common.{◌≡◌, ◌∙◌, ◌⊎◌, inl, inr, ℕ, ◌+◌, ◌≤◌, Bool, true, false, cond, List, [], ◌∷◌, ◌++◌, reverse, Some, None, sym, ap, subst, refl, arith}
 use Rattle.std.specs.Str.{bytes_eq}
-use Rattle.std.proofs.lemmas.Bool.{false≢true}
 use Rattle.std.proofs.lemmas.List.{reverse-append}
 use Rattle.std.proofs.lemmas.Option.{same_Some}
 use Rattle.std.proofs.lemmas.Slice.Eq.{bytes_eq-Decides}
-use Rattle.pg_link.specs.declared.names.Kind.{Kind}
 use Rattle.pg_link.specs.Files.{Declared}
 use Rattle.pg_link.specs.Names.{Text, is_package}
 use Rattle.pg_link.specs.Outline.{file_names}
-use Rattle.pg_link.specs.Standing.{AllMayStand, Bearer, MayStand, NoneTwice, Standing, all_standings, bearer, bearers, first_of, may_share, standing, standings, standings_from}
+use Rattle.pg_link.specs.Standing.{AllMayStand, Bearer, MayStand, NoneTwice, Standing, all_standings, bearer, bearers, first_of, standing, standings, standings_from}
 use Rattle.pg_link.specs.Targets.{all_declared}
 use Rattle.pg_link.specs.Walk.{Entry}
 use Rattle.pg_check.proofs.NoneLaws.{and_left, and_right}

@@ -1,28 +1,23 @@
 -- Files declare as many message types and enums as there are names of them, and what a type name names is one of those.
-use Rattle.std.proofs.Common.{◌≡◌, ◌∙◌, ℕ, zero, suc, ◌+◌, ◌^◌, ◌<◌, ◌≤◌, Bool, true, false, cond, ◌&&◌, nat_lt, List, [], ◌∷◌, ◌++◌, length, map, flat_map, filter, position, Option, Some, None, sym, ap, subst, refl, arith}
-use Rattle.std.specs.List.{AllByRecursion}
+use Rattle.std.proofs.Common.{◌≡◌, ℕ, ◌+◌, ◌<◌, Bool, true, false, cond, List, [], ◌∷◌, ◌++◌, length, map, flat_map, filter, Option, Some, None, subst, refl, arith}
 use Rattle.std.specs.Option.{option_and_then, option_map}
-use Rattle.std.proofs.lemmas.Bool.{false≢true}
-use Rattle.std.proofs.lemmas.Bool.Decides.{nat_tests}
-use Rattle.std.proofs.lemmas.List.{length-append, length-map}
 use Rattle.std.proofs.lemmas.List.Quantifiers.{position-Some}
 use Rattle.std.specs.Str.{bytes_eq}
 use Rattle.pg_link.specs.declared.names.Kind.{Kind}
 use Rattle.pg_link.specs.declared.names.Kind.TheVariants as kinds
 use Rattle.pg_link.specs.declared.target.Target.{Target}
 use Rattle.pg_link.specs.declared.target.Target.TheVariants as targets
-use Rattle.pg_link.specs.Declares.{Declarations, Done, Word, names_in, names_of_file, package_names, package_scope, within}
+use Rattle.pg_link.specs.Declares.{Declarations, Done, Word, names_in, package_names, package_scope, within}
 use Rattle.pg_link.specs.Files.{Declared}
 use Rattle.pg_link.specs.Names.{Text, Names}
-use Rattle.pg_link.specs.Outline.{all_of, file_names, of_enum, of_enum_part, of_message, of_oneof, of_oneof_part, of_part, of_row, of_service, of_service_part, of_statement, package_words, word}
+use Rattle.pg_link.specs.Outline.{all_of, file_names, of_enum, of_enum_part, of_oneof, of_oneof_part, of_part, of_row, of_service, of_service_part, of_statement, package_words, word}
 use Rattle.pg_link.specs.Resolves.{found}
-use Rattle.pg_link.specs.Targets.{all_declared, enum_names, is_enum, is_message, message_names, number_in, numbered, resolved_at, target_at, target_in, use_at}
+use Rattle.pg_link.specs.Targets.{all_declared, enum_names, is_enum, is_message, message_names, number_in, numbered, target_at, target_in, use_at}
 use Rattle.pg_link.specs.Uses.{Use, file_uses}
 use Rattle.pg_link.specs.Walk.{Entry, outlines, path_of}
 use Rattle.pg_link.specs.Files as linked
 use Rattle.pg_check.specs.KeepsRules.{source_messages}
-use Rattle.pg_check.specs.MadeParts.{Source}
-use Rattle.pg_check.specs.Outline.{Enum, Message, all_enums, all_messages, an_enum, enums_in, file_enums, file_messages, full_name, messages_in, package_of, row_enums, row_messages, statement_enums, statement_messages, statements_behind}
+use Rattle.pg_check.specs.Outline.{all_enums, all_messages, enums_in, file_enums, file_messages, full_name, messages_in, package_of, row_enums, row_messages, statement_enums, statement_messages, statements_behind}
 use Rattle.pg_check.specs.Sources.{linked_source, linked_sources}
 use Rattle.pg_check.proofs.KeptFiles.{source_enums}
 use Rattle.pg_syntax.specs.declared.tree as tree

@@ -1,14 +1,8 @@
 -- Full names of the parts of linked files differ, and none is a part of a package.
-use Rattle.std.proofs.Common.{◌≡◌, ◌∙◌, ◌⊎◌, inl, inr, ℕ, zero, suc, ◌+◌, ◌^◌, ◌<◌, ◌≤◌, ◌==◌, Bool, true, false, cond, not, ◌&&◌, ◌||◌, nat_eq, List, [], ◌∷◌, ◌++◌, length, map, flat_map, codes, Option, Some, None, slice_get, is_some, string_bytes, sym, ap, subst, refl, arith, append_assoc}
-use Rattle.std.specs.List.{list_all, AllByRecursion}
-use Rattle.std.specs.List.Sorted.{IsPermutation}
+use Rattle.std.proofs.Common.{◌≡◌, ◌∙◌, ℕ, zero, suc, ◌+◌, ◌==◌, Bool, true, false, cond, nat_eq, List, [], ◌∷◌, ◌++◌, map, flat_map, codes, Option, Some, None, slice_get, is_some, string_bytes, sym, ap, refl, arith}
 use Rattle.std.specs.Char.{to_ascii_uppercase}
-use Rattle.std.specs.Str.{bytes_eq}
-use Rattle.std.proofs.lemmas.Bool.{false≢true}
 use Rattle.std.proofs.lemmas.Bool.Decides.{nat_tests}
-use Rattle.std.proofs.lemmas.List.{append-nil, length-map, map-append}
-use Rattle.std.proofs.lemmas.Option.{same_Some, slice_get-map}
-use Rattle.std.proofs.lemmas.Slice.Eq.{bytes_eq-Decides}
+use Rattle.std.proofs.lemmas.Option.{same_Some}
 use Rattle.pg_schema.specs.declared.enum_type.EnumType.{EnumType}
 use Rattle.pg_schema.specs.declared.enum_type.EnumValue as schema_values
 use Rattle.pg_schema.specs.declared.field.Element.{Element}
@@ -17,7 +11,6 @@ use Rattle.pg_schema.specs.declared.field.Field.{Field}
 use Rattle.pg_schema.specs.declared.field.Presence.TheVariants as presences
 use Rattle.pg_schema.specs.declared.file.File.{File}
 use Rattle.pg_schema.specs.declared.message_type.MessageType.{MessageType}
-use Rattle.pg_schema.specs.declared.parts.Parts.{Parts}
 use Rattle.pg_schema.specs.declared.service.Method as schema_methods
 use Rattle.pg_schema.specs.declared.service.Service as schema_services
 use Rattle.pg_schema.specs.DeclaredNames as names
@@ -31,15 +24,15 @@ use Rattle.pg_link.specs.declared.target.Target.{Target}
 use Rattle.pg_link.specs.Declares as linked
 use Rattle.pg_link.specs.Names.{Text}
 use Rattle.pg_check.specs.Enums as enums
-use Rattle.pg_check.specs.MadeEnums.{MadeEnum, MadeValue, enumeration, made_enum, made_value, made_values, made_values_in, value}
+use Rattle.pg_check.specs.MadeEnums.{MadeEnum, MadeValue, enumeration, made_enum, made_values, value}
 use Rattle.pg_check.specs.MadeFields.{MadeField, element, field, labelled, made_field}
 use Rattle.pg_check.specs.MadeOptions.{flag_of}
-use Rattle.pg_check.specs.MadeMessages.{AreFields, IsMessage, made_fields, oneof_in, oneofs}
-use Rattle.pg_check.specs.MadeServices.{MadeMethod, MadeService, method, service}
-use Rattle.pg_check.specs.MadeParts.{EachIs, IsTypeOf, TypeTree}
+use Rattle.pg_check.specs.MadeMessages.{AreFields, made_fields, oneof_in, oneofs}
+use Rattle.pg_check.specs.MadeServices.{method, service}
+use Rattle.pg_check.specs.MadeParts.{IsTypeOf, TypeTree}
 use Rattle.pg_check.specs.Members.{Mapped, Member, Plain, members, members_from, members_in, name_of, oneof_members, oneofs_in, settings}
-use Rattle.pg_check.specs.Outline.{Enum, Message}
-use Rattle.pg_check.proofs.DeclaredTotals.{counts, inside, method_counts, of_enum_type, of_made_service, of_message_type, oneof_part_names, part_names, value_texts, value_texts_in}
+use Rattle.pg_check.specs.Outline.{Enum}
+use Rattle.pg_check.proofs.DeclaredTotals.{counts, inside, method_counts, of_made_service, oneof_part_names, part_names, value_texts}
 use Rattle.pg_check.proofs.Totals.{one, times, total, total_flat, total_joined, total_map, total_moved, total_same}
 use Rattle.pg_check.proofs.Regrouped.{everywhere}
 use Rattle.pg_syntax.specs.declared.tree as tree

@@ -1,5 +1,5 @@
 -- Each message type, enum and service of linked files stands in one place, and in its scope.
-use Rattle.std.proofs.Common.{◌≡◌, ◌∙◌, ℕ, zero, suc, ◌+◌, ◌^◌, ◌<◌, ◌≤◌, Bool, true, false, cond, not, ◌&&◌, nat_lt, nat_eq, List, [], ◌∷◌, ◌++◌, length, take, drop, map, flat_map, Option, Some, None, slice_get, option_map, string_bytes, sym, ap, subst, refl, arith, append_assoc}
+use Rattle.std.proofs.Common.{◌≡◌, ◌∙◌, ℕ, zero, suc, ◌+◌, ◌^◌, ◌≤◌, Bool, true, false, not, ◌&&◌, List, [], ◌∷◌, ◌++◌, length, take, drop, map, flat_map, Option, Some, slice_get, option_map, string_bytes, sym, ap, subst, refl, arith, append_assoc}
 use Rattle.std.proofs.Math.Seq.{drop-append_seam, take-append_seam}
 use Rattle.std.specs.List.{list_all, AllByRecursion}
 use Rattle.std.specs.Str.{bytes_eq}
@@ -23,8 +23,8 @@ use Rattle.pg_check.specs.Groups.{Placed, placed_from}
 use Rattle.pg_check.specs.KeepsRules.{source_messages}
 use Rattle.pg_check.specs.MadeEnums.{MadeEnum, enumeration, made_enum}
 use Rattle.pg_check.specs.MadeParts.{ArePartsOf, Declared, EachIs, FileShape, IsFileOf, IsTypeOf, Source, TypeTree, file_services, nothing, placed_enums, placed_messages, type_tree, type_trees, with_file, with_files}
-use Rattle.pg_check.specs.MadeServices.{MadeService, made_service, made_services, service, service_in}
-use Rattle.pg_check.specs.Outline.{Enum, Message, enum_scope, file_enums, file_messages, full_name, message_scope, package_of, statements_behind}
+use Rattle.pg_check.specs.MadeServices.{MadeService, made_services, service}
+use Rattle.pg_check.specs.Outline.{Enum, Message, enum_scope, file_enums, file_messages, message_scope, package_of, statements_behind}
 use Rattle.pg_check.proofs.DeclaredPlaces.{all_enum_places, all_service_places, all_types, enums_of_file, enums_of_tree, looked_up, service_scopes, services_of_file, types_of_file, types_of_tree}
 use Rattle.pg_check.proofs.KeptFiles.{enums_are, source_enums}
 use Rattle.pg_check.proofs.NoneLaws.{and_both}

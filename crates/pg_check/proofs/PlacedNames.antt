@@ -1,51 +1,39 @@
 -- All full names of the parts of linked files, counted in the files.
-use Rattle.std.proofs.Common.{◌≡◌, ◌∙◌, ◌⊎◌, inl, inr, ℕ, zero, suc, ◌+◌, ◌^◌, ◌<◌, ◌≤◌, Bool, true, false, not, ◌&&◌, nat_eq, List, [], ◌∷◌, ◌++◌, length, map, flat_map, Option, Some, None, string_bytes, sym, ap, subst, refl, arith, append_assoc}
-use Rattle.std.specs.List.{list_all, AllByRecursion}
-use Rattle.std.proofs.lemmas.Bool.{false≢true}
-use Rattle.std.proofs.lemmas.Bool.Decides.{nat_tests}
-use Rattle.std.proofs.lemmas.List.{append-nil, map-append}
+use Rattle.std.proofs.Common.{◌≡◌, ◌∙◌, ℕ, ◌+◌, ◌^◌, ◌≤◌, true, List, [], ◌∷◌, ◌++◌, length, map, flat_map, string_bytes, sym, ap, refl, arith}
+use Rattle.std.specs.List.{AllByRecursion}
+use Rattle.std.proofs.lemmas.List.{map-append}
 use Rattle.std.proofs.lemmas.List.Elements.{recursion_from_All}
 use Rattle.pg_schema.specs.declared.enum_type.EnumType.{EnumType}
-use Rattle.pg_schema.specs.declared.file.File.{File}
 use Rattle.pg_schema.specs.declared.message_type.MessageType.{MessageType}
 use Rattle.pg_schema.specs.declared.parts.Parts.{Parts}
-use Rattle.pg_schema.specs.declared.service.Service as schema_services
 use Rattle.pg_schema.specs.DeclaredNames as names
 use Rattle.pg_schema.specs.DeclaredNames.{declared_names, service_names, type_names, within}
-use Rattle.pg_schema.specs.PackageNames.{are_free_of, is_free_of, is_front}
 use Rattle.pg_schema.specs.Pairs.{are_distinct}
-use Rattle.pg_schema.specs.Words.{is_word, is_word_byte}
-use Rattle.pg_link.specs.Declares.{Done, Word, names_in, package_names, package_scope, within as linked_within}
 use Rattle.pg_link.specs.Linked.{IsLinkedUp, LinkedFiles}
-use Rattle.pg_link.specs.Names.{Text, called}
-use Rattle.pg_link.specs.Outline.{all_of, file_names, of_statement, package_words, word}
+use Rattle.pg_link.specs.Names.{Text}
+use Rattle.pg_link.specs.Outline.{file_names}
 use Rattle.pg_link.specs.Targets.{all_declared, target_at}
 use Rattle.pg_link.specs.Walk.{Entry, IsParsed}
-use Rattle.pg_check.specs.Declares.{Declares}
 use Rattle.pg_check.specs.Groups.{Placed, placed_from}
 use Rattle.pg_check.specs.KeepsRules.{source_messages}
 use Rattle.pg_check.specs.MadeEnums.{enumeration, made_enum}
-use Rattle.pg_check.specs.MadeParts.{ArePartsOf, Declared, EachIs, FileShape, IsFileOf, IsTypeOf, Source, TypeTree, file_services, nothing, placed_enums, placed_messages, type_tree, type_trees, with_file, with_files}
-use Rattle.pg_check.specs.MadeServices.{MadeMethod, MadeService, service}
-use Rattle.pg_check.specs.Outline.{Enum, Message, enum_scope, file_enums, file_messages, package_in, package_of, statements_behind}
+use Rattle.pg_check.specs.MadeParts.{ArePartsOf, Declared, IsTypeOf, Source, file_services, nothing, placed_enums, placed_messages, type_tree, type_trees, with_file, with_files}
+use Rattle.pg_check.specs.MadeServices.{MadeService, service}
+use Rattle.pg_check.specs.Outline.{Enum, enum_scope, file_enums, file_messages, package_of}
 use Rattle.pg_check.proofs.PlacedParts.{HasValuesOnce}
 use Rattle.pg_check.specs.Sources.{linked_source, linked_sources}
 use Rattle.pg_check.proofs.DeclaredPlaces.{looked_up}
-use Rattle.pg_check.proofs.DeclaredTotals.{file_is, inside, more_dotted, of_enum_type, of_made_service, of_message_type, part_names, value_texts}
+use Rattle.pg_check.proofs.DeclaredTotals.{file_is, inside, of_enum_type, of_made_service, of_message_type, value_texts}
 use Rattle.pg_check.proofs.KeptFiles.{source_enums}
 use Rattle.pg_check.proofs.LinkedParts.{distinct_before}
-use Rattle.pg_check.proofs.NamedOnce.{IsOnce, none_of, once_named, part, weight}
-use Rattle.pg_check.proofs.NoneLaws.{and_both, and_left, and_right}
+use Rattle.pg_check.proofs.NamedOnce.{once_named, weight}
 use Rattle.pg_check.proofs.PartNames.{enum_values_are, file_is_so, own_counts, own_is, service_is_so, tree_counts, type_is, values_count, values_looked}
-use Rattle.pg_check.proofs.PartPlaces.{IsSettledSource, IsUnder, ServiceUnder, all_enums_under, all_services_under, beside, each_total, enum_count, enum_names_are, enums_made, enums_summed, file_enum_ids, nested_enums, scoped_all, scoped_services, services_made}
+use Rattle.pg_check.proofs.PartPlaces.{IsSettledSource, beside, each_total, enum_count, enum_names_are, enums_made, enums_summed, file_enum_ids, nested_enums, scoped_all, scoped_services, services_made}
 use Rattle.pg_check.proofs.Regrouped.{everywhere}
 use Rattle.pg_check.proofs.ScopesOnce.{NamesOnce, each_file_once, file_scoped}
-use Rattle.pg_check.proofs.Totals.{distinct_from_times, one, one_from, same_one, times, total, total_both, total_flat, total_joined, total_map, total_same}
-use Rattle.pg_check.proofs.WordTrees.{IsGood, file_good, rows_good}
-use Rattle.pg_check.proofs.WordedFiles.{IsGoodDotted, IsGoodEnum, IsGoodEnumPart, IsGoodFile, IsGoodMessage, good_file, some_within, word_bytes}
-use Rattle.pg_syntax.specs.declared.tree as tree
-use Rattle.pg_syntax.specs.declared.tree.EnumPart.TheVariants as enum_parts
-use Rattle.pg_syntax.specs.Views as view
+use Rattle.pg_check.proofs.Totals.{distinct_from_times, one, times, total, total_both, total_flat, total_joined, total_map, total_same}
+use Rattle.pg_check.proofs.WordTrees.{file_good}
+use Rattle.pg_check.proofs.WordedFiles.{IsGoodFile, good_file}
 
 -- ---- the files
 

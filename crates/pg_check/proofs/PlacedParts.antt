@@ -1,8 +1,7 @@
 -- Of a schema's facts, where its files are linked and keep to the rules, those on places and full names.
-use Rattle.std.proofs.Common.{◌≡◌, ◌≤◌, ◌^◌, Bool, true, List, length}
+use Rattle.std.proofs.Common.{◌≡◌, ◌≤◌, ◌^◌, true, length}
 use Rattle.std.specs.List.{list_all, AllByRecursion}
 use Rattle.pg_schema.specs.declared.enum_type.EnumType.{EnumType}
-use Rattle.pg_schema.specs.declared.message_type.MessageType.{MessageType}
 use Rattle.pg_schema.specs.declared.parts.Parts.{Parts}
 use Rattle.pg_schema.specs.DeclaredNames.{declared_names}
 use Rattle.pg_schema.specs.EnumRules.{value_names}

@@ -1,15 +1,14 @@
 -- What scopes declare, scope by scope, is what is declared, one by one.
-use Rattle.std.proofs.Common.{◌≡◌, ◌∙◌, ℕ, zero, suc, ◌+◌, ◌^◌, ◌<◌, ◌≤◌, Bool, true, false, cond, not, nat_eq, nat_lt, ◌&&◌, List, [], ◌∷◌, ◌++◌, length, map, sym, ap, subst, refl, arith}
+use Rattle.std.proofs.Common.{◌≡◌, ◌∙◌, ℕ, zero, suc, ◌+◌, ◌^◌, ◌<◌, ◌≤◌, Bool, true, false, cond, not, nat_eq, nat_lt, ◌&&◌, List, [], ◌∷◌, length, map, sym, ap, refl, arith}
 use Rattle.std.specs.List.{list_all, filter, AllByRecursion}
 use Rattle.std.specs.Str.{bytes_eq}
-use Rattle.std.proofs.lemmas.Bool.{false≢true}
 use Rattle.std.proofs.lemmas.Bool.Decides.{nat_tests}
 use Rattle.pg_schema.specs.Pairs.{all_pairs}
 use Rattle.pg_schema.specs.Scopes.{are_each_once}
 use Rattle.pg_check.specs.Groups.{Placed, placed_from, places_in}
 use Rattle.pg_check.specs.MadeNumbers.{index_of}
 use Rattle.pg_check.proofs.NoneLaws.{and_both}
-use Rattle.pg_check.proofs.Totals.{at_text, once_there, times, total, total_same, total_turned}
+use Rattle.pg_check.proofs.Totals.{once_there, times, total, total_same, total_turned}
 
 pub everywhere : {X : Type 0} (P : X → Type 0) (xs : List X) → ((x : X) → P x) → AllByRecursion P xs
 everywhere P [] h = tt
@@ -21,7 +20,7 @@ places_total g s (p ∷ ps) = by (bytes_eq s p.scope) (places_total g s ps)
   where
     by : (b : Bool) → total g (places_in s ps) ≡ total (λ (q : Placed). cond (bytes_eq s q.scope) (g q.index) 0) ps
         → total g (map (λ (q : Placed). q.index) (cond b (p ∷ filter (λ (q : Placed). bytes_eq s q.scope) ps) (filter (λ (q : Placed). bytes_eq s q.scope) ps)))
-            ≡ cond b (g p.index) 0 + total (λ (q : Placed). cond (bytes_eq s q.scope) (g q.index) 0) ps
+        ≡ cond b (g p.index) 0 + total (λ (q : Placed). cond (bytes_eq s q.scope) (g q.index) 0) ps
     by true h = ap (λ n. g p.index + n) h
     by false h = omega (arith, h)
 

@@ -1,20 +1,17 @@
 -- Each message type and enum of a file stands in one scope: the file's package, or one of its message types.
-use Rattle.std.proofs.Common.{◌≡◌, ◌∙◌, ◌⊎◌, inl, inr, ℕ, zero, suc, ◌+◌, ◌<◌, ◌≤◌, Bool, true, false, cond, ◌&&◌, List, [], ◌∷◌, ◌++◌, length, map, flat_map, Option, Some, None, string_bytes, sym, ap, subst, refl, arith, append_assoc}
+use Rattle.std.proofs.Common.{◌≡◌, ◌∙◌, ◌⊎◌, inl, inr, ℕ, ◌+◌, ◌≤◌, Bool, true, false, List, [], ◌∷◌, ◌++◌, length, map, flat_map, Option, Some, None, string_bytes, sym, ap, subst, refl, arith, append_assoc}
 use Rattle.std.specs.List.{AllByRecursion}
 use Rattle.std.specs.Str.{bytes_eq}
-use Rattle.std.proofs.lemmas.Bool.{false≢true}
 use Rattle.std.proofs.lemmas.List.{append-nil}
 use Rattle.std.proofs.lemmas.Slice.Eq.{bytes_eq-Decides}
 use Rattle.pg_link.specs.declared.target.Target.{Target}
 use Rattle.pg_link.specs.Declares.{Done, Word, names_in, package_names, package_scope, within as linked_within}
 use Rattle.pg_link.specs.Files.{Declared}
-use Rattle.pg_link.specs.Linked.{IsLinkedUp}
 use Rattle.pg_link.specs.Names.{Text, called}
 use Rattle.pg_link.specs.Outline.{all_of, file_names, of_statement, package_words, word}
 use Rattle.pg_link.specs.Targets.{all_declared}
 use Rattle.pg_link.specs.Walk.{Entry}
-use Rattle.pg_check.specs.MadeServices.{made_services}
-use Rattle.pg_check.specs.Outline.{Enum, Message, all_enums, all_messages, an_enum, enums_in, enums_of, file_enums, file_messages, full_name, messages_in, package_in, package_of, row_enums, row_list, row_messages, statement_enums, statement_messages, statements_behind}
+use Rattle.pg_check.specs.Outline.{Enum, Message, all_enums, all_messages, enums_in, file_enums, file_messages, full_name, messages_in, package_in, package_of, row_enums, row_list, row_messages, statement_enums, statement_messages, statements_behind}
 use Rattle.pg_check.proofs.DeclaredTotals.{behind_dot, file_is, first_dotted, of_message_type, package_scope_is}
 use Rattle.pg_check.proofs.NamedOnce.{IsOnce, none_of, part, weight}
 use Rattle.pg_check.proofs.Totals.{as_one, one, one_from, same_one, times, total, total_joined, total_map}

@@ -1,15 +1,14 @@
 -- Sums over lists, and how often a text stands in one.
-use Rattle.std.proofs.Common.{◌≡◌, ◌∙◌, ◌⊎◌, inl, inr, ℕ, zero, suc, ◌+◌, ◌<◌, ◌≤◌, Bool, true, false, cond, not, nat_eq, ◌&&◌, List, [], ◌∷◌, ◌++◌, length, map, flat_map, sym, ap, subst, refl, arith}
-use Rattle.std.specs.List.{list_all, sum_by, filter, AllByRecursion}
+use Rattle.std.proofs.Common.{◌≡◌, ◌∙◌, ℕ, ◌+◌, ◌≤◌, Bool, true, false, cond, not, List, [], ◌∷◌, ◌++◌, map, flat_map, sym, ap, subst, refl, arith}
+use Rattle.std.specs.List.{list_all, sum_by, AllByRecursion}
 use Rattle.std.specs.List.Sorted.{IsPermutation}
 use Rattle.std.specs.Str.{bytes_eq}
 use Rattle.std.proofs.lemmas.Bool.{false≢true}
-use Rattle.std.proofs.lemmas.Bool.Decides.{nat_tests}
 use Rattle.std.proofs.lemmas.List.Sorted.{sum_by-IsPermutation}
 use Rattle.std.proofs.lemmas.List.Sums.{sum_by-cons}
 use Rattle.std.proofs.lemmas.Slice.Eq.{bytes_eq-Decides}
-use Rattle.pg_schema.specs.Pairs.{all_pairs, are_distinct, differ}
-use Rattle.pg_check.proofs.NoneLaws.{and_both, and_left, and_right}
+use Rattle.pg_schema.specs.Pairs.{are_distinct, differ}
+use Rattle.pg_check.proofs.NoneLaws.{and_both}
 
 abbrev pub total : {X : Type 0} → (X → ℕ) → List X → ℕ
 total f [] = 0

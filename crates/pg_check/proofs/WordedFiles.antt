@@ -1,21 +1,18 @@
 -- The names of what files declare are words, and packages are words with dots between.
-use Rattle.std.proofs.Common.{◌≡◌, ◌∙◌, ℕ, ◌+◌, ◌≤◌, Bool, true, false, cond, ◌&&◌, ◌||◌, ◌==◌, List, [], ◌∷◌, ◌++◌, length, map, flat_map, Option, Some, None, string_bytes, sym, ap, subst, refl, arith}
+use Rattle.std.proofs.Common.{◌≡◌, ◌∙◌, ℕ, ◌+◌, ◌≤◌, Bool, true, false, cond, ◌||◌, ◌==◌, List, [], ◌∷◌, ◌++◌, length, flat_map, Option, Some, None, string_bytes, sym, ap, refl, arith}
 use Rattle.std.specs.List.{list_all, AllByRecursion}
 use Rattle.std.proofs.lemmas.Bool.{false≢true}
 use Rattle.std.proofs.lemmas.Bool.Decides.{nat_tests}
-use Rattle.std.proofs.lemmas.List.Folds.{list_all-append, list_all-map}
+use Rattle.std.proofs.lemmas.List.Folds.{list_all-append}
 use Rattle.pg_schema.specs.DeclaredNames.{within}
 use Rattle.pg_schema.specs.Words.{before_first, is_package, is_word, is_word_byte, parts_at_dots}
-use Rattle.pg_check.specs.Enums as enums
 use Rattle.pg_check.specs.MadeMessages.{oneof_in, oneofs}
-use Rattle.pg_check.specs.Members.{Member, members, members_from, members_in, name_of, oneof_members, oneofs_in}
-use Rattle.pg_check.specs.Outline.{Enum, Message, all_enums, all_messages, an_enum, dotted, dotted_more, enums_in, enums_of, file_enums, file_messages, full_name, messages_in, messages_of, package_in, package_of, row_enums, row_list, row_messages, statement_enums, statement_messages, statements_behind}
+use Rattle.pg_check.specs.Members.{Member, members_from, members_in, name_of, oneof_members, oneofs_in}
+use Rattle.pg_check.specs.Outline.{Enum, Message, all_enums, all_messages, an_enum, dotted, dotted_more, enums_in, file_enums, file_messages, full_name, messages_in, package_in, package_of, row_enums, row_list, row_messages, statement_enums, statement_messages, statements_behind}
 use Rattle.pg_check.proofs.NoneLaws.{and_both, and_left, and_right}
 use Rattle.pg_check.proofs.WordTrees.{IsGood, IsGoodName, field_name_good, map_name_good, rows_good}
 use Rattle.pg_syntax.specs.declared.tree as tree
-use Rattle.pg_syntax.specs.declared.tree.EnumPart.TheVariants as enum_parts
 use Rattle.pg_syntax.specs.declared.tree.OneofPart.TheVariants as oneof_parts
-use Rattle.pg_syntax.specs.declared.tree.ServicePart.TheVariants as service_parts
 use Rattle.pg_syntax.specs.declared.tree.Part.{Part, Row_of-Part, end_of-Part, more_of-Part}
 use Rattle.pg_syntax.specs.declared.tree.Part.TheVariants as parts
 use Rattle.pg_syntax.specs.declared.tree.Statement.TheVariants as statements
