@@ -1,18 +1,17 @@
 -- Reserved items that have a number in common: those in a row have none, and the fewest that have two are found by halves.
-use Rattle.std.proofs.Common.{◌≡◌, ◌∙◌, ℕ, zero, suc, ◌+◌, ◌-◌, ◌<◌, ◌≤◌, Bool, true, false, cond, not, ◌&&◌, ◌||◌, nat_lt, nat_le, List, [], ◌∷◌, ◌++◌, length, take, drop, get_or, Option, Some, None, arith, add-one, sym, ap, subst, refl}
+use Rattle.std.proofs.Common.{◌≡◌, ◌∙◌, ℕ, zero, suc, ◌+◌, ◌<◌, ◌≤◌, Bool, true, false, cond, not, ◌&&◌, ◌||◌, nat_lt, nat_le, List, [], ◌∷◌, ◌++◌, length, take, drop, get_or, Option, Some, None, arith, add-one, sym, ap, subst, refl}
 use Rattle.std.specs.List.{filter, list_all, list_any}
 use Rattle.std.specs.List.Sorted.{IsPermutation, IsNonDecreasingBy}
 use Rattle.std.proofs.lemmas.Bool.{false≢true}
 use Rattle.std.proofs.lemmas.Bool.Decides.{nat_tests}
 use Rattle.std.proofs.lemmas.List.Folds.{list_all-append}
 use Rattle.std.proofs.lemmas.List.Sorted.{IsPermutation-sym}
-use Rattle.pg_schema.specs.Pairs.{all_pairs}
 use Rattle.pg_check.specs.declared.numbers.Numbers.{Numbers}
 use Rattle.pg_check.specs.KeepsRules.{are_apart, rises}
 use Rattle.pg_check.specs.Numbers.{first_again}
 use Rattle.pg_check.specs.ReservedItems.{overlap}
 use Rattle.pg_check.specs.Rows.{follow, is_behind}
-use Rattle.pg_check.proofs.FirstLaws.{again_found, again_more, item_and_rest, take_item}
+use Rattle.pg_check.proofs.FirstLaws.{again_found, again_more, take_item}
 use Rattle.pg_check.proofs.Moved.{IsSymmetric, all_moved, all_weaker, pairs_moved}
 use Rattle.pg_check.proofs.NoneLaws.{and_both, and_left, and_right}
 

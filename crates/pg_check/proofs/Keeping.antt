@@ -1,36 +1,27 @@
 -- No rule is told of a message exactly where it keeps to the rules.
-use Rattle.std.proofs.Common.{◌≡◌, ◌∙◌, ◌↔◌, ◌+◌, ◌-◌, ◌<◌, ◌≤◌, ℕ, Bool, true, false, cond, not, nat_eq, nat_lt, ◌&&◌, ◌||◌, List, [], ◌∷◌, ◌++◌, length, map, flat_map, slice_get, Option, Some, None, sym, ap, refl, arith, length-append}
+use Rattle.std.proofs.Common.{◌≡◌, ◌↔◌, ℕ, Bool, true, false, cond, not, nat_lt, ◌||◌, List, map, Option, Some, None, refl}
 use Rattle.std.specs.List.{list_all, AllByRecursion}
 use Rattle.std.proofs.lemmas.Bool.{false≢true}
 use Rattle.pg_link.specs.declared.target.Target.{Target}
 use Rattle.pg_schema.specs.TextSets.{is_among}
-use Rattle.pg_check.specs.declared.declare.FileFault.{FileFault}
 use Rattle.pg_check.specs.declared.fault.Fault.{Fault}
 use Rattle.pg_check.specs.declared.fault.Rule.{Rule}
 use Rattle.pg_check.specs.declared.fault.Rule.TheVariants as rules
 use Rattle.pg_check.specs.declared.numbers.Keyed.{Keyed}
 use Rattle.pg_check.specs.declared.numbers.Numbers.{Numbers}
-use Rattle.pg_check.specs.Declares.{files_fault, first_broken, in_file}
-use Rattle.pg_check.specs.Enums as enums
-use Rattle.pg_check.specs.Faults.{broken, earlier, earliest, first_fault, told_at}
-use Rattle.pg_check.specs.Files as files
-use Rattle.pg_check.specs.KeepsRules.{EnumKeeps, FileKeeps, ItemsKeep, KeepsRules, MessageKeeps, OptionsKeep, ServiceKeeps, StatementKeeps, are_apart, begins_with_zero, has_field_number, has_key, has_some, has_value_number, is_free, is_free_name, is_no_option, is_packed_rightly, is_right, lies_within, may_be_member, member_options, method_options, oneof_keeps, rises, source_messages, value_options}
-use Rattle.pg_check.specs.MadeParts.{Source}
+use Rattle.pg_check.specs.Faults.{broken, earlier, first_fault, told_at}
+use Rattle.pg_check.specs.KeepsRules.{ItemsKeep, MessageKeeps, OptionsKeep, are_apart, has_field_number, has_key, is_free, is_free_name, is_no_option, is_packed_rightly, is_right, lies_within, may_be_member, member_options, oneof_keeps, rises}
 use Rattle.pg_check.specs.Members.{Member, json_named, key_of, members, named, place_of, settings, settings_of}
 use Rattle.pg_check.specs.Messages as messages
 use Rattle.pg_check.specs.Names as names
 use Rattle.pg_check.specs.Numbers as numbers
 use Rattle.pg_check.specs.Options.{OptionAt, first_bad, first_wrong, name_of}
-use Rattle.pg_check.specs.Outline.{Enum, Message, file_enums, file_messages, statements_behind}
 use Rattle.pg_check.specs.ReservedItems as reserved
-use Rattle.pg_check.proofs.NoneLaws.{all_iff, and_both, and_left, and_right, broken_none, earlier_none, earliest_none, first_fault_none, least_none, none_again, not_not, or_else_none, such_kept, tests_iff, told_none}
+use Rattle.pg_check.proofs.NoneLaws.{all_iff, and_both, and_left, and_right, broken_none, earlier_none, first_fault_none, least_none, none_again, not_not, or_else_none, such_kept, tests_iff, told_none}
 use Rattle.pg_syntax.specs.declared.tree as tree
-use Rattle.pg_syntax.specs.declared.tree.EnumPart.TheVariants as enum_parts
 use Rattle.pg_syntax.specs.declared.tree.OneofPart.TheVariants as oneof_parts
 use Rattle.pg_syntax.specs.declared.tree.Part.{Part}
 use Rattle.pg_syntax.specs.declared.tree.Part.TheVariants as parts
-use Rattle.pg_syntax.specs.declared.tree.ServicePart.TheVariants as service_parts
-use Rattle.pg_syntax.specs.declared.tree.Statement.TheVariants as statements
 
 -- one rule, and the others
 pub rule_then : (rule : Rule) (o : Option ℕ) (others : Option Fault) → (earlier (broken rule o) others ≡ None) ↔ ((o ≡ None) × (others ≡ None))

@@ -1,9 +1,7 @@
 -- No rule is told of files exactly where they keep to the rules.
-use Rattle.std.proofs.Common.{◌≡◌, ◌∙◌, ◌↔◌, ◌+◌, ◌-◌, ◌<◌, ◌≤◌, ℕ, zero, suc, Bool, true, false, cond, not, nat_eq, ◌&&◌, ◌||◌, List, [], ◌∷◌, ◌++◌, length, map, flat_map, slice_get, Option, Some, None, sym, ap, subst, refl, arith, length-append}
+use Rattle.std.proofs.Common.{◌≡◌, ◌↔◌, ◌+◌, ◌-◌, ◌≤◌, ℕ, zero, suc, Bool, true, false, cond, not, nat_eq, ◌||◌, List, [], ◌∷◌, ◌++◌, length, flat_map, Option, Some, None, sym, subst, refl, arith, length-append}
 use Rattle.std.specs.List.{list_all, AllByRecursion}
-use Rattle.std.specs.Option.{option_map}
 use Rattle.std.proofs.lemmas.Bool.{false≢true}
-use Rattle.pg_link.specs.declared.target.Target.{Target}
 use Rattle.pg_check.specs.declared.declare.FileFault.{FileFault}
 use Rattle.pg_check.specs.declared.fault.Fault.{Fault}
 use Rattle.pg_check.specs.declared.fault.Rule.TheVariants as rules
@@ -13,7 +11,7 @@ use Rattle.pg_check.specs.Declares.{files_fault, first_broken, in_file}
 use Rattle.pg_check.specs.Enums as enums
 use Rattle.pg_check.specs.Faults.{broken, earlier, earliest, first_fault}
 use Rattle.pg_check.specs.Files as files
-use Rattle.pg_check.specs.KeepsRules.{EnumKeeps, FileKeeps, ItemsKeep, KeepsRules, MessageKeeps, OptionsKeep, ServiceKeeps, StatementKeeps, are_apart, begins_with_zero, has_some, has_value_number, is_free, method_options, source_messages, value_options}
+use Rattle.pg_check.specs.KeepsRules.{EnumKeeps, FileKeeps, KeepsRules, MessageKeeps, OptionsKeep, ServiceKeeps, StatementKeeps, are_apart, begins_with_zero, has_some, has_value_number, is_free, method_options, source_messages, value_options}
 use Rattle.pg_check.specs.MadeParts.{Source}
 use Rattle.pg_check.specs.Names.{first_among}
 use Rattle.pg_check.specs.Numbers as numbers

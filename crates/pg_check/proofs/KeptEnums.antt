@@ -1,6 +1,6 @@
 -- Enums of files that keep to the rules.
-use Rattle.std.proofs.Common.{◌≡◌, ◌∙◌, ℕ, zero, suc, ◌+◌, ◌-◌, ◌^◌, ◌<◌, ◌≤◌, ℤ, pos, negsuc, neg_ℤ, Bool, true, false, cond, not, ◌&&◌, ◌||◌, nat_lt, nat_le, nat_eq, List, [], ◌∷◌, ◌++◌, map, flat_map, Option, Some, None, codes, string_bytes, arith, sym, ap, subst, refl}
-use Rattle.std.specs.List.{list_all, list_any}
+use Rattle.std.proofs.Common.{◌≡◌, ◌∙◌, ℕ, zero, suc, ◌+◌, ◌-◌, ◌^◌, ◌<◌, ◌≤◌, ℤ, pos, neg_ℤ, Bool, true, false, cond, not, ◌&&◌, ◌||◌, nat_lt, nat_le, nat_eq, List, [], ◌∷◌, ◌++◌, map, flat_map, Some, None, codes, string_bytes, arith, sym, ap, refl}
+use Rattle.std.specs.List.{list_all}
 use Rattle.std.specs.Str.{bytes_eq}
 use Rattle.std.proofs.lemmas.Bool.{false≢true}
 use Rattle.std.proofs.lemmas.Bool.Decides.{nat_tests}
@@ -19,11 +19,11 @@ use Rattle.pg_schema.specs.UsedNumbers.{are_aliases, are_apart as uses_apart, en
 use Rattle.pg_check.specs.declared.numbers.Keyed.{Keyed}
 use Rattle.pg_check.specs.declared.numbers.Numbers.{Numbers}
 use Rattle.pg_check.specs.Enums as enums
-use Rattle.pg_check.specs.KeepsRules.{EnumKeeps, ItemsKeep, are_apart, begins_with_zero, has_some, is_free_name, lies_within, rises}
+use Rattle.pg_check.specs.KeepsRules.{EnumKeeps, are_apart, begins_with_zero, has_some, lies_within, rises}
 use Rattle.pg_check.specs.KeptParts.{KeptEnum}
-use Rattle.pg_check.specs.MadeEnums.{MadeEnum, MadeValue, body_flag, body_settings, enumeration, made_body, made_value, made_values, value}
+use Rattle.pg_check.specs.MadeEnums.{MadeEnum, MadeValue, body_flag, enumeration, made_body, made_value, made_values, value}
 use Rattle.pg_check.specs.MadeNumbers.{of_rank, value_number, value_range}
-use Rattle.pg_check.specs.MadeOptions.{flag_of, flag_value, or_flag}
+use Rattle.pg_check.specs.MadeOptions.{flag_value, or_flag}
 use Rattle.pg_check.specs.Names.{Named, is_same as is_same_name}
 use Rattle.pg_check.specs.Numbers.{highest_value, is_same, is_within, lowest_value, rank}
 use Rattle.pg_check.specs.Options.{is_alone, is_word, name_of}

@@ -1,26 +1,23 @@
 -- Fields of messages that keep to the rules, each by itself.
-use Rattle.std.proofs.Common.{◌≡◌, ◌∙◌, ℕ, zero, suc, ◌+◌, ◌-◌, ◌^◌, ◌<◌, ◌≤◌, Bool, true, false, cond, not, ◌&&◌, ◌||◌, nat_lt, nat_le, nat_eq, List, [], ◌∷◌, ◌++◌, map, Option, Some, None, is_some, codes, arith, sym, ap, subst, refl}
-use Rattle.std.specs.List.{list_all, list_any}
+use Rattle.std.proofs.Common.{◌≡◌, ◌∙◌, ℕ, ◌+◌, ◌-◌, ◌^◌, ◌<◌, ◌≤◌, Bool, true, false, cond, not, ◌&&◌, ◌||◌, nat_lt, List, [], ◌∷◌, map, Option, Some, None, is_some, codes, arith, ap, refl}
+use Rattle.std.specs.List.{list_all}
 use Rattle.std.specs.Option.{option_map}
 use Rattle.std.proofs.lemmas.Bool.{false≢true}
 use Rattle.std.proofs.lemmas.Bool.Decides.{nat_tests}
 use Rattle.std.proofs.lemmas.List.Folds.{list_all-append}
 use Rattle.pg_schema.specs.declared.field.Element.{Element}
-use Rattle.pg_schema.specs.declared.field.Element.TheVariants as elements
-use Rattle.pg_schema.specs.declared.field.Presence.{Presence}
 use Rattle.pg_schema.specs.declared.field.Presence.TheVariants as presences
 use Rattle.pg_schema.specs.declared.field.Scalar.{Scalar}
-use Rattle.pg_schema.specs.declared.field.Scalar.TheVariants as scalars
 use Rattle.pg_schema.specs.FieldRules as rules
 use Rattle.pg_schema.specs.Shape.{is_key, is_packable}
 use Rattle.pg_link.specs.declared.target.Target.{Target}
 use Rattle.pg_link.specs.declared.target.Target.TheVariants as targets_of
 use Rattle.pg_check.specs.Enums.{is_true}
 use Rattle.pg_check.specs.KeepsRules.{has_field_number, has_key, is_packed_rightly, may_be_member}
-use Rattle.pg_check.specs.MadeFields.{MadeField, element, element_in, element_of, is_optional, key_or, labelled, made_field, made_number, oneof_of, options, presence, states_optional}
+use Rattle.pg_check.specs.MadeFields.{MadeField, element, element_of, is_optional, key_or, labelled, made_field, oneof_of}
 use Rattle.pg_check.specs.MadeNumbers.{field_number, index_of}
-use Rattle.pg_check.specs.MadeOptions.{flag_in, flag_of, flag_value, flag_word, or_flag}
-use Rattle.pg_check.specs.Members.{Member, Plain, Mapped, key_of, members_from, members_in, number_of, oneof_members, oneofs_in, settings, settings_of}
+use Rattle.pg_check.specs.MadeOptions.{flag_in, flag_of, flag_value, or_flag}
+use Rattle.pg_check.specs.Members.{Member, Plain, Mapped, key_of, members_from, members_in, number_of, oneof_members, oneofs_in, settings}
 use Rattle.pg_check.specs.Messages as messages
 use Rattle.pg_check.specs.Numbers as numbers
 use Rattle.pg_check.specs.Options.{is_word}

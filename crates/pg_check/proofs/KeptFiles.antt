@@ -1,5 +1,5 @@
 -- The parts of files that keep to the rules.
-use Rattle.std.proofs.Common.{◌≡◌, ◌∙◌, ℕ, ◌+◌, ◌≤◌, List, [], ◌∷◌, ◌++◌, length, map, flat_map, Option, None, sym, ap, subst, refl, arith, length-append, append_assoc}
+use Rattle.std.proofs.Common.{◌≡◌, ◌∙◌, ℕ, ◌+◌, ◌≤◌, List, [], ◌∷◌, ◌++◌, length, map, flat_map, Option, sym, ap, refl, arith, length-append, append_assoc}
 use Rattle.std.specs.List.{AllByRecursion}
 use Rattle.std.proofs.lemmas.List.{length-map, map-append}
 use Rattle.pg_schema.specs.declared.enum_type.EnumType.{EnumType}
@@ -12,7 +12,7 @@ use Rattle.pg_check.specs.Files.{file_lines}
 use Rattle.pg_check.specs.Groups.{Placed}
 use Rattle.pg_check.specs.KeepsRules.{EnumKeeps, FileKeeps, KeepsRules, MessageKeeps, OptionsKeep, source_messages}
 use Rattle.pg_check.specs.KeptParts.{KeptEnum, KeptFile, KeptMessage, KeptParts}
-use Rattle.pg_check.specs.MadeEnums.{MadeEnum, enumeration, made_enum}
+use Rattle.pg_check.specs.MadeEnums.{enumeration, made_enum}
 use Rattle.pg_check.specs.MadeParts.{Declared, EachIs, FileShape, IsFileOf, IsTypeOf, Source, TypeTree, file_shape, nothing, placed_enums, placed_messages, type_tree, type_trees, with_file, with_files}
 use Rattle.pg_check.specs.Outline.{Enum, Message, file_enums, file_messages}
 use Rattle.pg_check.proofs.Eachs.{each-length}
@@ -21,7 +21,7 @@ use Rattle.pg_check.proofs.KeptEnums.{kept_enum}
 use Rattle.pg_check.proofs.KeptMessages.{kept_message}
 use Rattle.pg_check.proofs.KeptOptions.{kept_options}
 
-all_joined : {X : Type 0} (P : X → Type 0) (xs ys : List X) → AllByRecursion P xs → AllByRecursion P ys → AllByRecursion P (xs ++ ys)
+pub all_joined : {X : Type 0} (P : X → Type 0) (xs ys : List X) → AllByRecursion P xs → AllByRecursion P ys → AllByRecursion P (xs ++ ys)
 all_joined P [] ys h k = k
 all_joined P (x ∷ xs) ys h k = (h.0, all_joined P xs ys h.1 k)
 
@@ -47,7 +47,7 @@ kept_messages [] (t ∷ ts) is h = absurd is
 kept_messages (w ∷ ws) [] is h = absurd is
 kept_messages (w ∷ ws) (t ∷ ts) is h = (kept_message w.targets w.full w.body w.nested w.enums t is.0 h.0, kept_messages ws ts is.1 h.1)
 
-tree_count : (d : Declared) (ss : List Source) → length (with_files d ss).types ≡ length d.types + length (flat_map source_messages ss)
+pub tree_count : (d : Declared) (ss : List Source) → length (with_files d ss).types ≡ length d.types + length (flat_map source_messages ss)
 tree_count d [] = omega arith
 tree_count d (s ∷ ss) =
     let trees = type_trees (length d.types) (length d.enums) s in
@@ -59,13 +59,13 @@ tree_count d (s ∷ ss) =
 
 -- ---- enums
 
-abbrev source_enums : Source → List Enum
+abbrev pub source_enums : Source → List Enum
 source_enums s = file_enums s.tree
 
 abbrev FoundKeeps : Enum → Type 0
 FoundKeeps e = EnumKeeps e.tree.parts.items
 
-enums_are : (d : Declared) (ss : List Source) → (with_files d ss).enums ≡ d.enums ++ map made_enum (flat_map source_enums ss)
+pub enums_are : (d : Declared) (ss : List Source) → (with_files d ss).enums ≡ d.enums ++ map made_enum (flat_map source_enums ss)
 enums_are d [] = sym (append_none d.enums)
   where
     append_none : {X : Type 0} (xs : List X) → xs ++ [] ≡ xs

@@ -1,8 +1,7 @@
 -- Message types of files that keep to the rules.
-use Rattle.std.proofs.Common.{◌≡◌, ◌∙◌, ℕ, zero, suc, ◌+◌, ◌-◌, ◌^◌, ◌<◌, ◌≤◌, Bool, true, false, cond, not, ◌&&◌, ◌||◌, nat_lt, nat_le, nat_eq, List, [], ◌∷◌, ◌++◌, length, map, flat_map, get_or, Option, Some, None, string_bytes, arith, sym, ap, subst, refl}
+use Rattle.std.proofs.Common.{◌≡◌, ◌∙◌, ℕ, ◌+◌, ◌^◌, ◌<◌, ◌≤◌, Bool, true, false, not, ◌&&◌, ◌||◌, nat_lt, nat_le, nat_eq, List, [], ◌∷◌, length, map, Option, string_bytes, arith, sym, ap, refl}
 use Rattle.std.specs.List.{list_all, list_any}
-use Rattle.std.specs.List.Sorted.{IsPermutation, IsNonDecreasingBy}
-use Rattle.std.specs.Str.{bytes_eq}
+use Rattle.std.specs.List.Sorted.{IsPermutation}
 use Rattle.std.proofs.lemmas.Bool.{false≢true}
 use Rattle.std.proofs.lemmas.Bool.Decides.{nat_tests}
 use Rattle.std.proofs.lemmas.List.{length-map}
@@ -21,16 +20,15 @@ use Rattle.pg_schema.specs.UsedNumbers.{are_aliases, are_apart as uses_apart, fi
 use Rattle.pg_link.specs.declared.target.Target.{Target}
 use Rattle.pg_check.specs.declared.numbers.Keyed.{Keyed}
 use Rattle.pg_check.specs.declared.numbers.Numbers.{Numbers}
-use Rattle.pg_check.specs.KeepsRules.{ItemsKeep, MessageKeeps, are_apart, has_field_number, lies_within, rises}
+use Rattle.pg_check.specs.KeepsRules.{MessageKeeps, has_field_number, lies_within, rises}
 use Rattle.pg_check.specs.KeptParts.{KeptMessage, is_kept_field}
 use Rattle.pg_check.specs.MadeFields.{MadeField, field, made_field, made_number}
 use Rattle.pg_check.specs.MadeMessages.{AreFields, IsMessage, made_fields, oneofs}
-use Rattle.pg_check.specs.MadeMessages as made
 use Rattle.pg_check.specs.MadeNumbers.{field_number, field_range}
-use Rattle.pg_check.specs.Members.{Member, json_name, json_named, key_of, members, name_of, named}
+use Rattle.pg_check.specs.Members.{Member, json_name, json_named, key_of, members, named}
 use Rattle.pg_check.specs.Messages as messages
 use Rattle.pg_check.specs.Names as names
-use Rattle.pg_check.specs.Numbers.{highest_field, is_same, is_within, lowest_field}
+use Rattle.pg_check.specs.Numbers.{highest_field, is_within, lowest_field}
 use Rattle.pg_check.proofs.KeptEnums.{free_of_each_other}
 use Rattle.pg_check.proofs.KeptFields.{all_in_oneofs, field_counts, fields_kept, is_kept, oneof_count}
 use Rattle.pg_check.proofs.Moved.{IsSymmetric, all_moved, all_weaker, pairs_joined, pairs_moved, pairs_of_map, pairs_weaker}

@@ -1,5 +1,5 @@
 -- Options of files that keep to the rules: each of its kind, by rising numbers.
-use Rattle.std.proofs.Common.{◌≡◌, ◌∙◌, ℕ, ◌<◌, Bool, true, false, cond, not, ◌&&◌, ◌||◌, nat_lt, nat_eq, List, [], ◌∷◌, ◌++◌, map, flat_map, Option, Some, None, codes, string_bytes, arith, sym, ap, subst, refl}
+use Rattle.std.proofs.Common.{◌≡◌, ◌∙◌, ℕ, Bool, true, false, cond, not, ◌&&◌, ◌||◌, nat_lt, nat_eq, List, [], ◌∷◌, ◌++◌, map, flat_map, Option, Some, None, codes, string_bytes, arith, sym, ap, subst, refl}
 use Rattle.std.specs.List.{list_all, list_any}
 use Rattle.std.specs.Str.{bytes_eq}
 use Rattle.std.proofs.lemmas.Bool.{false≢true}
@@ -9,7 +9,6 @@ use Rattle.std.proofs.lemmas.List.Folds.{list_all-map}
 use Rattle.std.proofs.lemmas.Option.{same_Some}
 use Rattle.std.proofs.lemmas.Simd.{map-map}
 use Rattle.std.proofs.lemmas.Slice.Eq.{bytes_eq-Decides}
-use Rattle.pg_schema.specs.declared.file.File as schema
 use Rattle.pg_schema.specs.declared.options.FileOption as options
 use Rattle.pg_schema.specs.declared.options.OptionValue.{OptionValue}
 use Rattle.pg_schema.specs.declared.options.OptionValue.TheVariants as schema_values

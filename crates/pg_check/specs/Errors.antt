@@ -2,14 +2,12 @@
 use Rattle.std.specs.Prelude.{◌≡◌, List, Some, slice_get}
 use Rattle.pg_link.specs.declared.error.Place.{Place}
 use Rattle.pg_link.specs.Walk.{IsPlace}
-use Rattle.pg_schema.specs.declared.parts.Parts.{Parts}
-use Rattle.pg_schema.specs.Sound.{IsSound}
 use Rattle.pg_check.specs.declared.declare.FileFault.{FileFault}
 use Rattle.pg_check.specs.declared.error.CheckError.{CheckError}
 use Rattle.pg_check.specs.declared.error.CheckError.TheVariants as errors
 use Rattle.pg_check.specs.declared.fault.Rule.{Rule}
 use Rattle.pg_check.specs.declared.fault.Rule.TheVariants as rules
-use Rattle.pg_check.specs.Declares.{Declares, first_broken}
+use Rattle.pg_check.specs.Declares.{first_broken}
 use Rattle.pg_check.specs.MadeParts.{Source}
 
 abbrev pub error_of : Rule → Place → CheckError
@@ -38,16 +36,10 @@ pub record IsTold (files : List Source) (e : CheckError) : Type 0 where
   pub is_place : IsPlace place file.path file.text fault.fault.at
   pub is : e ≡ error_of fault.fault.rule place
 
--- the files keep to the rules, and yet their parts are none of a schema
-pub record AreBadParts (files : List Source) : Type 0 where
-  pub parts : Parts
-  pub declared : Declares files parts
-  pub unsound : IsSound parts → ⊥
-
--- a refusal names the first rule that is broken, or finds the parts bad
+-- memory aside, a refusal names the first rule that is broken
 abbrev pub IsRefused : List Source → CheckError → Type 0
 IsRefused files errors.Memory = Unit {0}
-IsRefused files (errors.BadParts place) = AreBadParts files
+IsRefused files (errors.BadParts place) = ⊥
 IsRefused files (errors.BadNumber place) = IsTold files (errors.BadNumber place)
 IsRefused files (errors.DuplicateNumber place) = IsTold files (errors.DuplicateNumber place)
 IsRefused files (errors.ReservedNumber place) = IsTold files (errors.ReservedNumber place)

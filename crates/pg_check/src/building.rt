@@ -1,6 +1,9 @@
 //! From linked files to a checked schema.
 
-ghost use Rattle.std.specs.Prelude.{◌≡◌, ◌<◌, IfErr, IfOk, Some, length, map};
+ghost use Rattle.std.specs.Prelude.{◌≡◌, ◌<◌, IfErr, IfOk, OnOk, Some, length, map};
+ghost use Rattle.pg_link.specs.Linked.{IsLinkedUp};
+ghost use Rattle.pg_schema.specs.Sound.{IsSound};
+ghost use Rattle.pg_schema.specs.declared.parts.Parts.{Parts};
 ghost use Rattle.pg_check.specs.Declares.{Declares, first_broken};
 ghost use Rattle.pg_check.specs.Errors as spec;
 ghost use Rattle.pg_check.specs.Sources.{linked_sources, source};
@@ -8,13 +11,14 @@ ghost use Rattle.pg_check.specs.Sources.{linked_sources, source};
 use crate::declare::{FileFault, Refusal, declare};
 use crate::error::{CheckError, error_of};
 use crate::made_parts::Source;
-use pg_link::{Linked, Place, place_in};
+use pg_link::{Linked, place_in};
 use pg_schema::{PartsError, Schema};
 use std::alloc::{AllocError, Global};
 
 /// The linked files in their order, each with what its type names name.
 fn sources_of<'a>(alloc: Global, linked: &'a Linked) -> Result<Vec<Source<'a>>, AllocError>
-    ensures { IfOk result (λ sources. map source sources.items ≡ linked_sources linked.now.files) }
+    ensures sources { IfOk result (λ sources. map source sources.items ≡ linked_sources linked.now.files) }
+    ensures linked { OnOk result (IsLinkedUp linked.now) }
 {
     let files = linked.files();
     let mut sources = Vec::new(alloc);
@@ -44,10 +48,11 @@ fn told(alloc: Global, files: &[Source<'_>], found: FileFault) -> Result<CheckEr
     Ok(error_of(found.fault.rule, place))
 }
 
-/// The schema that the files declare. Refused where memory is, where a file breaks a rule, with the
-/// first rule that the first of such files breaks at its place, and where the parts of the files are
-/// none of a schema.
+/// The schema that the files declare, whose parts are those of a schema where they break no rule. Refused
+/// where memory is, and where a file breaks a rule, with the first rule that the first of such files
+/// breaks at its place.
 fn schema_of(alloc: Global, files: &[Source<'_>]) -> Result<Schema, CheckError>
+    requires sound { (parts : Parts) → Declares (map source files.now) parts → IsSound parts }
     ensures built { IfOk result (λ schema. Declares (map source files.now) schema) }
     ensures refused { IfErr result (spec.IsRefused (map source files.now)) }
 {
@@ -59,11 +64,7 @@ fn schema_of(alloc: Global, files: &[Source<'_>]) -> Result<Schema, CheckError>
     match Schema::from_parts(alloc, parts) {
         Ok(schema) => Ok(schema),
         Err((PartsError::Memory, _)) => Err(CheckError::Memory),
-        Err((PartsError::Invariant, _)) => Err(CheckError::BadParts(Place {
-            file: String::new(alloc),
-            line: 0,
-            column: 0,
-        })),
+        Err((PartsError::Invariant, _)) => unreachable!(),
     }
 }
 
@@ -73,12 +74,12 @@ fn schema_of(alloc: Global, files: &[Source<'_>]) -> Result<Schema, CheckError>
 ///
 /// Refused are want of memory (`Memory`) and the first rule that is broken, by its error at its place:
 /// of the files, each behind those that it imports, the first that breaks one; in it by order of
-/// declaration, and of one declaration the lowest code. Files that break none and whose parts are no
-/// schema all the same are `BadParts`, at no place; none are known.
+/// declaration, and of one declaration the lowest code. Files that break no rule are a schema: `BadParts`
+/// never comes.
 pub fn build(alloc: Global, linked: &Linked) -> Result<Schema, CheckError>
     // The schema has just what the files declare, which keep to the rules.
     ensures built { IfOk result (Declares (linked_sources linked.now.files)) }
-    // A refusal names a rule that is broken in the files, the first, at its place.
+    // Memory aside, a refusal names a rule that is broken in the files, the first, at its place.
     ensures refused { IfErr result (spec.IsRefused (linked_sources linked.now.files)) }
 {
     let sources = sources_of(alloc, linked)?;

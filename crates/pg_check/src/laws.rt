@@ -3,12 +3,14 @@
 ghost use Rattle.std.specs.Prelude.{◌≡◌, ◌↔◌, List, None};
 ghost use Rattle.pg_schema.specs.Sound.{IsSound};
 ghost use Rattle.pg_schema.specs.declared.parts.Parts.{Parts};
+ghost use Rattle.pg_link.specs.Linked.{IsLinkedUp, LinkedFiles};
 ghost use Rattle.pg_check.specs.Declares.{Declares, first_broken};
 ghost use Rattle.pg_check.specs.Examples.{WorkedRules};
 ghost use Rattle.pg_check.specs.KeepsRules.{KeepsRules};
 ghost use Rattle.pg_check.specs.KeptParts.{KeptParts};
 ghost use Rattle.pg_check.specs.MadeParts.{Source};
 ghost use Rattle.pg_check.specs.NamedParts.{NamedParts};
+ghost use Rattle.pg_check.specs.Sources.{linked_sources};
 
 /// What the rules take and what they refuse, by small examples.
 pub fn worked_rules()
@@ -32,4 +34,10 @@ pub fn kept_parts()
 /// they are words, what is named is there, each type stands once and in its scope, and full names differ.
 pub fn named_parts()
     ensures { (files : List Source) (parts : Parts) → Declares files parts → NamedParts parts → IsSound parts }
+{}
+
+/// The parts of linked files that keep to the rules are those of a schema: their names are words, what is
+/// named is there, each type stands once and in its scope, and full names differ.
+pub fn linked_parts()
+    ensures { (linked : LinkedFiles) (parts : Parts) → IsLinkedUp linked → Declares (linked_sources linked.files) parts → IsSound parts }
 {}

@@ -34,4 +34,4 @@ mod types;
 pub use admitting::admit;
 pub use building::build;
 pub use error::CheckError;
-pub use laws::{keeping_rules, kept_parts, named_parts, worked_rules};
+pub use laws::{keeping_rules, kept_parts, linked_parts, named_parts, worked_rules};

@@ -2,7 +2,7 @@
 use Rattle.std.specs.Prelude.{ℕ, ◌≡◌, ◌≤◌, ◌+◌, ◌⊎◌, Bool, true, false, List, [], ◌∷◌, ◌++◌, map, reverse, length, take, Result, Ok, Err, Option, Some, None, IsTrue, String, string_bytes}
 use Rattle.std.specs.List.{All, Contains}
 use Rattle.std.specs.Global.{Global}
-use Rattle.pg_lex.specs.Lexes.{lexes, Refuses as LexRefuses}
+use Rattle.pg_lex.specs.Lexes.{lexes, max_len, Refuses as LexRefuses}
 use Rattle.pg_lex.specs.Faults.{place_of as lex_place}
 use Rattle.pg_lex.specs.Place.{line, column}
 use Rattle.pg_lex.specs.Symbol.{Placed}
@@ -46,8 +46,9 @@ Gives w path text = IsTrue (w.may_give (path_below w.folder path) text)
 abbrev pub Lacks : World → Text → Type 0
 Lacks w path = IsTrue (w.may_lack (path_below w.folder path))
 
--- the tree stands at the tokens of the text
+-- the tree stands at the tokens of the text, which is no longer than a text may be
 pub record IsParsed (text : Text) (file : tree.FileTree.FileTree) : Type 0 where
+  pub short : length text ≤ max_len
   pub tokens : List Placed
   pub has_tokens : lexes text tokens
   pub derives : Derives (grammar.file 64) (view.file file)

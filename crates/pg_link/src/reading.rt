@@ -1,7 +1,7 @@
 //! A file's text and tree, with the places of the faults in them.
-ghost use Rattle.std.specs.Prelude.{◌≡◌, ◌+◌, IfErr, IfOk, IsTrue};
+ghost use Rattle.std.specs.Prelude.{◌≡◌, ◌≤◌, ◌+◌, IfErr, IfOk, IsTrue, length};
 ghost use Rattle.pg_link.specs.Below.{path_below};
-ghost use Rattle.pg_lex.specs.Lexes.{lexes};
+ghost use Rattle.pg_lex.specs.Lexes.{lexes, max_len};
 ghost use Rattle.pg_lex.specs.Symbol.{placed};
 ghost use Rattle.pg_lex.specs.Faults as lex;
 ghost use Rattle.pg_link.specs.Walk as spec;
@@ -51,6 +51,7 @@ fn syntax_place(error: SyntaxError) -> usize
 /// The tokens of a file's text.
 fn tokens_of<'a>(alloc: Global, path: &str, text: &'a [u8]) -> Result<Vec<Token<'a>>, LinkError>
     ensures tokens { IfOk result (λ tokens. lexes text.now (placed tokens.items)) }
+    ensures short { IfOk result (λ tokens. length text.now ≤ max_len) }
     ensures fault { IfErr result (spec.IsTextFault path.now text.now) }
 {
     match pg_lex::lex(alloc, text) {

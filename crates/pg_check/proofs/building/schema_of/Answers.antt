@@ -13,10 +13,3 @@ told-requires-clause-within c =
     let less : found.file < 0 + length (map source files) = told_within 4096 0 (map source files) found first in
     let same : length (map source files) ≡ length files = length-map files source in
     omega (arith, less, same)
-
-pub returns-clause-refused : goal.returns-clause-refused
-returns-clause-refused c = record {
-  parts = c.in-Ok.parts;
-  declared = c.in-Ok.ensures.declared;
-  unsound = c.in-Err-Invariant-default.ensures.broken c.in-Err-Invariant-default.field-0-0-is;
-}

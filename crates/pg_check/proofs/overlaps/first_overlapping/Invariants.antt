@@ -1,7 +1,5 @@
 -- The items before the one place are apart, and those before the other aren't.
-use Rattle.std.proofs.Common.{◌≡◌, ◌<◌, ◌≤◌, ◌-◌, true, false, take, length}
-use Rattle.pg_check.specs.KeepsRules.{are_apart}
-use Rattle.pg_check.specs.ReservedItems.{overlap}
+use Rattle.std.proofs.Common.{◌-◌}
 use Rattle.pg_check.proofs.Halves.{AreHalves}
 use Rattle.pg_check.proofs.overlaps.first_overlapping.Given as goal
 
