@@ -66,15 +66,22 @@ fn all_shapes(alloc: Global) -> Result<Vec<(u32, Content)>, AllocError> {
     Ok(vec![in alloc;
         (6, Content::One(bytes(alloc, b"c")?)),
         (1, Content::One(child(alloc)?)),
-        (3, Content::Many(vec![in alloc; Value::Int(1), Value::Int(-1)]?)),
+        (
+            3,
+            Content::Many(vec![in alloc; Value::Int(1), Value::Int(-1)]?)
+        ),
         (4, Content::Map(entries)),
-        (5, Content::Many(vec![in alloc; child(alloc)?, child(alloc)?]?)),
+        (
+            5,
+            Content::Many(vec![in alloc; child(alloc)?, child(alloc)?]?)
+        ),
         (7, Content::One(Value::Int(7))),
     ]?)
 }
 
 // What is written of these, the first member of the oneof taken out.
-const ALL_SHAPES: [u8; 29] = *b"\x0a\x00\x1a\x02\x02\x01\x22\x05\x08\x01\x12\x01a\x22\x05\x08\x02\x12\x01b\x2a\x00\x2a\x00\x3d\x07\x00\x00\x00";
+const ALL_SHAPES: [u8; 29] =
+    *b"\x0a\x00\x1a\x02\x02\x01\x22\x05\x08\x01\x12\x01a\x22\x05\x08\x02\x12\x01b\x2a\x00\x2a\x00\x3d\x07\x00\x00\x00";
 
 // A refused content of any shape comes back as it was, so that it can be set again, and the message is as before.
 #[test]
@@ -124,8 +131,10 @@ fn refused_wholes(rt: HostRuntime) -> Result<(), Fail> {
 fn refused_reads(rt: HostRuntime) -> Result<(), Fail> {
     let alloc = rt.alloc();
     let schema = type_of_rows(alloc)?;
-    let parts = b"\x0a\x17\x1a\x02\x02\x01\x22\x05\x08\x02\x12\x01b\x22\x05\x08\x01\x12\x01a\x32\x01c\x2a\x00\x0a\x0d\x3d\x07\x00\x00\x00\x2a\x02\x10\x05\x0a\x00\x48\x01\x48\x02";
-    let merged = b"\x0a\x21\x0a\x00\x1a\x02\x02\x01\x22\x05\x08\x01\x12\x01a\x22\x05\x08\x02\x12\x01b\x2a\x00\x2a\x02\x10\x05\x3d\x07\x00\x00\x00\x48\x01\x48\x02";
+    let parts =
+        b"\x0a\x17\x1a\x02\x02\x01\x22\x05\x08\x02\x12\x01b\x22\x05\x08\x01\x12\x01a\x32\x01c\x2a\x00\x0a\x0d\x3d\x07\x00\x00\x00\x2a\x02\x10\x05\x0a\x00\x48\x01\x48\x02";
+    let merged =
+        b"\x0a\x21\x0a\x00\x1a\x02\x02\x01\x22\x05\x08\x01\x12\x01a\x22\x05\x08\x02\x12\x01b\x2a\x00\x2a\x02\x10\x05\x3d\x07\x00\x00\x00\x48\x01\x48\x02";
     match again(alloc, &schema, parts) {
         Ok(written) => assert_eq!(rt; written.as_slice(), merged.as_slice()),
         Err(error) => assert_eq!(rt; error, DynError::Memory),
