@@ -1,5 +1,5 @@
 // Times C++ DynamicMessage: decode and encode of files of bytes, the least of several turns.
-// usage: codec FOLDER FILE..    FOLDER has codec.proto; a file is named TYPE.NAME.bin.
+// usage: codec SET FILE..    SET is the descriptor set of codec.proto; a file is named TYPE.NAME.bin.
 #include <algorithm>
 #include <chrono>
 #include <cstdio>
@@ -8,19 +8,18 @@
 #include <memory>
 #include <string>
 
-#include <google/protobuf/compiler/importer.h>
+#include <google/protobuf/descriptor.h>
+#include <google/protobuf/descriptor.pb.h>
 #include <google/protobuf/dynamic_message.h>
 
 using google::protobuf::Message;
 
 namespace {
 
-class Failures : public google::protobuf::compiler::MultiFileErrorCollector {
- public:
-  void AddError(const std::string& file, int line, int, const std::string& message) override {
-    std::fprintf(stderr, "%s:%d: %s\n", file.c_str(), line, message.c_str());
-  }
-};
+std::string content(const char* path) {
+  std::ifstream file(path, std::ios::binary);
+  return std::string((std::istreambuf_iterator<char>(file)), std::istreambuf_iterator<char>());
+}
 
 template <typename Work>
 double least_microseconds(size_t size, Work work) {
@@ -39,16 +38,14 @@ double least_microseconds(size_t size, Work work) {
 
 int main(int argc, char** argv) {
   if (argc < 3) return 4;
-  google::protobuf::compiler::DiskSourceTree tree;
-  tree.MapPath("", argv[1]);
-  Failures failures;
-  google::protobuf::compiler::Importer importer(&tree, &failures);
-  const auto* proto = importer.Import("codec.proto");
+  google::protobuf::FileDescriptorSet set;
+  if (!set.ParseFromString(content(argv[1])) || set.file_size() != 1) return 2;
+  google::protobuf::DescriptorPool pool;
+  const auto* proto = pool.BuildFile(set.file(0));
   if (proto == nullptr) return 2;
   google::protobuf::DynamicMessageFactory factory;
   for (int at = 2; at < argc; ++at) {
-    std::ifstream file(argv[at], std::ios::binary);
-    const std::string bytes((std::istreambuf_iterator<char>(file)), std::istreambuf_iterator<char>());
+    const std::string bytes = content(argv[at]);
     const std::string path(argv[at]);
     const std::string name = path.substr(path.rfind('/') + 1);
     const Message* prototype = factory.GetPrototype(proto->FindMessageTypeByName(name.substr(0, name.find('.'))));

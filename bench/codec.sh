@@ -12,5 +12,5 @@ protoc --proto_path="$top/bench" --descriptor_set_out="$work/codec.pb" codec.pro
 mkdir -p "$work/files"
 /usr/bin/python3 "$top/bench/codec.py" write "$work/codec.pb" "$work/files"
 "$work/crates/codec_time/out/codec_time" "$top/bench" "$work"/files/*.bin
-"$work/codec" "$top/bench" "$work"/files/*.bin
+"$work/codec" "$work/codec.pb" "$work"/files/*.bin
 /usr/bin/python3 "$top/bench/codec.py" time "$work/codec.pb" "$work"/files/*.bin

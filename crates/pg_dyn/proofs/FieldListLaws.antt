@@ -23,7 +23,7 @@ AllAbove n fs = AllByRecursion (λ (f : ℕ × Content). n < f.0) fs
 below_all : (n : ℕ) (xs : List (ℕ × Content)) → AllBelow n xs → fields_below n xs ≡ xs
 below_all n xs h = filter_all (λ (f : ℕ × Content). nat_lt f.0 n) xs (each_weaker (λ (f : ℕ × Content). f.0 < n) (λ (f : ℕ × Content). nat_lt f.0 n ≡ true) (λ f low. lt-ltb f.0 n low) xs h)
 
-below_none : (n : ℕ) (ys : List (ℕ × Content)) → AllFrom n ys → fields_below n ys ≡ []
+pub below_none : (n : ℕ) (ys : List (ℕ × Content)) → AllFrom n ys → fields_below n ys ≡ []
 below_none n ys h = filter_none (λ (f : ℕ × Content). nat_lt f.0 n) ys (each_weaker (λ (f : ℕ × Content). n ≤ f.0) (λ (f : ℕ × Content). nat_lt f.0 n ≡ false) (λ f high. le-ltb f.0 n high) ys h)
 
 above_none : (n : ℕ) (xs : List (ℕ × Content)) → AllBelow n xs → fields_above n xs ≡ []

@@ -74,7 +74,7 @@ none_twice xs order apart n = climbs_once xs n (climbs xs order apart)
 
 -- Members of one oneof.
 
-same_some : (a b : Option ℕ) → same_oneof a b ≡ true → (o : ℕ) × (a ≡ Some o) × (b ≡ Some o)
+pub same_some : (a b : Option ℕ) → same_oneof a b ≡ true → (o : ℕ) × (a ≡ Some o) × (b ≡ Some o)
 same_some (Some a) (Some b) h = (b, ap Some (eqb-true a b h), refl)
 same_some (Some a) None h = absurd (cc)
 same_some None b h = absurd (cc)

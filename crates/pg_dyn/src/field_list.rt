@@ -1,5 +1,6 @@
-ghost use Rattle.std.specs.Prelude.{◌≡◌, ◌<◌, ◌≤◌, length, take, drop, OnOk};
+ghost use Rattle.std.specs.Prelude.{◌≡◌, ◌<◌, ◌≤◌, ℕ, get_or, length, take, drop, IsTrue, OnOk};
 ghost use Rattle.std.specs.List.{AllByRecursion};
+ghost use Rattle.pg_dyn.specs.declared.message.Content.{Content as TheContent};
 ghost use Rattle.pg_dyn.specs.FieldList.{HasRoom, put_field, remove_field};
 ghost use Rattle.pg_dyn.specs.Seen.{Rises};
 
@@ -17,6 +18,18 @@ pub(crate) fn place_of(fields: &[(u32, Content)], number: u32) -> usize
         Some(last) if last.0 < number => fields.len(),
         _ => fields.partition_point(|field| field.0 < number),
     }
+}
+
+/// Whether a content stands under the number.
+pub(crate) fn has_number(fields: &[(u32, Content)], number: u32) -> bool
+    requires { Rises fields.now }
+    ensures { IsTrue result → (place : ℕ) × (place < length fields.now) × ((d : ℕ × TheContent) → (get_or fields.now place d).0 ≡ number) }
+{
+    let place = place_of(fields, number);
+    if place < fields.len() {
+        return fields[place].0 == number;
+    }
+    false
 }
 
 /// Makes room for a content under the number, where none stands there.

@@ -1,21 +1,22 @@
-ghost use Rattle.std.specs.Prelude.{◌≡◌, ◌⊎◌, ℕ, ◌<◌, ◌≤◌, length, filter, false, nat_eq, option_and_then, OnOk, IfOk, IfErr, IsTrue};
+ghost use Rattle.std.specs.Prelude.{◌≡◌, ◌⊎◌, ℕ, ◌<◌, length, false, nat_eq, OnOk, IfOk, IfErr, IsTrue};
 ghost use Rattle.std.specs.List.{AllByRecursion};
-ghost use Rattle.std.specs.List.Sorted.{IsNonDecreasing, IsNonDecreasingBy};
+ghost use Rattle.std.specs.List.Sorted.{IsNonDecreasingBy};
 ghost use Rattle.pg_schema.specs.Invariant.{IsSchema};
 ghost use Rattle.pg_schema.specs.Parts.{shape_of};
 ghost use Rattle.pg_schema.specs.Shape.{field_at, fields};
 ghost use Rattle.pg_dyn.specs.declared.error.DynError.TheVariants as errors;
-ghost use Rattle.pg_dyn.specs.ContentFaults.{AnyOf, code, ContentFault, ContentsFault, HasKeyTwice, HasNoFault, is_in_oneof, MayRefuseFor, PassTwice};
+ghost use Rattle.pg_dyn.specs.ContentFaults.{AnyOf, ContentFault, ContentsFault, HasKeyTwice, HasNoFault, MayRefuseFor, PassTwice};
 ghost use Rattle.pg_dyn.specs.ContentFits.{NoneRivals};
 ghost use Rattle.pg_dyn.specs.Fits.{Fits};
 ghost use Rattle.pg_dyn.specs.Seen.{Rises};
 ghost use Rattle.pg_dyn.specs.Setting.{IsWhole};
-ghost use Rattle.pg_dyn.specs.Told.{count_of, TakesContent, Tells};
+ghost use Rattle.pg_dyn.specs.Told.{TakesContent, Tells};
 
 use crate::check::{check_content, lower};
 use crate::error::DynError;
 use crate::keys::check_keys;
 use crate::message::{Content, Message};
+use crate::oneofs::{has_twice, sorted_oneofs};
 use pg_schema::{Schema, TypeId};
 use std::alloc::{AllocError, Global};
 
@@ -74,50 +75,6 @@ fn has_number_twice(contents: &[(u32, Content)]) -> bool
 {
     for next in 1..contents.len() {
         if contents[next - 1].0 == contents[next].0 {
-            return true;
-        }
-    }
-    false
-}
-
-// The oneof of which the field of the number is a member.
-fn oneof_of(schema: &Schema, type_id: TypeId, number: u32) -> Option<u32>
-    ensures { result ≡ option_and_then (λ f. f.oneof) (field_at (fields (shape_of schema.now) type_id) number) }
-{
-    match schema.field(type_id, number) {
-        Some(field) => field.oneof,
-        None => None,
-    }
-}
-
-// The oneofs of which the contents are members, in order; each stands as often as members of it do.
-fn sorted_oneofs(
-    alloc: Global,
-    schema: &Schema,
-    type_id: TypeId,
-    contents: &[(u32, Content)],
-) -> Result<Vec<u32>, AllocError>
-    ensures counted { IfOk result (λ os. (oneof : ℕ) → count_of oneof os.items ≡ length (filter (λ c. is_in_oneof (fields (shape_of schema.now) type_id) oneof c.0) contents.now)) }
-    ensures sorted { IfOk result (λ os. IsNonDecreasing os.items) }
-{
-    let mut oneofs = Vec::new(alloc);
-    for (number, _) in contents {
-        if let Some(oneof) = oneof_of(schema, type_id, *number) {
-            oneofs.push(oneof)?;
-        }
-    }
-    oneofs.sort_unstable();
-    Ok(oneofs)
-}
-
-// Whether a number stands twice in a list in order.
-fn has_twice(sorted: &[u32]) -> bool
-    requires { IsNonDecreasing sorted.now }
-    ensures twice { IsTrue result → (number : ℕ) × (1 < count_of number sorted.now) }
-    ensures once { result ≡ false → (number : ℕ) → count_of number sorted.now ≤ 1 }
-{
-    for next in 1..sorted.len() {
-        if sorted[next - 1] == sorted[next] {
             return true;
         }
     }

@@ -1,11 +1,11 @@
-ghost use Rattle.std.specs.Prelude.{◌≡◌, ◌↔◌, ◌⊎◌, ℕ, true, false, [], ◌∷◌, None, IfSome, IsTrue, MatchOption, option_map};
+ghost use Rattle.std.specs.Prelude.{◌≡◌, ◌↔◌, true, false, None, IsTrue};
 ghost use Rattle.std.specs.List.{AllByRecursion};
 ghost use Rattle.std.specs.declared.cmp.Ordering.TheVariants.{Less};
 ghost use Rattle.pg_schema.specs.Invariant.{IsSchema};
 ghost use Rattle.pg_schema.specs.Parts.{shape_of};
-ghost use Rattle.pg_schema.specs.Shape.{field_at, fields};
-ghost use Rattle.pg_dyn.specs.Content.{is_unknown, same_oneof};
-ghost use Rattle.pg_dyn.specs.ContentFits.{AreApart, are_rivals_by, ContentFits, ItemFits, KeysRise, NoneRivals};
+ghost use Rattle.pg_schema.specs.Shape.{fields};
+ghost use Rattle.pg_dyn.specs.Content.{is_unknown};
+ghost use Rattle.pg_dyn.specs.ContentFits.{ContentFits, ItemFits, KeysRise};
 ghost use Rattle.pg_dyn.specs.Fits.{Fits};
 ghost use Rattle.pg_dyn.specs.Message.{key_cmp};
 ghost use Rattle.pg_dyn.specs.ScalarItems.{IsItemOf};
@@ -14,6 +14,7 @@ ghost use Rattle.pg_dyn.specs.Seen.{IsKey, leaf_of, record_seen};
 use crate::accept::accepts;
 use crate::check::check_item;
 use crate::message::{Content, Message, UnknownRecord, Value};
+use crate::oneofs::none_rivals;
 use pg_schema::{Element, Field, Presence, Scalar, Schema, TypeId};
 use std::cmp::Ordering;
 
@@ -62,69 +63,6 @@ pub(crate) fn keys_rise(entries: &[(Value, Value)]) -> bool
 {
     for next in 1..entries.len() {
         if !entries[next - 1].0.is_below(&entries[next].0) {
-            return false;
-        }
-    }
-    true
-}
-
-// Whether both are one oneof.
-pub(crate) fn is_same_oneof(first: Option<u32>, second: Option<u32>) -> bool
-    ensures { result ≡ same_oneof first second }
-{
-    match (first, second) {
-        (Some(first), Some(second)) => first == second,
-        _ => false,
-    }
-}
-
-// Whether the fields of the two numbers are members of one oneof.
-fn are_rivals(schema: &Schema, type_id: TypeId, number: u32, other: u32) -> bool
-    ensures { result ≡ are_rivals_by (field_at (fields (shape_of schema.now) type_id) number) (field_at (fields (shape_of schema.now) type_id) other) }
-{
-    match (schema.field(type_id, number), schema.field(type_id, other)) {
-        (Some(first), Some(second)) => {
-            is_same_oneof(first.oneof, second.oneof) && first.number != second.number
-        }
-        _ => false,
-    }
-}
-
-// Whether the field of the number is a member of a oneof; one that isn't has no rivals.
-fn is_member(schema: &Schema, type_id: TypeId, number: u32) -> bool
-    ensures { result ≡ false → (other : ℕ) → AreApart (fields (shape_of schema.now) type_id) number other }
-{
-    let Some(field) = schema.field(type_id, number) else {
-        return false;
-    };
-    match field.oneof {
-        Some(_) => true,
-        None => false,
-    }
-}
-
-// Whether the field of the number is in no oneof with those of the contents.
-fn is_apart(schema: &Schema, type_id: TypeId, number: u32, contents: &[(u32, Content)]) -> bool
-    ensures { IsTrue result ↔ AllByRecursion (λ l. AreApart (fields (shape_of schema.now) type_id) number l.0) contents.now }
-{
-    if !is_member(schema, type_id, number) {
-        return true;
-    }
-    for (other, _) in contents {
-        if are_rivals(schema, type_id, number, *other) {
-            return false;
-        }
-    }
-    true
-}
-
-// Whether no two of the contents are of members of one oneof.
-fn none_rivals(schema: &Schema, type_id: TypeId, contents: &[(u32, Content)]) -> bool
-    ensures { IsTrue result ↔ NoneRivals (fields (shape_of schema.now) type_id) contents.now }
-{
-    for place in 0..contents.len() {
-        let number = contents[place].0;
-        if !is_apart(schema, type_id, number, &contents[place + 1..]) {
             return false;
         }
     }
@@ -228,7 +166,8 @@ impl Message {
                 return false;
             }
         }
-        if !none_rivals(schema, self.type_id, &self.fields) {
+        let alloc = *self.fields.allocator();
+        if !none_rivals(alloc, schema, self.type_id, &self.fields) {
             return false;
         }
         unknown_fit(schema, self.type_id, &self.unknown)

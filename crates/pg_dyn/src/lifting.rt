@@ -48,7 +48,7 @@ impl Message {
     {
         // What holds of the message before.
         let _type_id = self.type_id;
-        self.clear_rivals(schema, field);
+        self.clear_others(schema, field);
         take_out(&mut self.fields, field.number)
     }
 

@@ -1,11 +1,21 @@
-ghost use Rattle.std.specs.Prelude.{◌≡◌, filter, not};
+ghost use Rattle.std.specs.Prelude.{◌≡◌, filter, map, not};
 ghost use Rattle.pg_schema.specs.Parts.{field_shape, shape_of};
 ghost use Rattle.pg_schema.specs.Shape.{fields};
+ghost use Rattle.pg_dyn.specs.Content.{is_rival};
 ghost use Rattle.pg_dyn.specs.Replacing.{is_rival_number};
+ghost use Rattle.pg_dyn.specs.Seen.{Rises};
 
-use crate::fitting::is_same_oneof;
+use crate::field_list::{has_number, remove};
 use crate::message::{Content, Message};
+use crate::oneofs::is_same_oneof;
 use pg_schema::{Field, Schema, TypeId};
+
+// Whether the other field is another member of the field's oneof.
+fn is_other_member(field: &Field, other: &Field) -> bool
+    ensures { result ≡ is_rival (field_shape field.now) (field_shape other.now) }
+{
+    is_same_oneof(field.oneof, other.oneof) && field.number != other.number
+}
 
 // Whether the number is that of another member of the field's oneof.
 fn is_rival(schema: &Schema, type_id: TypeId, field: &Field, number: u32) -> bool
@@ -14,29 +24,60 @@ fn is_rival(schema: &Schema, type_id: TypeId, field: &Field, number: u32) -> boo
     // What holds of every schema.
     schema.parts();
     match schema.field(type_id, number) {
-        Some(other) => is_same_oneof(field.oneof, other.oneof) && field.number != other.number,
+        Some(other) => is_other_member(field, other),
         None => false,
     }
 }
 
-// Takes out the contents of the other members of the field's oneof.
+// Takes out the contents of the other members of the field's oneof, found by a look-up of each content.
+fn keep_apart(contents: &mut Vec<(u32, Content)>, schema: &Schema, type_id: TypeId, field: &Field)
+    ensures { contents.new.items ≡ filter (λ c. not (is_rival_number (fields (shape_of schema.now) type_id) (field_shape field.now) c.0)) contents.old.items }
+{
+    contents.retain(|content| !is_rival(schema, type_id, field, content.0));
+}
+
+// The same, by the fields of the type: a comparison of each, and a look-up of each member.
+fn remove_members(contents: &mut Vec<(u32, Content)>, members: &[Field], field: &Field)
+    requires { Rises contents.old.items }
+    ensures { contents.new.items ≡ filter (λ c. not (is_rival_number (map field_shape members.now) (field_shape field.now) c.0)) contents.old.items }
+{
+    for other in members {
+        if !is_other_member(field, other) {
+            continue;
+        }
+        remove(contents, other.number);
+    }
+}
+
+// The same, by the fields of the type but where the contents are far fewer.
 fn remove_rivals(
     contents: &mut Vec<(u32, Content)>,
     schema: &Schema,
     type_id: TypeId,
     field: &Field,
 )
+    requires { Rises contents.old.items }
     ensures { contents.new.items ≡ filter (λ c. not (is_rival_number (fields (shape_of schema.now) type_id) (field_shape field.now) c.0)) contents.old.items }
 {
-    contents.retain(|content| !is_rival(schema, type_id, field, content.0));
+    if let Some(found) = schema.message_type(type_id) {
+        if found.fields.len() / 16 < contents.len() {
+            remove_members(contents, &found.fields, field);
+            return;
+        }
+    }
+    keep_apart(contents, schema, type_id, field);
 }
 
 impl Message {
+    ghost use Rattle.std.specs.Prelude.{Some};
+    ghost use Rattle.pg_schema.specs.Invariant.{IsSchema};
+    ghost use Rattle.pg_schema.specs.Shape.{field_at};
+    ghost use Rattle.pg_dyn.specs.Fits.{Fits};
     ghost use Rattle.pg_dyn.specs.Kept.{type_of};
     ghost use Rattle.pg_dyn.specs.Replacing.{without_rivals};
 
-    /// Takes out the contents of the other members of the field's oneof (proto3 language guide, "Oneof"). Costs a
-    /// look-up for each content of the message where the field is in a oneof, and nothing where it isn't.
+    /// Takes out the contents of the other members of the field's oneof (proto3 language guide, "Oneof"). Where the
+    /// field is in none, that costs nothing.
     pub(crate) fn clear_rivals(&mut self, schema: &Schema, field: &Field)
         ensures { self.new ≡ without_rivals (fields (shape_of schema.now) (type_of self.old)) (field_shape field.now) self.old }
     {
@@ -45,5 +86,20 @@ impl Message {
             Some(_) => remove_rivals(&mut self.fields, schema, type_id, field),
             None => {}
         }
+    }
+
+    /// The same of a message that fits: where it holds the field, it holds no other member.
+    pub(crate) fn clear_others(&mut self, schema: &Schema, field: &Field)
+        requires is_schema { IsSchema schema.now }
+        requires fits { Fits (shape_of schema.now) self.old }
+        requires found { field_at (fields (shape_of schema.now) (type_of self.old)) field.now.number ≡ Some (field_shape field.now) }
+        ensures { self.new ≡ without_rivals (fields (shape_of schema.now) (type_of self.old)) (field_shape field.now) self.old }
+    {
+        // What holds of the message before.
+        let _type_id = self.type_id;
+        if has_number(&self.fields, field.number) {
+            return;
+        }
+        self.clear_rivals(schema, field);
     }
 }

@@ -2,11 +2,8 @@
 //! (`SerializeToString(deterministic=True)`) of `message M { repeated int32 f1 = 1; repeated int32 f2 = 2
 //! [packed = false]; map<string, int32> f3 = 3; M f4 = 4; repeated M f5 = 5; oneof k { int32 f6 = 6; bytes f7
 //! = 7; } repeated string f9 = 9; map<int32, M> f10 = 10; }`.
-ghost use Rattle.std.specs.Prelude.{◌≡◌, ◌<◌, length};
-ghost use Rattle.pg_dyn.specs.Seen.{HasKeys, IsFilled};
-
-use super::{M, field, schema_from};
-use pg_dyn::{Content, DynError, Message, Value, encode, fits};
+use super::{M, field, schema_from, whole, write};
+use pg_dyn::{Content, DynError, Message, Value, fits};
 use pg_schema::{Element, Field, Presence, Scalar, Schema};
 use std::alloc::{AllocError, Global};
 use std::test::Fail;
@@ -54,48 +51,40 @@ fn schema(alloc: Global) -> Result<Schema, Fail> {
     )
 }
 
-/// The message with that content alone.
-fn one(alloc: Global, number: u32, content: Content) -> Result<Message, AllocError>
-    requires keys { HasKeys content }
-    requires filled { IsFilled content }
-{
-    let fields = vec![in alloc; (number, content)]?;
-    Ok(Message {
-        type_id: M,
-        fields,
-        unknown: Vec::new(alloc),
-    })
+/// The message with that content alone, where the schema takes it.
+fn one(alloc: Global, schema: &Schema, number: u32, content: Content) -> Result<Message, DynError> {
+    whole(alloc, schema, vec![in alloc; (number, content)]?)
 }
 
 /// The message with one item of the field.
-fn item(alloc: Global, number: u32, value: Value) -> Result<Message, AllocError> {
-    one(alloc, number, Content::One(value))
+fn item(alloc: Global, schema: &Schema, number: u32, value: Value) -> Result<Message, DynError> {
+    one(alloc, schema, number, Content::One(value))
 }
 
 /// The message with a list of two items.
-fn pair(alloc: Global, number: u32, first: Value, second: Value) -> Result<Message, AllocError> {
-    let mut values = Vec::new(alloc);
-    values.push(first)?;
-    values.push(second)?;
-    one(alloc, number, Content::Many(values))
+fn pair(
+    alloc: Global,
+    schema: &Schema,
+    number: u32,
+    first: Value,
+    second: Value,
+) -> Result<Message, DynError> {
+    let values = vec![in alloc; first, second]?;
+    one(alloc, schema, number, Content::Many(values))
+}
+
+/// A message inside.
+fn inside(alloc: Global, message: Message) -> Result<Value, AllocError> {
+    Ok(Value::Msg(Box::new(alloc, message)?))
 }
 
 /// The message with two entries of the field `f10`, of these keys and empty messages.
-fn entries(alloc: Global, first: i128, second: i128) -> Result<Message, AllocError> {
-    let mut entries = Vec::new(alloc);
-    let one_child = Box::new(alloc, Message::empty(alloc, M))?;
-    entries.push((Value::Int(first), Value::Msg(one_child)))?;
-    let other_child = Box::new(alloc, Message::empty(alloc, M))?;
-    entries.push((Value::Int(second), Value::Msg(other_child)))?;
-    one(alloc, 10, Content::Map(entries))
-}
-
-/// The bytes of a message that fits; of one that doesn't `WrongKind`.
-fn written(alloc: Global, schema: &Schema, message: &Message) -> Result<Vec<u8>, DynError> {
-    if !fits(schema, message) {
-        return Err(DynError::WrongKind);
-    }
-    encode(alloc, schema, message)
+fn entries(alloc: Global, schema: &Schema, first: i128, second: i128) -> Result<Message, DynError> {
+    let made = vec![in alloc;
+        (Value::Int(first), inside(alloc, Message::empty(alloc, M))?),
+        (Value::Int(second), inside(alloc, Message::empty(alloc, M))?),
+    ]?;
+    one(alloc, schema, 10, Content::Map(made))
 }
 
 fn text(alloc: Global, text: &str) -> Result<Value, AllocError> {
@@ -106,19 +95,19 @@ fn text(alloc: Global, text: &str) -> Result<Value, AllocError> {
 fn lists(rt: HostRuntime) -> Result<(), Fail> {
     let alloc = rt.alloc();
     let schema = schema(alloc)?;
-    let packed = pair(alloc, 1, Value::Int(300), Value::Int(-1))?;
+    let packed = pair(alloc, &schema, 1, Value::Int(300), Value::Int(-1))?;
     assert_eq!(rt;
-        written(alloc, &schema, &packed)?.as_slice(),
+        write(alloc, &schema, &packed)?.as_slice(),
         b"\x0a\x0c\xac\x02\xff\xff\xff\xff\xff\xff\xff\xff\xff\x01".as_slice()
     );
-    let single = pair(alloc, 2, Value::Int(1), Value::Int(300))?;
+    let single = pair(alloc, &schema, 2, Value::Int(1), Value::Int(300))?;
     assert_eq!(rt;
-        written(alloc, &schema, &single)?.as_slice(),
+        write(alloc, &schema, &single)?.as_slice(),
         b"\x10\x01\x10\xac\x02".as_slice()
     );
-    let texts = pair(alloc, 9, text(alloc, "")?, text(alloc, "ab")?)?;
+    let texts = pair(alloc, &schema, 9, text(alloc, "")?, text(alloc, "ab")?)?;
     assert_eq!(rt;
-        written(alloc, &schema, &texts)?.as_slice(),
+        write(alloc, &schema, &texts)?.as_slice(),
         b"\x4a\x00\x4a\x02ab".as_slice()
     );
     Ok(())
@@ -128,46 +117,53 @@ fn lists(rt: HostRuntime) -> Result<(), Fail> {
 fn members_and_children(rt: HostRuntime) -> Result<(), Fail> {
     let alloc = rt.alloc();
     let schema = schema(alloc)?;
-    let zero = item(alloc, 6, Value::Int(0))?;
+    let zero = item(alloc, &schema, 6, Value::Int(0))?;
     assert_eq!(rt;
-        written(alloc, &schema, &zero)?.as_slice(),
+        write(alloc, &schema, &zero)?.as_slice(),
         b"\x30\x00".as_slice()
     );
-    let empty = item(
-        alloc,
-        4,
-        Value::Msg(Box::new(alloc, Message::empty(alloc, M))?),
-    )?;
+    let no_content = inside(alloc, Message::empty(alloc, M))?;
+    let empty = item(alloc, &schema, 4, no_content)?;
     assert_eq!(rt;
-        written(alloc, &schema, &empty)?.as_slice(),
+        write(alloc, &schema, &empty)?.as_slice(),
         b"\x22\x00".as_slice()
     );
-    let seven = item(
-        alloc,
-        4,
-        Value::Msg(Box::new(alloc, item(alloc, 6, Value::Int(7))?)?),
-    )?;
-    let children = pair(
-        alloc,
-        5,
-        Value::Msg(Box::new(alloc, Message::empty(alloc, M))?),
-        Value::Msg(Box::new(alloc, seven)?),
-    )?;
+    let seven = inside(alloc, item(alloc, &schema, 6, Value::Int(7))?)?;
+    let holder = inside(alloc, item(alloc, &schema, 4, seven)?)?;
+    let no_content = inside(alloc, Message::empty(alloc, M))?;
+    let children = pair(alloc, &schema, 5, no_content, holder)?;
     assert_eq!(rt;
-        written(alloc, &schema, &children)?.as_slice(),
+        write(alloc, &schema, &children)?.as_slice(),
         b"\x2a\x00\x2a\x04\x22\x02\x30\x07".as_slice()
     );
     Ok(())
+}
+
+/// A schema whose `M` has other shapes: a number in field 1, a list in field 6, numbers in fields 4 and 8.
+fn other_schema(alloc: Global) -> Result<Schema, Fail> {
+    let int = Element::Scalar(Scalar::Int32);
+    let fields = vec![in alloc;
+        field(alloc, 1, Scalar::Int32)?,
+        field(alloc, 4, Scalar::Int32)?,
+        shaped(alloc, 6, Presence::Repeated { packed: true }, int)?,
+        field(alloc, 8, Scalar::Int32)?,
+    ]?;
+    schema_from(alloc, fields, Vec::new(alloc))
 }
 
 #[test]
 fn shapes_that_do_not_fit(rt: HostRuntime) -> Result<(), Fail> {
     let alloc = rt.alloc();
     let schema = schema(alloc)?;
-    assert!(rt; !fits(&schema, &item(alloc, 1, Value::Int(1))?));
-    assert!(rt; !fits(&schema, &pair(alloc, 6, Value::Int(1), Value::Int(1))?));
-    assert!(rt; !fits(&schema, &item(alloc, 8, Value::Int(1))?));
-    assert!(rt; !fits(&schema, &item(alloc, 4, Value::Int(1))?));
+    let other = other_schema(alloc)?;
+    for number in [1, 4, 8] {
+        let message = item(alloc, &other, number, Value::Int(1))?;
+        assert!(rt; fits(&other, &message));
+        assert!(rt; !fits(&schema, &message));
+    }
+    let list = pair(alloc, &other, 6, Value::Int(1), Value::Int(1))?;
+    assert!(rt; fits(&other, &list));
+    assert!(rt; !fits(&schema, &list));
     Ok(())
 }
 
@@ -175,12 +171,16 @@ fn shapes_that_do_not_fit(rt: HostRuntime) -> Result<(), Fail> {
 fn maps(rt: HostRuntime) -> Result<(), Fail> {
     let alloc = rt.alloc();
     let schema = schema(alloc)?;
-    let rising = written(alloc, &schema, &entries(alloc, -1, 2)?)?;
+    for (first, second) in [(-1, 2), (2, -1)] {
+        let message = entries(alloc, &schema, first, second)?;
+        assert_eq!(rt;
+            write(alloc, &schema, &message)?.as_slice(),
+            b"\x52\x0d\x08\xff\xff\xff\xff\xff\xff\xff\xff\xff\x01\x12\x00\x52\x04\x08\x02\x12\x00".as_slice()
+        );
+    }
     assert_eq!(rt;
-        rising.as_slice(),
-        b"\x52\x0d\x08\xff\xff\xff\xff\xff\xff\xff\xff\xff\x01\x12\x00\x52\x04\x08\x02\x12\x00".as_slice()
+        entries(alloc, &schema, 2, 2).err(),
+        Some(DynError::DuplicateKey)
     );
-    assert!(rt; !fits(&schema, &entries(alloc, 2, -1)?));
-    assert!(rt; !fits(&schema, &entries(alloc, 2, 2)?));
     Ok(())
 }

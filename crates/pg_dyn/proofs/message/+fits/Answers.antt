@@ -14,7 +14,7 @@ use Rattle.pg_dyn.specs.declared.message.Value.{Value}
 use Rattle.pg_dyn.specs.ContentFits.{ContentFits, HoldsContent, ItemFits, NoneRivals}
 use Rattle.pg_dyn.specs.Content.{is_unknown}
 use Rattle.pg_dyn.specs.ScalarItems.{IsItemOf}
-use Rattle.pg_dyn.specs.Seen.{IsKey, record_seen}
+use Rattle.pg_dyn.specs.Seen.{IsKey, Rises, record_seen}
 use Rattle.pg_dyn.proofs.FitsByContents.{fits_from_contents, contents_from_fits}
 use Rattle.pg_dyn.proofs.ItemLeaves.{item_is_key}
 use Rattle.pg_dyn.proofs.FitsChecks.{same_field, all_unknown, none_accepted}
@@ -92,6 +92,9 @@ pub Content::fits-loop-entry_key-preserved : goal.Content::fits-loop-entry_key-p
 Content::fits-loop-entry_key-preserved t c =
     each_more (λ (x : Value × Value). IsItemOf c.in-Map-Map.key x.0 × ItemFits (shape_of c.args.schema.now) c.args.field.now.element x.1) c.deref-entry_key-items.result.now c.loop-entry_key.entry_key-index c.loop-entry_key-item.result c.loop-entry_key-test.true c.loop-entry_key-item.is c.loop-entry_key.invariant
     (c.is_item.ensures.0 c.if-not-is_item.false, c.fits-in-loop-entry_key.ensures.0 c.if-not-fits-2.false)
+
+pub Message::is_one_of-none_rivals-requires : goal.Message::is_one_of-none_rivals-requires
+Message::is_one_of-none_rivals-requires t c = subst Rises (sym c.deref.ensures.value) c.self.invariant.rises
 
 pub Message::is_one_of-returns-then-not-none_rivals : goal.Message::is_one_of-returns-then-not-none_rivals
 Message::is_one_of-returns-then-not-none_rivals t c =

@@ -1,24 +1,16 @@
 -- The rival of a number is the field that is found there.
-use Rattle.std.proofs.Common.{not, nat_eq, ◌&&◌, ap, sym, ◌∙◌}
+use Rattle.std.proofs.Common.{sym, ◌∙◌}
 use Rattle.pg_schema.specs.Parts.{field_shape, shape_of}
 use Rattle.pg_schema.specs.Shape.{fields}
 use Rattle.pg_dyn.proofs.DecodeSteps.{rising}
 use Rattle.pg_dyn.proofs.WithoutRivals.{rival_found, rival_nowhere}
 use Rattle.pg_dyn.proofs.rivals.is_rival.Goals as goal
 
-pub returns-then-is_same_oneof : goal.returns-then-is_same_oneof
-returns-then-is_same_oneof c =
+pub returns-in-Some : goal.returns-in-Some
+returns-in-Some c =
     let f = field_shape c.args.field.now in
     let g = field_shape c.in-Some.other.now in
-    ap (λ b. b && not (nat_eq f.number g.number)) (sym c.if-is_same_oneof.true ∙ c.is_same_oneof.ensures)
-    ∙ sym (rival_found (fields (shape_of c.args.schema.now) c.args.type_id) f g c.args.number (rising c.args.schema.now c.parts.ensures.checked c.args.type_id) (sym c.in-Some.ensures.shape))
-
-pub returns-else-is_same_oneof : goal.returns-else-is_same_oneof
-returns-else-is_same_oneof c =
-    let f = field_shape c.args.field.now in
-    let g = field_shape c.in-Some.other.now in
-    c.if-is_same_oneof.false ∙ ap (λ b. b && not (nat_eq f.number g.number)) (sym c.if-is_same_oneof.false ∙ c.is_same_oneof.ensures)
-    ∙ sym (rival_found (fields (shape_of c.args.schema.now) c.args.type_id) f g c.args.number (rising c.args.schema.now c.parts.ensures.checked c.args.type_id) (sym c.in-Some.ensures.shape))
+    c.is_other_member.ensures ∙ sym (rival_found (fields (shape_of c.args.schema.now) c.args.type_id) f g c.args.number (rising c.args.schema.now c.parts.ensures.checked c.args.type_id) (sym c.in-Some.ensures.shape))
 
 pub returns-in-None : goal.returns-in-None
 returns-in-None c = sym (rival_nowhere (fields (shape_of c.args.schema.now) c.args.type_id) (field_shape c.args.field.now) c.args.number (sym c.in-None.ensures.shape))

@@ -32,19 +32,19 @@ before c = sym (ap type_of c.self.view_is) ∙ type_shown c.self.inside.type_id 
 
 after : (c : goal.After-take_out) → type_of c.args.self.now ≡ c.self-2.inside.type_id
 after c =
-    sym (type_of-without_rivals (fields (shape_of c.args.schema.now) (type_of c.args.self.now)) (field_shape c.args.field.now) c.args.self.now) ∙ ap type_of (sym c.clear_rivals.ensures) ∙ sym (ap type_of c.self-2.view_is)
+    sym (type_of-without_rivals (fields (shape_of c.args.schema.now) (type_of c.args.self.now)) (field_shape c.args.field.now) c.args.self.now) ∙ ap type_of (sym c.clear_others.ensures) ∙ sym (ap type_of c.self-2.view_is)
     ∙ type_shown c.self-2.inside.type_id c.self-2.inside.fields.items (map record_seen c.self-2.inside.unknown.items)
 
 found_after : (c : goal.After-take_out) → field_at (fields (shape_of c.args.schema.now) c.self-2.inside.type_id) c.args.field.now.number ≡ Some (field_shape c.args.field.now)
 found_after c = subst (λ (t : TypeId). field_at (fields (shape_of c.args.schema.now) t) c.args.field.now.number ≡ Some (field_shape c.args.field.now)) (after c) c.requires.found
 
-still_fits : (c : goal.After-take_out) → Fits (shape_of c.args.schema.now) c.clear_rivals.new.self
+still_fits : (c : goal.After-take_out) → Fits (shape_of c.args.schema.now) c.clear_others.new.self
 still_fits c =
     let shape = shape_of c.args.schema.now in
     let a = c.self.inside in
     let f = field_shape c.args.field.now in
     let found = subst (λ (t : TypeId). field_at (fields shape t) f.number ≡ Some f) (before c) c.requires.found in
-    subst (Fits shape) (sym (c.clear_rivals.ensures ∙ ap (λ (t : TypeId). without_rivals (fields shape t) f c.args.self.now) (before c)))
+    subst (Fits shape) (sym (c.clear_others.ensures ∙ ap (λ (t : TypeId). without_rivals (fields shape t) f c.args.self.now) (before c)))
     (fits_cleared shape a.type_id c.requires.is_schema.shape (rising c.args.schema.now c.requires.is_schema a.type_id) f found a.fields.items (map record_seen a.unknown.items) c.args.self.now c.self.view_is
     c.self.invariant.rises c.self.invariant.filled c.self.invariant.keys c.requires.fits)
 
@@ -54,8 +54,8 @@ returns-clause-parts c =
     let b = c.self-2.inside in
     let f = field_shape c.args.field.now in
     sym (own_left (fields shape (type_of c.args.self.now)) f c.args.self.now (rising c.args.schema.now c.requires.is_schema (type_of c.args.self.now)) c.requires.found)
-    ∙ ap (of_number f.number) (sym c.clear_rivals.ensures)
-    ∙ held_parts shape b.type_id c.requires.is_schema.shape (rising c.args.schema.now c.requires.is_schema b.type_id) f (found_after c) b.fields.items (map record_seen b.unknown.items) c.clear_rivals.new.self c.self-2.view_is
+    ∙ ap (of_number f.number) (sym c.clear_others.ensures)
+    ∙ held_parts shape b.type_id c.requires.is_schema.shape (rising c.args.schema.now c.requires.is_schema b.type_id) f (found_after c) b.fields.items (map record_seen b.unknown.items) c.clear_others.new.self c.self-2.view_is
     c.self-2.invariant.rises c.self-2.invariant.filled c.self-2.invariant.keys c.take_out.result c.take_out.ensures.held
 
 pub returns-clause-held_fits : goal.returns-clause-held_fits
@@ -63,18 +63,18 @@ returns-clause-held_fits c =
     let shape = shape_of c.args.schema.now in
     let b = c.self-2.inside in
     let f = field_shape c.args.field.now in
-    held_any shape b.type_id c.requires.is_schema.shape (rising c.args.schema.now c.requires.is_schema b.type_id) f (found_after c) b.fields.items (map record_seen b.unknown.items) c.clear_rivals.new.self c.self-2.view_is
+    held_any shape b.type_id c.requires.is_schema.shape (rising c.args.schema.now c.requires.is_schema b.type_id) f (found_after c) b.fields.items (map record_seen b.unknown.items) c.clear_others.new.self c.self-2.view_is
     c.self-2.invariant.rises c.self-2.invariant.filled c.self-2.invariant.keys c.take_out.result c.take_out.ensures.held (still_fits c)
 
 left_is : (c : goal.After-take_out) (ps : List (Part KeptItem))
-    → with_parts c.args.field.now.number ps (shown c.self-2.inside.type_id c.take_out.new.fields.items (map record_seen c.self-2.inside.unknown.items)) ≡ with_parts c.args.field.now.number ps c.clear_rivals.new.self
+    → with_parts c.args.field.now.number ps (shown c.self-2.inside.type_id c.take_out.new.fields.items (map record_seen c.self-2.inside.unknown.items)) ≡ with_parts c.args.field.now.number ps c.clear_others.new.self
 left_is c ps =
     let b = c.self-2.inside in
-    left_with (shape_of c.args.schema.now) b.type_id c.requires.is_schema.shape (rising c.args.schema.now c.requires.is_schema b.type_id) (field_shape c.args.field.now) (found_after c) b.fields.items (map record_seen b.unknown.items) c.clear_rivals.new.self c.self-2.view_is
+    left_with (shape_of c.args.schema.now) b.type_id c.requires.is_schema.shape (rising c.args.schema.now c.requires.is_schema b.type_id) (field_shape c.args.field.now) (found_after c) b.fields.items (map record_seen b.unknown.items) c.clear_others.new.self c.self-2.view_is
     c.self-2.invariant.rises c.self-2.invariant.filled c.self-2.invariant.keys c.take_out.result c.take_out.new.fields.items c.take_out.ensures.rest ps
 
 pub returns-clause-same : goal.returns-clause-same
-returns-clause-same c = λ ps. left_is c ps ∙ ap (with_parts c.args.field.now.number ps) c.clear_rivals.ensures
+returns-clause-same c = λ ps. left_is c ps ∙ ap (with_parts c.args.field.now.number ps) c.clear_others.ensures
 
 new_type : (c : goal.After-take_out) → type_of (shown c.self-2.inside.type_id c.take_out.new.fields.items (map record_seen c.self-2.inside.unknown.items)) ≡ type_of c.args.self.now
 new_type c = type_shown c.self-2.inside.type_id c.take_out.new.fields.items (map record_seen c.self-2.inside.unknown.items) ∙ sym (after c)
@@ -86,15 +86,15 @@ returns-clause-may_hold c =
     let f = field_shape c.args.field.now in
     record {
       fits = subst (Fits shape) (sym (left_is c []))
-          (fits_removed shape b.type_id c.requires.is_schema.shape (rising c.args.schema.now c.requires.is_schema b.type_id) f (found_after c) b.fields.items (map record_seen b.unknown.items) c.clear_rivals.new.self c.self-2.view_is
+          (fits_removed shape b.type_id c.requires.is_schema.shape (rising c.args.schema.now c.requires.is_schema b.type_id) f (found_after c) b.fields.items (map record_seen b.unknown.items) c.clear_others.new.self c.self-2.view_is
           c.self-2.invariant.rises c.self-2.invariant.filled c.self-2.invariant.keys c.take_out.result c.take_out.ensures.held (still_fits c));
       apart = subst (λ (t : TypeId). AllByRecursion (λ (p : Part KeptItem). is_rival_number (fields shape t) f p.number ≡ false) (parts_of (with_parts f.number [] (shown b.type_id c.take_out.new.fields.items (map record_seen b.unknown.items))))) (sym (new_type c))
           (subst (λ (m : Kept). AllByRecursion (λ (p : Part KeptItem). is_rival_number (fields shape (type_of c.args.self.now)) f p.number ≡ false) (parts_of m)) (sym (left_is c []))
-          (none_left (fields shape (type_of c.args.self.now)) f c.args.self.now c.clear_rivals.new.self c.clear_rivals.ensures));
+          (none_left (fields shape (type_of c.args.self.now)) f c.args.self.now c.clear_others.new.self c.clear_others.ensures));
     }
 
 pub returns-clause-of_type : goal.returns-clause-of_type
 returns-clause-of_type c = new_type c
 
 pub returns-clause-others : goal.returns-clause-others
-returns-clause-others c = subst (Fits (shape_of c.args.schema.now)) c.clear_rivals.ensures (still_fits c)
+returns-clause-others c = subst (Fits (shape_of c.args.schema.now)) c.clear_others.ensures (still_fits c)

@@ -4,7 +4,7 @@ use Rattle.pg_schema.specs.Shape.{fields}
 use Rattle.pg_dyn.specs.ContentFits.{AreApart}
 use Rattle.pg_dyn.proofs.Lists.{each_of_all}
 use Rattle.pg_dyn.proofs.FitsSteps.{apart_from, each_more}
-use Rattle.pg_dyn.proofs.fitting.is_apart.Goals as goal
+use Rattle.pg_dyn.proofs.oneofs.is_apart.Goals as goal
 
 pub loop-other-preserved : goal.loop-other-preserved
 loop-other-preserved c =

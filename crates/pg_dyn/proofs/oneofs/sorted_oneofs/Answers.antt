@@ -6,7 +6,7 @@ use Rattle.pg_schema.specs.Shape.{fields}
 use Rattle.pg_dyn.specs.declared.message.Content.{Content}
 use Rattle.pg_dyn.specs.ContentFaults.{is_in_oneof}
 use Rattle.pg_dyn.proofs.KeyLaws.{count_moved}
-use Rattle.pg_dyn.proofs.filling.sorted_oneofs.Goals as goal
+use Rattle.pg_dyn.proofs.oneofs.sorted_oneofs.Goals as goal
 
 pub returns-clause-counted : goal.returns-clause-counted
 returns-clause-counted c =

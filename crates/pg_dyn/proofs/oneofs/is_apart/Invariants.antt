@@ -3,7 +3,7 @@ use Rattle.std.proofs.Common.{take}
 use Rattle.pg_schema.specs.Parts.{shape_of}
 use Rattle.pg_schema.specs.Shape.{fields}
 use Rattle.pg_dyn.proofs.FitsSteps.{ApartFrom}
-use Rattle.pg_dyn.proofs.fitting.is_apart.Given as goal
+use Rattle.pg_dyn.proofs.oneofs.is_apart.Given as goal
 
 abbrev pub invariant-loop-other : goal.invariant-loop-other
 invariant-loop-other l = ApartFrom (fields (shape_of l.schema) l.type_id) l.number (take l.other-index l.contents)

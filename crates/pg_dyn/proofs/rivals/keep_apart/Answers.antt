@@ -4,7 +4,7 @@ use Rattle.pg_schema.specs.Parts.{field_shape, shape_of}
 use Rattle.pg_schema.specs.Shape.{fields}
 use Rattle.pg_dyn.specs.declared.message.Content.{Content}
 use Rattle.pg_dyn.specs.Replacing.{is_rival_number}
-use Rattle.pg_dyn.proofs.rivals.remove_rivals.Goals as goal
+use Rattle.pg_dyn.proofs.rivals.keep_apart.Goals as goal
 
 pub returns : goal.returns
 returns c =

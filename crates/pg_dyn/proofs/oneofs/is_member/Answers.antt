@@ -4,7 +4,7 @@ use Rattle.pg_schema.specs.Shape.{FieldShape}
 use Rattle.pg_dyn.proofs.FitsChecks.{same_field}
 use Rattle.pg_dyn.proofs.FitsSteps.{some_not_none}
 use Rattle.pg_dyn.proofs.NoRivals.{no_rival}
-use Rattle.pg_dyn.proofs.fitting.is_member.Goals as goal
+use Rattle.pg_dyn.proofs.oneofs.is_member.Goals as goal
 
 pub returns-in_default : goal.returns-in_default
 returns-in_default c = λ e other f g found there. absurd (some_not_none f (sym found ∙ sym c.in_default.ensures.shape))

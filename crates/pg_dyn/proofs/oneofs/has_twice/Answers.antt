@@ -1,7 +1,7 @@
 use Rattle.std.proofs.Common.{◌≡◌, ℕ, suc, ◌-◌, get_or, nat_eq, ap, sym, ◌∙◌, arith, add-one, eq-eqb}
 use Rattle.pg_dyn.proofs.KeyLaws.{neighbours_twice}
 use Rattle.pg_dyn.proofs.WholeFaults.{none_twice}
-use Rattle.pg_dyn.proofs.filling.has_twice.Goals as goal
+use Rattle.pg_dyn.proofs.oneofs.has_twice.Goals as goal
 
 pub returns-then-sorted-next-clause-twice : goal.returns-then-sorted-next-clause-twice
 returns-then-sorted-next-clause-twice c =

@@ -5,7 +5,7 @@ use Rattle.pg_schema.specs.Parts.{shape_of}
 use Rattle.pg_schema.specs.Shape.{fields}
 use Rattle.pg_dyn.specs.declared.message.Content.{Content}
 use Rattle.pg_dyn.proofs.FitsSteps.{ApartFrom, none_from, none_at, same_default}
-use Rattle.pg_dyn.proofs.fitting.none_rivals.Goals as goal
+use Rattle.pg_dyn.proofs.oneofs.none_rivals_in_pairs.Goals as goal
 
 rest_is : (ms : List (ℕ × Content)) (i : ℕ) → i < length ms → take (length ms - (i + 1)) (drop (i + 1) ms) ≡ drop (suc i) ms
 rest_is ms i inside = between_to_end ms (i + 1) (length ms) (omega arith) ∙ ap (λ k. drop k ms) (add-one i)
