@@ -3,9 +3,14 @@ pub mod Places
 pub mod Items
 pub mod Fields
 pub mod Synthetic
+pub mod Building
+pub mod Small
+pub mod Lent
 pub mod Entries
 pub mod Messages
 pub mod Set
 pub mod Rows
 pub mod Examples
 pub mod Pieces
+pub mod Writable
+pub mod Written

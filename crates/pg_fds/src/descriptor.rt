@@ -15,17 +15,17 @@ const ONE: Presence = Presence::Explicit;
 
 const MANY: Presence = Presence::Repeated { packed: false };
 
-const TEXT: Element = Element::Scalar(Scalar::String);
+pub const TEXT: Element = Element::Scalar(Scalar::String);
 
-const NUMBER: Element = Element::Scalar(Scalar::Int32);
+pub const NUMBER: Element = Element::Scalar(Scalar::Int32);
 
-const FLAG: Element = Element::Scalar(Scalar::Bool);
+pub const FLAG: Element = Element::Scalar(Scalar::Bool);
 
-const LABEL: Element = Element::Enum(EnumId { index: 0 });
+pub const LABEL: Element = Element::Enum(EnumId { index: 0 });
 
-const TYPE: Element = Element::Enum(EnumId { index: 1 });
+pub const TYPE: Element = Element::Enum(EnumId { index: 1 });
 
-const MODE: Element = Element::Enum(EnumId { index: 2 });
+pub const MODE: Element = Element::Enum(EnumId { index: 2 });
 
 const FILE: Element = Element::Message(TypeId { index: 1 });
 

@@ -1,0 +1,240 @@
+-- A content behind the parts of a message.
+use Rattle.std.proofs.Common.{◌≡◌, ◌≢◌, ℕ, ◌<◌, ◌≤◌, List, [], ◌∷◌, ◌++◌, map, nat_lt, Bool, true, false, Some, None, refl, ap, ap₂, sym, subst, ◌∙◌, arith}
+use Rattle.std.proofs.lemmas.Bool.Decides.{nat_tests}
+use Rattle.std.proofs.lemmas.List.{append-nil, map-append}
+use Rattle.std.proofs.lemmas.Option.{same_Some}
+use Rattle.std.specs.List.{AllByRecursion}
+use Rattle.pg_schema.specs.declared.field.Element.{Element}
+use Rattle.pg_schema.specs.declared.field.Element.TheVariants as elements
+use Rattle.pg_schema.specs.declared.field.Presence.TheVariants.{Repeated}
+use Rattle.pg_schema.specs.declared.field.TypeId.{TypeId}
+use Rattle.pg_schema.specs.Shape.{Shape, FieldShape, fields, field_at}
+use Rattle.pg_dyn.specs.declared.message.Content.{Content}
+use Rattle.pg_dyn.specs.declared.message.Content.TheVariants as contents
+use Rattle.pg_dyn.specs.declared.message.Value.{Value}
+use Rattle.pg_dyn.specs.declared.message.Value.TheVariants as values
+use Rattle.pg_dyn.specs.Kept.{Kept, KeptItem, ends, type_of, parts_of, unknown_of, message_of}
+use Rattle.pg_dyn.specs.Message.{Message, Part, Item, message_from}
+use Rattle.pg_dyn.specs.Message as model
+use Rattle.pg_dyn.specs.Replacing.{kept_from, with_parts, with_content}
+use Rattle.pg_dyn.specs.Seen.{content_seen, item_seen}
+use Rattle.pg_dyn.specs.Setting.{IsSetTo, settled}
+use Rattle.pg_dyn.specs.Fits.{Fits}
+use Rattle.pg_dyn.specs.ContentFits.{ItemFits}
+use Rattle.pg_dyn.specs.Told.{ItemsFit, TakesContent}
+use Rattle.pg_dyn.proofs.Lists.{filter_all, filter_none}
+use Rattle.pg_dyn.proofs.ReplacingLaws.{no_rivals, parts_of-kept_onto, unknown_of-kept_onto, type_of-kept_onto, parts-message_of, unknown-message_of, item_of, part_item}
+use Rattle.pg_fds.specs.Descriptor.{descriptor_shape, one, many}
+use Rattle.pg_fds.specs.Building.{items_of, items_in, items_within, shown, greatest, last_number, IsChild, AreChildren, IsOf, HasOne, HasMany, written_shape}
+use Rattle.pg_fds.specs.Items.{Items, item, child, children, options, texts}
+
+-- ---- behind all parts
+
+below_all : (n : ℕ) (ps : List (Part KeptItem)) → greatest ps < n → AllByRecursion (λ (p : Part KeptItem). nat_lt p.number n ≡ true) ps
+below_all n [] h = tt
+below_all n (p ∷ ps) h =
+    let here : p.number < n = omega (arith, h) in
+    let later : greatest ps < n = omega (arith, h) in
+    (grind (arith, nat_tests), below_all n ps later)
+
+above_none : (n : ℕ) (ps : List (Part KeptItem)) → greatest ps < n → AllByRecursion (λ (p : Part KeptItem). nat_lt n p.number ≡ false) ps
+above_none n [] h = tt
+above_none n (p ∷ ps) h =
+    let here : p.number < n = omega (arith, h) in
+    let later : greatest ps < n = omega (arith, h) in
+    (grind (arith, nat_tests), above_none n ps later)
+
+pub appended : (fs : List FieldShape) (f : FieldShape) (ps : List (Part KeptItem)) (m : Kept) → f.oneof ≡ None → greatest (parts_of m) < f.number
+    → with_content fs f ps m ≡ kept_from (type_of m) (parts_of m ++ ps) (unknown_of m)
+appended fs f ps m alone h =
+    ap (with_parts f.number ps) (no_rivals fs f m alone)
+    ∙ ap₂ (λ xs ys. kept_from (type_of m) (xs ++ (ps ++ ys)) (unknown_of m)) (filter_all (λ (p : Part KeptItem). nat_lt p.number f.number) (parts_of m) (below_all f.number (parts_of m) h))
+    (filter_none (λ (p : Part KeptItem). nat_lt f.number p.number) (parts_of m) (above_none f.number (parts_of m) h))
+    ∙ ap (λ ys. kept_from (type_of m) (parts_of m ++ ys) (unknown_of m)) (append-nil ps)
+
+greatest-append : (xs ys : List (Part KeptItem)) (n : ℕ) → greatest xs ≤ n → greatest ys ≤ n → greatest (xs ++ ys) ≤ n
+greatest-append [] ys n h k = k
+greatest-append (x ∷ xs) ys n h k =
+    let later : greatest (xs ++ ys) ≤ n = greatest-append xs ys n (omega (arith, h)) k in
+    let here : x.number ≤ n = omega (arith, h) in omega (arith, later, here)
+
+-- the message has these parts more, none of a greater number
+pub record Grown (number : ℕ) (ps : List (Part KeptItem)) (old new : Kept) : Type 0 where
+  pub items : items_of new ≡ items_of old ++ map part_item ps
+  pub of_type : type_of new ≡ type_of old
+  pub unknown : unknown_of new ≡ unknown_of old
+  pub last : last_number new ≤ number
+
+pub grown : (number : ℕ) (ps : List (Part KeptItem)) (old new : Kept) → greatest (parts_of old) < number → greatest ps ≤ number
+    → new ≡ kept_from (type_of old) (parts_of old ++ ps) (unknown_of old) → Grown number ps old new
+unfolding last_number
+grown number ps old new h k is =
+    let qs = parts_of old ++ ps in
+    let whole = kept_from (type_of old) qs (unknown_of old) in
+    let shows : parts_of whole ≡ qs = parts_of-kept_onto qs (ends (type_of old) (unknown_of old)) ∙ append-nil qs in
+    let new_shows : parts_of new ≡ qs = ap parts_of is ∙ shows in
+    record {
+      items = parts-message_of new ∙ (ap (map part_item) new_shows ∙ (map-append part_item (parts_of old) ps ∙ ap (λ xs. xs ++ map part_item ps) (sym (parts-message_of old))));
+      of_type = ap type_of is ∙ type_of-kept_onto qs (ends (type_of old) (unknown_of old));
+      unknown = ap unknown_of is ∙ unknown_of-kept_onto qs (ends (type_of old) (unknown_of old));
+      last = subst (λ xs. greatest xs ≤ number) (sym new_shows) (greatest-append (parts_of old) ps number (omega (arith, h)) k);
+    }
+
+-- ---- one item, and a list
+
+shown_item : (listed : Bool) (v : Value) → item_of (item_seen listed v) ≡ shown v
+shown_item listed (values.Int n) = refl
+shown_item listed (values.F32 n) = refl
+shown_item listed (values.F64 n) = refl
+shown_item listed (values.Text n) = refl
+shown_item listed (values.Bytes n) = refl
+shown_item listed (values.Msg n) = refl
+
+abbrev listed_part : ℕ → Value → Part KeptItem
+listed_part number value = record { number = number; key = None; item = item_seen true value }
+
+shown_list : (number : ℕ) (vs : List Value) → map part_item (map (listed_part number) vs) ≡ map (item number) (map shown vs)
+shown_list number [] = refl
+shown_list number (v ∷ vs) = ap₂ (λ i is. item number i ∷ is) (shown_item true v) (shown_list number vs)
+
+of_list : (number : ℕ) (vs : List Value) → greatest (map (listed_part number) vs) ≤ number
+of_list number [] = omega arith
+of_list number (v ∷ vs) = let later : greatest (map (listed_part number) vs) ≤ number = of_list number vs in omega (arith, later)
+
+along : (fs gs : List FieldShape) (f : FieldShape) (number : ℕ) → fs ≡ gs → field_at fs number ≡ Some f → field_at gs number ≡ Some f
+along fs gs f number same = subst (λ x. field_at x number ≡ Some f) same
+
+pub set_one : (shape : Shape) (type : TypeId) (number : ℕ) (e : Element) (v : Value) (old new : Kept) → type_of old ≡ type → field_at (fields shape type) number ≡ Some (one number e)
+    → last_number old < number → IsSetTo shape number (contents.One v) old new
+    → (items_of new ≡ items_of old ++ item number (shown v) ∷ []) × (type_of new ≡ type_of old) × (unknown_of new ≡ unknown_of old) × (last_number new ≤ number)
+unfolding last_number
+set_one shape type number e v old new of_type field h (f, found, is) =
+    let own : one number e ≡ f = same_Some (one number e) f (sym (along (fields shape type) (fields shape (type_of old)) (one number e) number (ap (fields shape) (sym of_type)) field) ∙ found) in
+    let made : new ≡ with_content (fields shape (type_of old)) (one number e) (content_seen number (contents.One v)) old =
+    subst (λ x. new ≡ with_content (fields shape (type_of old)) x (settled x (content_seen number (contents.One v))) old) (sym own) is in
+    let all = grown number (content_seen number (contents.One v)) old new h (omega arith) (made ∙ appended (fields shape (type_of old)) (one number e) (content_seen number (contents.One v)) old refl h) in
+    (all.items ∙ ap (λ i. items_of old ++ item number i ∷ []) (shown_item false v), all.of_type, all.unknown, all.last)
+
+pub set_many : (shape : Shape) (type : TypeId) (number : ℕ) (e : Element) (vs : List Value) (content : Content) (old new : Kept) → type_of old ≡ type → field_at (fields shape type) number ≡ Some (many number e)
+    → last_number old < number → content_seen number content ≡ map (listed_part number) vs → IsSetTo shape number content old new
+    → (items_of new ≡ items_of old ++ map (item number) (map shown vs)) × (type_of new ≡ type_of old) × (unknown_of new ≡ unknown_of old) × (last_number new ≤ number)
+unfolding last_number
+set_many shape type number e vs content old new of_type field h seen (f, found, is) =
+    let own : many number e ≡ f = same_Some (many number e) f (sym (along (fields shape type) (fields shape (type_of old)) (many number e) number (ap (fields shape) (sym of_type)) field) ∙ found) in
+    let made : new ≡ with_content (fields shape (type_of old)) (many number e) (content_seen number content) old =
+    subst (λ x. new ≡ with_content (fields shape (type_of old)) x (settled x (content_seen number content)) old) (sym own) is in
+    let made_list : new ≡ with_content (fields shape (type_of old)) (many number e) (map (listed_part number) vs) old =
+    subst (λ ps. new ≡ with_content (fields shape (type_of old)) (many number e) ps old) seen made in
+    let all = grown number (map (listed_part number) vs) old new h (of_list number vs) (made_list ∙ appended (fields shape (type_of old)) (many number e) (map (listed_part number) vs) old refl h) in
+    (all.items ∙ ap (λ is. items_of old ++ is) (shown_list number vs), all.of_type, all.unknown, all.last)
+
+-- ---- children
+
+-- a message is made of its parts
+rebuilt : (m : Message) → message_from (model.parts m) (model.unknown_of m) ≡ m
+rebuilt (model.ends us) = refl
+rebuilt (model.holds number key leaf later) = ap (model.holds number key leaf) (rebuilt later)
+rebuilt (model.nests number key child later) = ap (model.nests number key child) (rebuilt later)
+
+pub made_of : (type : TypeId) (m : Kept) → IsOf type m → message_from (items_of m) [] ≡ message_of m
+made_of type m is =
+    ap (message_from (items_of m)) (sym (unknown-message_of m ∙ is.no_unknown)) ∙ rebuilt (message_of m)
+
+child_shown : (type : TypeId) (v : Value) → IsChild type v → shown v ≡ model.Msg (message_from (items_in v) [])
+child_shown type (values.Msg child) is = ap model.Msg (sym (made_of type child.value is))
+child_shown type (values.Int n) is = absurd is
+child_shown type (values.F32 n) is = absurd is
+child_shown type (values.F64 n) is = absurd is
+child_shown type (values.Text n) is = absurd is
+child_shown type (values.Bytes n) is = absurd is
+
+pub children_shown : (type : TypeId) (number : ℕ) (vs : List Value) → AreChildren type vs → map (item number) (map shown vs) ≡ children number (items_within vs)
+children_shown type number [] are = refl
+children_shown type number (v ∷ vs) are =
+    ap₂ (λ i is. item number i ∷ is) (child_shown type v are.0) (children_shown type number vs are.1)
+
+-- ---- what the calls that put a content need and give
+
+pub taken_one : (given : Shape) (type its : TypeId) (number : ℕ) (e : Element) (v : Value) → given ≡ written_shape → its ≡ type → HasOne type number e → ItemFits written_shape e v
+    → TakesContent given its (number, contents.One v)
+unfolding written_shape
+taken_one given type its number e v same of_type field fits =
+    subst (λ s. TakesContent s its (number, contents.One v)) (sym same)
+    (subst (λ t. TakesContent descriptor_shape t (number, contents.One v)) (sym of_type) (one number e, record { found = field; items = fits }))
+
+pub put_one_gives : (given : Shape) (type : TypeId) (number : ℕ) (e : Element) (v : Value) (old new : Kept) → given ≡ written_shape → IsOf type old → last_number old < number → HasOne type number e
+    → IsSetTo given number (contents.One v) old new → Fits given new
+    → (items_of new ≡ items_of old ++ item number (shown v) ∷ []) × IsOf type new × (last_number new ≤ number)
+unfolding written_shape
+put_one_gives given type number e v old new same is h field set fits =
+    let all = set_one descriptor_shape type number e v old new is.of_type field h (subst (λ s. IsSetTo s number (contents.One v) old new) same set) in
+    (all.0, record { of_type = all.1 ∙ is.of_type; no_unknown = all.2 ∙ is.no_unknown; fits = subst (λ s. Fits s new) same fits }, all.3)
+
+-- a content that is a list of these items
+abbrev pub IsListOf : List Value → Content → Type 0
+IsListOf vs (contents.One v) = ⊥
+IsListOf vs (contents.Many ws) = ws.items ≡ vs
+IsListOf vs (contents.Map es) = ⊥
+
+fits_list : (e : Element) (vs : List Value) (content : Content) → IsListOf vs content → AllByRecursion (ItemFits written_shape e) vs → ItemsFit written_shape (Repeated false) e content
+fits_list e vs (contents.One v) is all = absurd is
+fits_list e vs (contents.Many ws) is all = subst (λ xs. AllByRecursion (ItemFits written_shape e) xs) (sym is) all
+fits_list e vs (contents.Map es) is all = absurd is
+
+seen_list : (number : ℕ) (vs : List Value) (content : Content) → IsListOf vs content → content_seen number content ≡ map (listed_part number) vs
+seen_list number vs (contents.One v) is = absurd is
+seen_list number vs (contents.Many ws) is = ap (map (listed_part number)) is
+seen_list number vs (contents.Map es) is = absurd is
+
+pub taken_list : (given : Shape) (type its : TypeId) (number : ℕ) (e : Element) (vs : List Value) (content : Content) → IsListOf vs content → given ≡ written_shape → its ≡ type → HasMany type number e
+    → AllByRecursion (ItemFits written_shape e) vs → TakesContent given its (number, content)
+unfolding written_shape
+taken_list given type its number e vs content is same of_type field fits =
+    subst (λ s. TakesContent s its (number, content)) (sym same)
+    (subst (λ t. TakesContent descriptor_shape t (number, content)) (sym of_type) (many number e, record { found = field; items = fits_list e vs content is fits }))
+
+pub put_list_gives : (given : Shape) (type : TypeId) (number : ℕ) (e : Element) (vs : List Value) (content : Content) (old new : Kept) → IsListOf vs content → given ≡ written_shape → IsOf type old → last_number old < number → HasMany type number e
+    → IsSetTo given number content old new → Fits given new
+    → (items_of new ≡ items_of old ++ map (item number) (map shown vs)) × IsOf type new × (last_number new ≤ number)
+unfolding written_shape
+put_list_gives given type number e vs content old new list same is h field set fits =
+    let all = set_many descriptor_shape type number e vs content old new is.of_type field h (seen_list number vs content list) (subst (λ s. IsSetTo s number content old new) same set) in
+    (all.0, record { of_type = all.1 ∙ is.of_type; no_unknown = all.2 ∙ is.no_unknown; fits = subst (λ s. Fits s new) same fits }, all.3)
+
+-- ---- children as items
+
+child_fits : (type : TypeId) (v : Value) → IsChild type v → ItemFits written_shape (elements.Message type) v
+child_fits type (values.Msg child) is = (is.fits, is.of_type)
+child_fits type (values.Int n) is = absurd is
+child_fits type (values.F32 n) is = absurd is
+child_fits type (values.F64 n) is = absurd is
+child_fits type (values.Text n) is = absurd is
+child_fits type (values.Bytes n) is = absurd is
+
+pub children_fit : (type : TypeId) (vs : List Value) → AreChildren type vs → AllByRecursion (ItemFits written_shape (elements.Message type)) vs
+children_fit type [] are = tt
+children_fit type (v ∷ vs) are = (child_fits type v are.0, children_fit type vs are.1)
+
+pub child_item : (type : TypeId) (number : ℕ) (v : Value) → IsChild type v → item number (shown v) ∷ [] ≡ child number (items_in v)
+child_item type number v is = ap (λ i. item number i ∷ []) (child_shown type v is)
+
+-- ---- texts and options
+
+pub texts_shown : (number : ℕ) (items : List Item) (list : List (List ℕ)) → items ≡ map (λ bytes. model.Plain (model.Bytes bytes)) list → map (item number) items ≡ texts number list
+texts_shown number items list is = ap (map (item number)) is ∙ each list
+  where
+    each : (xs : List (List ℕ)) → map (item number) (map (λ bytes. model.Plain (model.Bytes bytes)) xs) ≡ texts number xs
+    each [] = refl
+    each (x ∷ xs) = ap (λ is. item number (model.Plain (model.Bytes x)) ∷ is) (each xs)
+
+pub options_filled : (number : ℕ) (ps : Items) → ps ≢ [] → options number ps ≡ child number ps
+options_filled number [] h = absurd (h refl)
+options_filled number (p ∷ ps) h = refl
+
+pub empty_is : (type : TypeId) → type.index < 18 → IsOf type (ends type [])
+unfolding written_shape
+empty_is type h = record { of_type = refl; no_unknown = refl; fits = record { type_is_there = h; is_message = tt; parts_agree = tt } }
+
+pub empty_last : (type : TypeId) → last_number (ends type []) ≡ 0
+unfolding last_number
+empty_last type = refl

@@ -1,0 +1,13 @@
+use Rattle.std.proofs.Common.{ap, sym, subst, ◌∙◌}
+use Rattle.std.specs.List.{AllByRecursion}
+use Rattle.pg_schema.specs.declared.parts.Parts.{Parts}
+use Rattle.pg_fds.specs.Writable.{IsWritable}
+use Rattle.pg_fds.proofs.SmallLaws.{all_small, all_writable}
+use Rattle.pg_fds.proofs.writing.set.Goals as goal
+
+pub files-requires-clause-types : goal.files-requires-clause-types
+files-requires-clause-types c = all_small c.args.source.now c.parts-parts.ensures.checked c.requires.counted
+
+pub files-requires-clause-files : goal.files-requires-clause-files
+files-requires-clause-files c =
+    subst (AllByRecursion IsWritable) (sym (c.deref.ensures.value ∙ ap (λ (p : Parts). p.files.items) c.parts-parts.ensures.parts)) (all_writable c.args.source.now c.parts-parts.ensures.checked c.requires.counted)

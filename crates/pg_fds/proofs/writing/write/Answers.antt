@@ -1,0 +1,26 @@
+use Rattle.std.proofs.Common.{◌<◌, length, inl, inr, refl, sym, subst, ◌∙◌}
+use Rattle.pg_schema.specs.Parts.{shape_of}
+use Rattle.pg_dyn.specs.Encoding.{cap}
+use Rattle.pg_dyn.specs.Fits.{Fits}
+use Rattle.pg_fds.specs.Building.{written_shape}
+use Rattle.pg_fds.proofs.SmallLaws.{set_bytes}
+use Rattle.pg_fds.proofs.writing.write.Goals as goal
+
+pub set-requires-clause-table : goal.set-requires-clause-table
+unfolding written_shape
+set-requires-clause-table c = c.in_ok-table.ensures
+
+pub encode-requires : goal.encode-requires
+unfolding written_shape
+encode-requires c = subst (λ s. Fits s c.in_ok-message.message) (sym c.in_ok-table.ensures) c.in_ok-message.ensures.kept.fits
+
+pub returns-in-Ok-clause-ok : goal.returns-in-Ok-clause-ok
+returns-in-Ok-clause-ok c =
+    c.in-Ok.ensures.ok.0 ∙ set_bytes (shape_of c.in_ok-table.table) c.args.schema.now c.in_ok-message.message c.in_ok-table.ensures c.in_ok-message.ensures.kept c.in_ok-message.ensures.items
+
+pub returns-in-Err-TooLong-clause-err : goal.returns-in-Err-TooLong-clause-err
+returns-in-Err-TooLong-clause-err c =
+    elim c.in-Err-TooLong.ensures.err [
+      | inl memory ↦ absurd (cc)
+      | inr long ↦ inr (refl, inl (subst (λ bytes. cap < length bytes) (set_bytes (shape_of c.in_ok-table.table) c.args.schema.now c.in_ok-message.message c.in_ok-table.ensures c.in_ok-message.ensures.kept c.in_ok-message.ensures.items) long.1))
+    ]

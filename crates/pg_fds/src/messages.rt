@@ -1,0 +1,192 @@
+//! Messages of message types, `DescriptorProto` of descriptor.proto. Each call is refused only where
+//! memory is.
+
+ghost use Rattle.std.specs.Prelude.{◌≡◌, ◌+◌, ◌<◌, ◌≤◌, ◌^◌, ◌++◌, IfOk, OnOk, Some, length, map};
+ghost use Rattle.std.specs.List.{AllByRecursion};
+ghost use Rattle.std.specs.String.{string_bytes};
+ghost use Rattle.pg_schema.specs.Parts.{shape_of, type_at};
+ghost use Rattle.pg_fds.specs.Building.{AreChildren, IsOf, items_of, items_within, written_shape};
+ghost use Rattle.pg_fds.specs.Fields.{fields_items};
+ghost use Rattle.pg_fds.specs.Lent.{lent};
+ghost use Rattle.pg_fds.specs.Messages.{declared_fields, field_range, oneof_items, oneof_names, type_items};
+ghost use Rattle.pg_fds.specs.Places.{declared_in};
+ghost use Rattle.pg_fds.specs.Small.{HasSmallNumbers, IsSmallRange, IsSmallType};
+
+use crate::building::{empty, put_children, put_count, put_options, put_text, put_texts};
+use crate::descriptor::NUMBER;
+use crate::entries::push_entries;
+use crate::enums::enums;
+use crate::fields::field_message;
+use crate::names::own_name;
+use crate::options::one_flag;
+use crate::places::{ENUM, FIELD, FIELD_RANGE, MESSAGE, MESSAGE_OPTIONS, ONEOF};
+use crate::scope::names_within;
+use crate::synthetic::synthetic_oneofs;
+use pg_dyn::{Message, Value};
+use pg_schema::{Field, MessageType, ReservedFields, Schema, TypeId};
+use std::alloc::{AllocError, Global};
+
+// The message of reserved numbers, whose end is the first number behind them.
+fn range_message(
+    alloc: Global,
+    table: &Schema,
+    range: &ReservedFields,
+) -> Result<Message, AllocError>
+    requires table { shape_of table.now ≡ written_shape }
+    requires small { IsSmallRange range.now }
+    ensures items { IfOk result (λ m. items_of m ≡ field_range range.now) }
+    ensures kept { IfOk result (IsOf FIELD_RANGE) }
+{
+    let mut message = empty(alloc, FIELD_RANGE);
+    put_count(&mut message, table, FIELD_RANGE, 1, NUMBER, range.first)?;
+    put_count(&mut message, table, FIELD_RANGE, 2, NUMBER, range.last + 1)?;
+    Ok(message)
+}
+
+// The messages of reserved numbers, in order.
+fn ranges(
+    alloc: Global,
+    table: &Schema,
+    ranges: &[ReservedFields],
+) -> Result<Vec<Value>, AllocError>
+    requires table { shape_of table.now ≡ written_shape }
+    requires small { AllByRecursion IsSmallRange ranges.now }
+    ensures items { IfOk result (λ made. items_within made.items ≡ map field_range ranges.now) }
+    ensures kept { IfOk result (λ made. AreChildren FIELD_RANGE made.items) }
+{
+    let mut made = Vec::new(alloc);
+    for range in ranges {
+        let message = range_message(alloc, table, range)?;
+        made.push(Value::Msg(Box::new(alloc, message)?))?;
+    }
+    Ok(made)
+}
+
+// Puts the messages of oneofs of these names behind the others.
+fn push_oneofs(
+    alloc: Global,
+    table: &Schema,
+    made: &mut Vec<Value>,
+    names: &[String],
+) -> Result<(), AllocError>
+    requires table { shape_of table.now ≡ written_shape }
+    requires kept { AreChildren ONEOF made.old.items }
+    ensures items { OnOk result (items_within made.new.items ≡ items_within made.old.items ++ map oneof_items (map string_bytes names.now)) }
+    ensures kept { OnOk result (AreChildren ONEOF made.new.items) }
+{
+    for name in names {
+        let mut message = empty(alloc, ONEOF);
+        put_text(alloc, &mut message, table, ONEOF, 1, name)?;
+        made.push(Value::Msg(Box::new(alloc, message)?))?;
+    }
+    Ok(())
+}
+
+// The messages of the real oneofs of a message type, and then of the synthetic ones of its fields.
+fn oneofs(
+    alloc: Global,
+    table: &Schema,
+    source: &Schema,
+    message_type: &MessageType,
+    fields: &[&Field],
+) -> Result<Vec<Value>, AllocError>
+    requires table { shape_of table.now ≡ written_shape }
+    requires fields { lent fields.now ≡ declared_fields message_type.now }
+    ensures items { IfOk result (λ made. items_within made.items ≡ map oneof_items (oneof_names (declared_in source.now) message_type.now)) }
+    ensures kept { IfOk result (λ made. AreChildren ONEOF made.items) }
+{
+    let names = names_within(alloc, source, message_type)?;
+    let synthetic = synthetic_oneofs(alloc, &names, fields)?;
+    let mut made = Vec::new(alloc);
+    push_oneofs(alloc, table, &mut made, &message_type.oneofs)?;
+    push_oneofs(alloc, table, &mut made, &synthetic)?;
+    Ok(made)
+}
+
+// The fields of the message type at that place, in order of declaration.
+fn fields_of<'a>(
+    alloc: Global,
+    source: &'a Schema,
+    id: TypeId,
+    message_type: &MessageType,
+) -> Result<Vec<&'a Field>, AllocError>
+    requires there { type_at source.now id ≡ Some message_type.now }
+    requires small { AllByRecursion HasSmallNumbers message_type.now.fields.items }
+    ensures fields { IfOk result (λ fields. lent fields.items ≡ declared_fields message_type.now) }
+    ensures small { IfOk result (λ fields. AllByRecursion HasSmallNumbers (lent fields.items)) }
+    ensures few { IfOk result (λ fields. length fields.items ≤ length message_type.now.declared.items) }
+{
+    let mut fields = Vec::new(alloc);
+    for number in &message_type.declared {
+        if let Some(field) = source.field(id, *number) {
+            fields.push(field)?;
+        }
+    }
+    Ok(fields)
+}
+
+// The messages of these fields of a message type, where the first synthetic oneof has that place.
+fn fields(
+    alloc: Global,
+    table: &Schema,
+    source: &Schema,
+    scope: &str,
+    first: u32,
+    fields: &[&Field],
+) -> Result<Vec<Value>, AllocError>
+    requires table { shape_of table.now ≡ written_shape }
+    requires small { AllByRecursion HasSmallNumbers (lent fields.now) }
+    requires places { first + length fields.now < 2 ^ 31 }
+    ensures items { IfOk result (λ made. items_within made.items ≡ fields_items (declared_in source.now) scope.now first (lent fields.now)) }
+    ensures kept { IfOk result (λ made. AreChildren FIELD made.items) }
+{
+    let mut made = Vec::new(alloc);
+    let mut next = first;
+    for field in fields {
+        let message = field_message(alloc, table, source, scope, next, field)?;
+        made.push(Value::Msg(Box::new(alloc, message)?))?;
+        if field.states_optional {
+            next += 1;
+        }
+    }
+    Ok(made)
+}
+
+/// The message of the message type at that place, with the messages of the message types inside it.
+pub fn type_message(
+    alloc: Global,
+    table: &Schema,
+    source: &Schema,
+    id: TypeId,
+    message_type: &MessageType,
+    nested: Vec<Value>,
+) -> Result<Message, AllocError>
+    requires table { shape_of table.now ≡ written_shape }
+    requires there { type_at source.now id ≡ Some message_type.now }
+    requires small { IsSmallType message_type.now }
+    requires nested { AreChildren MESSAGE nested.items }
+    ensures items { IfOk result (λ m. items_of m ≡ type_items (declared_in source.now) (items_within nested.items) message_type.now) }
+    ensures kept { IfOk result (IsOf MESSAGE) }
+{
+    let mut message = empty(alloc, MESSAGE);
+    let to = &mut message;
+    let declared = fields_of(alloc, source, id, message_type)?;
+    let real = message_type.oneofs.len() as u32;
+    let own = fields(alloc, table, source, &message_type.name, real, &declared)?;
+    let mut types = nested;
+    push_entries(alloc, table, source, &mut types, &declared)?;
+    let enums = enums(alloc, table, source, &message_type.nested_enums)?;
+    let stated = message_type.options.deprecated;
+    let options = one_flag(alloc, table, MESSAGE_OPTIONS, 3, stated)?;
+    let oneofs = oneofs(alloc, table, source, message_type, &declared)?;
+    let ranges = ranges(alloc, table, &message_type.reserved_numbers)?;
+    put_text(alloc, to, table, MESSAGE, 1, own_name(&message_type.name))?;
+    put_children(to, table, MESSAGE, 2, FIELD, own)?;
+    put_children(to, table, MESSAGE, 3, MESSAGE, types)?;
+    put_children(to, table, MESSAGE, 4, ENUM, enums)?;
+    put_options(alloc, to, table, MESSAGE, 7, MESSAGE_OPTIONS, options)?;
+    put_children(to, table, MESSAGE, 8, ONEOF, oneofs)?;
+    put_children(to, table, MESSAGE, 9, FIELD_RANGE, ranges)?;
+    put_texts(alloc, to, table, MESSAGE, 10, &message_type.reserved_names)?;
+    Ok(message)
+}

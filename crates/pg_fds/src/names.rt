@@ -1,0 +1,52 @@
+//! Names in sets.
+
+ghost use Rattle.std.specs.Prelude.{◌≡◌, ◌++◌, ◌∷◌, [], ◌<◌, IfOk, OnOk, map, flat_map, slice_get, option_map};
+ghost use Rattle.std.specs.String.{string_bytes};
+ghost use Rattle.pg_schema.specs.DeclaredNames.{entry_name, within};
+ghost use Rattle.pg_fds.specs.Messages.{own_name};
+
+use pg_schema::default_json_name;
+use std::alloc::{AllocError, Global};
+
+/// What stands behind the last dot of a full name.
+pub fn own_name(name: &str) -> &str
+    ensures { result.now ≡ own_name name.now }
+{
+    match name.rsplit_once('.') {
+        Some((_, own)) => own,
+        None => name,
+    }
+}
+
+/// What the entry type of a map field of that name is called: its name as a JSON name that begins
+/// with a letter in upper case, and `Entry`.
+pub fn entry_name(alloc: Global, name: &str) -> Result<String, AllocError>
+    ensures { IfOk result (λ entry. string_bytes entry ≡ entry_name name.now) }
+{
+    let mut begun = String::from_str(alloc, "_")?;
+    begun.push_str(name)?;
+    let mut entry = default_json_name(alloc, &begun)?;
+    entry.push_str("Entry")?;
+    Ok(entry)
+}
+
+/// A full name with a dot in front.
+pub fn dotted(alloc: Global, name: &str) -> Result<String, AllocError>
+    ensures { IfOk result (λ full. string_bytes full ≡ 46 ∷ name.now) }
+{
+    let mut full = String::from_str(alloc, ".")?;
+    full.push_str(name)?;
+    Ok(full)
+}
+
+/// The full name of a name that the scope declares, with a dot in front.
+pub fn dotted_within(alloc: Global, scope: &str, name: &str) -> Result<String, AllocError>
+    ensures { IfOk result (λ full. string_bytes full ≡ 46 ∷ within scope.now name.now) }
+{
+    let mut full = dotted(alloc, scope)?;
+    if !scope.is_empty() {
+        full.push('.')?;
+    }
+    full.push_str(name)?;
+    Ok(full)
+}

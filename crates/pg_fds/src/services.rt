@@ -1,0 +1,114 @@
+//! Messages of services, `ServiceDescriptorProto` of descriptor.proto. Each call is refused only where
+//! memory is.
+
+ghost use Rattle.std.specs.Prelude.{◌≡◌, IfOk, OnOk, map, option_map, slice_get};
+ghost use Rattle.std.specs.Option.{option_copied};
+ghost use Rattle.pg_schema.specs.Parts.{shape_of};
+ghost use Rattle.pg_fds.specs.Building.{AreChildren, IsOf, items_of, items_within, written_shape};
+ghost use Rattle.pg_fds.specs.Places.{declared_in};
+ghost use Rattle.pg_fds.specs.Set.{method_items, service_items, services_items};
+
+use crate::building::{empty, put_children, put_mark, put_maybe_text, put_options, put_text};
+use crate::fields::element_name;
+use crate::names::own_name;
+use crate::options::one_flag;
+use crate::places::{METHOD, METHOD_OPTIONS, SERVICE, SERVICE_OPTIONS};
+use pg_dyn::{Message, Value};
+use pg_schema::{Element, Method, Schema, Service, ServiceId};
+use std::alloc::{AllocError, Global};
+
+// The message of a method.
+#[tactic(auto, using(crate::proofs::Calls::called))]
+fn method_message(
+    alloc: Global,
+    table: &Schema,
+    source: &Schema,
+    method: &Method,
+) -> Result<Message, AllocError>
+    requires { shape_of table.now ≡ written_shape }
+    ensures items { IfOk result (λ m. items_of m ≡ method_items (declared_in source.now) method.now) }
+    ensures kept { IfOk result (IsOf METHOD) }
+{
+    let mut message = empty(alloc, METHOD);
+    let to = &mut message;
+    let input = element_name(alloc, source, Element::Message(method.input))?;
+    let output = element_name(alloc, source, Element::Message(method.output))?;
+    let stated = method.options.deprecated;
+    let options = one_flag(alloc, table, METHOD_OPTIONS, 33, stated)?;
+    put_text(alloc, to, table, METHOD, 1, &method.name)?;
+    put_maybe_text(alloc, to, table, METHOD, 2, input)?;
+    put_maybe_text(alloc, to, table, METHOD, 3, output)?;
+    put_options(alloc, to, table, METHOD, 4, METHOD_OPTIONS, options)?;
+    put_mark(to, table, METHOD, 5, method.client_streaming)?;
+    put_mark(to, table, METHOD, 6, method.server_streaming)?;
+    Ok(message)
+}
+
+// The messages of methods, in order.
+fn methods(
+    alloc: Global,
+    table: &Schema,
+    source: &Schema,
+    methods: &[Method],
+) -> Result<Vec<Value>, AllocError>
+    requires { shape_of table.now ≡ written_shape }
+    ensures items { IfOk result (λ made. items_within made.items ≡ map (method_items (declared_in source.now)) methods.now) }
+    ensures kept { IfOk result (λ made. AreChildren METHOD made.items) }
+{
+    let mut made = Vec::new(alloc);
+    for method in methods {
+        let message = method_message(alloc, table, source, method)?;
+        made.push(Value::Msg(Box::new(alloc, message)?))?;
+    }
+    Ok(made)
+}
+
+// The message of a service.
+fn service_message(
+    alloc: Global,
+    table: &Schema,
+    source: &Schema,
+    service: &Service,
+) -> Result<Message, AllocError>
+    requires { shape_of table.now ≡ written_shape }
+    ensures items { IfOk result (λ m. items_of m ≡ service_items (declared_in source.now) service.now) }
+    ensures kept { IfOk result (IsOf SERVICE) }
+{
+    let mut message = empty(alloc, SERVICE);
+    let to = &mut message;
+    let methods = methods(alloc, table, source, &service.methods)?;
+    let stated = service.options.deprecated;
+    let options = one_flag(alloc, table, SERVICE_OPTIONS, 33, stated)?;
+    put_text(alloc, to, table, SERVICE, 1, own_name(&service.name))?;
+    put_children(to, table, SERVICE, 2, METHOD, methods)?;
+    put_options(alloc, to, table, SERVICE, 3, SERVICE_OPTIONS, options)?;
+    Ok(message)
+}
+
+// The service at that place.
+fn service_at(source: &Schema, id: ServiceId) -> Option<&Service>
+    ensures { option_copied result ≡ slice_get source.now.services.items id.index }
+{
+    source.parts().services.get(id.index as usize)
+}
+
+/// The messages of the schema's services at these places, in order.
+pub fn services(
+    alloc: Global,
+    table: &Schema,
+    source: &Schema,
+    ids: &[ServiceId],
+) -> Result<Vec<Value>, AllocError>
+    requires { shape_of table.now ≡ written_shape }
+    ensures items { IfOk result (λ made. items_within made.items ≡ services_items (declared_in source.now) ids.now) }
+    ensures kept { IfOk result (λ made. AreChildren SERVICE made.items) }
+{
+    let mut made = Vec::new(alloc);
+    for id in ids {
+        if let Some(service) = service_at(source, *id) {
+            let message = service_message(alloc, table, source, service)?;
+            made.push(Value::Msg(Box::new(alloc, message)?))?;
+        }
+    }
+    Ok(made)
+}

@@ -1,0 +1,96 @@
+//! Descriptor sets, written.
+
+ghost use Rattle.std.specs.Prelude.{◌≡◌, ◌<◌, ◌≤◌, ◌⊎◌, false, true, length, IfErr, IfOk, OnOk};
+ghost use Rattle.std.specs.List.{list_all};
+ghost use Rattle.pg_schema.specs.Parts.{shape_of};
+ghost use Rattle.pg_dyn.specs.declared.error.DynError.TheVariants as faults;
+ghost use Rattle.pg_dyn.specs.Encoding.{cap};
+ghost use Rattle.pg_fds.specs.declared.error.FdsError.TheVariants as errors;
+ghost use Rattle.pg_fds.specs.Building.{IsOf, items_of, written_shape};
+ghost use Rattle.pg_fds.specs.Set.{fds};
+ghost use Rattle.pg_fds.specs.Written.{HasNoSet, set_items};
+ghost use Rattle.pg_fds.specs.Writable.{are_counted, has_counted_imports, has_counted_places};
+
+use crate::building::{empty, put_children};
+use crate::descriptor::descriptor_schema;
+use crate::error::FdsError;
+use crate::files::files;
+use crate::places::{FILE, SET};
+use pg_dyn::{DynError, Message, encode};
+use pg_schema::{File, MessageType, Parts, Schema};
+use std::alloc::{AllocError, Global};
+
+// What an int32 counts.
+const MOST: usize = 2147483647;
+
+// The places of each message type's oneofs, real and synthetic, are those of an int32.
+fn have_counted_places(types: &[MessageType]) -> bool
+    ensures { result ≡ list_all has_counted_places types.now }
+{
+    for message_type in types {
+        if message_type.oneofs.len() + message_type.declared.len() > MOST {
+            return false;
+        }
+    }
+    true
+}
+
+// The places of each file's imports are those of an int32.
+fn have_counted_imports(files: &[File]) -> bool
+    ensures { result ≡ list_all has_counted_imports files.now }
+{
+    for file in files {
+        if file.imports.len() > MOST {
+            return false;
+        }
+    }
+    true
+}
+
+// The places of oneofs and imports are those of an int32.
+fn are_counted(parts: &Parts) -> bool
+    ensures { result ≡ are_counted parts.now }
+{
+    have_counted_places(&parts.types) && have_counted_imports(&parts.files)
+}
+
+// The message of the set.
+fn set(alloc: Global, table: &Schema, source: &Schema) -> Result<Message, AllocError>
+    requires table { shape_of table.now ≡ written_shape }
+    requires counted { are_counted source.now ≡ true }
+    ensures items { IfOk result (λ m. items_of m ≡ set_items source.now) }
+    ensures kept { IfOk result (IsOf SET) }
+{
+    // What holds of every schema.
+    let parts = source.parts();
+    let mut message = empty(alloc, SET);
+    let made = files(alloc, table, source, &parts.files)?;
+    put_children(&mut message, table, SET, 1, FILE, made)?;
+    Ok(message)
+}
+
+/// The bytes of the schema's descriptor set: a `FileDescriptorSet` of its files, in their order
+/// (descriptor.proto; docs/MODEL.md, "Descriptor sets"). They are those of the definition, and at most
+/// 2,147,483,647.
+///
+/// The errors are `Memory`, and `Bytes` of `TooLong`: only where the set would have more than
+/// 2,147,483,647 bytes, or a message type more oneofs, real and synthetic, or a file more imports than
+/// the places of an int32 name.
+pub fn write(alloc: Global, schema: &Schema) -> Result<Vec<u8>, FdsError>
+    ensures ok { IfOk result (λ bytes. fds schema.now bytes.items) }
+    ensures short { IfOk result (λ bytes. length bytes.items ≤ cap) }
+    ensures err { IfErr result (λ e. (e ≡ errors.Memory) ⊎ ((e ≡ errors.Bytes faults.TooLong) × HasNoSet schema.now)) }
+{
+    let parts = schema.parts();
+    if !are_counted(parts) {
+        return Err(FdsError::Bytes(DynError::TooLong));
+    }
+    let table = descriptor_schema(alloc)?;
+    let message = set(alloc, &table, schema)?;
+    match encode(alloc, &table, &message) {
+        Ok(bytes) => Ok(bytes),
+        Err(DynError::TooLong) => Err(FdsError::Bytes(DynError::TooLong)),
+        // Else only memory is wanting.
+        Err(_) => Err(FdsError::Memory),
+    }
+}
