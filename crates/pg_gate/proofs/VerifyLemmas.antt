@@ -1,5 +1,5 @@
 -- What a checker's answers are told as; and these as the answers of two sides.
-use Rattle.std.proofs.Common.{◌≡◌, ◌∙◌, ◌<◌, ◌⊎◌, ℕ, zero, suc, List, [], ◌∷◌, Bool, true, false, Option, Some, None, refl, ap, sym, subst, inl, inr, is_some, string_bytes, unwrap_or, slice_get, length}
+use Rattle.std.proofs.Common.{arith, Err, ◌≡◌, ◌∙◌, ◌<◌, ◌⊎◌, ℕ, zero, suc, List, [], ◌∷◌, Bool, true, false, Option, Some, None, refl, ap, sym, subst, inl, inr, is_some, string_bytes, unwrap_or, slice_get, length}
 use Rattle.std.specs.Option.{option_map, option_or}
 use Rattle.std.specs.Prelude.{IsTrue, ◌+◌, ◌≤◌}
 use Rattle.clap.specs.Words.{Text}
@@ -41,7 +41,7 @@ named_by parts id name within is = there (λ (t : MessageType). string_bytes t.n
 
 -- ---- the first fault of a claim is never that its text is bad
 
-is_bad_text : CertError → Bool
+abbrev is_bad_text : CertError → Bool
 is_bad_text checks.Memory = false
 is_bad_text checks.BadText = true
 is_bad_text checks.RootMissing = false
@@ -51,7 +51,7 @@ is_bad_text checks.WitnessNotWritten = false
 is_bad_text checks.WitnessLength = false
 is_bad_text checks.WitnessKeeps = false
 
-has_bad_text : Option CertError → Bool
+abbrev has_bad_text : Option CertError → Bool
 has_bad_text None = false
 has_bad_text (Some fault) = is_bad_text fault
 
@@ -92,15 +92,6 @@ no_bad_witness old new claim None is = is
 -- ---- what is told of an error
 
 module _ (old new : Parts) (bytes : Text) where
-  -- the reader's error, told
-  pub text_error : (fault : CertError) (error : GateError) → (fault ≡ checks.Memory) ⊎ ((fault ≡ checks.BadText) × ((claim : Claim) → Certifies old new bytes claim → ⊥)) → IsToldOf old new fault error
-      → IsClaimError old new bytes error
-  text_error fault error (inl memory) told =
-      let is : error ≡ errors.Memory = subst (λ f. IsToldOf old new f error) memory told in
-      subst (λ e. IsClaimError old new bytes e) (sym is) tt
-  text_error fault error (inr (bad, none)) told =
-      subst (λ e. IsClaimError old new bytes e) (sym (subst (λ f. IsToldOf old new f error) bad told)) none
-
   module _ (claim : Claim) (certifies : Certifies old new bytes claim) where
     abbrev IsCheckFault : CertError → Type 0
     IsCheckFault fault = (fault ≡ checks.Memory) ⊎ IsFirstFault by_numbers (shape_of old) (shape_of new) claim fault
@@ -129,17 +120,21 @@ module _ (old new : Parts) (bytes : Text) where
 
 -- ---- sides
 
+-- failures before, after a side that compiled, and after a read
+pub counts : (before between after failed : ℕ) → between ≡ before + 0 → after ≡ between + failed → before + failed ≤ after
+counts before between after failed compiled read = omega arith
+
 module _ (path : Text) (old new : Seen) (old_files new_files : SideFiles) (a b : Parts) (of_old : IsSideSchema old old_files a) (of_new : IsSideSchema new new_files b) where
-  pub ungiven_of_files : (error : GateError) → old.before + source_failures {X = Unit {0}} (Err error) ≤ old.after → IsUngiven old.may_lack path error
+  pub ungiven_of_files : (X : Type 0) (error : GateError) → old.before + source_failures {X = X} (Err error) ≤ old.after → IsUngiven old.may_lack path error
       → IsVerifyError path old new old_files new_files error
-  ungiven_of_files errors.Memory counted is = tt
-  ungiven_of_files errors.RootMissingOld counted is = absurd is
-  ungiven_of_files errors.RootMissingNew counted is = absurd is
-  ungiven_of_files (errors.Compile side fault) counted is = absurd is
-  ungiven_of_files (errors.Certificate (certificates.Missing file)) counted is = record { old_schema = a; new_schema = b; of_old = of_old; of_new = of_new; so = is }
-  ungiven_of_files (errors.Certificate (certificates.Failed file)) counted is = record { old_schema = a; new_schema = b; of_old = of_old; of_new = of_new; so = (is, omega arith) }
-  ungiven_of_files (errors.Certificate (certificates.Refused fault)) counted is = absurd is
-  ungiven_of_files errors.WriteFailed counted is = absurd is
+  ungiven_of_files X errors.Memory counted is = tt
+  ungiven_of_files X errors.RootMissingOld counted is = absurd is
+  ungiven_of_files X errors.RootMissingNew counted is = absurd is
+  ungiven_of_files X (errors.Compile side fault) counted is = absurd is
+  ungiven_of_files X (errors.Certificate (certificates.Missing file)) counted is = record { old_schema = a; new_schema = b; of_old = of_old; of_new = of_new; so = is }
+  ungiven_of_files X (errors.Certificate (certificates.Failed file)) counted is = record { old_schema = a; new_schema = b; of_old = of_old; of_new = of_new; so = (is, omega arith) }
+  ungiven_of_files X (errors.Certificate (certificates.Refused fault)) counted is = absurd is
+  ungiven_of_files X errors.WriteFailed counted is = absurd is
 
   module _ (bytes : Text) (given : IsTrue (old.may_give path bytes)) where
     pub held_of_files : (finding : Finding) → IsHeldBy a b bytes finding → IsVerified path old new old_files new_files finding
