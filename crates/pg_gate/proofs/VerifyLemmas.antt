@@ -125,16 +125,16 @@ pub counts : (before between after failed : ℕ) → between ≡ before + 0 → 
 counts before between after failed compiled read = omega arith
 
 module _ (path : Text) (old new : Seen) (old_files new_files : SideFiles) (a b : Parts) (of_old : IsSideSchema old old_files a) (of_new : IsSideSchema new new_files b) where
-  pub ungiven_of_files : (X : Type 0) (error : GateError) → old.before + source_failures {X = X} (Err error) ≤ old.after → IsUngiven old.may_lack path error
+  pub ungiven_of_files : (error : GateError) → old.before + source_failures {X = Unit {0}} (Err error) ≤ old.after → IsUngiven old.may_lack path error
       → IsVerifyError path old new old_files new_files error
-  ungiven_of_files X errors.Memory counted is = tt
-  ungiven_of_files X errors.RootMissingOld counted is = absurd is
-  ungiven_of_files X errors.RootMissingNew counted is = absurd is
-  ungiven_of_files X (errors.Compile side fault) counted is = absurd is
-  ungiven_of_files X (errors.Certificate (certificates.Missing file)) counted is = record { old_schema = a; new_schema = b; of_old = of_old; of_new = of_new; so = is }
-  ungiven_of_files X (errors.Certificate (certificates.Failed file)) counted is = record { old_schema = a; new_schema = b; of_old = of_old; of_new = of_new; so = (is, omega arith) }
-  ungiven_of_files X (errors.Certificate (certificates.Refused fault)) counted is = absurd is
-  ungiven_of_files X errors.WriteFailed counted is = absurd is
+  ungiven_of_files errors.Memory counted is = tt
+  ungiven_of_files errors.RootMissingOld counted is = absurd is
+  ungiven_of_files errors.RootMissingNew counted is = absurd is
+  ungiven_of_files (errors.Compile side fault) counted is = absurd is
+  ungiven_of_files (errors.Certificate (certificates.Missing file)) counted is = record { old_schema = a; new_schema = b; of_old = of_old; of_new = of_new; so = is }
+  ungiven_of_files (errors.Certificate (certificates.Failed file)) counted is = record { old_schema = a; new_schema = b; of_old = of_old; of_new = of_new; so = (is, omega arith) }
+  ungiven_of_files (errors.Certificate (certificates.Refused fault)) counted is = absurd is
+  ungiven_of_files errors.WriteFailed counted is = absurd is
 
   module _ (bytes : Text) (given : IsTrue (old.may_give path bytes)) where
     pub held_of_files : (finding : Finding) → IsHeldBy a b bytes finding → IsVerified path old new old_files new_files finding

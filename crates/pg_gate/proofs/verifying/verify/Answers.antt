@@ -20,7 +20,7 @@ returns-in_err-bytes-clause-refused g c =
     let error : GateError = c.in_err-bytes.field-0.0 in
     let ungiven : IsUngiven old.may_lack path error = subst (λ (lack : Text → Bool). IsUngiven lack path error) c.in_ok-old_schema.ensures.same_lacked c.in_err-bytes.ensures.refused in
     let counted = counts _ _ _ _ c.in_ok-old_schema.ensures.counted c.in_err-bytes.ensures.counted in
-    let told : IsVerifyError path old new old_files new_files error = ungiven_of_files path old new old_files new_files c.in_ok-old_schema.old_schema c.in_ok-new_schema.new_schema of_old of_new _ error counted ungiven in
+    let told : IsVerifyError path old new old_files new_files error = ungiven_of_files path old new old_files new_files c.in_ok-old_schema.old_schema c.in_ok-new_schema.new_schema of_old of_new error counted ungiven in
     IfErr-IsErrAnd c.from_residual-in_err-bytes.result (λ e. e ≡ error) (λ e. IsVerifyError path old new old_files new_files e) c.from_residual-in_err-bytes.ensures.1
     (λ e same. subst (λ e. IsVerifyError path old new old_files new_files e) (sym same) told)
 
