@@ -1,7 +1,7 @@
 //! What the program says of certificates that it is given.
 use crate::FailingSource;
 use crate::runs::{buffer, file_of, run_certificate, text_of};
-use pg_gate::{Sources, run};
+use pg_gate::{GateError, Sources, run};
 use pg_link::Listed;
 use std::process::Abort;
 use std::test::Fail;
@@ -244,6 +244,30 @@ fn tells_a_source_that_fails(rt: HostRuntime) -> Result<(), Fail> {
         "refused new E309 n.proto\n",
         3,
     )
+}
+
+/// Any one request for memory may be refused: the run gives its answer, or none and leaves the sink alone.
+#[test]
+fn keeps_to_memory(rt: HostRuntime) {
+    let mut old = Listed {
+        files: &[("o.proto", ONE), ("c", NONE)],
+    };
+    let mut new = Listed {
+        files: &[("n.proto", ONE)],
+    };
+    let Ok(mut sink) = buffer(rt.alloc()) else {
+        return;
+    };
+    match run(rt.alloc(), &WORDS, &mut old, &mut new, &mut sink) {
+        Ok(ended) => {
+            assert_eq!(rt; ended, 0);
+            assert!(rt; sink.bytes.as_slice() == "compatible M\n".as_bytes());
+        }
+        Err(error) => {
+            assert!(rt; error == GateError::Memory);
+            assert!(rt; sink.bytes.is_empty());
+        }
+    }
 }
 
 /// Words that are no call, and what is said of them.
