@@ -24,6 +24,8 @@ mod runs;
 mod sink_tests;
 #[cfg(test)]
 mod text_tests;
+#[cfg(test)]
+mod verify_tests;
 
 pub use failing_sink::FailingSink;
 pub use failing_source::FailingSource;

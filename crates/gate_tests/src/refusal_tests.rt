@@ -233,7 +233,7 @@ static USAGE: [&[&str]; 16] = [
     &[
         "gate", "--old", "m", "--old", "m", "--new", "m", "--type", "M",
     ],
-    &["verify", "--old", "m", "--new", "m", "c"],
+    &["verify", "--old", "m", "--new", "m"],
     &[
         "gate", "--old", "m", "--new", "m", "--type", "M", "--cert", "--cert",
     ],

@@ -125,6 +125,8 @@ found_by old new root answer false (findings.Certified text breaks) is tells = a
 found_by old new root answer true findings.Compatible is tells = absurd tells
 found_by old new root answer true (findings.Breaks bytes) is tells = absurd tells
 found_by old new root answer true (findings.Certified text breaks) is tells = record { answer = answer; is_answer = is; certifies = tells.0; breaks_is = tells.1 }
+found_by old new root answer false (findings.Verified verified) is tells = absurd tells
+found_by old new root answer true (findings.Verified verified) is tells = absurd tells
 
 -- ---- sides
 
@@ -140,4 +142,5 @@ module _ (root : Text) (old new : Seen) (old_files new_files : SideFiles) (a b :
   refused_of_files errors.RootMissingOld is = record { old_schema = a; new_schema = b; of_old = of_old; of_new = of_new; so = is }
   refused_of_files errors.RootMissingNew is = record { old_schema = a; new_schema = b; of_old = of_old; of_new = of_new; so = is }
   refused_of_files (errors.Compile side fault) is = absurd is
+  refused_of_files (errors.Certificate fault) is = absurd is
   refused_of_files errors.WriteFailed is = absurd is

@@ -86,4 +86,5 @@ IsRefusedRoot old new root errors.Memory = Unit {0}
 IsRefusedRoot old new root errors.RootMissingOld = Lacks old root
 IsRefusedRoot old new root errors.RootMissingNew = (Lacks old root → ⊥) × Lacks new root
 IsRefusedRoot old new root (errors.Compile side fault) = ⊥
+IsRefusedRoot old new root (errors.Certificate fault) = ⊥
 IsRefusedRoot old new root errors.WriteFailed = ⊥

@@ -1,6 +1,6 @@
 -- What the words of a command line call for.
 use Rattle.std.specs.Prelude.{Bool, false, List, [], ◌∷◌, Option, None, codes}
-use Rattle.std.specs.Prelude.{unwrap_or, option_map}
+use Rattle.std.specs.Prelude.{unwrap_or, option_map, if◌then◌else◌}
 use Rattle.std.specs.Option.{option_map_or}
 use Rattle.std.specs.Str.{bytes_eq}
 use Rattle.clap.specs.Words.{Kinds, Row, Text, fault_of, first_of, subcommand_of}
@@ -19,6 +19,7 @@ pub record SideTexts : Type 0 where
 -- a call, as texts
 pub data Request : Type 0 where
   gate : (sides : SideTexts) (root : Text) (certificate_only : Bool) → Request
+  verify : (sides : SideTexts) (certificate : Text) → Request
 
 abbrev pub sides_of : Sides → SideTexts
 sides_of s = record {
@@ -30,6 +31,7 @@ sides_of s = record {
 
 abbrev pub request_of : Call → Request
 request_of (call.Gate sides root certificate_only) = gate (sides_of sides) root.now certificate_only
+request_of (call.Verify sides certificate) = verify (sides_of sides) certificate.now
 
 -- ---- from clap's matches
 
@@ -50,9 +52,12 @@ sides_in rows = record {
 abbrev pub gate_in : List Row → Request
 gate_in rows = gate (sides_in rows) (text_at (codes "type") rows) (flag_at (codes "cert") rows)
 
--- the call of a subcommand and its matches; clap has only this one
+abbrev pub verify_in : List Row → Request
+verify_in rows = verify (sides_in rows) (text_at (codes "CERT") rows)
+
+-- the call of a subcommand and its matches; clap has only these two
 abbrev pub request_in : Text × List Row → Request
-request_in met = gate_in met.1
+request_in met = if bytes_eq met.0 (codes "gate") then gate_in met.1 else verify_in met.1
 
 -- the call of a parse with these faults, at this subcommand
 abbrev pub call_by : Kinds → Option (Text × List Row) → Option Request

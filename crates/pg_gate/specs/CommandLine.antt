@@ -16,6 +16,10 @@ folder name =
 abbrev pub named : Text → Rule
 named name = record (new_rule name) { long = Some name; value_names = 1; required = true }
 
+-- a word without a name
+abbrev pub positional : Text → Rule
+positional name = record (new_rule name) { required = true }
+
 -- `--NAME`
 abbrev pub flag : Text → Rule
 flag name = record (new_rule name) { long = Some name; action = Some SetTrue }
@@ -30,12 +34,16 @@ abbrev pub gate_app : App
 gate_app = with_rules (new_app (codes "gate")) (folder (codes "old-dir") ∷ folder (codes "new-dir")
     ∷ named (codes "old") ∷ named (codes "new") ∷ named (codes "type") ∷ flag (codes "cert") ∷ [])
 
+abbrev pub verify_app : App
+verify_app = with_rules (new_app (codes "verify")) (folder (codes "old-dir") ∷ folder (codes "new-dir")
+    ∷ named (codes "old") ∷ named (codes "new") ∷ positional (codes "CERT") ∷ [])
+
 abbrev pub top_app : App
 top_app = let app = new_app (codes "protogate") in
     record app { top = record app.top { no_binary_name = true; subcommand_required = true } }
 
 abbrev pub whole_app : App
-whole_app = with_subcommand top_app gate_app.top
+whole_app = with_subcommand (with_subcommand top_app gate_app.top) verify_app.top
 
 -- a command of this shape, with no argument that is global
 pub record HasApp (app : App) (command : Command) : Type 0 where

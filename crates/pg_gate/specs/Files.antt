@@ -13,6 +13,8 @@ use Rattle.pg_link.specs.Walk.{Entry, IsLinked, World, failures_of}
 use Rattle.pg_link.specs.declared.error.LinkError.{LinkError}
 use Rattle.pg_link.specs.declared.error.LinkError.TheVariants as links
 use Rattle.pg_link.specs.declared.target.Target.{Target}
+use Rattle.pg_gate.specs.declared.error.CertificateFault.{CertificateFault}
+use Rattle.pg_gate.specs.declared.error.CertificateFault.TheVariants as certificates
 use Rattle.pg_gate.specs.declared.error.Fault.{Fault}
 use Rattle.pg_gate.specs.declared.error.Fault.TheVariants as faults
 use Rattle.pg_gate.specs.declared.error.GateError.{GateError}
@@ -66,6 +68,7 @@ IsErrorOf fault side gates.Memory = Unit {0}
 IsErrorOf fault side gates.RootMissingOld = ⊥
 IsErrorOf fault side gates.RootMissingNew = ⊥
 IsErrorOf fault side (gates.Compile of found) = (of ≡ side) × fault found
+IsErrorOf fault side (gates.Certificate found) = ⊥
 IsErrorOf fault side gates.WriteFailed = ⊥
 
 abbrev pub IsSideError : World → Side → GateError → Type 0
@@ -76,11 +79,18 @@ abbrev pub fault_failures : Fault → ℕ
 fault_failures (faults.Link error) = failures_of {X = Unit {0}} (Err error)
 fault_failures (faults.Check error) = 0
 
--- the failures of its source that a side's answer tells of
+-- the failures of its source that the fault of a certificate tells of
+abbrev pub certificate_failures : CertificateFault → ℕ
+certificate_failures (certificates.Missing file) = 0
+certificate_failures (certificates.Failed file) = 1
+certificate_failures (certificates.Refused fault) = 0
+
+-- the failures of its source that an answer from it tells of
 abbrev pub source_failures : {X : Type 0} → Result X GateError → ℕ
 source_failures (Ok x) = 0
 source_failures (Err gates.Memory) = 0
 source_failures (Err gates.RootMissingOld) = 0
 source_failures (Err gates.RootMissingNew) = 0
 source_failures (Err (gates.Compile side fault)) = fault_failures fault
+source_failures (Err (gates.Certificate fault)) = certificate_failures fault
 source_failures (Err gates.WriteFailed) = 0

@@ -1,16 +1,19 @@
 -- What a call may be answered, by what its sources may give and lack.
-use Rattle.std.specs.Prelude.{◌≡◌, ◌+◌, ◌≤◌, ℕ, Bool, true, false, List, [], ◌∷◌, Some, None, is_some, string_bytes}
+use Rattle.std.specs.Prelude.{◌≡◌, ◌+◌, ◌≤◌, ◌<◌, ℕ, Bool, true, false, List, [], ◌∷◌, Some, None, is_some, string_bytes, IsTrue}
 use Rattle.clap.specs.Words.{Text}
 use Rattle.pg_cert.specs.Certificate.{Claim}
 use Rattle.pg_cert.specs.Text.{Certifies}
 use Rattle.pg_dyn.specs.Kept.{Kept}
 use Rattle.pg_schema.specs.declared.parts.Parts.{Parts}
-use Rattle.pg_gate.specs.Call.{Request, gate}
+use Rattle.pg_gate.specs.Call.{Request, gate, verify}
 use Rattle.pg_link.specs.Walk.{World, world}
 use Rattle.pg_gate.specs.Files.{IsCompiled, IsFaultOf, fault_failures}
 use Rattle.pg_gate.specs.Answer.{IsAnswer, IsBroken, IsCompatible, Lacks, certificate_of}
 use Rattle.pg_gate.specs.declared.answer.Answer.{Answer}
 use Rattle.pg_gate.specs.Refusals.{refusal_of}
+use Rattle.pg_gate.specs.Verified.{IsClaimFault, IsHeldBy}
+use Rattle.pg_gate.specs.declared.error.CertificateFault.{CertificateFault}
+use Rattle.pg_gate.specs.declared.error.CertificateFault.TheVariants as certificates
 use Rattle.pg_gate.specs.declared.error.Fault.{Fault}
 use Rattle.pg_gate.specs.declared.error.GateError.{GateError}
 use Rattle.pg_gate.specs.declared.error.GateError.TheVariants as errors
@@ -71,6 +74,7 @@ IsGateError root old new old_files new_files errors.RootMissingOld = Between old
 IsGateError root old new old_files new_files errors.RootMissingNew = Between old new old_files new_files (λ a b. (Lacks a root → ⊥) × Lacks b root)
 IsGateError root old new old_files new_files (errors.Compile sides.Old fault) = IsSideFault old old_files fault
 IsGateError root old new old_files new_files (errors.Compile sides.New fault) = IsSideFault new new_files fault
+IsGateError root old new old_files new_files (errors.Certificate fault) = ⊥
 IsGateError root old new old_files new_files errors.WriteFailed = ⊥
 
 abbrev pub IsAnswerOfFiles : Text → Seen → Seen → SideFiles → SideFiles → Answer → Type 0
@@ -95,14 +99,16 @@ pub record IsCertificateText (old new : Parts) (root text : Text) (breaks : Bool
   pub certifies : Certifies old new text (certificate_of answer)
   pub breaks_is : breaks ≡ is_some (certificate_of answer).witness
 
--- what is found of the types of that name; the certificate where that is asked for, and nowhere else
+-- what the gate finds of the types of that name; the certificate where that is asked for, and nowhere else
 abbrev pub IsFindingOf : Parts → Parts → Text → Bool → Finding → Type 0
 IsFindingOf old new root false findings.Compatible = IsShownCompatible old new root
 IsFindingOf old new root false (findings.Breaks witness) = IsLeastWitness old new root witness.items
 IsFindingOf old new root false (findings.Certified text breaks) = ⊥
+IsFindingOf old new root false (findings.Verified verified) = ⊥
 IsFindingOf old new root true findings.Compatible = ⊥
 IsFindingOf old new root true (findings.Breaks witness) = ⊥
 IsFindingOf old new root true (findings.Certified text breaks) = IsCertificateText old new root (string_bytes text) breaks
+IsFindingOf old new root true (findings.Verified verified) = ⊥
 
 abbrev pub IsFinding : Text → Bool → Seen → Seen → SideFiles → SideFiles → Finding → Type 0
 IsFinding root certificate_only old new old_files new_files finding = Between old new old_files new_files (λ a b. IsFindingOf a b root certificate_only finding)
@@ -112,16 +118,62 @@ abbrev pub TellsAnswer : Claim → Finding → Type 0
 TellsAnswer certificate findings.Compatible = certificate.witness ≡ None
 TellsAnswer certificate (findings.Breaks witness) = certificate.witness ≡ Some witness.items
 TellsAnswer certificate (findings.Certified text breaks) = ⊥
+TellsAnswer certificate (findings.Verified verified) = ⊥
 
 -- a finding tells a certificate's text, and whether it has a witness
 abbrev pub TellsCertificate : Parts → Parts → Claim → Finding → Type 0
 TellsCertificate old new certificate findings.Compatible = ⊥
 TellsCertificate old new certificate (findings.Breaks witness) = ⊥
 TellsCertificate old new certificate (findings.Certified text breaks) = Certifies old new (string_bytes text) certificate × (breaks ≡ is_some certificate.witness)
+TellsCertificate old new certificate (findings.Verified verified) = ⊥
 
 abbrev pub Tells : Parts → Parts → Claim → Bool → Finding → Type 0
 Tells old new certificate false finding = TellsAnswer certificate finding
 Tells old new certificate true finding = TellsCertificate old new certificate finding
+
+-- ---- certificates that are checked
+
+-- bytes that the source may give for the path
+pub record IsGiven (s : Seen) (path : Text) (holds : Text → Type 0) : Type 0 where
+  pub bytes : Text
+  pub given : IsTrue (s.may_give path bytes)
+  pub so : holds bytes
+
+-- what is found of a certificate, whose bytes the old source may give for its path as it stands
+abbrev pub IsVerified : Text → Seen → Seen → SideFiles → SideFiles → Finding → Type 0
+IsVerified path old new old_files new_files finding = Between old new old_files new_files (λ a b. IsGiven old path (λ bytes. IsHeldBy a b bytes finding))
+
+-- why a certificate isn't taken: the source may lack its path, failed in this run, or may give bytes that are refused
+abbrev pub IsCertificateFault : Seen → Text → Parts → Parts → CertificateFault → Type 0
+IsCertificateFault s path old new (certificates.Missing file) = (string_bytes file ≡ path) × IsTrue (s.may_lack path)
+IsCertificateFault s path old new (certificates.Failed file) = (string_bytes file ≡ path) × (s.before < s.after)
+IsCertificateFault s path old new (certificates.Refused fault) = IsGiven s path (λ bytes. IsClaimFault old new bytes fault)
+
+-- why a certificate of two sides shows nothing; its own faults are told of sides that both compile
+abbrev pub IsVerifyError : Text → Seen → Seen → SideFiles → SideFiles → GateError → Type 0
+IsVerifyError path old new old_files new_files errors.Memory = Unit {0}
+IsVerifyError path old new old_files new_files errors.RootMissingOld = ⊥
+IsVerifyError path old new old_files new_files errors.RootMissingNew = ⊥
+IsVerifyError path old new old_files new_files (errors.Compile sides.Old fault) = IsSideFault old old_files fault
+IsVerifyError path old new old_files new_files (errors.Compile sides.New fault) = IsSideFault new new_files fault
+IsVerifyError path old new old_files new_files (errors.Certificate fault) = Between old new old_files new_files (λ a b. IsCertificateFault old path a b fault)
+IsVerifyError path old new old_files new_files errors.WriteFailed = ⊥
+
+-- why a source gives no bytes for a path
+abbrev pub IsUngivenFault : (Text → Bool) → Text → CertificateFault → Type 0
+IsUngivenFault lack path (certificates.Missing file) = (string_bytes file ≡ path) × IsTrue (lack path)
+IsUngivenFault lack path (certificates.Failed file) = string_bytes file ≡ path
+IsUngivenFault lack path (certificates.Refused fault) = ⊥
+
+abbrev pub IsUngiven : (Text → Bool) → Text → GateError → Type 0
+IsUngiven lack path errors.Memory = Unit {0}
+IsUngiven lack path errors.RootMissingOld = ⊥
+IsUngiven lack path errors.RootMissingNew = ⊥
+IsUngiven lack path (errors.Compile side fault) = ⊥
+IsUngiven lack path (errors.Certificate fault) = IsUngivenFault lack path fault
+IsUngiven lack path errors.WriteFailed = ⊥
+
+-- ---- calls
 
 -- a refusal that is printed for such an error
 pub record IsRefusal (errors : GateError → Type 0) (refusal : Refusal) : Type 0 where
@@ -132,10 +184,12 @@ pub record IsRefusal (errors : GateError → Type 0) (refusal : Refusal) : Type 
 -- what is found for a call
 abbrev pub IsFoundFor : Seen → Seen → Request → Finding → Type 0
 IsFoundFor old new (gate sides root certificate_only) finding = IsFinding root certificate_only old new (files_at sides.old_dir (sides.old ∷ [])) (files_at sides.new_dir (sides.new ∷ [])) finding
+IsFoundFor old new (verify sides certificate) finding = IsVerified certificate old new (files_at sides.old_dir (sides.old ∷ [])) (files_at sides.new_dir (sides.new ∷ [])) finding
 
 -- why nothing is found for a call
 abbrev pub IsErrorFor : Seen → Seen → Request → GateError → Type 0
 IsErrorFor old new (gate sides root certificate_only) error = IsGateError root old new (files_at sides.old_dir (sides.old ∷ [])) (files_at sides.new_dir (sides.new ∷ [])) error
+IsErrorFor old new (verify sides certificate) error = IsVerifyError certificate old new (files_at sides.old_dir (sides.old ∷ [])) (files_at sides.new_dir (sides.new ∷ [])) error
 
 abbrev pub Grants : Seen → Seen → Request → Reply → Type 0
 Grants old new call (replies.Found finding) = IsFoundFor old new call finding

@@ -1,7 +1,9 @@
 -- What a call's answer prints, and its status.
-use Rattle.std.specs.Prelude.{ℕ, ◌==◌, if◌then◌else◌}
+use Rattle.std.specs.Prelude.{ℕ, ◌==◌, [], if◌then◌else◌}
 use Rattle.clap.specs.Words.{Text}
-use Rattle.pg_gate.specs.Call.{Request, gate}
+use Rattle.pg_cert.specs.declared.verdict.Verdict.{Verdict}
+use Rattle.pg_cert.specs.declared.verdict.Verdict.TheVariants as verdicts
+use Rattle.pg_gate.specs.Call.{Request, gate, verify}
 use Rattle.pg_gate.specs.Text.{finding_of, refusal_of}
 use Rattle.pg_gate.specs.declared.refusal.Refusal.{Refusal}
 use Rattle.pg_gate.specs.declared.reply.Finding.{Finding}
@@ -11,11 +13,18 @@ use Rattle.pg_gate.specs.declared.reply.Reply.TheVariants as reply
 
 -- ---- statuses
 
--- 0 compatible, 1 breaks; a certificate has its answer's
+-- 0 compatible, 1 breaks, 5 a bound alone
+abbrev pub verdict_status : Verdict → ℕ
+verdict_status verdicts.Compatible = 0
+verdict_status verdicts.Breaks = 1
+verdict_status (verdicts.AtLeast n) = 5
+
+-- 0 compatible, 1 breaks; a certificate that is written has its answer's, one that is checked its verdict's
 abbrev pub finding_status : Finding → ℕ
 finding_status finding.Compatible = 0
 finding_status (finding.Breaks witness) = 1
 finding_status (finding.Certified text breaks) = if breaks then 1 else 0
+finding_status (finding.Verified verified) = verdict_status verified.verdict
 
 -- 3 for a source that failed, and else 2
 abbrev pub refusal_status : Refusal → ℕ
@@ -31,9 +40,10 @@ abbrev pub text_of : Text → Reply → Text
 text_of root (reply.Found f) = finding_of root f
 text_of root (reply.Refused r) = refusal_of r
 
--- the name of the root types
+-- the name of the root types; a certificate has its own
 abbrev pub root_of : Request → Text
 root_of (gate sides root certificate_only) = root
+root_of (verify sides certificate) = []
 
 pub record Printed : Type 0 where
   pub text : Text

@@ -9,12 +9,16 @@ use Rattle.pg_link.specs.declared.error.LinkError.TheVariants as links
 use Rattle.pg_link.specs.declared.error.Place.{Place}
 use Rattle.pg_syntax.specs.declared.error.SyntaxError.{SyntaxError}
 use Rattle.pg_syntax.specs.declared.error.SyntaxError.TheVariants as syntax
+use Rattle.pg_gate.specs.declared.error.CertificateFault.{CertificateFault}
+use Rattle.pg_gate.specs.declared.error.CertificateFault.TheVariants as certificates
+use Rattle.pg_gate.specs.declared.error.ClaimFault.{ClaimFault}
+use Rattle.pg_gate.specs.declared.error.ClaimFault.TheVariants as claims
 use Rattle.pg_gate.specs.declared.error.Fault.{Fault}
 use Rattle.pg_gate.specs.declared.error.Fault.TheVariants as faults
 use Rattle.pg_gate.specs.declared.error.GateError.{GateError}
-use Rattle.pg_gate.specs.declared.error.GateError.TheVariants.{Memory, RootMissingOld, RootMissingNew, Compile, WriteFailed}
+use Rattle.pg_gate.specs.declared.error.GateError.TheVariants.{Memory, RootMissingOld, RootMissingNew, Compile, Certificate, WriteFailed}
 use Rattle.pg_gate.specs.declared.refusal.Location.{Location}
-use Rattle.pg_gate.specs.declared.refusal.Location.TheVariants.{Nowhere, InPlace, InFile}
+use Rattle.pg_gate.specs.declared.refusal.Location.TheVariants.{Nowhere, InPlace, InFile, AtPair, AtChoice}
 use Rattle.pg_gate.specs.declared.refusal.Refusal.{Refusal}
 use Rattle.pg_gate.specs.declared.refusal.Told.{Told}
 
@@ -87,10 +91,30 @@ abbrev pub told_of : Fault → Told
 told_of (faults.Link error) = told_of_link error
 told_of (faults.Check error) = told_of_check error
 
--- want of memory and a sink that failed aren't printed
+-- a code alone
+abbrev pub told_alone : ℕ → Told
+told_alone code = record { code = code; location = Nowhere }
+
+abbrev pub told_of_claim : ClaimFault → Told
+told_of_claim claims.BadText = told_alone 801
+told_of_claim claims.RootMissing = told_alone 802
+told_of_claim (claims.PairMissing names) = record { code = 803; location = AtPair names }
+told_of_claim (claims.BoundTooHigh names number case) = record { code = 804; location = AtChoice names number case }
+told_of_claim claims.WitnessNotWritten = told_alone 805
+told_of_claim claims.WitnessLength = told_alone 806
+told_of_claim claims.WitnessKeeps = told_alone 807
+
+-- a certificate that isn't given is told by its file
+abbrev pub told_of_certificate : CertificateFault → Told
+told_of_certificate (certificates.Missing file) = record { code = 301; location = InFile file }
+told_of_certificate (certificates.Failed file) = record { code = 309; location = InFile file }
+told_of_certificate (certificates.Refused fault) = told_of_claim fault
+
+-- want of memory and a sink that failed aren't printed; a certificate's fault is told without a side
 abbrev pub refusal_of : GateError → Option Refusal
 refusal_of Memory = None
 refusal_of RootMissingOld = Some (record { side = None; code = 901; location = Nowhere })
 refusal_of RootMissingNew = Some (record { side = None; code = 902; location = Nowhere })
 refusal_of (Compile side fault) = Some (record { side = Some side; code = (told_of fault).code; location = (told_of fault).location })
+refusal_of (Certificate fault) = Some (record { side = None; code = (told_of_certificate fault).code; location = (told_of_certificate fault).location })
 refusal_of WriteFailed = None

@@ -4,6 +4,8 @@ use Rattle.std.specs.Prelude.{length, string_bytes}
 use Rattle.std.specs.Fmt.{digits}
 use Rattle.std.specs.List.{flat_map}
 use Rattle.clap.specs.Words.{Text}
+use Rattle.pg_cert.specs.declared.verdict.Verdict.{Verdict}
+use Rattle.pg_cert.specs.declared.verdict.Verdict.TheVariants as verdicts
 use Rattle.pg_link.specs.declared.error.Place.{Place}
 use Rattle.pg_gate.specs.declared.error.Side.{Side}
 use Rattle.pg_gate.specs.declared.error.Side.TheVariants as side
@@ -12,6 +14,7 @@ use Rattle.pg_gate.specs.declared.refusal.Location.TheVariants as location
 use Rattle.pg_gate.specs.declared.refusal.Refusal.{Refusal}
 use Rattle.pg_gate.specs.declared.reply.Finding.{Finding}
 use Rattle.pg_gate.specs.declared.reply.Finding.TheVariants as finding
+use Rattle.pg_gate.specs.declared.verified.Verified.{Verified}
 
 -- the end of a line
 abbrev pub line_end : Text
@@ -31,15 +34,25 @@ abbrev pub hex_of : List ℕ → Text
 hex_of [] = codes "-"
 hex_of (byte ∷ bytes) = digits_of (byte ∷ bytes)
 
--- ---- what the gate finds
+-- ---- what is found
 
--- `compatible NAME`; `breaks NAME LENGTH` and `witness HEX`; or a certificate's text alone
+-- `compatible NAME`, `breaks NAME LENGTH`, or `bound NAME LENGTH`
+abbrev pub shown_of : Text → ℕ → Verdict → Text
+shown_of name witness verdicts.Compatible = codes "compatible " ++ (name ++ line_end)
+shown_of name witness verdicts.Breaks = codes "breaks " ++ (name ++ (codes " " ++ (decimal witness ++ line_end)))
+shown_of name witness (verdicts.AtLeast n) = codes "bound " ++ (name ++ (codes " " ++ (decimal n ++ line_end)))
+
+abbrev pub verified_of : Verified → Text
+verified_of verified = shown_of (string_bytes verified.name) verified.length verified.verdict
+
+-- `compatible NAME`; `breaks NAME LENGTH` and `witness HEX`; a certificate's text alone; or what a certificate shows
 abbrev pub finding_of : Text → Finding → Text
 finding_of root finding.Compatible = codes "compatible " ++ (root ++ line_end)
 finding_of root (finding.Breaks witness) =
     codes "breaks " ++ (root ++ (codes " " ++ (decimal (length witness.items) ++ (line_end
     ++ (codes "witness " ++ (hex_of witness.items ++ line_end))))))
 finding_of root (finding.Certified text breaks) = string_bytes text
+finding_of root (finding.Verified verified) = verified_of verified
 
 -- ---- refusals
 
@@ -60,6 +73,10 @@ abbrev pub location_of : Location → Text
 location_of location.Nowhere = []
 location_of (location.InPlace place) = codes " " ++ place_of place
 location_of (location.InFile file) = codes " " ++ string_bytes file
+location_of (location.AtPair names) = codes " " ++ (string_bytes names.old ++ (codes " " ++ string_bytes names.new))
+location_of (location.AtChoice names number case) =
+    codes " " ++ (string_bytes names.old ++ (codes " " ++ (string_bytes names.new ++ (codes " " ++ (decimal number
+    ++ (codes " " ++ decimal case))))))
 
 -- `refused CODE`, and then where the fault is
 abbrev pub refusal_of : Refusal → Text

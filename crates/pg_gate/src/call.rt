@@ -10,6 +10,11 @@ pub enum Call<'a> {
         root: &'a str,
         certificate_only: bool,
     },
+    /// Whether the certificate in the file of this path holds of the two sides.
+    Verify {
+        sides: Sides<'a>,
+        certificate: &'a str,
+    },
 }
 
 /// The folders and the files of the old and the new side.

@@ -12,6 +12,7 @@ use crate::compile::compile;
 use crate::error::{GateError, Side};
 use crate::refusal::refusal_of;
 use crate::reply::{Finding, Reply};
+use crate::verifying::verify;
 use pg_cert::{Certificate, to_text};
 use pg_link::Sources;
 use pg_schema::Schema;
@@ -137,6 +138,7 @@ fn find_for<S: Sources, T: Sources>(
             root,
             certificate_only,
         } => find(alloc, sides, root, *certificate_only, old, new),
+        Call::Verify { sides, certificate } => verify(alloc, sides, certificate, old, new),
     }
 }
 

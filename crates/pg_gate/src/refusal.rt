@@ -5,7 +5,7 @@ ghost use Rattle.pg_gate.specs.Refusals as refusals;
 ghost use Rattle.pg_gate.specs.Text as spec;
 ghost use Rattle.pg_gate.specs.declared.error.GateError.TheVariants as errors;
 
-use crate::error::{Fault, GateError, Side};
+use crate::error::{CertificateFault, ClaimFault, Fault, GateError, PairNames, Side};
 use pg_check::CheckError;
 use pg_lex::LexError;
 use pg_link::{LinkError, Place};
@@ -14,6 +14,9 @@ use std::fmt;
 
 /// The code of want of memory, which is no refusal and never printed.
 const OUT_OF_MEMORY: u16 = 1;
+
+/// The code of a file that is not there.
+const MISSING_FILE: u16 = 301;
 
 /// The code of a source that failed.
 const SOURCE_FAILED: u16 = 309;
@@ -41,6 +44,12 @@ pub enum Location {
     Nowhere,
     InPlace(Place),
     InFile(String),
+    AtPair(PairNames),
+    AtChoice {
+        names: PairNames,
+        number: u32,
+        case: u8,
+    },
 }
 
 impl Refusal {
@@ -115,7 +124,7 @@ fn told_of_link(error: LinkError) -> Told
     ensures { result ≡ refusals.told_of_link error }
 {
     match error {
-        LinkError::MissingFile(place) => told_at(301, place),
+        LinkError::MissingFile(place) => told_at(MISSING_FILE, place),
         LinkError::ImportCycle(place) => told_at(302, place),
         LinkError::DuplicateImport(place) => told_at(303, place),
         LinkError::DuplicateName(place) => told_at(304, place),
@@ -163,6 +172,74 @@ fn told_of_check(error: CheckError) -> Told
     }
 }
 
+/// What is told by its code alone.
+fn told_alone(code: u16) -> Told
+    ensures { result ≡ refusals.told_alone code }
+{
+    Told {
+        code,
+        location: Location::Nowhere,
+    }
+}
+
+/// What is told of a certificate's bytes.
+fn told_of_claim(fault: ClaimFault) -> Told
+    ensures { result ≡ refusals.told_of_claim fault }
+{
+    match fault {
+        ClaimFault::BadText => told_alone(801),
+        ClaimFault::RootMissing => told_alone(802),
+        ClaimFault::PairMissing(names) => Told {
+            code: 803,
+            location: Location::AtPair(names),
+        },
+        ClaimFault::BoundTooHigh {
+            names,
+            number,
+            case,
+        } => Told {
+            code: 804,
+            location: Location::AtChoice {
+                names,
+                number,
+                case,
+            },
+        },
+        ClaimFault::WitnessNotWritten => told_alone(805),
+        ClaimFault::WitnessLength => told_alone(806),
+        ClaimFault::WitnessKeeps => told_alone(807),
+    }
+}
+
+/// What is told of a certificate.
+fn told_of_certificate(fault: CertificateFault) -> Told
+    ensures { result ≡ refusals.told_of_certificate fault }
+{
+    match fault {
+        CertificateFault::Missing(file) => Told {
+            code: MISSING_FILE,
+            location: Location::InFile(file),
+        },
+        CertificateFault::Failed(file) => Told {
+            code: SOURCE_FAILED,
+            location: Location::InFile(file),
+        },
+        CertificateFault::Refused(fault) => told_of_claim(fault),
+    }
+}
+
+/// The refusal of a certificate, which has no side.
+fn refusal_of_certificate(fault: CertificateFault) -> Refusal
+    ensures { Some result ≡ refusals.refusal_of (errors.Certificate fault) }
+{
+    let told = told_of_certificate(fault);
+    Refusal {
+        side: None,
+        code: told.code,
+        location: told.location,
+    }
+}
+
 /// The refusal of a side that does not compile.
 fn refusal_of_side(side: Side, fault: Fault) -> Refusal
     ensures { Some result ≡ refusals.refusal_of (errors.Compile side fault) }
@@ -184,6 +261,7 @@ pub(crate) fn refusal_of(error: GateError) -> Option<Refusal>
 {
     let code = match error {
         GateError::Compile(side, fault) => return Some(refusal_of_side(side, fault)),
+        GateError::Certificate(fault) => return Some(refusal_of_certificate(fault)),
         GateError::RootMissingOld => ROOT_MISSING_OLD,
         GateError::RootMissingNew => ROOT_MISSING_NEW,
         GateError::Memory | GateError::WriteFailed => return None,
@@ -207,6 +285,12 @@ impl fmt::Display for Location {
                 place.file, place.line, place.column
             ),
             Location::InFile(file) => write!(f, " {file}"),
+            Location::AtPair(names) => write!(f, " {} {}", names.old, names.new),
+            Location::AtChoice {
+                names,
+                number,
+                case,
+            } => write!(f, " {} {} {number} {case}", names.old, names.new),
         }
     }
 }

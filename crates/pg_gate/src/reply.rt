@@ -5,6 +5,7 @@ ghost use Rattle.pg_gate.specs.Printed.{finding_status, status_of, text_of};
 
 use crate::hex::Hex;
 use crate::refusal::Refusal;
+use crate::verified::Verified;
 use std::alloc::{AllocError, Global};
 use std::fmt;
 
@@ -15,7 +16,7 @@ pub enum Reply {
     Refused(Refusal),
 }
 
-/// What the gate finds, as it is printed.
+/// What is found for a call, as it is printed.
 #[derive(Debug, Drop)]
 pub enum Finding {
     /// No message breaks.
@@ -24,9 +25,11 @@ pub enum Finding {
     Breaks { witness: Vec<u8> },
     /// The text of the certificate, and whether a message breaks.
     Certified { text: String, breaks: bool },
+    /// What a certificate shows.
+    Verified(Verified),
 }
 
-/// What the gate finds of the types of this name.
+/// What is found of the types of this name. A certificate names its own.
 #[derive(Clone, Copy)]
 pub struct Report<'a> {
     pub root: &'a str,
@@ -63,7 +66,7 @@ impl Reply {
 }
 
 impl Finding {
-    /// 0 where no message breaks, and else 1.
+    /// 0 where no message breaks, and else 1; of a certificate its verdict's.
     fn status(&self) -> u8
         ensures { result ≡ finding_status self.now }
     {
@@ -71,6 +74,7 @@ impl Finding {
             Finding::Compatible => 0,
             Finding::Breaks { .. } => 1,
             Finding::Certified { breaks, .. } => if *breaks { 1 } else { 0 },
+            Finding::Verified(verified) => verified.status(),
         }
     }
 }
@@ -89,6 +93,7 @@ impl fmt::Display for Report<'_> {
                 writeln!(f, "witness {witness}")
             }
             Finding::Certified { text, .. } => write!(f, "{text}"),
+            Finding::Verified(verified) => write!(f, "{verified}"),
         }
     }
 }

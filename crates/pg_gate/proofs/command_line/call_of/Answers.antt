@@ -44,4 +44,4 @@ returns-clause-call c =
     let entered : subcommand_of whole_app words ≡ Some (name, rows) =
     ap (λ (a : App). subcommand_of a words) (sym shape) ∙ sym (parse.matches (ap is_simple shape ∙ simple)).1 ∙ met in
     let faults : fault_of whole_app words ≡ [] = ap (λ (a : App). fault_of a words) (sym shape) ∙ parse.kinds (ap is_simple_and_free shape ∙ free) in
-    ap₂ call_by faults entered ∙ ap Some (sym c.gate_call.ensures)
+    ap₂ call_by faults entered ∙ ap Some (sym c.call_in.ensures)

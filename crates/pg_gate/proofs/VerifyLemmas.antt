@@ -1,0 +1,152 @@
+-- What a checker's answers are told as; and these as the answers of two sides.
+use Rattle.std.proofs.Common.{arith, Err, ◌≡◌, ◌∙◌, ◌<◌, ◌⊎◌, ℕ, zero, suc, List, [], ◌∷◌, Bool, true, false, Option, Some, None, refl, ap, sym, subst, inl, inr, is_some, string_bytes, unwrap_or, slice_get, length}
+use Rattle.std.specs.Option.{option_map, option_or}
+use Rattle.std.specs.Prelude.{IsTrue, ◌+◌, ◌≤◌}
+use Rattle.clap.specs.Words.{Text}
+use Rattle.pg_cert.specs.Bounds.{bound_in}
+use Rattle.pg_cert.specs.Certificate.{Claim}
+use Rattle.pg_cert.specs.Faults.{IsFirstFault, WitnessFaultIfThere, cheaper_choice, first_fault, first_pair_fault, missing_child, root_fault, too_high}
+use Rattle.pg_cert.specs.Text.{Certifies, names_of}
+use Rattle.pg_cert.specs.declared.bounds.PairBound.{PairBound}
+use Rattle.pg_cert.specs.declared.error.CertError.{CertError}
+use Rattle.pg_cert.specs.declared.error.CertError.TheVariants as checks
+use Rattle.pg_pairs.specs.Choices.{Table}
+use Rattle.pg_pairs.specs.Sight.{Sight, by_numbers}
+use Rattle.pg_pairs.specs.declared.choice.Choice.{Choice}
+use Rattle.pg_pairs.specs.declared.choice.Pair.{Pair}
+use Rattle.pg_schema.specs.Parts.{shape_of}
+use Rattle.pg_schema.specs.Shape.{Shape}
+use Rattle.pg_schema.specs.declared.field.TypeId.{TypeId}
+use Rattle.pg_schema.specs.declared.message_type.MessageType.{MessageType}
+use Rattle.pg_schema.specs.declared.parts.Parts.{Parts}
+use Rattle.pg_gate.specs.Answer.{IsNamed}
+use Rattle.pg_gate.specs.Files.{source_failures}
+use Rattle.pg_gate.specs.Grants.{IsSideSchema, IsUngiven, IsVerified, IsVerifyError, Seen, SideFiles}
+use Rattle.pg_gate.specs.Verified.{HasFirstFault, IsClaimError, IsHeldBy, IsToldOf}
+use Rattle.pg_gate.specs.declared.error.CertificateFault.TheVariants as certificates
+use Rattle.pg_gate.specs.declared.error.GateError.{GateError}
+use Rattle.pg_gate.specs.declared.error.GateError.TheVariants as errors
+use Rattle.pg_gate.specs.declared.reply.Finding.{Finding}
+
+-- ---- names
+
+there : (f : MessageType → Text) (types : List MessageType) (at : ℕ) → at < length types → option_map f (slice_get types at) ≡ Some (unwrap_or (option_map f (slice_get types at)) [])
+there f [] at within = absurd (omega arith)
+there f (type ∷ types) zero within = refl
+there f (type ∷ types) (suc at) within = there f types at (omega arith)
+
+-- a type that is there has its name
+pub named_by : (parts : Parts) (id : TypeId) (name : Text) → id.index < length parts.types.items → name ≡ names_of parts id → IsNamed parts name id
+named_by parts id name within is = there (λ (t : MessageType). string_bytes t.name) parts.types.items id.index within ∙ ap Some (sym is)
+
+-- ---- the first fault of a claim is never that its text is bad
+
+abbrev is_bad_text : CertError → Bool
+is_bad_text checks.Memory = false
+is_bad_text checks.BadText = true
+is_bad_text checks.RootMissing = false
+is_bad_text (checks.PairMissing pair) = false
+is_bad_text (checks.BoundTooHigh pair number case) = false
+is_bad_text checks.WitnessNotWritten = false
+is_bad_text checks.WitnessLength = false
+is_bad_text checks.WitnessKeeps = false
+
+abbrev has_bad_text : Option CertError → Bool
+has_bad_text None = false
+has_bad_text (Some fault) = is_bad_text fault
+
+neither : (a b : Option CertError) → has_bad_text a ≡ false → has_bad_text b ≡ false → has_bad_text (option_or a b) ≡ false
+neither None b here there = there
+neither (Some fault) b here there = here
+
+no_child : (o : Option Pair) → has_bad_text (option_map (λ child. checks.PairMissing child) o) ≡ false
+no_child None = refl
+no_child (Some pair) = refl
+
+no_choice : (pair : Pair) (o : Option Choice) → has_bad_text (option_map (too_high pair) o) ≡ false
+no_choice pair None = refl
+no_choice pair (Some choice) = refl
+
+no_pair : (sight : Sight) (old new : Shape) (table : Table) (bounds : List PairBound) → has_bad_text (first_pair_fault sight old new table bounds) ≡ false
+no_pair sight old new table [] = refl
+no_pair sight old new table (b ∷ bounds) =
+    neither _ _ (neither _ _ (no_child (missing_child old new table b.pair)) (no_choice b.pair (cheaper_choice sight old new table b))) (no_pair sight old new table bounds)
+
+no_root : (table : Table) (root : Pair) → has_bad_text (root_fault table root) ≡ false
+no_root table root = of (is_some (table root)) refl
+  where
+    of : (b : Bool) → is_some (table root) ≡ b → has_bad_text (root_fault table root) ≡ false
+    of true is = rw is refl
+    of false is = rw is refl
+
+no_bad_text : (sight : Sight) (old new : Shape) (bounds : List PairBound) (root : Pair) → first_fault sight old new bounds root ≡ Some checks.BadText → ⊥
+no_bad_text sight old new bounds root is =
+    let no : has_bad_text (first_fault sight old new bounds root) ≡ false = neither _ _ (no_root (bound_in bounds) root) (no_pair sight old new (bound_in bounds) bounds) in
+    let yes : has_bad_text (first_fault sight old new bounds root) ≡ true = ap has_bad_text is in
+    cc
+
+no_bad_witness : (old new : Shape) (claim : Claim) (o : Option (List ℕ)) → WitnessFaultIfThere by_numbers old new claim.root (bound_in claim.bounds claim.root) o checks.BadText → ⊥
+no_bad_witness old new claim (Some bytes) is = is
+no_bad_witness old new claim None is = is
+
+-- ---- what is told of an error
+
+module _ (old new : Parts) (bytes : Text) where
+  module _ (claim : Claim) (certifies : Certifies old new bytes claim) where
+    abbrev IsCheckFault : CertError → Type 0
+    IsCheckFault fault = (fault ≡ checks.Memory) ⊎ IsFirstFault by_numbers (shape_of old) (shape_of new) claim fault
+
+    has_first : (fault : CertError) → (fault ≡ checks.Memory → ⊥) → IsCheckFault fault → HasFirstFault old new bytes fault
+    has_first fault other (inl memory) = absurd (other memory)
+    has_first fault other (inr first) = record { claim = claim; certifies = certifies; is_first = first }
+
+    no_bad_check : IsCheckFault checks.BadText → ⊥
+    no_bad_check (inl memory) = cc
+    no_bad_check (inr (inl first)) = no_bad_text by_numbers (shape_of old) (shape_of new) claim.bounds claim.root first
+    no_bad_check (inr (inr witness)) = no_bad_witness (shape_of old) (shape_of new) claim claim.witness witness.1
+
+    -- the checker's error, told
+    pub check_error : (fault : CertError) (error : GateError) → IsCheckFault fault → IsToldOf old new fault error → IsClaimError old new bytes error
+    check_error checks.Memory error is told = subst (λ e. IsClaimError old new bytes e) (sym told) tt
+    check_error checks.BadText error is told = absurd (no_bad_check is)
+    check_error checks.RootMissing error is told = subst (λ e. IsClaimError old new bytes e) (sym told) (has_first checks.RootMissing (λ no. cc) is)
+    check_error (checks.PairMissing pair) error is told =
+        subst (λ e. IsClaimError old new bytes e) (sym told.told) (pair, told.are_names, has_first (checks.PairMissing pair) (λ no. cc) is)
+    check_error (checks.BoundTooHigh pair number case) error is told =
+        subst (λ e. IsClaimError old new bytes e) (sym told.told) (pair, told.are_names, has_first (checks.BoundTooHigh pair number case) (λ no. cc) is)
+    check_error checks.WitnessNotWritten error is told = subst (λ e. IsClaimError old new bytes e) (sym told) (has_first checks.WitnessNotWritten (λ no. cc) is)
+    check_error checks.WitnessLength error is told = subst (λ e. IsClaimError old new bytes e) (sym told) (has_first checks.WitnessLength (λ no. cc) is)
+    check_error checks.WitnessKeeps error is told = subst (λ e. IsClaimError old new bytes e) (sym told) (has_first checks.WitnessKeeps (λ no. cc) is)
+
+-- ---- sides
+
+-- failures before, after a side that compiled, and after a read
+pub counts : (before between after failed : ℕ) → between ≡ before + 0 → after ≡ between + failed → before + failed ≤ after
+counts before between after failed compiled read = omega arith
+
+module _ (path : Text) (old new : Seen) (old_files new_files : SideFiles) (a b : Parts) (of_old : IsSideSchema old old_files a) (of_new : IsSideSchema new new_files b) where
+  pub ungiven_of_files : (error : GateError) → old.before + source_failures {X = Unit {0}} (Err error) ≤ old.after → IsUngiven old.may_lack path error
+      → IsVerifyError path old new old_files new_files error
+  ungiven_of_files errors.Memory counted is = tt
+  ungiven_of_files errors.RootMissingOld counted is = absurd is
+  ungiven_of_files errors.RootMissingNew counted is = absurd is
+  ungiven_of_files (errors.Compile side fault) counted is = absurd is
+  ungiven_of_files (errors.Certificate (certificates.Missing file)) counted is = record { old_schema = a; new_schema = b; of_old = of_old; of_new = of_new; so = is }
+  ungiven_of_files (errors.Certificate (certificates.Failed file)) counted is = record { old_schema = a; new_schema = b; of_old = of_old; of_new = of_new; so = (is, omega arith) }
+  ungiven_of_files (errors.Certificate (certificates.Refused fault)) counted is = absurd is
+  ungiven_of_files errors.WriteFailed counted is = absurd is
+
+  module _ (bytes : Text) (given : IsTrue (old.may_give path bytes)) where
+    pub held_of_files : (finding : Finding) → IsHeldBy a b bytes finding → IsVerified path old new old_files new_files finding
+    held_of_files finding is = record { old_schema = a; new_schema = b; of_old = of_old; of_new = of_new; so = record { bytes = bytes; given = given; so = is } }
+
+    pub refused_bytes_of_files : (error : GateError) → IsClaimError a b bytes error → IsVerifyError path old new old_files new_files error
+    refused_bytes_of_files errors.Memory is = tt
+    refused_bytes_of_files errors.RootMissingOld is = absurd is
+    refused_bytes_of_files errors.RootMissingNew is = absurd is
+    refused_bytes_of_files (errors.Compile side fault) is = absurd is
+    refused_bytes_of_files (errors.Certificate (certificates.Missing file)) is = absurd is
+    refused_bytes_of_files (errors.Certificate (certificates.Failed file)) is = absurd is
+    refused_bytes_of_files (errors.Certificate (certificates.Refused fault)) is =
+        record { old_schema = a; new_schema = b; of_old = of_old; of_new = of_new; so = record { bytes = bytes; given = given; so = is } }
+    refused_bytes_of_files errors.WriteFailed is = absurd is

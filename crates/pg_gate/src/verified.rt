@@ -1,0 +1,45 @@
+//! What a certificate shows, as it is printed.
+ghost use Rattle.std.specs.Prelude.{◌≡◌, Some};
+ghost use Rattle.pg_gate.specs.Printed.{verdict_status};
+ghost use Rattle.pg_gate.specs.Text as spec;
+
+use pg_cert::Verdict;
+use std::fmt;
+
+/// What a certificate that holds shows of its root types: the full name of the old one, the verdict, and
+/// how many bytes the witness has, where there is one.
+#[derive(Debug, Drop)]
+pub struct Verified {
+    pub name: String,
+    pub verdict: Verdict,
+    pub length: usize,
+}
+
+impl Verified {
+    /// 0 where no message breaks, 1 where one does, and 5 where it is only said how many bytes one has at least.
+    pub(crate) fn status(&self) -> u8
+        ensures { result ≡ verdict_status self.now.verdict }
+    {
+        match self.verdict {
+            Verdict::Compatible => 0,
+            Verdict::Breaks => 1,
+            Verdict::AtLeast(_) => 5,
+        }
+    }
+}
+
+impl fmt::Display for Verified {
+    ghost output = { λ it. Some (spec.verified_of it) };
+
+    fn fmt<W: fmt::Write>(&self, f: &mut fmt::Formatter<W>) -> fmt::Result {
+        let name = &self.name;
+        match self.verdict {
+            Verdict::Compatible => writeln!(f, "compatible {name}"),
+            Verdict::Breaks => {
+                let length = self.length;
+                writeln!(f, "breaks {name} {length}")
+            }
+            Verdict::AtLeast(bytes) => writeln!(f, "bound {name} {bytes}"),
+        }
+    }
+}
