@@ -1,5 +1,7 @@
 //! The written schema beside what protoc writes.
 
+mod written;
+
 use pg_dyn::{decode, encode};
 use pg_fds::descriptor_schema;
 use pg_schema::{Schema, TypeId};

@@ -1,4 +1,4 @@
-//! Descriptor sets: the messages that a schema gives by descriptor.proto, as definitions and laws about them, and the schema of
+//! Descriptor sets: the set that a schema gives by descriptor.proto, written as bytes, with its definition and laws, and the schema of
 //! these messages.
 #![tactic(auto)]
 
@@ -23,3 +23,4 @@ mod writing;
 pub use descriptor::descriptor_schema;
 pub use error::FdsError;
 pub use laws::{worked_pieces, worked_sets};
+pub use writing::write;
