@@ -1,7 +1,8 @@
 #!/bin/sh
 # Gates message types against an earlier release: is what it wrote read whole by what would be released?
 # usage: gate.sh REVISION FOLDER FILE TYPE..
-# FOLDER is below the top of the repository, FILE below FOLDER. The status is the highest of the gate's.
+# Runs at the top of the repository, FOLDER is below it and FILE below FOLDER. The status is the highest of the gate's, and 4 too
+# where git has no such revision or folder.
 set -eu
 if [ $# -lt 4 ]; then
     echo "usage: $0 REVISION FOLDER FILE TYPE.." >&2
@@ -13,7 +14,7 @@ file=$3
 shift 3
 old=$(mktemp -d)
 trap 'rm -rf -- "$old"' EXIT
-git archive --format=tar "$revision" -- "$folder" >"$old/old.tar"
+git archive --format=tar "$revision" -- "$folder" >"$old/old.tar" || exit 4
 tar -xf "$old/old.tar" -C "$old"
 worst=0
 for type in "$@"; do
