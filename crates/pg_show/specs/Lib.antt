@@ -1,0 +1,5 @@
+pub mod Hex
+pub mod Lines
+pub mod Shown
+pub mod Contents
+pub mod Worked

@@ -1,0 +1,8 @@
+//! Laws about the definitions. Each is the contract of a function that does nothing.
+
+ghost use Rattle.pg_show.specs.Worked.{WorkedRows};
+
+/// Small messages and their lines, and words and their bytes.
+pub fn worked_rows()
+    ensures { WorkedRows }
+{}

@@ -1,0 +1,14 @@
+//! The text by which a message is shown by its schema, and the bytes of a hexadecimal word.
+#![tactic(auto)]
+
+mod error;
+mod hex_word;
+mod item;
+mod laws;
+mod lines;
+mod showing;
+
+pub use error::HexError;
+pub use hex_word::bytes_of_hex;
+pub use laws::worked_rows;
+pub use showing::show;
