@@ -2,7 +2,11 @@
 
 ghost use Rattle.pg_show.specs.Worked.{WorkedRows};
 
+use pg_dyn::fault_examples;
+
 /// Small messages and their lines, and words and their bytes.
 pub fn worked_rows()
     ensures { WorkedRows }
-{}
+{
+    fault_examples();
+}
