@@ -1,3 +1,4 @@
 pub mod Worked
 pub mod Weights
 pub mod ByContent
+pub mod Words

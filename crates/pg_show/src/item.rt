@@ -75,13 +75,13 @@ pub(crate) fn push_item(
             text.push_str("int ")?;
             push_int(text, *number)
         }
-        Value::F32(bits) => {
+        Value::F32(single) => {
             text.push_str("f32 ")?;
-            push_digits(alloc, text, &bits.to_be_bytes())
+            push_digits(alloc, text, &single.to_be_bytes())
         }
-        Value::F64(bits) => {
+        Value::F64(double) => {
             text.push_str("f64 ")?;
-            push_digits(alloc, text, &bits.to_be_bytes())
+            push_digits(alloc, text, &double.to_be_bytes())
         }
         Value::Text(_) | Value::Bytes(_) | Value::Msg(_) => {
             text.push_str(kind(element))?;

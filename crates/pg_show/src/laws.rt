@@ -1,5 +1,6 @@
 //! Laws about the definitions. Each is the contract of a function that does nothing.
 
+ghost use Rattle.pg_show.specs.Hex.{WordsReadAgain};
 ghost use Rattle.pg_show.specs.Worked.{WorkedRows};
 
 use pg_dyn::fault_examples;
@@ -10,3 +11,8 @@ pub fn worked_rows()
 {
     fault_examples();
 }
+
+/// The digits of bytes are read again as these bytes.
+pub fn words_read_again()
+    ensures { WordsReadAgain }
+{}

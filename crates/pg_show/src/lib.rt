@@ -10,5 +10,5 @@ mod showing;
 
 pub use error::HexError;
 pub use hex_word::bytes_of_hex;
-pub use laws::worked_rows;
+pub use laws::{words_read_again, worked_rows};
 pub use showing::show;

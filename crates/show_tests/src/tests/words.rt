@@ -2,11 +2,13 @@
 use pg_show::{HexError, bytes_of_hex};
 use std::alloc::Global;
 use std::process::Abort;
+use std::test::Fail;
 
 /// The word is read as these bytes.
-fn reads(rt: &impl Abort, alloc: Global, word: &str, wanted: &[u8]) {
-    let bytes = bytes_of_hex(alloc, word);
-    assert_eq!(rt; bytes.as_deref(), Ok(wanted));
+fn reads(rt: &impl Abort, alloc: Global, word: &str, wanted: &[u8]) -> Result<(), Fail> {
+    let bytes = bytes_of_hex(alloc, word)?;
+    assert_eq!(rt; bytes.as_slice(), wanted);
+    Ok(())
 }
 
 /// The word is refused.
@@ -15,7 +17,7 @@ fn refuses(rt: &impl Abort, alloc: Global, word: &str) {
 }
 
 #[test]
-fn words(rt: HostRuntime) {
+fn words(rt: HostRuntime) -> Result<(), Fail> {
     let alloc = rt.alloc();
     let read: [(&str, &[u8]); 5] = [
         ("0aBf", b"\x0a\xbf"),
@@ -28,11 +30,12 @@ fn words(rt: HostRuntime) {
         ("", b""),
     ];
     for (word, bytes) in read {
-        reads(&rt, alloc, word, bytes);
+        reads(&rt, alloc, word, bytes)?;
     }
     for word in [
         "0", "0a0", "0g", "g0", "--", "-0", " 0a", "0a ", "0x0a", "0:", "@0",
     ] {
         refuses(&rt, alloc, word);
     }
+    Ok(())
 }
