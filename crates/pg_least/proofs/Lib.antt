@@ -4,3 +4,4 @@ pub mod Grown
 pub mod Reaching
 pub mod Falling
 pub mod Sights
+pub mod Unbounded
