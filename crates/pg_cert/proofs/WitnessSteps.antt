@@ -13,8 +13,7 @@ use Rattle.pg_dyn.specs.Laws.{ReadsAgain}
 use Rattle.pg_dyn.specs.Message.{Message, IsPlain, ends, holds, nests}
 use Rattle.pg_pairs.specs.declared.choice.Pair.{Pair}
 use Rattle.pg_pairs.specs.Sight.{Sight, by_numbers}
-use Rattle.pg_pairs.specs.Views.{sight_of}
-use Rattle.pg_cert.proofs.Sights.{by_numbers-between}
+use Rattle.pg_pairs.specs.Views.{sight_of, NumbersAreAlike}
 use Rattle.pg_pairs.proofs.BreakSteps.{kept_plain, plain_kept}
 use Rattle.pg_cert.specs.Certificate.{HasLength, IsWitnessed, IsWritten, is_witness}
 use Rattle.pg_cert.specs.Faults.{IsWriting}
@@ -73,6 +72,6 @@ module _ (old : Shape) (root : Pair) (bytes : List ℕ) where
           kept_ (subst (Breaks sight.alike old new root.old root.new) (message_is again is_shape (message_of m) written (read_of again is_shape written_of)) is.breaks)
 
 -- What the checker tells is told of the view by numbers.
-pub told : (old new : Parts) (root : Pair) (m : Kept) (so : Bool) → IsTrue so ↔ ((type_of m ≡ root.old) × Breaks (sight_of (λ _ _ _. true) (λ _ _ _. None) old new).alike (shape_of old) (shape_of new) root.old root.new (message_of m))
+pub told : NumbersAreAlike → (old new : Parts) (root : Pair) (m : Kept) (so : Bool) → IsTrue so ↔ ((type_of m ≡ root.old) × Breaks (sight_of (λ _ _ _. true) (λ _ _ _. None) old new).alike (shape_of old) (shape_of new) root.old root.new (message_of m))
     → IsTrue so ↔ ((type_of m ≡ root.old) × Breaks by_numbers.alike (shape_of old) (shape_of new) root.old root.new (message_of m))
-told old new root m so h = subst (λ (sight : Sight). IsTrue so ↔ ((type_of m ≡ root.old) × Breaks sight.alike (shape_of old) (shape_of new) root.old root.new (message_of m))) (by_numbers-between old new) h
+told alike old new root m so h = subst (λ (sight : Sight). IsTrue so ↔ ((type_of m ≡ root.old) × Breaks sight.alike (shape_of old) (shape_of new) root.old root.new (message_of m))) (alike old new) h

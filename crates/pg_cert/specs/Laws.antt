@@ -25,7 +25,7 @@ CoversWithoutFault =
     (first_fault sight old new bounds root ≡ None) ↔ Covers sight old new (bound_in bounds) root
 
 -- the bytes are those of a message that breaks, and no message that breaks has fewer
-pub record IsLeastWitness (sight : Sight) (old new : Shape) (root : Pair) (bytes : List ℕ) : Type 0 where
+pub record IsShortestWitness (sight : Sight) (old new : Shape) (root : Pair) (bytes : List ℕ) : Type 0 where
   pub message : Message
   pub breaks : Breaks sight.alike old new root.old root.new message
   pub written : enc old root.old message ≡ bytes
@@ -41,7 +41,7 @@ WitnessFaultsAreReal =
 abbrev pub Says : Sight → Shape → Shape → Claim → Verdict → Type 0
 Says sight old new claim verdicts.Compatible = Compatible sight.alike old new claim.root.old claim.root.new
 Says sight old new claim (verdicts.AtLeast n) = (v : Message) → Breaks sight.alike old new claim.root.old claim.root.new v → n ≤ length (enc old claim.root.old v)
-Says sight old new claim verdicts.Breaks = (bytes : List ℕ) × (claim.witness ≡ Some bytes) × IsLeastWitness sight old new claim.root bytes
+Says sight old new claim verdicts.Breaks = (bytes : List ℕ) × (claim.witness ≡ Some bytes) × IsShortestWitness sight old new claim.root bytes
 
 -- The verdict of a claim that holds is true.
 abbrev pub VerdictsAreTrue : Type 0

@@ -16,7 +16,9 @@ use crate::error::CertError;
 use crate::laws::{covers_without_fault, verdicts_are_true, witness_faults_are_real};
 use crate::verdict::Verdict;
 use crate::witness::check_witness;
-use pg_pairs::{Choice, Numbers, Pair, Table, children, numbers_sight, options};
+use pg_pairs::{
+    Choice, Numbers, Pair, Table, children, numbers_are_alike, numbers_sight, options,
+};
 use pg_schema::Schema;
 use std::alloc::{AllocError, Global};
 
@@ -59,6 +61,7 @@ fn choices(
 ) -> Result<Vec<Choice>, AllocError>
     ensures { IfOk result (λ found. found.items ≡ choices by_numbers (bound_in bounds.now) (shape_of old.now) (shape_of new.now) pair) }
 {
+    numbers_are_alike();
     options(alloc, &Numbers, old, new, pair, bounds)
 }
 

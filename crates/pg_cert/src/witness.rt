@@ -2,6 +2,7 @@
 
 ghost use Rattle.std.specs.Prelude.{◌≡◌, ◌⊎◌, ◌↔◌, ◌<◌, ◌≤◌, true, length, Some, MatchOption, MatchResult, IfOk, IsTrue};
 ghost use Rattle.pg_schema.specs.Parts.{shape_of};
+ghost use Rattle.pg_dyn.specs.Breaking.{Breaks};
 ghost use Rattle.pg_dyn.specs.Encoding.{cap, enc};
 ghost use Rattle.pg_dyn.specs.Fits.{Fits};
 ghost use Rattle.pg_dyn.specs.Kept.{message_of, type_of};
@@ -12,7 +13,7 @@ ghost use Rattle.pg_cert.specs.Faults.{IsReadBack, WitnessFault};
 
 use crate::error::CertError;
 use pg_dyn::{DynError, Message, decode_unlimited, encode, reads_again};
-use pg_pairs::{Numbers, Pair, breaks};
+use pg_pairs::{Numbers, Pair, breaks, numbers_are_alike};
 use pg_schema::Schema;
 use std::alloc::{AllocError, Global};
 
@@ -25,12 +26,10 @@ fn encoded(alloc: Global, old: &Schema, message: &Message) -> Result<Option<Vec<
 {
     match encode(alloc, old, message) {
         Ok(bytes) => Ok(Some(bytes)),
-        Err(error) => {
-            if matches!(error, DynError::TooLong) {
-                return Ok(None);
-            }
-            Err(AllocError)
-        }
+        Err(DynError::TooLong) => Ok(None),
+        Err(DynError::Memory) => Err(AllocError),
+        // There is no other reason.
+        Err(_) => unreachable!(),
     }
 }
 
@@ -76,6 +75,27 @@ fn has_length(bound: Option<Option<u32>>, bytes: &[u8]) -> bool
     }
 }
 
+// Whether a message that has an encoding breaks, by the numbers of enums.
+fn written_breaks(
+    alloc: Global,
+    old: &Schema,
+    new: &Schema,
+    root: Pair,
+    message: &Message,
+) -> Result<bool, AllocError>
+    requires fits { Fits (shape_of old.now) message.now }
+    requires room { length (enc (shape_of old.now) (type_of message.now) (message_of message.now)) ≤ cap }
+    ensures { IfOk result (λ so. IsTrue so ↔ ((type_of message.now ≡ root.old) × Breaks by_numbers.alike (shape_of old.now) (shape_of new.now) root.old root.new (message_of message.now))) }
+{
+    numbers_are_alike();
+    match breaks(alloc, &Numbers, old, new, root, message) {
+        Ok(so) => Ok(so),
+        Err(DynError::Memory) => Err(AllocError),
+        // What is too long has no encoding.
+        Err(_) => unreachable!(),
+    }
+}
+
 /// Whether the bytes are a witness of the pair of root types whose bound that is: the old writer writes them of a
 /// message without unknown records, which breaks, and the bound is their number. The error is the first of
 /// `WitnessNotWritten`, `WitnessLength` and `WitnessKeeps` that is there, or `Memory`.
@@ -101,11 +121,7 @@ pub(crate) fn check_witness(
     if !has_length(bound, bytes) {
         return Err(CertError::WitnessLength);
     }
-    // What was written has an encoding.
-    let Ok(so) = breaks(alloc, &Numbers, old, new, root, &message) else {
-        return Err(CertError::Memory);
-    };
-    if !so {
+    if !written_breaks(alloc, old, new, root, &message)? {
         return Err(CertError::WitnessKeeps);
     }
     Ok(())

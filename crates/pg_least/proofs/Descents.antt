@@ -11,6 +11,7 @@ use Rattle.pg_pairs.specs.declared.choice.Choice.{Choice}
 use Rattle.pg_pairs.specs.declared.choice.Pair.{Pair}
 use Rattle.pg_pairs.specs.Sight.{Sight}
 use Rattle.pg_pairs.specs.Carried.{ChildReached, ChildThere, choice_child}
+use Rattle.pg_pairs.specs.CarriedItems.{IsChoiceRound, IsOfPair}
 use Rattle.pg_pairs.specs.Cheapest.{cheapest, IsCheapest, CheapestIsLeast}
 use Rattle.pg_pairs.specs.Choices.{Table, number_for, all_choices, affordable, choices}
 use Rattle.pg_pairs.specs.Covering.{IsWithin}
@@ -105,11 +106,6 @@ module _ (sight : Sight) (old new : Shape) (table : Table) where
   pub child_given : (o : Option Pair) (last : Step) (m : Message) → o ≡ Some last.pair → IsStep sight old new table last → ReachedBy sight old new last.pair m last.choice.cost → ChildReached sight old new table o (Some m)
   child_given o last m is step reached = subst (λ x. ChildReached sight old new table x (Some m)) (sym is) (last.choice.cost, step.costs, reached)
 
--- the choice's message round that child, in every table that has it
-abbrev pub IsBuilt : Sight → Shape → Shape → Step → Option Message → Kept → Type 0
-IsBuilt sight old new step child m =
-    (table : Table) → IsAmong step.choice (choices sight table old new step.pair) → ChildReached sight old new table (choice_child old new step.pair step.choice) child → ReachedBy sight old new step.pair (message_of m) step.choice.cost
-
 -- The message of the last of these steps, on the way to which stands that first one.
 pub record IsInside (sight : Sight) (old new : Shape) (first : Step) (steps : List Step) (m : Kept) : Type 0 where
   pub table : Table
@@ -121,20 +117,41 @@ pub record IsInside (sight : Sight) (old new : Shape) (first : Step) (steps : Li
   pub reached : ReachedBy sight old new last.pair (message_of m) last.choice.cost
 
 module _ (sight : Sight) (old new : Shape) where
-  pub innermost : (table : Table) (steps : List Step) (last : Step) (m : Kept) → IsWholeWay sight old new table steps last → Fits old m → type_of m ≡ last.pair.old → IsBuilt sight old new last None m → IsInside sight old new (first_step steps last) steps m
-  innermost table steps last m whole fits type_is made = record {
+  -- the last step's choice has no child
+  pub last_round : (table : Table) (steps : List Step) (last : Step) → IsWholeWay sight old new table steps last → IsChoiceRound sight old new last.pair last.choice None
+  last_round table steps last whole = record {
+    table = table;
+    among = (last_step sight old new table steps last whole.way).among;
+    reached = no_child sight old new table (choice_child old new last.pair last.choice) whole.ends;
+    of_pair = subst (λ o. IsOfPair o None) (sym whole.ends) tt;
+  }
+
+  pub innermost : (table : Table) (steps : List Step) (last : Step) (m : Kept) → IsWholeWay sight old new table steps last → Fits old m → type_of m ≡ last.pair.old → ReachedBy sight old new last.pair (message_of m) last.choice.cost → IsInside sight old new (first_step steps last) steps m
+  innermost table steps last m whole fits type_is reached = record {
     table = table;
     last = last;
     way = whole.way;
     first_is = refl;
     fits = fits;
     type_is = type_is;
-    reached = made table (last_step sight old new table steps last whole.way).among (no_child sight old new table (choice_child old new last.pair last.choice) whole.ends);
+    reached = reached;
   }
 
+  -- the message inside is that of the next step's child
+  pub next_round : (first step : Step) (steps all : List Step) (inner : Kept) → IsInside sight old new first all inner → all ≡ steps ++ step ∷ [] → IsChoiceRound sight old new step.pair step.choice (Some inner)
+  next_round first step steps all inner inside is =
+      let whole : IsWayDown sight old new inside.table (steps ++ step ∷ []) inside.last = subst (λ ss. IsWayDown sight old new inside.table ss inside.last) is inside.way in
+      let (way, child) = way_off sight old new inside.table steps step inside.last whole in
+      record {
+        table = inside.table;
+        among = (last_step sight old new inside.table steps step way).among;
+        reached = child_given sight old new inside.table (choice_child old new step.pair step.choice) inside.last (message_of inner) child (last_step sight old new inside.table all inside.last inside.way) inside.reached;
+        of_pair = subst (λ o. IsOfPair o (Some inner)) (sym child) inside.type_is;
+      }
+
   -- one step out
-  pub round : (first step : Step) (steps all : List Step) (inner m : Kept) → IsInside sight old new first all inner → all ≡ steps ++ step ∷ [] → Fits old m → type_of m ≡ step.pair.old → IsBuilt sight old new step (Some (message_of inner)) m → IsInside sight old new first steps m
-  round first step steps all inner m inside is fits type_is made =
+  pub round : (first step : Step) (steps all : List Step) (inner m : Kept) → IsInside sight old new first all inner → all ≡ steps ++ step ∷ [] → Fits old m → type_of m ≡ step.pair.old → ReachedBy sight old new step.pair (message_of m) step.choice.cost → IsInside sight old new first steps m
+  round first step steps all inner m inside is fits type_is reached =
       let whole : IsWayDown sight old new inside.table (steps ++ step ∷ []) inside.last = subst (λ ss. IsWayDown sight old new inside.table ss inside.last) is inside.way in
       let (way, child) = way_off sight old new inside.table steps step inside.last whole in
       record {
@@ -144,7 +161,7 @@ module _ (sight : Sight) (old new : Shape) where
         first_is = sym (first_on steps step inside.last) ∙ ap (λ ss. first_step ss inside.last) (sym is) ∙ inside.first_is;
         fits = fits;
         type_is = type_is;
-        reached = made inside.table (last_step sight old new inside.table steps step way).among (child_given sight old new inside.table (choice_child old new step.pair step.choice) inside.last (message_of inner) child (last_step sight old new inside.table all inside.last inside.way) inside.reached);
+        reached = reached;
       }
 
   -- the type of a step that stands next is there

@@ -66,7 +66,7 @@ not_some None h = refl
 not_some (Some x) h = absurd (cc)
 
 -- of a list's first pair no other one is the same
-first_once : (b : PairBound) (bounds : List PairBound) → are_bounds (b ∷ bounds) ≡ true → (bound_in bounds b.pair ≡ None) × (are_bounds bounds ≡ true)
+pub first_once : (b : PairBound) (bounds : List PairBound) → are_bounds (b ∷ bounds) ≡ true → (bound_in bounds b.pair ≡ None) × (are_bounds bounds ≡ true)
 first_once b bounds h =
     let parts = and_parts (is_bound b.bound && not (is_some (bound_in bounds b.pair))) (are_bounds bounds) h in
     (not_some (bound_in bounds b.pair) (and_parts (is_bound b.bound) (not (is_some (bound_in bounds b.pair))) parts.0).1, parts.1)

@@ -3,4 +3,4 @@ pub mod Claims
 pub mod Grown
 pub mod Reaching
 pub mod Falling
-pub mod Sights
+pub mod Unbounded

@@ -11,10 +11,10 @@ ghost use Rattle.pg_least.specs.Exact.{pairs_of};
 ghost use Rattle.pg_least.specs.Pairs.{IsClosed};
 ghost use Rattle.pg_least.specs.Settled.{AreAbove, AreLeast, HaveFallen, IsLeastAt, total_height, unbounded};
 
-use pg_cert::{Bounds, PairBound};
+use pg_cert::{Bounds, BoundsError, PairBound};
 use pg_pairs::{
     Choice, Numbers, Pair, cheapest, least_costs_are_exact, least_costs_are_lengths,
-    lower_tables_cost_no_more,
+    lower_tables_cost_no_more, numbers_are_alike,
 };
 use pg_schema::Schema;
 use std::alloc::{AllocError, Global};
@@ -36,6 +36,7 @@ fn least_cost(
 ) -> Result<Option<u32>, AllocError>
     ensures { IfOk result (λ cost. cost ≡ least_cost by_numbers (bound_in bounds.now) (shape_of old.now) (shape_of new.now) pair) }
 {
+    numbers_are_alike();
     Ok(cost_of(cheapest(alloc, &Numbers, old, new, pair, bounds)?))
 }
 
@@ -147,7 +148,7 @@ fn settle(alloc: Global, old: &Schema, new: &Schema, bounds: &mut Bounds) -> Res
     Ok(())
 }
 
-// The table of those pairs, with no number yet.
+// The table of those pairs, with no number yet. Refused only where memory is.
 fn unbounded(alloc: Global, pairs: &[Pair]) -> Result<Bounds, AllocError>
     requires once { distinct pairs.now ≡ pairs.now }
     ensures { IfOk result (λ bounds. bounds ≡ map unbounded pairs.now) }
@@ -161,7 +162,9 @@ fn unbounded(alloc: Global, pairs: &[Pair]) -> Result<Bounds, AllocError>
     }
     match Bounds::new(alloc, lines) {
         Ok(bounds) => Ok(bounds),
-        Err(_) => Err(AllocError),
+        Err((BoundsError::Memory, _)) => Err(AllocError),
+        // Each pair stands once, and no bound is a number.
+        Err((BoundsError::Invariant, _)) => unreachable!(),
     }
 }
 

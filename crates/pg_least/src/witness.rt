@@ -1,9 +1,10 @@
 //! The messages that bounds tell of.
 
-ghost use Rattle.std.specs.Prelude.{◌≡◌, ℕ, true, is_some, Some, IfOk};
+ghost use Rattle.std.specs.Prelude.{◌≡◌, ◌<◌, ℕ, length, true, is_some, Some, IfOk, IfSome};
 ghost use Rattle.pg_schema.specs.Parts.{shape_of};
 ghost use Rattle.pg_dyn.specs.Fits.{Fits};
 ghost use Rattle.pg_dyn.specs.Kept.{message_of, type_of};
+ghost use Rattle.pg_pairs.specs.CarriedItems.{IsChoiceRound};
 ghost use Rattle.pg_pairs.specs.Choices.{Table, number_for};
 ghost use Rattle.pg_pairs.specs.Laws.{ReachedBy};
 ghost use Rattle.pg_pairs.specs.Sight.{by_numbers};
@@ -14,7 +15,7 @@ use pg_cert::Bounds;
 use pg_dyn::Message;
 use pg_pairs::{
     Choice, Numbers, Pair, carry, cheapest, cheapest_is_least, choice_child, each_child_costs_less,
-    numbers_sight,
+    numbers_are_alike, numbers_sight,
 };
 use pg_schema::Schema;
 use std::alloc::{AllocError, Global};
@@ -41,6 +42,7 @@ fn step_at(
 {
     // The cheapest choice costs what an exact bound says.
     cheapest_is_least();
+    numbers_are_alike();
     match cheapest(alloc, &Numbers, old, new, pair, bounds)? {
         Some(choice) => Ok(Step { pair, choice }),
         None => unreachable!(),
@@ -74,6 +76,29 @@ fn steps_down(
     Ok((steps, last))
 }
 
+// The message of a step's choice, round that of the choice's child. Refused only where memory is.
+fn carried(
+    alloc: Global,
+    old: &Schema,
+    new: &Schema,
+    step: Step,
+    child: Option<Message>,
+) -> Result<Message, AllocError>
+    requires child { IfSome child (Fits (shape_of old.now)) }
+    requires old_type { step.pair.old.index < length (shape_of old.now) }
+    requires round { IsChoiceRound by_numbers (shape_of old.now) (shape_of new.now) step.pair step.choice child }
+    ensures fits { IfOk result (λ m. Fits (shape_of old.now) m) }
+    ensures type_is { IfOk result (λ m. type_of m ≡ step.pair.old) }
+    ensures reached { IfOk result (λ m. ReachedBy by_numbers (shape_of old.now) (shape_of new.now) step.pair (message_of m) step.choice.cost) }
+{
+    numbers_are_alike();
+    match carry(alloc, &Numbers, old, new, step.pair, &step.choice, child)? {
+        Some(message) => Ok(message),
+        // The choice is the pair's, and the child the choice's.
+        None => unreachable!(),
+    }
+}
+
 // The message of the first step's choice, built from the last step's out.
 fn built(
     alloc: Global,
@@ -87,17 +112,9 @@ fn built(
     ensures type_is { IfOk result (λ m. type_of m ≡ (first_step steps.items last).pair.old) }
     ensures reached { IfOk result (λ m. ReachedBy by_numbers (shape_of old.now) (shape_of new.now) (first_step steps.items last).pair (message_of m) (first_step steps.items last).choice.cost) }
 {
-    let mut message = carry(alloc, &Numbers, old, new, last.pair, &last.choice, None)?;
+    let mut message = carried(alloc, old, new, last, None)?;
     while let Some(step) = steps.pop() {
-        message = carry(
-            alloc,
-            &Numbers,
-            old,
-            new,
-            step.pair,
-            &step.choice,
-            Some(message),
-        )?;
+        message = carried(alloc, old, new, step, Some(message))?;
     }
     Ok(message)
 }

@@ -7,7 +7,7 @@ use Rattle.pg_schema.specs.declared.field.Element.{Element}
 use Rattle.pg_schema.specs.declared.field.Element.TheVariants as elements
 use Rattle.pg_schema.specs.declared.field.Presence.{Presence}
 use Rattle.pg_schema.specs.declared.field.Presence.TheVariants as presences
-use Rattle.pg_schema.specs.Shape.{FieldShape, fields, field_at}
+use Rattle.pg_schema.specs.Shape.{Shape, FieldShape, fields, field_at}
 use Rattle.pg_wire.specs.declared.record.WireType.{WireType}
 use Rattle.pg_wire.specs.declared.record.WireType.TheVariants.{Len}
 use Rattle.pg_wire.specs.Records.{tag}
@@ -15,6 +15,7 @@ use Rattle.pg_dyn.specs.Coding.{form, form_wire}
 use Rattle.pg_dyn.specs.Encoding.{cap}
 use Rattle.pg_dyn.proofs.Lists.{each-append, each_weaker}
 use Rattle.pg_pairs.specs.declared.choice.Choice.{Choice}
+use Rattle.pg_pairs.specs.declared.choice.Pair.{Pair}
 use Rattle.pg_pairs.specs.Sight.{Sight}
 use Rattle.pg_pairs.specs.Likeness.{like}
 use Rattle.pg_pairs.specs.Costs.{with_length, least_body, nonzero_body, entry_cost, one_item, least_content}
@@ -351,6 +352,14 @@ least_costs_are_lengths sight old new table pair = of (cheapest (choices sight t
         let met = among_each (λ (c : Choice). (1 ≤ c.cost) × HasWithin (choices sight table old new pair) c.cost × (c.cost ≤ cap)) c (choices sight table old new pair) (cheapest_among (choices sight table old new pair) c e)
         (met-affordable (all_choices sight table gs fs) (all_choices sight table gs fs) (met-all sight table table same gs fs)) in
         (met.0, met.2)
+
+-- A choice costs at least one byte.
+pub choice_some : (sight : Sight) (old new : Shape) (table : Table) (pair : Pair) (c : Choice) → IsAmong c (choices sight table old new pair) → 1 ≤ c.cost
+choice_some sight old new table pair c among =
+    let gs = fields new pair.new in
+    let fs = fields old pair.old in
+    (among_each (λ (x : Choice). (1 ≤ x.cost) × HasWithin (choices sight table old new pair) x.cost × (x.cost ≤ cap)) c (choices sight table old new pair) among
+    (met-affordable (all_choices sight table gs fs) (all_choices sight table gs fs) (met-all sight table table (λ p. no_more-same (number_for table p)) gs fs))).0
 
 pub least_costs_are_exact : LeastCostsAreExact
 least_costs_are_exact sight old new table pair there =

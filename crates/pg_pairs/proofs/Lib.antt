@@ -55,3 +55,5 @@ pub mod SameSteps
 pub mod SameFields
 pub mod SameMessages
 pub mod BreakSteps
+pub mod TakenItems
+pub mod CarryContents

@@ -1,5 +1,5 @@
 -- The items of carried messages as the program holds them.
-use Rattle.std.specs.Prelude.{◌≡◌, ℕ, [], ◌∷◌, ◌++◌, List, nat_eq, Bool, true, false, if◌then◌else◌, Option, Some, None}
+use Rattle.std.specs.Prelude.{◌≡◌, ℕ, ⊤, [], ◌∷◌, ◌++◌, List, nat_eq, Bool, true, false, not, ◌&&◌, if◌then◌else◌, Option, Some, None, is_some, option_map}
 use Rattle.pg_schema.specs.declared.field.Element.{Element}
 use Rattle.pg_schema.specs.declared.field.Element.TheVariants as elements
 use Rattle.pg_schema.specs.declared.field.Presence.{Presence}
@@ -11,14 +11,17 @@ use Rattle.pg_dyn.specs.ContentFaults.{HasKeyTwice}
 use Rattle.pg_dyn.specs.Told.{ItemsFit}
 use Rattle.pg_dyn.specs.Message.{Leaf, Part}
 use Rattle.pg_dyn.specs.Coding.{Form, form, zero_leaf}
-use Rattle.pg_dyn.specs.Kept.{Kept, KeptItem, Plain, Msg, ends, type_of}
+use Rattle.pg_dyn.specs.Kept.{Kept, KeptItem, Plain, Msg, ends, type_of, message_of}
+use Rattle.pg_pairs.specs.declared.choice.Choice.{Choice}
+use Rattle.pg_pairs.specs.declared.choice.Pair.{Pair}
 use Rattle.pg_pairs.specs.declared.item.Small.{Small}
 use Rattle.pg_pairs.specs.declared.item.Small.TheVariants.{Zero, NotZero, Far}
 use Rattle.pg_pairs.specs.Sight.{Sight}
 use Rattle.pg_pairs.specs.Likeness.{like}
 use Rattle.pg_pairs.specs.Gaps.{gap_item}
-use Rattle.pg_pairs.specs.Choices.{zero_counts}
-use Rattle.pg_pairs.specs.Carried.{nonzero_leaf, far_leaf, key_of}
+use Rattle.pg_pairs.specs.Choices.{Table, zero_counts, choices}
+use Rattle.pg_pairs.specs.Settling.{IsAmong}
+use Rattle.pg_pairs.specs.Carried.{nonzero_leaf, far_leaf, key_of, choice_child, ChildReached}
 
 abbrev pub leaf_by : Small → Form → Leaf
 leaf_by Zero f = zero_leaf f
@@ -109,7 +112,43 @@ least_parts f = one_part f (key_by Zero f.presence) (kept_item (least_small f.pr
 abbrev pub IsTakenBy : Shape → Presence → Element → Content → Type 0
 IsTakenBy shape presence element content = ItemsFit shape presence element content × (HasKeyTwice content → ⊥)
 
--- The case is that of a child as an item of its field, and there is a child of the field's type.
-abbrev pub IsOfChild : FieldShape → ℕ → Option Kept → Type 0
-IsOfChild f case None = ⊥
-IsOfChild f case (Some child) = (case ≡ 3) × (f.element ≡ elements.Message (type_of child)) × (is_map f.presence ≡ false)
+-- The child, where there is one, is a message of the element's type.
+abbrev pub is_child_of : Element → Option Kept → Bool
+is_child_of (elements.Message t) (Some child) = nat_eq (type_of child).index t.index
+is_child_of (elements.Message t) None = false
+is_child_of (elements.Scalar s) child = false
+is_child_of (elements.Enum e) child = false
+
+-- Whether there is an entry of a part: a gap has its item, and a child is of the value's type.
+abbrev pub has_value : Element → Option Kept → Option Leaf → Bool
+has_value e (Some child) item = is_child_of e (Some child)
+has_value e None item = is_some item
+
+abbrev pub has_entry : Sight → FieldShape → Scalar → Scalar → Element → ℕ → Option Kept → Bool
+has_entry sight f k l d part child =
+    if nat_eq part 1 then is_some (gap_item sight true (elements.Scalar k) (elements.Scalar l))
+    else if nat_eq part 2 then has_value f.element child (gap_item sight true f.element d)
+    else true
+
+-- Whether a field takes a content of that case and part round that child: in a map it is an entry, and of no map an item or a list.
+abbrev pub has_content : Sight → FieldShape → FieldShape → ℕ → ℕ → Option Kept → Bool
+has_content sight f g case part child =
+    if nat_eq case 1 then true
+    else if nat_eq case 2 then not (is_map f.presence) && is_some (gap_item sight (zero_counts f g) f.element g.element)
+    else if nat_eq case 3 then not (is_map f.presence) && is_child_of f.element child
+    else if nat_eq case 4 then not (is_map f.presence)
+    else is_map f.presence && has_entry sight f (key_of f.presence) (key_of g.presence) g.element part child
+
+-- The child, where a choice has one, is of that pair's old type.
+abbrev pub IsOfPair : Option Pair → Option Kept → Type 0
+IsOfPair (Some pair) (Some child) = type_of child ≡ pair.old
+IsOfPair (Some pair) None = ⊤
+IsOfPair None child = ⊤
+
+-- The choice is one of the pair's under some table of bounds, and its child, where it has one, is a message of the child's old type that
+-- breaks and has the length of its bound.
+pub record IsChoiceRound (sight : Sight) (old new : Shape) (pair : Pair) (choice : Choice) (child : Option Kept) : Type 0 where
+  pub table : Table
+  pub among : IsAmong choice (choices sight table old new pair)
+  pub reached : ChildReached sight old new table (choice_child old new pair choice) (option_map message_of child)
+  pub of_pair : IsOfPair (choice_child old new pair choice) child

@@ -1,22 +1,23 @@
 //! The contents that break in the messages of choices.
 
-ghost use Rattle.std.specs.Prelude.{◌≡◌, ◌++◌, ℕ, Bool, true, false, option_map, Some, None, IfOk, IfSome};
+ghost use Rattle.std.specs.Prelude.{◌≡◌, ◌++◌, ◌&&◌, ℕ, length, not, Bool, true, false, is_some, option_map, Some, None, IfOk, IfSome};
 ghost use Rattle.pg_schema.specs.Parts.{field_shape};
-ghost use Rattle.pg_schema.specs.Shape.{Shape, is_map, is_repeated};
+ghost use Rattle.pg_schema.specs.Shape.{ElementFits, Shape, is_map, is_repeated};
+ghost use Rattle.pg_dyn.specs.Coding.{scalar_form};
 ghost use Rattle.pg_dyn.specs.ContentFits.{ItemFits};
 ghost use Rattle.pg_dyn.specs.Fits.{Fits};
-ghost use Rattle.pg_dyn.specs.Kept.{Kept, type_of};
+ghost use Rattle.pg_dyn.specs.Kept.{type_of};
+ghost use Rattle.pg_dyn.specs.ScalarItems.{IsItemOf};
 ghost use Rattle.pg_dyn.specs.Seen.{content_seen, item_seen, leaf_of, IsKey};
 ghost use Rattle.pg_pairs.specs.Carried.{key_of};
-ghost use Rattle.pg_dyn.specs.Coding.{scalar_form};
 ghost use Rattle.pg_pairs.specs.Gaps.{gap_item};
-ghost use Rattle.pg_pairs.specs.CarriedItems.{apart_small, kept_item, key_parts, value_parts, key_by, one_part, unlike_parts, leaf_parts, child_parts, lost_parts, entry_parts, carried_parts, least_parts, leaf_by, IsTakenBy};
+ghost use Rattle.pg_pairs.specs.CarriedItems.{apart_small, carried_parts, child_parts, entry_parts, has_content, has_entry, has_value, is_child_of, IsTakenBy, kept_item, key_by, key_parts, leaf_by, leaf_parts, least_parts, lost_parts, one_part, unlike_parts, value_parts};
 ghost use Rattle.pg_pairs.specs.Views.{sight_of};
 
 use crate::choice::Choice;
 use crate::element::are_like;
 use crate::field_choice::zero_counts;
-use crate::item::{Sides, Small, gap_item, small_item, small_leaf};
+use crate::item::{Sides, Small, child_item, gap_item, small_item, small_leaf};
 use crate::view::View;
 use pg_dyn::{Content, Message, Value};
 use pg_schema::{Element, Field, Presence, Scalar};
@@ -44,7 +45,8 @@ fn plain_content(alloc: Global, field: &Field, value: Value) -> Result<Content, 
 
 // A content of one entry.
 fn entry_content(alloc: Global, key: Value, value: Value) -> Result<Content, AllocError>
-    ensures { IfOk result (λ content. (field : Field) → content_seen field.number content ≡ one_part (field_shape field) (Some (leaf_of key)) (item_seen false value)) }
+    ensures seen { IfOk result (λ content. (field : Field) → content_seen field.number content ≡ one_part (field_shape field) (Some (leaf_of key)) (item_seen false value)) }
+    ensures taken { IfOk result (λ content. (shape : Shape) (scalar : Scalar) (element : Element) → IsItemOf scalar key → ItemFits shape element value → IsTakenBy shape (Presence.Map scalar) element content) }
 {
     let mut entries = Vec::new(alloc);
     entries.push((key, value))?;
@@ -53,7 +55,8 @@ fn entry_content(alloc: Global, key: Value, value: Value) -> Result<Content, All
 
 // A content of one item that is short so, in a map under zero.
 fn small_content(alloc: Global, field: &Field, small: Small) -> Result<Content, AllocError>
-    ensures { IfOk result (λ content. content_seen field.now.number content ≡ one_part (field_shape field.now) (key_by Small.Zero field.now.presence) (kept_item small (is_repeated field.now.presence) field.now.element)) }
+    ensures seen { IfOk result (λ content. content_seen field.now.number content ≡ one_part (field_shape field.now) (key_by Small.Zero field.now.presence) (kept_item small (is_repeated field.now.presence) field.now.element)) }
+    ensures taken { IfOk result (λ content. (shape : Shape) → ElementFits (length shape) field.now.element → IsTakenBy shape field.now.presence field.now.element content) }
 {
     let value = small_item(alloc, field.element, small)?;
     match field.presence {
@@ -64,7 +67,8 @@ fn small_content(alloc: Global, field: &Field, small: Small) -> Result<Content, 
 
 /// The least content of a field.
 pub(crate) fn least_content(alloc: Global, field: &Field) -> Result<Content, AllocError>
-    ensures { IfOk result (λ content. content_seen field.now.number content ≡ least_parts (field_shape field.now)) }
+    ensures seen { IfOk result (λ content. content_seen field.now.number content ≡ least_parts (field_shape field.now)) }
+    ensures taken { IfOk result (λ content. (shape : Shape) → ElementFits (length shape) field.now.element → IsTakenBy shape field.now.presence field.now.element content) }
 {
     match field.presence {
         Presence::Implicit => small_content(alloc, field, Small::NotZero),
@@ -74,7 +78,8 @@ pub(crate) fn least_content(alloc: Global, field: &Field) -> Result<Content, All
 
 // That of unlike fields; where zero doesn't count an item that isn't zero.
 fn unlike_content(alloc: Global, old: &Field, new: &Field) -> Result<Content, AllocError>
-    ensures { IfOk result (λ content. content_seen old.now.number content ≡ unlike_parts (field_shape old.now) (field_shape new.now)) }
+    ensures seen { IfOk result (λ content. content_seen old.now.number content ≡ unlike_parts (field_shape old.now) (field_shape new.now)) }
+    ensures taken { IfOk result (λ content. (shape : Shape) → ElementFits (length shape) old.now.element → IsTakenBy shape old.now.presence old.now.element content) }
 {
     let small = if zero_counts(old, new) {
         Small::Zero
@@ -84,35 +89,59 @@ fn unlike_content(alloc: Global, old: &Field, new: &Field) -> Result<Content, Al
     small_content(alloc, old, small)
 }
 
-// A content of that item, where there is one.
-fn some_content(alloc: Global, field: &Field, item: Option<Value>) -> Result<Content, AllocError>
-    requires { IfSome item IsKey }
-    ensures { IfOk result (λ content. content_seen field.now.number content ≡ leaf_parts (field_shape field.now) (is_repeated field.now.presence) None (option_map leaf_of item)) }
+// Whether the field is one of a map.
+fn is_map(field: &Field) -> bool
+    ensures { result ≡ is_map field.now.presence }
 {
+    matches!(field.presence, Presence::Map { .. })
+}
+
+// A content of that item, where there is one, of a field that is no map.
+fn some_content(
+    alloc: Global,
+    field: &Field,
+    item: Option<Value>,
+) -> Result<Option<Content>, AllocError>
+    requires { IfSome item IsKey }
+    ensures some { IfOk result (λ found. is_some found ≡ (not (is_map field.now.presence) && is_some item)) }
+    ensures seen { IfOk result (λ found. IfSome found (λ content. content_seen field.now.number content ≡ leaf_parts (field_shape field.now) (is_repeated field.now.presence) None (option_map leaf_of item))) }
+    ensures taken { IfOk result (λ found. (shape : Shape) → IfSome item (ItemFits shape field.now.element) → IfSome found (IsTakenBy shape field.now.presence field.now.element)) }
+{
+    if is_map(field) {
+        return Ok(None);
+    }
     match item {
-        Some(value) => plain_content(alloc, field, value),
-        None => Ok(Content::Many(Vec::new(alloc))),
+        Some(value) => Ok(Some(plain_content(alloc, field, value)?)),
+        None => Ok(None),
     }
 }
 
-// A content of that child, where there is one.
+// A content of that child, where it is one of the field's type, of a field that is no map.
 fn child_content(
     alloc: Global,
     field: &Field,
     child: Option<Message>,
-) -> Result<Content, AllocError>
-    ensures seen { IfOk result (λ content. content_seen field.now.number content ≡ child_parts (field_shape field.now) (is_repeated field.now.presence) None child) }
-    ensures taken { IfOk result (λ content. (shape : Shape) (m : Kept) → child ≡ Some m → Fits shape m → field.now.element ≡ Element.Message (type_of m) → is_map field.now.presence ≡ false → IsTakenBy shape field.now.presence field.now.element content) }
+) -> Result<Option<Content>, AllocError>
+    ensures some { IfOk result (λ found. is_some found ≡ (not (is_map field.now.presence) && is_child_of field.now.element child)) }
+    ensures seen { IfOk result (λ found. IfSome found (λ content. content_seen field.now.number content ≡ child_parts (field_shape field.now) (is_repeated field.now.presence) None child)) }
+    ensures taken { IfOk result (λ found. (shape : Shape) → IfSome child (Fits shape) → IfSome found (IsTakenBy shape field.now.presence field.now.element)) }
 {
-    match child {
-        Some(child) => plain_content(alloc, field, Value::Msg(Box::new(alloc, child)?)),
-        None => Ok(Content::Many(Vec::new(alloc))),
+    if is_map(field) {
+        return Ok(None);
+    }
+    let Some(child) = child else {
+        return Ok(None);
+    };
+    match child_item(alloc, field.element, child)? {
+        Some(value) => Ok(Some(plain_content(alloc, field, value)?)),
+        None => Ok(None),
     }
 }
 
 // A list that the new field doesn't keep: two zeros beside an explicit field, of which one is read, else one.
-fn lost_content(alloc: Global, old: &Field, new: &Field) -> Result<Content, AllocError>
-    ensures { IfOk result (λ content. content_seen old.now.number content ≡ lost_parts (field_shape old.now) (field_shape new.now)) }
+fn lost_items(alloc: Global, old: &Field, new: &Field) -> Result<Content, AllocError>
+    ensures seen { IfOk result (λ content. content_seen old.now.number content ≡ lost_parts (field_shape old.now) (field_shape new.now)) }
+    ensures taken { IfOk result (λ content. (shape : Shape) → is_map old.now.presence ≡ false → ElementFits (length shape) old.now.element → IsTakenBy shape old.now.presence old.now.element content) }
 {
     let zero = small_item(alloc, old.element, Small::Zero)?;
     match (old.presence, new.presence) {
@@ -124,6 +153,18 @@ fn lost_content(alloc: Global, old: &Field, new: &Field) -> Result<Content, Allo
         }
         _ => plain_content(alloc, old, zero),
     }
+}
+
+// The same, of a field that is no map.
+fn lost_content(alloc: Global, old: &Field, new: &Field) -> Result<Option<Content>, AllocError>
+    ensures some { IfOk result (λ found. is_some found ≡ not (is_map old.now.presence)) }
+    ensures seen { IfOk result (λ found. IfSome found (λ content. content_seen old.now.number content ≡ lost_parts (field_shape old.now) (field_shape new.now))) }
+    ensures taken { IfOk result (λ found. (shape : Shape) → ElementFits (length shape) old.now.element → IfSome found (IsTakenBy shape old.now.presence old.now.element)) }
+{
+    if is_map(old) {
+        return Ok(None);
+    }
+    Ok(Some(lost_items(alloc, old, new)?))
 }
 
 // The key of a map; of another field any scalar.
@@ -142,16 +183,59 @@ fn key_gap_content<V: View>(
     sides: &Sides<'_, V>,
     field: &Field,
     keys: (Scalar, Scalar),
-) -> Result<Content, AllocError>
-    ensures { IfOk result (λ content. content_seen field.now.number content ≡ key_parts (field_shape field.now) (gap_item (sight_of (V.is_alike sides.now.view.now) (V.least_differing sides.now.view.now) sides.now.old.now sides.now.new.now) true (Element.Scalar keys.0) (Element.Scalar keys.1))) }
+) -> Result<Option<Content>, AllocError>
+    ensures some { IfOk result (λ found. is_some found ≡ is_some (gap_item (sight_of (V.is_alike sides.now.view.now) (V.least_differing sides.now.view.now) sides.now.old.now sides.now.new.now) true (Element.Scalar keys.0) (Element.Scalar keys.1))) }
+    ensures seen { IfOk result (λ found. IfSome found (λ content. content_seen field.now.number content ≡ key_parts (field_shape field.now) (gap_item (sight_of (V.is_alike sides.now.view.now) (V.least_differing sides.now.view.now) sides.now.old.now sides.now.new.now) true (Element.Scalar keys.0) (Element.Scalar keys.1)))) }
+    ensures taken { IfOk result (λ found. (shape : Shape) → ElementFits (length shape) field.now.element → IfSome found (IsTakenBy shape (Presence.Map keys.0) field.now.element)) }
 {
     let keys = (Element::Scalar(keys.0), Element::Scalar(keys.1));
     match gap_item(alloc, sides, true, keys)? {
         Some(key) => {
             let value = small_item(alloc, field.element, Small::Zero)?;
-            entry_content(alloc, key, value)
+            Ok(Some(entry_content(alloc, key, value)?))
         }
-        None => Ok(Content::Many(Vec::new(alloc))),
+        None => Ok(None),
+    }
+}
+
+// An entry whose value is the child, where it is one of the field's type.
+fn child_entry(
+    alloc: Global,
+    field: &Field,
+    key: Scalar,
+    child: Message,
+) -> Result<Option<Content>, AllocError>
+    ensures some { IfOk result (λ found. is_some found ≡ is_child_of field.now.element (Some child)) }
+    ensures seen { IfOk result (λ found. IfSome found (λ content. content_seen field.now.number content ≡ value_parts (field_shape field.now) (leaf_by Small.Zero (scalar_form key)) (Some child) None)) }
+    ensures taken { IfOk result (λ found. (shape : Shape) → Fits shape child → IfSome found (IsTakenBy shape (Presence.Map key) field.now.element)) }
+{
+    match child_item(alloc, field.element, child)? {
+        Some(value) => {
+            let key = small_leaf(alloc, key, Small::Zero)?;
+            Ok(Some(entry_content(alloc, key, value)?))
+        }
+        None => Ok(None),
+    }
+}
+
+// An entry whose value is the gap's item, where there is one.
+fn value_gap_content<V: View>(
+    alloc: Global,
+    sides: &Sides<'_, V>,
+    fields: &Beside<'_>,
+    key: Scalar,
+) -> Result<Option<Content>, AllocError>
+    ensures some { IfOk result (λ found. is_some found ≡ is_some (gap_item (sight_of (V.is_alike sides.now.view.now) (V.least_differing sides.now.view.now) sides.now.old.now sides.now.new.now) true fields.now.old.now.element fields.now.new.now.element)) }
+    ensures seen { IfOk result (λ found. IfSome found (λ content. content_seen fields.now.old.now.number content ≡ value_parts (field_shape fields.now.old.now) (leaf_by Small.Zero (scalar_form key)) None (gap_item (sight_of (V.is_alike sides.now.view.now) (V.least_differing sides.now.view.now) sides.now.old.now sides.now.new.now) true fields.now.old.now.element fields.now.new.now.element))) }
+    ensures taken { IfOk result (λ found. (shape : Shape) → IfSome found (IsTakenBy shape (Presence.Map key) fields.now.old.now.element)) }
+{
+    let (old, new) = (fields.old, fields.new);
+    match gap_item(alloc, sides, true, (old.element, new.element))? {
+        Some(value) => {
+            let key = small_leaf(alloc, key, Small::Zero)?;
+            Ok(Some(entry_content(alloc, key, value)?))
+        }
+        None => Ok(None),
     }
 }
 
@@ -160,18 +244,16 @@ fn value_content<V: View>(
     alloc: Global,
     sides: &Sides<'_, V>,
     fields: &Beside<'_>,
+    key: Scalar,
     child: Option<Message>,
-) -> Result<Content, AllocError>
-    ensures { IfOk result (λ content. content_seen fields.now.old.now.number content ≡ value_parts (field_shape fields.now.old.now) (leaf_by Small.Zero (scalar_form (key_of fields.now.old.now.presence))) child (gap_item (sight_of (V.is_alike sides.now.view.now) (V.least_differing sides.now.view.now) sides.now.old.now sides.now.new.now) true fields.now.old.now.element fields.now.new.now.element)) }
+) -> Result<Option<Content>, AllocError>
+    ensures some { IfOk result (λ found. is_some found ≡ has_value fields.now.old.now.element child (gap_item (sight_of (V.is_alike sides.now.view.now) (V.least_differing sides.now.view.now) sides.now.old.now sides.now.new.now) true fields.now.old.now.element fields.now.new.now.element)) }
+    ensures seen { IfOk result (λ found. IfSome found (λ content. content_seen fields.now.old.now.number content ≡ value_parts (field_shape fields.now.old.now) (leaf_by Small.Zero (scalar_form key)) child (gap_item (sight_of (V.is_alike sides.now.view.now) (V.least_differing sides.now.view.now) sides.now.old.now sides.now.new.now) true fields.now.old.now.element fields.now.new.now.element))) }
+    ensures taken { IfOk result (λ found. (shape : Shape) → IfSome child (Fits shape) → IfSome found (IsTakenBy shape (Presence.Map key) fields.now.old.now.element)) }
 {
-    let (old, new) = (fields.old, fields.new);
-    let key = small_leaf(alloc, key_of(old.presence), Small::Zero)?;
-    if let Some(child) = child {
-        return entry_content(alloc, key, Value::Msg(Box::new(alloc, child)?));
-    }
-    match gap_item(alloc, sides, true, (old.element, new.element))? {
-        Some(value) => entry_content(alloc, key, value),
-        None => Ok(Content::Many(Vec::new(alloc))),
+    match child {
+        Some(child) => child_entry(alloc, fields.old, key, child),
+        None => value_gap_content(alloc, sides, fields, key),
     }
 }
 
@@ -187,11 +269,15 @@ fn apart_small(old: Element, new: Element) -> Small
 }
 
 // An entry whose unlike key or value isn't an integer's default.
-fn apart_content(alloc: Global, fields: &Beside<'_>) -> Result<Content, AllocError>
-    ensures { IfOk result (λ content. content_seen fields.now.old.now.number content ≡ one_part (field_shape fields.now.old.now) (Some (leaf_by (apart_small (Element.Scalar (key_of fields.now.old.now.presence)) (Element.Scalar (key_of fields.now.new.now.presence))) (scalar_form (key_of fields.now.old.now.presence)))) (kept_item (apart_small fields.now.old.now.element fields.now.new.now.element) false fields.now.old.now.element)) }
+fn apart_content(
+    alloc: Global,
+    fields: &Beside<'_>,
+    keys: (Scalar, Scalar),
+) -> Result<Content, AllocError>
+    ensures seen { IfOk result (λ content. content_seen fields.now.old.now.number content ≡ one_part (field_shape fields.now.old.now) (Some (leaf_by (apart_small (Element.Scalar keys.0) (Element.Scalar keys.1)) (scalar_form keys.0))) (kept_item (apart_small fields.now.old.now.element fields.now.new.now.element) false fields.now.old.now.element)) }
+    ensures taken { IfOk result (λ content. (shape : Shape) → ElementFits (length shape) fields.now.old.now.element → IsTakenBy shape (Presence.Map keys.0) fields.now.old.now.element content) }
 {
     let (old, new) = (fields.old, fields.new);
-    let keys = (key_of(old.presence), key_of(new.presence));
     let far_key = apart_small(Element::Scalar(keys.0), Element::Scalar(keys.1));
     let far_value = apart_small(old.element, new.element);
     let key = small_leaf(alloc, keys.0, far_key)?;
@@ -206,37 +292,38 @@ fn broken_entry<V: View>(
     fields: &Beside<'_>,
     part: u32,
     child: Option<Message>,
-) -> Result<Content, AllocError>
-    ensures { IfOk result (λ content. content_seen fields.now.old.now.number content ≡ entry_parts (sight_of (V.is_alike sides.now.view.now) (V.least_differing sides.now.view.now) sides.now.old.now sides.now.new.now) (field_shape fields.now.old.now) (key_of fields.now.old.now.presence) (key_of fields.now.new.now.presence) fields.now.new.now.element part child) }
+) -> Result<Option<Content>, AllocError>
+    ensures some { IfOk result (λ found. is_some found ≡ (is_map fields.now.old.now.presence && has_entry (sight_of (V.is_alike sides.now.view.now) (V.least_differing sides.now.view.now) sides.now.old.now sides.now.new.now) (field_shape fields.now.old.now) (key_of fields.now.old.now.presence) (key_of fields.now.new.now.presence) fields.now.new.now.element part child)) }
+    ensures seen { IfOk result (λ found. IfSome found (λ content. content_seen fields.now.old.now.number content ≡ entry_parts (sight_of (V.is_alike sides.now.view.now) (V.least_differing sides.now.view.now) sides.now.old.now sides.now.new.now) (field_shape fields.now.old.now) (key_of fields.now.old.now.presence) (key_of fields.now.new.now.presence) fields.now.new.now.element part child)) }
+    ensures taken { IfOk result (λ found. (shape : Shape) → ElementFits (length shape) fields.now.old.now.element → IfSome child (Fits shape) → IfSome found (IsTakenBy shape fields.now.old.now.presence fields.now.old.now.element)) }
 {
-    let (old, new) = (fields.old, fields.new);
+    let Presence::Map { key } = fields.old.presence else {
+        return Ok(None);
+    };
+    let keys = (key, key_of(fields.new.presence));
     match part {
-        1 => key_gap_content(
-            alloc,
-            sides,
-            old,
-            (key_of(old.presence), key_of(new.presence)),
-        ),
-        2 => value_content(alloc, sides, fields, child),
-        _ => apart_content(alloc, fields),
+        1 => key_gap_content(alloc, sides, fields.old, keys),
+        2 => value_content(alloc, sides, fields, key, child),
+        _ => Ok(Some(apart_content(alloc, fields, keys)?)),
     }
 }
 
 /// The content of the old field that breaks in the message of a choice of that case and part, round the child where
-/// it has one.
+/// it has one. `None` where the field takes no such content.
 pub(crate) fn broken_content<V: View>(
     alloc: Global,
     sides: &Sides<'_, V>,
     fields: &Beside<'_>,
     choice: &Choice,
     child: Option<Message>,
-) -> Result<Content, AllocError>
-    ensures seen { IfOk result (λ content. content_seen fields.now.old.now.number content ≡ carried_parts (sight_of (V.is_alike sides.now.view.now) (V.least_differing sides.now.view.now) sides.now.old.now sides.now.new.now) (field_shape fields.now.old.now) (field_shape fields.now.new.now) choice.now.case choice.now.part child) }
-    ensures taken { IfOk result (λ content. (shape : Shape) (m : Kept) → choice.now.case ≡ 3 → child ≡ Some m → Fits shape m → fields.now.old.now.element ≡ Element.Message (type_of m) → is_map fields.now.old.now.presence ≡ false → IsTakenBy shape fields.now.old.now.presence fields.now.old.now.element content) }
+) -> Result<Option<Content>, AllocError>
+    ensures some { IfOk result (λ found. is_some found ≡ has_content (sight_of (V.is_alike sides.now.view.now) (V.least_differing sides.now.view.now) sides.now.old.now sides.now.new.now) (field_shape fields.now.old.now) (field_shape fields.now.new.now) choice.now.case choice.now.part child) }
+    ensures seen { IfOk result (λ found. IfSome found (λ content. content_seen fields.now.old.now.number content ≡ carried_parts (sight_of (V.is_alike sides.now.view.now) (V.least_differing sides.now.view.now) sides.now.old.now sides.now.new.now) (field_shape fields.now.old.now) (field_shape fields.now.new.now) choice.now.case choice.now.part child)) }
+    ensures taken { IfOk result (λ found. (shape : Shape) → ElementFits (length shape) fields.now.old.now.element → IfSome child (Fits shape) → IfSome found (IsTakenBy shape fields.now.old.now.presence fields.now.old.now.element)) }
 {
     let (old, new) = (fields.old, fields.new);
     match choice.case {
-        1 => unlike_content(alloc, old, new),
+        1 => Ok(Some(unlike_content(alloc, old, new)?)),
         2 => {
             let zero = zero_counts(old, new);
             let item = gap_item(alloc, sides, zero, (old.element, new.element))?;

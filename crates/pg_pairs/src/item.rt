@@ -1,12 +1,17 @@
 //! Items that the messages of choices hold.
 
-ghost use Rattle.std.specs.Prelude.{◌≡◌, Bool, option_map, IfOk, IfSome};
+ghost use Rattle.std.specs.Prelude.{◌≡◌, Bool, Some, is_some, length, option_map, IfOk, IfSome};
+ghost use Rattle.pg_schema.specs.Shape.{ElementFits, Shape};
+ghost use Rattle.pg_dyn.specs.ContentFits.{ItemFits};
+ghost use Rattle.pg_dyn.specs.ScalarItems.{IsItemOf};
 ghost use Rattle.pg_dyn.specs.Seen.{item_seen, leaf_of, IsKey};
 ghost use Rattle.pg_dyn.specs.Coding.{scalar_form, Raw};
 ghost use Rattle.pg_dyn.specs.Message.{Bytes};
 ghost use Rattle.pg_pairs.specs.Gaps.{gap, gap_item, item_of};
 ghost use Rattle.pg_pairs.specs.Views.{sight_of};
-ghost use Rattle.pg_pairs.specs.CarriedItems.{kept_item, leaf_by};
+ghost use Rattle.pg_pairs.specs.CarriedItems.{is_child_of, kept_item, leaf_by};
+ghost use Rattle.pg_dyn.specs.Fits.{Fits};
+ghost use Rattle.pg_dyn.specs.Kept.{Msg};
 
 use crate::gap_kind::Gap;
 use crate::scalar_gap::gap;
@@ -45,6 +50,7 @@ fn small_bytes(alloc: Global, small: Small) -> Result<Vec<u8>, AllocError>
 pub(crate) fn small_leaf(alloc: Global, scalar: Scalar, small: Small) -> Result<Value, AllocError>
     ensures leaf { IfOk result (λ value. leaf_of value ≡ leaf_by small (scalar_form scalar)) }
     ensures key { IfOk result IsKey }
+    ensures item { IfOk result (IsItemOf scalar) }
 {
     let integer = match small {
         Small::Zero => 0,
@@ -57,14 +63,16 @@ pub(crate) fn small_leaf(alloc: Global, scalar: Scalar, small: Small) -> Result<
     match scalar {
         Scalar::Float => Ok(Value::F32(bits)),
         Scalar::Double => Ok(Value::F64(u64::from(bits))),
-        Scalar::String | Scalar::Bytes => Ok(Value::Bytes(small_bytes(alloc, small)?)),
+        Scalar::String => Ok(Value::Bytes(small_bytes(alloc, small)?)),
+        Scalar::Bytes => Ok(Value::Bytes(small_bytes(alloc, small)?)),
         _ => Ok(Value::Int(integer)),
     }
 }
 
 /// Such an item of the element; of messages it is the empty one.
 pub(crate) fn small_item(alloc: Global, element: Element, small: Small) -> Result<Value, AllocError>
-    ensures { IfOk result (λ value. (listed : Bool) → item_seen listed value ≡ kept_item small listed element) }
+    ensures seen { IfOk result (λ value. (listed : Bool) → item_seen listed value ≡ kept_item small listed element) }
+    ensures fits { IfOk result (λ value. (shape : Shape) → ElementFits (length shape) element → ItemFits shape element value) }
 {
     match element {
         Element::Message(type_id) => {
@@ -75,10 +83,30 @@ pub(crate) fn small_item(alloc: Global, element: Element, small: Small) -> Resul
     }
 }
 
+/// The child as an item of the element, where it is a message of its type.
+pub(crate) fn child_item(
+    alloc: Global,
+    element: Element,
+    child: Message,
+) -> Result<Option<Value>, AllocError>
+    ensures some { IfOk result (λ found. is_some found ≡ is_child_of element (Some child)) }
+    ensures seen { IfOk result (λ found. IfSome found (λ value. (listed : Bool) → item_seen listed value ≡ Msg listed child)) }
+    ensures fits { IfOk result (λ found. (shape : Shape) → Fits shape child → IfSome found (ItemFits shape element)) }
+{
+    let Element::Message(type_id) = element else {
+        return Ok(None);
+    };
+    if child.type_id() != type_id {
+        return Ok(None);
+    }
+    Ok(Some(Value::Msg(Box::new(alloc, child)?)))
+}
+
 // The item of the gap between two scalar types, where there is one.
 fn scalar_gap_item(alloc: Global, old: Scalar, new: Scalar) -> Result<Option<Value>, AllocError>
     ensures item { IfOk result (λ item. option_map leaf_of item ≡ item_of (scalar_form old) (gap old new)) }
     ensures key { IfOk result (λ item. IfSome item IsKey) }
+    ensures fits { IfOk result (λ item. IfSome item (IsItemOf old)) }
 {
     match gap(old, new) {
         Gap::Unlike | Gap::None => Ok(None),
@@ -102,6 +130,7 @@ fn enum_gap_item<V: View>(
 ) -> Option<Value>
     ensures item { option_map leaf_of result ≡ gap_item (sight_of (V.is_alike view.now) (V.least_differing view.now) old.now new.now) zero (Element.Enum pair.0) (Element.Enum pair.1) }
     ensures key { IfSome result IsKey }
+    ensures fits { IfSome result (IsItemOf Scalar.Int32) }
 {
     let (Some(from), Some(to)) = (old.enum_type(pair.0), new.enum_type(pair.1)) else {
         return None;
@@ -120,6 +149,7 @@ pub(crate) fn gap_item<V: View>(
 ) -> Result<Option<Value>, AllocError>
     ensures item { IfOk result (λ item. option_map leaf_of item ≡ gap_item (sight_of (V.is_alike sides.now.view.now) (V.least_differing sides.now.view.now) sides.now.old.now sides.now.new.now) zero pair.0 pair.1) }
     ensures key { IfOk result (λ item. IfSome item IsKey) }
+    ensures fits { IfOk result (λ item. (shape : Shape) → IfSome item (ItemFits shape pair.0)) }
 {
     match pair {
         (Element::Scalar(from), Element::Scalar(to)) => scalar_gap_item(alloc, from, to),

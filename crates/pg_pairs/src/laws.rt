@@ -10,6 +10,7 @@ ghost use Rattle.pg_pairs.specs.LeastCosts.{LeastCostsAreExact, LeastCostsAreLen
 ghost use Rattle.pg_pairs.specs.SmallPairs.{SmallPairs};
 ghost use Rattle.pg_pairs.specs.Sight.{IsSight, by_numbers};
 ghost use Rattle.pg_pairs.specs.Settling.{OneSolution, SettledByInduction};
+ghost use Rattle.pg_pairs.specs.Views.{NumbersAreAlike};
 
 /// Small pairs of types with all their choices.
 pub fn small_pairs()
@@ -24,6 +25,11 @@ pub fn gap_table()
 /// By their numbers all enum items are alike.
 pub fn numbers_sight()
     ensures { IsSight by_numbers }
+{}
+
+/// Between any two schemas the view by numbers sees by numbers.
+pub fn numbers_are_alike()
+    ensures { NumbersAreAlike }
 {}
 
 /// A content that breaks alone has at least the bytes of one of its field's choices: of scalars, lists

@@ -33,7 +33,8 @@ pub use laws::{
     cheapest_is_least, contents_cost, covering_bounds, each_child_costs_less,
     each_choice_is_carried, each_choice_is_reached, exact_is_least, gap_table,
     least_costs_are_exact, least_costs_are_lengths, lower_tables_cost_no_more, none_is_compatible,
-    numbers_sight, one_pair_more, one_solution, settled_by_induction, small_pairs,
+    numbers_are_alike, numbers_sight, one_pair_more, one_solution, settled_by_induction,
+    small_pairs,
 };
 pub use least_cost::cheapest;
 pub use option_list::options;

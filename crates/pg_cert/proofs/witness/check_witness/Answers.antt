@@ -3,7 +3,7 @@ use Rattle.std.proofs.Common.{◌∙◌, inr, subst, sym, true≢false}
 use Rattle.pg_schema.specs.Parts.{shape_of}
 use Rattle.pg_pairs.specs.Sight.{by_numbers}
 use Rattle.pg_cert.specs.Faults.{IsReadBack}
-use Rattle.pg_cert.proofs.WitnessSteps.{keeps_of, told, witnessed_of, written_of}
+use Rattle.pg_cert.proofs.WitnessSteps.{keeps_of, witnessed_of, written_of}
 use Rattle.pg_cert.proofs.witness.check_witness.Goals as goal
 
 pub returns-then-not-has_length : goal.returns-then-not-has_length
@@ -14,19 +14,19 @@ returns-then-not-has_length c =
       λ long. true≢false (sym (c.has_length.ensures.1 long) ∙ c.if-not-has_length.true),
     )
 
-pub returns-then-not-so : goal.returns-then-not-so
-returns-then-not-so c =
+pub returns-then-not-branch : goal.returns-then-not-branch
+returns-then-not-branch c =
     let writing = subst (IsReadBack (shape_of c.args.old.now) c.args.root c.args.bytes.now) c.in-Some.is c.in_ok-message.ensures in
-    let exact = told c.args.old.now c.args.new.now c.args.root c.in-Some.message c.in-Ok.so c.in-Ok.ensures.exact in
+    let exact = c.in_ok-written_breaks.ensures in
     inr (
       written_of (shape_of c.args.old.now) c.args.root c.args.bytes.now c.in-Some.message writing,
       c.has_length.ensures.0 c.if-not-has_length.false,
       keeps_of (shape_of c.args.old.now) c.args.root c.args.bytes.now c.in-Some.message writing by_numbers (shape_of c.args.new.now) c.args.bound c.reads_again.ensures c.parts.ensures.checked.shape
-          (λ breaks. true≢false (sym (exact.1 (writing.type_is, breaks)) ∙ c.if-not-so.true)),
+          (λ breaks. true≢false (sym (exact.1 (writing.type_is, breaks)) ∙ c.if-not-branch.true)),
     )
 
 pub returns : goal.returns
 returns c =
     let writing = subst (IsReadBack (shape_of c.args.old.now) c.args.root c.args.bytes.now) c.in-Some.is c.in_ok-message.ensures in
-    let exact = told c.args.old.now c.args.new.now c.args.root c.in-Some.message c.in-Ok.so c.in-Ok.ensures.exact in
-    witnessed_of (shape_of c.args.old.now) c.args.root c.args.bytes.now c.in-Some.message writing by_numbers (shape_of c.args.new.now) c.args.bound (c.has_length.ensures.0 c.if-not-has_length.false) (exact.0 c.if-not-so.false).1
+    let exact = c.in_ok-written_breaks.ensures in
+    witnessed_of (shape_of c.args.old.now) c.args.root c.args.bytes.now c.in-Some.message writing by_numbers (shape_of c.args.new.now) c.args.bound (c.has_length.ensures.0 c.if-not-has_length.false) (exact.0 c.if-not-branch.false).1

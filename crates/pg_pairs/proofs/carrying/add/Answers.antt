@@ -5,7 +5,8 @@ use Rattle.pg_pairs.proofs.carrying.add.Goals.{in-Ok, in-Err}
 
 pub returns-clause-type_is : goal.returns-clause-type_is
 returns-clause-type_is c =
-    elim c.match-set.branch [
-      | in-Ok w ↦ rw w.result-is (type_set (shape_of c.args.schema.now) c.args.number c.args.content c.args.message.now c.set.new.self w.in-Ok.ensures.ok)
+    elim c.match-put.branch [
+      | in-Ok w ↦
+          rw w.result-is (type_set (shape_of c.args.schema.now) c.args.field.now.number c.args.content c.args.message.now c.put.new.self w.in-Ok.ensures.ok)
       | in-Err w ↦ rw w.result-is tt
     ]
