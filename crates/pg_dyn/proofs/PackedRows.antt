@@ -1,5 +1,5 @@
 -- Packed lists, element by element.
-use Rattle.std.proofs.Common.{◌≡◌, ℕ, zero, suc, ◌+◌, ◌-◌, ◌<◌, ◌≤◌, List, [], ◌∷◌, ◌++◌, length, map, take, drop, Some, option_and_then, Result, Ok, Err, IfOk, IfErr, true, refl, ap, ap₂, sym, ◌∙◌, arith, lt-ltb, le-ltb, length-append, length-drop, drop-drop, drop_at, append_assoc}
+use Rattle.std.proofs.Common.{◌≡◌, ℕ, ℤ, zero, suc, ◌+◌, ◌-◌, ◌<◌, ◌≤◌, List, [], ◌∷◌, ◌++◌, length, map, take, drop, Some, option_and_then, Result, Ok, Err, IfOk, IfErr, true, refl, ap, ap₂, sym, ◌∙◌, arith, lt-ltb, le-ltb, length-append, length-drop, drop-drop, drop_at, append_assoc}
 use Rattle.std.specs.List.{AllByRecursion}
 use Rattle.std.proofs.lemmas.List.{append-nil, map-append, drop_all, take_at, take_all}
 use Rattle.pg_schema.specs.declared.field.Scalar.{Scalar}
@@ -17,7 +17,10 @@ use Rattle.pg_wire.specs.Varint.{varint_at, varint_value}
 use Rattle.pg_wire.proofs.RecordLaws.{exactly_takes}
 use Rattle.pg_wire.proofs.Varints.{varint_at_takes, length-IsVarint}
 use Rattle.pg_dyn.specs.declared.message.Value.{Value}
-use Rattle.pg_dyn.specs.Coding.{Text, form_wire, leaf_in, element_at, scalar_form}
+use Rattle.pg_dyn.specs.declared.message.Value.TheVariants as values
+use Rattle.pg_dyn.specs.Message.{Int}
+use Rattle.pg_dyn.specs.WordOf.{IsInteger, IsIntegerOf, WordFits, number_by}
+use Rattle.pg_dyn.specs.Coding.{Text, form_wire, leaf_in, element_at, scalar_form, word_in}
 use Rattle.pg_dyn.specs.Content.{packed_leaves, option_from}
 use Rattle.pg_dyn.specs.Optional.{all_some}
 use Rattle.pg_dyn.specs.ScalarItems.{HasShape, IsItemOf}
@@ -40,6 +43,9 @@ IsOne wire bytes n = (element_at wire bytes ≡ Ok (take n bytes, drop n bytes))
 
 ok_pair_is : (a b : ℕ) (x y : ℕ) → ◌≡◌ {A = Result (ℕ × ℕ) WireError} (Ok (a, b)) (Ok (x, y)) → b ≡ y
 ok_pair_is a b x y h = let e : ◌≡◌ {A = ℕ × ℕ} (a, b) (x, y) = cc in ap (λ p. p.1) e
+
+ok_pair_first : (a b : ℕ) (x y : ℕ) → ◌≡◌ {A = Result (ℕ × ℕ) WireError} (Ok (a, b)) (Ok (x, y)) → a ≡ x
+ok_pair_first a b x y h = let e : ◌≡◌ {A = ℕ × ℕ} (a, b) (x, y) = cc in ap (λ p. p.0) e
 
 pub varint_one : (bytes : List ℕ) (word n : ℕ) → ◌≡◌ {A = Result (ℕ × ℕ) WireError} (Ok (word, n)) (value_at bytes) → IsOne Varint bytes n
 varint_one bytes word n h = of (varint_at bytes) refl h
@@ -205,3 +211,72 @@ error_after f e at is =
 
 pub to_end : (body : List ℕ) (start : ℕ) → take (length body - start) (drop start body) ≡ drop start body
 to_end body start = take_all (length body - start) (drop start body) (omega (arith, length-drop start body))
+
+-- Packed varints.
+
+-- the number that the word of a varint is
+pub varint_leaf : (s : Scalar) (body : List ℕ) (word : ℕ) → form_wire (scalar_form s) ≡ Varint → word_in Varint body ≡ word → leaf_in (scalar_form s) body ≡ Some (Int (number_by (scalar_form s) word))
+varint_leaf scalars.Int32 body word is read = ap (λ n. Some (Int (number_by (scalar_form scalars.Int32) n))) read
+varint_leaf scalars.Int64 body word is read = ap (λ n. Some (Int (number_by (scalar_form scalars.Int64) n))) read
+varint_leaf scalars.Uint32 body word is read = ap (λ n. Some (Int (number_by (scalar_form scalars.Uint32) n))) read
+varint_leaf scalars.Uint64 body word is read = ap (λ n. Some (Int (number_by (scalar_form scalars.Uint64) n))) read
+varint_leaf scalars.Sint32 body word is read = ap (λ n. Some (Int (number_by (scalar_form scalars.Sint32) n))) read
+varint_leaf scalars.Sint64 body word is read = ap (λ n. Some (Int (number_by (scalar_form scalars.Sint64) n))) read
+varint_leaf scalars.Bool body word is read = ap (λ n. Some (Int (number_by (scalar_form scalars.Bool) n))) read
+varint_leaf scalars.Double body word is read = absurd (cc)
+varint_leaf scalars.Float body word is read = absurd (cc)
+varint_leaf scalars.Fixed32 body word is read = absurd (cc)
+varint_leaf scalars.Fixed64 body word is read = absurd (cc)
+varint_leaf scalars.Sfixed32 body word is read = absurd (cc)
+varint_leaf scalars.Sfixed64 body word is read = absurd (cc)
+varint_leaf scalars.String body word is read = absurd (cc)
+varint_leaf scalars.Bytes body word is read = absurd (cc)
+
+-- a number in range is an item
+pub varint_item : (s : Scalar) (n : ℤ) → form_wire (scalar_form s) ≡ Varint → (IsInteger (scalar_form s) → IsIntegerOf (scalar_form s) n) → IsItemOf s (values.Int n)
+varint_item scalars.Int32 n is h = h tt
+varint_item scalars.Int64 n is h = h tt
+varint_item scalars.Uint32 n is h = h tt
+varint_item scalars.Uint64 n is h = h tt
+varint_item scalars.Sint32 n is h = h tt
+varint_item scalars.Sint64 n is h = h tt
+varint_item scalars.Bool n is h = h tt
+varint_item scalars.Double n is h = absurd (cc)
+varint_item scalars.Float n is h = absurd (cc)
+varint_item scalars.Fixed32 n is h = absurd (cc)
+varint_item scalars.Fixed64 n is h = absurd (cc)
+varint_item scalars.Sfixed32 n is h = absurd (cc)
+varint_item scalars.Sfixed64 n is h = absurd (cc)
+varint_item scalars.String n is h = absurd (cc)
+varint_item scalars.Bytes n is h = absurd (cc)
+
+-- every word is one of a varint
+pub varint_fits : (s : Scalar) (word : ℕ) → form_wire (scalar_form s) ≡ Varint → WordFits (scalar_form s) word
+varint_fits scalars.Int32 word is = tt
+varint_fits scalars.Int64 word is = tt
+varint_fits scalars.Uint32 word is = tt
+varint_fits scalars.Uint64 word is = tt
+varint_fits scalars.Sint32 word is = tt
+varint_fits scalars.Sint64 word is = tt
+varint_fits scalars.Bool word is = tt
+varint_fits scalars.Double word is = tt
+varint_fits scalars.Float word is = tt
+varint_fits scalars.Fixed32 word is = absurd (cc)
+varint_fits scalars.Fixed64 word is = tt
+varint_fits scalars.Sfixed32 word is = absurd (cc)
+varint_fits scalars.Sfixed64 word is = tt
+varint_fits scalars.String word is = tt
+varint_fits scalars.Bytes word is = tt
+
+-- the word at the front is that of the first element
+pub front_word : (bytes : List ℕ) (word n : ℕ) → ◌≡◌ {A = Result (ℕ × ℕ) WireError} (Ok (word, n)) (value_at bytes) → word_in Varint (take n bytes) ≡ word
+unfolding word_in
+front_word bytes word n h = of (varint_at bytes) refl h
+  where
+    of : (read : Front (List ℕ)) → varint_at bytes ≡ read → ◌≡◌ {A = Result (ℕ × ℕ) WireError} (Ok (word, n)) (placed 0 (read >>= λ r. Ok (varint_value r.0, length r.0))) → varint_value (take n bytes) ≡ word
+    of (Err f) is e = absurd (cc)
+    of (Ok r) is e =
+        let taken = varint_at_takes bytes r.0 r.1 is in
+        let len : n ≡ length r.0 = ok_pair_is word n (varint_value r.0) (length r.0) e in
+        let front : take n bytes ≡ r.0 = ap₂ take len taken.1 ∙ take_at r.0 r.1 (length r.0) refl in
+        ap varint_value front ∙ sym (ok_pair_first word n (varint_value r.0) (length r.0) e)

@@ -5,6 +5,7 @@ ghost use Rattle.pg_schema.specs.Shape.{is_packable};
 ghost use Rattle.pg_wire.specs.Errors.{error_at};
 ghost use Rattle.pg_wire.specs.Reading.{Fault};
 ghost use Rattle.pg_wire.specs.declared.error.WireError.TheVariants as wire_errors;
+ghost use Rattle.pg_wire.specs.declared.record.WireType.TheVariants.{Varint};
 ghost use Rattle.pg_dyn.specs.Coding.{element_at, form_wire, scalar_form};
 ghost use Rattle.pg_dyn.specs.Content.{packed_leaves};
 ghost use Rattle.pg_dyn.specs.declared.error.DynError.TheVariants as errors;
@@ -17,6 +18,7 @@ use crate::body::wire_type_of;
 use crate::error::DynError;
 use crate::message::Value;
 use crate::scalar::read_item;
+use crate::word::number_of;
 use pg_schema::Scalar;
 use pg_wire::{WireError, WireType, read_varint};
 use std::alloc::Global;
@@ -48,9 +50,41 @@ fn element_len(wire_type: WireType, bytes: &[u8]) -> Result<usize, WireError>
     }
 }
 
-// Reads a packed list, which stands in the record at that place, behind the items (Protocol Buffers encoding guide, "Packed
-// Repeated Fields").
-pub(crate) fn read_row(
+// How many items a packed list has, where it is one: of a varint just the last byte is below 128.
+fn row_len(wire_type: WireType, body: &[u8]) -> usize {
+    match wire_type {
+        WireType::Varint => body.iter().filter(|byte| **byte < 128).count(),
+        WireType::I64 => body.len() / 8,
+        WireType::I32 => body.len() / 4,
+        WireType::Len => 0,
+    }
+}
+
+// Reads a packed list of varints behind the items.
+fn read_varints(
+    scalar: Scalar,
+    values: &mut Vec<Value>,
+    body: &[u8],
+    at: usize,
+) -> Result<(), DynError>
+    requires { form_wire (scalar_form scalar) ≡ Varint }
+    ensures ok { OnOk result (RowReads scalar body.now values.old.items values.new.items) }
+    ensures err { IfErr result (RowRefused scalar body.now at) }
+{
+    let mut start = 0;
+    while start < body.len() {
+        let (word, len) = match read_varint(&body[start..]) {
+            Ok(read) => read,
+            Err(error) => return Err(DynError::Wire(error.after(at))),
+        };
+        values.push(Value::Int(number_of(scalar, word)))?;
+        start += len;
+    }
+    Ok(())
+}
+
+// Reads any other packed list behind the items.
+fn read_elements(
     alloc: Global,
     scalar: Scalar,
     values: &mut Vec<Value>,
@@ -73,4 +107,27 @@ pub(crate) fn read_row(
         start += len;
     }
     Ok(())
+}
+
+// Reads a packed list, which stands in the record at that place, behind the items (Protocol Buffers encoding guide, "Packed
+// Repeated Fields"). Room for all of them is made at once.
+pub(crate) fn read_row(
+    alloc: Global,
+    scalar: Scalar,
+    values: &mut Vec<Value>,
+    body: &[u8],
+    at: usize,
+) -> Result<(), DynError>
+    requires { is_packable (elements.Scalar scalar) ≡ true }
+    ensures ok { OnOk result (RowReads scalar body.now values.old.items values.new.items) }
+    ensures err { IfErr result (RowRefused scalar body.now at) }
+{
+    let wire_type = wire_type_of(scalar);
+    values.reserve(row_len(wire_type, body))?;
+    match wire_type {
+        WireType::Varint => read_varints(scalar, values, body, at),
+        WireType::I64 | WireType::I32 | WireType::Len => {
+            read_elements(alloc, scalar, values, body, at)
+        }
+    }
 }

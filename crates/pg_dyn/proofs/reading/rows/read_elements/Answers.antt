@@ -6,7 +6,7 @@ use Rattle.pg_dyn.specs.declared.message.Value.{Value}
 use Rattle.pg_dyn.specs.Coding.{element_at, form_wire, leaf_in, scalar_form}
 use Rattle.pg_dyn.specs.ScalarItems.{HasShape}
 use Rattle.pg_dyn.proofs.PackedRows.{IsOne, RowSoFar, row_begin, row_done, row_broken, row_onward, one_shape, error_after, to_end}
-use Rattle.pg_dyn.proofs.reading.rows.read_row.Goals as goal
+use Rattle.pg_dyn.proofs.reading.rows.read_elements.Goals as goal
 
 pub loop-start-init : goal.loop-start-init
 loop-start-init c = row_begin c.args.scalar c.args.body.now c.args.values.now.items
