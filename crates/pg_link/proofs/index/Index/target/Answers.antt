@@ -17,7 +17,7 @@ shown f = (f.0.now, f.1.now.kind)
 
 -- what was found of the use
 is_found : (visible : Names) (site : sites.Site) (scope : List (Bor Text)) (o : Option (Bor Text × Bor nameds.Named)) (full : Bor Text) (n : Bor nameds.Named)
-    → option_map shown o ≡ found visible (texts scope) (reference site.name.now) → o ≡ Some (full, n) → scope ≡ site.scope.items
+    → option_map shown o ≡ found visible (texts scope) (reference site.name.now) → o ≡ Some (full, n) → scope ≡ site.scope.value.items
     → found visible (use_of site).scope (use_of site).name ≡ Some (full.now, n.now.kind)
 is_found visible site scope o full n is some same =
     ap (λ (s : List (Bor Text)). found visible (texts s) (reference site.name.now)) (sym same) ∙ (sym is ∙ ap (option_map shown) some)
