@@ -1,9 +1,10 @@
 -- Each by computing it, but for what is never linked.
-use Rattle.std.proofs.Common.{◌≡◌, ℕ, zero, suc, ◌<◌, false, List, [], ◌∷◌, codes, refl, sym, subst, true≢false, arith}
+use Rattle.std.proofs.Common.{◌≡◌, ℕ, zero, suc, ◌<◌, true, false, List, [], ◌∷◌, codes, drop, refl, sym, subst, true≢false, arith}
+use Rattle.std.proofs.lemmas.List.Elements.{All-nil}
 use Rattle.std.specs.List.{All, IsAmong}
-use Rattle.pg_link.specs.Files.{File, Imports, Next, Further, HasNoCycle, InOrder, Differ, import_paths}
+use Rattle.pg_link.specs.Files.{File, Import, Imports, Next, Further, HasNoCycle, InOrder, Differ, import_paths, is_path_of, paths_of}
 use Rattle.pg_link.specs.Names.{Text}
-use Rattle.pg_link.specs.SmallFiles.{SmallFiles, importing}
+use Rattle.pg_link.specs.SmallFiles.{SmallFiles, chain, importing, line}
 use Rattle.pg_link.specs.Walk.{outlines}
 use Rattle.pg_link.proofs.SightLaws.{first_among}
 
@@ -23,6 +24,10 @@ circle_of_two files path other there back none = none path (Further (imports_it 
 
 circle_of_one : (files : List File) (path : Text) → IsAmong files (importing path (path ∷ [])) → HasNoCycle files → ⊥
 circle_of_one files path there none = none path (Next (imports_it files path path there))
+
+of_one : {X : Type 0} (P : X → Type 0) (x : X) → P x → All P (x ∷ [])
+of_one P x is zero d inside = is
+of_one P x is (suc i) d inside = absurd (omega (arith, inside))
 
 -- of files in order, none imports a path twice
 imports_differ : (files : List File) → InOrder files → (file : File) → IsAmong files file → Differ (import_paths file.imports)
@@ -49,8 +54,14 @@ small_files = record {
   through_two_files = refl;
   importers_are_not_seen = refl;
   seen = refl;
-  each_stands_before_its_imports = search;
-  each_path_once = search;
+  each_stands_before_its_imports =
+      let ready = λ (files : List File) (path : Text). is_path_of (paths_of files) path ≡ true in
+      let last : Import = line (codes "c.proto") in
+      let fourth : InOrder (drop 3 (chain last)) = (All-nil (ready []), tt, tt) in
+      let third : InOrder (drop 2 (chain last)) = (of_one (ready (drop 3 (chain last))) (codes "d.proto") refl, (refl, tt), fourth) in
+      let second : InOrder (drop 1 (chain last)) = (of_one (ready (drop 2 (chain last))) (codes "c.proto") refl, (refl, tt), third) in
+      (of_one (ready (drop 1 (chain last))) (codes "b.proto") refl, (refl, tt), second);
+  each_path_once = (refl, (refl, (refl, (refl, tt))));
   circle_of_two = λ w entries a b linked. circle_of_two (outlines entries) (codes "a.proto") (codes "b.proto") a b linked.no_cycle;
   circle_of_one = λ w entries a linked. circle_of_one (outlines entries) (codes "a.proto") a linked.no_cycle;
   import_twice = λ w entries there linked.

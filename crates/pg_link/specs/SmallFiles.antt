@@ -7,7 +7,7 @@ use Rattle.pg_link.specs.Names.{Text, Names}
 use Rattle.pg_link.specs.Resolves.{Reference, found}
 use Rattle.pg_link.specs.Files.{File, Import, Declared, InOrder, Differ, visible_names, all_names, seen_paths, paths_of}
 use Rattle.pg_link.specs.Declares.{Word, Declarations, Done, Alone, MapField, Within, Beside, names_of_file, entry_name}
-use Rattle.pg_link.specs.Walk.{World, Entry, IsLinked, outlines}
+use Rattle.pg_link.specs.Walk.{World, Entry as Read, IsLinked, outlines}
 
 -- a name without a dot in front, and one with it
 abbrev pub part : Text → List Text → Reference
@@ -34,10 +34,10 @@ importing path others = file path (map line others) []
 
 -- Files with this one among them are never linked, whatever the source gives and whichever others are there.
 abbrev pub IsNeverLinked : File → Type 0
-IsNeverLinked f = (w : World) (entries : List Entry) → IsAmong (outlines entries) f → IsLinked w entries → ⊥
+IsNeverLinked f = (w : World) (entries : List Read) → IsAmong (outlines entries) f → IsLinked w entries → ⊥
 
 abbrev pub AreNeverLinked : File → File → Type 0
-AreNeverLinked f g = (w : World) (entries : List Entry) → IsAmong (outlines entries) f → IsAmong (outlines entries) g → IsLinked w entries → ⊥
+AreNeverLinked f g = (w : World) (entries : List Read) → IsAmong (outlines entries) f → IsAmong (outlines entries) g → IsLinked w entries → ⊥
 
 abbrev pub word : Text → Word
 word text = record { text = text; at = 0 }
