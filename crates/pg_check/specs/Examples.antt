@@ -1,21 +1,27 @@
--- What the rules take and what they refuse, by small examples. Bytes stand for places of a text. What takes a tree of a text
--- to say (keys of maps, which options there are, a whole file) is shown by tests: such trees are long to write out.
-use Rattle.std.specs.Prelude.{◌≡◌, ℕ, Bool, true, false, List, [], ◌∷◌, codes, Option, Some, None}
+-- What the rules take and what they refuse, by small examples. Bytes stand for places of a text. Whole bodies and a file of
+-- every construct are shown by tests: their trees are long to write out.
+use Rattle.std.specs.Prelude.{◌≡◌, ◌≤◌, ℕ, Bool, true, false, List, [], ◌∷◌, ◌++◌, codes, length, Option, Some, None}
 use Rattle.pg_schema.specs.JsonName.{default_json_name}
 use Rattle.pg_check.specs.declared.fault.Fault.{Fault}
 use Rattle.pg_check.specs.declared.fault.Rule.{Rule}
 use Rattle.pg_check.specs.declared.fault.Rule.TheVariants as rules
 use Rattle.pg_check.specs.declared.numbers.Keyed.{Keyed}
 use Rattle.pg_check.specs.declared.numbers.Numbers.{Numbers}
+use Rattle.pg_check.specs.declared.options.Kind.TheVariants as kinds
+use Rattle.pg_check.specs.declared.options.Owner.TheVariants as owners
 use Rattle.pg_check.specs.Enums as enums
 use Rattle.pg_check.specs.Faults.{broken_at, earlier, option_fault}
+use Rattle.pg_check.specs.Files.{too_many}
 use Rattle.pg_check.specs.MadeNumbers.{field_number, value_number}
 use Rattle.pg_check.specs.Messages as messages
 use Rattle.pg_check.specs.Names as names
 use Rattle.pg_check.specs.Numbers.{rank, is_field_number}
-use Rattle.pg_check.specs.Options.{OptionAt, first_bad}
-use Rattle.pg_check.specs.Types.{is_packable}
+use Rattle.pg_check.specs.Options.{OptionAt, an_option, first_bad, is_of, is_of_kind, option_named}
+use Rattle.pg_check.specs.Outline.{Message}
+use Rattle.pg_check.specs.Types.{is_key_scalar, is_packable, scalar_of}
 use Rattle.pg_schema.specs.declared.field.Scalar.TheVariants as scalars
+use Rattle.pg_syntax.specs.declared.tree as tree
+use Rattle.pg_syntax.specs.declared.tree.Value.TheVariants as values
 use Rattle.std.specs.Prelude.{pos, negsuc}
 
 abbrev pub field : ℕ → ℕ → Keyed
@@ -51,17 +57,30 @@ pub record WorkedRules : Type 0 where
   pub json_name : default_json_name (codes "foo_bar") ≡ codes "fooBar"
   pub json_name_twice : names.first_twice (name (codes "fooBar") 18 ∷ name (codes "fooBar") 37 ∷ []) ≡ Some 37
   pub json_names_by_case : names.first_twice (name (codes "A") 18 ∷ name (codes "a") 37 ∷ []) ≡ None
+  pub float_is_no_key : is_key_scalar (scalar_of (codes "float")) ≡ false
+  pub bytes_are_no_key : is_key_scalar (scalar_of (codes "bytes")) ≡ false
+  pub text_is_a_key : is_key_scalar (scalar_of (codes "string")) ≡ true
+  pub other_types_are_no_keys : is_key_scalar (scalar_of (codes "K")) ≡ false
   pub empty_oneof : messages.has_member [] ≡ false
   pub first_value_one : enums.first_not_zero (field 1 21 ∷ []) ≡ Some 21
   pub first_value_zero : enums.first_not_zero (field 0 21 ∷ field 1 28 ∷ []) ≡ None
   pub alias : enums.first_alias false (field 0 21 ∷ field 0 28 ∷ []) ≡ Some 28
   pub alias_allowed : enums.first_alias true (field 0 21 ∷ field 0 28 ∷ []) ≡ None
   pub no_value : enums.empty_at 17 [] ≡ Some 17
+  pub unknown_option : option_named owners.Field (codes "ctype") ≡ None
+  pub unknown_is_wrong : (value : tree.Value.Value) → is_of None value ≡ false
+  pub option_of_a_field : option_named owners.Field (codes "json_name") ≡ an_option 10 kinds.Text
+  pub option_of_another : option_named owners.Message (codes "json_name") ≡ None
+  pub number_is_no_text : (n : tree.Number.Number) → is_of_kind kinds.Text (values.Number n) ≡ false
   pub wrong_option : first_bad (stated (codes "ctype") false 25 ∷ []) ≡ Some 25
   pub option_twice : first_bad (stated (codes "deprecated") true 12 ∷ stated (codes "deprecated") true 38 ∷ []) ≡ Some 38
-  pub packed_text : is_packable (Some scalars.String) None ≡ false
+  pub packed_text : is_packable (scalar_of (codes "string")) None ≡ false
+  pub packed_numbers : is_packable (scalar_of (codes "sint32")) None ≡ true
   pub option_before_packed : earlier (Some (option_fault rules.PackedNotAllowed 19 26)) (Some (option_fault rules.BadOption 19 41)) ≡ Some (option_fault rules.BadOption 19 41)
   pub first_in_text : earlier (told rules.BadOption 12) (told rules.BadNumber 30) ≡ told rules.BadOption 12
   pub made_number : field_number (rank false 7) ≡ 7
   pub lowest_value : value_number (rank true 2147483648) ≡ negsuc 2147483647
   pub highest_value : value_number (rank false 2147483647) ≡ pos 2147483647
+  -- of so many message types none is one too many, and of more the one behind them is
+  pub so_many_types : (left : ℕ) (ms : List Message) → length ms ≤ left → too_many left ms ≡ None
+  pub one_type_more : (ms : List Message) (m : Message) (more : List Message) → too_many (length ms) (ms ++ m ∷ more) ≡ Some m.name.span.from

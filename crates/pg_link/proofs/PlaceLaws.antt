@@ -9,6 +9,7 @@ use Rattle.std.specs.Str.{bytes_eq}
 use Rattle.pg_lex.specs.Place.{line, column}
 use Rattle.pg_link.specs.declared.index.Index as indexes
 use Rattle.pg_link.specs.declared.names.Named as nameds
+use Rattle.pg_link.specs.Index.{files_of}
 use Rattle.pg_link.specs.Linked.{HasFirst, IsDeclaredAt, IsDeclaredNowhere, IsFirstPlace}
 use Rattle.pg_link.specs.Names.{Text}
 use Rattle.pg_link.specs.Standing.{Bearer, Lists, Standing, all_standings, bearers, first_of, standing, view}
@@ -51,7 +52,7 @@ first_same : (a b : ℕ) (xs ys : List ℕ) → a ∷ xs ≡ b ∷ ys → a ≡ 
 first_same a b xs ys is = same_Some a b (ap (λ (l : List ℕ). slice_get l 0) is)
 
 pub declared_there : (index : indexes.Index) (es : List Entry) (full : Text) (name : Text) (n : nameds.Named) (path : Text) (l c : ℕ) → Lists index (all_standings es)
-    → get_by_text index.names name ≡ Some n → name ≡ 46 ∷ full → IsFirstPlace es n.files.items n.at path l c → IsDeclaredAt es full path l c
+    → get_by_text index.names name ≡ Some n → name ≡ 46 ∷ full → IsFirstPlace es (files_of n) n.at path l c → IsDeclaredAt es full path l c
 declared_there index es full name n path l c lists held dotted p =
     let b = first_bearer (bearers (all_standings es) name) (view n) (one_held index.names (all_standings es) name n lists.0 held) in
     let f = filter_among (λ (s : Standing). bytes_eq name s.declared.name) (all_standings es) b.standing b.among in
@@ -111,7 +112,7 @@ declared_nowhere index es full lists none = λ file d among has named.
 
 -- what bears a name has a first file
 pub has_first : (index : indexes.Index) (es : List Entry) (name : Text) (n : nameds.Named) → Lists index (all_standings es) → get_by_text index.names name ≡ Some n
-    → HasFirst es n.files.items
+    → HasFirst es (files_of n)
 has_first index es name n lists held =
     let b = first_bearer (bearers (all_standings es) name) (view n) (one_held index.names (all_standings es) name n lists.0 held) in
     let f = filter_among (λ (s : Standing). bytes_eq name s.declared.name) (all_standings es) b.standing b.among in

@@ -8,7 +8,7 @@ use Rattle.std.specs.Borrow.{Bor}
 use Rattle.std.specs.Global.{Global}
 use Rattle.std.specs.HashMap.{HashMap, get_by_text}
 use Rattle.pg_link.specs.declared.names.Named as nameds
-use Rattle.pg_link.specs.Index.{texts, is_seen, names_seen}
+use Rattle.pg_link.specs.Index.{files_of, texts, is_seen, names_seen}
 use Rattle.std.specs.Option.{option_map}
 use Rattle.pg_link.specs.declared.names.Kind.{Kind}
 use Rattle.pg_link.specs.Names.{Text, Names, called, bears}
@@ -62,7 +62,7 @@ goes_outwards names test part scope (suc n) within some none =
 
 -- what the index holds of a name that is seen
 pub is_borne : {S : Type 0} (index : HashMap (String Global) nameds.Named S) (sight : Option (List Bool)) (full name : Text) (named : nameds.Named)
-    → get_by_text index full ≡ Some named → is_seen sight named.files.items ≡ true → full ≡ name → Some (name, named.kind) ≡ borne (names_seen index sight) full
+    → get_by_text index full ≡ Some named → is_seen sight (files_of named) ≡ true → full ≡ name → Some (name, named.kind) ≡ borne (names_seen index sight) full
 is_borne index sight full name named held seen same = rw (held, seen, same) refl
 
 pub same_bytes : (a b : Text) → bytes_eq a b ≡ true → a ≡ b

@@ -1,6 +1,39 @@
--- Each by computing it.
-use Rattle.std.proofs.Common.{refl}
-use Rattle.pg_link.specs.SmallFiles.{SmallFiles}
+-- Each by computing it, but for what is never linked.
+use Rattle.std.proofs.Common.{◌≡◌, ℕ, zero, suc, ◌<◌, true, false, List, [], ◌∷◌, codes, drop, refl, sym, subst, true≢false, arith}
+use Rattle.std.proofs.lemmas.List.Elements.{All-nil}
+use Rattle.std.specs.List.{All, IsAmong}
+use Rattle.pg_link.specs.Files.{File, Import, Imports, Next, Further, HasNoCycle, InOrder, Differ, import_paths, is_path_of, paths_of}
+use Rattle.pg_link.specs.Names.{Text}
+use Rattle.pg_link.specs.SmallFiles.{SmallFiles, chain, importing, line}
+use Rattle.pg_link.specs.Walk.{outlines}
+use Rattle.pg_link.proofs.SightLaws.{first_among}
+
+-- a file that is there and imports this path alone
+imports_it : (files : List File) (path other : Text) → IsAmong files (importing path (other ∷ [])) → Imports files path other
+imports_it files path other there = record {
+  file = importing path (other ∷ []);
+  line = record { path = other; is_public = false; at = 0 };
+  is_there = there;
+  has_line = first_among (record { path = other; is_public = false; at = 0 }) [];
+  from_path = refl;
+  to_other = refl;
+}
+
+circle_of_two : (files : List File) (path other : Text) → IsAmong files (importing path (other ∷ [])) → IsAmong files (importing other (path ∷ [])) → HasNoCycle files → ⊥
+circle_of_two files path other there back none = none path (Further (imports_it files path other there) (Next (imports_it files other path back)))
+
+circle_of_one : (files : List File) (path : Text) → IsAmong files (importing path (path ∷ [])) → HasNoCycle files → ⊥
+circle_of_one files path there none = none path (Next (imports_it files path path there))
+
+of_one : {X : Type 0} (P : X → Type 0) (x : X) → P x → All P (x ∷ [])
+of_one P x is zero d inside = is
+of_one P x is (suc i) d inside = absurd (omega (arith, inside))
+
+-- of files in order, none imports a path twice
+imports_differ : (files : List File) → InOrder files → (file : File) → IsAmong files file → Differ (import_paths file.imports)
+imports_differ [] order file (i, (within, is)) = absurd (omega (arith, within))
+imports_differ (f ∷ files) order file (zero, (within, is)) = subst (λ (x : File). Differ (import_paths x.imports)) (sym is) order.1
+imports_differ (f ∷ files) order file (suc i, (within, is)) = imports_differ files order.2 file (i, (omega (arith, within), is))
 
 pub small_files : SmallFiles
 small_files = record {
@@ -21,6 +54,20 @@ small_files = record {
   through_two_files = refl;
   importers_are_not_seen = refl;
   seen = refl;
+  each_stands_before_its_imports =
+      let ready = λ (files : List File) (path : Text). is_path_of (paths_of files) path ≡ true in
+      let last : Import = line (codes "c.proto") in
+      let fourth : InOrder (drop 3 (chain last)) = (All-nil (ready []), tt, tt) in
+      let third : InOrder (drop 2 (chain last)) = (of_one (ready (drop 3 (chain last))) (codes "d.proto") refl, (refl, tt), fourth) in
+      let second : InOrder (drop 1 (chain last)) = (of_one (ready (drop 2 (chain last))) (codes "c.proto") refl, (refl, tt), third) in
+      (of_one (ready (drop 1 (chain last))) (codes "b.proto") refl, (refl, tt), second);
+  each_path_once = (refl, (refl, (refl, (refl, tt))));
+  circle_of_two = λ w entries a b linked. circle_of_two (outlines entries) (codes "a.proto") (codes "b.proto") a b linked.no_cycle;
+  circle_of_one = λ w entries a linked. circle_of_one (outlines entries) (codes "a.proto") a linked.no_cycle;
+  import_twice = λ w entries there linked.
+      true≢false (imports_differ (outlines entries) linked.in_order (importing (codes "m.proto") (codes "b.proto" ∷ codes "b.proto" ∷ [])) there).0;
+  import_twice_apart = λ w entries there linked.
+      true≢false (imports_differ (outlines entries) linked.in_order (importing (codes "m.proto") (codes "b.proto" ∷ codes "c.proto" ∷ codes "b.proto" ∷ [])) there).0;
   field_is_passed_over = refl;
   service_is_passed_over = refl;
   full_name_of_a_service = refl;

@@ -5,4 +5,4 @@ use Rattle.pg_link.specs.Resolves.{reference}
 use Rattle.pg_link.specs.Uses.{Use}
 
 abbrev pub use_of : made.Site → Use
-use_of s = record { scope = texts s.scope.items; name = reference s.name.now; at = s.name.now.span.from; takes_enums = s.takes_enums }
+use_of s = record { scope = texts s.scope.value.items; name = reference s.name.now; at = s.name.now.span.from; takes_enums = s.takes_enums }

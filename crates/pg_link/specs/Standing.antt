@@ -15,6 +15,7 @@ use Rattle.pg_link.specs.declared.names.Named as nameds
 use Rattle.pg_link.specs.declared.error.LinkError as errors
 use Rattle.pg_link.specs.declared.error.LinkError.TheVariants as error
 use Rattle.pg_link.specs.Files.{Declared}
+use Rattle.pg_link.specs.Index.{files_of}
 use Rattle.pg_link.specs.Names.{Text, is_package}
 use Rattle.pg_link.specs.Outline.{file_names}
 use Rattle.pg_link.specs.Targets.{enum_names, message_names, numbered}
@@ -69,7 +70,7 @@ abbrev pub NoneTwice : List Standing → Type 0
 NoneTwice all = AllMayStand (reverse all)
 
 abbrev pub view : nameds.Named → Bearer
-view n = record { kind = n.kind; at = n.at; files = n.files.items }
+view n = record { kind = n.kind; at = n.at; files = files_of n }
 
 -- an index holds just these names
 abbrev pub Holds : {S : Type 0} → HashMap (String Global) nameds.Named S → List Standing → Type 0

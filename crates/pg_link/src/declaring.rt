@@ -14,23 +14,17 @@ use indexmap::IndexMap;
 use std::alloc::{AllocError, Global};
 
 /// What stands under a name that this file declares first.
-fn first(
-    alloc: Global,
-    file: usize,
-    declared: &DeclaredName,
-    number: usize,
-) -> Result<Named, AllocError>
-    ensures added { IfOk result (λ n. spec.view n ≡ spec.added (spec.standing file (declared_of declared.now)) None) }
-    ensures number { IfOk result (λ n. n.number ≡ number) }
+fn first(alloc: Global, file: usize, declared: &DeclaredName, number: usize) -> Named
+    ensures added { spec.view result ≡ spec.added (spec.standing file (declared_of declared.now)) None }
+    ensures number { result.number ≡ number }
 {
-    let mut files = Vec::new(alloc);
-    files.push(file)?;
-    Ok(Named {
+    Named {
         kind: declared.kind,
         at: declared.at,
-        files,
+        file,
+        others: Vec::new(alloc),
         number,
-    })
+    }
 }
 
 /// What stands under a name once this file declares it too.
@@ -38,12 +32,13 @@ fn again(alloc: Global, file: usize, named: &Named, number: usize) -> Result<Nam
     ensures added { IfOk result (λ n. (d : Declared) → spec.view n ≡ spec.added (spec.standing file d) (Some (spec.view named.now))) }
     ensures number { IfOk result (λ n. n.number ≡ number) }
 {
-    let mut files = Vec::from_slice(alloc, &named.files)?;
-    files.push(file)?;
+    let mut others = Vec::from_slice(alloc, &named.others)?;
+    others.push(file)?;
     Ok(Named {
         kind: named.kind,
         at: named.at,
-        files,
+        file: named.file,
+        others,
         number,
     })
 }
@@ -93,10 +88,7 @@ impl Index {
         ensures number { IfOk result (λ n. IfSome n (λ named. named.number ≡ number)) }
     {
         match self.names.get(declared.name.as_str()) {
-            None => {
-                let named = first(alloc, file, declared, number)?;
-                Ok(Some(named))
-            }
+            None => Ok(Some(first(alloc, file, declared, number))),
             Some(named) => {
                 if !may_share(named.kind, declared.kind) {
                     return Ok(None);
@@ -112,18 +104,18 @@ impl Index {
         &mut self,
         alloc: Global,
         file: usize,
-        declared: &DeclaredName,
+        declared: DeclaredName,
     ) -> Result<bool, AllocError>
-        ensures { IfOk result (λ may. spec.Adds self.old self.new (spec.standing file (declared_of declared.now)) may) }
+        ensures { IfOk result (λ may. spec.Adds self.old self.new (spec.standing file (declared_of declared)) may) }
     {
-        let number = self.next_number(declared.kind);
-        let Some(named) = self.joined(alloc, file, declared, number)? else {
+        let kind = declared.kind;
+        let number = self.next_number(kind);
+        let Some(named) = self.joined(alloc, file, &declared, number)? else {
             return Ok(false);
         };
-        let name = String::from_str(alloc, declared.name.as_str())?;
         let place = self.names.len();
-        self.names.insert(name, named)?;
-        self.count(declared.kind, place)?;
+        self.names.insert(declared.name, named)?;
+        self.count(kind, place)?;
         Ok(true)
     }
 }
@@ -141,9 +133,10 @@ impl Index {
         ensures twice { IfErr result (spec.IsTwice self.old number path.now file.now.bytes.items (spec.standings number file.now.tree)) }
     {
         let names = declared_names(alloc, &file.tree)?;
-        for declared in &names {
+        for declared in names {
+            let at = declared.at;
             if !self.add(alloc, number, declared)? {
-                let place = place_in(alloc, path, &file.bytes, declared.at)?;
+                let place = place_in(alloc, path, &file.bytes, at)?;
                 return Err(LinkError::DuplicateName(place));
             }
         }

@@ -28,14 +28,11 @@ fn is_own(sight: Sight<'_>, files: &[usize]) -> bool
     }
 }
 
-/// Whether one of the files is seen. Without a sight all are. A part of a package may stand in all files, and mostly
-/// stands in the one that asks, so that is looked at first.
-fn is_seen(sight: Option<Sight<'_>>, files: &[usize]) -> bool
-    ensures { result ≡ spec.is_seen (spec.sight_of sight.entry) files.now }
+/// Whether one of the files is seen. A part of a package may stand in all files, and mostly stands in the one that asks,
+/// so that is looked at first.
+fn sees_one(sight: Sight<'_>, files: &[usize]) -> bool
+    ensures { result ≡ spec.sees_one sight.entry.marks.now files.now }
 {
-    let Some(sight) = sight else {
-        return true;
-    };
     if is_own(sight, files) {
         return true;
     }
@@ -45,6 +42,19 @@ fn is_seen(sight: Option<Sight<'_>>, files: &[usize]) -> bool
         }
     }
     false
+}
+
+/// Whether one of the files that declare a name is seen. Without a sight all are.
+fn is_seen(sight: Option<Sight<'_>>, named: &Named) -> bool
+    ensures { result ≡ spec.is_seen (spec.sight_of sight.entry) (spec.files_of named.now) }
+{
+    let Some(sight) = sight else {
+        return true;
+    };
+    if sight.marks.get(named.file).copied().unwrap_or(false) {
+        return true;
+    }
+    sees_one(sight, &named.others)
 }
 
 /// Whether the search for the first part of a name ends at this kind, by the parts behind it.
@@ -114,7 +124,7 @@ impl Index {
         ensures held { IfSome result (λ f. get_by_text self.now.names full.now ≡ Some f.1.now) }
     {
         let (name, named) = self.names.get_key_value(full)?;
-        if is_seen(sight, &named.files) {
+        if is_seen(sight, named) {
             Some((name.as_str(), named))
         } else {
             None

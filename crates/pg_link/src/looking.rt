@@ -3,7 +3,7 @@ ghost use Rattle.std.specs.Prelude.{◌≡◌, ◌<◌, ◌∷◌, IfErr, IfNone
 ghost use Rattle.std.specs.BTreeMap.{get};
 ghost use Rattle.std.specs.Ordering.{nat_cmp};
 ghost use Rattle.pg_link.specs.Files.{all_names, visible_names};
-ghost use Rattle.pg_link.specs.Index.{texts};
+ghost use Rattle.pg_link.specs.Index.{files_of, texts};
 ghost use Rattle.pg_link.specs.Linked.{HasFirst, IsDeclaredAt, IsDeclaredNowhere, IsFirstPlace};
 ghost use Rattle.pg_link.specs.Resolves.{Resolves, reference};
 ghost use Rattle.pg_link.specs.Sites.{use_of};
@@ -47,11 +47,10 @@ pub(crate) fn first_place<'a>(
     files: &'a IndexMap<String, SourceFile>,
     named: &Named,
 ) -> Option<(&'a str, usize, usize)>
-    ensures place { IfSome result (λ p. IsFirstPlace files.now.entries named.now.files.items named.now.at p.0.now p.1 p.2) }
-    ensures absent { IfNone result (HasFirst files.now.entries named.now.files.items → ⊥) }
+    ensures place { IfSome result (λ p. IsFirstPlace files.now.entries (files_of named.now) named.now.at p.0.now p.1 p.2) }
+    ensures absent { IfNone result (HasFirst files.now.entries (files_of named.now) → ⊥) }
 {
-    let number = *named.files.first()?;
-    let (path, file) = files.get_index(number)?;
+    let (path, file) = files.get_index(named.file)?;
     let (line, column) = place(&file.bytes, named.at);
     Some((path.as_str(), line, column))
 }

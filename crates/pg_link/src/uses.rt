@@ -11,11 +11,13 @@ use pg_syntax::tree::{
     Statement, TypeName,
 };
 use std::alloc::{AllocError, Global};
+use std::rc::Rc;
 
-/// A type name that is used, with the words of its scope, and whether an enum may stand there.
+/// A type name that is used, with the words of its scope, which the uses in one scope share, and whether an enum may stand
+/// there.
 #[derive(Drop)]
 pub(crate) struct Site<'a> {
-    pub scope: Vec<&'a str>,
+    pub scope: Rc<Vec<&'a str>>,
     pub name: &'a TypeName,
     pub takes_enums: bool,
 }
@@ -59,13 +61,13 @@ pub fn is_scalar(name: &TypeName) -> bool
 fn add_use<'a>(
     alloc: Global,
     uses: &mut Vec<Site<'a>>,
-    scope: &[&'a str],
+    scope: &Rc<Vec<&'a str>>,
     name: &'a TypeName,
     takes_enums: bool,
 ) -> Result<(), AllocError>
-    ensures { OnOk result (map use_of uses.new.items ≡ map use_of uses.old.items ++ spec.use_in (texts scope.now) takes_enums name.now ∷ []) }
+    ensures { OnOk result (map use_of uses.new.items ≡ map use_of uses.old.items ++ spec.use_in (texts scope.now.value.items) takes_enums name.now ∷ []) }
 {
-    let scope = Vec::from_slice(alloc, scope)?;
+    let scope = scope.clone()?;
     uses.push(Site {
         scope,
         name,
@@ -78,10 +80,10 @@ fn add_use<'a>(
 fn add_field<'a>(
     alloc: Global,
     uses: &mut Vec<Site<'a>>,
-    scope: &[&'a str],
+    scope: &Rc<Vec<&'a str>>,
     name: &'a TypeName,
 ) -> Result<(), AllocError>
-    ensures { OnOk result (map use_of uses.new.items ≡ map use_of uses.old.items ++ spec.field_uses (texts scope.now) name.now) }
+    ensures { OnOk result (map use_of uses.new.items ≡ map use_of uses.old.items ++ spec.field_uses (texts scope.now.value.items) name.now) }
 {
     if is_scalar(name) {
         return Ok(());
@@ -93,10 +95,10 @@ fn add_field<'a>(
 fn add_map<'a>(
     alloc: Global,
     uses: &mut Vec<Site<'a>>,
-    scope: &[&'a str],
+    scope: &Rc<Vec<&'a str>>,
     field: &'a MapField,
 ) -> Result<(), AllocError>
-    ensures { OnOk result (map use_of uses.new.items ≡ map use_of uses.old.items ++ spec.map_uses (texts scope.now) field.now) }
+    ensures { OnOk result (map use_of uses.new.items ≡ map use_of uses.old.items ++ spec.map_uses (texts scope.now.value.items) field.now) }
 {
     add_field(alloc, uses, scope, &field.key)?;
     add_field(alloc, uses, scope, &field.value)
@@ -106,10 +108,10 @@ fn add_map<'a>(
 fn add_oneof_part<'a>(
     alloc: Global,
     uses: &mut Vec<Site<'a>>,
-    scope: &[&'a str],
+    scope: &Rc<Vec<&'a str>>,
     part: &'a OneofPart,
 ) -> Result<(), AllocError>
-    ensures { OnOk result (map use_of uses.new.items ≡ map use_of uses.old.items ++ spec.oneof_part_uses (texts scope.now) part.now) }
+    ensures { OnOk result (map use_of uses.new.items ≡ map use_of uses.old.items ++ spec.oneof_part_uses (texts scope.now.value.items) part.now) }
 {
     match part {
         OneofPart::Field(field) => add_field(alloc, uses, scope, &field.type_name),
@@ -123,10 +125,10 @@ fn add_oneof_part<'a>(
 fn add_oneof<'a>(
     alloc: Global,
     uses: &mut Vec<Site<'a>>,
-    scope: &[&'a str],
+    scope: &Rc<Vec<&'a str>>,
     oneof: &'a Oneof,
 ) -> Result<(), AllocError>
-    ensures { OnOk result (map use_of uses.new.items ≡ map use_of uses.old.items ++ spec.oneof_uses (texts scope.now) oneof.now) }
+    ensures { OnOk result (map use_of uses.new.items ≡ map use_of uses.old.items ++ spec.oneof_uses (texts scope.now.value.items) oneof.now) }
 {
     for part in &oneof.parts {
         add_oneof_part(alloc, uses, scope, part)?;
@@ -138,10 +140,10 @@ fn add_oneof<'a>(
 fn add_rpc<'a>(
     alloc: Global,
     uses: &mut Vec<Site<'a>>,
-    scope: &[&'a str],
+    scope: &Rc<Vec<&'a str>>,
     rpc: &'a Rpc,
 ) -> Result<(), AllocError>
-    ensures { OnOk result (map use_of uses.new.items ≡ map use_of uses.old.items ++ spec.rpc_uses (texts scope.now) rpc.now) }
+    ensures { OnOk result (map use_of uses.new.items ≡ map use_of uses.old.items ++ spec.rpc_uses (texts scope.now.value.items) rpc.now) }
 {
     add_use(alloc, uses, scope, &rpc.input.type_name, false)?;
     add_use(alloc, uses, scope, &rpc.output.type_name, false)
@@ -151,10 +153,10 @@ fn add_rpc<'a>(
 fn add_service_part<'a>(
     alloc: Global,
     uses: &mut Vec<Site<'a>>,
-    scope: &[&'a str],
+    scope: &Rc<Vec<&'a str>>,
     part: &'a ServicePart,
 ) -> Result<(), AllocError>
-    ensures { OnOk result (map use_of uses.new.items ≡ map use_of uses.old.items ++ spec.service_part_uses (texts scope.now) part.now) }
+    ensures { OnOk result (map use_of uses.new.items ≡ map use_of uses.old.items ++ spec.service_part_uses (texts scope.now.value.items) part.now) }
 {
     match part {
         ServicePart::Rpc(rpc) => add_rpc(alloc, uses, scope, rpc),
@@ -164,22 +166,26 @@ fn add_service_part<'a>(
 }
 
 /// The scope in this one that a word names.
-fn inner<'a>(alloc: Global, scope: &[&'a str], word: &'a str) -> Result<Vec<&'a str>, AllocError>
-    ensures { IfOk result (λ inner. texts inner.items ≡ texts scope.now ++ word.now ∷ []) }
+fn inner<'a>(
+    alloc: Global,
+    scope: &Rc<Vec<&'a str>>,
+    word: &'a str,
+) -> Result<Rc<Vec<&'a str>>, AllocError>
+    ensures { IfOk result (λ inner. texts inner.value.items ≡ texts scope.now.value.items ++ word.now ∷ []) }
 {
     let mut words = Vec::from_slice(alloc, scope)?;
     words.push(word)?;
-    Ok(words)
+    Ok(Rc::new(alloc, words)?)
 }
 
 /// Puts the uses of the parts of a service behind the others.
 fn add_service_parts<'a>(
     alloc: Global,
     uses: &mut Vec<Site<'a>>,
-    scope: &[&'a str],
+    scope: &Rc<Vec<&'a str>>,
     parts: &'a [ServicePart],
 ) -> Result<(), AllocError>
-    ensures { OnOk result (map use_of uses.new.items ≡ map use_of uses.old.items ++ flat_map (spec.service_part_uses (texts scope.now)) parts.now) }
+    ensures { OnOk result (map use_of uses.new.items ≡ map use_of uses.old.items ++ flat_map (spec.service_part_uses (texts scope.now.value.items)) parts.now) }
 {
     for part in parts {
         add_service_part(alloc, uses, scope, part)?;
@@ -191,10 +197,10 @@ fn add_service_parts<'a>(
 fn add_service<'a>(
     alloc: Global,
     uses: &mut Vec<Site<'a>>,
-    scope: &[&'a str],
+    scope: &Rc<Vec<&'a str>>,
     service: &'a Service,
 ) -> Result<(), AllocError>
-    ensures { OnOk result (map use_of uses.new.items ≡ map use_of uses.old.items ++ spec.service_uses (texts scope.now) service.now) }
+    ensures { OnOk result (map use_of uses.new.items ≡ map use_of uses.old.items ++ spec.service_uses (texts scope.now.value.items) service.now) }
 {
     let words = inner(alloc, scope, service.name.text.as_str())?;
     add_service_parts(alloc, uses, &words, &service.parts)
@@ -205,10 +211,10 @@ fn add_service<'a>(
 fn add_part<'a>(
     alloc: Global,
     uses: &mut Vec<Site<'a>>,
-    scope: &[&'a str],
+    scope: &Rc<Vec<&'a str>>,
     part: &'a Part,
 ) -> Result<(), AllocError>
-    ensures { OnOk result (map use_of uses.new.items ≡ map use_of uses.old.items ++ spec.part_uses (texts scope.now) part.now) }
+    ensures { OnOk result (map use_of uses.new.items ≡ map use_of uses.old.items ++ spec.part_uses (texts scope.now.value.items) part.now) }
 {
     match part {
         Part::Message(message) => {
@@ -230,10 +236,10 @@ fn add_part<'a>(
 fn add_parts<'a>(
     alloc: Global,
     uses: &mut Vec<Site<'a>>,
-    scope: &[&'a str],
+    scope: &Rc<Vec<&'a str>>,
     parts: &'a [Part],
 ) -> Result<(), AllocError>
-    ensures { OnOk result (map use_of uses.new.items ≡ map use_of uses.old.items ++ flat_map (spec.part_uses (texts scope.now)) parts.now) }
+    ensures { OnOk result (map use_of uses.new.items ≡ map use_of uses.old.items ++ flat_map (spec.part_uses (texts scope.now.value.items)) parts.now) }
 {
     for part in parts {
         add_part(alloc, uses, scope, part)?;
@@ -246,10 +252,10 @@ fn add_parts<'a>(
 fn add_message<'a>(
     alloc: Global,
     uses: &mut Vec<Site<'a>>,
-    scope: &[&'a str],
+    scope: &Rc<Vec<&'a str>>,
     message: &'a Message,
 ) -> Result<(), AllocError>
-    ensures { OnOk result (map use_of uses.new.items ≡ map use_of uses.old.items ++ spec.message_uses (texts scope.now) message.now) }
+    ensures { OnOk result (map use_of uses.new.items ≡ map use_of uses.old.items ++ spec.message_uses (texts scope.now.value.items) message.now) }
 {
     let words = inner(alloc, scope, message.name.text.as_str())?;
     add_parts(alloc, uses, &words, &message.parts)
@@ -259,10 +265,10 @@ fn add_message<'a>(
 fn add_statement<'a>(
     alloc: Global,
     uses: &mut Vec<Site<'a>>,
-    scope: &[&'a str],
+    scope: &Rc<Vec<&'a str>>,
     statement: &'a Statement,
 ) -> Result<(), AllocError>
-    ensures { OnOk result (map use_of uses.new.items ≡ map use_of uses.old.items ++ spec.statement_uses (texts scope.now) statement.now) }
+    ensures { OnOk result (map use_of uses.new.items ≡ map use_of uses.old.items ++ spec.statement_uses (texts scope.now.value.items) statement.now) }
 {
     match statement {
         Statement::Message(message) => add_message(alloc, uses, scope, message),
@@ -278,10 +284,10 @@ fn add_statement<'a>(
 fn add_statements<'a>(
     alloc: Global,
     uses: &mut Vec<Site<'a>>,
-    scope: &[&'a str],
+    scope: &Rc<Vec<&'a str>>,
     statements: &'a [Statement],
 ) -> Result<(), AllocError>
-    ensures { OnOk result (map use_of uses.new.items ≡ map use_of uses.old.items ++ flat_map (spec.statement_uses (texts scope.now)) statements.now) }
+    ensures { OnOk result (map use_of uses.new.items ≡ map use_of uses.old.items ++ flat_map (spec.statement_uses (texts scope.now.value.items)) statements.now) }
 {
     for statement in statements {
         add_statement(alloc, uses, scope, statement)?;
@@ -307,10 +313,11 @@ pub(crate) fn uses_of(alloc: Global, file: &FileTree) -> Result<Vec<Site<'_>>, A
 {
     let mut uses = Vec::new(alloc);
     let Some(packaged) = &file.packaged else {
-        add_statements(alloc, &mut uses, &[], &file.statements)?;
+        let scope = Rc::new(alloc, Vec::new(alloc))?;
+        add_statements(alloc, &mut uses, &scope, &file.statements)?;
         return Ok(uses);
     };
-    let scope = words_of(alloc, &packaged.package.name)?;
+    let scope = Rc::new(alloc, words_of(alloc, &packaged.package.name)?)?;
     add_statements(alloc, &mut uses, &scope, &file.statements)?;
     add_statements(alloc, &mut uses, &scope, &packaged.statements)?;
     Ok(uses)

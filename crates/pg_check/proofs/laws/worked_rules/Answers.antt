@@ -1,7 +1,21 @@
-use Rattle.std.proofs.Common.{refl}
+use Rattle.std.proofs.Common.{◌≡◌, ◌≤◌, ℕ, zero, suc, List, [], ◌∷◌, ◌++◌, length, Some, None, refl, arith}
+use Rattle.pg_check.specs.Files.{too_many}
+use Rattle.pg_check.specs.Options.{option_named}
+use Rattle.pg_check.specs.Outline.{Message}
+use Rattle.pg_check.specs.Types.{scalar_of}
 use Rattle.pg_check.proofs.laws.worked_rules.Goals as goal
 
+so_many_types : (left : ℕ) (ms : List Message) → length ms ≤ left → too_many left ms ≡ None
+so_many_types left [] few = refl
+so_many_types zero (m ∷ ms) few = absurd (omega (arith, few))
+so_many_types (suc left) (m ∷ ms) few = so_many_types left ms (omega (arith, few))
+
+one_type_more : (ms : List Message) (m : Message) (more : List Message) → too_many (length ms) (ms ++ m ∷ more) ≡ Some m.name.span.from
+one_type_more [] m more = refl
+one_type_more (n ∷ ms) m more = one_type_more ms m more
+
 pub returns : goal.returns
+unfolding option_named scalar_of
 returns c = record {
   highest_number = refl;
   zero_is_none = refl;
@@ -20,18 +34,30 @@ returns c = record {
   json_name = refl;
   json_name_twice = refl;
   json_names_by_case = refl;
+  float_is_no_key = refl;
+  bytes_are_no_key = refl;
+  text_is_a_key = refl;
+  other_types_are_no_keys = refl;
   empty_oneof = refl;
   first_value_one = refl;
   first_value_zero = refl;
   alias = refl;
   alias_allowed = refl;
   no_value = refl;
+  unknown_option = refl;
+  unknown_is_wrong = λ value. refl;
+  option_of_a_field = refl;
+  option_of_another = refl;
+  number_is_no_text = λ n. refl;
   wrong_option = refl;
   option_twice = refl;
   packed_text = refl;
+  packed_numbers = refl;
   option_before_packed = refl;
   first_in_text = refl;
   made_number = refl;
   lowest_value = refl;
   highest_value = refl;
+  so_many_types = so_many_types;
+  one_type_more = one_type_more;
 }

@@ -9,4 +9,4 @@ use Rattle.pg_link.proofs.uses.+uses.Goals as goal
 pub add_part-returns-in_ok-add_message-in-Message : goal.add_part-returns-in_ok-add_message-in-Message
 add_part-returns-in_ok-add_message-in-Message t c =
     c.in_ok-add_message-in-Message.ensures ∙ ap (λ (us : List Use). map use_of c.args.uses.now.items ++ us)
-    (sym (part_message (texts c.args.scope.now) c.in-Message.message) ∙ ap (λ (p : Part). part_uses (texts c.args.scope.now) p) (sym c.in-Message.is))
+    (sym (part_message (texts c.args.scope.now.value.items) c.in-Message.message) ∙ ap (λ (p : Part). part_uses (texts c.args.scope.now.value.items) p) (sym c.in-Message.is))

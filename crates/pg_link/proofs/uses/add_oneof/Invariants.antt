@@ -6,4 +6,4 @@ use Rattle.pg_link.proofs.uses.add_oneof.Given as goal
 
 -- the uses so far, and those of the parts that are left, are those of all
 abbrev pub invariant-loop-part : goal.invariant-loop-part
-invariant-loop-part l = map use_of l.uses.items ++ flat_map (oneof_part_uses (texts l.scope)) (drop l.part-index l.part-items) ≡ map use_of l.fn.uses.items ++ flat_map (oneof_part_uses (texts l.scope)) l.part-items
+invariant-loop-part l = map use_of l.uses.items ++ flat_map (oneof_part_uses (texts l.scope.value.items)) (drop l.part-index l.part-items) ≡ map use_of l.fn.uses.items ++ flat_map (oneof_part_uses (texts l.scope.value.items)) l.part-items

@@ -6,4 +6,4 @@ use Rattle.pg_link.proofs.uses.add_statements.Given as goal
 
 -- the uses so far, and those of the parts that are left, are those of all
 abbrev pub invariant-loop-statement : goal.invariant-loop-statement
-invariant-loop-statement l = map use_of l.uses.items ++ flat_map (statement_uses (texts l.scope)) (drop l.statement-index l.statements) ≡ map use_of l.fn.uses.items ++ flat_map (statement_uses (texts l.scope)) l.statements
+invariant-loop-statement l = map use_of l.uses.items ++ flat_map (statement_uses (texts l.scope.value.items)) (drop l.statement-index l.statements) ≡ map use_of l.fn.uses.items ++ flat_map (statement_uses (texts l.scope.value.items)) l.statements

@@ -1,54 +1,68 @@
-use Rattle.std.proofs.Common.{◌≡◌, ◌∙◌, ◌+◌, ℕ, Bool, List, map, take, drop, sym, ap, subst, arith}
-use Rattle.std.proofs.lemmas.List.{take_all}
+use Rattle.std.proofs.Common.{◌≡◌, ◌∙◌, ℕ, Bool, List, [], ◌∷◌, ◌++◌, length, map, refl, sym, ap, subst, append_assoc, append-nil, arith}
+use Rattle.std.specs.Vec.Iter.{into_iter_items}
 use Rattle.pg_link.specs.declared.declares.DeclaredName as made
 use Rattle.pg_link.specs.Outline.{declared_of, file_names}
 use Rattle.pg_link.specs.Standing.{Adds, AddsAll, Standing, standing, standings}
-use Rattle.pg_link.proofs.StandingLaws.{adds_more, map-twice, one_standing, split_standings, standing_of, stands_twice}
+use Rattle.pg_link.proofs.StandingLaws.{adds_more, map-twice, standing_of, stands_twice}
 use Rattle.pg_link.specs.Walk.{IsPlace}
 use Rattle.pg_link.proofs.index.Index.add_file.Goals as goal
 
+maps_both : {X Y : Type 0} (f : X → Y) (xs ys : List X) → map f (xs ++ ys) ≡ map f xs ++ map f ys
+maps_both f [] ys = refl
+maps_both f (x ∷ xs) ys = ap (λ l. f x ∷ l) (maps_both f xs ys)
+
+none_left : {X : Type 0} (xs : List X) → length xs ≡ 0 → xs ≡ []
+none_left [] is = refl
+none_left (x ∷ xs) is = absurd (omega (arith, is))
+
 pub loop-declared-preserved : goal.loop-declared-preserved
 loop-declared-preserved c =
-    let names : List made.DeclaredName = c.deref-declared-items.result.now in
-    let i : ℕ = c.loop-declared.declared-index in
-    let d : made.DeclaredName = c.declared-item.result in
+    let at = c.loop-declared in
+    let d : made.DeclaredName = c.in-Some.declared in
+    let n : ℕ = c.args.number in
     let old = c.args.self.now in
-    let mid = c.loop-declared.self in
     let new = c.add.new.self in
-    let s : Standing = standing_of c.args.number d in
-    subst (AddsAll old new) (sym (one_standing c.args.number names i d c.loop-declared-test.true c.declared-item.is))
-    (adds_more old mid new (map (standing_of c.args.number) (take i names)) s c.loop-declared.invariant
-    (subst (λ (b : Bool). Adds mid new s b) c.if-not-branch.false c.in_ok-add.ensures))
+    let steps : into_iter_items at.declared-iterator ≡ d ∷ into_iter_items c.next.new.self = c.in-Some.ensures.steps.0 in
+    let was = at.invariant.left in
+    let gone = c.in-Some.ensures.steps.1 in
+    let short = ap length steps in
+    record {
+      whole = append_assoc at.yielded (d ∷ []) _ ∙ rw (← steps) at.invariant.whole;
+      adds = subst (AddsAll old new) (sym (maps_both (standing_of n) at.yielded (d ∷ [])))
+          (adds_more old at.self new (map (standing_of n) at.yielded) (standing_of n d) at.invariant.adds
+          (subst (λ (b : Bool). Adds at.self new (standing_of n d) b) c.if-not-branch.false c.in_ok-add.ensures));
+      left = omega arith;
+    }
 
 pub returns-then-not-branch-clause-twice : goal.returns-then-not-branch-clause-twice
 returns-then-not-branch-clause-twice c =
-    let names : List made.DeclaredName = c.deref-declared-items.result.now in
+    let at = c.loop-declared in
+    let d : made.DeclaredName = c.in-Some.declared in
     let n : ℕ = c.args.number in
-    let i : ℕ = c.loop-declared.declared-index in
-    let d : made.DeclaredName = c.declared-item.result in
     let old = c.args.self.now in
-    let mid = c.loop-declared.self in
     let new = c.add.new.self in
-    let s : Standing = standing_of n d in
-    let front : List Standing = map (standing_of n) (take i names) in
-    let back : List Standing = map (standing_of n) (drop (i + 1) names) in
-    let own : map declared_of names ≡ file_names c.args.file.now.tree = ap (map declared_of) c.deref-declared-items.ensures.value ∙ c.in_ok-names.ensures in (
+    let rest : List made.DeclaredName = into_iter_items c.next.new.self in
+    let names : List made.DeclaredName = c.in_ok-names.names.items in
+    let steps : into_iter_items at.declared-iterator ≡ d ∷ rest = c.in-Some.ensures.steps.0 in
+    let whole : at.yielded ++ d ∷ rest ≡ names = ap (λ l. at.yielded ++ l) (sym steps) ∙ (at.invariant.whole ∙ c.into_iter-declared-iterator.ensures.into_iter_gives.0) in
+    let front : List Standing = map (standing_of n) at.yielded in
+    let back : List Standing = map (standing_of n) rest in (
       front,
       back,
       declared_of d,
-      ap (map (standing n)) (sym own) ∙ (map-twice n names ∙ split_standings n names i d c.loop-declared-test.true c.declared-item.is),
+      ap (map (standing n)) (sym c.in_ok-names.ensures) ∙ (map-twice n names ∙ (ap (map (standing_of n)) (sym whole) ∙ maps_both (standing_of n) at.yielded (d ∷ rest))),
       subst (λ (t : List ℕ). IsPlace c.in_ok-place.place c.args.path.now t d.at) c.deref.ensures.value c.in_ok-place.ensures,
-      stands_twice old mid new front s c.loop-declared.invariant (subst (λ (b : Bool). Adds mid new s b) c.if-not-branch.true c.in_ok-add.ensures),
+      stands_twice old at.self new front (standing_of n d) at.invariant.adds (subst (λ (b : Bool). Adds at.self new (standing_of n d) b) c.if-not-branch.true c.in_ok-add.ensures),
     )
 
 pub returns-clause-holds : goal.returns-clause-holds
 returns-clause-holds c =
-    let names : List made.DeclaredName = c.deref-declared-items.result.now in
+    let at = c.loop-declared in
     let n : ℕ = c.args.number in
-    let i : ℕ = c.loop-declared.declared-index in
-    let old = c.args.self.now in
-    let mid = c.loop-declared.self in
-    let own : map declared_of names ≡ file_names c.args.file.now.tree = ap (map declared_of) c.deref-declared-items.ensures.value ∙ c.in_ok-names.ensures in
-    let whole : map (standing_of n) (take i names) ≡ standings n c.args.file.now.tree =
-    ap (map (standing_of n)) (take_all i names (omega (arith, c.loop-declared-test.false))) ∙ (sym (map-twice n names) ∙ ap (map (standing n)) own) in
-    subst (AddsAll old mid) whole c.loop-declared.invariant
+    let names : List made.DeclaredName = c.in_ok-names.names.items in
+    let none = c.in-None.ensures.steps in
+    let empty : into_iter_items at.declared-iterator ≡ [] = none_left _ (sym at.invariant.left ∙ none.0) in
+    let all : at.yielded ≡ names =
+    sym (append-nil at.yielded) ∙ (ap (λ l. at.yielded ++ l) (sym empty) ∙ (at.invariant.whole ∙ c.into_iter-declared-iterator.ensures.into_iter_gives.0)) in
+    subst (AddsAll c.args.self.now at.self)
+    (ap (map (standing_of n)) all ∙ (sym (map-twice n names) ∙ ap (map (standing n)) c.in_ok-names.ensures)) at.invariant.adds

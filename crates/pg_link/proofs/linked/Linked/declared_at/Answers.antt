@@ -3,6 +3,7 @@ use Rattle.std.proofs.lemmas.Option.{slice_get_within}
 use Rattle.std.specs.HashMap.{get_by_text}
 use Rattle.pg_link.specs.declared.index.Index as indexes
 use Rattle.pg_link.specs.declared.names.Named as nameds
+use Rattle.pg_link.specs.Index.{files_of}
 use Rattle.pg_link.specs.Linked.{HasFirst, IsDeclaredAt, IsDeclaredNowhere, IsFirstPlace, LinkedFiles}
 use Rattle.pg_link.specs.Names.{Text}
 use Rattle.pg_link.specs.Walk.{Entry}
@@ -17,7 +18,7 @@ returns-then-is_behind_dot-clause-place c =
     let n : nameds.Named = c.in-Some.named.now in
     let held : get_by_text index.names (string_bytes c.in-Some.name.now) ≡ Some n = c.in-Some.ensures.value in
     let dotted : string_bytes c.in-Some.name.now ≡ 46 ∷ c.args.full_name.now = sym c.as_str.ensures.value ∙ c.is_behind_dot.ensures.only c.if-is_behind_dot.true in
-    if_some (λ (p : Bor Text × ℕ × ℕ). IsFirstPlace es n.files.items n.at p.0.now p.1 p.2) (λ (p : Bor Text × ℕ × ℕ). IsDeclaredAt c.args.self.now.files c.args.full_name.now p.0.now p.1 p.2)
+    if_some (λ (p : Bor Text × ℕ × ℕ). IsFirstPlace es (files_of n) n.at p.0.now p.1 p.2) (λ (p : Bor Text × ℕ × ℕ). IsDeclaredAt c.args.self.now.files c.args.full_name.now p.0.now p.1 p.2)
     c.first_place.result
     (λ p is. subst (λ (l : List Entry). IsDeclaredAt l c.args.full_name.now p.0.now p.1 p.2) same
     (declared_there index es c.args.full_name.now (string_bytes c.in-Some.name.now) n p.0.now p.1 p.2 c.self.invariant.lists held dotted is))
@@ -29,7 +30,7 @@ returns-then-is_behind_dot-clause-absent c =
     let index : indexes.Index = c.self.inside.index in
     let n : nameds.Named = c.in-Some.named.now in
     let held : get_by_text index.names (string_bytes c.in-Some.name.now) ≡ Some n = c.in-Some.ensures.value in
-    if_none (HasFirst es n.files.items → ⊥) (IsDeclaredNowhere c.args.self.now.files c.args.full_name.now) c.first_place.result
+    if_none (HasFirst es (files_of n) → ⊥) (IsDeclaredNowhere c.args.self.now.files c.args.full_name.now) c.first_place.result
     (λ no. absurd (no (has_first index es (string_bytes c.in-Some.name.now) n c.self.invariant.lists held))) c.first_place.ensures.absent
 
 pub returns-clause-absent : goal.returns-clause-absent
