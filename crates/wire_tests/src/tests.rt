@@ -1,35 +1,60 @@
 use pg_wire::{
     Records, WireError, WireType, read_varint, tag_len, unzigzag, varint_len, write_varint, zigzag,
 };
+use std::process::Abort;
+
+fn reads(rt: &impl Abort, bytes: &[u8], wanted: Result<(u64, usize), WireError>) {
+    assert_eq!(rt;
+        read_varint(bytes),
+        wanted,
+        "read_varint of {} bytes",
+        bytes.len()
+    );
+}
 
 // The values of the public encoding guide, and the edges of ten bytes.
 #[test]
 fn varints(rt: HostRuntime) {
-    assert_eq!(rt; read_varint(b"\x96\x01"), Ok((150, 2)));
-    assert_eq!(rt; read_varint(b"\x01\xff"), Ok((1, 1)));
-    let below_zero = b"\xfe\xff\xff\xff\xff\xff\xff\xff\xff\x01";
-    assert_eq!(rt; read_varint(below_zero), Ok((u64::MAX - 1, 10)));
-    let nine = b"\x80\x80\x80\x80\x80\x80\x80\x80\x80";
-    assert_eq!(rt; read_varint(nine), Err(WireError::Truncated { at: 0 }));
-    let ten = b"\x80\x80\x80\x80\x80\x80\x80\x80\x80\x80";
-    assert_eq!(rt; read_varint(ten), Err(WireError::VarintTooLong { at: 0 }));
-    let eleven = b"\x80\x80\x80\x80\x80\x80\x80\x80\x80\x80\x01";
-    assert_eq!(rt;
-        read_varint(eleven),
-        Err(WireError::VarintTooLong { at: 0 })
-    );
-    let dropped = b"\x88\x80\x80\x80\x80\x80\x80\x80\x80\x7e";
-    assert_eq!(rt; read_varint(dropped), Ok((8, 10)));
+    for (bytes, wanted) in [
+        (b"\x96\x01".as_slice(), Ok((150, 2))),
+        (b"\x01\xff", Ok((1, 1))),
+        (
+            b"\xfe\xff\xff\xff\xff\xff\xff\xff\xff\x01",
+            Ok((u64::MAX - 1, 10)),
+        ),
+        (
+            b"\x80\x80\x80\x80\x80\x80\x80\x80\x80",
+            Err(WireError::Truncated { at: 0 }),
+        ),
+        (
+            b"\x80\x80\x80\x80\x80\x80\x80\x80\x80\x80",
+            Err(WireError::VarintTooLong { at: 0 }),
+        ),
+        (
+            b"\x80\x80\x80\x80\x80\x80\x80\x80\x80\x80\x01",
+            Err(WireError::VarintTooLong { at: 0 }),
+        ),
+        (b"\x88\x80\x80\x80\x80\x80\x80\x80\x80\x7e", Ok((8, 10))),
+    ] {
+        reads(&rt, bytes, wanted);
+    }
+}
 
+#[test]
+fn written_varints(rt: HostRuntime) {
     let mut out = [0xaa; 10];
     assert_eq!(rt; write_varint(150, &mut out), 2);
     assert_eq!(rt;
         out,
         [0x96, 0x01, 0xaa, 0xaa, 0xaa, 0xaa, 0xaa, 0xaa, 0xaa, 0xaa]
     );
-    assert_eq!(rt; varint_len(127), 1);
-    assert_eq!(rt; varint_len(128), 2);
-    assert_eq!(rt; varint_len(u64::MAX), 10);
+}
+
+#[test]
+fn lengths(rt: HostRuntime) {
+    for (value, wanted) in [(127, 1), (128, 2), (u64::MAX, 10)] {
+        assert_eq!(rt; varint_len(value), wanted);
+    }
     assert_eq!(rt; tag_len(15), 1);
     assert_eq!(rt; tag_len(16), 2);
     assert_eq!(rt; tag_len(536_870_911), 5);
@@ -82,6 +107,11 @@ fn fault_of(bytes: &[u8]) -> Option<WireError> {
     }
 }
 
+// The first record has that fault, or none.
+fn faults(rt: &impl Abort, bytes: &[u8], wanted: Option<WireError>) {
+    assert_eq!(rt; fault_of(bytes), wanted);
+}
+
 #[test]
 fn tags(rt: HostRuntime) {
     for (bytes, fault) in [
@@ -98,12 +128,12 @@ fn tags(rt: HostRuntime) {
         // 2^32 - 1, of wire type 7
         (b"\xff\xff\xff\xff\x0f", WireError::BadWireType { at: 0 }),
     ] {
-        assert_eq!(rt; fault_of(bytes), Some(fault));
+        faults(&rt, bytes, Some(fault));
     }
     // the highest number, and a tag of ten bytes with bits above 64
-    assert_eq!(rt; fault_of(b"\xf8\xff\xff\xff\x0f\x02"), None);
+    faults(&rt, b"\xf8\xff\xff\xff\x0f\x02", None);
     let long = b"\x88\x80\x80\x80\x80\x80\x80\x80\x80\x7e\x05";
-    assert_eq!(rt; fault_of(long), None);
+    faults(&rt, long, None);
 }
 
 #[test]
@@ -112,19 +142,17 @@ fn top_bits(rt: HostRuntime) {
     let eleven = b"\x08\x80\x80\x80\x80\x80\x80\x80\x80\x80\x80\x80";
     let too_long = Some(WireError::VarintTooLong { at: 0 });
     let truncated = Some(WireError::Truncated { at: 0 });
-    assert_eq!(rt; fault_of(&eleven[1..10]), truncated);
-    assert_eq!(rt; fault_of(&eleven[1..11]), too_long);
-    assert_eq!(rt; fault_of(&eleven[1..]), too_long);
-    assert_eq!(rt; fault_of(&eleven[..10]), truncated);
-    assert_eq!(rt; fault_of(&eleven[..11]), too_long);
-    assert_eq!(rt; fault_of(eleven), too_long);
-    assert_eq!(rt;
-        fault_of(b"\x0a\x80\x80\x80\x80\x80\x80\x80\x80\x80"),
-        truncated
-    );
-    assert_eq!(rt;
-        fault_of(b"\x0a\x80\x80\x80\x80\x80\x80\x80\x80\x80\x80"),
-        too_long
+    faults(&rt, &eleven[1..10], truncated);
+    faults(&rt, &eleven[1..11], too_long);
+    faults(&rt, &eleven[1..], too_long);
+    faults(&rt, &eleven[..10], truncated);
+    faults(&rt, &eleven[..11], too_long);
+    faults(&rt, eleven, too_long);
+    faults(&rt, b"\x0a\x80\x80\x80\x80\x80\x80\x80\x80\x80", truncated);
+    faults(
+        &rt,
+        b"\x0a\x80\x80\x80\x80\x80\x80\x80\x80\x80\x80",
+        too_long,
     );
 }
 
@@ -140,12 +168,12 @@ fn ends(rt: HostRuntime) {
         b"\x09\x01\x02\x03\x04\x05\x06\x07",
         b"\x0d\x01\x02\x03",
     ] {
-        assert_eq!(rt; fault_of(bytes), truncated);
+        faults(&rt, bytes, truncated);
     }
-    assert_eq!(rt; fault_of(b"\x0a\x01a"), None);
-    assert_eq!(rt; fault_of(b"\x0a\x00"), None);
-    assert_eq!(rt; fault_of(b"\x09\x01\x02\x03\x04\x05\x06\x07\x08"), None);
-    assert_eq!(rt; fault_of(b"\x0d\x01\x02\x03\x04"), None);
+    faults(&rt, b"\x0a\x01a", None);
+    faults(&rt, b"\x0a\x00", None);
+    faults(&rt, b"\x09\x01\x02\x03\x04\x05\x06\x07\x08", None);
+    faults(&rt, b"\x0d\x01\x02\x03\x04", None);
     assert!(rt; Records::new(b"").next().is_none());
 }
 
