@@ -16,9 +16,7 @@ use crate::error::CertError;
 use crate::laws::{covers_without_fault, verdicts_are_true, witness_faults_are_real};
 use crate::verdict::Verdict;
 use crate::witness::check_witness;
-use pg_pairs::{
-    Choice, Numbers, Pair, Table, children, numbers_are_alike, numbers_sight, options,
-};
+use pg_pairs::{Choice, Numbers, Pair, Table, children, numbers_are_alike, numbers_sight, options};
 use pg_schema::Schema;
 use std::alloc::{AllocError, Global};
 

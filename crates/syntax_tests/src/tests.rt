@@ -1,5 +1,5 @@
 use pg_lex::{LexError, lex};
-use pg_syntax::tree::{FileTree, Label, Part, ServicePart, Statement};
+use pg_syntax::tree::{Field, FileTree, Label, Message, Part, ServicePart, Statement};
 use pg_syntax::{SyntaxError, parse};
 use std::alloc::Global;
 use std::process::Abort;
@@ -21,36 +21,53 @@ fn second_line(alloc: Global, line: &str) -> Result<Result<FileTree, SyntaxError
     parsed(alloc, text.as_str())
 }
 
+static NO_PROTO3: [(&str, SyntaxError); 11] = [
+    ("", SyntaxError::NotProto3 { at: 0 }),
+    ("  \n", SyntaxError::NotProto3 { at: 3 }),
+    ("\u{FEFF}", SyntaxError::NotProto3 { at: 3 }),
+    ("\n message M { }", SyntaxError::NotProto3 { at: 2 }),
+    ("syntax = \"proto2\";", SyntaxError::NotProto3 { at: 0 }),
+    ("syntax \"proto3\";", SyntaxError::NotProto3 { at: 0 }),
+    ("syntax = proto3;", SyntaxError::NotProto3 { at: 0 }),
+    ("syntax", SyntaxError::NotProto3 { at: 0 }),
+    (
+        "syntax = \"proto3\" message M { }",
+        SyntaxError::Unexpected { at: 18 },
+    ),
+    ("syntax = \"proto3\" )", SyntaxError::Unexpected { at: 18 }),
+    ("syntax = \"proto3\"", SyntaxError::Unexpected { at: 17 }),
+];
+
+/// Expects that the text is refused for this fault, or taken.
+fn ends_so<R: Abort + AllocGlobal>(
+    rt: &R,
+    text: &str,
+    fault: Option<SyntaxError>,
+) -> Result<(), Fail> {
+    let found = parsed(rt.alloc(), text)?.err();
+    assert_eq!(rt; found, fault, "{text}");
+    Ok(())
+}
+
 #[test]
 fn the_first_statement_says_proto3(rt: HostRuntime) -> Result<(), Fail> {
-    for (text, fault) in [
-        ("", SyntaxError::NotProto3 { at: 0 }),
-        ("  \n", SyntaxError::NotProto3 { at: 3 }),
-        ("\u{FEFF}", SyntaxError::NotProto3 { at: 3 }),
-        ("\n message M { }", SyntaxError::NotProto3 { at: 2 }),
-        ("syntax = \"proto2\";", SyntaxError::NotProto3 { at: 0 }),
-        ("syntax \"proto3\";", SyntaxError::NotProto3 { at: 0 }),
-        ("syntax = proto3;", SyntaxError::NotProto3 { at: 0 }),
-        ("syntax", SyntaxError::NotProto3 { at: 0 }),
-        (
-            "syntax = \"proto3\" message M { }",
-            SyntaxError::Unexpected { at: 18 },
-        ),
-        ("syntax = \"proto3\" )", SyntaxError::Unexpected { at: 18 }),
-        ("syntax = \"proto3\"", SyntaxError::Unexpected { at: 17 }),
-    ] {
-        assert_eq!(rt; parsed(rt.alloc(), text)?.err(), Some(fault), "{text}");
+    for (text, fault) in &NO_PROTO3 {
+        ends_so(&rt, text, Some(*fault))?;
     }
-    assert_eq!(rt;
-        parsed(rt.alloc(), "syntax = \"pro\" 'to3';")?.is_ok(),
-        true
-    );
-    Ok(())
+    ends_so(&rt, "syntax = \"pro\" 'to3';", None)
 }
 
 /// Expects that a text of this second line is refused for this fault.
 fn is_refused<R: Abort + AllocGlobal>(rt: &R, line: &str, fault: SyntaxError) -> Result<(), Fail> {
-    assert_eq!(rt; second_line(rt.alloc(), line)?.err(), Some(fault), "{line}");
+    let found = second_line(rt.alloc(), line)?.err();
+    assert_eq!(rt; found, Some(fault), "{line}");
+    Ok(())
+}
+
+/// Expects that a text of this second line is taken.
+fn is_taken<R: Abort + AllocGlobal>(rt: &R, line: &str) -> Result<(), Fail> {
+    let found = second_line(rt.alloc(), line)?.err();
+    assert_eq!(rt; found, None, "{line}");
     Ok(())
 }
 
@@ -139,7 +156,7 @@ fn words_of_the_grammar_are_names_elsewhere(rt: HostRuntime) -> Result<(), Fail>
         "service service { rpc rpc (returns) returns (rpc); }",
         "package package.package;",
     ] {
-        assert_eq!(rt; second_line(rt.alloc(), line)?.is_ok(), true, "{line}");
+        is_taken(&rt, line)?;
     }
     Ok(())
 }
@@ -153,6 +170,12 @@ fn first_input(file: &FileTree) -> Option<(bool, usize)> {
         return None;
     };
     Some((rpc.input.is_stream, rpc.input.type_name.path.more.len()))
+}
+
+fn has_input<R: Abort + AllocGlobal>(rt: &R, line: &str, input: (bool, usize)) -> Result<(), Fail> {
+    let file = second_line(rt.alloc(), line)?.ok().ok_or("an rpc")?;
+    assert_eq!(rt; first_input(&file), Some(input), "{line}");
+    Ok(())
 }
 
 #[test]
@@ -170,18 +193,10 @@ fn stream_is_a_mark_or_a_type(rt: HostRuntime) -> Result<(), Fail> {
         ("service S { rpc A (stream.X) returns (B); }", (true, 0)),
         ("service S { rpc A (.stream.X) returns (B); }", (false, 1)),
     ] {
-        let file = second_line(rt.alloc(), line)?.ok().ok_or("an rpc")?;
-        assert_eq!(rt; first_input(&file), Some(input), "{line}");
+        has_input(&rt, line, input)?;
     }
-    assert_eq!(rt;
-        second_line(
-            rt.alloc(),
-            "service S { rpc A (stream stream.X) returns (B); }"
-        )?
-        .err(),
-        Some(SyntaxError::Unexpected { at: 18 + 33 })
-    );
-    Ok(())
+    let line = "service S { rpc A (stream stream.X) returns (B); }";
+    is_refused(&rt, line, SyntaxError::Unexpected { at: 18 + 33 })
 }
 
 /// Messages in one another, and in the innermost the body.
@@ -197,13 +212,44 @@ fn nested(alloc: Global, depth: usize, body: &str) -> Result<Result<FileTree, Sy
     parsed(alloc, text.as_str())
 }
 
+fn nests<R: Abort + AllocGlobal>(
+    rt: &R,
+    depth: usize,
+    body: &str,
+    fault: Option<SyntaxError>,
+) -> Result<(), Fail> {
+    let found = nested(rt.alloc(), depth, body)?.err();
+    assert_eq!(rt; found, fault);
+    Ok(())
+}
+
 #[test]
 fn messages_nest_64_deep(rt: HostRuntime) -> Result<(), Fail> {
     let too_deep = Some(SyntaxError::NestedTooDeep { at: 19 + 64 * 11 });
-    assert_eq!(rt; nested(rt.alloc(), 64, "")?.is_ok(), true);
-    assert_eq!(rt; nested(rt.alloc(), 65, "")?.err(), too_deep);
-    assert_eq!(rt; nested(rt.alloc(), 66, "")?.err(), too_deep);
-    assert_eq!(rt; nested(rt.alloc(), 64, "message = 1;")?.err(), too_deep);
+    nests(&rt, 64, "", None)?;
+    nests(&rt, 65, "", too_deep)?;
+    nests(&rt, 66, "", too_deep)?;
+    nests(&rt, 64, "message = 1;", too_deep)
+}
+
+/// Whether the field is `repeated .p.T a = 7` with settings.
+fn is_field(rt: &impl Abort, field: &Field) {
+    assert!(rt; field.label == Some(Label::Repeated));
+    assert!(rt; field.type_name.is_full && field.settings.is_some());
+    assert_eq!(rt; (field.name.text.as_str(), field.number), ("a", 7));
+}
+
+/// Whether the message is `M` over so many bytes, of an empty statement, that field and a reserved range.
+fn is_message(rt: &impl Abort, message: &Message, length: usize) -> Result<(), Fail> {
+    assert_eq!(rt; message.name.text.as_str(), "M");
+    assert_eq!(rt;
+        (message.span.from, message.span.to),
+        (19, length.saturating_add(19))
+    );
+    let [Part::Empty(_), Part::Field(field), Part::Reserved(_)] = message.parts.as_slice() else {
+        return Err("an empty statement, a field and a reserved range".into());
+    };
+    is_field(rt, field);
     Ok(())
 }
 
@@ -215,17 +261,7 @@ fn a_tree_keeps_what_stands_in_the_text(rt: HostRuntime) -> Result<(), Fail> {
     let Some(Statement::Message(message)) = file.statements.first() else {
         return Err("a message".into());
     };
-    assert_eq!(rt; message.name.text.as_str(), "M");
-    assert_eq!(rt; (message.span.from, message.span.to), (19, 19 + line.len()));
-    let [Part::Empty(_), Part::Field(field), Part::Reserved(_)] = message.parts.as_slice() else {
-        return Err("an empty statement, a field and a reserved range".into());
-    };
-    assert_eq!(rt; field.label, Some(Label::Repeated));
-    assert_eq!(rt; field.type_name.is_full, true);
-    assert_eq!(rt; field.name.text.as_str(), "a");
-    assert_eq!(rt; field.number, 7);
-    assert_eq!(rt; field.settings.is_some(), true);
-    Ok(())
+    is_message(&rt, message, line.len())
 }
 
 /// Every statement but a service, one token a word.
@@ -268,20 +304,32 @@ fn starts(alloc: Global, text: &str) -> Result<Vec<usize>, Fail> {
     Ok(starts)
 }
 
+/// What stands before a byte.
+fn front_of(text: &'static str, at: usize) -> Result<&'static str, Fail> {
+    let (front, _) = text.split_at_checked(at).ok_or("a place in the text")?;
+    Ok(front)
+}
+
+/// Expects that a `)` put in at a byte makes the token at that place of the text unexpected.
+fn is_unexpected<R: Abort + AllocGlobal>(
+    rt: &R,
+    text: &str,
+    at: usize,
+    place: usize,
+) -> Result<(), Fail> {
+    let at_fault = SyntaxError::Unexpected {
+        at: place.saturating_add(FIRST_LINE.len()),
+    };
+    let found = with_closing(rt.alloc(), text, at)?.err();
+    assert_eq!(rt; found, Some(at_fault), "at {at}");
+    Ok(())
+}
+
 #[test]
 fn a_closing_parenthesis_is_unexpected_everywhere(rt: HostRuntime) -> Result<(), Fail> {
-    assert_eq!(rt; second_line(rt.alloc(), STATEMENTS)?.is_ok(), true);
+    is_taken(&rt, STATEMENTS)?;
     for at in &starts(rt.alloc(), STATEMENTS)? {
-        let (front, _) = STATEMENTS
-            .split_at_checked(*at)
-            .ok_or("a place in the text")?;
-        let place = 19 + front.len();
-        let fault = with_closing(rt.alloc(), STATEMENTS, *at)?.err();
-        assert_eq!(rt;
-            fault,
-            Some(SyntaxError::Unexpected { at: place }),
-            "at {at}"
-        );
+        is_unexpected(&rt, STATEMENTS, *at, front_of(STATEMENTS, *at)?.len())?;
     }
     Ok(())
 }
@@ -298,16 +346,11 @@ fn ends_a_type(front: &str) -> bool {
 
 #[test]
 fn a_closing_parenthesis_ends_a_type_of_an_rpc_alone(rt: HostRuntime) -> Result<(), Fail> {
-    assert_eq!(rt; second_line(rt.alloc(), SERVICE)?.is_ok(), true);
+    is_taken(&rt, SERVICE)?;
     for at in &starts(rt.alloc(), SERVICE)? {
-        let (front, _) = SERVICE.split_at_checked(*at).ok_or("a place in the text")?;
-        let place = if ends_a_type(front) { *at + 2 } else { *at };
-        let fault = with_closing(rt.alloc(), SERVICE, *at)?.err();
-        assert_eq!(rt;
-            fault,
-            Some(SyntaxError::Unexpected { at: 19 + place }),
-            "at {at}"
-        );
+        let front = front_of(SERVICE, *at)?;
+        let behind = if ends_a_type(front) { 2 } else { 0 };
+        is_unexpected(&rt, SERVICE, *at, front.len().saturating_add(behind))?;
     }
     Ok(())
 }

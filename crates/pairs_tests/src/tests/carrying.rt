@@ -9,7 +9,7 @@ use crate::tests::schemas::{
     Line, child, map, member, optional, repeated, schema, singular, unpacked,
 };
 use crate::tests::tables::{Bounds, NOTHING};
-use pg_dyn::{Message, encode, fits};
+use pg_dyn::{Message, encode};
 use pg_pairs::{Choice, Numbers, carry, cheapest};
 use pg_schema::{Element, Scalar, Schema};
 use std::alloc::Global;
@@ -28,9 +28,8 @@ fn bytes_of(
     if !old.has(FIRST.old) {
         return Err(Fail::from("the old schema has no type"));
     }
-    let message = carry(alloc, &Numbers, old, new, FIRST, choice, child)?.ok_or(
-        "a message of the choice",
-    )?;
+    let message =
+        carry(alloc, &Numbers, old, new, FIRST, choice, child)?.ok_or("a message of the choice")?;
     match encode(alloc, old, &message) {
         Ok(bytes) => Ok(bytes),
         Err(_) => Err(Fail::from("the message has no encoding")),
@@ -188,68 +187,6 @@ fn fields_that_meet(rt: HostRuntime) -> Result<(), Fail> {
         reached(alloc, &stated, &one)?.as_slice(),
         [0x08, 0x00, 0x10, 0x00].as_slice()
     );
-    Ok(())
-}
-
-// Whether no message carries the choice round that child.
-fn is_refused(
-    alloc: Global,
-    old: &Schema,
-    new: &Schema,
-    number: u32,
-    case: u8,
-    child: Option<Message>,
-) -> Result<bool, Fail>
-    requires { IfSome child (Fits (shape_of old.now)) }
-{
-    if !old.has(FIRST.old) {
-        return Err(Fail::from("the old schema has no type"));
-    }
-    let choice = Choice {
-        number,
-        case,
-        part: 2,
-        cost: 2,
-    };
-    Ok(carry(alloc, &Numbers, old, new, FIRST, &choice, child)?.is_none())
-}
-
-// A field that isn't there, an item of a map, a gap where there is none, a missing child and one of another type.
-#[test]
-fn choices_of_no_pair(rt: HostRuntime) -> Result<(), Fail> {
-    use Scalar::{Bool, Int32};
-    let alloc = rt.alloc();
-    let number = Element::Scalar(Int32);
-    let first = [
-        singular(1, Bool),
-        map(2, Int32, number),
-        child(3, 1),
-        map(4, Int32, Element::Message(pg_schema::TypeId { index: 1 })),
-    ];
-    let old = schema(alloc, &[&first, &[singular(1, Bool)]])?;
-    for (number, case) in [
-        (9, 1),
-        (9, 6),
-        (1, 2),
-        (1, 3),
-        (1, 5),
-        (1, 6),
-        (2, 2),
-        (2, 4),
-        (2, 5),
-        (3, 3),
-        (4, 3),
-        (4, 5),
-    ] {
-        assert!(rt; is_refused(alloc, &old, &old, number, case, None)?);
-    }
-    for (number, case) in [(3, 3), (4, 5)] {
-        let other = Message::empty(alloc, FIRST.old);
-        if !fits(&old, &other) {
-            return Err(Fail::from("an empty message fits"));
-        }
-        assert!(rt; is_refused(alloc, &old, &old, number, case, Some(other))?);
-    }
     Ok(())
 }
 
