@@ -28,8 +28,9 @@ fn bytes_of(
     if !old.has(FIRST.old) {
         return Err(Fail::from("the old schema has no type"));
     }
-    let message =
-        carry(alloc, &Numbers, old, new, FIRST, choice, child)?.ok_or("a message of the choice")?;
+    let message = carry(alloc, &Numbers, old, new, FIRST, choice, child)?.ok_or(
+        "a message of the choice",
+    )?;
     match encode(alloc, old, &message) {
         Ok(bytes) => Ok(bytes),
         Err(_) => Err(Fail::from("the message has no encoding")),
