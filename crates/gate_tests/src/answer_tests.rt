@@ -1,5 +1,5 @@
 //! What the gate finds, with the text that it prints.
-use crate::runs::{buffer, file_of, run_on};
+use crate::runs::{WORDS, expect_texts, file_of};
 use std::process::Abort;
 use std::test::Fail;
 
@@ -219,11 +219,7 @@ fn expect<R: Abort + AllocGlobal>(
     text: &str,
     status: u8,
 ) -> Result<(), Fail> {
-    let mut sink = buffer(rt.alloc())?;
-    let ended = run_on(rt.alloc(), old.as_bytes(), new.as_bytes(), &mut sink)?;
-    assert_eq!(rt; ended, status, "status of {text}");
-    assert!(rt; sink.bytes.as_slice() == text.as_bytes(), "text {text}");
-    Ok(())
+    expect_texts(rt, &WORDS, old, new, text, status)
 }
 
 /// Expects the answers on files with these fields.

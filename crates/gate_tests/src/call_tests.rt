@@ -83,56 +83,69 @@ static MINUS_ONE: [u8; 11] = [
     0x08, 0xff, 0xff, 0xff, 0xff, 0xff, 0xff, 0xff, 0xff, 0xff, 0x01,
 ];
 
+/// The answer on schemas of a field of these types.
+fn answer_of(
+    alloc: Global,
+    old: Scalar,
+    new: Scalar,
+    root: &str,
+) -> Result<Result<Answer, GateError>, Fail> {
+    let old = schema_of(alloc, old)?;
+    let new = schema_of(alloc, new)?;
+    Ok(gate(alloc, &old, &new, root))
+}
+
 #[test]
 fn a_gate_answers_one_of_two(rt: HostRuntime) -> Result<(), Fail> {
     let alloc = rt.alloc();
-    let old = schema_of(alloc, Scalar::Int32)?;
-    let new = schema_of(alloc, Scalar::Uint32)?;
-    assert!(rt; breaks(&gate(alloc, &old, &new, "M"), &MINUS_ONE));
-    assert!(rt; is_compatible(&gate(alloc, &old, &old, "M")));
+    let breaking = answer_of(alloc, Scalar::Int32, Scalar::Uint32, "M")?;
+    assert!(rt; breaks(&breaking, &MINUS_ONE));
+    let same = answer_of(alloc, Scalar::Int32, Scalar::Int32, "M")?;
+    assert!(rt; is_compatible(&same));
     Ok(())
 }
 
 #[test]
 fn a_gate_refuses_a_missing_root(rt: HostRuntime) -> Result<(), Fail> {
-    let alloc = rt.alloc();
-    let old = schema_of(alloc, Scalar::Int32)?;
-    let new = schema_of(alloc, Scalar::Uint32)?;
-    assert_eq!(rt;
-        matches!(gate(alloc, &old, &new, "N"), Err(GateError::RootMissingOld)),
-        true
-    );
+    let missing = answer_of(rt.alloc(), Scalar::Int32, Scalar::Uint32, "N")?;
+    assert!(rt; matches!(missing, Err(GateError::RootMissingOld)));
     Ok(())
+}
+
+/// The answer over files that hold the message `M` of these fields.
+fn over_files(
+    alloc: Global,
+    old: &str,
+    new: &str,
+    root: &str,
+) -> Result<Result<Answer, GateError>, AllocError> {
+    let old = file_of(alloc, old)?;
+    let new = file_of(alloc, new)?;
+    let mut old = Listed {
+        files: &[("m.proto", old.as_bytes())],
+    };
+    let mut new = Listed {
+        files: &[("m.proto", new.as_bytes())],
+    };
+    Ok(gate_files(alloc, &mut old, &mut new, &["m.proto"], &["m.proto"], root))
 }
 
 #[test]
 fn a_gate_over_files_answers_one_of_two(rt: HostRuntime) -> Result<(), Fail> {
     let alloc = rt.alloc();
-    let old_text = file_of(alloc, "int32 a = 1;")?;
-    let new_text = file_of(alloc, "uint32 a = 1;")?;
-    let mut old = Listed {
-        files: &[("o.proto", old_text.as_bytes())],
-    };
-    let mut new = Listed {
-        files: &[("n.proto", new_text.as_bytes())],
-    };
-    let answer = gate_files(alloc, &mut old, &mut new, &["o.proto"], &["n.proto"], "M");
-    assert!(rt; breaks(&answer, &MINUS_ONE));
-    let mut same = old;
-    let answer = gate_files(alloc, &mut old, &mut same, &["o.proto"], &["o.proto"], "M");
-    assert!(rt; is_compatible(&answer));
+    assert!(rt;
+        breaks(
+            &over_files(alloc, "int32 a = 1;", "uint32 a = 1;", "M")?,
+            &MINUS_ONE
+        )
+    );
+    assert!(rt; is_compatible(&over_files(alloc, "int32 a = 1;", "int32 a = 1;", "M")?));
     Ok(())
 }
 
 #[test]
 fn a_gate_over_files_refuses_a_missing_root(rt: HostRuntime) -> Result<(), Fail> {
-    let alloc = rt.alloc();
-    let text = file_of(alloc, "int32 a = 1;")?;
-    let mut old = Listed {
-        files: &[("o.proto", text.as_bytes())],
-    };
-    let mut new = old;
-    let missing = gate_files(alloc, &mut old, &mut new, &["o.proto"], &["o.proto"], "N");
-    assert_eq!(rt; matches!(missing, Err(GateError::RootMissingOld)), true);
+    let missing = over_files(rt.alloc(), "int32 a = 1;", "int32 a = 1;", "N")?;
+    assert!(rt; matches!(missing, Err(GateError::RootMissingOld)));
     Ok(())
 }

@@ -1,5 +1,5 @@
 //! The certificates that the gate writes alone.
-use crate::runs::{buffer, file_of, run_certificate, text_of};
+use crate::runs::{CERTIFICATE, expect_texts, file_of, text_of};
 use std::process::Abort;
 use std::test::Fail;
 
@@ -11,11 +11,7 @@ fn expect<R: Abort + AllocGlobal>(
     text: &str,
     status: u8,
 ) -> Result<(), Fail> {
-    let mut sink = buffer(rt.alloc())?;
-    let ended = run_certificate(rt.alloc(), old.as_bytes(), new.as_bytes(), &mut sink)?;
-    assert_eq!(rt; ended, status, "status of {text}");
-    assert!(rt; sink.bytes.as_slice() == text.as_bytes(), "text {text}");
-    Ok(())
+    expect_texts(rt, &CERTIFICATE, old, new, text, status)
 }
 
 static OF_A_BREAK: &str = "protogate-certificate 1

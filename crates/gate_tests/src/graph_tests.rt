@@ -1,5 +1,5 @@
 //! Types that hold messages, and themselves.
-use crate::runs::{buffer, run_certificate, run_on, text_of};
+use crate::runs::{CERTIFICATE, WORDS, expect_texts, printed, text_of};
 use std::alloc::{AllocError, Global};
 use std::process::Abort;
 use std::test::Fail;
@@ -14,11 +14,7 @@ fn expect<R: Abort + AllocGlobal>(
 ) -> Result<(), Fail> {
     let old = text_of(rt.alloc(), old)?;
     let new = text_of(rt.alloc(), new)?;
-    let mut sink = buffer(rt.alloc())?;
-    let ended = run_on(rt.alloc(), old.as_bytes(), new.as_bytes(), &mut sink)?;
-    assert_eq!(rt; ended, status, "status of {text}");
-    assert!(rt; sink.bytes.as_slice() == text.as_bytes(), "text {text}");
-    Ok(())
+    expect_texts(rt, &WORDS, &old, &new, text, status)
 }
 
 /// The second lines of the old and the new text, the printed text and the status.
@@ -90,24 +86,24 @@ fn chain(alloc: Global, scalar: &str) -> Result<String, AllocError> {
     Ok(text)
 }
 
+fn is_of_a_chain(rt: &impl Abort, text: &str) {
+    assert_eq!(rt; text.matches("pair ").count(), 63);
+    assert!(rt; text.contains("\npair M M 131\npair C61 C61 128\npair C60 C60 126\n"));
+    assert!(rt; text.contains("\npair C0 C0 6\nwitness 0a80010a7e0a7c"));
+}
+
 /// From a length of 128 on a child's length takes two bytes.
 #[test]
 fn counts_the_lengths_of_children(rt: HostRuntime) -> Result<(), Fail> {
     let old = chain(rt.alloc(), "uint32")?;
     let new = chain(rt.alloc(), "int32")?;
-    let mut sink = buffer(rt.alloc())?;
-    let ended = run_on(rt.alloc(), old.as_bytes(), new.as_bytes(), &mut sink)?;
+    let old = [("o.proto", old.as_bytes())];
+    let new = [("n.proto", new.as_bytes())];
+    let (ended, text) = printed(rt.alloc(), &WORDS, &old, &new)?;
     assert_eq!(rt; ended, 1);
-    assert!(rt;
-        sink.bytes
-            .starts_with(b"breaks M 131\nwitness 0a80010a7e0a7c")
-    );
-    let mut sink = buffer(rt.alloc())?;
-    let ended = run_certificate(rt.alloc(), old.as_bytes(), new.as_bytes(), &mut sink)?;
+    assert!(rt; text.starts_with(b"breaks M 131\nwitness 0a80010a7e0a7c"));
+    let (ended, certificate) = printed(rt.alloc(), &CERTIFICATE, &old, &new)?;
     assert_eq!(rt; ended, 1);
-    let text = std::str::from_utf8(&sink.bytes)?;
-    assert_eq!(rt; text.matches("pair ").count(), 63);
-    assert!(rt; text.contains("\npair M M 131\npair C61 C61 128\npair C60 C60 126\n"));
-    assert!(rt; text.contains("\npair C0 C0 6\nwitness 0a80010a7e0a7c"));
+    is_of_a_chain(&rt, std::str::from_utf8(&certificate)?);
     Ok(())
 }

@@ -4,9 +4,13 @@
 #[cfg(test)]
 mod answer_tests;
 #[cfg(test)]
+mod both_tests;
+#[cfg(test)]
 mod call_tests;
 #[cfg(test)]
 mod certificate_tests;
+#[cfg(test)]
+mod compile_tests;
 mod failing_sink;
 mod failing_source;
 #[cfg(test)]
@@ -20,6 +24,8 @@ mod refusal_tests;
 mod rule_tests;
 #[cfg(test)]
 mod runs;
+#[cfg(test)]
+mod show_tests;
 #[cfg(test)]
 mod sink_tests;
 #[cfg(test)]

@@ -1,28 +1,24 @@
 //! Files that import others, and the names in them.
 use crate::FailingSource;
-use crate::runs::buffer;
-use pg_gate::{Sources, run};
+use crate::runs::{Files, expect_over};
 use pg_link::Listed;
 use std::process::Abort;
 use std::test::Fail;
 
-/// Runs the gate on the file `a.proto` of both sides, and expects this text and status.
-fn expect<R: Abort + AllocGlobal, S: Sources, T: Sources>(
+/// Runs the gate on the file `a.proto` of both sides, which have these files, and expects this text and status.
+fn expect<R: Abort + AllocGlobal>(
     rt: &R,
     root: &str,
-    old: &mut S,
-    new: &mut T,
+    files: Files,
     text: &str,
     status: u8,
 ) -> Result<(), Fail> {
     let words = [
         "gate", "--old", "a.proto", "--new", "a.proto", "--type", root,
     ];
-    let mut sink = buffer(rt.alloc())?;
-    let ended = run(rt.alloc(), &words, old, new, &mut sink)?;
-    assert_eq!(rt; ended, status, "status of {text}");
-    assert!(rt; sink.bytes.as_slice() == text.as_bytes(), "text {text}");
-    Ok(())
+    let mut old = Listed { files };
+    let mut new = old;
+    expect_over(rt, &words, &mut old, &mut new, text, status)
 }
 
 /// The same of one file on both sides.
@@ -33,11 +29,7 @@ fn answer_of<R: Abort + AllocGlobal>(
     text: &str,
     status: u8,
 ) -> Result<(), Fail> {
-    let mut old = Listed {
-        files: &[("a.proto", file)],
-    };
-    let mut new = old;
-    expect(rt, root, &mut old, &mut new, text, status)
+    expect(rt, root, &[("a.proto", file)], text, status)
 }
 
 /// The same of three files.
@@ -48,11 +40,8 @@ fn answer_of_three<R: Abort + AllocGlobal>(
     status: u8,
 ) -> Result<(), Fail> {
     let [a, b, c] = texts;
-    let mut old = Listed {
-        files: &[("a.proto", a), ("b.proto", b), ("c.proto", c)],
-    };
-    let mut new = old;
-    expect(rt, "M", &mut old, &mut new, text, status)
+    let files = [("a.proto", a), ("b.proto", b), ("c.proto", c)];
+    expect(rt, "M", &files, text, status)
 }
 
 #[test]
@@ -236,12 +225,9 @@ fn tells_a_source_that_fails_at_an_import(rt: HostRuntime) -> Result<(), Fail> {
     };
     let mut failing = FailingSource::new(files, 2);
     let mut sound = files;
-    expect(
-        &rt,
-        "M",
-        &mut failing,
-        &mut sound,
-        "refused old E309 b.proto\n",
-        3,
-    )
+    let words = [
+        "gate", "--old", "a.proto", "--new", "a.proto", "--type", "M",
+    ];
+    let refused = "refused old E309 b.proto\n";
+    expect_over(&rt, &words, &mut failing, &mut sound, refused, 3)
 }

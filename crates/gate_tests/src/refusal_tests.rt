@@ -1,7 +1,6 @@
 //! Texts that are refused, and words that are no call.
 use crate::FailingSource;
-use crate::runs::{WORDS, buffer, run_on};
-use pg_gate::{Sources, run};
+use crate::runs::{WORDS, expect_files, expect_over, printed, says_usage};
 use pg_link::Listed;
 use std::process::Abort;
 use std::test::Fail;
@@ -70,36 +69,32 @@ static FAULTS: [(&str, &str); 22] = [
     ),
 ];
 
-fn expect<R: Abort + AllocGlobal, S: Sources, T: Sources>(
+static FILE: [&str; 7] = ["gate", "--old", "m", "--new", "m", "--type", "M"];
+
+/// Expects a refusal of the file `m`, of these texts on the two sides.
+fn refuses<R: Abort + AllocGlobal>(
     rt: &R,
-    words: &[&str],
-    old: &mut S,
-    new: &mut T,
-    text: &str,
-    status: u8,
+    old: &[u8],
+    new: &[u8],
+    refused: &str,
 ) -> Result<(), Fail> {
-    let mut sink = buffer(rt.alloc())?;
-    let ended = run(rt.alloc(), words, old, new, &mut sink)?;
-    assert_eq!(rt; ended, status, "status of {text}");
-    assert!(rt; sink.bytes.as_slice() == text.as_bytes(), "text {text}");
-    Ok(())
+    let old = [("m", old)];
+    let new = [("m", new)];
+    expect_files(rt, &FILE, &old, &new, refused, 2)
 }
 
-static FILE: [&str; 7] = ["gate", "--old", "m", "--new", "m", "--type", "M"];
+/// Expects the fault to be told of either side.
+fn tells_of_either<R: Abort + AllocGlobal>(rt: &R, text: &str, place: &str) -> Result<(), Fail> {
+    let of_old = format!(in rt.alloc(); "refused old {place}\n")?;
+    refuses(rt, text.as_bytes(), ONE, &of_old)?;
+    let of_new = format!(in rt.alloc(); "refused new {place}\n")?;
+    refuses(rt, ONE, text.as_bytes(), &of_new)
+}
 
 #[test]
 fn tells_the_place_of_a_fault(rt: HostRuntime) -> Result<(), Fail> {
     for (text, place) in FAULTS {
-        let mut faulty = Listed {
-            files: &[("m", text.as_bytes())],
-        };
-        let mut sound = Listed {
-            files: &[("m", ONE)],
-        };
-        let refused = format!(in rt.alloc(); "refused old {place}\n")?;
-        expect(&rt, &FILE, &mut faulty, &mut sound, &refused, 2)?;
-        let refused = format!(in rt.alloc(); "refused new {place}\n")?;
-        expect(&rt, &FILE, &mut sound, &mut faulty, &refused, 2)?;
+        tells_of_either(&rt, text, place)?;
     }
     Ok(())
 }
@@ -110,56 +105,16 @@ fn tells_the_place_of_a_fault(rt: HostRuntime) -> Result<(), Fail> {
 fn tells_names_before_numbers(rt: HostRuntime) -> Result<(), Fail> {
     let text =
         b"syntax = \"proto3\";\nmessage M { int32 a = 0; }\nmessage N { bool b = 1; bool b = 2; }\n";
-    let mut old = Listed {
-        files: &[("m", text.as_slice())],
-    };
-    let mut new = Listed {
-        files: &[("m", ONE)],
-    };
-    expect(
-        &rt,
-        &FILE,
-        &mut old,
-        &mut new,
-        "refused old E304 m:3:30\n",
-        2,
-    )
+    refuses(&rt, text.as_slice(), ONE, "refused old E304 m:3:30\n")
 }
 
 #[test]
 fn tells_the_old_side_first(rt: HostRuntime) -> Result<(), Fail> {
-    let mut old = Listed {
-        files: &[("o.proto", ONE)],
-    };
-    let mut new = Listed {
-        files: &[("n.proto", ONE)],
-    };
-    let mut none = Listed { files: &[] };
-    expect(
-        &rt,
-        &WORDS,
-        &mut none,
-        &mut new,
-        "refused old E301 o.proto\n",
-        2,
-    )?;
-    expect(
-        &rt,
-        &WORDS,
-        &mut old,
-        &mut none,
-        "refused new E301 n.proto\n",
-        2,
-    )?;
-    let mut lacking = Listed { files: &[] };
-    expect(
-        &rt,
-        &WORDS,
-        &mut none,
-        &mut lacking,
-        "refused old E301 o.proto\n",
-        2,
-    )
+    let old = [("o.proto", ONE)];
+    let new = [("n.proto", ONE)];
+    expect_files(&rt, &WORDS, &[], &new, "refused old E301 o.proto\n", 2)?;
+    expect_files(&rt, &WORDS, &old, &[], "refused new E301 n.proto\n", 2)?;
+    expect_files(&rt, &WORDS, &[], &[], "refused old E301 o.proto\n", 2)
 }
 
 /// A source is asked for the file in the folder; a refusal names the file alone.
@@ -177,57 +132,47 @@ fn asks_for_files_in_their_folder(rt: HostRuntime) -> Result<(), Fail> {
         "--type",
         "M",
     ];
-    let mut files = Listed {
-        files: &[("a/m", ONE), ("b/m", ONE)],
-    };
-    let mut more = files;
-    expect(&rt, &words, &mut files, &mut more, "compatible M\n", 0)?;
-    let mut here = Listed {
-        files: &[("m", ONE)],
-    };
-    expect(&rt, &words, &mut here, &mut more, "refused old E301 m\n", 2)
+    let both = [("a/m", ONE), ("b/m", ONE)];
+    expect_files(&rt, &words, &both, &both, "compatible M\n", 0)?;
+    let here = [("m", ONE)];
+    expect_files(&rt, &words, &here, &both, "refused old E301 m\n", 2)
 }
 
 #[test]
-fn refuses_a_source_that_fails(rt: HostRuntime) -> Result<(), Fail> {
+fn refuses_an_old_source_that_fails(rt: HostRuntime) -> Result<(), Fail> {
     let old = Listed {
+        files: &[("o.proto", ONE)],
+    };
+    let mut sound = Listed {
+        files: &[("n.proto", ONE)],
+    };
+    let mut failing = FailingSource::new(old, 1);
+    let refused = "refused old E309 o.proto\n";
+    expect_over(&rt, &WORDS, &mut failing, &mut sound, refused, 3)
+}
+
+#[test]
+fn refuses_a_new_source_that_fails(rt: HostRuntime) -> Result<(), Fail> {
+    let mut sound = Listed {
         files: &[("o.proto", ONE)],
     };
     let new = Listed {
         files: &[("n.proto", ONE)],
     };
-    let mut failing = FailingSource::new(old, 1);
-    let mut sound = new;
-    expect(
-        &rt,
-        &WORDS,
-        &mut failing,
-        &mut sound,
-        "refused old E309 o.proto\n",
-        3,
-    )?;
     let mut failing = FailingSource::new(new, 1);
-    let mut sound = old;
-    expect(
-        &rt,
-        &WORDS,
-        &mut sound,
-        &mut failing,
-        "refused new E309 n.proto\n",
-        3,
-    )
+    let refused = "refused new E309 n.proto\n";
+    expect_over(&rt, &WORDS, &mut sound, &mut failing, refused, 3)
 }
 
 /// Words that are no call.
-static USAGE: [&[&str]; 16] = [
+static USAGE: [&[&str]; 15] = [
     &[],
     &["help"],
     &["--help"],
     &["gate", "--help"],
     &["gate"],
     &["relay"],
-    &["compile", "m.proto"],
-    &["show", "--file", "m", "--type", "M", "-"],
+    &["compile", "--dir", "d"],
     &["gate", "--old", "m", "--new", "m"],
     &["gate", "--old", "m", "--type", "M"],
     &[
@@ -247,48 +192,32 @@ static USAGE: [&[&str]; 16] = [
         "M",
         "--cert=true",
     ],
-    &["gate", "--old", "m", "--new", "m", "--type", "M", "--both"],
+    &[
+        "gate", "--old", "m", "--new", "m", "--type", "M", "--both", "--both",
+    ],
     &["gate", "--old", "m", "--new", "m", "--type", "M", "m"],
 ];
 
 #[test]
 fn ends_with_usage(rt: HostRuntime) -> Result<(), Fail> {
+    let files = [("m", ONE)];
     for words in USAGE {
-        let mut old = Listed {
-            files: &[("m", ONE)],
-        };
-        let mut new = old;
-        let mut sink = buffer(rt.alloc())?;
-        let ended = run(rt.alloc(), words, &mut old, &mut new, &mut sink)?;
+        let (ended, text) = printed(rt.alloc(), words, &files, &files)?;
         assert_eq!(rt; ended, 4);
-        assert!(rt; !sink.bytes.is_empty());
+        assert!(rt; !text.is_empty());
     }
     Ok(())
 }
 
-/// What the program prints of these words, on sources without files.
-fn printed_of<R: Abort + AllocGlobal>(rt: &R, words: &[&str]) -> Result<String, Fail> {
-    let mut old = Listed { files: &[] };
-    let mut new = old;
-    let mut sink = buffer(rt.alloc())?;
-    run(rt.alloc(), words, &mut old, &mut new, &mut sink)?;
-    Ok(String::from_str(rt.alloc(), std::str::from_utf8(&sink.bytes)?)?)
-}
-
 #[test]
 fn names_what_is_missing(rt: HostRuntime) -> Result<(), Fail> {
-    let printed = printed_of(&rt, &["gate", "--old", "m", "--new", "m"])?;
-    assert!(rt; printed.contains("--type <NAME>"), "{printed}");
-    let printed = printed_of(&rt, &["--help"])?;
-    assert!(rt;
-        printed.contains("Find whether a reader of the new type"),
-        "{printed}"
-    );
-    Ok(())
+    let words = ["gate", "--old", "m", "--new", "m"];
+    says_usage(&rt, &words, "--type <NAME>")?;
+    says_usage(&rt, &["--help"], "Find whether a reader of the new type")
 }
 
 /// Help names the subcommand, its options and each status.
-static HELP: [&str; 12] = [
+static HELP: [&str; 13] = [
     "gate",
     "--old-dir",
     "--new-dir",
@@ -296,6 +225,7 @@ static HELP: [&str; 12] = [
     "--new ",
     "--type",
     "--cert",
+    "--both",
     "  0  ",
     "  1  ",
     "  2  ",
@@ -305,19 +235,8 @@ static HELP: [&str; 12] = [
 
 #[test]
 fn helps(rt: HostRuntime) -> Result<(), Fail> {
-    let mut old = Listed { files: &[] };
-    let mut new = old;
-    let mut sink = buffer(rt.alloc())?;
-    run(
-        rt.alloc(),
-        &["gate", "--help"],
-        &mut old,
-        &mut new,
-        &mut sink,
-    )?;
-    let printed = std::str::from_utf8(&sink.bytes)?;
     for part in HELP {
-        assert!(rt; printed.contains(part), "{part} in {printed}");
+        says_usage(&rt, &["gate", "--help"], part)?;
     }
     Ok(())
 }

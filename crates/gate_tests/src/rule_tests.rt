@@ -1,7 +1,5 @@
 //! The rules of the language: what is refused for them, and what is taken.
-use crate::runs::{buffer, file_of, run_missing, run_on, text_of};
-use pg_gate::run;
-use pg_link::Listed;
+use crate::runs::{MISSING, WORDS, expect_files, expect_texts, file_of, text_of};
 use std::alloc::{AllocError, Global};
 use std::process::Abort;
 use std::test::Fail;
@@ -17,14 +15,7 @@ fn answer_of<R: Abort + AllocGlobal>(
     printed: &str,
     status: u8,
 ) -> Result<(), Fail> {
-    let mut sink = buffer(rt.alloc())?;
-    let ended = run_on(rt.alloc(), old.as_bytes(), new.as_bytes(), &mut sink)?;
-    assert_eq!(rt; ended, status, "status of {printed}");
-    assert!(rt;
-        sink.bytes.as_slice() == printed.as_bytes(),
-        "text {printed}"
-    );
-    Ok(())
+    expect_texts(rt, &WORDS, old, new, printed, status)
 }
 
 /// The fields of `M`, and what the old text is refused for.
@@ -108,13 +99,7 @@ static TAKEN: [&str; 22] = [
 fn takes_all_that_keeps_the_rules(rt: HostRuntime) -> Result<(), Fail> {
     for line in TAKEN {
         let text = text_of(rt.alloc(), line)?;
-        let mut sink = buffer(rt.alloc())?;
-        let ended = run_missing(rt.alloc(), text.as_bytes(), ONE.as_bytes(), &mut sink)?;
-        assert_eq!(rt; ended, 2, "status of {line}");
-        assert!(rt;
-            sink.bytes.as_slice() == b"refused E901\n".as_slice(),
-            "{line}"
-        );
+        expect_texts(&rt, &MISSING, &text, ONE, "refused E901\n", 2)?;
     }
     Ok(())
 }
@@ -147,11 +132,6 @@ fn tells_broken_rules_of_imports_first(rt: HostRuntime) -> Result<(), Fail> {
     let words = [
         "gate", "--old", "a.proto", "--new", "a.proto", "--type", "M",
     ];
-    let mut old = Listed { files: &IMPORTED };
-    let mut new = old;
-    let mut sink = buffer(rt.alloc())?;
-    let ended = run(rt.alloc(), &words, &mut old, &mut new, &mut sink)?;
-    assert_eq!(rt; ended, 2);
-    assert!(rt; sink.bytes.as_slice() == b"refused old E414 b.proto:3:6\n".as_slice());
-    Ok(())
+    let refused = "refused old E414 b.proto:3:6\n";
+    expect_files(&rt, &words, &IMPORTED, &IMPORTED, refused, 2)
 }

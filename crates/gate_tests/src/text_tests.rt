@@ -1,5 +1,5 @@
 //! What the whole grammar takes and refuses.
-use crate::runs::{buffer, run_on, text_of};
+use crate::runs::{WORDS, expect_files, text_of};
 use std::process::Abort;
 use std::test::Fail;
 
@@ -14,14 +14,9 @@ fn answer_of<R: Abort + AllocGlobal>(
     printed: &str,
     status: u8,
 ) -> Result<(), Fail> {
-    let mut sink = buffer(rt.alloc())?;
-    let ended = run_on(rt.alloc(), old, new, &mut sink)?;
-    assert_eq!(rt; ended, status, "status of {printed}");
-    assert!(rt;
-        sink.bytes.as_slice() == printed.as_bytes(),
-        "text {printed}"
-    );
-    Ok(())
+    let old = [("o.proto", old)];
+    let new = [("n.proto", new)];
+    expect_files(rt, &WORDS, &old, &new, printed, status)
 }
 
 /// The second line of an old text, and what it is refused for.

@@ -1,31 +1,14 @@
 //! What the program says of certificates that it is given.
 use crate::FailingSource;
-use crate::runs::{buffer, file_of, run_certificate, text_of};
-use pg_gate::{GateError, Sources, run};
+use crate::runs::{
+    CERTIFICATE, buffer, expect_files, expect_over, file_of, is_kept_to_memory, printed, run_files,
+    says_usage, text_of,
+};
 use pg_link::Listed;
 use std::process::Abort;
 use std::test::Fail;
 
 static WORDS: [&str; 6] = ["verify", "--old", "o.proto", "--new", "n.proto", "c"];
-
-/// Expects these words to print this and to end so.
-fn expect<R: Abort + AllocGlobal, S: Sources, T: Sources>(
-    rt: &R,
-    words: &[&str],
-    old: &mut S,
-    new: &mut T,
-    printed: &str,
-    status: u8,
-) -> Result<(), Fail> {
-    let mut sink = buffer(rt.alloc())?;
-    let ended = run(rt.alloc(), words, old, new, &mut sink)?;
-    assert_eq!(rt; ended, status, "status of {printed}");
-    assert!(rt;
-        sink.bytes.as_slice() == printed.as_bytes(),
-        "text {printed}"
-    );
-    Ok(())
-}
 
 /// Expects this to be said of the certificate between the two texts.
 fn says<R: Abort + AllocGlobal>(
@@ -35,16 +18,12 @@ fn says<R: Abort + AllocGlobal>(
     printed: &str,
     status: u8,
 ) -> Result<(), Fail> {
-    let mut old = Listed {
-        files: &[
-            ("o.proto", sides.0.as_bytes()),
-            ("c", certificate.as_bytes()),
-        ],
-    };
-    let mut new = Listed {
-        files: &[("n.proto", sides.1.as_bytes())],
-    };
-    expect(rt, &WORDS, &mut old, &mut new, printed, status)
+    let old = [
+        ("o.proto", sides.0.as_bytes()),
+        ("c", certificate.as_bytes()),
+    ];
+    let new = [("n.proto", sides.1.as_bytes())];
+    expect_files(rt, &WORDS, &old, &new, printed, status)
 }
 
 /// A certificate of the types `M`.
@@ -52,6 +31,18 @@ fn certificate_of<R: AllocGlobal>(rt: &R, bound: &str, witness: &str) -> Result<
     Ok(format!(in rt.alloc();
         "protogate-certificate 1\nroot M M\npair M M {bound}\nwitness {witness}\nend\n"
     )?)
+}
+
+/// Expects this to be said of a claim of that bound and witness between the two texts.
+fn says_of<R: Abort + AllocGlobal>(
+    rt: &R,
+    sides: (&str, &str),
+    claim: (&str, &str),
+    printed: &str,
+    status: u8,
+) -> Result<(), Fail> {
+    let certificate = certificate_of(rt, claim.0, claim.1)?;
+    says(rt, sides, &certificate, printed, status)
 }
 
 /// The bound of a certificate from `int32` to `uint32`, its witness, and what is said of it.
@@ -75,8 +66,7 @@ fn checks_each_claim(rt: HostRuntime) -> Result<(), Fail> {
     let old = file_of(rt.alloc(), "int32 a = 1;")?;
     let new = file_of(rt.alloc(), "uint32 a = 1;")?;
     for (bound, witness, printed, status) in SIGNS {
-        let certificate = certificate_of(&rt, bound, witness)?;
-        says(&rt, (&old, &new), &certificate, printed, status)?;
+        says_of(&rt, (&old, &new), (bound, witness), printed, status)?;
     }
     Ok(())
 }
@@ -84,10 +74,9 @@ fn checks_each_claim(rt: HostRuntime) -> Result<(), Fail> {
 #[test]
 fn takes_a_claim_that_none_breaks(rt: HostRuntime) -> Result<(), Fail> {
     let text = file_of(rt.alloc(), "int32 a = 1;")?;
-    let certificate = certificate_of(&rt, "none", "none")?;
-    says(&rt, (&text, &text), &certificate, "compatible M\n", 0)?;
-    let certificate = certificate_of(&rt, "2", "0801")?;
-    says(&rt, (&text, &text), &certificate, "refused E807\n", 2)
+    let sides = (text.as_str(), text.as_str());
+    says_of(&rt, sides, ("none", "none"), "compatible M\n", 0)?;
+    says_of(&rt, sides, ("2", "0801"), "refused E807\n", 2)
 }
 
 /// The lines of a certificate behind its first, and what is said of it.
@@ -134,6 +123,18 @@ static GRAPHS: [(&str, &str, u8); 8] = [
     ),
 ];
 
+/// Expects this to be said of the certificate of these lines.
+fn says_of_lines<R: Abort + AllocGlobal>(
+    rt: &R,
+    sides: (&str, &str),
+    lines: &str,
+    printed: &str,
+    status: u8,
+) -> Result<(), Fail> {
+    let certificate = format!(in rt.alloc(); "protogate-certificate 1\n{lines}")?;
+    says(rt, sides, &certificate, printed, status)
+}
+
 #[test]
 fn checks_all_pairs(rt: HostRuntime) -> Result<(), Fail> {
     let old = text_of(
@@ -145,8 +146,7 @@ fn checks_all_pairs(rt: HostRuntime) -> Result<(), Fail> {
         "message M { int32 a = 1; } message N { N next = 1; M m = 2; }",
     )?;
     for (lines, printed, status) in GRAPHS {
-        let certificate = format!(in rt.alloc(); "protogate-certificate 1\n{lines}")?;
-        says(&rt, (&old, &new), &certificate, printed, status)?;
+        says_of_lines(&rt, (&old, &new), lines, printed, status)?;
     }
     Ok(())
 }
@@ -168,16 +168,17 @@ fn goes_by_the_names_of_either_side(rt: HostRuntime) -> Result<(), Fail> {
 fn takes_what_the_gate_writes(rt: HostRuntime) -> Result<(), Fail> {
     let old = file_of(rt.alloc(), "int32 a = 1; bytes b = 2;")?;
     let new = file_of(rt.alloc(), "int32 a = 1; string b = 2;")?;
-    let mut sink = buffer(rt.alloc())?;
-    run_certificate(rt.alloc(), old.as_bytes(), new.as_bytes(), &mut sink)?;
-    let certificate = std::str::from_utf8(&sink.bytes)?;
+    let of_old = [("o.proto", old.as_bytes())];
+    let of_new = [("n.proto", new.as_bytes())];
+    let (_, text) = printed(rt.alloc(), &CERTIFICATE, &of_old, &of_new)?;
+    let certificate = std::str::from_utf8(&text)?;
     says(&rt, (&old, &new), certificate, "breaks M 3\n", 1)?;
     says(&rt, (&new, &old), certificate, "refused E805\n", 2)
 }
 
-static ONE: &[u8] = b"syntax = \"proto3\";\nmessage M { int32 a = 1; }\n";
+const ONE: &[u8] = b"syntax = \"proto3\";\nmessage M { int32 a = 1; }\n";
 
-static NONE: &[u8] = b"protogate-certificate 1\nroot M M\npair M M none\nwitness none\nend\n";
+const NONE: &[u8] = b"protogate-certificate 1\nroot M M\npair M M none\nwitness none\nend\n";
 
 /// The certificate is asked of the old source alone, as it stands, and after both sides.
 #[test]
@@ -190,84 +191,49 @@ fn asks_the_old_source_for_the_certificate(rt: HostRuntime) -> Result<(), Fail> 
         "--new=m",
         "c",
     ];
-    let mut old = Listed {
-        files: &[("a/m", ONE), ("c", NONE)],
-    };
-    let mut lacking = Listed {
-        files: &[("a/m", ONE), ("a/c", NONE)],
-    };
-    let mut new = Listed {
-        files: &[("b/m", ONE), ("c", NONE)],
-    };
-    let mut faulty = Listed {
-        files: &[("b/m", b"")],
-    };
-    expect(&rt, &words, &mut old, &mut new, "compatible M\n", 0)?;
-    expect(&rt, &words, &mut lacking, &mut new, "refused E301 c\n", 2)?;
-    expect(
-        &rt,
-        &words,
-        &mut lacking,
-        &mut faulty,
-        "refused new E201 m:1:1\n",
-        2,
-    )
+    let old = [("a/m", ONE), ("c", NONE)];
+    let lacking = [("a/m", ONE), ("a/c", NONE)];
+    let new = [("b/m", ONE), ("c", NONE)];
+    let faulty: [(&str, &[u8]); 1] = [("b/m", b"")];
+    expect_files(&rt, &words, &old, &new, "compatible M\n", 0)?;
+    expect_files(&rt, &words, &lacking, &new, "refused E301 c\n", 2)?;
+    let refused = "refused new E201 m:1:1\n";
+    expect_files(&rt, &words, &lacking, &faulty, refused, 2)
+}
+
+static OLD: [(&str, &[u8]); 2] = [("o.proto", ONE), ("c", NONE)];
+
+static NEW: [(&str, &[u8]); 1] = [("n.proto", ONE)];
+
+/// Expects this where the read of that number of the old side fails.
+fn says_where_old_fails<R: Abort + AllocGlobal>(
+    rt: &R,
+    fails_at: u64,
+    printed: &str,
+) -> Result<(), Fail> {
+    let mut failing = FailingSource::new(Listed { files: &OLD }, fails_at);
+    let mut sound = Listed { files: &NEW };
+    expect_over(rt, &WORDS, &mut failing, &mut sound, printed, 3)
 }
 
 #[test]
 fn tells_a_source_that_fails(rt: HostRuntime) -> Result<(), Fail> {
-    let old = Listed {
-        files: &[("o.proto", ONE), ("c", NONE)],
-    };
-    let new = Listed {
-        files: &[("n.proto", ONE)],
-    };
-    let mut sound = new;
-    let mut failing = FailingSource::new(old, 2);
-    expect(&rt, &WORDS, &mut failing, &mut sound, "refused E309 c\n", 3)?;
-    let mut failing = FailingSource::new(old, 1);
-    expect(
-        &rt,
-        &WORDS,
-        &mut failing,
-        &mut sound,
-        "refused old E309 o.proto\n",
-        3,
-    )?;
-    let mut sound = old;
-    let mut failing = FailingSource::new(new, 1);
-    expect(
-        &rt,
-        &WORDS,
-        &mut sound,
-        &mut failing,
-        "refused new E309 n.proto\n",
-        3,
-    )
+    says_where_old_fails(&rt, 2, "refused E309 c\n")?;
+    says_where_old_fails(&rt, 1, "refused old E309 o.proto\n")?;
+    let mut sound = Listed { files: &OLD };
+    let mut failing = FailingSource::new(Listed { files: &NEW }, 1);
+    let refused = "refused new E309 n.proto\n";
+    expect_over(&rt, &WORDS, &mut sound, &mut failing, refused, 3)
 }
 
 /// Any one request for memory may be refused: the run gives its answer, or none and leaves the sink alone.
 #[test]
 fn keeps_to_memory(rt: HostRuntime) {
-    let mut old = Listed {
-        files: &[("o.proto", ONE), ("c", NONE)],
-    };
-    let mut new = Listed {
-        files: &[("n.proto", ONE)],
-    };
     let Ok(mut sink) = buffer(rt.alloc()) else {
         return;
     };
-    match run(rt.alloc(), &WORDS, &mut old, &mut new, &mut sink) {
-        Ok(ended) => {
-            assert_eq!(rt; ended, 0);
-            assert!(rt; sink.bytes.as_slice() == "compatible M\n".as_bytes());
-        }
-        Err(error) => {
-            assert!(rt; error == GateError::Memory);
-            assert!(rt; sink.bytes.is_empty());
-        }
-    }
+    let ended = run_files(rt.alloc(), &WORDS, &OLD, &NEW, &mut sink);
+    is_kept_to_memory(&rt, ended, &sink.bytes, "compatible M\n", 0);
 }
 
 /// Words that are no call, and what is said of them.
@@ -289,13 +255,7 @@ static USAGE: [(&[&str], &str); 6] = [
 #[test]
 fn names_what_is_missing(rt: HostRuntime) -> Result<(), Fail> {
     for (words, part) in USAGE {
-        let mut old = Listed { files: &[] };
-        let mut new = old;
-        let mut sink = buffer(rt.alloc())?;
-        let ended = run(rt.alloc(), words, &mut old, &mut new, &mut sink)?;
-        assert_eq!(rt; ended, 4);
-        let printed = std::str::from_utf8(&sink.bytes)?;
-        assert!(rt; printed.contains(part), "{part} in {printed}");
+        says_usage(&rt, words, part)?;
     }
     Ok(())
 }

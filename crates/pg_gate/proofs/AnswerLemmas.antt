@@ -18,13 +18,16 @@ use Rattle.pg_cert.specs.Certificate.{Claim, IsWitnessedIfThere}
 use Rattle.pg_cert.specs.Text.{IsClaimOf}
 use Rattle.pg_least.specs.Exact.{IsBesideClaim, IsSearched, IsWitnessMessage}
 use Rattle.pg_gate.specs.Answer.{AreRoots, IsAnswer, IsBroken, IsCompatible, IsRefusedRoot, NewSees, OldWrites, certificate_of}
-use Rattle.pg_gate.specs.Grants.{IsAnswerOfFiles, IsFinding, IsFindingOf, IsGateError, IsSideSchema, Seen, SideFiles, Tells}
+use Rattle.pg_gate.specs.Call.{Request, compile, gate, show, verify}
+use Rattle.pg_gate.specs.Grants.{Between, Grants, IsAnswerOfFiles, IsFindingOf, IsGateError, IsGateReply, IsReplyFor, IsSideSchema, Seen, SideFiles, Tells}
 use Rattle.pg_gate.specs.declared.answer.Answer.{Answer}
 use Rattle.pg_gate.specs.declared.answer.Answer.TheVariants as answers
 use Rattle.pg_gate.specs.declared.error.GateError.{GateError}
 use Rattle.pg_gate.specs.declared.error.GateError.TheVariants as errors
 use Rattle.pg_gate.specs.declared.reply.Finding.{Finding}
 use Rattle.pg_gate.specs.declared.reply.Finding.TheVariants as findings
+use Rattle.pg_gate.specs.declared.reply.Reply.{Reply}
+use Rattle.pg_gate.specs.declared.reply.Reply.TheVariants as replies
 use Rattle.pg_gate.proofs.Ranges.{searched_there}
 use Rattle.pg_gate.proofs.Roots.{named_there}
 
@@ -128,14 +131,61 @@ found_by old new root answer true (findings.Certified text breaks) is tells = re
 found_by old new root answer false (findings.Verified verified) is tells = absurd tells
 found_by old new root answer true (findings.Verified verified) is tells = absurd tells
 
+-- ---- both directions
+
+-- what is found is of two types that are there
+found_roots : (old new : Parts) (root : Text) (certificate_only : Bool) (finding : Finding) → IsFindingOf old new root certificate_only finding → (pair : Pair) × AreRoots old new root pair
+found_roots old new root false findings.Compatible is = (is.certificate.root, is.compatible.roots)
+found_roots old new root false (findings.Breaks bytes) is = (is.certificate.root, is.broken.roots)
+found_roots old new root false (findings.Certified text breaks) is = absurd is
+found_roots old new root false (findings.Verified verified) is = absurd is
+found_roots old new root true findings.Compatible is = absurd is
+found_roots old new root true (findings.Breaks bytes) is = absurd is
+found_roots old new root true (findings.Certified text breaks) is = of is.answer is.is_answer
+  where
+    of : (answer : Answer) → IsAnswer old new root answer → (pair : Pair) × AreRoots old new root pair
+    of (answers.Compatible certificate) is = (certificate.root, is.roots)
+    of (answers.Breaks witness certificate) is = (certificate.root, is.roots)
+found_roots old new root true (findings.Verified verified) is = absurd is
+
+-- so the other direction is refused for no root
+pub backward_refused : (old new : Parts) (root : Text) (certificate_only : Bool) (finding : Finding) → IsFindingOf old new root certificate_only finding
+    → (error : GateError) → IsRefusedRoot new old root error → IsRefusedRoot old new root error
+backward_refused old new root certificate_only finding found errors.Memory is = tt
+backward_refused old new root certificate_only finding found errors.RootMissingOld is =
+    let (pair, roots) = found_roots old new root certificate_only finding found in
+    absurd (is pair.new roots.new_named)
+backward_refused old new root certificate_only finding found errors.RootMissingNew is =
+    let (pair, roots) = found_roots old new root certificate_only finding found in
+    absurd (is.1 pair.old roots.old_named)
+backward_refused old new root certificate_only finding found (errors.Compile side fault) is = absurd is
+backward_refused old new root certificate_only finding found (errors.Certificate fault) is = absurd is
+backward_refused old new root certificate_only finding found errors.WriteFailed is = absurd is
+backward_refused old new root certificate_only finding found errors.BadHex is = absurd is
+backward_refused old new root certificate_only finding found (errors.Bytes error) is = absurd is
+
+-- ---- calls
+
+-- what is answered, where nothing is refused, is granted
+pub replied : (old new : Seen) (call : Request) (reply : Reply) → IsReplyFor old new call reply → Grants old new call reply
+replied old new call (replies.Set bytes) is = is
+replied old new call (replies.Shown text) is = is
+replied old new call (replies.Found finding) is = is
+replied old new call (replies.Both forward backward) is = is
+replied old new (compile dir files) (replies.Refused refusal) is = absurd is
+replied old new (gate sides root certificate_only both) (replies.Refused refusal) is = absurd is.so
+replied old new (show dir file root word) (replies.Refused refusal) is = absurd is
+replied old new (verify sides certificate) (replies.Refused refusal) is = absurd is
+
 -- ---- sides
 
 module _ (root : Text) (old new : Seen) (old_files new_files : SideFiles) (a b : Parts) (of_old : IsSideSchema old old_files a) (of_new : IsSideSchema new new_files b) where
   pub answer_of_files : (answer : Answer) → IsAnswer a b root answer → IsAnswerOfFiles root old new old_files new_files answer
   answer_of_files answer is = record { old_schema = a; new_schema = b; of_old = of_old; of_new = of_new; so = is }
 
-  pub finding_of_files : (certificate_only : Bool) (finding : Finding) → IsFindingOf a b root certificate_only finding → IsFinding root certificate_only old new old_files new_files finding
-  finding_of_files certificate_only finding is = record { old_schema = a; new_schema = b; of_old = of_old; of_new = of_new; so = is }
+  pub reply_of_files : (certificate_only both : Bool) (reply : Reply) → IsGateReply a b root certificate_only both reply
+      → Between old new old_files new_files (λ a b. IsGateReply a b root certificate_only both reply)
+  reply_of_files certificate_only both reply is = record { old_schema = a; new_schema = b; of_old = of_old; of_new = of_new; so = is }
 
   pub refused_of_files : (error : GateError) → IsRefusedRoot a b root error → IsGateError root old new old_files new_files error
   refused_of_files errors.Memory is = tt
@@ -144,3 +194,5 @@ module _ (root : Text) (old new : Seen) (old_files new_files : SideFiles) (a b :
   refused_of_files (errors.Compile side fault) is = absurd is
   refused_of_files (errors.Certificate fault) is = absurd is
   refused_of_files errors.WriteFailed is = absurd is
+  refused_of_files errors.BadHex is = absurd is
+  refused_of_files (errors.Bytes error) is = absurd is

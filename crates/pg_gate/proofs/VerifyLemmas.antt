@@ -135,6 +135,8 @@ module _ (path : Text) (old new : Seen) (old_files new_files : SideFiles) (a b :
   ungiven_of_files (errors.Certificate (certificates.Failed file)) counted is = record { old_schema = a; new_schema = b; of_old = of_old; of_new = of_new; so = (is, omega arith) }
   ungiven_of_files (errors.Certificate (certificates.Refused fault)) counted is = absurd is
   ungiven_of_files errors.WriteFailed counted is = absurd is
+  ungiven_of_files errors.BadHex counted is = absurd is
+  ungiven_of_files (errors.Bytes error) counted is = absurd is
 
   module _ (bytes : Text) (given : IsTrue (old.may_give path bytes)) where
     pub held_of_files : (finding : Finding) → IsHeldBy a b bytes finding → IsVerified path old new old_files new_files finding
@@ -150,3 +152,5 @@ module _ (path : Text) (old new : Seen) (old_files new_files : SideFiles) (a b :
     refused_bytes_of_files (errors.Certificate (certificates.Refused fault)) is =
         record { old_schema = a; new_schema = b; of_old = of_old; of_new = of_new; so = record { bytes = bytes; given = given; so = is } }
     refused_bytes_of_files errors.WriteFailed is = absurd is
+    refused_bytes_of_files errors.BadHex is = absurd is
+    refused_bytes_of_files (errors.Bytes error) is = absurd is

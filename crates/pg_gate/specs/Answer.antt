@@ -88,3 +88,5 @@ IsRefusedRoot old new root errors.RootMissingNew = (Lacks old root → ⊥) × L
 IsRefusedRoot old new root (errors.Compile side fault) = ⊥
 IsRefusedRoot old new root (errors.Certificate fault) = ⊥
 IsRefusedRoot old new root errors.WriteFailed = ⊥
+IsRefusedRoot old new root errors.BadHex = ⊥
+IsRefusedRoot old new root (errors.Bytes error) = ⊥

@@ -3,7 +3,8 @@ use Rattle.std.specs.Prelude.{Bool, false, List, [], ◌∷◌, Option, None, co
 use Rattle.std.specs.Prelude.{unwrap_or, option_map, if◌then◌else◌}
 use Rattle.std.specs.Option.{option_map_or}
 use Rattle.std.specs.Str.{bytes_eq}
-use Rattle.clap.specs.Words.{Kinds, Row, Text, fault_of, first_of, subcommand_of}
+use Rattle.clap.specs.Walk.{texts}
+use Rattle.clap.specs.Words.{Kinds, Row, Text, all_of, fault_of, first_of, subcommand_of}
 use Rattle.pg_gate.specs.CommandLine.{whole_app}
 use Rattle.pg_gate.specs.declared.call.Call.{Call}
 use Rattle.pg_gate.specs.declared.call.Call.TheVariants as call
@@ -18,7 +19,9 @@ pub record SideTexts : Type 0 where
 
 -- a call, as texts
 pub data Request : Type 0 where
-  gate : (sides : SideTexts) (root : Text) (certificate_only : Bool) → Request
+  compile : (dir : Text) (files : List Text) → Request
+  gate : (sides : SideTexts) (root : Text) (certificate_only both : Bool) → Request
+  show : (dir file root word : Text) → Request
   verify : (sides : SideTexts) (certificate : Text) → Request
 
 abbrev pub sides_of : Sides → SideTexts
@@ -30,13 +33,18 @@ sides_of s = record {
 }
 
 abbrev pub request_of : Call → Request
-request_of (call.Gate sides root certificate_only) = gate (sides_of sides) root.now certificate_only
+request_of (call.Compile dir files) = compile dir.now (texts files.items)
+request_of (call.Gate sides root certificate_only both) = gate (sides_of sides) root.now certificate_only both
+request_of (call.Show dir file root word) = show dir.now file.now root.now word.now
 request_of (call.Verify sides certificate) = verify (sides_of sides) certificate.now
 
 -- ---- from clap's matches
 
 abbrev pub text_at : Text → List Row → Text
 text_at id rows = unwrap_or (first_of id rows) []
+
+abbrev pub texts_at : Text → List Row → List Text
+texts_at id rows = unwrap_or (all_of id rows) []
 
 abbrev pub flag_at : Text → List Row → Bool
 flag_at id rows = option_map_or (λ value. bytes_eq value (codes "true")) (first_of id rows) false
@@ -49,15 +57,25 @@ sides_in rows = record {
   new = text_at (codes "new") rows;
 }
 
+abbrev pub compile_in : List Row → Request
+compile_in rows = compile (text_at (codes "dir") rows) (texts_at (codes "FILE") rows)
+
 abbrev pub gate_in : List Row → Request
-gate_in rows = gate (sides_in rows) (text_at (codes "type") rows) (flag_at (codes "cert") rows)
+gate_in rows = gate (sides_in rows) (text_at (codes "type") rows) (flag_at (codes "cert") rows) (flag_at (codes "both") rows)
 
 abbrev pub verify_in : List Row → Request
 verify_in rows = verify (sides_in rows) (text_at (codes "CERT") rows)
 
--- the call of a subcommand and its matches; clap has only these two
+abbrev pub show_in : List Row → Request
+show_in rows = show (text_at (codes "dir") rows) (text_at (codes "file") rows) (text_at (codes "type") rows) (text_at (codes "HEX") rows)
+
+-- the call of a subcommand and its matches; clap has only these four
 abbrev pub request_in : Text × List Row → Request
-request_in met = if bytes_eq met.0 (codes "gate") then gate_in met.1 else verify_in met.1
+request_in met =
+    if bytes_eq met.0 (codes "compile") then compile_in met.1
+    else if bytes_eq met.0 (codes "gate") then gate_in met.1
+    else if bytes_eq met.0 (codes "verify") then verify_in met.1
+    else show_in met.1
 
 -- the call of a parse with these faults, at this subcommand
 abbrev pub call_by : Kinds → Option (Text × List Row) → Option Request

@@ -1,7 +1,7 @@
 -- The command line, as clap's contracts see a command.
 use Rattle.std.specs.Prelude.{◌≡◌, List, [], ◌∷◌, Some, true, false, codes}
 use Rattle.clap.specs.Words.{App, Rule, Text, app_of, new_app, new_rule, with_rule, with_subcommand}
-use Rattle.clap.specs.declared.ArgAction.TheVariants.{SetTrue}
+use Rattle.clap.specs.declared.ArgAction.TheVariants.{Append, SetTrue}
 use Rattle.clap.specs.declared.Command.{Command}
 use Rattle.clap.specs.declared.Command.TheViews.{out-Command}
 
@@ -20,6 +20,10 @@ named name = record (new_rule name) { long = Some name; value_names = 1; require
 abbrev pub positional : Text → Rule
 positional name = record (new_rule name) { required = true }
 
+-- one or more of them
+abbrev pub positionals : Text → Rule
+positionals name = record (positional name) { action = Some Append }
+
 -- `--NAME`
 abbrev pub flag : Text → Rule
 flag name = record (new_rule name) { long = Some name; action = Some SetTrue }
@@ -30,20 +34,29 @@ abbrev pub with_rules : App → List Rule → App
 with_rules app [] = app
 with_rules app (rule ∷ rules) = with_rules (with_rule app rule) rules
 
+abbrev pub compile_app : App
+compile_app = with_rules (new_app (codes "compile")) (folder (codes "dir") ∷ positionals (codes "FILE") ∷ [])
+
 abbrev pub gate_app : App
 gate_app = with_rules (new_app (codes "gate")) (folder (codes "old-dir") ∷ folder (codes "new-dir")
-    ∷ named (codes "old") ∷ named (codes "new") ∷ named (codes "type") ∷ flag (codes "cert") ∷ [])
+    ∷ named (codes "old") ∷ named (codes "new") ∷ named (codes "type") ∷ flag (codes "cert")
+    ∷ flag (codes "both") ∷ [])
 
 abbrev pub verify_app : App
 verify_app = with_rules (new_app (codes "verify")) (folder (codes "old-dir") ∷ folder (codes "new-dir")
     ∷ named (codes "old") ∷ named (codes "new") ∷ positional (codes "CERT") ∷ [])
+
+abbrev pub show_app : App
+show_app = with_rules (new_app (codes "show")) (folder (codes "dir") ∷ named (codes "file") ∷ named (codes "type")
+    ∷ positional (codes "HEX") ∷ [])
 
 abbrev pub top_app : App
 top_app = let app = new_app (codes "protogate") in
     record app { top = record app.top { no_binary_name = true; subcommand_required = true } }
 
 abbrev pub whole_app : App
-whole_app = with_subcommand (with_subcommand top_app gate_app.top) verify_app.top
+whole_app = with_subcommand (with_subcommand (with_subcommand (with_subcommand top_app compile_app.top) gate_app.top)
+    verify_app.top) show_app.top
 
 -- a command of this shape, with no argument that is global
 pub record HasApp (app : App) (command : Command) : Type 0 where

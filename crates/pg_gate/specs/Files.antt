@@ -7,6 +7,11 @@ use Rattle.pg_check.specs.Errors.{IsRefused}
 use Rattle.pg_check.specs.Sources.{linked_sources}
 use Rattle.pg_check.specs.declared.error.CheckError.{CheckError}
 use Rattle.pg_check.specs.declared.error.CheckError.TheVariants as checks
+use Rattle.pg_dyn.specs.declared.error.DynError.TheVariants as messages
+use Rattle.pg_fds.specs.Set.{fds}
+use Rattle.pg_fds.specs.Written.{HasNoSet}
+use Rattle.pg_fds.specs.declared.error.FdsError.{FdsError}
+use Rattle.pg_fds.specs.declared.error.FdsError.TheVariants as sets
 use Rattle.pg_link.specs.Linked.{IsLinkedUp}
 use Rattle.pg_link.specs.UseFaults.{LinkRefuses}
 use Rattle.pg_link.specs.Walk.{Entry, IsLinked, World, failures_of}
@@ -47,20 +52,27 @@ pub record IsRuleFault (files : List Entry) (error : CheckError) : Type 0 where
   pub is_told : error ≡ checks.Memory → ⊥
   pub refuses : IsRefused (linked_sources files) error
 
+-- linked files of the side break this rule
+abbrev pub IsBrokenRule : World → CheckError → Type 0
+IsBrokenRule w error = (files : List Entry) × IsLinked w files × IsSettled files × IsRuleFault files error
+
 -- what is wrong with a side: its files can't be linked, or those that are linked break a rule
 abbrev pub IsFaultOf : World → Fault → Type 0
 IsFaultOf w (faults.Link error) = IsLinkFault w error
-IsFaultOf w (faults.Check error) = (files : List Entry) × IsLinked w files × IsSettled files × IsRuleFault files error
+IsFaultOf w (faults.Check error) = IsBrokenRule w error
+IsFaultOf w (faults.Set error) = ⊥
 
 -- files that can't be linked
 abbrev pub IsOfLink : World → Fault → Type 0
 IsOfLink w (faults.Link error) = IsLinkFault w error
 IsOfLink w (faults.Check error) = ⊥
+IsOfLink w (faults.Set error) = ⊥
 
 -- linked files that break a rule
 abbrev pub IsOfRules : List Entry → Fault → Type 0
 IsOfRules files (faults.Link error) = ⊥
 IsOfRules files (faults.Check error) = IsRuleFault files error
+IsOfRules files (faults.Set error) = ⊥
 
 -- a side ends in want of memory, or in a fault
 abbrev pub IsErrorOf : (Fault → Type 0) → Side → GateError → Type 0
@@ -70,14 +82,40 @@ IsErrorOf fault side gates.RootMissingNew = ⊥
 IsErrorOf fault side (gates.Compile of found) = (of ≡ side) × fault found
 IsErrorOf fault side (gates.Certificate found) = ⊥
 IsErrorOf fault side gates.WriteFailed = ⊥
+IsErrorOf fault side gates.BadHex = ⊥
+IsErrorOf fault side (gates.Bytes error) = ⊥
 
 abbrev pub IsSideError : World → Side → GateError → Type 0
 IsSideError w = IsErrorOf (IsFaultOf w)
+
+-- ---- descriptor sets of files
+
+-- the bytes are the set of what the files declare
+pub record IsSetOf (w : World) (bytes : List ℕ) : Type 0 where
+  pub schema : Parts
+  pub compiled : IsCompiled w schema
+  pub set : fds schema bytes
+
+-- what the files declare has no set of so few bytes as a message may have
+pub record IsUnwritten (w : World) (error : FdsError) : Type 0 where
+  pub schema : Parts
+  pub compiled : IsCompiled w schema
+  pub is_told : error ≡ sets.Bytes messages.TooLong
+  pub has_none : HasNoSet schema
+
+-- what is wrong with files that no set is written of
+abbrev pub IsFaultOfSet : World → Fault → Type 0
+IsFaultOfSet w (faults.Link error) = IsLinkFault w error
+IsFaultOfSet w (faults.Check error) = IsBrokenRule w error
+IsFaultOfSet w (faults.Set error) = IsUnwritten w error
+
+-- ---- failures of sources
 
 -- the failures of its source that a fault tells of
 abbrev pub fault_failures : Fault → ℕ
 fault_failures (faults.Link error) = failures_of {X = Unit {0}} (Err error)
 fault_failures (faults.Check error) = 0
+fault_failures (faults.Set error) = 0
 
 -- the failures of its source that the fault of a certificate tells of
 abbrev pub certificate_failures : CertificateFault → ℕ
@@ -94,3 +132,5 @@ source_failures (Err gates.RootMissingNew) = 0
 source_failures (Err (gates.Compile side fault)) = fault_failures fault
 source_failures (Err (gates.Certificate fault)) = certificate_failures fault
 source_failures (Err gates.WriteFailed) = 0
+source_failures (Err gates.BadHex) = 0
+source_failures (Err (gates.Bytes error)) = 0

@@ -1,16 +1,17 @@
 -- What a call may be answered, by what its sources may give and lack.
-use Rattle.std.specs.Prelude.{◌≡◌, ◌+◌, ◌≤◌, ◌<◌, ℕ, Bool, true, false, List, [], ◌∷◌, Some, None, is_some, string_bytes, IsTrue}
+use Rattle.std.specs.Prelude.{◌≡◌, ◌+◌, ◌≤◌, ◌<◌, ◌&&◌, ℕ, Bool, true, false, not, List, [], ◌∷◌, Some, None, is_some, string_bytes, IsTrue}
 use Rattle.clap.specs.Words.{Text}
 use Rattle.pg_cert.specs.Certificate.{Claim}
 use Rattle.pg_cert.specs.Text.{Certifies}
 use Rattle.pg_dyn.specs.Kept.{Kept}
 use Rattle.pg_schema.specs.declared.parts.Parts.{Parts}
-use Rattle.pg_gate.specs.Call.{Request, gate, verify}
+use Rattle.pg_gate.specs.Call.{Request, compile, gate, show, verify}
 use Rattle.pg_link.specs.Walk.{World, world}
-use Rattle.pg_gate.specs.Files.{IsCompiled, IsFaultOf, fault_failures}
+use Rattle.pg_gate.specs.Files.{IsCompiled, IsFaultOf, IsFaultOfSet, IsSetOf, fault_failures}
 use Rattle.pg_gate.specs.Answer.{IsAnswer, IsBroken, IsCompatible, Lacks, certificate_of}
 use Rattle.pg_gate.specs.declared.answer.Answer.{Answer}
-use Rattle.pg_gate.specs.Refusals.{refusal_of}
+use Rattle.pg_gate.specs.Refusals.{refusal_for}
+use Rattle.pg_gate.specs.Showing.{IsShowFault, IsShown}
 use Rattle.pg_gate.specs.Verified.{IsClaimFault, IsHeldBy}
 use Rattle.pg_gate.specs.declared.error.CertificateFault.{CertificateFault}
 use Rattle.pg_gate.specs.declared.error.CertificateFault.TheVariants as certificates
@@ -76,6 +77,8 @@ IsGateError root old new old_files new_files (errors.Compile sides.Old fault) = 
 IsGateError root old new old_files new_files (errors.Compile sides.New fault) = IsSideFault new new_files fault
 IsGateError root old new old_files new_files (errors.Certificate fault) = ⊥
 IsGateError root old new old_files new_files errors.WriteFailed = ⊥
+IsGateError root old new old_files new_files errors.BadHex = ⊥
+IsGateError root old new old_files new_files (errors.Bytes error) = ⊥
 
 abbrev pub IsAnswerOfFiles : Text → Seen → Seen → SideFiles → SideFiles → Answer → Type 0
 IsAnswerOfFiles root old new old_files new_files answer = Between old new old_files new_files (λ a b. IsAnswer a b root answer)
@@ -110,8 +113,14 @@ IsFindingOf old new root true (findings.Breaks witness) = ⊥
 IsFindingOf old new root true (findings.Certified text breaks) = IsCertificateText old new root (string_bytes text) breaks
 IsFindingOf old new root true (findings.Verified verified) = ⊥
 
-abbrev pub IsFinding : Text → Bool → Seen → Seen → SideFiles → SideFiles → Finding → Type 0
-IsFinding root certificate_only old new old_files new_files finding = Between old new old_files new_files (λ a b. IsFindingOf a b root certificate_only finding)
+-- What the gate answers of the types of that name: what it finds from the old to the new one; where both directions are asked for, and
+-- not the certificate alone, also what it finds from the new to the old one.
+abbrev pub IsGateReply : Parts → Parts → Text → (certificate_only both : Bool) → Reply → Type 0
+IsGateReply old new root certificate_only both (replies.Set bytes) = ⊥
+IsGateReply old new root certificate_only both (replies.Shown text) = ⊥
+IsGateReply old new root certificate_only both (replies.Found finding) = ((both && not certificate_only) ≡ false) × IsFindingOf old new root certificate_only finding
+IsGateReply old new root certificate_only both (replies.Both forward backward) = ((both && not certificate_only) ≡ true) × IsFindingOf old new root false forward × IsFindingOf new old root false backward
+IsGateReply old new root certificate_only both (replies.Refused refusal) = ⊥
 
 -- a finding tells a certificate's witness, or that it has none
 abbrev pub TellsAnswer : Claim → Finding → Type 0
@@ -158,6 +167,8 @@ IsVerifyError path old new old_files new_files (errors.Compile sides.Old fault) 
 IsVerifyError path old new old_files new_files (errors.Compile sides.New fault) = IsSideFault new new_files fault
 IsVerifyError path old new old_files new_files (errors.Certificate fault) = Between old new old_files new_files (λ a b. IsCertificateFault old path a b fault)
 IsVerifyError path old new old_files new_files errors.WriteFailed = ⊥
+IsVerifyError path old new old_files new_files errors.BadHex = ⊥
+IsVerifyError path old new old_files new_files (errors.Bytes error) = ⊥
 
 -- why a source gives no bytes for a path
 abbrev pub IsUngivenFault : (Text → Bool) → Text → CertificateFault → Type 0
@@ -172,25 +183,96 @@ IsUngiven lack path errors.RootMissingNew = ⊥
 IsUngiven lack path (errors.Compile side fault) = ⊥
 IsUngiven lack path (errors.Certificate fault) = IsUngivenFault lack path fault
 IsUngiven lack path errors.WriteFailed = ⊥
+IsUngiven lack path errors.BadHex = ⊥
+IsUngiven lack path (errors.Bytes error) = ⊥
+
+-- ---- sets that are written
+
+-- why no set is written; a source failed only where it counted a failure
+pub record IsSetFault (s : Seen) (files : SideFiles) (fault : Fault) : Type 0 where
+  pub is_fault : IsFaultOfSet (world_of s files) fault
+  pub counted : s.before + fault_failures fault ≤ s.after
+
+abbrev pub IsSetError : Seen → SideFiles → GateError → Type 0
+IsSetError s files errors.Memory = Unit {0}
+IsSetError s files errors.RootMissingOld = ⊥
+IsSetError s files errors.RootMissingNew = ⊥
+IsSetError s files (errors.Compile side fault) = IsSetFault s files fault
+IsSetError s files (errors.Certificate fault) = ⊥
+IsSetError s files errors.WriteFailed = ⊥
+IsSetError s files errors.BadHex = ⊥
+IsSetError s files (errors.Bytes error) = ⊥
+
+-- ---- bytes that are shown
+
+-- what holds of the schema of a side
+pub record OfSide (s : Seen) (files : SideFiles) (holds : Parts → Type 0) : Type 0 where
+  pub schema : Parts
+  pub of_side : IsSideSchema s files schema
+  pub so : holds schema
+
+-- why nothing is shown: a fault of the files; else what is wrong is told of files that compile
+abbrev pub IsShowError : Seen → SideFiles → (root word : Text) → GateError → Type 0
+IsShowError s files root word errors.Memory = Unit {0}
+IsShowError s files root word errors.RootMissingOld = OfSide s files (λ schema. IsShowFault schema root word errors.RootMissingOld)
+IsShowError s files root word errors.RootMissingNew = ⊥
+IsShowError s files root word (errors.Compile side fault) = IsSideFault s files fault
+IsShowError s files root word (errors.Certificate fault) = ⊥
+IsShowError s files root word errors.WriteFailed = ⊥
+IsShowError s files root word errors.BadHex = OfSide s files (λ schema. IsShowFault schema root word errors.BadHex)
+IsShowError s files root word (errors.Bytes error) = OfSide s files (λ schema. IsShowFault schema root word (errors.Bytes error))
 
 -- ---- calls
 
--- a refusal that is printed for such an error
-pub record IsRefusal (errors : GateError → Type 0) (refusal : Refusal) : Type 0 where
+-- a refusal of the call that is printed for such an error
+pub record IsRefusal (call : Request) (errors : GateError → Type 0) (refusal : Refusal) : Type 0 where
   pub error : GateError
   pub is_error : errors error
-  pub printed : refusal_of error ≡ Some refusal
+  pub printed : refusal_for call error ≡ Some refusal
 
--- what is found for a call
-abbrev pub IsFoundFor : Seen → Seen → Request → Finding → Type 0
-IsFoundFor old new (gate sides root certificate_only) finding = IsFinding root certificate_only old new (files_at sides.old_dir (sides.old ∷ [])) (files_at sides.new_dir (sides.new ∷ [])) finding
-IsFoundFor old new (verify sides certificate) finding = IsVerified certificate old new (files_at sides.old_dir (sides.old ∷ [])) (files_at sides.new_dir (sides.new ∷ [])) finding
+-- a set of the call's files is written, and nothing else
+abbrev pub IsSetReply : World → Reply → Type 0
+IsSetReply w (replies.Set bytes) = IsSetOf w bytes.items
+IsSetReply w (replies.Shown text) = ⊥
+IsSetReply w (replies.Found finding) = ⊥
+IsSetReply w (replies.Both forward backward) = ⊥
+IsSetReply w (replies.Refused refusal) = ⊥
 
--- why nothing is found for a call
+-- the lines of the message that the word's bytes are read as, and nothing else
+abbrev pub IsShowReply : Seen → SideFiles → (root word : Text) → Reply → Type 0
+IsShowReply s files root word (replies.Set bytes) = ⊥
+IsShowReply s files root word (replies.Shown text) = OfSide s files (λ schema. IsShown schema root word (string_bytes text))
+IsShowReply s files root word (replies.Found finding) = ⊥
+IsShowReply s files root word (replies.Both forward backward) = ⊥
+IsShowReply s files root word (replies.Refused refusal) = ⊥
+
+-- what a certificate shows, and nothing else
+abbrev pub IsVerifyReply : Text → Seen → Seen → SideFiles → SideFiles → Reply → Type 0
+IsVerifyReply path old new old_files new_files (replies.Set bytes) = ⊥
+IsVerifyReply path old new old_files new_files (replies.Shown text) = ⊥
+IsVerifyReply path old new old_files new_files (replies.Found finding) = IsVerified path old new old_files new_files finding
+IsVerifyReply path old new old_files new_files (replies.Both forward backward) = ⊥
+IsVerifyReply path old new old_files new_files (replies.Refused refusal) = ⊥
+
+-- what is answered to a call, where nothing is refused
+abbrev pub IsReplyFor : Seen → Seen → Request → Reply → Type 0
+IsReplyFor old new (compile dir files) reply = IsSetReply (world_of old (files_at dir files)) reply
+IsReplyFor old new (gate sides root certificate_only both) reply =
+    Between old new (files_at sides.old_dir (sides.old ∷ [])) (files_at sides.new_dir (sides.new ∷ [])) (λ a b. IsGateReply a b root certificate_only both reply)
+IsReplyFor old new (show dir file root word) reply = IsShowReply old (files_at dir (file ∷ [])) root word reply
+IsReplyFor old new (verify sides certificate) reply =
+    IsVerifyReply certificate old new (files_at sides.old_dir (sides.old ∷ [])) (files_at sides.new_dir (sides.new ∷ [])) reply
+
+-- why nothing is answered to a call
 abbrev pub IsErrorFor : Seen → Seen → Request → GateError → Type 0
-IsErrorFor old new (gate sides root certificate_only) error = IsGateError root old new (files_at sides.old_dir (sides.old ∷ [])) (files_at sides.new_dir (sides.new ∷ [])) error
+IsErrorFor old new (compile dir files) error = IsSetError old (files_at dir files) error
+IsErrorFor old new (gate sides root certificate_only both) error = IsGateError root old new (files_at sides.old_dir (sides.old ∷ [])) (files_at sides.new_dir (sides.new ∷ [])) error
+IsErrorFor old new (show dir file root word) error = IsShowError old (files_at dir (file ∷ [])) root word error
 IsErrorFor old new (verify sides certificate) error = IsVerifyError certificate old new (files_at sides.old_dir (sides.old ∷ [])) (files_at sides.new_dir (sides.new ∷ [])) error
 
 abbrev pub Grants : Seen → Seen → Request → Reply → Type 0
-Grants old new call (replies.Found finding) = IsFoundFor old new call finding
-Grants old new call (replies.Refused refusal) = IsRefusal (IsErrorFor old new call) refusal
+Grants old new call (replies.Set bytes) = IsReplyFor old new call (replies.Set bytes)
+Grants old new call (replies.Shown text) = IsReplyFor old new call (replies.Shown text)
+Grants old new call (replies.Found finding) = IsReplyFor old new call (replies.Found finding)
+Grants old new call (replies.Both forward backward) = IsReplyFor old new call (replies.Both forward backward)
+Grants old new call (replies.Refused refusal) = IsRefusal call (IsErrorFor old new call) refusal

@@ -1,10 +1,10 @@
 -- What a call's answer prints, and its status.
-use Rattle.std.specs.Prelude.{ℕ, ◌==◌, [], if◌then◌else◌}
+use Rattle.std.specs.Prelude.{ℕ, ◌==◌, ◌||◌, [], if◌then◌else◌, string_bytes}
 use Rattle.clap.specs.Words.{Text}
 use Rattle.pg_cert.specs.declared.verdict.Verdict.{Verdict}
 use Rattle.pg_cert.specs.declared.verdict.Verdict.TheVariants as verdicts
-use Rattle.pg_gate.specs.Call.{Request, gate, verify}
-use Rattle.pg_gate.specs.Text.{finding_of, refusal_of}
+use Rattle.pg_gate.specs.Call.{Request, compile, gate, show, verify}
+use Rattle.pg_gate.specs.Text.{both_of, finding_of, refusal_of}
 use Rattle.pg_gate.specs.declared.refusal.Refusal.{Refusal}
 use Rattle.pg_gate.specs.declared.reply.Finding.{Finding}
 use Rattle.pg_gate.specs.declared.reply.Finding.TheVariants as finding
@@ -30,19 +30,31 @@ finding_status (finding.Verified verified) = verdict_status verified.verdict
 abbrev pub refusal_status : Refusal → ℕ
 refusal_status refusal = if refusal.code == 309 then 3 else 2
 
+-- 1 where either direction breaks
+abbrev pub either_status : ℕ → ℕ → ℕ
+either_status forward backward = if forward == 1 || backward == 1 then 1 else 0
+
 abbrev pub status_of : Reply → ℕ
+status_of (reply.Set bytes) = 0
+status_of (reply.Shown text) = 0
 status_of (reply.Found f) = finding_status f
+status_of (reply.Both forward backward) = either_status (finding_status forward) (finding_status backward)
 status_of (reply.Refused r) = refusal_status r
 
 -- ---- texts
 
 abbrev pub text_of : Text → Reply → Text
+text_of root (reply.Set bytes) = bytes.items
+text_of root (reply.Shown text) = string_bytes text
 text_of root (reply.Found f) = finding_of root f
+text_of root (reply.Both forward backward) = both_of root forward backward
 text_of root (reply.Refused r) = refusal_of r
 
--- the name of the root types; a certificate has its own
+-- the name of the root types; a certificate has its own, and a set and the lines of a message have none
 abbrev pub root_of : Request → Text
-root_of (gate sides root certificate_only) = root
+root_of (compile dir files) = []
+root_of (gate sides root certificate_only both) = root
+root_of (show dir file root word) = []
 root_of (verify sides certificate) = []
 
 pub record Printed : Type 0 where

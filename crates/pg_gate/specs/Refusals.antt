@@ -1,7 +1,11 @@
 -- The refusal that is printed for an error: its code, and where the fault is.
-use Rattle.std.specs.Prelude.{ℕ, Bool, true, false, nat_eq, Option, Some, None}
+use Rattle.std.specs.Prelude.{ℕ, Bool, true, false, nat_eq, Option, Some, None, option_map}
 use Rattle.pg_check.specs.declared.error.CheckError.{CheckError}
 use Rattle.pg_check.specs.declared.error.CheckError.TheVariants as checks
+use Rattle.pg_dyn.specs.declared.error.DynError.{DynError}
+use Rattle.pg_dyn.specs.declared.error.DynError.TheVariants as messages
+use Rattle.pg_fds.specs.declared.error.FdsError.{FdsError}
+use Rattle.pg_fds.specs.declared.error.FdsError.TheVariants as sets
 use Rattle.pg_lex.specs.declared.error.LexError.{LexError}
 use Rattle.pg_lex.specs.declared.error.LexError.TheVariants as lex
 use Rattle.pg_link.specs.declared.error.LinkError.{LinkError}
@@ -9,6 +13,10 @@ use Rattle.pg_link.specs.declared.error.LinkError.TheVariants as links
 use Rattle.pg_link.specs.declared.error.Place.{Place}
 use Rattle.pg_syntax.specs.declared.error.SyntaxError.{SyntaxError}
 use Rattle.pg_syntax.specs.declared.error.SyntaxError.TheVariants as syntax
+use Rattle.pg_wire.specs.Errors.{place_of}
+use Rattle.pg_wire.specs.declared.error.WireError.{WireError}
+use Rattle.pg_wire.specs.declared.error.WireError.TheVariants as wires
+use Rattle.pg_gate.specs.Call.{Request, compile, gate, show, verify}
 use Rattle.pg_gate.specs.declared.error.CertificateFault.{CertificateFault}
 use Rattle.pg_gate.specs.declared.error.CertificateFault.TheVariants as certificates
 use Rattle.pg_gate.specs.declared.error.ClaimFault.{ClaimFault}
@@ -16,11 +24,11 @@ use Rattle.pg_gate.specs.declared.error.ClaimFault.TheVariants as claims
 use Rattle.pg_gate.specs.declared.error.Fault.{Fault}
 use Rattle.pg_gate.specs.declared.error.Fault.TheVariants as faults
 use Rattle.pg_gate.specs.declared.error.GateError.{GateError}
-use Rattle.pg_gate.specs.declared.error.GateError.TheVariants.{Memory, RootMissingOld, RootMissingNew, Compile, Certificate, WriteFailed}
+use Rattle.pg_gate.specs.declared.error.GateError.TheVariants.{Memory, RootMissingOld, RootMissingNew, Compile, Certificate, WriteFailed, BadHex, Bytes}
 use Rattle.pg_gate.specs.declared.refusal.Location.{Location}
-use Rattle.pg_gate.specs.declared.refusal.Location.TheVariants.{Nowhere, InPlace, InFile, AtPair, AtChoice}
+use Rattle.pg_gate.specs.declared.refusal.Location.TheVariants.{Nowhere, InPlace, InFile, AtByte, AtPair, AtChoice}
 use Rattle.pg_gate.specs.declared.refusal.Refusal.{Refusal}
-use Rattle.pg_gate.specs.declared.refusal.Told.{Told}
+use Rattle.pg_gate.specs.declared.told.Told.{Told}
 
 abbrev pub lex_code : LexError → ℕ
 lex_code lex.Memory = 1
@@ -87,13 +95,43 @@ told_of_check (checks.EnumEmpty place) = told_at 414 place
 told_of_check (checks.BadParts place) = record { code = 415; location = Nowhere }
 told_of_check checks.Memory = record { code = 1; location = Nowhere }
 
-abbrev pub told_of : Fault → Told
-told_of (faults.Link error) = told_of_link error
-told_of (faults.Check error) = told_of_check error
-
 -- a code alone
 abbrev pub told_alone : ℕ → Told
 told_alone code = record { code = code; location = Nowhere }
+
+-- a code, and a byte of the whole input
+abbrev pub told_at_byte : ℕ → ℕ → Told
+told_at_byte code at = record { code = code; location = AtByte at }
+
+abbrev pub wire_code : WireError → ℕ
+wire_code (wires.VarintTooLong at) = 501
+wire_code (wires.Truncated at) = 502
+wire_code (wires.BadTag at) = 503
+wire_code (wires.Group at) = 504
+wire_code (wires.BadWireType at) = 505
+
+abbrev pub told_of_message : DynError → Told
+told_of_message messages.Memory = told_alone 1
+told_of_message messages.NoSuchField = told_alone 601
+told_of_message messages.WrongKind = told_alone 602
+told_of_message messages.OutOfRange = told_alone 603
+told_of_message (messages.NotUtf8 (Some at)) = told_at_byte 604 at
+told_of_message (messages.NotUtf8 None) = told_alone 604
+told_of_message messages.OneofTwice = told_alone 605
+told_of_message messages.DuplicateKey = told_alone 606
+told_of_message messages.TooLong = told_alone 607
+told_of_message (messages.TooDeep at) = told_at_byte 608 at
+told_of_message (messages.Wire error) = told_at_byte (wire_code error) (place_of error)
+
+-- the code of what the codec of messages refuses
+abbrev pub told_of_set : FdsError → Told
+told_of_set sets.Memory = told_alone 1
+told_of_set (sets.Bytes error) = told_of_message error
+
+abbrev pub told_of : Fault → Told
+told_of (faults.Link error) = told_of_link error
+told_of (faults.Check error) = told_of_check error
+told_of (faults.Set error) = told_of_set error
 
 abbrev pub told_of_claim : ClaimFault → Told
 told_of_claim claims.BadText = told_alone 801
@@ -118,3 +156,16 @@ refusal_of RootMissingNew = Some (record { side = None; code = 902; location = N
 refusal_of (Compile side fault) = Some (record { side = Some side; code = (told_of fault).code; location = (told_of fault).location })
 refusal_of (Certificate fault) = Some (record { side = None; code = (told_of_certificate fault).code; location = (told_of_certificate fault).location })
 refusal_of WriteFailed = None
+refusal_of BadHex = Some (record { side = None; code = 905; location = Nowhere })
+refusal_of (Bytes error) = Some (record { side = None; code = (told_of_message error).code; location = (told_of_message error).location })
+
+-- files that are compiled by themselves have no side
+abbrev pub without_side : Refusal → Refusal
+without_side refusal = record { side = None; code = refusal.code; location = refusal.location }
+
+-- the refusal that is printed for an error of a call
+abbrev pub refusal_for : Request → GateError → Option Refusal
+refusal_for (compile dir files) error = option_map without_side (refusal_of error)
+refusal_for (gate sides root certificate_only both) error = refusal_of error
+refusal_for (show dir file root word) error = option_map without_side (refusal_of error)
+refusal_for (verify sides certificate) error = refusal_of error

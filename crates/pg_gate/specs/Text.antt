@@ -54,6 +54,11 @@ finding_of root (finding.Breaks witness) =
 finding_of root (finding.Certified text breaks) = string_bytes text
 finding_of root (finding.Verified verified) = verified_of verified
 
+-- `forward` and what is found, `backward` and what is found with the sides exchanged
+abbrev pub both_of : Text → Finding → Finding → Text
+both_of root forward backward = (codes "forward" ++ line_end)
+    ++ (finding_of root forward ++ ((codes "backward" ++ line_end) ++ finding_of root backward))
+
 -- ---- refusals
 
 -- `FILE:LINE:COLUMN`
@@ -73,6 +78,7 @@ abbrev pub location_of : Location → Text
 location_of location.Nowhere = []
 location_of (location.InPlace place) = codes " " ++ place_of place
 location_of (location.InFile file) = codes " " ++ string_bytes file
+location_of (location.AtByte at) = codes " at " ++ decimal at
 location_of (location.AtPair names) = codes " " ++ (string_bytes names.old ++ (codes " " ++ string_bytes names.new))
 location_of (location.AtChoice names number case) =
     codes " " ++ (string_bytes names.old ++ (codes " " ++ (string_bytes names.new ++ (codes " " ++ (decimal number

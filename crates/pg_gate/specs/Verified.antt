@@ -86,6 +86,8 @@ IsClaimError old new bytes errors.RootMissingNew = ⊥
 IsClaimError old new bytes (errors.Compile side fault) = ⊥
 IsClaimError old new bytes (errors.Certificate fault) = IsOfClaim old new bytes fault
 IsClaimError old new bytes errors.WriteFailed = ⊥
+IsClaimError old new bytes errors.BadHex = ⊥
+IsClaimError old new bytes (errors.Bytes error) = ⊥
 
 -- what is told of a checker's error: the same fault, with names for the pair
 abbrev pub refused : ClaimFault → GateError

@@ -1,14 +1,28 @@
 //! What a command line calls for.
 
 /// The words of a command line, as they are meant.
-#[derive(Clone, Copy, Debug)]
+#[derive(Debug, Drop)]
 pub enum Call<'a> {
+    /// The descriptor set of the files at these paths below the folder, and of all that they import.
+    Compile {
+        dir: &'a str,
+        files: Vec<&'a str>,
+    },
     /// What a reader of the new type sees of the messages that a writer of the old one writes; the
-    /// certificate alone where that is asked for.
+    /// certificate alone where that is asked for, and else both directions where these are.
     Gate {
         sides: Sides<'a>,
         root: &'a str,
         certificate_only: bool,
+        both: bool,
+    },
+    /// The message that the bytes of this word are read as, by the type of this full name in the file of
+    /// this path below the folder.
+    Show {
+        dir: &'a str,
+        file: &'a str,
+        root: &'a str,
+        word: &'a str,
     },
     /// Whether the certificate in the file of this path holds of the two sides.
     Verify {

@@ -13,18 +13,33 @@ use std::alloc::{AllocError, Global};
 
 /// What help says of the statuses.
 const STATUSES: &str = "Statuses:
-  0  compatible: the new reader sees all that the old writer writes
-  1  breaks: it doesn't see all of some message
-  2  refused: a fault in a file or a certificate, or the message type is missing
+  0  compatible: the new reader sees all that the old writer writes; or a set is written, or a message shown
+  1  breaks: it doesn't see all of some message, of both directions in either
+  2  refused: a fault in a file, a certificate or bytes, or the message type is missing
   3  out of memory, or a file or the output failed
   4  help, or words that are no call
   5  bound: a certificate says only how long a message is at least that breaks";
 
+/// What help says of the statuses of a set that is written.
+const COMPILE_STATUSES: &str = "Statuses:
+  0  the set is written to standard output, and nothing else
+  2  refused: a fault in a file
+  3  out of memory, or a file or the output failed
+  4  help, or words that are no call";
+
 /// What help says of the gate's statuses.
 const GATE_STATUSES: &str = "Statuses:
   0  compatible: the new reader sees all that the old writer writes
-  1  breaks: it doesn't see all of some message
+  1  breaks: it doesn't see all of some message, of both directions in either
   2  refused: a fault in a file, or the message type is missing
+  3  out of memory, or a file or the output failed
+  4  help, or words that are no call
+  5  never of gate: only verify ends so, where a certificate says a bound alone";
+
+/// What help says of the statuses of a message that is shown.
+const SHOW_STATUSES: &str = "Statuses:
+  0  the message is shown
+  2  refused: a fault in a file, the message type is missing, or HEX is none or no message of it
   3  out of memory, or a file or the output failed
   4  help, or words that are no call";
 
@@ -69,6 +84,14 @@ fn positional<'a>(alloc: Global, name: &'a str, help: &'a str) -> Arg<'a>
     Arg::new(alloc, name).required(true).help(help)
 }
 
+/// One or more of them.
+fn positionals<'a>(alloc: Global, name: &'a str, help: &'a str) -> Arg<'a>
+    ensures rule { rule_of result ≡ command_line.positionals name.entry.now }
+    ensures local { result.global ≡ false }
+{
+    positional(alloc, name, help).action(ArgAction::Append)
+}
+
 /// An option without a value.
 fn flag<'a>(alloc: Global, name: &'a str, help: &'a str) -> Arg<'a>
     ensures rule { rule_of result ≡ command_line.flag name.entry.now }
@@ -78,6 +101,16 @@ fn flag<'a>(alloc: Global, name: &'a str, help: &'a str) -> Arg<'a>
         .long(name)
         .action(ArgAction::SetTrue)
         .help(help)
+}
+
+fn compile_command<'a>(alloc: Global) -> Result<Command<'a>, AllocError>
+    ensures { IfOk result (HasApp command_line.compile_app) }
+{
+    Command::new(alloc, "compile")
+        .about("Write the descriptor set of proto3 files and of all that they import")
+        .after_help(COMPILE_STATUSES)
+        .arg(folder(alloc, "dir", "The folder of the files and of their imports"))?
+        .arg(positionals(alloc, "FILE", "The proto3 files"))
 }
 
 fn gate_command<'a>(alloc: Global) -> Result<Command<'a>, AllocError>
@@ -95,6 +128,11 @@ fn gate_command<'a>(alloc: Global) -> Result<Command<'a>, AllocError>
             alloc,
             "cert",
             "Write the certificate alone, which shows the answer",
+        ))?
+        .arg(flag(
+            alloc,
+            "both",
+            "Ask for both directions; with --cert it does nothing",
         ))
 }
 
@@ -115,18 +153,40 @@ fn verify_command<'a>(alloc: Global) -> Result<Command<'a>, AllocError>
         ))
 }
 
+fn show_command<'a>(alloc: Global) -> Result<Command<'a>, AllocError>
+    ensures { IfOk result (HasApp command_line.show_app) }
+{
+    Command::new(alloc, "show")
+        .about(
+            "Show what the bytes of a message are read as, and the bytes that are written of it again",
+        )
+        .after_help(SHOW_STATUSES)
+        .arg(folder(alloc, "dir", "The folder of the file and of its imports"))?
+        .arg(named(alloc, "file", "F", "The proto3 file"))?
+        .arg(named(alloc, "type", "NAME", "The message type, by its full name"))?
+        .arg(positional(
+            alloc,
+            "HEX",
+            "The bytes, in hexadecimal, two digits each; - for no bytes",
+        ))
+}
+
 /// The whole command line, but for the program's name.
 fn whole_command<'a>(alloc: Global) -> Result<Command<'a>, AllocError>
     ensures { IfOk result (HasApp command_line.whole_app) }
 {
     Command::new(alloc, "protogate")
         .bin_name("protogate")?
-        .about("Compare proto3 message types before a changed file is released")
+        .about(
+            "Compare proto3 message types before a changed file is released, write descriptor sets, and show messages",
+        )
         .after_help(STATUSES)
         .no_binary_name(true)
         .subcommand_required(true)
+        .subcommand(compile_command(alloc)?)?
         .subcommand(gate_command(alloc)?)?
-        .subcommand(verify_command(alloc)?)
+        .subcommand(verify_command(alloc)?)?
+        .subcommand(show_command(alloc)?)
 }
 
 /// The value of an option or of a word.
@@ -134,6 +194,17 @@ fn text<'a>(found: &ArgMatches<'a>, name: &str) -> &'a str
     ensures { result.now ≡ spec.text_at name.now (rows_of (found_of found.now)) }
 {
     found.get_str(name).unwrap_or("")
+}
+
+/// The values of a word that may come more than once.
+fn texts<'a>(alloc: Global, found: &ArgMatches<'a>, name: &str) -> Result<Vec<&'a str>, AllocError>
+    ensures { IfOk result (λ values.
+        texts values.items ≡ spec.texts_at name.now (rows_of (found_of found.now))) }
+{
+    match found.get_strs(name) {
+        Some(values) => Vec::from_slice(alloc, values),
+        None => Ok(Vec::new(alloc)),
+    }
 }
 
 /// Whether an option without a value is there.
@@ -157,6 +228,16 @@ fn sides<'a>(found: &ArgMatches<'a>) -> Sides<'a>
     }
 }
 
+fn compile_call<'a>(alloc: Global, found: &ArgMatches<'a>) -> Result<Call<'a>, AllocError>
+    ensures { IfOk result (λ call.
+        spec.request_of call ≡ spec.compile_in (rows_of (found_of found.now))) }
+{
+    Ok(Call::Compile {
+        dir: text(found, "dir"),
+        files: texts(alloc, found, "FILE")?,
+    })
+}
+
 fn gate_call<'a>(found: &ArgMatches<'a>) -> Call<'a>
     ensures { spec.request_of result ≡ spec.gate_in (rows_of (found_of found.now)) }
 {
@@ -164,6 +245,7 @@ fn gate_call<'a>(found: &ArgMatches<'a>) -> Call<'a>
         sides: sides(found),
         root: text(found, "type"),
         certificate_only: is_set(found, "cert"),
+        both: is_set(found, "both"),
     }
 }
 
@@ -176,13 +258,27 @@ fn verify_call<'a>(found: &ArgMatches<'a>) -> Call<'a>
     }
 }
 
+fn show_call<'a>(found: &ArgMatches<'a>) -> Call<'a>
+    ensures { spec.request_of result ≡ spec.show_in (rows_of (found_of found.now)) }
+{
+    Call::Show {
+        dir: text(found, "dir"),
+        file: text(found, "file"),
+        root: text(found, "type"),
+        word: text(found, "HEX"),
+    }
+}
+
 /// What the subcommand of this name calls for.
-fn call_in<'a>(name: &str, found: &ArgMatches<'a>) -> Call<'a>
-    ensures { spec.request_of result ≡ spec.request_in (name.now, rows_of (found_of found.now)) }
+fn call_in<'a>(alloc: Global, name: &str, found: &ArgMatches<'a>) -> Result<Call<'a>, AllocError>
+    ensures { IfOk result (λ call.
+        spec.request_of call ≡ spec.request_in (name.now, rows_of (found_of found.now))) }
 {
     match name {
-        "gate" => gate_call(found),
-        _ => verify_call(found),
+        "compile" => compile_call(alloc, found),
+        "gate" => Ok(gate_call(found)),
+        "verify" => Ok(verify_call(found)),
+        _ => Ok(show_call(found)),
     }
 }
 
@@ -195,5 +291,5 @@ pub(crate) fn call_of<'a>(alloc: Global, words: &'a [&'a str]) -> Result<Call<'a
 {
     let matches = whole_command(alloc)?.try_get_matches_from(words)?;
     let (name, found) = matches.subcommand().unwrap();
-    Ok(call_in(name, found))
+    Ok(call_in(alloc, name, found)?)
 }

@@ -2,6 +2,8 @@
 
 use crate::sink::SinkError;
 use pg_check::CheckError;
+use pg_dyn::DynError;
+use pg_fds::FdsError;
 use pg_link::LinkError;
 use std::alloc::{AllocError, AllocFailed};
 use std::fmt;
@@ -23,6 +25,9 @@ pub enum Fault {
     /// They break a rule of the language: by its code, at its place.
     #[error("{0}")]
     Check(CheckError),
+    /// What it declares has no descriptor set: by the code of what the codec of messages refuses.
+    #[error("{0}")]
+    Set(FdsError),
 }
 
 /// The full names of an old and a new message type.
@@ -88,7 +93,7 @@ pub enum GateError {
     /// E902: the new schema has none.
     #[error("the new schema has no such message type")]
     RootMissingNew,
-    /// E903: a side does not compile.
+    /// E903: a side does not compile. Of files that are compiled by themselves the side is the old one.
     #[error("the {0} side does not compile: {1}")]
     Compile(Side, Fault),
     /// E301, E309, E801 to E807: a certificate is not taken.
@@ -97,6 +102,13 @@ pub enum GateError {
     /// E904: the sink failed.
     #[error("the output could not be written")]
     WriteFailed,
+    /// E905: a word that stands for bytes has an odd number of hexadecimal digits, or another character.
+    #[error("no hexadecimal digits, two a byte")]
+    BadHex,
+    /// E501 to E505, E604, E607, E608: bytes that are to be shown aren't read as a message, or the message has
+    /// no encoding.
+    #[error("the bytes are refused: {0}")]
+    Bytes(DynError),
 }
 
 impl fmt::Display for Side {

@@ -4,19 +4,30 @@ ghost use Rattle.pg_cert.specs.Text.{IsClaimOf};
 ghost use Rattle.pg_gate.specs.Answer.{IsRefusedRoot};
 ghost use Rattle.pg_gate.specs.Call.{request_of, sides_of};
 ghost use Rattle.pg_gate.specs.Files.{paths_of};
-ghost use Rattle.pg_gate.specs.Grants.{Grants, IsErrorFor, IsFinding, IsFindingOf, IsFoundFor, IsGateError, Tells, TellsAnswer, TellsCertificate, files_at, seen};
+ghost use Rattle.pg_gate.specs.Grants.{Between, Grants, IsErrorFor, IsFindingOf, IsGateError, IsGateReply, IsReplyFor, Tells, TellsAnswer, TellsCertificate, files_at, seen};
 
 use crate::answer::gate;
 use crate::call::{Call, Sides};
 use crate::compile::compile;
 use crate::error::{GateError, Side};
-use crate::refusal::refusal_of;
+use crate::refusal::refusal_for;
 use crate::reply::{Finding, Reply};
+use crate::showing::shown;
 use crate::verifying::verify;
+use crate::writing::written;
 use pg_cert::{Certificate, to_text};
 use pg_link::Sources;
 use pg_schema::Schema;
 use std::alloc::{AllocError, Global};
+
+/// What a gate is asked.
+#[derive(Clone, Copy)]
+struct Asked<'a> {
+    sides: &'a Sides<'a>,
+    root: &'a str,
+    certificate_only: bool,
+    both: bool,
+}
 
 /// What is told of an answer with this certificate: its witness's bytes, where it has one.
 fn told(alloc: Global, certificate: &Certificate) -> Result<Finding, AllocError>
@@ -64,8 +75,8 @@ fn finding_of(
     }
 }
 
-/// What the gate finds between two schemas.
-fn between(
+/// What the gate finds from an old to a new schema.
+fn one_way(
     alloc: Global,
     old: &Schema,
     new: &Schema,
@@ -83,43 +94,70 @@ fn between(
     Ok(finding)
 }
 
-/// What the gate finds between the two sides.
-fn find<S: Sources, T: Sources>(
+/// What the gate answers of two schemas: for the certificate alone, or in one direction or both.
+fn between(
     alloc: Global,
-    sides: &Sides<'_>,
+    old: &Schema,
+    new: &Schema,
     root: &str,
     certificate_only: bool,
+    both: bool,
+) -> Result<Reply, GateError>
+    ensures found { IfOk result (IsGateReply old.now new.now root.now certificate_only both) }
+    ensures refused { IfErr result (IsRefusedRoot old.now new.now root.now) }
+{
+    let forward = one_way(alloc, old, new, root, certificate_only)?;
+    if certificate_only || !both {
+        return Ok(Reply::Found(forward));
+    }
+    let backward = one_way(alloc, new, old, root, false)?;
+    Ok(Reply::Both { forward, backward })
+}
+
+/// What the gate answers of the two sides.
+fn find<S: Sources, T: Sources>(
+    alloc: Global,
+    asked: &Asked<'_>,
     old: &mut S,
     new: &mut T,
-) -> Result<Finding, GateError>
-    ensures found { IfOk result (IsFinding root.now certificate_only
+) -> Result<Reply, GateError>
+    ensures found { IfOk result (λ reply. Between
         (seen (S.may_give old.old) (S.may_lack old.old) (S.failures old.old) (S.failures old.new))
         (seen (T.may_give new.old) (T.may_lack new.old) (T.failures new.old) (T.failures new.new))
-        (files_at sides.now.old_dir.now (sides.now.old.now ∷ []))
-        (files_at sides.now.new_dir.now (sides.now.new.now ∷ []))) }
-    ensures refused { IfErr result (IsGateError root.now
+        (files_at asked.now.sides.now.old_dir.now (asked.now.sides.now.old.now ∷ []))
+        (files_at asked.now.sides.now.new_dir.now (asked.now.sides.now.new.now ∷ []))
+        (λ a b. IsGateReply a b asked.now.root.now asked.now.certificate_only asked.now.both reply)) }
+    ensures refused { IfErr result (IsGateError asked.now.root.now
         (seen (S.may_give old.old) (S.may_lack old.old) (S.failures old.old) (S.failures old.new))
         (seen (T.may_give new.old) (T.may_lack new.old) (T.failures new.old) (T.failures new.new))
-        (files_at sides.now.old_dir.now (sides.now.old.now ∷ []))
-        (files_at sides.now.new_dir.now (sides.now.new.now ∷ []))) }
+        (files_at asked.now.sides.now.old_dir.now (asked.now.sides.now.old.now ∷ []))
+        (files_at asked.now.sides.now.new_dir.now (asked.now.sides.now.new.now ∷ []))) }
     ensures old_given { S.may_give old.new ≡ S.may_give old.old }
     ensures old_lacked { S.may_lack old.new ≡ S.may_lack old.old }
     ensures new_given { T.may_give new.new ≡ T.may_give new.old }
     ensures new_lacked { T.may_lack new.new ≡ T.may_lack new.old }
 {
+    let sides = asked.sides;
     let old_schema = compile(alloc, old, Side::Old, sides.old_dir, &[sides.old])?;
     let new_schema = compile(alloc, new, Side::New, sides.new_dir, &[sides.new])?;
-    between(alloc, &old_schema, &new_schema, root, certificate_only)
+    between(
+        alloc,
+        &old_schema,
+        &new_schema,
+        asked.root,
+        asked.certificate_only,
+        asked.both,
+    )
 }
 
-/// What is found for a call.
-fn find_for<S: Sources, T: Sources>(
+/// What is answered to a call, where nothing is refused.
+fn reply_to<S: Sources, T: Sources>(
     alloc: Global,
     call: &Call<'_>,
     old: &mut S,
     new: &mut T,
-) -> Result<Finding, GateError>
-    ensures found { IfOk result (IsFoundFor
+) -> Result<Reply, GateError>
+    ensures answered { IfOk result (IsReplyFor
         (seen (S.may_give old.old) (S.may_lack old.old) (S.failures old.old) (S.failures old.new))
         (seen (T.may_give new.old) (T.may_lack new.old) (T.failures new.old) (T.failures new.new))
         (request_of call.now)) }
@@ -133,12 +171,32 @@ fn find_for<S: Sources, T: Sources>(
     ensures new_lacked { T.may_lack new.new ≡ T.may_lack new.old }
 {
     match call {
+        Call::Compile { dir, files } => Ok(Reply::Set(written(alloc, old, dir, files)?)),
         Call::Gate {
             sides,
             root,
             certificate_only,
-        } => find(alloc, sides, root, *certificate_only, old, new),
-        Call::Verify { sides, certificate } => verify(alloc, sides, certificate, old, new),
+            both,
+        } => find(
+            alloc,
+            &Asked {
+                sides,
+                root,
+                certificate_only: *certificate_only,
+                both: *both,
+            },
+            old,
+            new,
+        ),
+        Call::Show {
+            dir,
+            file,
+            root,
+            word,
+        } => Ok(Reply::Shown(shown(alloc, old, dir, file, root, word)?)),
+        Call::Verify { sides, certificate } => {
+            Ok(Reply::Found(verify(alloc, sides, certificate, old, new)?))
+        }
     }
 }
 
@@ -158,9 +216,9 @@ pub(crate) fn answer<S: Sources, T: Sources>(
     ensures new_given { T.may_give new.new ≡ T.may_give new.old }
     ensures new_lacked { T.may_lack new.new ≡ T.may_lack new.old }
 {
-    match find_for(alloc, call, old, new) {
-        Ok(finding) => Ok(Reply::Found(finding)),
-        Err(error) => match refusal_of(error) {
+    match reply_to(alloc, call, old, new) {
+        Ok(reply) => Ok(reply),
+        Err(error) => match refusal_for(call, error) {
             Some(refusal) => Ok(Reply::Refused(refusal)),
             None => Err(AllocError),
         },

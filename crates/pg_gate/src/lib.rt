@@ -12,10 +12,13 @@ mod hex;
 mod program;
 mod refusal;
 mod reply;
+mod showing;
 mod sink;
 mod standard_output;
+mod told;
 mod verified;
 mod verifying;
+mod writing;
 
 pub use answer::{Answer, gate, gate_files};
 pub use buffer::Buffer;

@@ -1,7 +1,7 @@
 //! What a call is answered, its text and its status.
 ghost use Rattle.std.specs.Prelude.{◌≡◌, Some, IfOk};
 ghost use Rattle.pg_gate.specs.Text as spec;
-ghost use Rattle.pg_gate.specs.Printed.{finding_status, status_of, text_of};
+ghost use Rattle.pg_gate.specs.Printed.{either_status, finding_status, status_of, text_of};
 
 use crate::hex::Hex;
 use crate::refusal::Refusal;
@@ -12,7 +12,14 @@ use std::fmt;
 /// What a call is answered.
 #[derive(Debug, Drop)]
 pub enum Reply {
+    /// The bytes of a descriptor set.
+    Set(Vec<u8>),
+    /// The lines of a message.
+    Shown(String),
+    /// What is found in the one direction that is asked for.
     Found(Finding),
+    /// What is found forward, and with the sides exchanged.
+    Both { forward: Finding, backward: Finding },
     Refused(Refusal),
 }
 
@@ -36,13 +43,22 @@ pub struct Report<'a> {
     pub finding: &'a Finding,
 }
 
+/// 1 where a message breaks in either direction, and else 0.
+fn either(forward: u8, backward: u8) -> u8
+    ensures { result ≡ either_status forward backward }
+{
+    if forward == 1 || backward == 1 { 1 } else { 0 }
+}
+
 impl Reply {
     /// The status with which a program ends that prints it.
     pub fn status(&self) -> u8
         ensures { result ≡ status_of self.now }
     {
         match self {
+            Reply::Set(_) | Reply::Shown(_) => 0,
             Reply::Found(finding) => finding.status(),
+            Reply::Both { forward, backward } => either(forward.status(), backward.status()),
             Reply::Refused(refusal) => refusal.status(),
         }
     }
@@ -52,12 +68,25 @@ impl Reply {
         ensures { IfOk result (λ text. text.items ≡ text_of root.now self) }
     {
         let text = match self {
+            Reply::Set(bytes) => return Ok(bytes),
+            Reply::Shown(text) => text,
             Reply::Found(finding) => {
                 let report = Report {
                     root,
                     finding: &finding,
                 };
                 format!(in alloc; "{report}")?
+            }
+            Reply::Both { forward, backward } => {
+                let forward = Report {
+                    root,
+                    finding: &forward,
+                };
+                let backward = Report {
+                    root,
+                    finding: &backward,
+                };
+                format!(in alloc; "forward\n{forward}backward\n{backward}")?
             }
             Reply::Refused(refusal) => format!(in alloc; "{refusal}")?,
         };

@@ -19,5 +19,7 @@ returns c =
       shape = ap app_of_fields fields ∙ ap (λ (a : App). record a { top = record a.top { no_binary_name = true; subcommand_required = true } }) bare.shape;
       local = ap (λ (f : Command-F Command). f.has_globals) fields ∙ bare.local;
     } in
-    let with_1 = with_sub c.in_ok-subcommand.field-0 start c.in_ok-gate_command.ensures refl (c.in_ok-subcommand.ensures.shape c.in_ok-gate_command.ensures.local) c.in_ok-subcommand.ensures.globals in
-    IfOk-weaker c.subcommand-2.result _ _ (λ r adds. with_sub r with_1 c.in_ok-verify_command.ensures refl (adds.shape c.in_ok-verify_command.ensures.local) adds.globals) c.subcommand-2.ensures
+    let with_1 = with_sub c.in_ok-subcommand.field-0 start c.in_ok-compile_command.ensures refl (c.in_ok-subcommand.ensures.shape c.in_ok-compile_command.ensures.local) c.in_ok-subcommand.ensures.globals in
+    let with_2 = with_sub c.in_ok-subcommand-2.field-0 with_1 c.in_ok-gate_command.ensures refl (c.in_ok-subcommand-2.ensures.shape c.in_ok-gate_command.ensures.local) c.in_ok-subcommand-2.ensures.globals in
+    let with_3 = with_sub c.in_ok-subcommand-3.field-0 with_2 c.in_ok-verify_command.ensures refl (c.in_ok-subcommand-3.ensures.shape c.in_ok-verify_command.ensures.local) c.in_ok-subcommand-3.ensures.globals in
+    IfOk-weaker c.subcommand-4.result _ _ (λ r adds. with_sub r with_3 c.in_ok-show_command.ensures refl (adds.shape c.in_ok-show_command.ensures.local) adds.globals) c.subcommand-4.ensures

@@ -1,0 +1,14 @@
+-- What files that no set is written of are refused for.
+use Rattle.std.proofs.Common.{◌≡◌, ◌⊎◌, inl, inr}
+use Rattle.pg_dyn.specs.declared.error.DynError.TheVariants as messages
+use Rattle.pg_fds.specs.Written.{HasNoSet}
+use Rattle.pg_fds.specs.declared.error.FdsError.{FdsError}
+use Rattle.pg_fds.specs.declared.error.FdsError.TheVariants as sets
+use Rattle.pg_link.specs.Walk.{World}
+use Rattle.pg_schema.specs.declared.parts.Parts.{Parts}
+use Rattle.pg_gate.specs.Files.{IsCompiled, IsUnwritten}
+
+pub unwritten : (w : World) (schema : Parts) → IsCompiled w schema → (error : FdsError) → (error ≡ sets.Memory → ⊥)
+    → (error ≡ sets.Memory) ⊎ ((error ≡ sets.Bytes messages.TooLong) × HasNoSet schema) → IsUnwritten w error
+unwritten w schema compiled error other (inl memory) = absurd (other memory)
+unwritten w schema compiled error other (inr told) = record { schema = schema; compiled = compiled; is_told = told.0; has_none = told.1 }
