@@ -1,12 +1,12 @@
 #!/usr/bin/env bash
-# How deep a nest of messages may be decoded, tested, encoded and dropped on a stack of 8 MB: by children, lists and maps.
-# usage: bench/depth.sh [FOLDER]    FOLDER keeps the built program for the next run.
+# How deep a nest of messages may be decoded, tested, encoded and dropped on a stack of so many KiB: by children, lists and maps.
+# usage: bench/depth.sh [FOLDER [KIB]]    FOLDER keeps the built program for the next run; by default the stack has 8,192 KiB.
 set -eu
 top=$(cd "$(dirname "$0")/.." && pwd)
 work=${1:-$(mktemp -d)}
 . "$top/bench/build.sh"
 build_bench "$top" "$work" depth depth_main.rt.txt "pg_wire pg_schema pg_dyn anyhow"
-ulimit -s 8192
+ulimit -S -s "${2:-8192}"
 program="$work/crates/depth/out/depth"
 
 # The last step of a nest of the kind and as many levels.

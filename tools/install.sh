@@ -10,7 +10,15 @@ if [ "$status" -ne 4 ]; then
     echo "install: protogate isn't built" >&2
     exit 1
 fi
-mkdir -p -- "$prefix/bin" "$prefix/share/man/man1"
-install -m 755 "$root/crates/protogate/out/protogate" "$prefix/bin/protogate"
+mkdir -p -- "$prefix/bin" "$prefix/libexec" "$prefix/share/man/man1"
+prefix=$(CDPATH= cd -- "$prefix" && pwd -P)
+install -m 755 "$root/crates/protogate/out/protogate" "$prefix/libexec/protogate"
+# What users call gives the program the stack that messages nested deep need.
+cat >"$prefix/bin/protogate" <<END
+#!/bin/sh
+ulimit -S -s 1048576 2>/dev/null || ulimit -S -s "\$(ulimit -H -s)" 2>/dev/null
+exec '$prefix/libexec/protogate' "\$@"
+END
+chmod 755 "$prefix/bin/protogate"
 install -m 644 "$root/docs/protogate.1" "$prefix/share/man/man1/protogate.1"
 echo "installed $prefix/bin/protogate"

@@ -12,7 +12,7 @@ returns-in-Ok-Some c =
       place = nowhere;
       is_nowhere = record { file = c.new.ensures.bytes; line = refl; column = refl };
       is = c.error_of.ensures;
-    })
+    }) c.requires
 
 pub returns-in-Ok-None : goal.returns-in-Ok-None
 returns-in-Ok-None c = bad (record { file = c.new.result; line = 0; column = 0 }) (sym c.in-Ok-None.ensures ∙ c.in-Ok-None.field-0-is) c.requires
