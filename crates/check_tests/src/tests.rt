@@ -1,5 +1,6 @@
 //! The rules, on small texts.
 
+mod constructs;
 mod files;
 mod memory;
 mod parts;
@@ -8,7 +9,9 @@ mod shapes;
 
 use pg_check::{CheckError, build};
 use pg_link::{LinkError, Linked, Listed, Place, link};
+use pg_schema::Schema;
 use std::alloc::{AllocError, Global};
+use std::process::Abort;
 use std::test::Fail;
 
 /// A file whose second line is this one.
@@ -52,10 +55,15 @@ pub(crate) fn line(alloc: Global, error: &CheckError) -> Result<String, AllocErr
     format!(in alloc; "E{code} {file}:{line}:{column}")
 }
 
+/// What linked files declare.
+pub(crate) fn built(alloc: Global, linked: &Linked) -> Result<Schema, CheckError> {
+    build(alloc, linked)
+}
+
 /// What the files are refused with, or `taken`.
 pub(crate) fn told_files(alloc: Global, files: &[(&str, &[u8])]) -> Result<String, Fail> {
     let linked = linked_of(alloc, files)?;
-    match build(alloc, &linked) {
+    match built(alloc, &linked) {
         Ok(_) => Ok(String::from_str(alloc, "taken")?),
         Err(error) => Ok(line(alloc, &error)?),
     }
@@ -71,4 +79,25 @@ pub(crate) fn told(alloc: Global, line: &str) -> Result<String, Fail> {
 pub(crate) fn told_of(alloc: Global, fields: &str) -> Result<String, Fail> {
     let line = format!(in alloc; "message M {{ {fields} }}")?;
     told(alloc, &line)
+}
+
+/// Asserts that this is told.
+pub(crate) fn is_told(rt: &impl Abort, found: &str, wanted: &str) {
+    assert_eq!(rt; found, wanted);
+}
+
+/// A file with this second line is refused with that, or `taken`.
+pub(crate) fn tells<R: Abort + AllocGlobal>(rt: &R, line: &str, wanted: &str) -> Result<(), Fail> {
+    is_told(rt, &told(rt.alloc(), line)?, wanted);
+    Ok(())
+}
+
+/// The same of a message with these fields.
+pub(crate) fn tells_of<R: Abort + AllocGlobal>(
+    rt: &R,
+    fields: &str,
+    wanted: &str,
+) -> Result<(), Fail> {
+    is_told(rt, &told_of(rt.alloc(), fields)?, wanted);
+    Ok(())
 }

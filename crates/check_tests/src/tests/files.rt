@@ -1,13 +1,12 @@
-use super::shapes::{item, schema};
-use super::told_files;
-use pg_schema::{Element, EnumId, Presence, TypeId};
+use super::shapes::{item, many, schema};
+use super::{is_told, text_of, told_files};
+use pg_schema::{Element, EnumId, Parts, Presence, Service, TypeId};
+use std::process::Abort;
 use std::test::*;
 
 /// Message types and enums are counted over all files, each file behind those that it imports.
-#[test]
-fn named_types(rt: HostRuntime) -> Result<(), Fail> {
-    let schema = schema(rt.alloc())?;
-    let fields = &item(&schema.parts().types, 1)?.fields;
+fn has_named_types(rt: &impl Abort, parts: &Parts) -> Result<(), Fail> {
+    let fields = &item(&parts.types, 1)?.fields;
     let other = item(fields, 5)?;
     assert_eq!(rt; other.element, Element::Message(TypeId { index: 0 }));
     assert_eq!(rt; other.presence, Presence::Explicit);
@@ -22,9 +21,12 @@ fn named_types(rt: HostRuntime) -> Result<(), Fail> {
 }
 
 #[test]
-fn lists_and_maps_of_named_types(rt: HostRuntime) -> Result<(), Fail> {
-    let schema = schema(rt.alloc())?;
-    let fields = &item(&schema.parts().types, 1)?.fields;
+fn named_types(rt: HostRuntime) -> Result<(), Fail> {
+    has_named_types(&rt, schema(rt.alloc())?.parts())
+}
+
+fn has_lists_and_maps_of_named_types(rt: &impl Abort, parts: &Parts) -> Result<(), Fail> {
+    let fields = &item(&parts.types, 1)?.fields;
     let list = item(fields, 9)?;
     assert_eq!(rt; list.element, Element::Enum(EnumId { index: 2 }));
     assert_eq!(rt; list.presence, Presence::Repeated { packed: true });
@@ -36,21 +38,34 @@ fn lists_and_maps_of_named_types(rt: HostRuntime) -> Result<(), Fail> {
 }
 
 #[test]
-fn services(rt: HostRuntime) -> Result<(), Fail> {
-    let schema = schema(rt.alloc())?;
-    let parts = schema.parts();
-    let first = item(&parts.services, 0)?;
-    assert_eq!(rt; first.name.as_str(), "r.T");
-    assert_eq!(rt; first.options.deprecated, Some(false));
-    let get = item(&first.methods, 0)?;
+fn lists_and_maps_of_named_types(rt: HostRuntime) -> Result<(), Fail> {
+    has_lists_and_maps_of_named_types(&rt, schema(rt.alloc())?.parts())
+}
+
+fn is_first(rt: &impl Abort, service: &Service) -> Result<(), Fail> {
+    assert_eq!(rt; service.name.as_str(), "r.T");
+    assert_eq!(rt; service.options.deprecated, Some(false));
+    let get = item(&service.methods, 0)?;
     assert_eq!(rt; (get.input.index, get.output.index), (0, 0));
     assert_eq!(rt; (get.client_streaming, get.server_streaming), (false, true));
     assert_eq!(rt; get.options.deprecated, Some(true));
-    let put = item(&item(&parts.services, 1)?.methods, 0)?;
+    Ok(())
+}
+
+fn is_second(rt: &impl Abort, service: &Service) -> Result<(), Fail> {
+    let put = item(&service.methods, 0)?;
     assert_eq!(rt; put.name.as_str(), "Put");
     assert_eq!(rt; (put.input.index, put.output.index), (1, 0));
     assert_eq!(rt; (put.client_streaming, put.server_streaming), (true, false));
     Ok(())
+}
+
+#[test]
+fn services(rt: HostRuntime) -> Result<(), Fail> {
+    let schema = schema(rt.alloc())?;
+    let services = schema.parts().services.as_slice();
+    is_first(&rt, item(services, 0)?)?;
+    is_second(&rt, item(services, 1)?)
 }
 
 const IMPORTS: &str = "syntax = \"proto3\";\nimport \"b.proto\";\nmessage M { int32 a = 0; }\n";
@@ -59,25 +74,28 @@ const BROKEN: &str = "syntax = \"proto3\";\n\nmessage N { int32 b = 1; int32 c =
 
 const SOUND: &str = "syntax = \"proto3\";\nmessage N { }\n";
 
+/// The file with an import and this one are refused with that.
+fn tells_of_two<R: Abort + AllocGlobal>(rt: &R, imported: &str, wanted: &str) -> Result<(), Fail> {
+    let files = [
+        ("a.proto", IMPORTS.as_bytes()),
+        ("b.proto", imported.as_bytes()),
+    ];
+    is_told(rt, &told_files(rt.alloc(), &files)?, wanted);
+    Ok(())
+}
+
 /// A file is looked at behind those that it imports.
 #[test]
 fn the_first_broken_file(rt: HostRuntime) -> Result<(), Fail> {
-    let alloc = rt.alloc();
-    let first = told_files(
-        alloc,
-        &[
-            ("a.proto", IMPORTS.as_bytes()),
-            ("b.proto", BROKEN.as_bytes()),
-        ],
-    )?;
-    assert_eq!(rt; first.as_str(), "E402 b.proto:3:32");
-    let second = told_files(
-        alloc,
-        &[
-            ("a.proto", IMPORTS.as_bytes()),
-            ("b.proto", SOUND.as_bytes()),
-        ],
-    )?;
-    assert_eq!(rt; second.as_str(), "E401 a.proto:3:19");
-    Ok(())
+    tells_of_two(&rt, BROKEN, "E402 b.proto:3:32")?;
+    tells_of_two(&rt, SOUND, "E401 a.proto:3:19")
+}
+
+/// Message types are counted over all files; the first too many is told at its name, before what is wrong in it.
+#[test]
+fn too_many_message_types_in_two_files(rt: HostRuntime) -> Result<(), Fail> {
+    let most = many(rt.alloc(), "", 4095)?;
+    let line = format!(in rt.alloc(); "package b; {most}")?;
+    let imported = text_of(rt.alloc(), &line)?;
+    tells_of_two(&rt, &imported, "E413 a.proto:3:9")
 }

@@ -1,9 +1,35 @@
 //! Each allocation refused in turn: `rt try --test --fail-alloc N`.
-use super::parts::{field, parts_of};
+use super::parts::{admitted, field, parts_of};
 use super::shapes::{ALL, IMPORTED};
-use super::{line, linked_of};
-use pg_check::{CheckError, admit, build};
+use super::{built, is_told, line, linked_of};
+use pg_check::CheckError;
+use pg_schema::Schema;
+use std::process::Abort;
 use std::test::*;
+
+/// The schema has so many message types, or memory was refused.
+fn has_types(rt: &impl Abort, made: Result<Schema, CheckError>, count: usize) {
+    match made {
+        Ok(schema) => assert_eq!(rt; schema.parts().types.len(), count),
+        Err(error) => assert_eq!(rt; error, CheckError::Memory),
+    }
+}
+
+/// That is told of what is refused, or memory was refused.
+fn tells_or_lacks_memory<R: Abort + AllocGlobal>(
+    rt: &R,
+    made: Result<Schema, CheckError>,
+    wanted: &str,
+) -> Result<(), Fail> {
+    match made {
+        Ok(_) => Err(Fail::from("taken")),
+        Err(CheckError::Memory) => Ok(()),
+        Err(error) => {
+            is_told(rt, &line(rt.alloc(), &error)?, wanted);
+            Ok(())
+        }
+    }
+}
 
 /// The schema is built, or memory was refused.
 #[test]
@@ -16,10 +42,7 @@ fn a_refused_growth_of_a_schema_is_told(rt: HostRuntime) -> Result<(), Fail> {
             ("a.proto", IMPORTED.as_bytes()),
         ],
     )?;
-    match build(alloc, &linked) {
-        Ok(schema) => assert_eq!(rt; schema.parts().types.len(), 3),
-        Err(error) => assert_eq!(rt; error, CheckError::Memory),
-    }
+    has_types(&rt, built(alloc, &linked), 3);
     Ok(())
 }
 
@@ -30,14 +53,7 @@ const BROKEN: &str = "syntax = \"proto3\";\nmessage M { int32 a = 1; int32 b = 1
 fn a_refused_growth_of_a_place_is_told(rt: HostRuntime) -> Result<(), Fail> {
     let alloc = rt.alloc();
     let linked = linked_of(alloc, &[("m.proto", BROKEN.as_bytes())])?;
-    match build(alloc, &linked) {
-        Ok(_) => Err(Fail::from("built")),
-        Err(CheckError::Memory) => Ok(()),
-        Err(error) => {
-            assert_eq!(rt; line(alloc, &error)?.as_str(), "E402 m.proto:2:32");
-            Ok(())
-        }
-    }
+    tells_or_lacks_memory(&rt, built(alloc, &linked), "E402 m.proto:2:32")
 }
 
 /// Parts are taken, or memory was refused.
@@ -45,10 +61,7 @@ fn a_refused_growth_of_a_place_is_told(rt: HostRuntime) -> Result<(), Fail> {
 fn a_refused_growth_of_parts_is_told(rt: HostRuntime) -> Result<(), Fail> {
     let alloc = rt.alloc();
     let parts = parts_of(alloc, field(alloc, 1, "a")?, field(alloc, 2, "b")?)?;
-    match admit(alloc, parts) {
-        Ok(schema) => assert_eq!(rt; schema.parts().types.len(), 1),
-        Err(error) => assert_eq!(rt; error, CheckError::Memory),
-    }
+    has_types(&rt, admitted(alloc, parts), 1);
     Ok(())
 }
 
@@ -57,12 +70,5 @@ fn a_refused_growth_of_parts_is_told(rt: HostRuntime) -> Result<(), Fail> {
 fn a_refused_growth_of_broken_parts_is_told(rt: HostRuntime) -> Result<(), Fail> {
     let alloc = rt.alloc();
     let parts = parts_of(alloc, field(alloc, 1, "a")?, field(alloc, 9, "b")?)?;
-    match admit(alloc, parts) {
-        Ok(_) => Err(Fail::from("taken")),
-        Err(CheckError::Memory) => Ok(()),
-        Err(error) => {
-            assert_eq!(rt; line(alloc, &error)?.as_str(), "E403 :0:0");
-            Ok(())
-        }
-    }
+    tells_or_lacks_memory(&rt, admitted(alloc, parts), "E403 :0:0")
 }

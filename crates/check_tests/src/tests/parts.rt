@@ -1,12 +1,13 @@
 //! Parts that come from no text.
-use super::line;
-use pg_check::admit;
+use super::{is_told, line};
+use pg_check::{CheckError, admit};
 use pg_schema::{
     Element, EnumId, EnumOptions, EnumType, EnumValue, EnumValueOptions, Field, FieldOptions, File,
     FileOption, MessageOptions, MessageType, OptionValue, Parts, Presence, ReservedFields, Scalar,
-    TypeId,
+    Schema, TypeId,
 };
 use std::alloc::{AllocError, Global};
+use std::process::Abort;
 use std::test::*;
 
 /// An `int32` field.
@@ -57,22 +58,39 @@ pub(super) fn parts_of(alloc: Global, first: Field, second: Field) -> Result<Par
     })
 }
 
+/// The schema of the parts.
+pub(super) fn admitted(alloc: Global, parts: Parts) -> Result<Schema, CheckError> {
+    admit(alloc, parts)
+}
+
 /// What the parts are refused with, or `taken`.
 fn told(alloc: Global, parts: Parts) -> Result<String, AllocError> {
-    match admit(alloc, parts) {
+    match admitted(alloc, parts) {
         Ok(_) => String::from_str(alloc, "taken"),
         Err(error) => line(alloc, &error),
     }
 }
 
-/// The same of a message of these fields.
-fn told_of(alloc: Global, first: Field, second: Field) -> Result<String, AllocError> {
-    told(alloc, parts_of(alloc, first, second)?)
+/// The parts are refused with that, or `taken`.
+fn tells<R: Abort + AllocGlobal>(rt: &R, parts: Parts, wanted: &str) -> Result<(), AllocError> {
+    is_told(rt, &told(rt.alloc(), parts)?, wanted);
+    Ok(())
+}
+
+/// The same of a message of a field `a = 1` and this one.
+fn tells_of<R: Abort + AllocGlobal>(
+    rt: &R,
+    number: u32,
+    name: &str,
+    wanted: &str,
+) -> Result<(), AllocError> {
+    let alloc = rt.alloc();
+    let parts = parts_of(alloc, field(alloc, 1, "a")?, field(alloc, number, name)?)?;
+    tells(rt, parts, wanted)
 }
 
 #[test]
 fn numbers_and_names(rt: HostRuntime) -> Result<(), Fail> {
-    let alloc = rt.alloc();
     for (number, name, wanted) in [
         (2, "b", "taken"),
         (0, "b", "E401 :0:0"),
@@ -84,17 +102,27 @@ fn numbers_and_names(rt: HostRuntime) -> Result<(), Fail> {
         (2, "a", "E406 :0:0"),
         (2, "1", "E415 :0:0"),
     ] {
-        let first = field(alloc, 1, "a")?;
-        let second = field(alloc, number, name)?;
-        let found = told_of(alloc, first, second)?;
-        assert_eq!(rt; found.as_str(), wanted);
+        tells_of(&rt, number, name, wanted)?;
     }
     Ok(())
 }
 
+/// A message whose first field is of that shape.
+fn shaped(
+    alloc: Global,
+    presence: Presence,
+    oneof: Option<u32>,
+    packed: Option<bool>,
+) -> Result<Parts, AllocError> {
+    let mut first = field(alloc, 1, "a")?;
+    first.presence = presence;
+    first.oneof = oneof;
+    first.options.packed = packed;
+    parts_of(alloc, first, field(alloc, 2, "b")?)
+}
+
 #[test]
 fn shapes_of_fields(rt: HostRuntime) -> Result<(), Fail> {
-    let alloc = rt.alloc();
     let key = Scalar::Float;
     for (presence, oneof, packed, wanted) in [
         (Presence::Implicit, None, Some(true), "E412 :0:0"),
@@ -115,13 +143,8 @@ fn shapes_of_fields(rt: HostRuntime) -> Result<(), Fail> {
         ),
         (Presence::Explicit, None, None, "E415 :0:0"),
     ] {
-        let mut first = field(alloc, 1, "a")?;
-        first.presence = presence;
-        first.oneof = oneof;
-        first.options.packed = packed;
-        let second = field(alloc, 2, "b")?;
-        let found = told_of(alloc, first, second)?;
-        assert_eq!(rt; found.as_str(), wanted);
+        let parts = shaped(rt.alloc(), presence, oneof, packed)?;
+        tells(&rt, parts, wanted)?;
     }
     Ok(())
 }
@@ -154,55 +177,64 @@ fn with_enum(alloc: Global, values: Vec<EnumValue>) -> Result<Parts, AllocError>
     Ok(parts)
 }
 
+/// The same of an enum of two values.
+fn of_values(alloc: Global, first: i32, second: i32) -> Result<Parts, AllocError> {
+    let values = vec![in alloc; value(alloc, first, "A")?, value(alloc, second, "B")?]?;
+    with_enum(alloc, values)
+}
+
 #[test]
 fn enums_of_parts(rt: HostRuntime) -> Result<(), Fail> {
     let alloc = rt.alloc();
-    let none = with_enum(alloc, Vec::new(alloc))?;
-    assert_eq!(rt; told(alloc, none)?.as_str(), "E414 :0:0");
+    tells(&rt, with_enum(alloc, Vec::new(alloc))?, "E414 :0:0")?;
     for (first, second, wanted) in [
         (0, -1, "taken"),
         (1, 0, "E409 :0:0"),
         (0, 0, "E410 :0:0"),
         (-2_147_483_648, 0, "E409 :0:0"),
     ] {
-        let values = vec![in alloc; value(alloc, first, "A")?, value(alloc, second, "B")?]?;
-        let found = told(alloc, with_enum(alloc, values)?)?;
-        assert_eq!(rt; found.as_str(), wanted);
+        tells(&rt, of_values(alloc, first, second)?, wanted)?;
     }
     Ok(())
 }
 
+/// A file with an option of that number.
+fn with_option(alloc: Global, number: u32) -> Result<Parts, AllocError> {
+    let mut parts = parts_of(alloc, field(alloc, 1, "a")?, field(alloc, 2, "b")?)?;
+    for file in &mut parts.files {
+        file.options.push(FileOption {
+            number,
+            value: OptionValue::Flag(true),
+        })?;
+    }
+    Ok(parts)
+}
+
 #[test]
 fn options_of_parts(rt: HostRuntime) -> Result<(), Fail> {
-    let alloc = rt.alloc();
     for (number, wanted) in [(10, "taken"), (11, "E411 :0:0"), (12, "E411 :0:0")] {
-        let mut parts = parts_of(alloc, field(alloc, 1, "a")?, field(alloc, 2, "b")?)?;
-        for file in &mut parts.files {
-            file.options.push(FileOption {
-                number,
-                value: OptionValue::Flag(true),
-            })?;
-        }
-        assert_eq!(rt; told(alloc, parts)?.as_str(), wanted);
+        tells(&rt, with_option(rt.alloc(), number)?, wanted)?;
     }
     Ok(())
+}
+
+/// A message with a oneof, and a first field of that shape.
+fn with_oneof(alloc: Global, presence: Presence, oneof: Option<u32>) -> Result<Parts, AllocError> {
+    let mut parts = shaped(alloc, presence, oneof, None)?;
+    for one in &mut parts.types {
+        one.oneofs.push(String::from_str(alloc, "k")?)?;
+    }
+    Ok(parts)
 }
 
 #[test]
 fn oneofs_of_parts(rt: HostRuntime) -> Result<(), Fail> {
     let alloc = rt.alloc();
-    for (presence, oneof, wanted) in [
-        (Presence::Explicit, Some(0), "taken"),
-        (Presence::Implicit, None, "E408 :0:0"),
-    ] {
-        let mut first = field(alloc, 1, "a")?;
-        first.presence = presence;
-        first.oneof = oneof;
-        let mut parts = parts_of(alloc, first, field(alloc, 2, "b")?)?;
-        for one in &mut parts.types {
-            one.oneofs.push(String::from_str(alloc, "k")?)?;
-        }
-        assert_eq!(rt; told(alloc, parts)?.as_str(), wanted);
-    }
-    Ok(())
+    tells(
+        &rt,
+        with_oneof(alloc, Presence::Explicit, Some(0))?,
+        "taken",
+    )?;
+    let none = with_oneof(alloc, Presence::Implicit, None)?;
+    Ok(tells(&rt, none, "E408 :0:0")?)
 }

@@ -1,7 +1,8 @@
-use super::{linked_of, told, told_of};
-use pg_check::{CheckError, build};
-use pg_schema::{Element, Presence, Scalar, Schema};
+use super::{built, linked_of, tells, tells_of};
+use pg_check::CheckError;
+use pg_schema::{Element, OptionValue, Parts, Presence, Scalar, Schema};
 use std::alloc::{AllocError, Global};
+use std::process::Abort;
 use std::test::*;
 
 /// The file that is imported.
@@ -16,6 +17,7 @@ pub(crate) const ALL: &str = "syntax = \"proto3\";
 package p.q;
 import public \"a\" \".proto\";
 option java_multiple_files = true;
+option go_package = \"\";
 option optimize_for = LITE_RUNTIME;
 message M {
   int32 z = 9;
@@ -30,8 +32,9 @@ message M {
   r.K other = 7;
   r.H letter = 8;
   M m = 10;
-  repeated E es = 11;
+  repeated E es = 11 [packed = true];
   map<int32, N> by_number = 12;
+  optional M n = 13 [deprecated = false];
 }
 enum G { C = 0; }
 service S { rpc Put (stream M) returns (r.K); }
@@ -46,7 +49,7 @@ pub(crate) fn schema(alloc: Global) -> Result<Schema, Fail> {
             ("a.proto", IMPORTED.as_bytes()),
         ],
     )?;
-    match build(alloc, &linked) {
+    match built(alloc, &linked) {
         Ok(schema) => Ok(schema),
         Err(CheckError::Memory) => Err(AllocError.into()),
         Err(_) => Err(Fail::from("the files are refused")),
@@ -61,10 +64,7 @@ pub(crate) fn item<T>(items: &[T], place: usize) -> Result<&T, Fail> {
     }
 }
 
-#[test]
-fn message_types(rt: HostRuntime) -> Result<(), Fail> {
-    let schema = schema(rt.alloc())?;
-    let parts = schema.parts();
+fn has_message_types(rt: &impl Abort, parts: &Parts) -> Result<(), Fail> {
     let m = item(&parts.types, 1)?;
     assert_eq!(rt; item(&parts.types, 0)?.name.as_str(), "r.K");
     assert_eq!(rt; m.name.as_str(), "p.q.M");
@@ -75,22 +75,27 @@ fn message_types(rt: HostRuntime) -> Result<(), Fail> {
 }
 
 #[test]
-fn bodies(rt: HostRuntime) -> Result<(), Fail> {
-    let schema = schema(rt.alloc())?;
-    let parts = schema.parts();
+fn message_types(rt: HostRuntime) -> Result<(), Fail> {
+    has_message_types(&rt, schema(rt.alloc())?.parts())
+}
+
+fn has_bodies(rt: &impl Abort, parts: &Parts) -> Result<(), Fail> {
     let m = item(&parts.types, 1)?;
     assert_eq!(rt; *item(&m.declared, 0)?, 9);
     assert_eq!(rt; item(&m.fields, 0)?.number, 1);
     assert_eq!(rt; item(&m.fields, 7)?.number, 9);
     assert_eq!(rt; item(&m.reserved_numbers, 1)?.last, 536_870_911);
     assert_eq!(rt; item(&m.oneofs, 0)?.as_str(), "k");
+    assert_eq!(rt; m.oneofs.len(), 1);
     Ok(())
 }
 
 #[test]
-fn fields(rt: HostRuntime) -> Result<(), Fail> {
-    let schema = schema(rt.alloc())?;
-    let parts = schema.parts();
+fn bodies(rt: HostRuntime) -> Result<(), Fail> {
+    has_bodies(&rt, schema(rt.alloc())?.parts())
+}
+
+fn has_fields(rt: &impl Abort, parts: &Parts) -> Result<(), Fail> {
     let fields = &item(&parts.types, 1)?.fields;
     let map = item(fields, 0)?;
     let key = Scalar::String;
@@ -104,9 +109,11 @@ fn fields(rt: HostRuntime) -> Result<(), Fail> {
 }
 
 #[test]
-fn singular_fields(rt: HostRuntime) -> Result<(), Fail> {
-    let schema = schema(rt.alloc())?;
-    let parts = schema.parts();
+fn fields(rt: HostRuntime) -> Result<(), Fail> {
+    has_fields(&rt, schema(rt.alloc())?.parts())
+}
+
+fn has_singular_fields(rt: &impl Abort, parts: &Parts) -> Result<(), Fail> {
     let fields = &item(&parts.types, 1)?.fields;
     assert_eq!(rt; item(fields, 2)?.presence, Presence::Explicit);
     assert_eq!(rt; item(fields, 2)?.json_name.as_str(), "t");
@@ -115,23 +122,54 @@ fn singular_fields(rt: HostRuntime) -> Result<(), Fail> {
     Ok(())
 }
 
+/// What was stated is kept apart from what follows of it.
+fn has_stated(rt: &impl Abort, parts: &Parts) -> Result<(), Fail> {
+    let fields = &item(&parts.types, 1)?.fields;
+    let text = item(fields, 2)?;
+    assert_eq!(rt;
+        (text.states_optional, text.options.deprecated),
+        (true, None)
+    );
+    let m = item(fields, 11)?;
+    assert_eq!(rt;
+        (m.states_optional, m.options.deprecated),
+        (true, Some(false))
+    );
+    assert!(rt; !item(fields, 8)?.states_optional);
+    assert_eq!(rt; item(fields, 9)?.options.packed, Some(true));
+    assert_eq!(rt; item(fields, 1)?.options.packed, None);
+    Ok(())
+}
+
 #[test]
-fn files(rt: HostRuntime) -> Result<(), Fail> {
-    let schema = schema(rt.alloc())?;
-    let parts = schema.parts();
+fn stated_options(rt: HostRuntime) -> Result<(), Fail> {
+    has_stated(&rt, schema(rt.alloc())?.parts())
+}
+
+#[test]
+fn singular_fields(rt: HostRuntime) -> Result<(), Fail> {
+    has_singular_fields(&rt, schema(rt.alloc())?.parts())
+}
+
+fn has_files(rt: &impl Abort, parts: &Parts) -> Result<(), Fail> {
     let file = item(&parts.files, 1)?;
     assert_eq!(rt; file.package.as_str(), "p.q");
     assert_eq!(rt; item(&file.imports, 0)?.path.as_str(), "a.proto");
     assert_eq!(rt; item(&file.options, 0)?.number, 9);
+    let empty = item(&file.options, 2)?;
+    assert_eq!(rt; empty.number, 11);
+    assert!(rt; matches!(&empty.value, OptionValue::Text(text) if text.is_empty()));
     assert_eq!(rt; file.types.len(), 1);
     assert_eq!(rt; item(&file.enums, 0)?.index, 3);
     Ok(())
 }
 
 #[test]
-fn enums(rt: HostRuntime) -> Result<(), Fail> {
-    let schema = schema(rt.alloc())?;
-    let parts = schema.parts();
+fn files(rt: HostRuntime) -> Result<(), Fail> {
+    has_files(&rt, schema(rt.alloc())?.parts())
+}
+
+fn has_enums(rt: &impl Abort, parts: &Parts) -> Result<(), Fail> {
     let found = item(&parts.enums, 2)?;
     assert_eq!(rt; item(&found.values, 1)?.number, -1);
     assert_eq!(rt; item(&found.reserved_numbers, 0)?.first, -5);
@@ -139,9 +177,14 @@ fn enums(rt: HostRuntime) -> Result<(), Fail> {
     Ok(())
 }
 
-/// A message with so many messages in it.
-fn many(alloc: Global, count: usize) -> Result<String, AllocError> {
-    let mut line = String::from_str(alloc, "message M {")?;
+#[test]
+fn enums(rt: HostRuntime) -> Result<(), Fail> {
+    has_enums(&rt, schema(rt.alloc())?.parts())
+}
+
+/// A message with this field and so many messages in it.
+pub(super) fn many(alloc: Global, field: &str, count: usize) -> Result<String, AllocError> {
+    let mut line = format!(in alloc; "message M {{ {field}")?;
     for index in 0..count {
         line.push_str(format!(in alloc; " message N{index} {{ }}")?.as_str())?;
     }
@@ -152,13 +195,20 @@ fn many(alloc: Global, count: usize) -> Result<String, AllocError> {
 #[test]
 fn most_message_types(rt: HostRuntime) -> Result<(), Fail> {
     let alloc = rt.alloc();
-    let most = many(alloc, 4095)?;
-    assert_eq!(rt; told(alloc, &most)?.as_str(), "taken");
-    let more = many(alloc, 4096)?;
+    // the entry of a map is none of them
+    let most = many(alloc, "map<int32, int32> a = 1;", 4095)?;
+    tells(&rt, &most, "taken")?;
+    let more = many(alloc, "", 4096)?;
     let at = more.len().saturating_sub("4095 { } }".len());
     let wanted = format!(in alloc; "E413 m:2:{at}")?;
-    assert_eq!(rt; told(alloc, &more)?.as_str(), wanted.as_str());
-    Ok(())
+    tells(&rt, &more, &wanted)
+}
+
+/// What is declared before the first message type too many is told first.
+#[test]
+fn a_fault_before_too_many_message_types(rt: HostRuntime) -> Result<(), Fail> {
+    let broken = many(rt.alloc(), "int32 a = 0;", 4096)?;
+    tells(&rt, &broken, "E401 m:2:19")
 }
 
 /// A message of many fields and reserved ranges, and an enum of many values in it.
@@ -185,14 +235,11 @@ fn large(alloc: Global) -> Result<String, AllocError> {
 fn large_bodies(rt: HostRuntime) -> Result<(), Fail> {
     let alloc = rt.alloc();
     let line = large(alloc)?;
-    assert_eq!(rt; told(alloc, &line)?.as_str(), "taken");
-    Ok(())
+    tells(&rt, &line, "taken")
 }
 
-/// Many reserved ranges, and behind them one that has a number of the first.
-#[test]
-fn a_late_overlap(rt: HostRuntime) -> Result<(), Fail> {
-    let alloc = rt.alloc();
+/// Many reserved ranges.
+fn ranges(alloc: Global) -> Result<String, AllocError> {
     let mut fields = String::new(alloc);
     let mut from: u32 = 1;
     for _ in 0..1000 {
@@ -200,10 +247,16 @@ fn a_late_overlap(rt: HostRuntime) -> Result<(), Fail> {
         fields.push_str(format!(in alloc; "reserved {from} to {to}; ")?.as_str())?;
         from = from.wrapping_add(10);
     }
+    Ok(fields)
+}
+
+/// Behind them one that has a number of the first.
+#[test]
+fn a_late_overlap(rt: HostRuntime) -> Result<(), Fail> {
+    let mut fields = ranges(rt.alloc())?;
     let before = fields.len().saturating_add("message M { reserved ".len());
     let column = before.saturating_add(1);
     fields.push_str("reserved 5, 6;")?;
-    let wanted = format!(in alloc; "E405 m:2:{column}")?;
-    assert_eq!(rt; told_of(alloc, &fields)?.as_str(), wanted.as_str());
-    Ok(())
+    let wanted = format!(in rt.alloc(); "E405 m:2:{column}")?;
+    tells_of(&rt, &fields, &wanted)
 }
