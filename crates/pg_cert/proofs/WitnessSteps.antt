@@ -14,9 +14,9 @@ use Rattle.pg_dyn.specs.Message.{Message, IsPlain, ends, holds, nests}
 use Rattle.pg_pairs.specs.declared.choice.Pair.{Pair}
 use Rattle.pg_pairs.specs.Sight.{Sight, by_numbers}
 use Rattle.pg_pairs.specs.Views.{sight_of, NumbersAreAlike}
-use Rattle.pg_pairs.proofs.BreakSteps.{kept_plain, plain_kept}
 use Rattle.pg_cert.specs.Certificate.{HasLength, IsWitnessed, IsWritten, is_witness}
 use Rattle.pg_cert.specs.Faults.{IsWriting}
+use Rattle.pg_dyn.proofs.PublicLaws.{plain_is_kept}
 
 past_end : (s : Shape) (i : ℕ) → (i < length s → ⊥) → get_or s i [] ≡ []
 past_end [] i h = refl
@@ -49,14 +49,14 @@ module _ (old : Shape) (root : Pair) (bytes : List ℕ) where
 
     pub not_plain : (m : Kept) (o : Option Kept) → option_map message_of o ≡ dec old root.old bytes → o ≡ Some m → (kept.IsPlain m → ⊥) → IsWritten old root bytes → ⊥
     not_plain m o read found unplain is =
-        unplain (kept_plain m (subst IsPlain (message_is (message_of m) is (sym read ∙ ap (option_map message_of) found)) is.is_plain))
+        unplain ((plain_is_kept m).1 (subst IsPlain (message_is (message_of m) is (sym read ∙ ap (option_map message_of) found)) is.is_plain))
 
   module _ (m : Kept) (writing : IsWriting old root bytes m) where
     pub written_of : IsWritten old root bytes
     written_of = record {
       message = message_of m;
       is_message = subst (λ t. IsMessage old t (message_of m)) writing.type_is writing.fits.is_message;
-      is_plain = plain_kept m writing.is_plain;
+      is_plain = (plain_is_kept m).0 writing.is_plain;
       has_encoding = writing.has_encoding;
       written = writing.written;
     }

@@ -34,9 +34,8 @@ use Rattle.pg_dyn.proofs.Belonging.{child_type_is, fields-IsType}
 use Rattle.pg_dyn.proofs.EncodedFields.{encodes_by_fields}
 use Rattle.pg_dyn.proofs.Fields.{field_of}
 use Rattle.pg_dyn.proofs.ItemLeaves.{item_is_key}
-use Rattle.pg_dyn.proofs.Flat.{each_at}
 use Rattle.pg_dyn.proofs.KeptParts.{fields_keep}
-use Rattle.pg_dyn.proofs.Lists.{each_weaker, flat_map-append', flat_map_same}
+use Rattle.pg_dyn.proofs.Lists.{each_weaker, flat_map-append', flat_map_same, each_at}
 use Rattle.pg_dyn.proofs.Splitting.{found_number}
 
 -- a record's bytes are its tag, its length and its body

@@ -25,9 +25,8 @@ use Rattle.pg_dyn.specs.Fits.{Fits, PartsAgree, is_listed, is_listed_by}
 use Rattle.pg_dyn.specs.ScalarItems.{IsItemOf}
 use Rattle.pg_dyn.specs.ContentFits.{ItemFits, KeysRise, ContentFits, HoldsContent, AreApart, NoneRivals, FitsByContents}
 use Rattle.pg_dyn.proofs.Belonging.{child_type_is, fields-IsType}
-use Rattle.pg_dyn.proofs.Flat.{each_at}
 use Rattle.pg_dyn.proofs.KeptParts.{unknown_of-items, unknown_of-entries, fields_keep}
-use Rattle.pg_dyn.proofs.Lists.{each_weaker, each-append}
+use Rattle.pg_dyn.proofs.Lists.{each_weaker, each-append, each_at}
 use Rattle.pg_dyn.proofs.ItemLeaves.{in_range, item_of_range, ZeroFits, zero_of_child, leaf_to, leaf_back, child_of}
 use Rattle.pg_dyn.proofs.Splitting.{found_number}
 

@@ -12,9 +12,9 @@ use Rattle.pg_dyn.specs.declared.message.Value.{Value}
 use Rattle.pg_dyn.specs.Content.{is_accepted, takes, is_unknown}
 use Rattle.pg_dyn.specs.Seen.{record_seen}
 use Rattle.pg_dyn.specs.Belonging.{IsUnknown}
-use Rattle.pg_dyn.proofs.Flat.{list_any_at}
 use Rattle.pg_dyn.proofs.Splitting.{found_number}
 use Rattle.pg_dyn.proofs.DecodeSteps.{rising, takes_it, unknown_where_none, unknown_where_not_accepted}
+use Rattle.pg_dyn.proofs.Lists.{list_any_at}
 
 pub same_value : (v w : Value) → ◌≡◌ {A = Option Value} (Some v) (Some w) → v ≡ w
 same_value v w e = cc

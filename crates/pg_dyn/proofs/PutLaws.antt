@@ -33,8 +33,8 @@ use Rattle.pg_dyn.proofs.DecodeSteps.{is_type, rising}
 use Rattle.pg_dyn.proofs.FieldListLaws.{rises-filter, rises_put, rises_remove, each_put, each_removed}
 use Rattle.pg_dyn.proofs.FitsByContents.{own_rival, fits_from_contents, contents_from_fits}
 use Rattle.pg_dyn.proofs.FitsChecks.{same_field}
-use Rattle.pg_dyn.proofs.Flat.{each_at, is_rival_sym}
-use Rattle.pg_dyn.proofs.Lists.{filter_all, filter-append', each_weaker, each_both, each-filter}
+use Rattle.pg_dyn.proofs.Flat.{is_rival_sym}
+use Rattle.pg_dyn.proofs.Lists.{filter_all, filter-append', each_weaker, each_both, each-filter, each_at}
 use Rattle.pg_dyn.proofs.ReplacingLaws.{shown, content_number, parts_of-kept_onto, unknown_of-kept_onto, type_of-kept_onto}
 use Rattle.pg_dyn.proofs.SettledLaws.{zero_seen}
 use Rattle.pg_dyn.proofs.WithoutRivals.{rival_found, cleared_shown, each_left}

@@ -32,10 +32,10 @@ use Rattle.pg_dyn.proofs.DecodesOn.{unknown_decodes_on}
 use Rattle.pg_dyn.proofs.DecodeSteps.{is_type, rising, takes_it, unknown_step}
 use Rattle.pg_dyn.proofs.FitsByContents.{fits_from_contents, contents_from_fits}
 use Rattle.pg_dyn.proofs.FitsChecks.{same_field}
-use Rattle.pg_dyn.proofs.Flat.{each_at, list_any_at, is_rival_sym}
+use Rattle.pg_dyn.proofs.Flat.{is_rival_sym}
 use Rattle.pg_dyn.proofs.Joining.{dec_from_readable}
 use Rattle.pg_dyn.proofs.Lifted.{type_of-with_parts, type_of-without_rivals}
-use Rattle.pg_dyn.proofs.Lists.{each_weaker, each-append, list_all_each, filter-append', map_same}
+use Rattle.pg_dyn.proofs.Lists.{each_weaker, each-append, list_all_each, filter-append', map_same, each_at, list_any_at}
 use Rattle.pg_dyn.proofs.Order.{NeverFalls, of_each, of_each_is, never_falls, places-parts, above_head}
 use Rattle.pg_dyn.proofs.ReplacingLaws.{shown, unknown_more, type_shown, own_kept, own_dropped, each_kept, each_dropped, filter-part_item, parts-message_of, unknown-message_of, message_of-with_parts, parts_of-kept_onto, unknown_of-kept_onto, type_of-kept_onto}
 use Rattle.pg_dyn.proofs.Splitting.{found_number, found_later, each_found}

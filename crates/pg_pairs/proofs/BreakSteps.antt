@@ -1,5 +1,5 @@
 -- What a message's encoding is read as decides whether it breaks.
-use Rattle.std.proofs.Common.{◌≡◌, ◌<◌, ◌≤◌, ◌^◌, ◌↔◌, ℕ, zero, suc, List, [], ◌∷◌, length, get_or, filter, Bool, true, false, not, IsTrue, nat_eq, Some, None, refl, ap, sym, ◌∙◌, subst, arith, eqb-true, eq-eqb, true≢false}
+use Rattle.std.proofs.Common.{◌≡◌, ◌<◌, ◌≤◌, ◌↔◌, ℕ, zero, suc, List, [], ◌∷◌, ◌++◌, length, get_or, filter, Bool, true, false, not, IsTrue, nat_eq, Some, None, refl, ap, sym, ◌∙◌, subst, arith, eqb-true, eq-eqb, true≢false}
 use Rattle.std.specs.List.{list_all}
 use Rattle.pg_schema.specs.declared.field.TypeId.{TypeId}
 use Rattle.pg_schema.specs.Shape.{Shape, FieldShape, IsShape, fields, field_at}
@@ -12,23 +12,10 @@ use Rattle.pg_dyn.specs.Encoding.{cap, enc, encoded_parts}
 use Rattle.pg_dyn.specs.Fits.{Fits}
 use Rattle.pg_dyn.specs.Kept.{Kept, message_of, type_of}
 use Rattle.pg_dyn.specs.Kept as kept
-use Rattle.pg_dyn.specs.Message.{Message}
+use Rattle.pg_dyn.specs.Message.{Message, unknown_of}
 use Rattle.pg_dyn.specs.Message as model
 use Rattle.pg_dyn.specs.Writing.{records_in}
-use Rattle.pg_dyn.proofs.ByField.{kept_from, records_are}
-use Rattle.pg_dyn.proofs.Depth.{dec_is}
-
-pub plain_kept : (m : Kept) → kept.IsPlain m → model.IsPlain (message_of m)
-plain_kept (kept.ends type []) h = tt
-plain_kept (kept.ends type (r ∷ rs)) h = h
-plain_kept (kept.holds number key listed leaf later) h = plain_kept later h
-plain_kept (kept.nests number key listed child later) h = (plain_kept child h.0, plain_kept later h.1)
-
-pub kept_plain : (m : Kept) → model.IsPlain (message_of m) → kept.IsPlain m
-kept_plain (kept.ends type []) h = tt
-kept_plain (kept.ends type (r ∷ rs)) h = h
-kept_plain (kept.holds number key listed leaf later) h = kept_plain later h
-kept_plain (kept.nests number key listed child later) h = (kept_plain child h.0, kept_plain later h.1)
+use Rattle.pg_dyn.proofs.PublicLaws.{decoding_is, encoding_spells, kept_by_field, plain_is_kept}
 
 -- ---- types
 
@@ -60,14 +47,16 @@ read_by_none child rs = (model.message_from [] (filter (λ (r : WireRecord). tru
 
 pub absent_keeps : (view : View) (old new : Shape) (a b : TypeId) (v : Message) → IsShape old → IsShape new → IsMessage old a v → model.IsPlain v → length (enc old a v) ≤ cap → (b.index < length new → ⊥) → is_kept view old new a b v ≡ true
 absent_keeps view old new a b v is_old is_new is_message plain short absent =
-    let below : length (enc old a v) < 2 ^ 64 = omega (arith, short) in
     let none : fields new b ≡ [] = past_end new b.index absent in
-    let rs = records_in (fields old a) (encoded_parts old a v) in
-    let all = read_by_none (dec new) (records_in (fields old a) (encoded_parts old a v)) in
+    let all = read_by_none (dec new) (records_in (fields old a) (encoded_parts old a v) ++ unknown_of v) in
     let read : dec new b (enc old a v) ≡ Some all.0 =
-    rw (dec_is new b (enc old a v), records_are view old new a b v is_old is_new is_message plain below) (ap (λ (gs : List FieldShape). read_records (dec new) gs (records_in (fields old a) (encoded_parts old a v))) none ∙ all.1) in
-    kept_from view old new a b v is_old is_new is_message plain below all.0 read (λ n f g found_f found_g.
-    let clash : None ≡ Some g = ap (λ (gs : List FieldShape). field_at gs n) (sym none) ∙ found_g in absurd (cc))
+    rw (decoding_is new b (enc old a v), encoding_spells old a v is_old is_message short) (ap (λ (gs : List FieldShape). read_records (dec new) gs (records_in (fields old a) (encoded_parts old a v) ++ unknown_of v)) none ∙ all.1) in
+    (kept_by_field view old new a b v is_old is_new is_message plain short).1 (
+      all.0,
+      read,
+      λ n f g found_f found_g.
+          let clash : None ≡ Some g = ap (λ (gs : List FieldShape). field_at gs n) (sym none) ∙ found_g in absurd (cc),
+    )
 
 -- ---- what is read decides
 
@@ -92,7 +81,7 @@ module _ (view : View) (old new : Shape) (m : Kept) (a b : TypeId) where
   answered x type_is fits plain short is = (
     λ e.
         subst (λ t. (type_of m ≡ t) × Breaks view old new t b (message_of m)) type_is
-        (refl, record { is_message = fits.is_message; is_plain = plain_kept m plain; has_encoding = short; not_kept = is ∙ not_true x e }),
+        (refl, record { is_message = fits.is_message; is_plain = (plain_is_kept m).0 plain; has_encoding = short; not_kept = is ∙ not_true x e }),
     λ k. ap not (sym is ∙ subst (λ t. is_kept view old new t b (message_of m) ≡ false) (sym type_is) k.1.not_kept),
   )
 

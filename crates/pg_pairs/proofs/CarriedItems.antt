@@ -4,7 +4,6 @@ use Rattle.pg_schema.specs.declared.field.TypeId.{TypeId}
 use Rattle.pg_schema.specs.declared.field.Element.{Element}
 use Rattle.pg_schema.specs.declared.field.Element.TheVariants as elements
 use Rattle.pg_schema.specs.declared.field.Presence.TheVariants as presences
-use Rattle.pg_wire.proofs.Varints.{length-varint_positive}
 use Rattle.pg_dyn.specs.Message.{Leaf, Message, holds}
 use Rattle.pg_dyn.specs.Coding.{Form, form}
 use Rattle.pg_pairs.specs.Sight.{Sight, IsSight}
@@ -15,6 +14,7 @@ use Rattle.pg_pairs.specs.Choices.{Table, number_for, gap_body, child_body}
 use Rattle.pg_pairs.specs.Carried.{nonzero_leaf, item_by, least_part_of, part_onto, child_pair}
 use Rattle.pg_pairs.proofs.GapItems.{IsLeafy, gap_item_is}
 use Rattle.pg_pairs.proofs.Broken.{mapped}
+use Rattle.pg_wire.proofs.PublicLaws.{lengths_grow}
 
 -- a leaf or a message
 pub leaf_or_message : (e : Element) → IsLeafy e ⊎ ((s : TypeId) × (e ≡ elements.Message s))
@@ -105,7 +105,7 @@ same_bound o x y h k =
     cc
 
 pub longer : (x : ℕ) → x < with_length x
-longer x = let positive = length-varint_positive x in omega (arith, positive)
+longer x = let positive = lengths_grow.3 x in omega (arith, positive)
 
 pub same_cost : (a b : ℕ) → ◌≡◌ {A = Option ℕ} (Some a) (Some b) → a ≡ b
 same_cost a b h = cc

@@ -1,5 +1,5 @@
 -- A field takes the content of each of its choices.
-use Rattle.std.proofs.Common.{◌≡◌, ◌≤◌, ℕ, List, [], length, Bool, true, false, not, ◌&&◌, nat_eq, if◌then◌else◌, Option, Some, None, option_map, is_some, refl, ap, ap₂, sym, ◌∙◌, subst, arith, eq-eqb}
+use Rattle.std.proofs.Common.{◌≡◌, ◌≤◌, ℕ, [], length, Bool, true, false, not, ◌&&◌, nat_eq, if◌then◌else◌, Option, Some, None, option_map, is_some, refl, ap, ap₂, ◌∙◌, subst, arith, eq-eqb}
 use Rattle.pg_schema.specs.declared.field.Element.{Element}
 use Rattle.pg_schema.specs.declared.field.Element.TheVariants as elements
 use Rattle.pg_schema.specs.declared.field.Presence.{Presence}
@@ -7,25 +7,25 @@ use Rattle.pg_schema.specs.declared.field.Presence.TheVariants as presences
 use Rattle.pg_schema.specs.declared.field.Scalar.{Scalar}
 use Rattle.pg_schema.specs.declared.field.TypeId.{TypeId}
 use Rattle.pg_schema.specs.Shape.{Shape, FieldShape, ElementFits, IsField, IsShape, fields, field_at, is_map}
-use Rattle.pg_dyn.specs.Message.{Leaf, Item, Plain, Msg, Message, ends, holds, nests}
+use Rattle.pg_dyn.specs.Message.{Leaf, Item, Plain, Msg, Message, ends}
 use Rattle.pg_dyn.specs.Belonging.{KeyFits}
 use Rattle.pg_dyn.specs.Coding.{form, zero_leaf}
 use Rattle.pg_dyn.specs.Encoding.{enc}
 use Rattle.pg_dyn.specs.Kept.{Kept, message_of, type_of}
-use Rattle.pg_dyn.proofs.Belonging.{fields-IsType}
-use Rattle.pg_dyn.proofs.Flat.{each_at}
 use Rattle.pg_pairs.specs.declared.choice.Choice.{Choice}
 use Rattle.pg_pairs.specs.declared.choice.Pair.{Pair}
 use Rattle.pg_pairs.specs.Sight.{Sight, IsSight}
 use Rattle.pg_pairs.specs.Gaps.{gap_item}
 use Rattle.pg_pairs.specs.Choices.{Table, zero_counts}
 use Rattle.pg_pairs.specs.Laws.{ReachedBy}
-use Rattle.pg_pairs.specs.Carried.{apart_leaf, apart_item, item_by, part_onto, alone, leaf_alone, child_alone, lost_onto, key_of, key_alone, value_alone, entry_message, carried_field, carried_two, carried_of, carried, child_pair, has_child, field_child, child_of, choice_child, ChildReached}
+use Rattle.pg_pairs.specs.Carried.{apart_leaf, apart_item, item_by, alone, leaf_alone, child_alone, lost_onto, key_of, key_alone, value_alone, entry_message, carried_field, carried_two, carried_of, carried, child_pair, has_child, field_child, child_of, choice_child, ChildReached}
 use Rattle.pg_pairs.specs.CarriedItems.{is_child_of, has_value, has_entry, has_content, IsOfPair, IsChoiceRound}
 use Rattle.pg_pairs.proofs.LeastCosts.{choice_some}
 use Rattle.pg_pairs.proofs.Meeting.{no_parts}
 use Rattle.pg_pairs.proofs.Messages.{one_found}
 use Rattle.pg_pairs.proofs.Reached.{choices_carried}
+use Rattle.pg_dyn.proofs.PublicLaws.{fields_are_found}
+use Rattle.pg_dyn.proofs.Lists.{each_at}
 
 no_key : (p : Presence) → KeyFits p None → not (is_map p) ≡ true
 no_key presences.Implicit h = refl
@@ -127,7 +127,7 @@ module _ (sight : Sight) (old new : Shape) (pair : Pair) (cost : ℕ) (some : 1 
 
 -- a message's type that a field has is there
 pub element_there : (shape : Shape) → IsShape shape → (type : TypeId) (n : ℕ) (f : FieldShape) → field_at (fields shape type) n ≡ Some f → ElementFits (length shape) f.element
-element_there shape is_shape type n f found = (each_at (IsField (length shape)) (fields shape type) n f found (fields-IsType shape type is_shape).each).element_fits
+element_there shape is_shape type n f found = (each_at (IsField (length shape)) (fields shape type) n f found (fields_are_found.0 shape type is_shape).each).element_fits
 
 -- the child of a choice is of the field's type
 child_typed : (sight : Sight) (old new : Shape) (table : Table) (b : Bool) (e d : Element) (m : Kept) → IsOfPair (if b then child_pair e d else None) (Some m) → ChildReached sight old new table (if b then child_pair e d else None) (Some (message_of m)) → is_child_of e (Some m) ≡ true

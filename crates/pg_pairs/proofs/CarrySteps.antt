@@ -18,11 +18,7 @@ use Rattle.pg_dyn.specs.Content.{same_oneof, is_rival}
 use Rattle.pg_dyn.specs.Replacing.{kept_from, is_rival_number, with_content}
 use Rattle.pg_dyn.specs.Seen.{content_seen}
 use Rattle.pg_dyn.specs.Setting.{settled, settled_by, IsSetTo}
-use Rattle.pg_dyn.proofs.ReplacingLaws.{content_number, type_of-kept_onto}
 use Rattle.pg_dyn.proofs.Lists.{each_weaker}
-use Rattle.pg_dyn.proofs.Splitting.{each_found}
-use Rattle.pg_dyn.proofs.Flat.{same_oneof_sym}
-use Rattle.pg_dyn.proofs.Belonging.{fields-IsType}
 use Rattle.pg_pairs.specs.declared.choice.Choice.{Choice}
 use Rattle.pg_pairs.specs.declared.choice.Pair.{Pair}
 use Rattle.pg_pairs.specs.declared.item.Small.TheVariants.{Zero}
@@ -37,6 +33,7 @@ use Rattle.pg_pairs.proofs.CarriedParts.{least_made, carried_made}
 use Rattle.pg_pairs.proofs.LeastContents.{nonzero_is}
 use Rattle.pg_pairs.proofs.Messages.{one_found}
 use Rattle.pg_pairs.proofs.Reached.{choice_known, choices_carried}
+use Rattle.pg_dyn.proofs.PublicLaws.{contents_are_seen, fields_are_found, parts_keep_types, rivals_mutual}
 
 -- at most one part
 abbrev IsShort : List (Part KeptItem) → Type 0
@@ -141,7 +138,7 @@ carried_single sight old new table law shape_old shape_new pair c among single f
     let by : ReachedBy sight old new pair (made old pair.old (carried_parts sight f g c.case c.part child)) c.cost =
     subst (λ v. ReachedBy sight old new pair v c.cost) made_is (choices_carried sight old new table law shape_old shape_new pair c among (option_map message_of child) reached) in
     let numbers : AllByRecursion (λ (p : Part KeptItem). p.number ≡ f.number) (carried_parts sight f g c.case c.part child) =
-    subst (λ n. AllByRecursion (λ (p : Part KeptItem). p.number ≡ n) (carried_parts sight f g c.case c.part child)) (sym own) (subst (AllByRecursion (λ (p : Part KeptItem). p.number ≡ c.number)) seen (content_number c.number content)) in
+    subst (λ n. AllByRecursion (λ (p : Part KeptItem). p.number ≡ n) (carried_parts sight f g c.case c.part child)) (sym own) (subst (AllByRecursion (λ (p : Part KeptItem). p.number ≡ c.number)) seen (contents_are_seen.0 c.number content)) in
     let found_own : field_at (fields old pair.old) f.number ≡ Some f = ap (field_at (fields old pair.old)) own ∙ found in
     let same : settled f (carried_parts sight f g c.case c.part child) ≡ carried_parts sight f g c.case c.part child =
     settled_same old pair.old f (carried_parts sight f g c.case c.part child) found_own numbers (carried_settled sight f g c.case c.part child) by.0.is_message in
@@ -165,7 +162,7 @@ settled_least f = settled_least_at f.number f.presence f.element f.oneof
 
 -- two oneofs that aren't one, the other way round
 apart_sym : (a b : Option ℕ) → same_oneof a b ≡ false → same_oneof b a ≡ false
-apart_sym a b h = ⊎_elim (λ same. absurd (let yes = same_oneof_sym b a same in let no : true ≡ false = sym yes ∙ h in cc)) (λ no. no) (cases_Bool (same_oneof b a))
+apart_sym a b h = ⊎_elim (λ same. absurd (let yes = rivals_mutual.0 b a same in let no : true ≡ false = sym yes ∙ h in cc)) (λ no. no) (cases_Bool (same_oneof b a))
 
 none_any : {A : Type 0} (test : A → Bool) (xs : List A) → AllByRecursion (λ x. test x ≡ false) xs → list_any test xs ≡ false
 none_any test [] h = refl
@@ -174,7 +171,7 @@ none_any test (x ∷ xs) h = rw h.0 (none_any test xs h.1)
 not_rival : (fs : List FieldShape) → Rising fs → (f e : FieldShape) → field_at fs f.number ≡ Some f → same_oneof e.oneof f.oneof ≡ false → is_rival_number fs e f.number ≡ false
 not_rival fs rising f e found apart =
     none_any (λ g. is_rival e g && nat_eq g.number f.number) fs
-    (each_weaker (λ (g : FieldShape). field_at fs g.number ≡ Some g) (λ g. (is_rival e g && nat_eq g.number f.number) ≡ false) (λ g there. of g there (nat_eq g.number f.number) refl) fs (each_found fs rising))
+    (each_weaker (λ (g : FieldShape). field_at fs g.number ≡ Some g) (λ g. (is_rival e g && nat_eq g.number f.number) ≡ false) (λ g there. of g there (nat_eq g.number f.number) refl) fs (fields_are_found.2 fs rising))
   where
     of : (g : FieldShape) → field_at fs g.number ≡ Some g → (b : Bool) → nat_eq g.number f.number ≡ b → (is_rival e g && nat_eq g.number f.number) ≡ false
     of g there false h = and_right (is_rival e g) (nat_eq g.number f.number) h
@@ -193,9 +190,9 @@ module _ (type : TypeId) where
 
 pub carried_double : (sight : Sight) (old new : Shape) (table : Table) → IsSight sight → IsShape old → IsShape new → (pair : Pair) (c : Choice) → IsAmong c (choices sight table old new pair) → nat_eq c.case 6 ≡ true → (f e g : FieldShape) → field_at (fields old pair.old) c.number ≡ Some f → field_at (fields old pair.old) c.part ≡ Some e → field_at (fields new pair.new) c.number ≡ Some g → f.number ≡ c.number → e.number ≡ c.part → (first second : Content) (child : Option Kept) → content_seen c.number first ≡ least_parts f → content_seen c.part second ≡ least_parts e → (m n : Kept) → IsSetTo old c.number first (ends pair.old []) m → IsSetTo old c.part second m n → ChildReached sight old new table (choice_child old new pair c) (option_map message_of child) → ReachedBy sight old new pair (message_of n) c.cost
 carried_double sight old new table law shape_old shape_new pair c among six f e g found found_e at own own_e first second child seen seen_e m n (f', found', m_is) (e', found_e', n_is) reached =
-    let type_is : type_of m ≡ pair.old = ap type_of (m_is ∙ with_content_empty old pair.old (fields old pair.old) f' (settled f' (content_seen c.number first))) ∙ type_of-kept_onto (settled f' (content_seen c.number first)) (ends pair.old []) in
+    let type_is : type_of m ≡ pair.old = ap type_of (m_is ∙ with_content_empty old pair.old (fields old pair.old) f' (settled f' (content_seen c.number first))) ∙ parts_keep_types.0 (settled f' (content_seen c.number first)) (ends pair.old []) in
     let (below, apart) = (choice_known sight law old new shape_old shape_new table pair c among).0 six in
-    let rising = (fields-IsType old pair.old shape_old).rising in
+    let rising = (fields_are_found.0 old pair.old shape_old).rising in
     let first_is : f' ≡ f = one_found (fields old pair.old) c.number f' f found' found in
     let m_made : m ≡ kept_from pair.old (least_parts f) [] =
     m_is ∙ ap₂ (λ x qs. with_content (fields old pair.old) x (settled x qs) (ends pair.old [])) first_is seen

@@ -22,7 +22,7 @@ use Rattle.pg_dyn.specs.Decoding.{read_item, dec}
 use Rattle.pg_dyn.specs.Belonging.{IsMessage}
 use Rattle.pg_dyn.specs.Comparison.{View, Alike, meets, alike_leaves, same_message, unshared_bytes, Kept}
 use Rattle.pg_dyn.proofs.Lists.{filter_none}
-use Rattle.pg_dyn.proofs.Codings.{Reads, Reads-from_range}
+use Rattle.pg_pairs.proofs.Packed.{Reads}
 use Rattle.pg_dyn.specs.Bodies.{IsNestedLeaf}
 use Rattle.pg_pairs.proofs.EntryRecords.{two_records}
 use Rattle.pg_pairs.specs.declared.choice.Pair.{Pair}
@@ -47,6 +47,7 @@ use Rattle.pg_pairs.proofs.CarryMaps.{nested, reach_entry}
 use Rattle.pg_pairs.proofs.CarryMapChild.{empty_length}
 use Rattle.pg_pairs.proofs.EntriesRead.{entry_broken, entry_parts}
 use Rattle.pg_pairs.proofs.Meeting.{no_parts}
+use Rattle.pg_dyn.proofs.PublicLaws.{bodies_read_again}
 
 pub far_in_range : (e : Element) → IsLeafy e → InRange (form e) (far_leaf (form e))
 far_in_range (elements.Scalar scalars.String) leafy = zero_in_range (elements.Scalar scalars.String) tt
@@ -190,18 +191,18 @@ module _ (sight : Sight) (old new : Shape) (shape_old : IsShape old) (shape_new 
   -- a map of leaves
   pub reach_far_leaves : (e : Element) (leafy : IsLeafy e) → field_at (fields old pair.old) number ≡ Some (map_of e) → field_at (fields new pair.new) number ≡ Some beside → (key value : Leaf) → InRange (form (elements.Scalar k)) key → InRange (form e) value → IsFar e key value → entry_cost number (body_length (form (elements.Scalar k)) key) (body_length (form e) value) ≤ cap → ReachedBy sight old new pair (holds number (Some key) value (ends [])) (entry_cost number (body_length (form (elements.Scalar k)) key) (body_length (form e) value))
   reach_far_leaves e leafy found at key value key_range range far small =
-      let key_reads = Reads-from_range (elements.Scalar k) key key_range in
-      let value_reads = Reads-from_range e value range in
+      let key_reads = bodies_read_again (elements.Scalar k) key key_range in
+      let value_reads = bodies_read_again e value range in
       let is_nested = nested sight old new shape_old shape_new pair number e d o r k l leafy e leafy value in
       let short : length (entry_bytes k e key value) < 2 ^ 64 = omega (arith, length-entry_bytes k e key value) in
       reach_entry sight old new shape_old shape_new pair number e d o r k l leafy key value key_range range found at small
       (entry_broken sight.alike (dec new) (map_of e) beside k l refl refl (record { number = number; key = Some key; written = value; sought = Alike value }) key refl refl refl
       (λ x y h.
-      let parts = entry_parts k l e d key value (Reads-from_range (elements.Scalar k) key key_range) (Reads-from_range e value range) (nested sight old new shape_old shape_new pair number e d o r k l leafy e leafy value) number short x y h in
+      let parts = entry_parts k l e d key value (bodies_read_again (elements.Scalar k) key key_range) (bodies_read_again e value range) (nested sight old new shape_old shape_new pair number e d o r k l leafy e leafy value) number short x y h in
       ⊎_elim
-      (λ (unlike, far_key). inl (unlike_key k l e d key value (Reads-from_range (elements.Scalar k) key key_range) (Reads-from_range e value range) (nested sight old new shape_old shape_new pair number e d o r k l leafy e leafy value) unlike far_key x parts.0))
+      (λ (unlike, far_key). inl (unlike_key k l e d key value (bodies_read_again (elements.Scalar k) key key_range) (bodies_read_again e value range) (nested sight old new shape_old shape_new pair number e d o r k l leafy e leafy value) unlike far_key x parts.0))
       (λ (unlike, far_value). inr (leaf_value_unmet e leafy unlike value y
-      (λ leafy_new. unlike_value k l e d key value (Reads-from_range (elements.Scalar k) key key_range) (Reads-from_range e value range) (nested sight old new shape_old shape_new pair number e d o r k l leafy e leafy value) leafy leafy_new unlike far_value y parts.1)))
+      (λ leafy_new. unlike_value k l e d key value (bodies_read_again (elements.Scalar k) key key_range) (bodies_read_again e value range) (nested sight old new shape_old shape_new pair number e d o r k l leafy e leafy value) leafy leafy_new unlike far_value y parts.1)))
       far))
 
   -- a map of messages, with an empty one
@@ -274,8 +275,8 @@ module _ (sight : Sight) (old new : Shape) (shape_old : IsShape old) (shape_new 
           subst (λ w. is_field_kept sight.alike (dec new) f beside (record { number = number; key = Some key; written = w; sought = Kept test } ∷ []) ≡ false) (sym written_is)
           (entry_broken sight.alike (dec new) f beside k l refl refl literal key refl refl refl
           (λ x y h.
-          let parts = entry_parts k l (elements.Message s) d key (Bytes []) (Reads-from_range (elements.Scalar k) key range) (record { read = refl; shape = tt }) refl number fits x y h in
+          let parts = entry_parts k l (elements.Message s) d key (Bytes []) (bodies_read_again (elements.Scalar k) key range) (record { read = refl; shape = tt }) refl number fits x y h in
           ⊎_elim
-          (λ (unlike, far_key). inl (unlike_key k l (elements.Message s) d key (Bytes []) (Reads-from_range (elements.Scalar k) key range) (record { read = refl; shape = tt }) refl unlike far_key x parts.0))
+          (λ (unlike, far_key). inl (unlike_key k l (elements.Message s) d key (Bytes []) (bodies_read_again (elements.Scalar k) key range) (record { read = refl; shape = tt }) refl unlike far_key x parts.0))
           (λ unlike. inr (unmet unlike y))
           far))

@@ -8,8 +8,8 @@ use Rattle.pg_dyn.specs.Message.{Leaf}
 use Rattle.pg_dyn.specs.Coding.{form, body}
 use Rattle.pg_dyn.specs.Bodies.{IsNestedLeaf}
 use Rattle.pg_dyn.specs.Writing.{item_record, entry_bytes}
-use Rattle.pg_dyn.proofs.Codings.{Reads}
-use Rattle.pg_dyn.proofs.Entries.{records_of_entry}
+use Rattle.pg_pairs.proofs.Packed.{Reads}
+use Rattle.pg_dyn.proofs.PublicLaws.{entry_bodies_read}
 
 module _ (k : Scalar) (e : Element) (key value : Leaf) (key_reads : Reads (form (elements.Scalar k)) key) (value_reads : Reads (form e) value) (nested : IsNestedLeaf e value) where
   unfoldable pub two_records : List WireRecord
@@ -17,4 +17,4 @@ module _ (k : Scalar) (e : Element) (key value : Leaf) (key_reads : Reads (form 
 
   pub entry_records : length (entry_bytes k e key value) < 2 ^ 64 → records_of (entry_bytes k e key value) ≡ Ok two_records
   unfolding two_records
-  entry_records fits = records_of_entry k e (body (form (elements.Scalar k)) key, key) (body (form e) value, value) key_reads value_reads nested fits
+  entry_records fits = (entry_bodies_read k e (body (form (elements.Scalar k)) key, key) (body (form e) value, value) key_reads value_reads nested fits).0

@@ -10,13 +10,13 @@ use Rattle.pg_schema.specs.Parts.{field_shape, shape_of, type_at}
 use Rattle.pg_schema.specs.Shape.{Shape, FieldShape, IsShape, IsField, fields, field_at}
 use Rattle.pg_dyn.specs.Encoding.{cap}
 use Rattle.pg_dyn.proofs.Lists.{each_weaker, filter-append'}
-use Rattle.pg_dyn.proofs.Belonging.{fields-IsType}
 use Rattle.pg_pairs.specs.declared.choice.Choice.{Choice}
 use Rattle.pg_pairs.specs.declared.choice.Pair.{Pair}
 use Rattle.pg_pairs.specs.Sight.{Sight}
 use Rattle.pg_pairs.specs.Choices.{Table, choices_beside, joined_choices, all_choices, choices, affordable}
 use Rattle.pg_pairs.proofs.Linking.{drop_at}
 use Rattle.pg_pairs.proofs.ChildSteps.{past}
+use Rattle.pg_dyn.proofs.PublicLaws.{fields_are_found}
 
 pub affordable-append : (xs ys : List Choice) → affordable (xs ++ ys) ≡ affordable xs ++ affordable ys
 affordable-append xs ys = filter-append' (λ (c : Choice). nat_le c.cost cap) xs ys
@@ -40,7 +40,7 @@ field_more sight table gs list at f now beside after total inside is so_far own 
 pub numbers_fit : (parts : Parts) (id : TypeId) (list : List Field) → IsShape (shape_of parts) → map field_shape list ≡ fields (shape_of parts) id → AllByRecursion (λ (f : Field). f.number < 2 ^ 29) list
 numbers_fit parts id list shape is =
     unmap list (subst (AllByRecursion (λ (f : FieldShape). f.number < 2 ^ 29)) (sym is)
-    (each_weaker (IsField (length (shape_of parts))) (λ (f : FieldShape). f.number < 2 ^ 29) (λ f field. field.number_below) (fields (shape_of parts) id) (fields-IsType (shape_of parts) id shape).each))
+    (each_weaker (IsField (length (shape_of parts))) (λ (f : FieldShape). f.number < 2 ^ 29) (λ f field. field.number_below) (fields (shape_of parts) id) (fields_are_found.0 (shape_of parts) id shape).each))
   where
     unmap : (xs : List Field) → AllByRecursion (λ (f : FieldShape). f.number < 2 ^ 29) (map field_shape xs) → AllByRecursion (λ (f : Field). f.number < 2 ^ 29) xs
     unmap [] h = tt

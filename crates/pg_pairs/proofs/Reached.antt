@@ -6,10 +6,7 @@ use Rattle.pg_schema.specs.Shape.{Shape, FieldShape, PresenceFits, IsField, IsSh
 use Rattle.pg_dyn.specs.Message.{Message}
 use Rattle.pg_dyn.specs.Content.{same_oneof}
 use Rattle.pg_dyn.specs.Encoding.{cap}
-use Rattle.pg_dyn.proofs.Lists.{each-append, each_weaker}
-use Rattle.pg_dyn.proofs.Splitting.{each_found, found_number}
-use Rattle.pg_dyn.proofs.Flat.{each_at}
-use Rattle.pg_dyn.proofs.Belonging.{fields-IsType}
+use Rattle.pg_dyn.proofs.Lists.{each-append, each_weaker, each_at}
 use Rattle.pg_pairs.specs.declared.choice.Choice.{Choice}
 use Rattle.pg_pairs.specs.declared.choice.Pair.{Pair}
 use Rattle.pg_pairs.specs.Sight.{Sight, IsSight}
@@ -21,6 +18,7 @@ use Rattle.pg_pairs.specs.Carried.{carried_field, carried_two, carried_of, carri
 use Rattle.pg_pairs.proofs.CarriedFields.{IsCarried, CarriesOwn, presences_carried}
 use Rattle.pg_pairs.proofs.Messages.{one_found}
 use Rattle.pg_pairs.proofs.Meeting.{reach_meeting}
+use Rattle.pg_dyn.proofs.PublicLaws.{fields_are_found}
 
 module _ (sight : Sight) (law : IsSight sight) (old new : Shape) (shape_old : IsShape old) (shape_new : IsShape new) (table : Table) (pair : Pair) where
   -- two fields that meet stand in order, and not in one old oneof
@@ -31,14 +29,14 @@ module _ (sight : Sight) (law : IsSight sight) (old new : Shape) (shape_old : Is
   CarriesChoice c = AreApart c × IsCarried sight law old new shape_old shape_new table pair (choice_child old new pair c) (carried sight old new pair c) c.cost
 
   fits_old : (n : ℕ) (x : FieldShape) → field_at (fields old pair.old) n ≡ Some x → PresenceFits x.presence x.element x.oneof
-  fits_old n x found = (each_at (IsField (length old)) (fields old pair.old) n x found (fields-IsType old pair.old shape_old).each).presence_fits
+  fits_old n x found = (each_at (IsField (length old)) (fields old pair.old) n x found (fields_are_found.0 old pair.old shape_old).each).presence_fits
 
   fits_new : (n : ℕ) (x : FieldShape) → field_at (fields new pair.new) n ≡ Some x → PresenceFits x.presence x.element x.oneof
-  fits_new n x found = (each_at (IsField (length new)) (fields new pair.new) n x found (fields-IsType new pair.new shape_new).each).presence_fits
+  fits_new n x found = (each_at (IsField (length new)) (fields new pair.new) n x found (fields_are_found.0 new pair.new shape_new).each).presence_fits
 
   field_carried : (f g : FieldShape) → field_at (fields old pair.old) f.number ≡ Some f → field_at (fields new pair.new) f.number ≡ Some g → AllByRecursion (CarriesOwn sight law old new shape_old shape_new table pair f g) (field_choices sight table f g)
   field_carried f g found at =
-      let number : g.number ≡ f.number = found_number (fields new pair.new) f.number g at in
+      let number : g.number ≡ f.number = fields_are_found.1 (fields new pair.new) f.number g at in
       let same : g ≡ record { number = f.number; presence = g.presence; element = g.element; oneof = g.oneof } = λ i. record { number = number i; presence = g.presence; element = g.element; oneof = g.oneof } in
       subst (λ x. AllByRecursion (CarriesOwn sight law old new shape_old shape_new table pair f x) (field_choices sight table f x)) (sym same)
       (presences_carried sight law old new shape_old shape_new table pair f.number f.element g.element f.oneof g.oneof f.presence g.presence found (at ∙ ap Some same) (fits_old f.number f found) (fits_new f.number g at))
@@ -144,7 +142,7 @@ module _ (sight : Sight) (law : IsSight sight) (old new : Shape) (shape_old : Is
   choice_known c among =
       among_each Known c (choices sight table old new pair)
       (kept_each (all_choices sight table (fields new pair.new) (fields old pair.old))
-      (all_carried (fields old pair.old) (each_found (fields old pair.old) (fields-IsType old pair.old shape_old).rising) (fields-IsType old pair.old shape_old).rising)) among
+      (all_carried (fields old pair.old) (fields_are_found.2 (fields old pair.old) (fields_are_found.0 old pair.old shape_old).rising) (fields_are_found.0 old pair.old shape_old).rising)) among
 
   -- the child that a smaller bound in the table gives
   child_given : (wanted : Option Pair) (cost : ℕ) → ChildThere table wanted cost → ((p : Pair) (x : ℕ) → table p ≡ Some (Some x) → x < cost → IsReached sight old new p x) → (child : Option Message) × ChildReached sight old new table wanted child

@@ -29,9 +29,9 @@ use Rattle.pg_dyn.specs.Encoding.{child_type, element_type}
 use Rattle.pg_dyn.specs.Fits.{Fits}
 use Rattle.pg_dyn.specs.Comparison.{View, Sought, Alike, is_zero_sought, is_zero_item, hides_zero, shown, same_key, meets, sought, same}
 use Rattle.pg_dyn.specs.Comparison as comparison
-use Rattle.pg_dyn.proofs.ItemLeaves.{item_is_key}
 use Rattle.pg_pairs.specs.Comparing.{view_by, Keyed, keyed, keyed_if, keyed_shown, IsSingle, value_sought, value_item, all_meet, is_same_beside}
 use Rattle.pg_pairs.proofs.SameSteps.{list_if, part_with, seen_keyed, of_number_seen, pointwise-map, copied_fact}
+use Rattle.pg_dyn.proofs.PublicLaws.{contents_are_seen}
 
 -- ---- contents that fit
 
@@ -63,7 +63,7 @@ keyed_fits shape (presences.Map key) e (contents.Map es) h = go es.items h.0
   where
     go : (xs : List (Value × Value)) → AllByRecursion (λ (x : Value × Value). IsItemOf key x.0 × ItemFits shape e x.1) xs → AllByRecursion (HeldFits shape e) (map {B = Keyed} (λ (x : Value × Value). (Some x.0, x.1)) xs)
     go [] k = tt
-    go (x ∷ xs) k = ((item_is_key key x.0 k.0.0, k.0.1), go xs k.1)
+    go (x ∷ xs) k = ((contents_are_seen.1 key x.0 k.0.0, k.0.1), go xs k.1)
 
 -- a singular field holds one item
 single_fits : (shape : Shape) (p : Presence) (e : Element) (c : Content) → ContentFits shape p e c → is_singular p ≡ true → IsSingle (Some c)
@@ -132,8 +132,8 @@ leaf_type t (values.Bytes n) h = tt
 leaf_type t (values.Msg child) h = absurd h
 
 item_type : (shape : Shape) (e : Element) (v : Value) → ItemFits shape e v → IsOfType (element_type e) v
-item_type shape (elements.Scalar s) v h = leaf_type (element_type (elements.Scalar s)) v (item_is_key s v h)
-item_type shape (elements.Enum s) v h = leaf_type (element_type (elements.Enum s)) v (item_is_key Int32 v h)
+item_type shape (elements.Scalar s) v h = leaf_type (element_type (elements.Scalar s)) v (contents_are_seen.1 s v h)
+item_type shape (elements.Enum s) v h = leaf_type (element_type (elements.Enum s)) v (contents_are_seen.1 Int32 v h)
 item_type shape (elements.Message t) (values.Int n) h = tt
 item_type shape (elements.Message t) (values.F32 n) h = tt
 item_type shape (elements.Message t) (values.F64 n) h = tt

@@ -18,13 +18,11 @@ use Rattle.pg_dyn.specs.Kept as kept
 use Rattle.pg_dyn.specs.Seen.{record_seen}
 use Rattle.pg_dyn.specs.Writing.{bytes_of}
 use Rattle.pg_dyn.specs.Comparison.{records_outside, unshared_bytes, same}
-use Rattle.pg_dyn.proofs.Splitting.{each_found}
-use Rattle.pg_dyn.proofs.Belonging.{fields-IsType}
-use Rattle.pg_dyn.proofs.Joining.{list_all_true}
-use Rattle.pg_dyn.proofs.Plainness.{each_at_index}
 use Rattle.pg_pairs.specs.Comparing.{is_same, is_same_beside, outside_record}
 use Rattle.pg_pairs.proofs.ChildSteps.{past}
 use Rattle.pg_pairs.proofs.SameSteps.{list_all-map, each-unmap}
+use Rattle.pg_dyn.proofs.PublicLaws.{fields_are_found}
+use Rattle.pg_dyn.proofs.Lists.{each_at_index, list_all_true}
 
 pub outside_all : (gs : List FieldShape) (us : List UnknownRecord) → flat_map (outside_record gs) us ≡ bytes_of (records_outside gs (map record_seen us))
 outside_all gs [] = refl
@@ -49,7 +47,7 @@ one_false test xs i x inside is untrue =
 pub all_found : (shape : Shape) (type : TypeId) (list : List Field) → IsShape shape → map field_shape list ≡ fields shape type → AllByRecursion (λ f. field_at (fields shape type) f.number ≡ Some (field_shape f)) list
 all_found shape type list is_shape are =
     each-unmap (λ (f : FieldShape). field_at (fields shape type) f.number ≡ Some f) field_shape list
-    (subst (AllByRecursion (λ (f : FieldShape). field_at (fields shape type) f.number ≡ Some f)) (sym are) (each_found (fields shape type) (fields-IsType shape type is_shape).rising))
+    (subst (AllByRecursion (λ (f : FieldShape). field_at (fields shape type) f.number ≡ Some f)) (sym are) (fields_are_found.2 (fields shape type) (fields_are_found.0 shape type is_shape).rising))
 
 module _ (alike : EnumType → EnumType → ℤ → Bool) (old new : Parts) (v w : Kept) where
   abbrev same_by : FieldShape → Bool

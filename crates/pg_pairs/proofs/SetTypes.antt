@@ -6,8 +6,8 @@ use Rattle.pg_dyn.specs.Kept.{Kept, type_of}
 use Rattle.pg_dyn.specs.Replacing.{without_rivals}
 use Rattle.pg_dyn.specs.Seen.{content_seen}
 use Rattle.pg_dyn.specs.Setting.{settled, IsSetTo}
-use Rattle.pg_dyn.proofs.Lifted.{type_of-with_parts, type_of-without_rivals}
+use Rattle.pg_dyn.proofs.PublicLaws.{parts_keep_types}
 
 pub type_set : (shape : Shape) (number : ℕ) (content : Content) (old new : Kept) → IsSetTo shape number content old new → type_of new ≡ type_of old
 type_set shape number content old new (f, at, is) =
-    ap type_of is ∙ type_of-with_parts f.number (settled f (content_seen number content)) (without_rivals (fields shape (type_of old)) f old) ∙ type_of-without_rivals (fields shape (type_of old)) f old
+    ap type_of is ∙ parts_keep_types.1 f.number (settled f (content_seen number content)) (without_rivals (fields shape (type_of old)) f old) ∙ parts_keep_types.2 (fields shape (type_of old)) f old

@@ -27,9 +27,9 @@ use Rattle.pg_dyn.proofs.EncodeSteps.{counted_all, counted_more, entries_fit, fi
 use Rattle.pg_dyn.proofs.FitsByContents.{contents_from_fits}
 use Rattle.pg_dyn.proofs.FitsChecks.{same_field}
 use Rattle.pg_dyn.proofs.FitsSteps.{some_not_none}
-use Rattle.pg_dyn.proofs.Plainness.{each_at_index}
 use Rattle.pg_dyn.proofs.Splitting.{found_number}
 use Rattle.pg_dyn.proofs.message.+count.Goals as goal
+use Rattle.pg_dyn.proofs.Lists.{each_at_index}
 
 -- the record of an item whose body is counted
 item_counted : (shape : Shape) (n : ℕ) (e : Element) (v : Value) (total : ℕ) (wire : _) → wire ≡ form_wire (form e) → total ≡ capped (length (written n wire (item_body shape e v)).bytes) → total ≡ capped (length (item_bytes shape n e v))

@@ -19,8 +19,7 @@ use Rattle.pg_dyn.proofs.FitsByContents.{fits_from_contents, contents_from_fits}
 use Rattle.pg_dyn.proofs.ItemLeaves.{item_is_key}
 use Rattle.pg_dyn.proofs.FitsChecks.{same_field, all_unknown, none_accepted}
 use Rattle.pg_dyn.proofs.FitsSteps.{each_more, some_not_none}
-use Rattle.pg_dyn.proofs.Lists.{each_weaker}
-use Rattle.pg_dyn.proofs.Plainness.{each_at_index, each_from_take}
+use Rattle.pg_dyn.proofs.Lists.{each_weaker, each_at_index, each_from_take}
 use Rattle.pg_dyn.proofs.message.+fits.Goals as goal
 
 pub Content::fits-keys_rise-requires : goal.Content::fits-keys_rise-requires

@@ -31,8 +31,8 @@ use Rattle.pg_dyn.proofs.EncodeSteps.{at_the_end, entries_fit, if_ok, inner_is, 
 use Rattle.pg_dyn.proofs.FitsByContents.{contents_from_fits}
 use Rattle.pg_dyn.proofs.FitsChecks.{same_field}
 use Rattle.pg_dyn.proofs.FitsSteps.{some_not_none}
-use Rattle.pg_dyn.proofs.Plainness.{each_at_index}
 use Rattle.pg_dyn.proofs.message.+write.Goals as goal
+use Rattle.pg_dyn.proofs.Lists.{each_at_index}
 
 -- an entry: the front of its record, its key and its value
 in_turn : (out f k v first second third : List ℕ) → first ≡ out ++ f → second ≡ first ++ k → third ≡ second ++ v → third ≡ out ++ (f ++ (k ++ v))

@@ -9,8 +9,8 @@ use Rattle.pg_dyn.specs.Seen.{fields_onto, record_seen}
 use Rattle.pg_dyn.proofs.FitsByContents.{contents_from_fits}
 use Rattle.pg_dyn.proofs.KeptParts.{fields_keep}
 use Rattle.pg_dyn.proofs.OutsideFields.{outside_is}
-use Rattle.pg_dyn.proofs.Plainness.{each_at_index}
 use Rattle.pg_dyn.proofs.outside.encode_outside.Goals as goal
+use Rattle.pg_dyn.proofs.Lists.{each_at_index}
 
 pub push_outside-requires-clause-holds : goal.push_outside-requires-clause-holds
 push_outside-requires-clause-holds c =

@@ -6,9 +6,10 @@ use Rattle.pg_dyn.specs.Encoding.{cap, enc}
 use Rattle.pg_dyn.specs.Fits.{Fits}
 use Rattle.pg_dyn.specs.Kept.{Kept, message_of, type_of}
 use Rattle.pg_pairs.specs.Comparing.{view_by}
-use Rattle.pg_pairs.proofs.BreakSteps.{absent_keeps, answered, kept_plain, of_read, other_type, same_type, unread_is}
+use Rattle.pg_pairs.proofs.BreakSteps.{absent_keeps, answered, of_read, other_type, same_type, unread_is}
 use Rattle.pg_pairs.proofs.breaking.breaks.Goals.{then-ne-via-then-ne, then-ne-via-else-ne+then-not-is_plain, then-ne-via-else-ne+else-not-is_plain+then-not-has}
 use Rattle.pg_pairs.proofs.breaking.breaks.Goals as goal
+use Rattle.pg_dyn.proofs.PublicLaws.{plain_is_kept}
 
 pub returns-then-ne-clause-exact : goal.returns-then-ne-clause-exact
 returns-then-ne-clause-exact g c = (
@@ -17,7 +18,7 @@ returns-then-ne-clause-exact g c = (
       elim c.then-ne.branch [
         | then-ne-via-then-ne w ↦ absurd (other_type c.type_id.result c.args.pair.old c.ne.result c.ne.ensures w.if-ne.true (c.type_id.ensures ∙ k.0))
         | then-ne-via-else-ne+then-not-is_plain w ↦
-            absurd (true≢false (sym (w.is_plain.ensures.1 (kept_plain c.args.message.now k.1.is_plain)) ∙ w.if-not-is_plain.true))
+            absurd (true≢false (sym (w.is_plain.ensures.1 ((plain_is_kept c.args.message.now).1 k.1.is_plain)) ∙ w.if-not-is_plain.true))
         | then-ne-via-else-ne+else-not-is_plain+then-not-has w ↦
             absurd (true≢false (sym (absent_keeps (view_by (g.V.View.is_alike c.args.view.now) c.args.old.now c.args.new.now) (shape_of c.args.old.now) (shape_of c.args.new.now) c.args.pair.old c.args.pair.new (message_of c.args.message.now) c.parts.ensures.checked.shape c.parts-2.ensures.checked.shape k.1.is_message k.1.is_plain k.1.has_encoding (λ there. true≢false (sym (w.has.ensures.1 there) ∙ w.if-not-has.true))) ∙ k.1.not_kept))
       ],

@@ -5,7 +5,6 @@ use Rattle.pg_schema.specs.Shape.{fields, field_at}
 use Rattle.pg_dyn.specs.Kept.{ends, message_of, type_of}
 use Rattle.pg_dyn.specs.Seen.{content_seen}
 use Rattle.pg_dyn.specs.Setting.{IsSetTo}
-use Rattle.pg_dyn.proofs.Splitting.{found_number}
 use Rattle.pg_pairs.specs.CarriedItems.{carried_parts, least_parts, IsTakenBy}
 use Rattle.pg_pairs.specs.Views.{sight_of}
 use Rattle.pg_pairs.proofs.CarryContents.{choice_content, element_there, empty_reaches}
@@ -13,6 +12,7 @@ use Rattle.pg_pairs.proofs.CarrySteps.{carried_single, carried_double, carried_n
 use Rattle.pg_pairs.proofs.LeastCosts.{choice_some}
 use Rattle.pg_pairs.proofs.ViewSights.{sight_seen}
 use Rattle.pg_pairs.proofs.carrying.carry.Goals as goal
+use Rattle.pg_dyn.proofs.PublicLaws.{fields_are_found}
 
 pub returns-in_default-clause-none : goal.returns-in_default-clause-none
 returns-in_default-clause-none g c = λ same round.
@@ -31,14 +31,14 @@ returns-in_default-2-clause-none g c = λ same round.
     let law = sight_seen (g.V.View.is_alike c.args.view.now) (g.V.View.least_differing c.args.view.now) (g.met.V.View.least_is c.args.view.now) c.args.old.now c.args.new.now in
     let found = sym c.field.ensures.shape ∙ ap (λ x. option_map field_shape (option_copied x)) c.in-Some.is in
     let at = sym c.field-2.ensures.shape ∙ ap (λ x. option_map field_shape (option_copied x)) c.in-Some-field.is in
-    let own = found_number (fields (shape_of c.args.old.now) c.args.pair.old) c.args.choice.now.number (field_shape c.in-Some.field.now) found in
+    let own = fields_are_found.1 (fields (shape_of c.args.old.now) c.args.pair.old) c.args.choice.now.number (field_shape c.in-Some.field.now) found in
     let there = choice_content (sight_of (g.V.View.is_alike c.args.view.now) (g.V.View.least_differing c.args.view.now) c.args.old.now c.args.new.now) (shape_of c.args.old.now) (shape_of c.args.new.now) law c.parts.ensures.checked.shape c.parts-2.ensures.checked.shape c.args.pair c.args.choice.now c.args.child round (ne_eqb c.args.choice.now.case 6 c.if-choice-ne6.true) (field_shape c.in-Some.field.now) (field_shape c.in-Some-field.beside.now) found at own in
     true≢false (sym there ∙ sym c.in_ok-content.ensures.some ∙ ap is_some c.in_default-2.is)
 
 pub add-requires-clause-found : goal.add-requires-clause-found
 add-requires-clause-found g c =
     let found = sym c.field.ensures.shape ∙ ap (λ x. option_map field_shape (option_copied x)) c.in-Some.is in
-    let own = found_number (fields (shape_of c.args.old.now) c.args.pair.old) c.args.choice.now.number (field_shape c.in-Some.field.now) found in
+    let own = fields_are_found.1 (fields (shape_of c.args.old.now) c.args.pair.old) c.args.choice.now.number (field_shape c.in-Some.field.now) found in
     subst (λ type. field_at (fields (shape_of c.args.old.now) type) c.in-Some.field.now.number ≡ Some (field_shape c.in-Some.field.now)) (sym (ap type_of c.empty-message.ensures)) (ap (field_at (fields (shape_of c.args.old.now) c.args.pair.old)) own ∙ found)
 
 pub add-requires-clause-taken : goal.add-requires-clause-taken
@@ -52,7 +52,7 @@ returns-then-choice-ne6-clause-reached g c = λ table among reached.
     let law = sight_seen (g.V.View.is_alike c.args.view.now) (g.V.View.least_differing c.args.view.now) (g.met.V.View.least_is c.args.view.now) c.args.old.now c.args.new.now in
     let found = sym c.field.ensures.shape ∙ ap (λ x. option_map field_shape (option_copied x)) c.in-Some.is in
     let at = sym c.field-2.ensures.shape ∙ ap (λ x. option_map field_shape (option_copied x)) c.in-Some-field.is in
-    let own = found_number (fields (shape_of c.args.old.now) c.args.pair.old) c.args.choice.now.number (field_shape c.in-Some.field.now) found in
+    let own = fields_are_found.1 (fields (shape_of c.args.old.now) c.args.pair.old) c.args.choice.now.number (field_shape c.in-Some.field.now) found in
     let seen = subst (λ o. IfSome o (λ content. content_seen c.in-Some.field.now.number content ≡ carried_parts (sight_of (g.V.View.is_alike c.args.view.now) (g.V.View.least_differing c.args.view.now) c.args.old.now c.args.new.now) (field_shape c.in-Some.field.now) (field_shape c.in-Some-field.beside.now) c.args.choice.now.case c.args.choice.now.part c.args.child)) c.in-Some-2.is c.in_ok-content.ensures.seen in
     let set = subst (λ m. IsSetTo (shape_of c.args.old.now) c.in-Some.field.now.number c.in-Some-2.content m c.add.new.message) c.empty-message.ensures c.in_ok-add.ensures.set in
     carried_single (sight_of (g.V.View.is_alike c.args.view.now) (g.V.View.least_differing c.args.view.now) c.args.old.now c.args.new.now) (shape_of c.args.old.now) (shape_of c.args.new.now) table law c.parts.ensures.checked.shape c.parts-2.ensures.checked.shape c.args.pair c.args.choice.now among (ne_eqb c.args.choice.now.case 6 c.if-choice-ne6.true)
@@ -69,7 +69,7 @@ returns-in_default-field-2-clause-none g c = λ same round.
 pub add-requires-2-clause-found : goal.add-requires-2-clause-found
 add-requires-2-clause-found g c =
     let found = sym c.field.ensures.shape ∙ ap (λ x. option_map field_shape (option_copied x)) c.in-Some.is in
-    let own = found_number (fields (shape_of c.args.old.now) c.args.pair.old) c.args.choice.now.number (field_shape c.in-Some.field.now) found in
+    let own = fields_are_found.1 (fields (shape_of c.args.old.now) c.args.pair.old) c.args.choice.now.number (field_shape c.in-Some.field.now) found in
     subst (λ type. field_at (fields (shape_of c.args.old.now) type) c.in-Some.field.now.number ≡ Some (field_shape c.in-Some.field.now)) (sym (ap type_of c.empty-message.ensures)) (ap (field_at (fields (shape_of c.args.old.now) c.args.pair.old)) own ∙ found)
 
 pub add-requires-2-clause-taken : goal.add-requires-2-clause-taken
@@ -80,7 +80,7 @@ add-requires-2-clause-taken g c =
 pub add-requires-3-clause-found : goal.add-requires-3-clause-found
 add-requires-3-clause-found g c =
     let other = sym c.field-3.ensures.shape ∙ ap (λ x. option_map field_shape (option_copied x)) c.in-Some-field-2.is in
-    let own_other = found_number (fields (shape_of c.args.old.now) c.args.pair.old) c.args.choice.now.part (field_shape c.in-Some-field-2.other.now) other in
+    let own_other = fields_are_found.1 (fields (shape_of c.args.old.now) c.args.pair.old) c.args.choice.now.part (field_shape c.in-Some-field-2.other.now) other in
     subst (λ type. field_at (fields (shape_of c.args.old.now) type) c.in-Some-field-2.other.now.number ≡ Some (field_shape c.in-Some-field-2.other.now)) (sym (c.in_ok-add-2.ensures.type_is ∙ ap type_of c.empty-message.ensures)) (ap (field_at (fields (shape_of c.args.old.now) c.args.pair.old)) own_other ∙ other)
 
 pub add-requires-3-clause-taken : goal.add-requires-3-clause-taken
@@ -94,8 +94,8 @@ returns-clause-reached g c = λ table among reached.
     let found = sym c.field.ensures.shape ∙ ap (λ x. option_map field_shape (option_copied x)) c.in-Some.is in
     let at = sym c.field-2.ensures.shape ∙ ap (λ x. option_map field_shape (option_copied x)) c.in-Some-field.is in
     let other = sym c.field-3.ensures.shape ∙ ap (λ x. option_map field_shape (option_copied x)) c.in-Some-field-2.is in
-    let own = found_number (fields (shape_of c.args.old.now) c.args.pair.old) c.args.choice.now.number (field_shape c.in-Some.field.now) found in
-    let own_other = found_number (fields (shape_of c.args.old.now) c.args.pair.old) c.args.choice.now.part (field_shape c.in-Some-field-2.other.now) other in
+    let own = fields_are_found.1 (fields (shape_of c.args.old.now) c.args.pair.old) c.args.choice.now.number (field_shape c.in-Some.field.now) found in
+    let own_other = fields_are_found.1 (fields (shape_of c.args.old.now) c.args.pair.old) c.args.choice.now.part (field_shape c.in-Some-field-2.other.now) other in
     let first = subst (λ m. IsSetTo (shape_of c.args.old.now) c.in-Some.field.now.number c.in_ok-least_content.field-0 m c.add-2.new.message) c.empty-message.ensures c.in_ok-add-2.ensures.set in
     carried_double (sight_of (g.V.View.is_alike c.args.view.now) (g.V.View.least_differing c.args.view.now) c.args.old.now c.args.new.now) (shape_of c.args.old.now) (shape_of c.args.new.now) table law c.parts.ensures.checked.shape c.parts-2.ensures.checked.shape c.args.pair c.args.choice.now among (eq-eqb c.args.choice.now.case 6 c.if-choice-ne6.false)
     (field_shape c.in-Some.field.now) (field_shape c.in-Some-field-2.other.now) (field_shape c.in-Some-field.beside.now) found other at own own_other

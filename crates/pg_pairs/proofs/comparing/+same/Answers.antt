@@ -9,9 +9,8 @@ use Rattle.pg_dyn.specs.Comparison.{hides_zero}
 use Rattle.pg_dyn.specs.Kept.{type_of, weight}
 use Rattle.pg_dyn.specs.Kept as kept
 use Rattle.pg_dyn.specs.Seen.{item_seen}
-use Rattle.pg_dyn.proofs.EncodeSteps.{if_ok}
-use Rattle.pg_dyn.proofs.Lists.{list_all_each}
-use Rattle.pg_dyn.proofs.Plainness.{each_at_index, each_from_take}
+use Rattle.std.proofs.lemmas.Result.{IfOk-weaker}
+use Rattle.pg_dyn.proofs.Lists.{list_all_each, each_at_index, each_from_take}
 use Rattle.pg_pairs.specs.Comparing.{items_meet, keyed, keyed_if, keyed_meet, keyed_shown}
 use Rattle.pg_pairs.proofs.SameSteps.{both_go_on, each_got, held_weight, of_number_seen, shown_weight, total, total_got, weight_is}
 use Rattle.pg_pairs.proofs.SameFields.{HeldFits, beside_with, first_alone, key_lent, keyed_fits, message_fits, second_alone, shown_filled, shown_fits}
@@ -105,7 +104,7 @@ pub is_same_field-returns-in-Some-Some : goal.is_same_field-returns-in-Some-Some
 is_same_field-returns-in-Some-Some g t c =
     let found : field_at (fields (shape_of c.args.sides.now.new.now) (type_of c.args.read.now)) c.args.field.now.number ≡ Some (field_shape c.in-Some.beside.now) =
     ap (λ type. field_at (fields (shape_of c.args.sides.now.new.now) type) c.args.field.now.number) (sym c.type_id.ensures) ∙ sym c.in-Some.ensures.shape in
-    if_ok _ _ c.is_same_content.result (λ so h.
+    IfOk-weaker c.is_same_content.result _ _ (λ so h.
     h
     ∙ beside_with (g.V.View.is_alike c.args.sides.now.view.now) c.args.sides.now.old.now c.args.sides.now.new.now (field_shape c.args.field.now) (field_shape c.in-Some.beside.now) c.args.message.now c.args.read.now c.requires.old_schema.shape c.requires.fits c.requires.found found c.get.result c.get-2.result c.shown-content.result c.shown-other.result (Some c.in-Some-Some.content) (Some c.in-Some-Some.other) c.get.ensures.content c.get-2.ensures.content c.get.ensures.fits c.shown-content.ensures.items c.shown-other.ensures.items c.in-Some-Some.is-0 c.in-Some-Some.is-1)
     c.is_same_content.ensures
@@ -177,7 +176,7 @@ is_same_message-returns-then-not-branch g t c =
 
 pub is_same_message-returns : goal.is_same_message-returns
 is_same_message-returns g t c =
-    if_ok _ _ c.is_same_outside.result (λ so h.
+    IfOk-weaker c.is_same_outside.result _ _ (λ so h.
     h
     ∙ elim c.match-message_type.branch [
       | is_same_message-in-Some+in_ok-are_same_fields+else-not-branch w ↦

@@ -1,0 +1,135 @@
+-- The laws that proofs of other crates cite. Each is the contract of the public function of its name.
+use Rattle.std.proofs.Common.{◌≡◌, ℕ, ◌<◌, ◌^◌, List, [], ◌∷◌, length, refl, arith}
+use Rattle.std.specs.Bool.{⊤}
+use Rattle.std.specs.declared.cmp.Ordering.TheVariants.{Less, Greater}
+use Rattle.pg_schema.specs.Shape.{fields}
+use Rattle.pg_dyn.specs.Kept.{Kept, message_of}
+use Rattle.pg_dyn.specs.Kept as kept
+use Rattle.pg_dyn.specs.Message.{Leaf, key_cmp}
+use Rattle.pg_dyn.specs.Message as model
+use Rattle.pg_dyn.specs.Bodies.{BodiesReadAgain, EntryBodiesRead, PackedBodiesRead, SingleBodiesRead}
+use Rattle.pg_dyn.specs.Encoding.{enc, encoded_parts}
+use Rattle.pg_dyn.specs.OwnParts.{ChildrenAreShorter, OneIsEmpty, OwnPartsFit, RivalsMutual}
+use Rattle.pg_dyn.specs.FieldLaws.{ContentsAreSeen, EntriesRise, FieldsAreFound, LastItems, PackableWires, PartsKeepTypes, PlainIsKept, RecordsOfFields, RisingEntriesStay}
+use Rattle.pg_dyn.specs.Laws.{DecodingIs, EncodingSpells, KeptByField, MessageSplits, WritingSplits}
+use Rattle.pg_dyn.proofs.Lists.{each_of_all, each_weaker}
+use Rattle.pg_dyn.proofs.Codings.{Reads-from_range}
+use Rattle.pg_dyn.proofs.Plain as Plain
+use Rattle.pg_dyn.proofs.Entries.{entry_read, records_of_entry}
+use Rattle.pg_dyn.proofs.Fields as Fields
+use Rattle.pg_dyn.proofs.Splitting as Splitting
+use Rattle.pg_dyn.proofs.Flat as Flat
+use Rattle.pg_dyn.proofs.Belonging.{child_type_is, fields-IsType, flat_parts, is_flat}
+use Rattle.pg_dyn.proofs.Shorter.{children_shorter}
+use Rattle.pg_dyn.proofs.Again.{records_of-enc}
+use Rattle.pg_dyn.proofs.ReadSplits.{reading_of, field_split, no_field_split, unknown_split}
+use Rattle.pg_dyn.proofs.Depth.{dec_is}
+use Rattle.pg_dyn.proofs.ByField as ByField
+use Rattle.pg_dyn.proofs.ItemLeaves.{item_is_key}
+use Rattle.pg_dyn.proofs.ReplacingLaws.{content_number, type_of-kept_onto}
+use Rattle.pg_dyn.proofs.Lifted.{type_of-with_parts, type_of-without_rivals}
+
+-- ---- bytes and their messages
+
+pub decoding_is : DecodingIs
+decoding_is = dec_is
+
+pub encoding_spells : EncodingSpells
+encoding_spells =
+    λ shape type m is_shape is_message fits.
+    let short : length (enc shape type m) < 2 ^ 64 = omega arith in
+    records_of-enc shape type m is_shape is_message short
+
+pub message_splits : MessageSplits
+message_splits =
+    λ child fs rs m rising h.
+    let reading = reading_of child fs rs m h in
+    (field_split child fs rs m rising reading, no_field_split child fs rs m rising reading, unknown_split child fs rs m rising reading, reading.readable)
+
+pub writing_splits : WritingSplits
+writing_splits = λ fs ps n rising. ((λ f found. Splitting.records_of_number ps fs n f rising found), λ none. Splitting.records_of_no_number ps fs n none)
+
+pub kept_by_field : KeptByField
+kept_by_field =
+    λ view old new a b v is_old is_new is_message plain fits.
+    let short : length (enc old a v) < 2 ^ 64 = omega arith in
+    (ByField.kept_gives view old new a b v is_old is_new is_message plain short, λ h. ByField.kept_from view old new a b v is_old is_new is_message plain short h.0 h.1 h.2)
+
+-- ---- the parts of a message
+
+pub own_parts_fit : OwnPartsFit
+own_parts_fit = λ shape type m f is_shape is found.
+    let parts = flat_parts shape type (fields-IsType shape type is_shape) m is in
+    (Flat.each_fits (fields shape type) f found (encoded_parts shape type m) parts, Flat.in_order (fields shape type) f found (encoded_parts shape type m) parts)
+
+pub one_is_empty : OneIsEmpty
+one_is_empty = λ shape type m f g is_shape is found_f found_g rival.
+    Flat.one_is_empty (fields shape type) f g found_f found_g rival (encoded_parts shape type m) (flat_parts shape type (fields-IsType shape type is_shape) m is)
+
+pub rivals_mutual : RivalsMutual
+rivals_mutual = (Flat.same_oneof_sym, Flat.is_rival_sym, Flat.rival_apart)
+
+pub children_are_shorter : ChildrenAreShorter
+children_are_shorter = λ shape type m is_shape is within.
+    let short : length (enc shape type m) < 2 ^ 64 = omega (arith, within) in
+    children_shorter shape type m is (is_flat shape type (fields-IsType shape type is_shape) m is short)
+
+-- ---- bodies that are read as items
+
+pub bodies_read_again : BodiesReadAgain
+bodies_read_again = Reads-from_range
+
+pub packed_bodies_read : PackedBodiesRead
+packed_bodies_read = λ e xs packable reads. Plain.packed_read e (λ (x : List ℕ × Leaf). x.0) (λ (x : List ℕ × Leaf). x.1) packable xs reads
+
+pub single_bodies_read : SingleBodiesRead
+single_bodies_read = λ f xs reads. Plain.singles_read f.element (λ (x : List ℕ × Leaf). x.0) (λ (x : List ℕ × Leaf). x.1) f refl xs reads
+
+pub entry_bodies_read : EntryBodiesRead
+entry_bodies_read = λ key e k v reads_key reads_value nested fits.
+    (records_of_entry key e k v reads_key reads_value nested fits, λ number. entry_read key e k v reads_key reads_value nested number fits)
+
+pub packable_wires : PackableWires
+packable_wires = Plain.packable_wire
+
+pub last_items : LastItems
+last_items = (Plain.last_item_none, Plain.last_item_one)
+
+-- ---- fields
+
+pub fields_are_found : FieldsAreFound
+fields_are_found = (fields-IsType, Splitting.found_number, Splitting.each_found, child_type_is)
+
+pub records_of_fields : RecordsOfFields
+records_of_fields = (Splitting.field_records_number, Splitting.field_records_none, Splitting.takes_number)
+
+above_from_below : (es : List (Leaf × Leaf)) → EntriesRise es → Fields.EntriesRise es
+above_from_below [] h = tt
+above_from_below (e ∷ es) h =
+    (each_weaker (λ (x : Leaf × Leaf). key_cmp e.0 x.0 ≡ Less) (λ (x : Leaf × Leaf). key_cmp x.0 e.0 ≡ Greater) (λ x less. Fields.above_from_less e.0 x.0 less) es h.0, above_from_below es h.1)
+
+pub rising_entries_stay : RisingEntriesStay
+rising_entries_stay = λ es rise. Fields.put_ordered [] es (each_of_all (λ e. ⊤) (λ e. tt) es) (above_from_below es rise)
+
+-- ---- what a message keeps
+
+pub parts_keep_types : PartsKeepTypes
+parts_keep_types = (type_of-kept_onto, type_of-with_parts, type_of-without_rivals)
+
+pub contents_are_seen : ContentsAreSeen
+contents_are_seen = (content_number, item_is_key)
+
+plain_kept : (m : Kept) → kept.IsPlain m → model.IsPlain (message_of m)
+plain_kept (kept.ends type []) h = tt
+plain_kept (kept.ends type (r ∷ rs)) h = h
+plain_kept (kept.holds number key listed leaf later) h = plain_kept later h
+plain_kept (kept.nests number key listed child later) h = (plain_kept child h.0, plain_kept later h.1)
+
+kept_plain : (m : Kept) → model.IsPlain (message_of m) → kept.IsPlain m
+kept_plain (kept.ends type []) h = tt
+kept_plain (kept.ends type (r ∷ rs)) h = h
+kept_plain (kept.holds number key listed leaf later) h = kept_plain later h
+kept_plain (kept.nests number key listed child later) h = (kept_plain child h.0, kept_plain later h.1)
+
+pub plain_is_kept : PlainIsKept
+plain_is_kept = λ m. (plain_kept m, kept_plain m)

@@ -1,0 +1,82 @@
+-- Laws of a type's fields, of what is written and read of them, and of the contents that a message holds; their choice is this
+-- profile's.
+use Rattle.std.specs.Prelude.{◌≡◌, ◌↔◌, ⊤, ℕ, List, [], ◌∷◌, length, true, false, Some}
+use Rattle.std.specs.List.{AllByRecursion}
+use Rattle.std.specs.declared.cmp.Ordering.TheVariants.{Less}
+use Rattle.pg_schema.specs.declared.field.TypeId.{TypeId}
+use Rattle.pg_schema.specs.declared.field.Scalar.{Scalar}
+use Rattle.pg_schema.specs.declared.field.Element.{Element}
+use Rattle.pg_schema.specs.declared.field.Element.TheVariants as elements
+use Rattle.pg_schema.specs.declared.field.Presence.{Presence}
+use Rattle.pg_schema.specs.Shape.{Shape, FieldShape, IsShape, IsType, Rising, fields, field_at, is_packable}
+use Rattle.pg_wire.specs.declared.record.WireType.TheVariants.{Len}
+use Rattle.pg_wire.specs.Records.{WireRecord}
+use Rattle.pg_dyn.specs.declared.message.Content.{Content}
+use Rattle.pg_dyn.specs.declared.message.Value.{Value}
+use Rattle.pg_dyn.specs.Message.{Leaf, Part, key_cmp}
+use Rattle.pg_dyn.specs.Message as model
+use Rattle.pg_dyn.specs.Bodies.{IsNestedLeaf}
+use Rattle.pg_dyn.specs.Coding.{form, form_wire}
+use Rattle.pg_dyn.specs.Content.{by_key, last_item, same_wire, takes}
+use Rattle.pg_dyn.specs.Writing.{field_records}
+use Rattle.pg_dyn.specs.Encoding.{child_type}
+use Rattle.pg_dyn.specs.Belonging.{MayBeZero}
+use Rattle.pg_dyn.specs.Laws.{of_number}
+use Rattle.pg_dyn.specs.Kept.{Kept, KeptItem, message_of, type_of}
+use Rattle.pg_dyn.specs.Kept as kept
+use Rattle.pg_dyn.specs.Seen.{IsKey, content_seen}
+use Rattle.pg_dyn.specs.ScalarItems.{IsItemOf}
+use Rattle.pg_dyn.specs.Replacing.{kept_onto, with_parts, without_rivals}
+
+-- The fields of each type of a sound shape are sound; the field that is found by a number has it; each field of a type is found by
+-- its number; the type of a message field is that of its children.
+abbrev pub FieldsAreFound : Type 0
+FieldsAreFound =
+    ((shape : Shape) (type : TypeId) → IsShape shape → IsType (length shape) (fields shape type))
+    × ((fs : List FieldShape) (n : ℕ) (f : FieldShape) → field_at fs n ≡ Some f → f.number ≡ n)
+    × ((fs : List FieldShape) → Rising fs → AllByRecursion (λ f. field_at fs f.number ≡ Some f) fs)
+    × ((fs : List FieldShape) (n : ℕ) (f : FieldShape) (t : TypeId) → field_at fs n ≡ Some f → f.element ≡ elements.Message t → child_type fs n ≡ t)
+
+-- The records that are written of a field have its number, and there are none without content; a field takes records of its own
+-- number.
+abbrev pub RecordsOfFields : Type 0
+RecordsOfFields =
+    ((f : FieldShape) (ps : List (Part Leaf)) → AllByRecursion (λ (r : WireRecord). r.number ≡ f.number) (field_records f ps))
+    × ((f : FieldShape) → field_records f [] ≡ [])
+    × ((f : FieldShape) (r : WireRecord) → takes f r ≡ true → of_number f.number r ≡ true)
+
+-- A singular field keeps the one item that it may hold, and of none none.
+abbrev pub LastItems : Type 0
+LastItems =
+    ((p : Presence) (e : Element) → last_item p e [] ≡ [])
+    × ((p : Presence) (e : Element) (leaf : Leaf) → MayBeZero p leaf → IsNestedLeaf e leaf → last_item p e (leaf ∷ []) ≡ leaf ∷ [])
+
+-- What can be packed isn't of the wire type LEN.
+abbrev pub PackableWires : Type 0
+PackableWires = (e : Element) → is_packable e ≡ true → same_wire Len (form_wire (form e)) ≡ false
+
+-- each entry's key is below those of all later ones
+abbrev pub EntriesRise : List (Leaf × Leaf) → Type 0
+EntriesRise [] = ⊤
+EntriesRise (e ∷ es) = AllByRecursion (λ (x : Leaf × Leaf). key_cmp e.0 x.0 ≡ Less) es × EntriesRise es
+
+-- Entries whose keys rise are kept as they stand.
+abbrev pub RisingEntriesStay : Type 0
+RisingEntriesStay = (es : List (Leaf × Leaf)) → EntriesRise es → by_key es ≡ es
+
+-- Parts in front of a message, and parts put into one or taken out of it, leave its type.
+abbrev pub PartsKeepTypes : Type 0
+PartsKeepTypes =
+    ((ps : List (Part KeptItem)) (later : Kept) → type_of (kept_onto ps later) ≡ type_of later)
+    × ((n : ℕ) (ps : List (Part KeptItem)) (m : Kept) → type_of (with_parts n ps m) ≡ type_of m)
+    × ((fs : List FieldShape) (f : FieldShape) (m : Kept) → type_of (without_rivals fs f m) ≡ type_of m)
+
+-- The parts of a content have the number under which it stands, and an item of a scalar is no message.
+abbrev pub ContentsAreSeen : Type 0
+ContentsAreSeen =
+    ((n : ℕ) (c : Content) → AllByRecursion (λ (p : Part KeptItem). p.number ≡ n) (content_seen n c))
+    × ((s : Scalar) (v : Value) → IsItemOf s v → IsKey v)
+
+-- What is kept holds no unknown records just where the message that it means holds none.
+abbrev pub PlainIsKept : Type 0
+PlainIsKept = (m : Kept) → kept.IsPlain m ↔ model.IsPlain (message_of m)
