@@ -1,14 +1,44 @@
 #!/bin/sh
-# Runs tests with each allocation refused in turn, which the gate doesn't: tools/try_memory.sh [CRATE..], by default all crates whose
-# tests say that they can be run so. Each test then finds the right answer or want of memory, and nothing else.
+# Runs a built program of tests with each growth refused in turn, which the gate doesn't: each test then finds the right answer or want
+# of memory. Wants cc.
+# usage: tools/try_memory.sh CRATE [WORD]    runs the tests whose names hold the word, by default `memory`; the crate is built first by
+# `rt test` where it isn't.
 set -u
 root=$(CDPATH= cd -- "$(dirname -- "$0")/.." && pwd -P)
-if [ $# -eq 0 ]; then
-    set -- $(cd "$root/crates" && grep -l -r --include='*.rt' -- 'rt try --test --fail-alloc' . | cut -d/ -f2 | sort -u)
+crate=$1
+folder="$root/crates/$crate"
+room=$(mktemp -d) || exit 1
+trap 'rm -rf -- "$room"' EXIT
+cc -O2 -shared -fPIC -o "$room/refuse.so" "$root/tools/refuse_memory.c" -ldl || exit 1
+built=$(ls -- "$folder/out/${crate}_tests" "$folder/out/$crate" 2>/dev/null | head -1)
+if [ -z "$built" ]; then
+    (cd "$folder" && rt test) || exit 1
+    built=$(ls -- "$folder/out/${crate}_tests" "$folder/out/$crate" 2>/dev/null | head -1)
 fi
+# What a test does with each growth refused in turn.
+try_test() {
+    turn=0
+    wrong=0
+    while :; do
+        turn=$((turn + 1))
+        REFUSE_MEMORY=$turn LD_PRELOAD="$room/refuse.so" "$built" "$1" >"$room/said" 2>"$room/faults"
+        status=$?
+        if grep -q 'no such growth' "$room/faults"; then
+            break
+        fi
+        # A test that hands want of memory on says so, and ends with a status.
+        if [ "$status" -ne 0 ] && ! grep -qi 'memory\|AllocError' "$room/said" "$room/faults"; then
+            echo "growth $turn: status $status"
+            tail -n 3 "$room/said" "$room/faults"
+            wrong=$((wrong + 1))
+        fi
+    done
+    echo "$1: $((turn - 1)) growths refused, $wrong wrong"
+    failed=$((failed + wrong))
+}
+
 failed=0
-for crate; do
-    echo "== $crate"
-    (cd "$root/crates/$crate" && rt try --test --fail-alloc 1..) || failed=1
+for name in $("$built" --list | sed 's/: test$//' | grep -- "${2:-memory}"); do
+    try_test "$name"
 done
-exit $failed
+[ "$failed" -eq 0 ]

@@ -1,4 +1,4 @@
-//! Each allocation refused in turn: `rt try --test --fail-alloc N`.
+//! Each growth refused in turn, by `tools/try_memory.sh`.
 use super::parts::{admitted, field, parts_of};
 use super::shapes::{ALL, IMPORTED};
 use super::{built, is_told, line, linked_of};

@@ -1,4 +1,4 @@
-//! Each allocation refused in turn: `rt try --test --fail-alloc N`.
+//! Each growth refused in turn, by `tools/try_memory.sh`.
 use super::linking::linked;
 use super::shown::line;
 use std::test::*;
