@@ -105,9 +105,10 @@ fn enums(rt: HostRuntime) -> Result<(), Fail> {
     Ok(())
 }
 
-static OPTIONS: [(&str, &str); 20] = [
+static OPTIONS: [(&str, &str); 21] = [
     ("int32 a = 1 [ctype = CORD];", "E411 m:2:26"),
     ("string a = 1 [packed = true];", "E412 m:2:27"),
+    ("int32 a = 1 [packed = true];", "E412 m:2:26"),
     ("string a = 1 [packed = false];", "taken"),
     ("repeated string a = 1 [packed = true];", "E412 m:2:36"),
     ("repeated int32 a = 1 [packed = true];", "taken"),
