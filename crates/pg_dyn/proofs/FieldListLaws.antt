@@ -9,7 +9,7 @@ use Rattle.std.specs.List.Sorted.{IsNonDecreasingBy}
 use Rattle.pg_dyn.specs.declared.message.Content.{Content}
 use Rattle.pg_dyn.specs.Seen.{Rises}
 use Rattle.pg_dyn.specs.FieldList.{fields_below, fields_above, put_field, remove_field}
-use Rattle.pg_dyn.proofs.Lists.{filter_all, filter_none, filter-append', each_weaker, each-append, each-filter, each_of_all}
+use Rattle.pg_dyn.proofs.Lists.{filter_all, filter_none, filter-append', each_weaker, each_both, each-append, each-filter, each_of_all}
 
 abbrev pub AllBelow : ℕ → List (ℕ × Content) → Type 0
 AllBelow n fs = AllByRecursion (λ (f : ℕ × Content). f.0 < n) fs
@@ -232,3 +232,44 @@ pub set_same : (fs : List (ℕ × Content)) (i : ℕ) (d : ℕ × Content) → i
 set_same [] i d inside is = refl
 set_same (f ∷ fs) zero d inside is = ap (λ x. x ∷ fs) is
 set_same (f ∷ fs) (suc i) d inside is = ap (λ xs. f ∷ xs) (set_same fs i d (omega arith) is)
+
+-- A content in the place of another that stands next to its own place.
+
+module _ (P : ℕ × Content → Type 0) where
+  each_take : (i : ℕ) (xs : List (ℕ × Content)) → AllByRecursion P (take (suc i) xs) → AllByRecursion P (take i xs)
+  each_take zero xs h = tt
+  each_take (suc i) [] h = tt
+  each_take (suc i) (x ∷ xs) h = (h.0, each_take i xs h.1)
+
+  each_drop : (i : ℕ) (xs : List (ℕ × Content)) → AllByRecursion P (drop i xs) → AllByRecursion P (drop (suc i) xs)
+  each_drop zero [] h = tt
+  each_drop zero (x ∷ xs) h = h.1
+  each_drop (suc i) [] h = tt
+  each_drop (suc i) (x ∷ xs) h = each_drop i xs h
+
+  each_dropped : (i : ℕ) (xs : List (ℕ × Content)) → AllByRecursion P xs → AllByRecursion P (drop i xs)
+  each_dropped zero xs h = h
+  each_dropped (suc i) [] h = tt
+  each_dropped (suc i) (x ∷ xs) h = each_dropped i xs h.1
+
+module _ (fs : List (ℕ × Content)) (i n other : ℕ) (rises : Rises fs) (inside : i < length fs) (d : ℕ × Content) (here : (get_or fs i d).0 ≡ other)
+    (low : AllBelow other (take i fs)) (high : AllFrom other (drop i fs)) (absent : AllByRecursion (λ (f : ℕ × Content). f.0 ≢ n) fs) (c : Content) where
+  all_above : AllFrom n (drop (suc i) fs) → AllAbove n (drop (suc i) fs)
+  all_above from =
+      each_weaker (λ (f : ℕ × Content). (n ≤ f.0) × (f.0 ≢ n)) (λ (f : ℕ × Content). n < f.0) (λ f k. let low_end = k.0 in let apart = k.1 in let over : n < f.0 = omega (arith, low_end, apart) in over) (drop (suc i) fs)
+      (each_both (λ (f : ℕ × Content). n ≤ f.0) (λ (f : ℕ × Content). f.0 ≢ n) (drop (suc i) fs) from (each_dropped (λ (f : ℕ × Content). f.0 ≢ n) (suc i) fs absent))
+
+  around : AllBelow n (take i fs) → AllFrom n (drop (suc i) fs) → slice_set fs i (n, c) ≡ put_field n c (remove_field other fs)
+  around below from =
+      sym (take-append-drop i (slice_set fs i (n, c))) ∙ ap (λ xs. xs ++ drop i (slice_set fs i (n, c))) (take-set fs i (n, c))
+      ∙ ap (λ ys. take i fs ++ ys) (drop-set fs i (n, c) inside) ∙ ap (λ k. take i fs ++ (n, c) ∷ drop k fs) (add-one i)
+      ∙ ap (λ ys. take i fs ++ (n, c) ∷ ys) (sym (split_above n (take i fs) (drop (suc i) fs) below from ∙ above_all n (drop (suc i) fs) (all_above from)))
+      ∙ ap (λ xs. xs ++ (n, c) ∷ fields_above n (take i fs ++ drop (suc i) fs)) (sym (split_below n (take i fs) (drop (suc i) fs) below from))
+      ∙ ap (put_field n c) (removed_there fs i other rises low high inside d here)
+
+  pub exchanged_here : AllBelow n (take i fs) → AllFrom n (drop i fs) → slice_set fs i (n, c) ≡ put_field n c (remove_field other fs)
+  exchanged_here below from = around below (each_drop (λ (f : ℕ × Content). n ≤ f.0) i fs from)
+
+  pub exchanged_next : AllBelow n (take (i + 1) fs) → AllFrom n (drop (i + 1) fs) → slice_set fs i (n, c) ≡ put_field n c (remove_field other fs)
+  exchanged_next below from =
+      around (each_take (λ (f : ℕ × Content). f.0 < n) i fs (subst (λ k. AllBelow n (take k fs)) (add-one i) below)) (subst (λ k. AllFrom n (drop k fs)) (add-one i) from)

@@ -36,10 +36,10 @@ neither false b = refl
 
 -- A content taken out.
 
-abbrev Removed : ℕ → List (ℕ × Content) → Type 0
+abbrev pub Removed : ℕ → List (ℕ × Content) → Type 0
 Removed n cs = remove_field n cs ≡ filter (λ (c : ℕ × Content). not (nat_eq n c.0)) cs
 
-removed_is : (n : ℕ) (cs : List (ℕ × Content)) → Rises cs → Removed n cs
+pub removed_is : (n : ℕ) (cs : List (ℕ × Content)) → Rises cs → Removed n cs
 removed_is n [] rises = refl
 removed_is n (c ∷ cs) rises = ⊎_elim (λ same. here same (removed_is n cs rises.1)) (λ apart. of (nat_lt c.0 n) refl apart (removed_is n cs rises.1)) (cases_eq n c.0)
   where

@@ -1,8 +1,9 @@
 -- The fields of a message by rising number, as the program holds them.
-use Rattle.std.specs.Prelude.{◌≢◌, ℕ, ◌<◌, List, ◌∷◌, ◌++◌, filter, nat_lt, Vec, vec_len, vec_capacity}
+use Rattle.std.specs.Prelude.{◌≡◌, ◌≢◌, Option, MatchOption, ℕ, ◌<◌, List, ◌∷◌, ◌++◌, filter, nat_lt, Vec, vec_len, vec_capacity}
 use Rattle.std.specs.List.{AllByRecursion}
 use Rattle.std.specs.declared.alloc.Global.{Global}
 use Rattle.pg_dyn.specs.declared.message.Content.{Content}
+use Rattle.pg_dyn.specs.Held.{placeholder}
 
 abbrev pub fields_below : ℕ → List (ℕ × Content) → List (ℕ × Content)
 fields_below number fields = filter (λ (f : ℕ × Content). nat_lt f.0 number) fields
@@ -21,3 +22,8 @@ remove_field number fields = fields_below number fields ++ fields_above number f
 -- a content can be put under the number without memory: one stands there, or there is room for one more
 abbrev pub HasRoom : ℕ → Vec (ℕ × Content) Global → Type 0
 HasRoom number fields = AllByRecursion (λ (f : ℕ × Content). f.0 ≢ number) fields.items → vec_len fields < vec_capacity fields
+
+-- without a content under the other number; a zero may stand under the number
+abbrev pub IsExchanged : ℕ → ℕ → List (ℕ × Content) → List (ℕ × Content) → Type 0
+IsExchanged other number old new =
+    (content : Option Content) × MatchOption content (new ≡ remove_field other old) (λ _. new ≡ put_field number placeholder (remove_field other old))

@@ -1,10 +1,10 @@
-ghost use Rattle.std.specs.Prelude.{◌≡◌, ◌<◌, ◌≤◌, ℕ, get_or, length, take, drop, IsTrue, OnOk};
+ghost use Rattle.std.specs.Prelude.{◌≡◌, ◌≢◌, ◌<◌, ◌≤◌, ℕ, get_or, length, take, drop, IsTrue, OnOk};
 ghost use Rattle.std.specs.List.{AllByRecursion};
 ghost use Rattle.pg_dyn.specs.declared.message.Content.{Content as TheContent};
-ghost use Rattle.pg_dyn.specs.FieldList.{HasRoom, put_field, remove_field};
+ghost use Rattle.pg_dyn.specs.FieldList.{HasRoom, IsExchanged, put_field, remove_field};
 ghost use Rattle.pg_dyn.specs.Seen.{Rises};
 
-use crate::message::Content;
+use crate::message::{Content, Value};
 use std::alloc::AllocError;
 
 /// How many fields have lower numbers. A number above all is found at once.
@@ -69,4 +69,20 @@ pub(crate) fn remove(fields: &mut Vec<(u32, Content)>, number: u32)
     if place < fields.len() && fields[place].0 == number {
         fields.remove(place);
     }
+}
+
+/// Takes out the content under the number `other`. Where the other number has its place there, a zero stands under it
+/// then, so that the contents behind needn't be moved.
+pub(crate) fn exchange(fields: &mut Vec<(u32, Content)>, other: u32, number: u32)
+    requires rises { Rises fields.old.items }
+    requires absent { AllByRecursion (λ f. f.0 ≢ number) fields.old.items }
+    ensures { IsExchanged other number fields.old.items fields.new.items }
+{
+    let place = place_of(fields, other);
+    let to = place_of(fields, number);
+    if place < fields.len() && fields[place].0 == other && (to == place || to == place + 1) {
+        fields[place] = (number, Content::One(Value::Int(0)));
+        return;
+    }
+    remove(fields, other);
 }

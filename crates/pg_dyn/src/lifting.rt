@@ -4,8 +4,9 @@ ghost use Rattle.pg_dyn.specs.Held.{placeholder};
 ghost use Rattle.pg_dyn.specs.Seen.{Rises};
 
 use crate::error::DynError;
-use crate::field_list::{place_of, put, remove, reserve};
+use crate::field_list::{exchange, place_of, put, remove, reserve};
 use crate::message::{Content, Message, Value};
+use crate::noting::{note, noted_rival};
 use pg_schema::{Field, Schema};
 
 // Takes the content out from under the number, where there is one, and leaves a zero in its place.
@@ -33,9 +34,8 @@ impl Message {
     ghost use Rattle.pg_dyn.specs.Replacing.{with_content, with_parts, without_rivals};
     ghost use Rattle.pg_dyn.specs.Steps.{HeldFits, MayHold, parts_held};
 
-    // Takes out what the field holds. What is left may hold another content of the field; in a oneof the contents of the
-    // other members are dropped.
-    pub(crate) fn lift(&mut self, schema: &Schema, field: &Field) -> Option<Content>
+    // Takes out what the field holds; in a oneof the contents of the other members are dropped, wherever they stand.
+    fn lift_own(&mut self, schema: &Schema, field: &Field) -> Option<Content>
         requires is_schema { IsSchema schema.now }
         requires fits { Fits (shape_of schema.now) self.old }
         requires found { field_at (fields (shape_of schema.now) (type_of self.old)) field.now.number ≡ Some (field_shape field.now) }
@@ -50,6 +50,29 @@ impl Message {
         let _type_id = self.type_id;
         self.clear_others(schema, field);
         take_out(&mut self.fields, field.number)
+    }
+
+    // Takes out what the field holds. What is left may hold another content of the field; in a oneof the contents of the
+    // other members are dropped.
+    pub(crate) fn lift(&mut self, schema: &Schema, field: &Field) -> Option<Content>
+        requires is_schema { IsSchema schema.now }
+        requires fits { Fits (shape_of schema.now) self.old }
+        requires found { field_at (fields (shape_of schema.now) (type_of self.old)) field.now.number ≡ Some (field_shape field.now) }
+        ensures parts { of_number field.now.number self.old ≡ parts_held field.now.number result }
+        ensures held_fits { HeldFits (shape_of schema.now) (field_shape field.now) result }
+        ensures same { (ps : List (Part KeptItem)) → with_parts field.now.number ps self.new ≡ with_content (fields (shape_of schema.now) (type_of self.old)) (field_shape field.now) ps self.old }
+        ensures may_hold { MayHold (shape_of schema.now) (field_shape field.now) self.new }
+        ensures of_type { type_of self.new ≡ type_of self.old }
+        ensures others { Fits (shape_of schema.now) (without_rivals (fields (shape_of schema.now) (type_of self.old)) (field_shape field.now) self.old) }
+    {
+        let type_id = self.type_id;
+        match noted_rival(&self.fields, &self.noted, schema, type_id, field) {
+            Some(other) => {
+                exchange(&mut self.fields, other, field.number);
+                None
+            }
+            None => self.lift_own(schema, field),
+        }
     }
 
     // Puts in what the field holds from now on. Where memory is refused, it is dropped.
@@ -74,6 +97,7 @@ impl Message {
         };
         reserve(&mut self.fields, number)?;
         put(&mut self.fields, number, content);
+        note(&mut self.noted, self.fields.len(), field);
         Ok(())
     }
 }

@@ -17,8 +17,8 @@ fn is_other_member(field: &Field, other: &Field) -> bool
     is_same_oneof(field.oneof, other.oneof) && field.number != other.number
 }
 
-// Whether the number is that of another member of the field's oneof.
-fn is_rival(schema: &Schema, type_id: TypeId, field: &Field, number: u32) -> bool
+/// Whether the number is that of another member of the field's oneof.
+pub(crate) fn is_rival(schema: &Schema, type_id: TypeId, field: &Field, number: u32) -> bool
     ensures { result ≡ is_rival_number (fields (shape_of schema.now) type_id) (field_shape field.now) number }
 {
     // What holds of every schema.

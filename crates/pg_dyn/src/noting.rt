@@ -1,0 +1,59 @@
+//! Which member of each oneof of a message was set last, so that it is found without going over all contents.
+
+ghost use Rattle.std.specs.Prelude.{◌≡◌, ◌<◌, ℕ, true, get_or, length, IfSome};
+ghost use Rattle.pg_schema.specs.Parts.{field_shape, shape_of};
+ghost use Rattle.pg_schema.specs.Shape.{fields};
+ghost use Rattle.pg_dyn.specs.declared.message.Content.{Content as TheContent};
+ghost use Rattle.pg_dyn.specs.Replacing.{is_rival_number};
+ghost use Rattle.pg_dyn.specs.Seen.{Rises};
+
+use crate::field_list::has_number;
+use crate::message::Content;
+use crate::rivals::is_rival;
+use pg_schema::{Field, Schema, TypeId};
+
+// Of fewer contents none is noted: to go over them costs little.
+const FEW: usize = 32;
+
+// The member of the field's oneof that was noted last.
+fn noted_member(noted: &[u32], field: &Field) -> Option<u32> {
+    let place = field.oneof? as usize;
+    if place < noted.len() {
+        return Some(noted[place]);
+    }
+    None
+}
+
+/// The other member of the field's oneof that was noted last, where the contents have one under its number.
+pub(crate) fn noted_rival(
+    contents: &[(u32, Content)],
+    noted: &[u32],
+    schema: &Schema,
+    type_id: TypeId,
+    field: &Field,
+) -> Option<u32>
+    requires { Rises contents.now }
+    ensures rival { IfSome result (λ number. is_rival_number (fields (shape_of schema.now) type_id) (field_shape field.now) number ≡ true) }
+    ensures there { IfSome result (λ number. (place : ℕ) × (place < length contents.now) × ((d : ℕ × TheContent) → (get_or contents.now place d).0 ≡ number)) }
+{
+    let number = noted_member(noted, field)?;
+    if is_rival(schema, type_id, field, number) && has_number(contents, number) {
+        return Some(number);
+    }
+    None
+}
+
+/// Notes the field as the member of its oneof that was set last, in a message of so many contents.
+pub(crate) fn note(noted: &mut Vec<u32>, contents: usize, field: &Field) {
+    let Some(oneof) = field.oneof else {
+        return;
+    };
+    if contents < FEW {
+        return;
+    }
+    let place = oneof as usize;
+    if place >= noted.len() && noted.resize(place + 1, 0).is_err() {
+        return;
+    }
+    noted[place] = field.number;
+}
