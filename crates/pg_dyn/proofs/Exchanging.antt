@@ -11,7 +11,7 @@ use Rattle.pg_dyn.specs.ContentFits.{NoneRivals}
 use Rattle.pg_dyn.specs.FieldList.{remove_field, IsExchanged}
 use Rattle.pg_dyn.specs.Fits.{Fits}
 use Rattle.pg_dyn.specs.Held.{placeholder}
-use Rattle.pg_dyn.specs.Kept.{Kept, KeptItem, type_of, parts_of, of_number}
+use Rattle.pg_dyn.specs.Kept.{Kept, KeptItem, parts_of, of_number}
 use Rattle.pg_dyn.specs.Message.{Part}
 use Rattle.pg_dyn.specs.Replacing.{with_parts, is_rival_number, without_rivals}
 use Rattle.pg_dyn.specs.Seen.{IsFilled, HasKeys, Rises}

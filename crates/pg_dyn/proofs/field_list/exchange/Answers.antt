@@ -1,8 +1,7 @@
 -- The place of the other number is that of its field, or next to it.
-use Rattle.std.proofs.Common.{◌≡◌, ◌<◌, ◌+◌, ℕ, List, ◌∷◌, Some, take, drop, length, slice_set, ap, sym, ◌∙◌, subst, arith}
+use Rattle.std.proofs.Common.{◌≡◌, ◌<◌, ◌+◌, ℕ, List, Some, take, drop, length, sym, ◌∙◌, subst, arith}
 use Rattle.std.proofs.lemmas.Bool.{eqb-true}
 use Rattle.pg_dyn.specs.declared.message.Content.{Content}
-use Rattle.pg_dyn.specs.FieldList.{put_field, remove_field}
 use Rattle.pg_dyn.specs.Held.{placeholder}
 use Rattle.pg_dyn.proofs.FieldListLaws.{AllBelow, AllFrom, exchanged_here, exchanged_next, number_at}
 use Rattle.pg_dyn.proofs.field_list.exchange.Goals.{then-to-place, else-to-place}
