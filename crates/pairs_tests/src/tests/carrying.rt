@@ -9,7 +9,7 @@ use crate::tests::schemas::{
     Line, child, map, member, optional, repeated, schema, singular, unpacked,
 };
 use crate::tests::tables::{Bounds, NOTHING};
-use pg_dyn::{Message, encode};
+use pg_dyn::{Message, encode, fits};
 use pg_pairs::{Choice, Numbers, carry, cheapest};
 use pg_schema::{Element, Scalar, Schema};
 use std::alloc::Global;
@@ -188,6 +188,69 @@ fn fields_that_meet(rt: HostRuntime) -> Result<(), Fail> {
         reached(alloc, &stated, &one)?.as_slice(),
         [0x08, 0x00, 0x10, 0x00].as_slice()
     );
+    Ok(())
+}
+
+// Whether no message carries the choice of that number, case and part round that child.
+fn is_refused(
+    alloc: Global,
+    old: &Schema,
+    new: &Schema,
+    row: (u32, u8, u32),
+    child: Option<Message>,
+) -> Result<bool, Fail>
+    requires { IfSome child (Fits (shape_of old.now)) }
+{
+    if !old.has(FIRST.old) {
+        return Err(Fail::from("the old schema has no type"));
+    }
+    let choice = Choice {
+        number: row.0,
+        case: row.1,
+        part: row.2,
+        cost: 2,
+    };
+    Ok(carry(alloc, &Numbers, old, new, FIRST, &choice, child)?.is_none())
+}
+
+// A field that isn't there, a second one that isn't, an item of a map, a gap where there is none, a missing child and one
+// of another type.
+#[test]
+fn choices_of_no_pair(rt: HostRuntime) -> Result<(), Fail> {
+    use Scalar::{Bool, Int32};
+    let alloc = rt.alloc();
+    let number = Element::Scalar(Int32);
+    let first = [
+        singular(1, Bool),
+        map(2, Int32, number),
+        child(3, 1),
+        map(4, Int32, Element::Message(pg_schema::TypeId { index: 1 })),
+    ];
+    let old = schema(alloc, &[&first, &[singular(1, Bool)]])?;
+    for row in [
+        (9, 1, 0),
+        (9, 6, 1),
+        (1, 2, 0),
+        (1, 3, 0),
+        (1, 5, 2),
+        (1, 6, 9),
+        (2, 2, 0),
+        (2, 4, 0),
+        (2, 5, 1),
+        (2, 5, 2),
+        (3, 3, 0),
+        (4, 3, 0),
+        (4, 5, 2),
+    ] {
+        assert!(rt; is_refused(alloc, &old, &old, row, None)?);
+    }
+    for row in [(3, 3, 0), (4, 5, 2)] {
+        let other = Message::empty(alloc, FIRST.old);
+        if !fits(&old, &other) {
+            return Err(Fail::from("an empty message fits"));
+        }
+        assert!(rt; is_refused(alloc, &old, &old, row, Some(other))?);
+    }
     Ok(())
 }
 

@@ -1,12 +1,12 @@
 //! Each allocation refused in turn: `rt try --test --fail-alloc N`.
 
 use crate::tests::choices::FIRST;
-use crate::tests::schemas::{Line, child, member, repeated, schema, singular};
+use crate::tests::schemas::{Line, child, map, member, optional, repeated, schema, singular};
 use crate::tests::tables::NOTHING;
-use pg_dyn::{DynError, decode, fits};
-use pg_pairs::{Numbers, Pair, breaks, cheapest, children, options};
-use pg_schema::Scalar;
-use std::alloc::AllocError;
+use pg_dyn::{DynError, Message, decode, encode, fits};
+use pg_pairs::{Choice, Numbers, Pair, breaks, carry, cheapest, children, options};
+use pg_schema::{Element, Scalar};
+use std::alloc::{AllocError, Global};
 use std::test::Fail;
 
 // The calls answer the choices, the cheapest and the children, or that memory was refused.
@@ -35,6 +35,83 @@ fn refused_calls(rt: HostRuntime) -> Result<(), Fail> {
     }
     match children(alloc, &old, &new, FIRST) {
         Ok(found) => assert!(rt; matches!(found.as_slice(), [Pair { .. }])),
+        Err(AllocError) => {}
+    }
+    Ok(())
+}
+
+// The cheapest choice between types of these fields is carried by those bytes, or memory was refused.
+fn carried(alloc: Global, old: &[Line], new: &[Line], wanted: &[u8]) -> Result<(), Fail> {
+    let old = schema(alloc, &[old])?;
+    let new = schema(alloc, &[new])?;
+    let choice = cheapest(alloc, &Numbers, &old, &new, FIRST, &NOTHING)?.ok_or("a choice")?;
+    if !old.has(FIRST.old) {
+        return Err(Fail::from("the old schema has no type"));
+    }
+    let Ok(found) = carry(alloc, &Numbers, &old, &new, FIRST, &choice, None) else {
+        return Ok(());
+    };
+    let message = found.ok_or("a message of the choice")?;
+    match encode(alloc, &old, &message) {
+        Ok(bytes) if bytes.as_slice() == wanted => Ok(()),
+        Ok(_) => Err(Fail::from("other bytes")),
+        Err(DynError::Memory) => Ok(()),
+        Err(_) => Err(Fail::from("the message has no encoding")),
+    }
+}
+
+// An item, two zeros in a list, an entry, and two fields that meet.
+#[test]
+fn refused_messages(rt: HostRuntime) -> Result<(), Fail> {
+    use Scalar::{Bool, Bytes, Int32, String};
+    let alloc = rt.alloc();
+    carried(
+        alloc,
+        &[singular(1, Bytes)],
+        &[singular(1, String)],
+        &[0x0a, 0x01, 0x80],
+    )?;
+    carried(
+        alloc,
+        &[repeated(1, String)],
+        &[optional(1, String)],
+        &[0x0a, 0x00, 0x0a, 0x00],
+    )?;
+    carried(
+        alloc,
+        &[map(1, Int32, Element::Scalar(Int32))],
+        &[map(1, Int32, Element::Scalar(Bool))],
+        &[0x0a, 0x04, 0x08, 0x00, 0x10, 0x02],
+    )?;
+    carried(
+        alloc,
+        &[optional(1, Int32), optional(2, Int32)],
+        &[member(1, Int32, 0), member(2, Int32, 0)],
+        &[0x08, 0x00, 0x10, 0x00],
+    )
+}
+
+// The child of a choice is put into a message, or memory was refused.
+#[test]
+fn a_refused_child(rt: HostRuntime) -> Result<(), Fail> {
+    let alloc = rt.alloc();
+    let first: [&[Line]; 1] = [&[child(3, 0)]];
+    let old = schema(alloc, &first)?;
+    let choice = Choice {
+        number: 3,
+        case: 3,
+        part: 0,
+        cost: 2,
+    };
+    if !old.has(FIRST.old) {
+        return Err(Fail::from("the schema has no type"));
+    }
+    let inner = Message::empty(alloc, FIRST.old);
+    if !fits(&old, &inner) {
+        return Err(Fail::from("the message doesn't fit"));
+    }
+    match carry(alloc, &Numbers, &old, &old, FIRST, &choice, Some(inner)) {
+        Ok(found) => assert!(rt; found.is_some()),
         Err(AllocError) => {}
     }
     Ok(())
