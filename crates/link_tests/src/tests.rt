@@ -5,6 +5,7 @@ mod folder_tests;
 mod link_tests;
 mod linking;
 mod memory;
+mod reading_tests;
 mod scope_tests;
 mod shown;
 mod walk_tests;

@@ -168,7 +168,7 @@ member_right targets (Plain f oneof) key inside packed =
     plain_right (element targets f.type_name) f.label oneof (settings f.settings) (types.is_packable_type targets f.type_name)
     (element_packable (types.scalar_named f.type_name) (targets f.type_name.span.from)) inside packed
 member_right targets (Mapped m oneof) key inside packed =
-    map_right (key_or (types.scalar_named m.key)) (element targets m.value) oneof (settings m.settings) (key_right (types.scalar_named m.key) key) inside packed
+    map_right (key_or (types.scalar_named m.key.value)) (element targets m.value) oneof (settings m.settings) (key_right (types.scalar_named m.key.value) key) inside packed
 
 -- ---- oneofs
 

@@ -79,7 +79,7 @@ labelled None member element stated = if member || is_message element then prese
 
 abbrev pub presence : (ℕ → Option Target) → Member → Presence
 presence targets (Plain f oneof) = labelled f.label (is_some oneof) (element targets f.type_name) (flag_of (codes "packed") (settings f.settings))
-presence targets (Mapped m oneof) = presences.Map (key_or (scalar_named m.key))
+presence targets (Mapped m oneof) = presences.Map (key_or (scalar_named m.key.value))
 
 abbrev pub is_optional : Option Label → Bool
 is_optional None = false

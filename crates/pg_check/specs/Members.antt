@@ -88,7 +88,7 @@ named m = record { text = string_bytes (name_of m).text; at = place_of m }
 
 abbrev pub settings : Option tree.Settings.Settings → List tree.Setting.Setting
 settings None = []
-settings (Some s) = s.first ∷ s.more.items
+settings (Some s) = s.first.value ∷ s.more.items
 
 abbrev pub text_value : tree.Value.Value → Option (List ℕ)
 text_value (values.Name d) = None

@@ -114,7 +114,7 @@ first_bad_number keys = numbers.first_such (λ (k : Keyed). not (numbers.is_fiel
 -- a map with a key of no integral type, bool or string
 abbrev pub has_bad_key : Member → Bool
 has_bad_key (Plain f oneof) = false
-has_bad_key (Mapped m oneof) = not (is_key_type m.key)
+has_bad_key (Mapped m oneof) = not (is_key_type m.key.value)
 
 abbrev pub first_member : (Member → Bool) → List Member → Option ℕ
 first_member test ms = numbers.first_such test place_of ms

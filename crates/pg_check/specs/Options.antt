@@ -112,7 +112,7 @@ in_brackets owner s = option_at owner s.span.from s
 
 abbrev pub in_settings : Owner → Option tree.Settings.Settings → List OptionAt
 in_settings owner None = []
-in_settings owner (Some s) = in_brackets owner s.first ∷ map (in_brackets owner) s.more.items
+in_settings owner (Some s) = in_brackets owner s.first.value ∷ map (in_brackets owner) s.more.items
 
 -- as a statement it stands at the word `option`
 abbrev pub in_line : Owner → tree.OptionLine.OptionLine → OptionAt

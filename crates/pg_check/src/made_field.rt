@@ -98,7 +98,7 @@ fn presence(targets: &Targets, one: &Member<'_>) -> Presence
             bracket_flag("packed", &field.settings),
         ),
         Member::Map(map, _) => Presence::Map {
-            key: scalar_named(&map.key).unwrap_or(Scalar::Int32),
+            key: scalar_named(&*map.key).unwrap_or(Scalar::Int32),
         },
     }
 }

@@ -153,7 +153,7 @@ fn has_bad_key(one: &Member<'_>) -> bool
 {
     match one {
         Member::Field(_, _) => false,
-        Member::Map(map, _) => !is_key_type(&map.key),
+        Member::Map(map, _) => !is_key_type(&*map.key),
     }
 }
 

@@ -221,7 +221,7 @@ pub(crate) fn in_settings<'a>(
 {
     let mut list = Vec::new(alloc);
     if let Some(settings) = settings {
-        let first = &settings.first;
+        let first = &*settings.first;
         list.push(option_at(owner, first.span.from, first))?;
         push_settings(&mut list, owner, &settings.more)?;
     }

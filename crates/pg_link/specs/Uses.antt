@@ -54,7 +54,7 @@ field_uses scope name = if is_scalar (reference name) then [] else in_field scop
 
 -- the key of a map and its value
 abbrev pub map_uses : List Text → tree.MapField.MapField → List Use
-map_uses scope m = field_uses scope m.key ++ field_uses scope m.value
+map_uses scope m = field_uses scope m.key.value ++ field_uses scope m.value
 
 abbrev pub oneof_part_uses : List Text → tree.OneofPart.OneofPart → List Use
 oneof_part_uses scope (oneof_parts.Empty span) = []

@@ -32,6 +32,7 @@ pub use laws::{seen_paths_are_seen, small_files};
 pub use linked::Linked;
 pub use linking::link;
 pub use listed::Listed;
+pub use reading::read_file;
 pub use record::Record;
 pub use sources::{SourceError, Sources};
 pub use tally::Tally;

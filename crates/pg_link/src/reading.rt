@@ -125,3 +125,26 @@ pub(crate) fn text_of<S: Sources>(
         Err(SourceError::Memory) => Err(LinkError::Memory),
     }
 }
+
+/// The bytes of the file `FOLDER/PATH`, or of `PATH` where the folder is `.`, as `link` reads a root.
+///
+/// # Errors
+///
+/// The source then stands as its reads left it, and its count of failures rose by one where it failed.
+/// - `LinkError::MissingFile` (E301), at the file as a whole (`PATH`, line 0, column 0), where the source doesn't have it.
+/// - `LinkError::SourceFailed` (E309), at the file as a whole, where the source failed.
+/// - `LinkError::Memory` (E001): no memory is left.
+pub fn read_file<S: Sources>(
+    alloc: Global,
+    source: &mut S,
+    folder: &str,
+    path: &str,
+) -> Result<Vec<u8>, LinkError>
+    ensures given { IfOk result (λ bytes. IsTrue (S.may_give source.old (path_below folder.now path.now) bytes.items)) }
+    ensures fault { IfErr result (spec.IsReadFault (S.may_lack source.old) folder.now None path.now) }
+    ensures counted { S.failures source.new ≡ S.failures source.old + spec.failures_of result }
+    ensures same_given { S.may_give source.new ≡ S.may_give source.old }
+    ensures same_lacked { S.may_lack source.new ≡ S.may_lack source.old }
+{
+    text_of(alloc, source, folder, path, None)
+}

@@ -100,7 +100,7 @@ fn add_map<'a>(
 ) -> Result<(), AllocError>
     ensures { OnOk result (map use_of uses.new.items ≡ map use_of uses.old.items ++ spec.map_uses (texts scope.now.value.items) field.now) }
 {
-    add_field(alloc, uses, scope, &field.key)?;
+    add_field(alloc, uses, scope, &*field.key)?;
     add_field(alloc, uses, scope, &field.value)
 }
 
