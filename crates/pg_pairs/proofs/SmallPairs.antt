@@ -31,4 +31,10 @@ small_pairs = record {
   child_breaks = refl;
   child_of_two_length_bytes = refl;
   children_of_a_linked_type = refl;
+  chain_of_one_length_byte = refl;
+  chain_of_two_length_bytes = refl;
+  loop_unchanged = refl;
+  child_of_a_loop = refl;
+  loop_changed = refl;
+  nested_type_breaks = refl;
 }

@@ -1,6 +1,7 @@
 -- Small pairs of types with all their choices, and the children of one.
-use Rattle.std.specs.Prelude.{◌≡◌, true, false, List, [], ◌∷◌, Some, None}
+use Rattle.std.specs.Prelude.{◌≡◌, ℕ, nat_eq, if◌then◌else◌, true, false, List, [], ◌∷◌, ◌++◌, Option, Some, None}
 use Rattle.pg_schema.specs.declared.field.TypeId.{TypeId}
+use Rattle.pg_schema.specs.declared.field.Scalar.{Scalar}
 use Rattle.pg_schema.specs.declared.field.Scalar.TheVariants.{Int32, Uint32, Fixed32, Sint32, String, Bytes}
 use Rattle.pg_schema.specs.declared.field.Scalar.TheVariants as scalars
 use Rattle.pg_schema.specs.declared.field.Element.TheVariants as elements
@@ -21,6 +22,18 @@ no_bounds pair = None
 
 abbrev pub HasChoices : List FieldShape → List FieldShape → List Choice → Type 0
 HasChoices fs gs cs = choices by_numbers no_bounds (of_fields fs) (of_fields gs) (both first) ≡ cs
+
+-- a type that leads back to itself twice
+abbrev pub loops : List FieldShape
+loops = field 1 Explicit (elements.Message first) ∷ field 2 (Repeated false) (elements.Message first) ∷ []
+
+-- and with a field beside
+abbrev pub looped : Scalar → List FieldShape
+looped s = loops ++ scalar 3 Implicit s ∷ []
+
+-- of two types that are the same on both sides, the bound of the first and of the second
+abbrev pub of_two : Option ℕ → Option ℕ → Table
+of_two a b pair = if nat_eq pair.old.index 0 then Some a else Some b
 
 pub record SmallPairs : Type 0 where
   pub int32_unchanged : HasChoices (scalar 1 Implicit Int32 ∷ []) (scalar 1 Implicit Int32 ∷ []) []
@@ -47,3 +60,13 @@ pub record SmallPairs : Type 0 where
   pub child_breaks : choices by_numbers (λ pair. Some (Some 6)) (linked Uint32) (linked Int32) (both second) ≡ choice 1 3 0 8 ∷ choice 2 3 0 8 ∷ []
   pub child_of_two_length_bytes : choices by_numbers (λ pair. Some (Some 128)) (linked Uint32) (linked Int32) (both second) ≡ choice 1 3 0 131 ∷ choice 2 3 0 131 ∷ []
   pub children_of_a_linked_type : children (linked Uint32) (linked Int32) (both second) ≡ both second ∷ both first ∷ []
+  -- a chain of types, each the only field of the next: 126 bytes take one length byte, 128 take two
+  pub chain_of_one_length_byte : choices by_numbers (λ pair. Some (Some 126)) (of_fields (field 1 Explicit (elements.Message first) ∷ [])) (of_fields (field 1 Explicit (elements.Message first) ∷ [])) (both first) ≡ choice 1 3 0 128 ∷ []
+  pub chain_of_two_length_bytes : choices by_numbers (λ pair. Some (Some 128)) (of_fields (field 1 Explicit (elements.Message first) ∷ [])) (of_fields (field 1 Explicit (elements.Message first) ∷ [])) (both first) ≡ choice 1 3 0 131 ∷ []
+  -- a type that reaches only itself, unchanged, has no choice where no message of it breaks
+  pub loop_unchanged : choices by_numbers (λ pair. Some None) (of_fields loops) (of_fields loops) (both first) ≡ []
+  pub child_of_a_loop : children (of_fields loops) (of_fields loops) (both first) ≡ both first ∷ []
+  -- with a field beside that changed, the field's own choice is the cheapest, also beside those through the type itself
+  pub loop_changed : choices by_numbers (λ pair. Some (Some 2)) (of_fields (looped scalars.Bool)) (of_fields (looped Sint32)) (both first) ≡ choice 1 3 0 4 ∷ choice 2 3 0 4 ∷ choice 3 2 0 2 ∷ []
+  -- a type that holds itself, and one that changed and breaks in 6 bytes: its own bound is 8
+  pub nested_type_breaks : choices by_numbers (of_two (Some 6) (Some 8)) (linked Uint32) (linked Int32) (both second) ≡ choice 1 3 0 10 ∷ choice 2 3 0 8 ∷ []

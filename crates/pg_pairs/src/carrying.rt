@@ -46,9 +46,9 @@ fn add(
 /// the choice is one of the pair's, under some table of bounds, and its child breaks and has the length of the bound
 /// of its pair, the message breaks and has just the choice's cost.
 ///
-/// The child fits the old schema. `None` only where the choice is none of the pair's or the child isn't its child: a
-/// message of the old type of the child's pair that breaks and has the length of that pair's bound. Refused only where
-/// memory is. The child is dropped then.
+/// The pair's old type has to be one of the old schema, and the child to fit it. `None` only where the choice is none of
+/// the pair's or the child isn't its child: a message of the old type of the child's pair that breaks and has the length
+/// of that pair's bound. Refused only where memory is. In both cases the child is dropped.
 pub fn carry<V: View>(
     alloc: Global,
     view: &V,

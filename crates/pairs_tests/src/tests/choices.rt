@@ -62,6 +62,7 @@ fn scalars(rt: HostRuntime) -> Result<(), Fail> {
         (Int32, Uint32, Some((2, 11))),
         (Uint32, Int32, Some((2, 6))),
         (Int32, Bool, Some((2, 2))),
+        (Bool, Sint32, Some((2, 2))),
         (Bytes, String, Some((2, 3))),
         (Int32, Fixed32, Some((1, 2))),
         (Fixed32, Int32, Some((1, 5))),
@@ -73,6 +74,16 @@ fn scalars(rt: HostRuntime) -> Result<(), Fail> {
         let found = choice_of(alloc, singular(1, old), singular(1, new))?;
         assert_eq!(rt; found, choice);
     }
+    Ok(())
+}
+
+// A field that the new type lacks comes back whole.
+#[test]
+fn a_field_that_is_lacked(rt: HostRuntime) -> Result<(), Fail> {
+    let old = [singular(1, Scalar::Int32), singular(2, Scalar::String)];
+    let new = [singular(1, Scalar::Int32)];
+    let rows = choices_of(rt.alloc(), &old, &new)?;
+    assert_eq!(rt; rows.len(), 0);
     Ok(())
 }
 
