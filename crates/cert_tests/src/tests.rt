@@ -8,8 +8,8 @@ mod witnesses;
 use pg_cert::{Bounds, BoundsError, CertError, Certificate, PairBound, Verdict, check};
 use pg_pairs::{Pair, Table};
 use pg_schema::{
-    Element, Field, FieldOptions, File, MessageOptions, MessageType, Parts, Presence, Scalar,
-    Schema, TypeId,
+    Element, Field, FieldOptions, File, MessageOptions, MessageType, Parts, PartsError, Presence,
+    Scalar, Schema, TypeId,
 };
 use std::alloc::{AllocError, Global};
 use std::test::Fail;
@@ -80,8 +80,11 @@ fn schema_of(alloc: Global, scalar: Scalar) -> Result<Schema, Fail> {
         enums: Vec::new(alloc),
         services: Vec::new(alloc),
     };
-    let schema = Schema::from_parts(alloc, parts);
-    Ok(schema.ok().ok_or("the parts are a schema")?)
+    match Schema::from_parts(alloc, parts) {
+        Ok(schema) => Ok(schema),
+        Err((PartsError::Memory, _)) => Err(Fail::from(AllocError)),
+        Err((PartsError::Invariant, _)) => Err(Fail::from("the parts make no schema")),
+    }
 }
 
 fn line(pair: Pair, bound: Option<u32>) -> PairBound {

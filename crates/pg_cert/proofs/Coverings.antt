@@ -1,5 +1,5 @@
 -- A table covers its root exactly where it has no fault.
-use Rattle.std.proofs.Common.{◌≡◌, ℕ, List, [], ◌∷◌, Bool, true, false, not, ◌&&◌, nat_le, cond, Option, Some, None, option_map, is_some, find, refl, ap, sym, subst, if◌then◌else◌}
+use Rattle.std.proofs.Common.{arith, ◌≡◌, ℕ, ◌≤◌, List, [], ◌∷◌, Bool, true, false, not, ◌&&◌, nat_le, cond, Option, Some, None, option_map, is_some, find, refl, ap, sym, subst, if◌then◌else◌}
 use Rattle.std.specs.List.{AllByRecursion}
 use Rattle.std.specs.Option.{option_or}
 use Rattle.std.proofs.lemmas.Bool.{and_parts, leb-true, le-leb}
@@ -8,6 +8,7 @@ use Rattle.pg_pairs.specs.declared.choice.Choice.{Choice}
 use Rattle.pg_pairs.specs.declared.choice.Pair.{Pair}
 use Rattle.pg_pairs.specs.Sight.{Sight}
 use Rattle.pg_pairs.specs.Choices.{Table, choices}
+use Rattle.pg_pairs.specs.Cheapest.{cheapest, IsCheapest, CheapestIsLeast}
 use Rattle.pg_pairs.specs.Covering.{same_pair, children, IsThere, IsWithin, IsCovered}
 use Rattle.pg_cert.specs.declared.bounds.PairBound.{PairBound}
 use Rattle.pg_cert.specs.declared.error.CertError.TheVariants.{RootMissing, PairMissing}
@@ -148,3 +149,15 @@ covers_without_fault sight old new bounds root distinct = (
       both_none (root_fault (bound_in bounds) root) (first_pair_fault sight old new (bound_in bounds) bounds) (rw covers.root_there refl)
       (none_faulty sight old new (bound_in bounds) bounds (each_there bounds distinct) covers.each),
 )
+
+-- what is within the least cost is within each
+within_more : (bound : Option ℕ) (least cost : ℕ) → is_within bound least ≡ true → least ≤ cost → is_within bound cost ≡ true
+within_more (Some b) least cost h more = le-leb b cost (omega (arith, leb-true b least h, more))
+within_more None least cost h more = absurd (cc)
+
+-- where the cheapest choice isn't below the bound, none is
+pub none_cheaper : (bound : Option ℕ) (cs : List Choice) (c : Choice) → CheapestIsLeast → cheapest cs ≡ Some c → is_within bound c.cost ≡ true → find (λ (d : Choice). not (is_within bound d.cost)) cs ≡ None
+none_cheaper bound cs c least is inside =
+    let all = subst (λ found. IsCheapest found cs) is (least cs) in
+    none_found (λ (d : Choice). not (is_within bound d.cost)) cs
+    (each_so (λ (d : Choice). c.cost ≤ d.cost) (λ (d : Choice). not (is_within bound d.cost) ≡ false) (λ d more. false_from (is_within bound d.cost) (within_more bound c.cost d.cost inside more)) cs all.1)

@@ -1,6 +1,6 @@
 //! The checker.
 
-ghost use Rattle.std.specs.Prelude.{◌≡◌, ◌⊎◌, None, Some, MatchResult, IfErr, IfOk, OnOk};
+ghost use Rattle.std.specs.Prelude.{◌≡◌, ◌⊎◌, None, Some, MatchResult, IfErr, IfOk, OnOk, true};
 ghost use Rattle.pg_schema.specs.Parts.{shape_of};
 ghost use Rattle.pg_pairs.specs.Choices.{choices};
 ghost use Rattle.pg_pairs.specs.Sight.{by_numbers};
@@ -16,7 +16,10 @@ use crate::error::CertError;
 use crate::laws::{covers_without_fault, verdicts_are_true, witness_faults_are_real};
 use crate::verdict::Verdict;
 use crate::witness::check_witness;
-use pg_pairs::{Choice, Numbers, Pair, Table, children, numbers_are_alike, numbers_sight, options};
+use pg_pairs::{
+    Choice, Numbers, Pair, Table, cheapest, cheapest_is_least, children, numbers_are_alike,
+    numbers_sight, options,
+};
 use pg_schema::Schema;
 use std::alloc::{AllocError, Global};
 
@@ -63,8 +66,26 @@ fn choices(
     options(alloc, &Numbers, old, new, pair, bounds)
 }
 
-// The first choice of the pair that costs less than its bound.
-fn cheaper_choice(
+// Whether no choice of the pair costs less than its bound, by the cheapest of them.
+fn is_cheapest_within(
+    alloc: Global,
+    old: &Schema,
+    new: &Schema,
+    bounds: &Bounds,
+    line: PairBound,
+) -> Result<bool, AllocError>
+    ensures { IfOk result (λ within. within ≡ true → cheaper_choice by_numbers (shape_of old.now) (shape_of new.now) (bound_in bounds.now) line ≡ None) }
+{
+    numbers_are_alike();
+    cheapest_is_least();
+    match cheapest(alloc, &Numbers, old, new, line.pair, bounds)? {
+        Some(choice) => Ok(is_within(line.bound, choice.cost)),
+        None => Ok(true),
+    }
+}
+
+// The first choice of the pair that costs less than its bound, of all of them.
+fn first_cheaper(
     alloc: Global,
     old: &Schema,
     new: &Schema,
@@ -80,6 +101,23 @@ fn cheaper_choice(
             .copied()
             .find(|choice| !is_within(line.bound, choice.cost)),
     )
+}
+
+// The first choice of the pair that costs less than its bound. All are listed only where there is one: of fields that meet
+// in one oneof there are as many as pairs of them.
+fn cheaper_choice(
+    alloc: Global,
+    old: &Schema,
+    new: &Schema,
+    bounds: &Bounds,
+    line: PairBound,
+) -> Result<Option<Choice>, AllocError>
+    ensures { IfOk result (λ found. found ≡ cheaper_choice by_numbers (shape_of old.now) (shape_of new.now) (bound_in bounds.now) line) }
+{
+    if is_cheapest_within(alloc, old, new, bounds, line)? {
+        return Ok(None);
+    }
+    first_cheaper(alloc, old, new, bounds, line)
 }
 
 // Whether the pair is as a table that covers has it; the fault that it has else.

@@ -4,8 +4,8 @@ use super::{M, line, message_type};
 use pg_cert::{Bounds, CertError, Certificate, PairBound, Verdict, check, from_text, to_text};
 use pg_pairs::Pair;
 use pg_schema::{
-    Element, Field, FieldOptions, File, MessageOptions, MessageType, Parts, Presence, Scalar,
-    Schema, TypeId,
+    Element, Field, FieldOptions, File, MessageOptions, MessageType, Parts, PartsError, Presence,
+    Scalar, Schema, TypeId,
 };
 use std::alloc::{AllocError, Global};
 use std::test::Fail;
@@ -76,8 +76,11 @@ pub(super) fn schema_of(
         enums: Vec::new(alloc),
         services: Vec::new(alloc),
     };
-    let schema = Schema::from_parts(alloc, parts);
-    Ok(schema.ok().ok_or("the parts are a schema")?)
+    match Schema::from_parts(alloc, parts) {
+        Ok(schema) => Ok(schema),
+        Err((PartsError::Memory, _)) => Err(Fail::from(AllocError)),
+        Err((PartsError::Invariant, _)) => Err(Fail::from("the parts make no schema")),
+    }
 }
 
 /// `M` with a field of the scalar, and `N`.
