@@ -1,5 +1,7 @@
 //! The written schema beside what protoc writes.
 
+mod read;
+mod sets;
 mod written;
 
 use pg_dyn::{decode, encode};

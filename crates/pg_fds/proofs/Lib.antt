@@ -6,3 +6,12 @@ pub mod SyntheticLaws
 pub mod FieldLaws
 pub mod FileLaws
 pub mod SmallLaws
+pub mod SaidLaws
+pub mod Zips
+pub mod OneofLaws
+pub mod TypeLaws
+pub mod SetLaws
+pub mod FileStateLaws
+pub mod CodeLaws
+pub mod ReadLaws
+pub mod ReadExamples

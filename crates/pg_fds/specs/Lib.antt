@@ -14,3 +14,11 @@ pub mod Examples
 pub mod Pieces
 pub mod Writable
 pub mod Written
+pub mod Said
+pub mod States
+pub mod StatesTypes
+pub mod StatesFiles
+pub mod Codes
+pub mod Reads
+pub mod Refused
+pub mod ReadExamples

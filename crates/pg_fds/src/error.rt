@@ -1,11 +1,12 @@
-//! Why a descriptor set can't be written.
+//! Why a descriptor set can't be written or read.
 
+use pg_check::CheckError;
 use pg_dyn::DynError;
 use std::alloc::{AllocError, AllocFailed};
 use thiserror::Error;
 
-/// Why a descriptor set can't be written.
-#[derive(Clone, Copy, Debug, PartialEq, Eq, Drop, Error)]
+/// Why a descriptor set can't be written, or states no schema (descriptor.proto; docs/REFUSALS.md).
+#[derive(Debug, PartialEq, Eq, Drop, Error)]
 pub enum FdsError {
     /// E001: memory was refused.
     #[error("out of memory")]
@@ -13,6 +14,19 @@ pub enum FdsError {
     /// E701: what the codec of messages refuses, with its own code.
     #[error(transparent)]
     Bytes(DynError),
+    /// E702: a file of the set isn't proto3.
+    #[error("a file isn't proto3")]
+    NotProto3,
+    /// E703: a field has no type, or a code of a type or a label that isn't taken.
+    #[error("a type or label that isn't taken")]
+    BadType,
+    /// E704: an import or a name isn't in the set, stands twice or is of another kind, imports go round, a
+    /// place is none, or an `optional` field or an entry type hasn't its form.
+    #[error("a bad reference in the set")]
+    BadReference,
+    /// E705: what the set declares breaks a rule of the language, by the rule's error at no place.
+    #[error(transparent)]
+    Rule(CheckError),
 }
 
 impl<T: Drop> From<AllocFailed<T>> for FdsError {
@@ -34,5 +48,40 @@ impl From<AllocError> for FdsError {
 
     fn from(_e: AllocError) -> FdsError {
         FdsError::Memory
+    }
+}
+
+/// Why the messages of a set make no schema, or not the one that is asked for.
+#[derive(Clone, Copy, Debug, PartialEq, Eq, Drop)]
+pub enum Unstated {
+    /// Memory was refused.
+    Memory,
+    /// A name, a place or a form isn't what it has to be.
+    Reference,
+}
+
+impl<T: Drop> From<AllocFailed<T>> for Unstated {
+    fn from(_e: AllocFailed<T>) -> Unstated {
+        Unstated::Memory
+    }
+}
+
+impl From<AllocError> for Unstated {
+    fn from(_e: AllocError) -> Unstated {
+        Unstated::Memory
+    }
+}
+
+impl From<Unstated> for FdsError {
+    ghost use Rattle.std.specs.Prelude.{◌≡◌, ◌⊎◌};
+    ghost use Rattle.pg_fds.specs.declared.error.FdsError.TheVariants.{BadReference, Memory};
+
+    ghost from_gives = { λ _ e. (e ≡ Memory) ⊎ (e ≡ BadReference) };
+
+    fn from(error: Unstated) -> FdsError {
+        match error {
+            Unstated::Memory => FdsError::Memory,
+            Unstated::Reference => FdsError::BadReference,
+        }
     }
 }

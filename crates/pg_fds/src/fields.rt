@@ -20,8 +20,8 @@ use pg_dyn::Message;
 use pg_schema::{Element, Field, Presence, Scalar, Schema};
 use std::alloc::{AllocError, Global};
 
-// LABEL_OPTIONAL or LABEL_REPEATED.
-fn label(presence: Presence) -> u32
+/// LABEL_OPTIONAL or LABEL_REPEATED.
+pub fn label(presence: Presence) -> u32
     ensures value { result ≡ label presence }
     ensures small { result ≤ 3 }
 {
@@ -67,8 +67,8 @@ pub fn element_code(element: Element) -> u32
     }
 }
 
-// The code of a field's type: a map field is one of entries.
-fn type_code(presence: Presence, element: Element) -> u32
+/// The code of a field's type: a map field is one of entries.
+pub fn type_code(presence: Presence, element: Element) -> u32
     ensures value { result ≡ type_code presence element }
     ensures small { result ≤ 18 }
 {
@@ -99,8 +99,8 @@ pub fn element_name(
     }
 }
 
-// What a field's type is called, in a message of that full name.
-fn named_type(
+/// What a field's type is called, in a message of that full name.
+pub fn named_type(
     alloc: Global,
     source: &Schema,
     scope: &str,

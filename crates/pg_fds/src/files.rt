@@ -32,8 +32,8 @@ use pg_dyn::{Message, Value};
 use pg_schema::{File, FileOption, Import, OptimizeMode, OptionValue, Schema, TypeId};
 use std::alloc::{AllocError, Global};
 
-// SPEED, CODE_SIZE or LITE_RUNTIME.
-fn mode_code(mode: OptimizeMode) -> u32
+/// SPEED, CODE_SIZE or LITE_RUNTIME.
+pub fn mode_code(mode: OptimizeMode) -> u32
     ensures value { result ≡ mode_code mode }
     ensures small { result ≤ 3 }
 {

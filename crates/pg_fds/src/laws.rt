@@ -2,6 +2,7 @@
 
 ghost use Rattle.pg_fds.specs.Examples.{WorkedSets};
 ghost use Rattle.pg_fds.specs.Pieces.{WorkedPieces};
+ghost use Rattle.pg_fds.specs.ReadExamples.{OneFieldRead};
 
 /// The bytes of the sets of two small files.
 pub fn worked_sets()
@@ -11,4 +12,9 @@ pub fn worked_sets()
 /// Names, codes, ranges, options and marks of sets, by small examples.
 pub fn worked_pieces()
     ensures { WorkedPieces }
+{}
+
+/// The bytes of a small file's set state its schema.
+pub fn worked_reads()
+    ensures { OneFieldRead }
 {}

@@ -3,24 +3,40 @@
 #![tactic(auto)]
 
 mod building;
+mod codes;
 mod descriptor;
 mod entries;
+mod entry_states;
 mod enums;
 mod error;
 mod fields;
+mod file_states;
 mod files;
 mod laws;
+mod made_fields;
+mod made_files;
+mod made_types;
 mod messages;
 mod names;
+mod oneof_states;
 mod options;
+mod order;
+mod outline;
 mod places;
+mod reading;
+mod said;
 mod scope;
+mod service_states;
 mod services;
+mod set_states;
+mod states;
 mod synthetic;
+mod type_states;
 mod types;
 mod writing;
 
 pub use descriptor::descriptor_schema;
 pub use error::FdsError;
-pub use laws::{worked_pieces, worked_sets};
+pub use laws::{worked_pieces, worked_reads, worked_sets};
+pub use reading::read;
 pub use writing::write;

@@ -1,0 +1,22 @@
+#!/usr/bin/env bash
+# Times `protogate compile` of a text of 4 MB and of 1,024 files, and `protogate gate` on the text's set as both sides, beside protoc:
+# compiling the same texts, and reading and writing the same set twice.
+# usage: bench/sets.sh [FOLDER]
+set -eu
+top=$(cd "$(dirname "$0")/.." && pwd)
+work=${1:-$(mktemp -d)}
+protogate="$top/crates/protogate/out/protogate"
+python3 "$top/bench/sets.py" "$work/text.proto"
+python3 "$top/bench/link.py" "$work/files"
+"$top/protogate" --help > "$work/help.txt" || true
+cd "$work"
+protoc --include_imports --descriptor_set_out=set.bin text.proto
+echo "compile text.proto: $(stat -c %s text.proto) bytes"
+python3 "$top/bench/timed.py" 5 "$protogate" compile text.proto -- protoc --include_imports --descriptor_set_out=of_protoc.bin text.proto
+cd files
+echo "compile f1023.proto: $(ls | wc -l) files"
+python3 "$top/bench/timed.py" 5 "$protogate" compile f1023.proto -- protoc --include_imports --descriptor_set_out=../of_protoc.bin f1023.proto
+cd ..
+echo "gate set.bin: $(stat -c %s set.bin) bytes a side"
+python3 "$top/bench/timed.py" 5 "$protogate" gate --old set.bin --new set.bin --type bench.items.Item0 -- \
+    sh -c "protoc --descriptor_set_in=set.bin --descriptor_set_out=of_protoc.bin text.proto && protoc --descriptor_set_in=set.bin --descriptor_set_out=of_protoc.bin text.proto"

@@ -1,0 +1,86 @@
+-- Places that are marked, and the oneofs there.
+use Rattle.std.proofs.Common.{◌≡◌, ◌≢◌, ℕ, zero, suc, ◌+◌, ◌<◌, ℤ, pos, Bool, true, false, ◌||◌, nat_eq, List, [], ◌∷◌, String, map, length, take, get_or, Some, slice_get, refl, ap, sym, subst, ◌∙◌, arith, add-one}
+use Rattle.std.proofs.Math.ListN.{set, length-set}
+use Rattle.std.proofs.lemmas.Bool.Decides.{nat_tests}
+use Rattle.std.proofs.lemmas.Grind.{get_or-set_at}
+use Rattle.std.proofs.lemmas.List.{get_or-set_other}
+use Rattle.std.specs.Prelude.{IsSomeAnd}
+use Rattle.std.specs.String.{string_bytes}
+use denote.Ref.{Bor}
+use Rattle.pg_dyn.specs.Kept.{Kept, message_of}
+use Rattle.pg_fds.specs.Lent.{lent}
+use Rattle.pg_fds.specs.Said.{text_at}
+use Rattle.pg_fds.specs.StatesTypes.{AreMarked, NamesOneof, is_marked}
+
+-- the item at a place, as a look-up finds it
+got : {A B : Type 0} (f : A → B) (xs : List A) (i : ℕ) (x : A) → i < length xs → x ≡ get_or xs i x → slice_get (map f xs) i ≡ Some (f x)
+got f [] i x h is = absurd (omega (arith, h))
+got f (y ∷ xs) zero x h is = ap (λ z. Some (f z)) (sym is)
+got f (y ∷ xs) (suc i) x h is = got f xs i x (omega (arith, h)) is
+
+seen_got : (ms : List (Bor Kept)) (i : ℕ) (m : Bor Kept) → i < length ms → m ≡ get_or ms i m → slice_get (map message_of (lent ms)) i ≡ Some (message_of m.now)
+seen_got [] i m h is = absurd (omega (arith, h))
+seen_got (x ∷ ms) zero m h is = ap (λ (b : Bor Kept). Some (message_of b.now)) (sym is)
+seen_got (x ∷ ms) (suc i) m h is = seen_got ms i m (omega (arith, h)) is
+
+pub named_one : {Y : Type 0} (oneofs : List (Bor Kept)) (numbers : List ℤ) (names : List (String Y)) (number : ℤ) (own place : ℕ) (m : Bor Kept) (name : String Y)
+    → number ≡ pos place → is_marked numbers place ≡ false → place < length oneofs → m ≡ get_or oneofs place m → own < length names → name ≡ get_or names own name
+    → text_at 1 (message_of m.now) ≡ string_bytes name → NamesOneof (map message_of (lent oneofs)) numbers (map string_bytes names) (Some number) (Some own)
+named_one oneofs numbers names number own place m name at free h is k same texts = (
+  place,
+  at,
+  free,
+  subst (λ found. IsSomeAnd found (λ x. slice_get (map string_bytes names) own ≡ Some (text_at 1 x))) (sym (seen_got oneofs place m h is))
+      (got string_bytes names own name k same ∙ ap Some (sym texts)),
+)
+
+-- ---- marks
+
+same_place : (a b : ℕ) → nat_eq a b ≡ true → b ≡ a
+same_place a b e = grind (arith, nat_tests)
+
+other_place : (a b : ℕ) → nat_eq a b ≡ false → b ≢ a
+other_place a b e = λ q. grind (arith, nat_tests)
+
+or_assoc : (a b c : Bool) → (a || (b || c)) ≡ ((a || b) || c)
+or_assoc true b c = refl
+or_assoc false b c = refl
+
+marked_suc : (numbers : List ℕ) (i : ℕ) (p : ℕ) → i < length numbers
+    → is_marked (map pos (take (suc i) numbers)) p ≡ (is_marked (map pos (take i numbers)) p || nat_eq (get_or numbers i 0) p)
+marked_suc [] i p h = absurd (omega (arith, h))
+marked_suc (n ∷ ns) zero p h = of (nat_eq n p)
+  where
+    of : (b : Bool) → (b || false) ≡ (false || b)
+    of true = refl
+    of false = refl
+marked_suc (n ∷ ns) (suc i) p h = ap (λ b. nat_eq n p || b) (marked_suc ns i p (omega (arith, h))) ∙ or_assoc (nat_eq n p) (is_marked (map pos (take i ns)) p) (nat_eq (get_or ns i 0) p)
+
+-- one place more is marked
+pub marks_step : (numbers : List ℕ) (i place count : ℕ) (marks : List Bool) → i < length numbers → place ≡ get_or numbers i 0 → place < count
+    → AreMarked (map pos (take i numbers)) count marks → AreMarked (map pos (take (i + 1) numbers)) count (set marks place true)
+marks_step numbers i place count marks h is below marked = record {
+  all = length-set marks place true ∙ marked.all;
+  each = λ p within. one p within (nat_eq place p) refl;
+}
+  where
+    room : place < length marks
+    room = subst (λ k. place < k) (sym marked.all) below
+
+    more : (p : ℕ) (b : Bool) → nat_eq place p ≡ b → is_marked (map pos (take (i + 1) numbers)) p ≡ (is_marked (map pos (take i numbers)) p || b)
+    more p b e = rw add-one (marked_suc numbers i p h ∙ ap (λ x. is_marked (map pos (take i numbers)) p || x) (ap (λ n. nat_eq n p) (sym is) ∙ e))
+
+    or_true : (a : Bool) → (a || true) ≡ true
+    or_true true = refl
+    or_true false = refl
+
+    or_no : (a : Bool) → (a || false) ≡ a
+    or_no true = refl
+    or_no false = refl
+
+    one : (p : ℕ) → p < count → (b : Bool) → nat_eq place p ≡ b → get_or (set marks place true) p false ≡ is_marked (map pos (take (i + 1) numbers)) p
+    one p within true e =
+        let same : p ≡ place = same_place place p e in
+        get_or-set_at marks place p true false same room ∙ sym (more p true e ∙ or_true (is_marked (map pos (take i numbers)) p))
+    one p within false e =
+        get_or-set_other marks place p true false (other_place place p e) ∙ (marked.each p within ∙ sym (more p false e ∙ or_no (is_marked (map pos (take i numbers)) p)))

@@ -1,0 +1,75 @@
+-- The files of a set, as loops come to them.
+use Rattle.std.proofs.Common.{◌≡◌, ℕ, zero, suc, ◌+◌, ◌<◌, Bool, true, false, ◌&&◌, ◌||◌, List, [], ◌∷◌, ◌++◌, map, length, take, get_or, refl, ap, sym, subst, ◌∙◌, arith, add-one}
+use Rattle.std.specs.List.{AllByRecursion, list_all, list_any}
+use denote.Ref.{Bor}
+use Rattle.pg_schema.specs.declared.file.File.{File}
+use Rattle.pg_dyn.specs.Kept.{Kept, message_of}
+use Rattle.pg_dyn.specs.Message.{Message}
+use Rattle.pg_fds.specs.Lent.{lent}
+use Rattle.pg_fds.specs.Reads.{file_name}
+use Rattle.pg_fds.specs.Said.{text_at}
+
+suc_of_names : (files : List (Bor Kept)) (i : ℕ) (m : Bor Kept) (key : List ℕ) → i < length files → m ≡ get_or files i m → key ≡ text_at 1 (message_of m.now)
+    → map (text_at 1) (map message_of (lent (take (suc i) files))) ≡ map (text_at 1) (map message_of (lent (take i files))) ++ key ∷ []
+suc_of_names [] i m key h is same = absurd (omega (arith, h))
+suc_of_names (x ∷ xs) zero m key h is same = ap (λ n. n ∷ []) (ap (λ (b : Bor Kept). text_at 1 (message_of b.now)) (sym is) ∙ sym same)
+suc_of_names (x ∷ xs) (suc i) m key h is same = ap (λ ns. text_at 1 (message_of x.now) ∷ ns) (suc_of_names xs i m key (omega (arith, h)) is same)
+
+-- the names of one message more
+pub names_step : (files : List (Bor Kept)) (i : ℕ) (m : Bor Kept) (key : List ℕ) → i < length files → m ≡ get_or files i m → key ≡ text_at 1 (message_of m.now)
+    → map (text_at 1) (map message_of (lent (take (i + 1) files))) ≡ map (text_at 1) (map message_of (lent (take i files))) ++ key ∷ []
+names_step files i m key h is same = rw add-one (suc_of_names files i m key h is same)
+
+suc_of_files : (files : List File) (i : ℕ) (f : File) → i < length files → f ≡ get_or files i f → map file_name (take (suc i) files) ≡ map file_name (take i files) ++ file_name f ∷ []
+suc_of_files [] i f h is = absurd (omega (arith, h))
+suc_of_files (x ∷ xs) zero f h is = ap (λ n. file_name n ∷ []) (sym is)
+suc_of_files (x ∷ xs) (suc i) f h is = ap (λ ns. file_name x ∷ ns) (suc_of_files xs i f (omega (arith, h)) is)
+
+-- the names of one file more
+pub files_step : (files : List File) (i : ℕ) (f : File) → i < length files → f ≡ get_or files i f → map file_name (take (i + 1) files) ≡ map file_name (take i files) ++ file_name f ∷ []
+files_step files i f h is = rw add-one (suc_of_files files i f h is)
+
+suc_of_all : {A : Type 0} (test : A → Bool) (xs : List A) (i : ℕ) (x : A) → i < length xs → x ≡ get_or xs i x → list_all test (take i xs) ≡ true → test x ≡ true → list_all test (take (suc i) xs) ≡ true
+suc_of_all test [] i x h is before here = absurd (omega (arith, h))
+suc_of_all test (y ∷ ys) zero x h is before here = both (test y) true (ap test (sym is) ∙ here) refl
+  where
+    both : (a b : Bool) → a ≡ true → b ≡ true → (a && b) ≡ true
+    both a b p q = ap (λ z. z && b) p ∙ q
+suc_of_all test (y ∷ ys) (suc i) x h is before here = both (test y) (list_all test (take i ys)) (list_all test (take (suc i) ys)) before (λ rest. suc_of_all test ys i x (omega (arith, h)) is rest here)
+  where
+    both : (a b c : Bool) → (a && b) ≡ true → (b ≡ true → c ≡ true) → (a && c) ≡ true
+    both true b c p q = q p
+    both false b c p q = p
+
+-- the test holds of one more
+pub all_step : {A : Type 0} (test : A → Bool) (xs : List A) (i : ℕ) (x : A) → i < length xs → x ≡ get_or xs i x → list_all test (take i xs) ≡ true → test x ≡ true → list_all test (take (i + 1) xs) ≡ true
+all_step test xs i x h is before here = rw add-one (suc_of_all test xs i x h is before here)
+
+suc_of_each : {A : Type 0} (P : A → Type 0) (xs : List A) (i : ℕ) (x : A) → i < length xs → x ≡ get_or xs i x → AllByRecursion P (take i xs) → P x → AllByRecursion P (take (suc i) xs)
+suc_of_each P [] i x h is before here = absurd (omega (arith, h))
+suc_of_each P (y ∷ ys) zero x h is before here = (subst P is here, tt)
+suc_of_each P (y ∷ ys) (suc i) x h is before here = (before.0, suc_of_each P ys i x (omega (arith, h)) is before.1 here)
+
+-- what holds of each holds of one more
+pub each_step : {A : Type 0} (P : A → Type 0) (xs : List A) (i : ℕ) (x : A) → i < length xs → x ≡ get_or xs i x → AllByRecursion P (take i xs) → P x → AllByRecursion P (take (i + 1) xs)
+each_step P xs i x h is before here = rw add-one (suc_of_each P xs i x h is before here)
+
+or_true : (a b : Bool) → b ≡ true → (a || b) ≡ true
+or_true true b e = refl
+or_true false b e = e
+
+and_false : (a b : Bool) → b ≡ false → (a && b) ≡ false
+and_false true b e = e
+and_false false b e = refl
+
+-- the test holds of one of the messages
+pub any_found : (test : Message → Bool) (ms : List (Bor Kept)) (i : ℕ) (m : Bor Kept) → i < length ms → m ≡ get_or ms i m → test (message_of m.now) ≡ true → list_any test (map message_of (lent ms)) ≡ true
+any_found test [] i m h is here = absurd (omega (arith, h))
+any_found test (x ∷ xs) zero m h is here = ap (λ b. b || list_any test (map message_of (lent xs))) (ap (λ (b : Bor Kept). test (message_of b.now)) (sym is) ∙ here)
+any_found test (x ∷ xs) (suc i) m h is here = or_true (test (message_of x.now)) (list_any test (map message_of (lent xs))) (any_found test xs i m (omega (arith, h)) is here)
+
+-- the test fails of one of the messages
+pub all_lost : (test : Message → Bool) (ms : List (Bor Kept)) (i : ℕ) (m : Bor Kept) → i < length ms → m ≡ get_or ms i m → test (message_of m.now) ≡ false → list_all test (map message_of (lent ms)) ≡ false
+all_lost test [] i m h is here = absurd (omega (arith, h))
+all_lost test (x ∷ xs) zero m h is here = ap (λ b. b && list_all test (map message_of (lent xs))) (ap (λ (b : Bor Kept). test (message_of b.now)) (sym is) ∙ here)
+all_lost test (x ∷ xs) (suc i) m h is here = and_false (test (message_of x.now)) (list_all test (map message_of (lent xs))) (all_lost test xs i m (omega (arith, h)) is here)

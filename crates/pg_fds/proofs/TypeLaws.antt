@@ -1,0 +1,65 @@
+-- Message types with those inside them.
+use Rattle.std.proofs.Common.{◌≡◌, ◌≢◌, ℕ, zero, suc, ◌+◌, ◌-◌, ◌<◌, ◌≤◌, true, nat_eq, List, length, map, drop, filter, get_or, Some, slice_get, refl, ap, sym, subst, ◌∙◌, arith}
+use Rattle.std.proofs.lemmas.Bool.Decides.{nat_tests}
+use Rattle.std.specs.Prelude.{IsSomeAnd}
+use Rattle.std.specs.List.{AllZip}
+use Rattle.std.specs.String.{string_bytes}
+use denote.Ref.{Bor}
+use Rattle.pg_schema.specs.declared.field.TypeId.{TypeId}
+use Rattle.pg_schema.specs.declared.message_type.MessageType.{MessageType}
+use Rattle.pg_dyn.specs.Kept.{Kept, message_of}
+use Rattle.pg_dyn.specs.Message.{Message}
+use Rattle.pg_fds.specs.Lent.{lent}
+use Rattle.pg_fds.specs.Places.{Declared}
+use Rattle.pg_fds.specs.Said.{children_at}
+use Rattle.pg_fds.specs.StatesTypes.{StatesType, StatesTypes, StatesWhole, is_no_entry}
+use Rattle.pg_fds.proofs.Zips.{zip_end, zip_on}
+
+pub whole_at : (all : Declared) (Inside : List ℕ → List Message → List TypeId → Type 0) (scope : List ℕ) (m : Message) (id : TypeId) (t : MessageType) (ms : List Message)
+    → slice_get all.types id.index ≡ Some t → StatesType all scope m t → ms ≡ filter is_no_entry (children_at 3 m) → Inside (string_bytes t.name) ms t.nested_types.items
+    → IsSomeAnd (slice_get all.types id.index) (StatesWhole all Inside scope m)
+whole_at all Inside scope m id t ms there own inside below =
+    subst (λ found. IsSomeAnd found (StatesWhole all Inside scope m)) (sym there) (own, subst (λ xs. Inside (string_bytes t.name) xs t.nested_types.items) inside below)
+
+pub types_deep : (depth : ℕ) (all : Declared) (scope : List ℕ) (ms : List Message) (ids : List TypeId) → depth ≢ 0
+    → AllZip (λ m (id : TypeId). IsSomeAnd (slice_get all.types id.index) (StatesWhole all (StatesTypes (depth - 1) all) scope m)) ms ids → StatesTypes depth all scope ms ids
+types_deep zero all scope ms ids h zip = absurd (h refl)
+types_deep (suc d) all scope ms ids h zip =
+    let e : suc d - 1 ≡ d = omega arith in
+    subst (λ n. AllZip (λ m (id : TypeId). IsSomeAnd (slice_get all.types id.index) (StatesWhole all (StatesTypes n all) scope m)) ms ids) e zip
+
+-- the message types inside, as they are looked through
+pub inner_is : (m : Message) (all all_items inside inside_items : List (Bor Kept)) → all ≡ all_items → inside ≡ inside_items → map message_of (lent all_items) ≡ children_at 3 m
+    → map message_of (lent inside_items) ≡ filter is_no_entry (map message_of (lent all)) → map message_of (lent inside) ≡ filter is_no_entry (children_at 3 m)
+inner_is m all all_items inside inside_items same own seen kept =
+    ap (λ xs. map message_of (lent xs)) own ∙ (kept ∙ ap (filter is_no_entry) (ap (λ xs. map message_of (lent xs)) same ∙ seen))
+
+pub inside_is : (depth : ℕ) (all : Declared) (t : MessageType) (ms : List Message) (name : List ℕ) (ids : List TypeId) → name ≡ string_bytes t.name → ids ≡ t.nested_types.items
+    → StatesTypes depth all name ms ids → StatesTypes depth all (string_bytes t.name) ms t.nested_types.items
+inside_is depth all t ms name ids called placed h =
+    subst (λ n. StatesTypes depth all n ms t.nested_types.items) called (subst (λ is. StatesTypes depth all name ms is) placed h)
+
+as_long : (a b : ℕ) → nat_eq a b ≡ true → a ≡ b
+as_long a b e = grind (arith, nat_tests)
+
+-- one message type more
+pub types_step : (depth : ℕ) (all : Declared) (scope : List ℕ) (ms : List (Bor Kept)) (ids : List TypeId) (i : ℕ) (m : Bor Kept) (id : TypeId) (t : MessageType) (inner : List Message)
+    → i < length ms → nat_eq (length ms) (length ids) ≡ true → m ≡ get_or ms i m → (i < length ids → id ≡ get_or ids i id)
+    → slice_get all.types id.index ≡ Some t → StatesType all scope (message_of m.now) t → inner ≡ filter is_no_entry (children_at 3 (message_of m.now))
+    → StatesTypes depth all (string_bytes t.name) inner t.nested_types.items
+    → AllZip (λ m (id : TypeId). IsSomeAnd (slice_get all.types id.index) (StatesWhole all (StatesTypes depth all) scope m)) (map message_of (lent (drop (i + 1) ms))) (drop (i + 1) ids)
+    → AllZip (λ m (id : TypeId). IsSomeAnd (slice_get all.types id.index) (StatesWhole all (StatesTypes depth all) scope m)) (map message_of (lent (drop i ms))) (drop i ids)
+types_step depth all scope ms ids i m id t inner h same is at there own inside below later =
+    let long : length ms ≡ length ids = as_long (length ms) (length ids) same in
+    let k : i < length ids = omega (arith, h, long) in
+    zip_on (λ x (d : TypeId). IsSomeAnd (slice_get all.types d.index) (StatesWhole all (StatesTypes depth all) scope x)) ms ids i m id h k is (at k)
+    (whole_at all (StatesTypes depth all) scope (message_of m.now) id t inner there own inside below) later
+
+-- all of them
+pub types_all : (depth : ℕ) (all : Declared) (scope : List ℕ) (ms : List (Bor Kept)) (ids : List TypeId) (i : ℕ) → depth ≢ 0 → nat_eq (length ms) (length ids) ≡ true → length ms ≤ i
+    → (AllZip (λ m (id : TypeId). IsSomeAnd (slice_get all.types id.index) (StatesWhole all (StatesTypes (depth - 1) all) scope m)) (map message_of (lent (drop i ms))) (drop i ids)
+    → AllZip (λ m (id : TypeId). IsSomeAnd (slice_get all.types id.index) (StatesWhole all (StatesTypes (depth - 1) all) scope m)) (map message_of (lent ms)) ids)
+    → StatesTypes depth all scope (map message_of (lent ms)) ids
+types_all depth all scope ms ids i deep same past whole =
+    types_deep depth all scope (map message_of (lent ms)) ids deep
+    (whole (zip_end (λ x (d : TypeId). IsSomeAnd (slice_get all.types d.index) (StatesWhole all (StatesTypes (depth - 1) all) scope x)) ms ids i (as_long (length ms) (length ids) same) past))

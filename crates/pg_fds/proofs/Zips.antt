@@ -1,0 +1,55 @@
+-- Lists that go side by side, from the places that a loop has still to see.
+use Rattle.std.proofs.Common.{◌≡◌, ℕ, zero, suc, ◌+◌, ◌<◌, ◌≤◌, List, [], ◌∷◌, length, map, drop, get_or, refl, ap, sym, subst, arith, add-one, drop-cons}
+use Rattle.std.specs.List.{AllZip, Any}
+use denote.Ref.{Bor}
+use Rattle.pg_dyn.specs.Kept.{Kept, message_of}
+use Rattle.pg_dyn.specs.Message.{Message}
+use Rattle.pg_fds.specs.Lent.{lent}
+
+pub rest : {A : Type 0} (xs : List A) (i : ℕ) (x : A) → i < length xs → x ≡ get_or xs i x → drop i xs ≡ x ∷ drop (i + 1) xs
+rest xs i x h is = rw (add-one, drop-cons xs i x) (ap (λ g. g ∷ drop (suc i) xs) (sym is))
+
+pub none_left : {A : Type 0} (xs : List A) (i : ℕ) → length xs ≤ i → drop i xs ≡ []
+none_left [] zero h = refl
+none_left [] (suc i) h = refl
+none_left (x ∷ xs) zero h = absurd (omega (arith, h))
+none_left (x ∷ xs) (suc i) h = none_left xs i (omega (arith, h))
+
+-- from one place on, where it is so there and from the next one on
+pub zip_on : {C : Type 0} (R : Message → C → Type 0) (ms : List (Bor Kept)) (cs : List C) (i : ℕ) (m : Bor Kept) (c : C) → i < length ms → i < length cs → m ≡ get_or ms i m → c ≡ get_or cs i c
+    → R (message_of m.now) c → AllZip R (map message_of (lent (drop (i + 1) ms))) (drop (i + 1) cs) → AllZip R (map message_of (lent (drop i ms))) (drop i cs)
+zip_on R ms cs i m c h k is same here later =
+    subst (λ xs. AllZip R (map message_of (lent xs)) (drop i cs)) (sym (rest ms i m h is))
+    (subst (λ ys. AllZip R (message_of m.now ∷ map message_of (lent (drop (i + 1) ms))) ys) (sym (rest cs i c k same)) (here, later))
+
+pub zip_end : {C : Type 0} (R : Message → C → Type 0) (ms : List (Bor Kept)) (cs : List C) (i : ℕ) → length ms ≡ length cs → length ms ≤ i
+    → AllZip R (map message_of (lent (drop i ms))) (drop i cs)
+zip_end R ms cs i same h =
+    subst (λ xs. AllZip R (map message_of (lent xs)) (drop i cs)) (sym (none_left ms i h))
+    (subst (λ ys. AllZip R [] ys) (sym (none_left cs i (omega (arith, h, same)))) tt)
+
+-- the same of two lists of references
+pub lent_on : {C : Type 0} (R : Message → C → Type 0) (ms : List (Bor Kept)) (cs : List (Bor C)) (i : ℕ) (m : Bor Kept) (c : Bor C) → i < length ms → i < length cs → m ≡ get_or ms i m → c ≡ get_or cs i c
+    → R (message_of m.now) c.now → AllZip R (map message_of (lent (drop (i + 1) ms))) (lent (drop (i + 1) cs)) → AllZip R (map message_of (lent (drop i ms))) (lent (drop i cs))
+lent_on R ms cs i m c h k is same here later =
+    subst (λ xs. AllZip R (map message_of (lent xs)) (lent (drop i cs))) (sym (rest ms i m h is))
+    (subst (λ ys. AllZip R (message_of m.now ∷ map message_of (lent (drop (i + 1) ms))) (lent ys)) (sym (rest cs i c k same)) (here, later))
+
+pub lent_end : {C : Type 0} (R : Message → C → Type 0) (ms : List (Bor Kept)) (cs : List (Bor C)) (i : ℕ) → length ms ≡ length cs → length ms ≤ i
+    → AllZip R (map message_of (lent (drop i ms))) (lent (drop i cs))
+lent_end R ms cs i same h =
+    subst (λ xs. AllZip R (map message_of (lent xs)) (lent (drop i cs))) (sym (none_left ms i h))
+    (subst (λ ys. AllZip R [] (lent ys)) (sym (none_left cs i (omega (arith, h, same)))) tt)
+
+pub seen_length : (ms : List (Bor Kept)) → length (map message_of (lent ms)) ≡ length ms
+seen_length [] = refl
+seen_length (m ∷ ms) = ap suc (seen_length ms)
+
+seen_at : (ms : List (Bor Kept)) (i : ℕ) (m : Bor Kept) → i < length ms → m ≡ get_or ms i m → get_or (map message_of (lent ms)) i (message_of m.now) ≡ message_of m.now
+seen_at [] i m h is = absurd (omega (arith, h))
+seen_at (x ∷ ms) zero m h is = ap (λ (b : Bor Kept). message_of b.now) (sym is)
+seen_at (x ∷ ms) (suc i) m h is = seen_at ms i m (omega (arith, h)) is
+
+-- what holds of the message at a place holds of some
+pub any_at : (P : Message → Type 0) (ms : List (Bor Kept)) (i : ℕ) (m : Bor Kept) → i < length ms → m ≡ get_or ms i m → P (message_of m.now) → Any P (map message_of (lent ms))
+any_at P ms i m h is here = (i, message_of m.now, subst (λ n. i < n) (sym (seen_length ms)) h, seen_at ms i m h is, here)

@@ -1,0 +1,5 @@
+use Rattle.pg_fds.proofs.ReadLaws.{rule_broken}
+use Rattle.pg_fds.proofs.reading.told.Goals as goal
+
+pub returns-in_default : goal.returns-in_default
+returns-in_default c = λ parts refused. rule_broken parts c.args.error refused c.in_default.not-Memory

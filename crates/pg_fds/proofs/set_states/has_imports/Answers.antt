@@ -1,0 +1,13 @@
+use Rattle.std.proofs.Common.{◌≡◌, true, sym, ap, ◌∙◌}
+use Rattle.std.specs.BTreeSet.{contains_text}
+use Rattle.std.specs.String.{string_bytes}
+use Rattle.pg_schema.specs.declared.file.Import.{Import}
+use Rattle.pg_schema.specs.TextSets.{is_among}
+use Rattle.pg_fds.proofs.SetLaws.{all_step}
+use Rattle.pg_fds.proofs.set_states.has_imports.Goals as goal
+
+pub loop-import-preserved : goal.loop-import-preserved
+loop-import-preserved c = λ texts held.
+    let there : contains_text c.args.names.now (string_bytes c.import-item.result.path) ≡ true = ap (contains_text c.args.names.now) (sym c.as_str.ensures.value) ∙ (sym c.contains.ensures ∙ c.in_ok-ensure.ensures) in
+    all_step (λ (i : Import). is_among texts (string_bytes i.path)) c.args.imports.now c.loop-import.import-index c.import-item.result c.loop-import-test.true c.import-item.is
+    (c.loop-import.invariant texts held) (sym (held (string_bytes c.import-item.result.path)) ∙ there)

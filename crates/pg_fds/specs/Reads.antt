@@ -1,0 +1,53 @@
+-- Sets that are read: what schema the bytes of a set state.
+use Rattle.std.specs.Prelude.{◌≡◌, ℕ, ⊤, Bool, true, false, not, List, [], ◌∷◌, ◌++◌, map, length, filter, IsSomeAnd}
+use Rattle.std.specs.List.{AllByRecursion, Any, list_all, list_any}
+use Rattle.std.specs.String.{string_bytes}
+use Rattle.pg_schema.specs.declared.file.File.{File}
+use Rattle.pg_schema.specs.declared.file.Import.{Import}
+use Rattle.pg_schema.specs.declared.parts.Parts.{Parts}
+use Rattle.pg_schema.specs.Pairs.{are_distinct}
+use Rattle.pg_schema.specs.TextSets.{is_among}
+use Rattle.pg_dyn.specs.Decoding.{dec}
+use Rattle.pg_dyn.specs.Message.{Message}
+use Rattle.pg_fds.specs.Building.{written_shape}
+use Rattle.pg_fds.specs.Descriptor.{file_set}
+use Rattle.pg_fds.specs.Places.{declared_in}
+use Rattle.pg_fds.specs.Said.{children_at, text_at}
+use Rattle.pg_fds.specs.StatesFiles.{StatesFile, is_skipped}
+
+-- whether the set has a file that is skipped
+abbrev pub skips : Message → Bool
+skips set = list_any is_skipped (children_at 1 set)
+
+-- the others, in the order of the set
+abbrev pub kept_files : Message → List Message
+kept_files set = filter (λ m. not (is_skipped m)) (children_at 1 set)
+
+abbrev pub file_name : File → List ℕ
+file_name f = string_bytes f.name
+
+-- what is imported is among the names
+abbrev pub imports_among : List (List ℕ) → List Import → Bool
+imports_among names imports = list_all (λ (i : Import). is_among names (string_bytes i.path)) imports
+
+-- each file has a name of its own, and stands behind those that it imports, where files of these names stand in front
+abbrev pub AreBehind : List (List ℕ) → List File → Type 0
+AreBehind names [] = ⊤
+AreBehind names (f ∷ fs) =
+    (imports_among names f.imports.items ≡ true) × (is_among names (file_name f) ≡ false) × AreBehind (names ++ file_name f ∷ []) fs
+
+-- These files are the schema's: names stand once on both sides, there are as many here as there, and each of the schema is stated by one
+-- of these, behind those that it imports. So none is left out.
+pub record StatesFiles (skips : Bool) (kept : List Message) (parts : Parts) : Type 0 where
+  pub once : are_distinct (map (text_at 1) kept) ≡ true
+  pub as_many : length kept ≡ length parts.files.items
+  pub files : AllByRecursion (λ (f : File). Any (λ m. StatesFile (declared_in parts) skips m f) kept) parts.files.items
+  pub behind : AreBehind [] parts.files.items
+
+-- the message of a set states the schema of these parts
+abbrev pub States : Message → Parts → Type 0
+States set parts = StatesFiles (skips set) (kept_files set) parts
+
+-- the bytes are a set that states the schema
+abbrev pub fds_reads : List ℕ → Parts → Type 0
+fds_reads bytes parts = IsSomeAnd (dec written_shape file_set bytes) (λ set. States set parts)

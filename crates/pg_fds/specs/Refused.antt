@@ -1,0 +1,54 @@
+-- Why the bytes of a set may be refused.
+use Rattle.std.specs.Prelude.{◌≡◌, ◌≢◌, ℕ, ⊤, true, false, List, IsSomeAnd}
+use Rattle.std.specs.List.{list_all}
+use Rattle.pg_schema.specs.declared.parts.Parts.{Parts}
+use Rattle.pg_check.specs.declared.error.CheckError.{CheckError}
+use Rattle.pg_check.specs.declared.error.CheckError.TheVariants as rules
+use Rattle.pg_check.specs.PartErrors.{IsRefusedOf}
+use Rattle.pg_dyn.specs.Decoding.{dec}
+use Rattle.pg_dyn.specs.Message.{Message}
+use Rattle.pg_dyn.specs.Refusals.{MayRefuse}
+use Rattle.pg_fds.specs.declared.error.FdsError.{FdsError}
+use Rattle.pg_fds.specs.declared.error.FdsError.TheVariants as errors
+use Rattle.pg_fds.specs.Building.{written_shape}
+use Rattle.pg_fds.specs.Codes.{file_has_types}
+use Rattle.pg_fds.specs.Descriptor.{file_set}
+use Rattle.pg_fds.specs.Reads.{kept_files}
+use Rattle.pg_fds.specs.StatesFiles.{is_proto3, most_deep}
+
+-- parts of a schema are refused for it, and it isn't want of memory
+abbrev pub BreaksRule : CheckError → Type 0
+BreaksRule e = ((parts : Parts) × IsRefusedOf parts e) × (e ≢ rules.Memory)
+
+-- What holds of the files of a set, without those that are skipped, the codec aside. A type is told only where all files are proto3, a rule
+-- only where their types and labels are all taken too. When a bad reference is told isn't said here.
+abbrev pub MayRefuseFiles : List Message → FdsError → Type 0
+MayRefuseFiles files errors.Memory = ⊤
+MayRefuseFiles files (errors.Bytes e) = ⊥
+MayRefuseFiles files errors.NotProto3 = list_all is_proto3 files ≡ false
+MayRefuseFiles files errors.BadType = (list_all is_proto3 files ≡ true) × (list_all file_has_types files ≡ false)
+MayRefuseFiles files errors.BadReference = ⊤
+MayRefuseFiles files (errors.Rule e) = (list_all is_proto3 files ≡ true) × (list_all file_has_types files ≡ true) × BreaksRule e
+
+-- that of the message that the bytes are, if they are one
+abbrev pub MayRefuseRead : List ℕ → FdsError → Type 0
+MayRefuseRead bytes e = IsSomeAnd (dec written_shape file_set bytes) (λ set. MayRefuseFiles (kept_files set) e)
+
+-- What the codec refuses is a fault of the bytes, with messages nested at most 100 deep; else the bytes are a message, of whose files that
+-- holds.
+abbrev pub MayRefuseSet : List ℕ → FdsError → Type 0
+MayRefuseSet bytes errors.Memory = ⊤
+MayRefuseSet bytes (errors.Bytes e) = MayRefuse written_shape file_set most_deep bytes e
+MayRefuseSet bytes errors.NotProto3 = MayRefuseRead bytes errors.NotProto3
+MayRefuseSet bytes errors.BadType = MayRefuseRead bytes errors.BadType
+MayRefuseSet bytes errors.BadReference = MayRefuseRead bytes errors.BadReference
+MayRefuseSet bytes (errors.Rule e) = MayRefuseRead bytes (errors.Rule e)
+
+-- memory, or what is told once files and types are looked at
+abbrev pub IsOfParts : FdsError → Type 0
+IsOfParts errors.Memory = ⊤
+IsOfParts (errors.Bytes e) = ⊥
+IsOfParts errors.NotProto3 = ⊥
+IsOfParts errors.BadType = ⊥
+IsOfParts errors.BadReference = ⊤
+IsOfParts (errors.Rule e) = BreaksRule e

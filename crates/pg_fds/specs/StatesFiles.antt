@@ -1,0 +1,115 @@
+-- What a set's messages have to say so that they state services and files (descriptor.proto).
+use Rattle.std.specs.Prelude.{◌≡◌, ℕ, suc, ℤ, pos, negsuc, Bool, true, false, nat_eq, nat_lt, not, ◌&&◌, List, [], ◌∷◌, map, length, find, codes, Option, Some, option_map, slice_get, IsSomeAnd, if◌then◌else◌}
+use Rattle.std.specs.List.{AllByRecursion, AllZip, list_all}
+use Rattle.std.specs.Str.{bytes_eq}
+use Rattle.std.specs.String.{string_bytes}
+use Rattle.pg_schema.specs.declared.field.TypeId.{TypeId}
+use Rattle.pg_schema.specs.declared.file.File.{File}
+use Rattle.pg_schema.specs.declared.file.Import.{Import}
+use Rattle.pg_schema.specs.declared.options.FileOption.{FileOption}
+use Rattle.pg_schema.specs.declared.options.OptionValue.{OptionValue}
+use Rattle.pg_schema.specs.declared.options.OptionValue.TheVariants as values
+use Rattle.pg_schema.specs.declared.service.Method.{Method}
+use Rattle.pg_schema.specs.declared.service.Service.{Service}
+use Rattle.pg_schema.specs.declared.service.ServiceId.{ServiceId}
+use Rattle.pg_schema.specs.DeclaredNames.{within}
+use Rattle.pg_schema.specs.Scopes.{type_name}
+use Rattle.pg_dyn.specs.Message.{Bytes, Int, Item, Message, Plain}
+use Rattle.pg_fds.specs.Fields.{dotted}
+use Rattle.pg_fds.specs.Places.{Declared}
+use Rattle.pg_fds.specs.Said.{children_at, flag_at, item_at, maybe_flag_at, maybe_text_at, numbers_at, options_at, text_at, texts_at}
+use Rattle.pg_fds.specs.Set.{mode_code}
+use Rattle.pg_fds.specs.States.{StatesEnums}
+use Rattle.pg_fds.specs.StatesTypes.{StatesTypes, is_marked}
+
+-- ---- services
+
+-- what a method sends or answers: a full name with a dot in front
+abbrev pub StatesCalled : Declared → Option (List ℕ) → TypeId → Type 0
+StatesCalled all name id = IsSomeAnd (type_name all.types id) (λ full. name ≡ Some (dotted full))
+
+pub record StatesMethod (all : Declared) (m : Message) (d : Method) : Type 0 where
+  pub name : text_at 1 m ≡ string_bytes d.name
+  pub input : StatesCalled all (maybe_text_at 2 m) d.input
+  pub output : StatesCalled all (maybe_text_at 3 m) d.output
+  pub deprecated : maybe_flag_at 33 (options_at 4 m) ≡ d.options.deprecated
+  pub client_streaming : flag_at 5 m ≡ d.client_streaming
+  pub server_streaming : flag_at 6 m ≡ d.server_streaming
+
+pub record StatesService (all : Declared) (scope : List ℕ) (m : Message) (s : Service) : Type 0 where
+  pub name : string_bytes s.name ≡ within scope (text_at 1 m)
+  pub methods : AllZip (StatesMethod all) (children_at 2 m) s.methods.items
+  pub deprecated : maybe_flag_at 33 (options_at 3 m) ≡ s.options.deprecated
+
+-- the services at these places
+abbrev pub StatesServices : Declared → (scope : List ℕ) → List Message → List ServiceId → Type 0
+StatesServices all scope ms ids = AllZip (λ m (id : ServiceId). IsSomeAnd (slice_get all.services id.index) (StatesService all scope m)) ms ids
+
+-- ---- options of files
+
+-- java_package, java_outer_classname, optimize_for, java_multiple_files, go_package, deprecated, cc_enable_arenas,
+-- objc_class_prefix, csharp_namespace, swift_prefix, php_class_prefix, php_namespace, ruby_package
+abbrev pub option_places : List ℕ
+option_places = 1 ∷ 8 ∷ 9 ∷ 10 ∷ 11 ∷ 23 ∷ 31 ∷ 36 ∷ 37 ∷ 39 ∷ 40 ∷ 41 ∷ 45 ∷ []
+
+abbrev pub flag_number : Bool → ℤ
+flag_number true = pos 1
+flag_number false = pos 0
+
+-- the item that says it
+abbrev pub option_item : OptionValue → Item
+option_item (values.Flag flag) = Plain (Int (flag_number flag))
+option_item (values.Mode mode) = Plain (Int (pos (mode_code mode)))
+option_item (values.Text text) = Plain (Bytes (string_bytes text))
+
+-- the option of that number, where it is stated
+abbrev pub stated_option : List FileOption → ℕ → Option Item
+stated_option options number = option_map (λ (o : FileOption). option_item o.value) (find (λ (o : FileOption). nat_eq o.number number) options)
+
+-- each option is stated just as the message says it
+abbrev pub StatesOptions : Message → List FileOption → Type 0
+StatesOptions m options = AllByRecursion (λ number. item_at number m ≡ stated_option options number) option_places
+
+-- ---- files
+
+-- `google/protobuf/descriptor.proto`
+abbrev pub is_descriptor : List ℕ → Bool
+is_descriptor path = bytes_eq path (codes "google/protobuf/descriptor.proto")
+
+abbrev pub is_proto3 : Message → Bool
+is_proto3 m = bytes_eq (text_at 12 m) (codes "proto3")
+
+-- a file that is left out of the schema, as imports of it are: descriptor.proto, where it isn't proto3
+abbrev pub is_skipped : Message → Bool
+is_skipped m = is_descriptor (text_at 1 m) && not (is_proto3 m)
+
+-- The paths of imports from a place on, and whether each is among the public ones, which are numbers of places; without those of
+-- descriptor.proto where it is skipped.
+abbrev pub kept_imports : (skips : Bool) → (public : List ℤ) → (place : ℕ) → List (List ℕ) → List (List ℕ × Bool)
+kept_imports skips public place [] = []
+kept_imports skips public place (path ∷ paths) =
+    if skips && is_descriptor path then kept_imports skips public (suc place) paths
+    else (path, is_marked public place) ∷ kept_imports skips public (suc place) paths
+
+abbrev pub import_of : Import → List ℕ × Bool
+import_of i = (string_bytes i.path, i.is_public)
+
+-- the number is that of one of so many places
+abbrev pub is_place : ℕ → ℤ → Bool
+is_place count (pos place) = nat_lt place count
+is_place count (negsuc n) = false
+
+-- How deep message types may be nested: no message of a set that is read stands deeper.
+abbrev pub most_deep : ℕ
+most_deep = 100
+
+pub record StatesFile (all : Declared) (skips : Bool) (m : Message) (f : File) : Type 0 where
+  pub name : text_at 1 m ≡ string_bytes f.name
+  pub package_name : text_at 2 m ≡ string_bytes f.package
+  pub imports : kept_imports skips (numbers_at 10 m) 0 (texts_at 3 m) ≡ map import_of f.imports.items
+  pub public_places : list_all (is_place (length (texts_at 3 m))) (numbers_at 10 m) ≡ true
+  pub types : StatesTypes most_deep all (string_bytes f.package) (children_at 4 m) f.types.items
+  pub enums : StatesEnums all (string_bytes f.package) (children_at 5 m) f.enums.items
+  pub services : StatesServices all (string_bytes f.package) (children_at 6 m) f.services.items
+  pub options : StatesOptions (options_at 8 m) f.options.items
+  pub syntax : is_proto3 m ≡ true

@@ -1,0 +1,94 @@
+-- What a set's messages have to say so that they state message types, with their oneofs (descriptor.proto).
+use Rattle.std.specs.Prelude.{◌≡◌, ℕ, ◌+◌, ◌<◌, zero, suc, ℤ, pos, negsuc, ⊤, Bool, false, not, nat_eq, List, [], ◌∷◌, map, length, filter, filter_map, Option, Some, None, slice_get, slice_index_or, IsSomeAnd, if◌then◌else◌}
+use Rattle.std.specs.List.{AllZip, list_any}
+use Rattle.std.specs.String.{string_bytes}
+use Rattle.pg_schema.specs.declared.field.Field.{Field}
+use Rattle.pg_schema.specs.declared.field.TypeId.{TypeId}
+use Rattle.pg_schema.specs.declared.message_type.MessageType.{MessageType}
+use Rattle.pg_schema.specs.DeclaredNames.{within}
+use Rattle.pg_dyn.specs.Message.{Message}
+use Rattle.pg_fds.specs.Messages.{declared_fields}
+use Rattle.pg_fds.specs.Places.{Declared}
+use Rattle.pg_fds.specs.Said.{children_at, flag_at, maybe_flag_at, maybe_number_at, options_at, text_at, texts_at}
+use Rattle.pg_fds.specs.States.{StatesEntries, StatesEnums, StatesField, StatesFieldRange}
+
+-- ---- oneofs
+
+-- the number is that of the place
+abbrev pub is_at : (place : ℕ) → ℤ → Bool
+is_at place (pos n) = nat_eq n place
+is_at place (negsuc n) = false
+
+-- the place is among these numbers
+abbrev pub is_marked : List ℤ → (place : ℕ) → Bool
+is_marked numbers place = list_any (is_at place) numbers
+
+-- the flag at each of so many places says whether the place is among these numbers
+pub record AreMarked (numbers : List ℤ) (count : ℕ) (marks : List Bool) : Type 0 where
+  pub all : length marks ≡ count
+  pub each : (place : ℕ) → place < count → slice_index_or marks place false ≡ is_marked numbers place
+
+-- the field is marked `proto3_optional`
+abbrev pub is_optional : Message → Bool
+is_optional m = flag_at 17 m
+
+-- the places of synthetic oneofs: those that fields marked so name
+abbrev pub synthetic_places : List Message → List ℤ
+synthetic_places fields = filter_map (maybe_number_at 9) (filter is_optional fields)
+
+-- the oneofs at places that aren't marked, counted from that of the first
+abbrev pub real_oneofs : List ℤ → (place : ℕ) → List Message → List Message
+real_oneofs marked place [] = []
+real_oneofs marked place (m ∷ ms) = if is_marked marked place then real_oneofs marked (suc place) ms else m ∷ real_oneofs marked (suc place) ms
+
+-- a field that names the oneof at a place is a member of the real one there, by its name; one that names none, of none
+abbrev pub NamesOneof : (oneofs : List Message) → (synthetic : List ℤ) → (names : List (List ℕ)) → Option ℤ → Option ℕ → Type 0
+NamesOneof oneofs synthetic names None None = ⊤
+NamesOneof oneofs synthetic names None (Some own) = ⊥
+NamesOneof oneofs synthetic names (Some number) None = ⊥
+NamesOneof oneofs synthetic names (Some number) (Some own) =
+    (place : ℕ) × (number ≡ pos place) × (is_marked synthetic place ≡ false)
+    × IsSomeAnd (slice_get oneofs place) (λ m. slice_get names own ≡ Some (text_at 1 m))
+
+-- a field that isn't `optional` stands in the oneof that it names
+abbrev pub StandsIn : (oneofs : List Message) → (synthetic : List ℤ) → (names : List (List ℕ)) → Message → Field → Type 0
+StandsIn oneofs synthetic names m f = f.states_optional ≡ false → NamesOneof oneofs synthetic names (maybe_number_at 9 m) f.oneof
+
+-- The oneofs of a message with these fields. The real ones stand in order. Each `optional` field has one of its own, whose name and place
+-- say nothing: there are as many others as such fields, and no other field names one of them.
+pub record StatesOneofs (oneofs fields : List Message) (t : MessageType) (declared : List Field) : Type 0 where
+  pub names : map (text_at 1) (real_oneofs (synthetic_places fields) 0 oneofs) ≡ map string_bytes t.oneofs.items
+  pub as_many : length oneofs ≡ length t.oneofs.items + length (filter is_optional fields)
+  pub members : AllZip (StandsIn oneofs (synthetic_places fields) (map string_bytes t.oneofs.items)) fields declared
+
+-- ---- message types
+
+-- marked `map_entry`
+abbrev pub is_entry : Message → Bool
+is_entry m = flag_at 7 (options_at 7 m)
+
+abbrev pub is_no_entry : Message → Bool
+is_no_entry m = not (is_entry m)
+
+-- A message type declared in that scope, but for the message types inside it. Its entry types may stand anywhere among those.
+pub record StatesType (all : Declared) (scope : List ℕ) (m : Message) (t : MessageType) : Type 0 where
+  pub name : string_bytes t.name ≡ within scope (text_at 1 m)
+  pub no_entry : is_entry m ≡ false
+  pub fields : AllZip (StatesField all (string_bytes t.name)) (children_at 2 m) (declared_fields t)
+  pub entries : StatesEntries all (filter is_entry (children_at 3 m)) t.fields.items
+  pub enums : StatesEnums all (string_bytes t.name) (children_at 4 m) t.nested_enums.items
+  pub deprecated : maybe_flag_at 3 (options_at 7 m) ≡ t.options.deprecated
+  pub oneofs : StatesOneofs (children_at 8 m) (children_at 2 m) t (declared_fields t)
+  pub reserved_numbers : AllZip StatesFieldRange (children_at 9 m) t.reserved_numbers.items
+  pub reserved_names : texts_at 10 m ≡ map string_bytes t.reserved_names.items
+
+-- with those inside it, of which that is asked
+abbrev pub StatesWhole : Declared → (List ℕ → List Message → List TypeId → Type 0) → (scope : List ℕ) → Message → MessageType → Type 0
+StatesWhole all Inside scope m t =
+    StatesType all scope m t × Inside (string_bytes t.name) (filter is_no_entry (children_at 3 m)) t.nested_types.items
+
+-- the message types at these places, nested less deep than that
+abbrev pub StatesTypes : (depth : ℕ) → Declared → (scope : List ℕ) → List Message → List TypeId → Type 0
+StatesTypes zero all scope ms ids = (ms ≡ []) × (ids ≡ [])
+StatesTypes (suc depth) all scope ms ids =
+    AllZip (λ m (id : TypeId). IsSomeAnd (slice_get all.types id.index) (StatesWhole all (StatesTypes depth all) scope m)) ms ids

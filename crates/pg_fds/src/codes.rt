@@ -1,0 +1,156 @@
+//! The codes of types and labels in sets.
+
+ghost use Rattle.std.specs.Prelude.{◌≡◌, ◌&&◌, IfOk, map};
+ghost use Rattle.std.specs.List.{list_all, list_any};
+ghost use Rattle.std.specs.Ordering.{int_eq};
+ghost use Rattle.pg_dyn.specs.Kept.{message_of};
+ghost use Rattle.pg_fds.specs.Codes.{file_has_types, have_types, is_taken, label_codes, type_codes};
+ghost use Rattle.pg_fds.specs.Lent.{lent};
+
+use crate::error::Unstated;
+use crate::said::{children, number};
+use crate::states::label_of;
+use pg_dyn::Message;
+use pg_schema::Scalar;
+use std::alloc::Global;
+
+/// TYPE_MESSAGE.
+pub const MESSAGE_CODE: i128 = 11;
+
+/// TYPE_ENUM.
+pub const ENUM_CODE: i128 = 14;
+
+/// LABEL_REPEATED.
+pub const REPEATED: i128 = 3;
+
+// How deep message types may be nested.
+const MOST_DEEP: usize = 100;
+
+/// The scalar of a code. `None` of messages, enums and codes that aren't taken.
+pub fn scalar_of(code: i128) -> Option<Scalar> {
+    match code {
+        1 => Some(Scalar::Double),
+        2 => Some(Scalar::Float),
+        3 => Some(Scalar::Int64),
+        4 => Some(Scalar::Uint64),
+        5 => Some(Scalar::Int32),
+        6 => Some(Scalar::Fixed64),
+        7 => Some(Scalar::Fixed32),
+        8 => Some(Scalar::Bool),
+        9 => Some(Scalar::String),
+        12 => Some(Scalar::Bytes),
+        13 => Some(Scalar::Uint32),
+        15 => Some(Scalar::Sfixed32),
+        16 => Some(Scalar::Sfixed64),
+        17 => Some(Scalar::Sint32),
+        18 => Some(Scalar::Sint64),
+        _ => None,
+    }
+}
+
+// The codes of types that are taken: all but TYPE_GROUP.
+const TYPES: [i128; 17] = [1, 2, 3, 4, 5, 6, 7, 8, 9, 11, 12, 13, 14, 15, 16, 17, 18];
+
+// The codes of labels that are taken: LABEL_OPTIONAL, LABEL_REPEATED.
+const LABELS: [i128; 2] = [1, 3];
+
+// Whether the code is one of these.
+fn is_among(code: i128, known: &[i128]) -> bool
+    ensures { result ≡ list_any (int_eq code) known.now }
+{
+    for one in known {
+        if code == *one {
+            return true;
+        }
+    }
+    false
+}
+
+// Whether the type is taken.
+fn is_type(code: i128) -> bool
+    ensures { result ≡ list_any (int_eq code) type_codes }
+{
+    is_among(code, &TYPES)
+}
+
+// Whether the label is.
+fn is_label(code: i128) -> bool
+    ensures { result ≡ list_any (int_eq code) label_codes }
+{
+    is_among(code, &LABELS)
+}
+
+fn both(first: bool, second: bool) -> bool
+    ensures { result ≡ (first && second) }
+{
+    first && second
+}
+
+// Whether the field's type and label are taken.
+fn is_taken(field: &Message) -> Result<bool, Unstated>
+    ensures { IfOk result (λ taken. taken ≡ is_taken (message_of field.now)) }
+{
+    let code = number(field, 5)?;
+    let label = label_of(field)?;
+    let has_type = is_type(code);
+    let has_label = is_label(label);
+    Ok(both(has_type, has_label))
+}
+
+// Whether the types and labels of the fields are taken.
+fn are_taken(fields: &[&Message]) -> Result<bool, Unstated>
+    ensures { IfOk result (λ taken. taken ≡ list_all is_taken (map message_of (lent fields.now))) }
+{
+    for field in fields {
+        let taken = is_taken(field)?;
+        if !taken {
+            return Ok(false);
+        }
+    }
+    Ok(true)
+}
+
+/// Whether the types and labels of all fields of the message types are taken, nested less deep than that.
+pub fn have_types(alloc: Global, depth: usize, messages: &[&Message]) -> Result<bool, Unstated>
+    ensures { IfOk result (λ taken. taken ≡ have_types depth (map message_of (lent messages.now))) }
+{
+    if depth == 0 {
+        return Ok(true);
+    }
+    let mut all = true;
+    for message in messages {
+        let own = children(alloc, message, 2)?;
+        let fields = own.as_slice();
+        let taken = are_taken(fields)?;
+        let inside = children(alloc, message, 3)?;
+        let types = inside.as_slice();
+        let deep = have_types(alloc, depth - 1, types)?;
+        let here = both(taken, deep);
+        let so_far = both(all, here);
+        all = so_far;
+    }
+    Ok(all)
+}
+
+// Whether those of a file's message types are.
+fn file_has_types(alloc: Global, file: &Message) -> Result<bool, Unstated>
+    ensures { IfOk result (λ taken. taken ≡ file_has_types (message_of file.now)) }
+{
+    let declared = children(alloc, file, 4)?;
+    let types = declared.as_slice();
+    let taken = have_types(alloc, MOST_DEEP, types)?;
+    Ok(taken)
+}
+
+/// Whether those of all files are.
+pub fn files_have_types(alloc: Global, files: &[&Message]) -> Result<bool, Unstated>
+    ensures { IfOk result (λ taken. taken ≡ list_all file_has_types (map message_of (lent files.now))) }
+{
+    for file in files {
+        let taken = file_has_types(alloc, file)?;
+        if !taken {
+            return Ok(false);
+        }
+    }
+    Ok(true)
+}

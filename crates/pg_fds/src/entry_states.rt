@@ -1,0 +1,207 @@
+//! Whether the messages of a set state the entry types of map fields. What they don't state is told as a
+//! bad reference.
+
+ghost use Rattle.std.specs.Prelude.{◌≡◌, [], None, IfOk, OnOk, codes, length, filter, map};
+ghost use Rattle.std.specs.List.{AllByRecursion, Any};
+ghost use Rattle.pg_schema.specs.declared.field.Field.{Field};
+ghost use Rattle.pg_schema.specs.declared.field.Presence.TheVariants as presences;
+ghost use Rattle.pg_schema.specs.Shape.{is_map};
+ghost use Rattle.pg_dyn.specs.Kept.{message_of};
+ghost use Rattle.pg_dyn.specs.Message.{parts};
+ghost use Rattle.pg_fds.specs.Lent.{lent};
+ghost use Rattle.pg_fds.specs.Places.{declared_in};
+ghost use Rattle.pg_fds.specs.Said.{item_at, items_at, options_at};
+ghost use Rattle.pg_fds.specs.States.{AreKeyAndValue, HasEntry, StatesEntries, StatesEntry, StatesEntryField};
+
+use crate::error::Unstated;
+use crate::fields::{element_code, element_name};
+use crate::names::entry_name;
+use crate::said::{children, ensure, flag, item, items, number, option, text};
+use crate::states::{has_json_name, has_type_name, label_of, same_text};
+use pg_dyn::{Message, Value};
+use pg_schema::{Element, Field, Presence, Scalar, Schema, default_json_name};
+use std::alloc::Global;
+use std::collections::BTreeMap;
+
+/// The singular field is missing.
+pub fn lacks(message: &Message, number: u32) -> Result<(), Unstated>
+    ensures { OnOk result (item_at number (message_of message.now) ≡ None) }
+{
+    match item(message, number)? {
+        None => Ok(()),
+        Some(_) => Err(Unstated::Reference),
+    }
+}
+
+/// The repeated field is missing.
+pub fn lacks_all(message: &Message, number: u32) -> Result<(), Unstated>
+    ensures { OnOk result (items_at number (message_of message.now) ≡ []) }
+{
+    ensure(items(message, number)?.is_empty())
+}
+
+// The message has no content.
+fn is_empty(message: &Message) -> Result<(), Unstated>
+    ensures { OnOk result (parts (message_of message.now) ≡ []) }
+{
+    ensure(message.contents().is_empty())
+}
+
+/// The options are missing, or none is in them.
+pub fn has_no_options(message: &Message, number: u32) -> Result<(), Unstated>
+    ensures { OnOk result (parts (options_at number (message_of message.now)) ≡ []) }
+{
+    match item(message, number)? {
+        None => Ok(()),
+        Some(Value::Msg(child)) => is_empty(child),
+        Some(_) => Err(Unstated::Reference),
+    }
+}
+
+fn entry_field(
+    alloc: Global,
+    source: &Schema,
+    message: &Message,
+    name: &str,
+    place: u32,
+    element: Element,
+) -> Result<(), Unstated>
+    ensures { OnOk result (StatesEntryField (declared_in source.now) name.now place element (message_of message.now)) }
+{
+    let type_name = element_name(alloc, source, element)?;
+    let json_name = default_json_name(alloc, name)?;
+    same_text(text(message, 1)?, name)?;
+    ensure(number(message, 3)? == i128::from(place))?;
+    ensure(label_of(message)? == 1)?;
+    ensure(number(message, 5)? == i128::from(element_code(element)))?;
+    has_type_name(message, &type_name)?;
+    has_no_options(message, 8)?;
+    lacks(message, 9)?;
+    has_json_name(alloc, message, &json_name)?;
+    ensure(!flag(message, 17)?)
+}
+
+fn key_and_value(
+    alloc: Global,
+    source: &Schema,
+    messages: &[&Message],
+    key: Scalar,
+    value: Element,
+) -> Result<(), Unstated>
+    ensures { OnOk result (AreKeyAndValue (declared_in source.now) key value (map message_of (lent messages.now))) }
+{
+    match messages {
+        [first, second] => {
+            entry_field(alloc, source, first, "key", 1, Element::Scalar(key))?;
+            entry_field(alloc, source, second, "value", 2, value)
+        }
+        _ => Err(Unstated::Reference),
+    }
+}
+
+fn entry(
+    alloc: Global,
+    source: &Schema,
+    message: &Message,
+    field: &Field,
+    key: Scalar,
+) -> Result<(), Unstated>
+    ensures { OnOk result (StatesEntry (declared_in source.now) field.now key (message_of message.now)) }
+{
+    let name = entry_name(alloc, &field.name)?;
+    same_text(text(message, 1)?, &name)?;
+    let fields = children(alloc, message, 2)?;
+    key_and_value(alloc, source, &fields, key, field.element)?;
+    lacks_all(message, 3)?;
+    lacks_all(message, 4)?;
+    ensure(option(message, 7, 3)?.is_none())?;
+    lacks_all(message, 8)?;
+    lacks_all(message, 9)?;
+    lacks_all(message, 10)
+}
+
+// The places of entry types by their names.
+fn places(alloc: Global, entries: &[&Message]) -> Result<BTreeMap<String, usize>, Unstated> {
+    let mut places = BTreeMap::new(alloc);
+    for (place, message) in entries.iter().enumerate() {
+        places.insert(String::from_str(alloc, text(message, 1)?)?, place)?;
+    }
+    Ok(places)
+}
+
+// The one of these entry types that the field names, where it stands.
+fn place_of(
+    alloc: Global,
+    places: &BTreeMap<String, usize>,
+    field: &Field,
+) -> Result<usize, Unstated> {
+    let name = entry_name(alloc, &field.name)?;
+    match places.get(name.as_str()) {
+        Some(place) => Ok(*place),
+        None => Err(Unstated::Reference),
+    }
+}
+
+// The map field with that key has its entry type among these.
+fn names_entry(
+    alloc: Global,
+    source: &Schema,
+    entries: &[&Message],
+    places: &BTreeMap<String, usize>,
+    field: &Field,
+    key: Scalar,
+) -> Result<(), Unstated>
+    ensures { OnOk result (Any (StatesEntry (declared_in source.now) field.now key) (map message_of (lent entries.now))) }
+{
+    let place = place_of(alloc, places, field)?;
+    if place >= entries.len() {
+        return Err(Unstated::Reference);
+    }
+    entry(alloc, source, entries[place], field, key)?;
+    Ok(())
+}
+
+fn has_entry(
+    alloc: Global,
+    source: &Schema,
+    entries: &[&Message],
+    places: &BTreeMap<String, usize>,
+    field: &Field,
+) -> Result<(), Unstated>
+    ensures { OnOk result (HasEntry (declared_in source.now) (map message_of (lent entries.now)) field.now) }
+{
+    match field.presence {
+        Presence::Map { key } => names_entry(alloc, source, entries, places, field, key),
+        _ => Ok(()),
+    }
+}
+
+// How many of the fields are maps.
+fn map_count(fields: &[Field]) -> usize
+    ensures { result ≡ length (filter (λ (f : Field). is_map f.presence) fields.now) }
+{
+    let mut count = 0;
+    for field in fields {
+        if matches!(field.presence, Presence::Map { .. }) {
+            count += 1;
+        }
+    }
+    count
+}
+
+/// The messages state the entry types of the fields.
+pub fn entries(
+    alloc: Global,
+    source: &Schema,
+    messages: &[&Message],
+    fields: &[Field],
+) -> Result<(), Unstated>
+    ensures { OnOk result (StatesEntries (declared_in source.now) (map message_of (lent messages.now)) fields.now) }
+{
+    ensure(messages.len() == map_count(fields))?;
+    let places = places(alloc, messages)?;
+    for field in fields {
+        has_entry(alloc, source, messages, &places, field)?;
+    }
+    Ok(())
+}

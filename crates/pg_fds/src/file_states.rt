@@ -1,0 +1,208 @@
+//! Whether the messages of a set state files. What they don't state is told as a bad reference.
+
+ghost use Rattle.std.specs.Prelude.{◌≡◌, ◌&&◌, true, IfOk, OnOk, find, length, map, nat_eq, pos};
+ghost use Rattle.std.specs.List.{AllByRecursion, list_all};
+ghost use Rattle.std.specs.Option.{option_copied};
+ghost use Rattle.pg_schema.specs.declared.options.FileOption.{FileOption};
+ghost use Rattle.pg_dyn.specs.Kept.{message_of};
+ghost use Rattle.pg_fds.specs.Building.{shown};
+ghost use Rattle.pg_fds.specs.Lent.{lent};
+ghost use Rattle.pg_fds.specs.Places.{declared_in};
+ghost use Rattle.pg_fds.specs.Said.{item_at, options_at};
+ghost use Rattle.pg_fds.specs.StatesFiles.{StatesFile, StatesOptions, import_of, is_descriptor, is_place, is_proto3, is_skipped, kept_imports, most_deep, option_item, stated_option};
+ghost use Rattle.pg_fds.specs.StatesTypes.{AreMarked};
+
+use crate::error::Unstated;
+use crate::files::mode_code;
+use crate::oneof_states::marks;
+use crate::said::{children, ensure, item, numbers, text, texts};
+use crate::service_states::services;
+use crate::states::{enums, same_text};
+use crate::type_states::types;
+use pg_dyn::{Message, Value};
+use pg_schema::{File, FileOption, Import, OptionValue, Schema};
+use std::alloc::Global;
+
+// In order: java_package, java_outer_classname, optimize_for,
+// java_multiple_files, go_package, deprecated, cc_enable_arenas, objc_class_prefix, csharp_namespace,
+// swift_prefix, php_class_prefix, php_namespace, ruby_package.
+/// The options of files that are taken.
+pub const OPTIONS: [u32; 13] = [1, 8, 9, 10, 11, 23, 31, 36, 37, 39, 40, 41, 45];
+
+// How deep message types may be nested.
+const MOST_DEEP: usize = 100;
+
+/// Whether the path is that of descriptor.proto.
+pub fn is_descriptor(path: &str) -> bool
+    ensures { result ≡ is_descriptor path.now }
+{
+    path == "google/protobuf/descriptor.proto"
+}
+
+/// Whether the file is proto3.
+pub fn is_proto3(message: &Message) -> Result<bool, Unstated>
+    ensures { IfOk result (λ proto3. proto3 ≡ is_proto3 (message_of message.now)) }
+{
+    Ok(text(message, 12)? == "proto3")
+}
+
+/// Whether the file is skipped: descriptor.proto, where it isn't proto3.
+pub fn is_skipped(message: &Message) -> Result<bool, Unstated>
+    ensures { IfOk result (λ skipped. skipped ≡ is_skipped (message_of message.now)) }
+{
+    if !is_descriptor(text(message, 1)?) {
+        return Ok(false);
+    }
+    Ok(!is_proto3(message)?)
+}
+
+// ---- options
+
+fn option_value(value: &Value, stated: &OptionValue) -> Result<(), Unstated>
+    ensures { OnOk result (shown value.now ≡ option_item stated.now) }
+{
+    match (value, stated) {
+        (Value::Int(found), OptionValue::Flag(flag)) => {
+            ensure(*found == if *flag { 1 } else { 0 })
+        }
+        (Value::Int(found), OptionValue::Mode(mode)) => {
+            ensure(*found == i128::from(mode_code(*mode)))
+        }
+        (Value::Text(found), OptionValue::Text(text)) => same_text(found, text),
+        _ => Err(Unstated::Reference),
+    }
+}
+
+// The option of that number.
+fn stated(options: &[FileOption], number: u32) -> Option<&FileOption>
+    ensures { option_copied result ≡ find (λ (o : FileOption). nat_eq o.number number) options.now }
+{
+    for option in options {
+        if option.number == number {
+            return Some(option);
+        }
+    }
+    None
+}
+
+fn has_option(message: &Message, options: &[FileOption], number: u32) -> Result<(), Unstated>
+    ensures { OnOk result (item_at number (message_of message.now) ≡ stated_option options.now number) }
+{
+    match (item(message, number)?, stated(options, number)) {
+        (None, None) => Ok(()),
+        (Some(value), Some(option)) => option_value(value, &option.value),
+        _ => Err(Unstated::Reference),
+    }
+}
+
+// The message says the options.
+fn has_options(message: &Message, options: &[FileOption]) -> Result<(), Unstated>
+    ensures { OnOk result (StatesOptions (message_of message.now) options.now) }
+{
+    for number in OPTIONS {
+        has_option(message, options, number)?;
+    }
+    Ok(())
+}
+
+// The options that the file's message says.
+fn options(message: &Message, options: &[FileOption]) -> Result<(), Unstated>
+    ensures { OnOk result (StatesOptions (options_at 8 (message_of message.now)) options.now) }
+{
+    match item(message, 8)? {
+        None => ensure(options.is_empty()),
+        Some(Value::Msg(child)) => has_options(child, options),
+        Some(_) => Err(Unstated::Reference),
+    }
+}
+
+// ---- imports
+
+// Each number is that of one of so many places.
+fn are_places(numbers: &[u32], count: usize) -> Result<(), Unstated>
+    ensures { OnOk result (list_all (is_place count) (map pos numbers.now) ≡ true) }
+{
+    for number in numbers {
+        if *number as usize >= count {
+            return Err(Unstated::Reference);
+        }
+    }
+    Ok(())
+}
+
+/// Whether an import of the path is left out, where descriptor.proto is skipped or not.
+pub fn is_left_out(skips: bool, path: &str) -> bool
+    ensures { result ≡ (skips && is_descriptor path.now) }
+{
+    if !skips {
+        return false;
+    }
+    is_descriptor(path)
+}
+
+// The paths from a place on are those of the imports, without those that are skipped.
+fn kept_imports(
+    skips: bool,
+    public: &[u32],
+    marks: &[bool],
+    paths: &[&str],
+    imports: &[Import],
+) -> Result<(), Unstated>
+    requires { AreMarked (map pos public.now) (length paths.now) marks.now }
+    ensures { OnOk result (kept_imports skips (map pos public.now) 0 (lent paths.now) ≡ map import_of imports.now) }
+{
+    let mut next = 0;
+    for (place, path) in paths.iter().enumerate() {
+        if is_left_out(skips, path) {
+            continue;
+        }
+        if next >= imports.len() {
+            return Err(Unstated::Reference);
+        }
+        same_text(path, &imports[next].path)?;
+        ensure(marks[place] == imports[next].is_public)?;
+        next += 1;
+    }
+    ensure(next == imports.len())
+}
+
+// ---- files
+
+/// The message states the file.
+pub fn file(
+    alloc: Global,
+    source: &Schema,
+    skips: bool,
+    message: &Message,
+    declared: &File,
+) -> Result<(), Unstated>
+    ensures { OnOk result (StatesFile (declared_in source.now) skips (message_of message.now) declared.now) }
+{
+    let paths = texts(alloc, message, 3)?;
+    let public = numbers(alloc, message, 10)?;
+    let marks = marks(alloc, &public, paths.len())?;
+    let scope = declared.package.as_str();
+    same_text(text(message, 1)?, &declared.name)?;
+    same_text(text(message, 2)?, scope)?;
+    kept_imports(skips, &public, &marks, &paths, &declared.imports)?;
+    are_places(&public, paths.len())?;
+    let inside = children(alloc, message, 4)?;
+    types(alloc, source, MOST_DEEP, scope, &inside, &declared.types)?;
+    enums(
+        alloc,
+        source,
+        scope,
+        &children(alloc, message, 5)?,
+        &declared.enums,
+    )?;
+    services(
+        alloc,
+        source,
+        scope,
+        &children(alloc, message, 6)?,
+        &declared.services,
+    )?;
+    options(message, &declared.options)?;
+    ensure(is_proto3(message)?)?;
+    Ok(())
+}

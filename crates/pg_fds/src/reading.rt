@@ -1,0 +1,152 @@
+//! Descriptor sets, read.
+
+ghost use Rattle.std.specs.Prelude.{◌≡◌, Some, IfErr, IfOk, map};
+ghost use Rattle.std.specs.List.{list_all};
+ghost use Rattle.pg_schema.specs.declared.parts.Parts.{Parts};
+ghost use Rattle.pg_check.specs.PartErrors.{IsRefusedOf};
+ghost use Rattle.pg_dyn.specs.Decoding.{dec};
+ghost use Rattle.pg_dyn.specs.Kept.{message_of};
+ghost use Rattle.pg_fds.specs.Building.{written_shape};
+ghost use Rattle.pg_fds.specs.Descriptor.{file_set};
+ghost use Rattle.pg_fds.specs.Lent.{lent};
+ghost use Rattle.pg_fds.specs.Reads.{States, StatesFiles, fds_reads, kept_files};
+ghost use Rattle.pg_fds.specs.Refused.{IsOfParts, MayRefuseFiles, MayRefuseSet};
+ghost use Rattle.pg_fds.specs.StatesFiles.{is_proto3};
+
+use crate::codes::files_have_types;
+use crate::descriptor::descriptor_schema;
+use crate::error::{FdsError, Unstated};
+use crate::file_states::is_proto3;
+use crate::made_files::made_parts;
+use crate::order::order;
+use crate::outline::outline_files;
+use crate::places::SET;
+use crate::said::children;
+use crate::set_states::{kept, skips, states_files};
+use pg_check::{CheckError, admit};
+use pg_dyn::{DynError, Message, decode};
+use pg_schema::{Parts, Schema};
+use std::alloc::Global;
+
+// How deep messages may be nested.
+const MOST_DEEP: usize = 100;
+
+// The message of a set.
+fn decoded(alloc: Global, bytes: &[u8]) -> Result<Message, FdsError>
+    ensures message { IfOk result (λ set. dec written_shape file_set bytes.now ≡ Some (message_of set)) }
+    ensures refused { IfErr result (MayRefuseSet bytes.now) }
+{
+    let table = descriptor_schema(alloc)?;
+    match decode(alloc, &table, SET, bytes, MOST_DEEP) {
+        Ok(set) => Ok(set),
+        Err(DynError::Memory) => Err(FdsError::Memory),
+        Err(error) => Err(FdsError::Bytes(error)),
+    }
+}
+
+// Whether the files are all proto3.
+fn are_proto3(files: &[&Message]) -> Result<bool, Unstated>
+    ensures { IfOk result (λ all. all ≡ list_all is_proto3 (map message_of (lent files.now))) }
+{
+    for file in files {
+        let proto3 = is_proto3(file)?;
+        if !proto3 {
+            return Ok(false);
+        }
+    }
+    Ok(true)
+}
+
+// The parts that the files declare, in that order.
+fn parts(
+    alloc: Global,
+    skips: bool,
+    files: &[&Message],
+    order: &[usize],
+) -> Result<Parts, Unstated> {
+    let outline = outline_files(alloc, MOST_DEEP, files, order)?;
+    made_parts(alloc, skips, &outline)
+}
+
+// What is told of parts that are refused so.
+fn told(error: CheckError) -> FdsError
+    ensures { (parts : Parts) → IsRefusedOf parts error → IsOfParts result }
+{
+    match error {
+        CheckError::Memory => FdsError::Memory,
+        _ => FdsError::Rule(error),
+    }
+}
+
+// The schema of the parts, where they keep to the rules.
+fn admitted(alloc: Global, parts: Parts) -> Result<Schema, FdsError>
+    ensures { IfErr result IsOfParts }
+{
+    match admit(alloc, parts) {
+        Ok(schema) => Ok(schema),
+        Err(error) => Err(told(error)),
+    }
+}
+
+// The schema that the files state, which are proto3 and have types that are taken.
+#[tactic(auto, using(crate::proofs::ReadLaws::refused_parts))]
+fn kept_schema(alloc: Global, skips: bool, files: &[&Message]) -> Result<Schema, FdsError>
+    ensures ok { IfOk result (λ schema. StatesFiles skips (map message_of (lent files.now)) schema) }
+    ensures refused { IfErr result IsOfParts }
+{
+    let order = order(alloc, skips, files)?;
+    let places = order.as_slice();
+    let parts = parts(alloc, skips, files, places)?;
+    let schema = admitted(alloc, parts)?;
+    states_files(alloc, &schema, skips, files, places)?;
+    Ok(schema)
+}
+
+// The schema that the files state.
+#[tactic(auto, using(crate::proofs::ReadLaws::refused_early))]
+fn files_schema(alloc: Global, skips: bool, files: &[&Message]) -> Result<Schema, FdsError>
+    ensures ok { IfOk result (λ schema. StatesFiles skips (map message_of (lent files.now)) schema) }
+    ensures refused { IfErr result (MayRefuseFiles (map message_of (lent files.now))) }
+{
+    let proto3 = are_proto3(files)?;
+    if !proto3 {
+        return Err(FdsError::NotProto3);
+    }
+    let typed = files_have_types(alloc, files)?;
+    if !typed {
+        return Err(FdsError::BadType);
+    }
+    kept_schema(alloc, skips, files)
+}
+
+// The schema that a set's message states.
+#[tactic(auto, using(crate::proofs::ReadLaws::refused_early))]
+fn set_schema(alloc: Global, set: &Message) -> Result<Schema, FdsError>
+    ensures ok { IfOk result (λ schema. States (message_of set.now) schema) }
+    ensures refused { IfErr result (MayRefuseFiles (kept_files (message_of set.now))) }
+{
+    let all_files = children(alloc, set, 1)?;
+    let all = all_files.as_slice();
+    let skips = skips(all)?;
+    let kept_files = kept(alloc, all)?;
+    let files = kept_files.as_slice();
+    files_schema(alloc, skips, files)
+}
+
+/// The schema that the bytes of a descriptor set state (descriptor.proto; docs/MODEL.md, "Descriptor
+/// sets"). Files may come in any order; those of the schema stand behind those that they import.
+///
+/// The errors, over the whole set and in this order: `Bytes` where the codec refuses the bytes, with
+/// messages nested at most 100 deep; `NotProto3` where a file isn't proto3; `BadType` where a field has a
+/// type or a label that isn't taken, or no type; `BadReference` where an import or a name isn't there,
+/// stands twice or is of another kind, imports go round, a place is none, or an `optional` field or an
+/// entry type hasn't its form; `Rule` with the error of the first rule that what is declared breaks. A
+/// file `google/protobuf/descriptor.proto` that isn't proto3 is left out, as are imports of it.
+/// `Memory` may come in place of any.
+pub fn read(alloc: Global, bytes: &[u8]) -> Result<Schema, FdsError>
+    ensures ok { IfOk result (λ schema. fds_reads bytes.now schema) }
+    ensures refused { IfErr result (MayRefuseSet bytes.now) }
+{
+    let set = decoded(alloc, bytes)?;
+    set_schema(alloc, &set)
+}

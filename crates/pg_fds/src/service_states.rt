@@ -1,0 +1,122 @@
+//! Whether the messages of a set state services. What they don't state is told as a bad reference.
+
+ghost use Rattle.std.specs.Prelude.{◌≡◌, OnOk, map, option_map, slice_get, IsSomeAnd};
+ghost use Rattle.std.specs.List.{AllZip};
+ghost use Rattle.std.specs.String.{string_bytes};
+ghost use Rattle.pg_dyn.specs.Kept.{message_of};
+ghost use Rattle.pg_fds.specs.Lent.{lent};
+ghost use Rattle.pg_fds.specs.Places.{declared_in};
+ghost use Rattle.pg_fds.specs.Said.{maybe_text_at};
+ghost use Rattle.pg_fds.specs.StatesFiles.{StatesCalled, StatesMethod, StatesService, StatesServices};
+
+use crate::error::Unstated;
+use crate::names::dotted;
+use crate::said::{children, ensure, flag, maybe_text, option, text};
+use crate::states::{is_within, same_text};
+use pg_dyn::Message;
+use pg_schema::{Method, Schema, Service, ServiceId, TypeId};
+use std::alloc::Global;
+
+// What the field with that number names is the message type.
+fn called(
+    alloc: Global,
+    source: &Schema,
+    message: &Message,
+    number: u32,
+    id: TypeId,
+) -> Result<(), Unstated>
+    ensures { OnOk result (StatesCalled (declared_in source.now) (maybe_text_at number (message_of message.now)) id) }
+{
+    let Some(declared) = source.message_type(id) else {
+        return Err(Unstated::Reference);
+    };
+    let Some(name) = maybe_text(message, number)? else {
+        return Err(Unstated::Reference);
+    };
+    let full = dotted(alloc, &declared.name)?;
+    same_text(name, &full)?;
+    Ok(())
+}
+
+fn method(
+    alloc: Global,
+    source: &Schema,
+    message: &Message,
+    declared: &Method,
+) -> Result<(), Unstated>
+    ensures { OnOk result (StatesMethod (declared_in source.now) (message_of message.now) declared.now) }
+{
+    same_text(text(message, 1)?, &declared.name)?;
+    called(alloc, source, message, 2, declared.input)?;
+    called(alloc, source, message, 3, declared.output)?;
+    ensure(option(message, 4, 33)? == declared.options.deprecated)?;
+    ensure(flag(message, 5)? == declared.client_streaming)?;
+    ensure(flag(message, 6)? == declared.server_streaming)
+}
+
+fn methods(
+    alloc: Global,
+    source: &Schema,
+    messages: &[&Message],
+    declared: &[Method],
+) -> Result<(), Unstated>
+    ensures { OnOk result (AllZip (StatesMethod (declared_in source.now)) (map message_of (lent messages.now)) declared.now) }
+{
+    ensure(messages.len() == declared.len())?;
+    for (place, message) in messages.iter().enumerate() {
+        method(alloc, source, message, &declared[place])?;
+    }
+    Ok(())
+}
+
+fn service(
+    alloc: Global,
+    source: &Schema,
+    scope: &str,
+    message: &Message,
+    declared: &Service,
+) -> Result<(), Unstated>
+    ensures { OnOk result (StatesService (declared_in source.now) scope.now (message_of message.now) declared.now) }
+{
+    is_within(alloc, scope, text(message, 1)?, &declared.name)?;
+    methods(
+        alloc,
+        source,
+        &children(alloc, message, 2)?,
+        &declared.methods,
+    )?;
+    ensure(option(message, 3, 33)? == declared.options.deprecated)
+}
+
+fn service_at(
+    alloc: Global,
+    source: &Schema,
+    scope: &str,
+    message: &Message,
+    id: ServiceId,
+) -> Result<(), Unstated>
+    ensures { OnOk result (IsSomeAnd (slice_get source.now.services.items id.index) (StatesService (declared_in source.now) scope.now (message_of message.now))) }
+{
+    let parts = source.parts();
+    match parts.services.get(id.index as usize) {
+        Some(declared) => service(alloc, source, scope, message, declared),
+        None => Err(Unstated::Reference),
+    }
+}
+
+/// The messages state the services at these places.
+pub fn services(
+    alloc: Global,
+    source: &Schema,
+    scope: &str,
+    messages: &[&Message],
+    ids: &[ServiceId],
+) -> Result<(), Unstated>
+    ensures { OnOk result (StatesServices (declared_in source.now) scope.now (map message_of (lent messages.now)) ids.now) }
+{
+    ensure(messages.len() == ids.len())?;
+    for (place, message) in messages.iter().enumerate() {
+        service_at(alloc, source, scope, message, ids[place])?;
+    }
+    Ok(())
+}

@@ -1,0 +1,153 @@
+//! Whether the files of a set state a schema. What it doesn't state is told as a bad reference.
+
+ghost use Rattle.std.specs.Prelude.{◌≡◌, [], true, not, IfOk, OnOk, ℕ, List, filter, map};
+ghost use Rattle.std.specs.List.{AllByRecursion, Any, list_any};
+ghost use Rattle.std.specs.String.{string_bytes};
+ghost use Rattle.pg_schema.specs.declared.file.File.{File};
+ghost use Rattle.pg_schema.specs.Pairs.{are_distinct};
+ghost use Rattle.pg_schema.specs.TextSets.{IsSetOf};
+ghost use Rattle.pg_dyn.specs.Kept.{message_of};
+ghost use Rattle.pg_fds.specs.Lent.{lent};
+ghost use Rattle.pg_fds.specs.Places.{declared_in};
+ghost use Rattle.pg_fds.specs.Reads.{AreBehind, StatesFiles, imports_among};
+ghost use Rattle.pg_fds.specs.Said.{text_at};
+ghost use Rattle.pg_fds.specs.StatesFiles.{StatesFile, is_skipped};
+
+use crate::error::Unstated;
+use crate::file_states::{file, is_skipped};
+use crate::said::{ensure, text};
+use pg_dyn::Message;
+use pg_schema::{File, Import, Schema};
+use std::alloc::Global;
+use std::collections::BTreeSet;
+
+/// Whether one of the files is skipped.
+pub fn skips(files: &[&Message]) -> Result<bool, Unstated>
+    ensures { IfOk result (λ skips. skips ≡ list_any is_skipped (map message_of (lent files.now))) }
+{
+    for file in files {
+        let skipped = is_skipped(file)?;
+        if skipped {
+            return Ok(true);
+        }
+    }
+    Ok(false)
+}
+
+/// The files that aren't skipped, in their order.
+pub fn kept<'a>(alloc: Global, files: &[&'a Message]) -> Result<Vec<&'a Message>, Unstated>
+    ensures { IfOk result (λ kept. map message_of (lent kept.items) ≡ filter (λ m. not (is_skipped m)) (map message_of (lent files.now))) }
+{
+    let mut kept = Vec::new(alloc);
+    for file in files {
+        if !is_skipped(file)? {
+            kept.push(*file)?;
+        }
+    }
+    Ok(kept)
+}
+
+// What the message is called.
+fn name_of(alloc: Global, message: &Message) -> Result<String, Unstated>
+    ensures { IfOk result (λ name. string_bytes name ≡ text_at 1 (message_of message.now)) }
+{
+    let name = text(message, 1)?;
+    Ok(String::from_str(alloc, name)?)
+}
+
+// No two files have one name.
+fn are_distinct(alloc: Global, files: &[&Message]) -> Result<(), Unstated>
+    ensures { OnOk result (are_distinct (map (text_at 1) (map message_of (lent files.now))) ≡ true) }
+{
+    let mut names = BTreeSet::new(alloc);
+    for file in files {
+        let name = name_of(alloc, file)?;
+        let is_new = names.insert(name)?;
+        if !is_new {
+            return Err(Unstated::Reference);
+        }
+    }
+    Ok(())
+}
+
+// What is imported is among the names.
+fn has_imports(names: &BTreeSet<String>, imports: &[Import]) -> Result<(), Unstated>
+    ensures { OnOk result ((texts : List (List ℕ)) → IsSetOf texts names.now → imports_among texts imports.now ≡ true) }
+{
+    for import in imports {
+        ensure(names.contains(import.path.as_str()))?;
+    }
+    Ok(())
+}
+
+// Each file has a name of its own, and stands behind those that it imports.
+fn are_behind(alloc: Global, files: &[File]) -> Result<(), Unstated>
+    ensures { OnOk result (AreBehind [] files.now) }
+{
+    let mut names = BTreeSet::new(alloc);
+    for file in files {
+        let imports = file.imports.as_slice();
+        has_imports(&names, imports)?;
+        let is_new = names.insert(file.name.clone()?)?;
+        if !is_new {
+            return Err(Unstated::Reference);
+        }
+    }
+    Ok(())
+}
+
+// One of the messages states the file: the one at the place.
+fn states_file(
+    alloc: Global,
+    source: &Schema,
+    skips: bool,
+    messages: &[&Message],
+    place: usize,
+    declared: &File,
+) -> Result<(), Unstated>
+    ensures { OnOk result (Any (λ m. StatesFile (declared_in source.now) skips m declared.now) (map message_of (lent messages.now))) }
+{
+    if place >= messages.len() {
+        return Err(Unstated::Reference);
+    }
+    file(alloc, source, skips, messages[place], declared)?;
+    Ok(())
+}
+
+// The messages state the files, each the one at its place.
+fn states_each(
+    alloc: Global,
+    source: &Schema,
+    skips: bool,
+    messages: &[&Message],
+    places: &[usize],
+    files: &[File],
+) -> Result<(), Unstated>
+    ensures { OnOk result (AllByRecursion (λ (f : File). Any (λ m. StatesFile (declared_in source.now) skips m f) (map message_of (lent messages.now))) files.now) }
+{
+    ensure(places.len() == files.len())?;
+    for (next, declared) in files.iter().enumerate() {
+        states_file(alloc, source, skips, messages, places[next], declared)?;
+    }
+    Ok(())
+}
+
+/// The files that aren't skipped state the schema, whose files are those at these places.
+pub fn states_files(
+    alloc: Global,
+    source: &Schema,
+    skips: bool,
+    messages: &[&Message],
+    places: &[usize],
+) -> Result<(), Unstated>
+    ensures { OnOk result (StatesFiles skips (map message_of (lent messages.now)) source.now) }
+{
+    let files = source.parts().files.as_slice();
+    are_distinct(alloc, messages)?;
+    if messages.len() != files.len() {
+        return Err(Unstated::Reference);
+    }
+    states_each(alloc, source, skips, messages, places, files)?;
+    are_behind(alloc, files)?;
+    Ok(())
+}

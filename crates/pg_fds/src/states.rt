@@ -1,0 +1,227 @@
+//! Whether the messages of a set state enums, fields and the entry types of map fields. What they don't
+//! state is told as a bad reference.
+
+ghost use Rattle.std.specs.Prelude.{◌≡◌, true, IfOk, OnOk, length, map, option_map, slice_get, IsSomeAnd};
+ghost use Rattle.std.specs.List.{AllZip};
+ghost use Rattle.std.specs.String.{string_bytes};
+ghost use Rattle.pg_schema.specs.DeclaredNames.{within};
+ghost use Rattle.pg_dyn.specs.Kept.{message_of};
+ghost use Rattle.pg_fds.specs.Lent.{lent};
+ghost use Rattle.pg_fds.specs.Places.{declared_in};
+ghost use Rattle.pg_fds.specs.Said.{maybe_text_at};
+ghost use Rattle.pg_fds.specs.States.{StatesEnum, StatesEnums, StatesField, StatesFieldRange, StatesValue, StatesValueRange, json_name_at, label_at};
+
+use crate::error::Unstated;
+use crate::fields::{label, named_type, type_code};
+use crate::names::{dotted, dotted_within};
+use crate::said::{children, ensure, flag, maybe_number, maybe_text, number, option, text, texts};
+use pg_dyn::Message;
+use pg_schema::{
+    EnumId, EnumType, EnumValue, Field, ReservedFields, ReservedValues, Schema, default_json_name,
+};
+use std::alloc::Global;
+
+/// The texts are one.
+pub fn same_text(found: &str, stated: &str) -> Result<(), Unstated>
+    ensures { OnOk result (found.now ≡ stated.now) }
+{
+    ensure(found == stated)
+}
+
+/// The texts are the same, one by one.
+pub fn same_texts(found: &[&str], stated: &[String]) -> Result<(), Unstated>
+    ensures { OnOk result (lent found.now ≡ map string_bytes stated.now) }
+{
+    ensure(found.len() == stated.len())?;
+    for (place, text) in found.iter().enumerate() {
+        same_text(text, &stated[place])?;
+    }
+    Ok(())
+}
+
+/// The full name is that of a name which the scope declares.
+pub fn is_within(alloc: Global, scope: &str, own: &str, full: &str) -> Result<(), Unstated>
+    ensures { OnOk result (full.now ≡ within scope.now own.now) }
+{
+    let stated = dotted_within(alloc, scope, own)?;
+    let declared = dotted(alloc, full)?;
+    same_text(&declared, &stated)
+}
+
+// ---- enums
+
+fn value(message: &Message, declared: &EnumValue) -> Result<(), Unstated>
+    ensures { OnOk result (StatesValue (message_of message.now) declared.now) }
+{
+    same_text(text(message, 1)?, &declared.name)?;
+    ensure(number(message, 2)? == i128::from(declared.number))?;
+    ensure(option(message, 3, 1)? == declared.options.deprecated)
+}
+
+fn values(messages: &[&Message], declared: &[EnumValue]) -> Result<(), Unstated>
+    ensures { OnOk result (AllZip StatesValue (map message_of (lent messages.now)) declared.now) }
+{
+    ensure(messages.len() == declared.len())?;
+    for (place, message) in messages.iter().enumerate() {
+        value(message, &declared[place])?;
+    }
+    Ok(())
+}
+
+fn value_range(message: &Message, declared: ReservedValues) -> Result<(), Unstated>
+    ensures { OnOk result (StatesValueRange (message_of message.now) declared) }
+{
+    ensure(number(message, 1)? == i128::from(declared.first))?;
+    ensure(number(message, 2)? == i128::from(declared.last))
+}
+
+fn value_ranges(messages: &[&Message], declared: &[ReservedValues]) -> Result<(), Unstated>
+    ensures { OnOk result (AllZip StatesValueRange (map message_of (lent messages.now)) declared.now) }
+{
+    ensure(messages.len() == declared.len())?;
+    for (place, message) in messages.iter().enumerate() {
+        value_range(message, declared[place])?;
+    }
+    Ok(())
+}
+
+fn enum_type(
+    alloc: Global,
+    scope: &str,
+    message: &Message,
+    declared: &EnumType,
+) -> Result<(), Unstated>
+    ensures { OnOk result (StatesEnum scope.now (message_of message.now) declared.now) }
+{
+    is_within(alloc, scope, text(message, 1)?, &declared.name)?;
+    values(&children(alloc, message, 2)?, &declared.values)?;
+    ensure(option(message, 3, 2)? == declared.options.allow_alias)?;
+    ensure(option(message, 3, 3)? == declared.options.deprecated)?;
+    value_ranges(&children(alloc, message, 4)?, &declared.reserved_numbers)?;
+    same_texts(&texts(alloc, message, 5)?, &declared.reserved_names)
+}
+
+fn enum_at(
+    alloc: Global,
+    source: &Schema,
+    scope: &str,
+    message: &Message,
+    id: EnumId,
+) -> Result<(), Unstated>
+    ensures { OnOk result (IsSomeAnd (slice_get source.now.enums.items id.index) (StatesEnum scope.now (message_of message.now))) }
+{
+    match source.enum_type(id) {
+        Some(declared) => enum_type(alloc, scope, message, declared),
+        None => Err(Unstated::Reference),
+    }
+}
+
+/// The messages state the enums at these places.
+pub fn enums(
+    alloc: Global,
+    source: &Schema,
+    scope: &str,
+    messages: &[&Message],
+    ids: &[EnumId],
+) -> Result<(), Unstated>
+    ensures { OnOk result (StatesEnums (declared_in source.now) scope.now (map message_of (lent messages.now)) ids.now) }
+{
+    ensure(messages.len() == ids.len())?;
+    for (place, message) in messages.iter().enumerate() {
+        enum_at(alloc, source, scope, message, ids[place])?;
+    }
+    Ok(())
+}
+
+// ---- fields
+
+/// The label of a field, LABEL_OPTIONAL where it is missing.
+pub fn label_of(message: &Message) -> Result<i128, Unstated>
+    ensures { IfOk result (λ label. label ≡ label_at (message_of message.now)) }
+{
+    match maybe_number(message, 4)? {
+        Some(label) => Ok(label),
+        None => Ok(1),
+    }
+}
+
+/// The field has this JSON name, given or default.
+pub fn has_json_name(alloc: Global, message: &Message, stated: &str) -> Result<(), Unstated>
+    ensures { OnOk result (json_name_at (message_of message.now) ≡ stated.now) }
+{
+    match maybe_text(message, 10)? {
+        Some(given) => same_text(given, stated),
+        None => {
+            let default = default_json_name(alloc, text(message, 1)?)?;
+            same_text(&default, stated)
+        }
+    }
+}
+
+/// The field names this type, or none.
+pub fn has_type_name(message: &Message, stated: &Option<String>) -> Result<(), Unstated>
+    ensures { OnOk result (maybe_text_at 6 (message_of message.now) ≡ option_map string_bytes stated.now) }
+{
+    match (maybe_text(message, 6)?, stated) {
+        (Some(found), Some(name)) => same_text(found, name),
+        (None, None) => Ok(()),
+        _ => Err(Unstated::Reference),
+    }
+}
+
+fn field(
+    alloc: Global,
+    source: &Schema,
+    scope: &str,
+    message: &Message,
+    declared: &Field,
+) -> Result<(), Unstated>
+    ensures { OnOk result (StatesField (declared_in source.now) scope.now (message_of message.now) declared.now) }
+{
+    let code = type_code(declared.presence, declared.element);
+    let type_name = named_type(alloc, source, scope, declared)?;
+    same_text(text(message, 1)?, &declared.name)?;
+    ensure(number(message, 3)? == i128::from(declared.number))?;
+    ensure(label_of(message)? == i128::from(label(declared.presence)))?;
+    ensure(number(message, 5)? == i128::from(code))?;
+    has_type_name(message, &type_name)?;
+    ensure(option(message, 8, 2)? == declared.options.packed)?;
+    ensure(option(message, 8, 3)? == declared.options.deprecated)?;
+    has_json_name(alloc, message, &declared.json_name)?;
+    ensure(flag(message, 17)? == declared.states_optional)
+}
+
+/// The messages state the fields, of a message type of that full name.
+pub fn fields(
+    alloc: Global,
+    source: &Schema,
+    scope: &str,
+    messages: &[&Message],
+    declared: &[&Field],
+) -> Result<(), Unstated>
+    ensures { OnOk result (AllZip (StatesField (declared_in source.now) scope.now) (map message_of (lent messages.now)) (lent declared.now)) }
+{
+    ensure(messages.len() == declared.len())?;
+    for (place, message) in messages.iter().enumerate() {
+        field(alloc, source, scope, message, declared[place])?;
+    }
+    Ok(())
+}
+
+fn field_range(message: &Message, declared: ReservedFields) -> Result<(), Unstated>
+    ensures { OnOk result (StatesFieldRange (message_of message.now) declared) }
+{
+    ensure(number(message, 1)? == i128::from(declared.first))?;
+    ensure(number(message, 2)? == i128::from(declared.last) + 1)
+}
+
+/// The messages state the reserved field numbers.
+pub fn field_ranges(messages: &[&Message], declared: &[ReservedFields]) -> Result<(), Unstated>
+    ensures { OnOk result (AllZip StatesFieldRange (map message_of (lent messages.now)) declared.now) }
+{
+    ensure(messages.len() == declared.len())?;
+    for (place, message) in messages.iter().enumerate() {
+        field_range(message, declared[place])?;
+    }
+    Ok(())
+}

@@ -1,0 +1,138 @@
+//! Whether the messages of a set state message types. What they don't state is told as a bad reference.
+
+ghost use Rattle.std.specs.Prelude.{◌≡◌, [], IfOk, OnOk, Some, filter, map, slice_get, IsSomeAnd};
+ghost use Rattle.pg_dyn.specs.Kept.{message_of};
+ghost use Rattle.pg_schema.specs.Parts.{type_at};
+ghost use Rattle.pg_fds.specs.Lent.{lent};
+ghost use Rattle.pg_fds.specs.Messages.{declared_fields};
+ghost use Rattle.pg_fds.specs.Places.{declared_in};
+ghost use Rattle.pg_fds.specs.StatesTypes.{StatesType, StatesTypes, StatesWhole, is_entry, is_no_entry};
+
+use crate::entry_states::entries;
+use crate::error::Unstated;
+use crate::oneof_states::oneofs;
+use crate::said::{children, ensure, option, text, texts};
+use crate::states::{enums, field_ranges, fields, is_within, same_texts};
+use pg_dyn::Message;
+use pg_schema::{Field, MessageType, Schema, TypeId};
+use std::alloc::Global;
+
+/// Whether the message is marked `map_entry`.
+pub fn is_entry(message: &Message) -> Result<bool, Unstated>
+    ensures { IfOk result (λ entry. entry ≡ is_entry (message_of message.now)) }
+{
+    match option(message, 7, 7)? {
+        Some(flag) => Ok(flag),
+        None => Ok(false),
+    }
+}
+
+/// Those of the messages that are entry types, in their order.
+pub fn entries_of<'a>(alloc: Global, messages: &[&'a Message]) -> Result<Vec<&'a Message>, Unstated>
+    ensures { IfOk result (λ found. map message_of (lent found.items) ≡ filter is_entry (map message_of (lent messages.now))) }
+{
+    let mut found = Vec::new(alloc);
+    for message in messages {
+        if is_entry(message)? {
+            found.push(*message)?;
+        }
+    }
+    Ok(found)
+}
+
+/// Those of the messages that aren't, in their order.
+pub fn types_of<'a>(alloc: Global, messages: &[&'a Message]) -> Result<Vec<&'a Message>, Unstated>
+    ensures { IfOk result (λ found. map message_of (lent found.items) ≡ filter is_no_entry (map message_of (lent messages.now))) }
+{
+    let mut found = Vec::new(alloc);
+    for message in messages {
+        if !is_entry(message)? {
+            found.push(*message)?;
+        }
+    }
+    Ok(found)
+}
+
+// The fields of the message type at that place, in order of declaration.
+fn declared_fields<'a>(
+    alloc: Global,
+    source: &'a Schema,
+    id: TypeId,
+    message_type: &MessageType,
+) -> Result<Vec<&'a Field>, Unstated>
+    requires { type_at source.now id ≡ Some message_type.now }
+    ensures { IfOk result (λ fields. lent fields.items ≡ declared_fields message_type.now) }
+{
+    let mut fields = Vec::new(alloc);
+    for number in &message_type.declared {
+        if let Some(field) = source.field(id, *number) {
+            fields.push(field)?;
+        }
+    }
+    Ok(fields)
+}
+
+fn own_type(
+    alloc: Global,
+    source: &Schema,
+    scope: &str,
+    message: &Message,
+    id: TypeId,
+    declared: &MessageType,
+) -> Result<(), Unstated>
+    requires { type_at source.now id ≡ Some declared.now }
+    ensures { OnOk result (StatesType (declared_in source.now) scope.now (message_of message.now) declared.now) }
+{
+    let own = children(alloc, message, 2)?;
+    let declared_fields = declared_fields(alloc, source, id, declared)?;
+    let inside = children(alloc, message, 3)?;
+    let name = declared.name.as_str();
+    is_within(alloc, scope, text(message, 1)?, name)?;
+    ensure(!is_entry(message)?)?;
+    fields(alloc, source, name, &own, &declared_fields)?;
+    entries(
+        alloc,
+        source,
+        &entries_of(alloc, &inside)?,
+        &declared.fields,
+    )?;
+    let enums_inside = children(alloc, message, 4)?;
+    enums(alloc, source, name, &enums_inside, &declared.nested_enums)?;
+    ensure(option(message, 7, 3)? == declared.options.deprecated)?;
+    let oneofs_inside = children(alloc, message, 8)?;
+    oneofs(alloc, &oneofs_inside, &own, declared, &declared_fields)?;
+    field_ranges(&children(alloc, message, 9)?, &declared.reserved_numbers)?;
+    same_texts(&texts(alloc, message, 10)?, &declared.reserved_names)?;
+    Ok(())
+}
+
+/// The messages state the message types at these places, nested less deep than that.
+pub fn types(
+    alloc: Global,
+    source: &Schema,
+    depth: usize,
+    scope: &str,
+    messages: &[&Message],
+    ids: &[TypeId],
+) -> Result<(), Unstated>
+    ensures { OnOk result (StatesTypes depth (declared_in source.now) scope.now (map message_of (lent messages.now)) ids.now) }
+{
+    ensure(messages.len() == ids.len())?;
+    if depth == 0 {
+        return ensure(messages.is_empty());
+    }
+    for (place, message) in messages.iter().enumerate() {
+        let id = ids[place];
+        let Some(declared) = source.message_type(id) else {
+            return Err(Unstated::Reference);
+        };
+        own_type(alloc, source, scope, message, id, declared)?;
+        let all = children(alloc, message, 3)?;
+        let inside = types_of(alloc, all.as_slice())?;
+        let inner = inside.as_slice();
+        let inner_ids = declared.nested_types.as_slice();
+        let name = declared.name.as_str();
+        types(alloc, source, depth - 1, name, inner, inner_ids)?;
+    }
+    Ok(())
+}

@@ -1,0 +1,385 @@
+#!/usr/bin/python3
+"""Writes crates/fds_tests/src/tests/sets.rt: descriptor sets by protoc, and what becomes of them when they are changed.
+
+Needs protoc (3.21) and python3-protobuf. Each set is made by `protoc --include_imports --descriptor_set_out`, from sources in which the
+message types stand before the map fields beside them, as our writing has it; a changed set is made of one of these by python3-protobuf.
+
+    /usr/bin/python3 tools/descriptor_sets.py
+"""
+import os
+import subprocess
+import tempfile
+
+from google.protobuf import descriptor_pb2 as pb
+
+HERE = os.path.dirname(os.path.abspath(__file__))
+OUT = os.path.join(HERE, "..", "crates", "fds_tests", "src", "tests", "sets.rt")
+
+SOURCES = {
+    "m.proto": 'syntax = "proto3"; message M { int32 a = 1; }',
+    "maps.proto": """
+syntax = "proto3";
+package p.q;
+message M {
+  message N { string s = 1; }
+  enum E { A = 0; }
+  map<int32, N> by_number = 3;
+  map<string, E> by_name = 1;
+  map<bool, bytes> _x = 9;
+}
+""",
+    "oneofs.proto": """
+syntax = "proto3";
+message M {
+  oneof first { int32 a = 1; M b = 2; }
+  optional string c = 7;
+  oneof second { bytes d = 4; }
+  optional M e = 5;
+  string f = 6 [json_name = "given", deprecated = true];
+  repeated int32 g = 8 [packed = false];
+  repeated M h = 9 [deprecated = false];
+  reserved 20, 30 to 39;
+  reserved "old", "older";
+}
+""",
+    "enums.proto": """
+syntax = "proto3";
+option java_package = "j";
+option optimize_for = CODE_SIZE;
+option java_multiple_files = false;
+enum E {
+  option allow_alias = true;
+  ZERO = 0; NULL = 0; LESS = -1 [deprecated = true]; MOST = 2147483647;
+  reserved -9 to -5, 7;
+  reserved "GONE";
+}
+message M { option deprecated = true; repeated E e = 1; message N { enum F { F0 = 0; } F f = 1; } N n = 2; }
+""",
+    "services.proto": """
+syntax = "proto3";
+package s;
+import public "m.proto";
+import "enums.proto";
+message R { .M m = 1; .E e = 2; }
+service S {
+  option deprecated = true;
+  rpc Ask(R) returns (R);
+  rpc Send(stream R) returns (R) { option deprecated = true; }
+  rpc Watch(R) returns (stream R);
+}
+""",
+}
+# services.proto sees enums.proto's M beside m.proto's: the second is renamed.
+SOURCES["services.proto"] = SOURCES["services.proto"].replace(".M m = 1", ".Other m = 1")
+SOURCES["other.proto"] = 'syntax = "proto3"; message Other { int32 a = 1; }'
+SOURCES["services.proto"] = SOURCES["services.proto"].replace('"m.proto"', '"other.proto"')
+SOURCES["a.proto"] = 'syntax = "proto3"; import "b.proto"; message A { B b = 1; }'
+SOURCES["b.proto"] = 'syntax = "proto3"; message B { }'
+SOURCES["d.proto"] = 'syntax = "proto3"; import public "b.proto"; import public "m.proto"; message D { B b = 1; M m = 2; }'
+
+
+def made(folder, name):
+    out = os.path.join(folder, "out.pb")
+    subprocess.run(
+        ["protoc", "-I", folder, "--include_imports", "--descriptor_set_out=" + out, name],
+        check=True,
+        stderr=subprocess.DEVNULL,
+    )
+    with open(out, "rb") as file:
+        return pb.FileDescriptorSet.FromString(file.read())
+
+
+def by_protoc():
+    with tempfile.TemporaryDirectory() as folder:
+        for name, text in SOURCES.items():
+            with open(os.path.join(folder, name), "w") as file:
+                file.write(text)
+        return {name: made(folder, name) for name in SOURCES}
+
+
+def changed(message, change):
+    copy = pb.FileDescriptorSet()
+    copy.CopyFrom(message)
+    change(copy)
+    return copy
+
+
+def first(name):
+    """The first message type of the last file."""
+    return lambda s: s.file[-1].message_type[0]
+
+
+def with_bytes(message, data):
+    """The message with these bytes behind its own, as an old or a newer program may write them."""
+    return message.MergeFromString(data)
+
+
+def skipped(dependency):
+    """In front a file descriptor.proto that isn't proto3, which the last file imports."""
+
+    def change(s):
+        last = s.file[-1]
+        last.dependency.insert(0, "google/protobuf/descriptor.proto")
+        for at, place in enumerate(list(last.public_dependency)):
+            last.public_dependency[at] = place + 1
+        file = pb.FileDescriptorProto(name="google/protobuf/descriptor.proto", package="google.protobuf")
+        if dependency:
+            file.message_type.add(name="FileOptions")
+        s.file.insert(0, file)
+
+    return change
+
+
+def variants(sets):
+    """Pairs of a set that is read, and the set that is written again."""
+    two, maps, oneofs, public = sets["a.proto"], sets["maps.proto"], sets["oneofs.proto"], sets["d.proto"]
+    one, services = sets["m.proto"], sets["services.proto"]
+    rows = []
+
+    def row(name, base, change):
+        rows.append((name, changed(base, change), [base is s for s in sets.values()].index(True)))
+
+    def swap(s):
+        files = list(s.file)
+        del s.file[:]
+        s.file.extend(reversed(files))
+
+    row("the other order", two, swap)
+    row("services in the other order", services, lambda s: swap(s))
+
+    def each_field(s, change):
+        for file in s.file:
+            stack = list(file.message_type)
+            while stack:
+                t = stack.pop()
+                stack.extend(t.nested_type)
+                for f in t.field:
+                    change(f)
+
+    def no_label(f):
+        if f.label == 1:
+            f.ClearField("label")
+
+    row("no label", oneofs, lambda s: each_field(s, no_label))
+
+    def no_json(f):
+        if f.json_name != "given":
+            f.ClearField("json_name")
+
+    row("no JSON name", maps, lambda s: each_field(s, no_json))
+    row("no JSON name in oneofs", oneofs, lambda s: each_field(s, no_json))
+
+    def false_marks(f):
+        if not f.proto3_optional:
+            f.proto3_optional = False
+
+    row("false marks", oneofs, lambda s: each_field(s, false_marks))
+
+    def no_marks(s):
+        for m in s.file[-1].service[0].method:
+            m.client_streaming = m.client_streaming
+            m.server_streaming = m.server_streaming
+
+    row("false streams", services, no_marks)
+    row("empty package", one, lambda s: setattr(s.file[0], "package", ""))
+    row("empty options", one, lambda s: s.file[0].message_type[0].options.SetInParent())
+    row("empty options of a field", one, lambda s: s.file[0].message_type[0].field[0].options.SetInParent())
+    row("no entry", one, lambda s: setattr(s.file[0].message_type[0].options, "map_entry", False))
+
+    def turned(s):
+        t = s.file[0].message_type[0]
+        nested = list(t.nested_type)
+        del t.nested_type[:]
+        t.nested_type.extend(reversed(nested))
+
+    row("entry types in front", maps, turned)
+
+    def other_names(s):
+        for o in s.file[0].message_type[0].oneof_decl[2:]:
+            o.name = "first"
+
+    row("names of synthetic oneofs", oneofs, other_names)
+
+    def other_places(s):
+        t = s.file[0].message_type[0]
+        real, synthetic = list(t.oneof_decl[:2]), list(t.oneof_decl[2:])
+        del t.oneof_decl[:]
+        t.oneof_decl.extend([synthetic[1], real[0], synthetic[0], real[1]])
+        places = {0: 1, 1: 3, 2: 2, 3: 0}
+        for f in t.field:
+            if f.HasField("oneof_index"):
+                f.oneof_index = places[f.oneof_index]
+
+    row("places of synthetic oneofs", oneofs, other_places)
+    row("a public index twice", public, lambda s: s.file[-1].public_dependency.extend([1, 0, 1]))
+    row("descriptor.proto skipped", one, skipped(False))
+    row("descriptor.proto with types skipped", public, skipped(True))
+
+    def comments(s):
+        location = s.file[0].source_code_info.location.add()
+        location.path.extend([4, 0])
+        location.leading_comments = "text"
+
+    row("comments", one, comments)
+    row("other options", one, lambda s: s.file[0].options.MergeFromString(b"\xa8\x01\x01\x90\x01\x01"))
+    row("other fields", one, lambda s: with_bytes(s.file[0].message_type[0].field[0], b"\x12\x01x\x3a\x011"))
+    row("a later label", one, lambda s: with_bytes(s.file[0].message_type[0].field[0], b"\x22\x00"))
+    return rows
+
+
+def refused(sets):
+    """Sets that are refused, and the code."""
+    one, two, maps, oneofs = sets["m.proto"], sets["a.proto"], sets["maps.proto"], sets["oneofs.proto"]
+    services, enums, public = sets["services.proto"], sets["enums.proto"], sets["d.proto"]
+    rows = []
+
+    def row(name, code, base, change):
+        rows.append((name, code, changed(base, change).SerializeToString()))
+
+    def message(s):
+        return s.file[-1].message_type[0]
+
+    def field(s):
+        return message(s).field[0]
+
+    bytes_of_one = one.SerializeToString()
+    rows.append(("a front", 701, bytes_of_one[:-1]))
+    rows.append(("no text", 701, bytes_of_one.replace(b"\x0a\x01M", b"\x0a\x01\xff")))
+    # syntax
+    row("proto2", 702, one, lambda s: setattr(s.file[0], "syntax", "proto2"))
+    row("no syntax", 702, one, lambda s: s.file[0].ClearField("syntax"))
+    row("no syntax before a type", 702, two, lambda s: (s.file[0].ClearField("syntax"), field(s).ClearField("type")))
+    # codes
+    row("group", 703, one, lambda s: setattr(field(s), "type", 10))
+    row("no type", 703, one, lambda s: field(s).ClearField("type"))
+    row("type 0", 703, one, lambda s: with_bytes(field(s), b"\x28\x00"))
+    row("type 19", 703, one, lambda s: with_bytes(field(s), b"\x28\x13"))
+    row("required", 703, one, lambda s: setattr(field(s), "label", 2))
+    row("label 0", 703, one, lambda s: with_bytes(field(s), b"\x20\x00"))
+    row("in an entry", 703, maps, lambda s: message(s).nested_type[1].field[0].ClearField("type"))
+    row("codes before references", 703, two, lambda s: (setattr(field(s), "type", 10), s.file[-1].dependency.append("x")))
+    # references
+    row("an import that lacks", 704, two, lambda s: s.file.pop(0))
+    row("an import twice", 704, two, lambda s: s.file[-1].dependency.append("b.proto"))
+    row("a file twice", 704, one, lambda s: s.file.append(s.file[0]))
+    row("a circle", 704, two, lambda s: s.file[0].dependency.append("a.proto"))
+    row("itself", 704, one, lambda s: s.file[0].dependency.append("m.proto"))
+    row("descriptor.proto lacks", 704, one, lambda s: s.file[0].dependency.append("google/protobuf/descriptor.proto"))
+    row("a public index past the end", 704, public, lambda s: s.file[-1].public_dependency.append(2))
+    row("a public index below 0", 704, public, lambda s: s.file[-1].public_dependency.append(-1))
+    row("a name that lacks", 704, two, lambda s: setattr(field(s), "type_name", ".C"))
+    row("no dot", 704, two, lambda s: setattr(field(s), "type_name", "B"))
+    row("no name of a type", 704, two, lambda s: field(s).ClearField("type_name"))
+    row("a name beside a scalar", 704, one, lambda s: setattr(field(s), "type_name", ".M"))
+    row("a message as an enum", 704, two, lambda s: setattr(field(s), "type", 14))
+    row("an enum as a message", 704, enums, lambda s: setattr(field(s), "type", 11))
+    row("a field's name", 704, one, lambda s: (setattr(field(s), "type", 11), setattr(field(s), "type_name", ".M.a")))
+    row("two fields of a name", 704, oneofs, lambda s: setattr(message(s).field[1], "name", "a"))
+    row("two types of a name", 704, one, lambda s: s.file[0].message_type.append(s.file[0].message_type[0]))
+    row("two values of a name", 704, enums, lambda s: setattr(s.file[0].enum_type[0].value[2], "name", "ZERO"))
+    row("two methods of a name", 704, services, lambda s: setattr(s.file[-1].service[0].method[1], "name", "Ask"))
+    row("a package as a type", 704, two, lambda s: setattr(s.file[-1], "package", "B"))
+    row("a method without an input", 704, services, lambda s: s.file[-1].service[0].method[0].ClearField("input_type"))
+    row("an enum as an output", 704, services, lambda s: setattr(s.file[-1].service[0].method[0], "output_type", ".E"))
+    # oneofs
+    row("an index past the end", 704, oneofs, lambda s: setattr(field(s), "oneof_index", 4))
+    row("an index below 0", 704, oneofs, lambda s: setattr(field(s), "oneof_index", -1))
+    row("optional in no oneof", 704, oneofs, lambda s: message(s).field[2].ClearField("oneof_index"))
+    row("optional and repeated", 704, oneofs, lambda s: setattr(message(s).field[2], "label", 3))
+    row("optional beside another", 704, oneofs, lambda s: setattr(message(s).field[2], "oneof_index", 1))
+    row("two of one synthetic oneof", 704, oneofs, lambda s: setattr(message(s).field[4], "oneof_index", 2))
+    # entry types
+    entry = lambda s: message(s).nested_type[1]
+    row("an entry on top", 704, one, lambda s: setattr(message(s).options, "map_entry", True))
+    row("an entry that none names", 704, maps, lambda s: message(s).field.pop(0))
+    row("an entry's name", 704, maps, lambda s: setattr(entry(s), "name", "XEntry"))
+    row("an entry named twice", 704, maps, lambda s: setattr(message(s).field[1], "type_name", message(s).field[0].type_name))
+    row("an entry of one item", 704, maps, lambda s: setattr(field(s), "label", 1))
+    row("an entry as a value", 704, maps, lambda s: (setattr(entry(s).field[1], "type_name", ".p.q.M.XEntry")))
+    row("an entry's key", 704, maps, lambda s: setattr(entry(s).field[0], "name", "k"))
+    row("an entry's number", 704, maps, lambda s: setattr(entry(s).field[1], "number", 3))
+    row("an entry's label", 704, maps, lambda s: setattr(entry(s).field[1], "label", 3))
+    row("an entry's JSON name", 704, maps, lambda s: setattr(entry(s).field[1], "json_name", "v"))
+    row("an entry's options", 704, maps, lambda s: setattr(entry(s).field[1].options, "deprecated", True))
+    row("a deprecated entry", 704, maps, lambda s: setattr(entry(s).options, "deprecated", True))
+    row("an entry of three", 704, maps, lambda s: entry(s).field.add(name="x", number=3, label=1, type=5, json_name="x"))
+    row("an entry turned round", 704, maps, lambda s: entry(s).field.append(entry(s).field.pop(0)))
+    row("an entry with a type", 704, maps, lambda s: entry(s).nested_type.add(name="T"))
+    row("an entry with a reserved name", 704, maps, lambda s: entry(s).reserved_name.append("r"))
+    row("an entry's oneof", 704, maps, lambda s: (entry(s).oneof_decl.add(name="o"), setattr(entry(s).field[0], "oneof_index", 0)))
+    row("references before rules", 704, two, lambda s: (setattr(field(s), "number", 0), setattr(field(s), "type_name", ".C")))
+    # rules
+    row("no number", 401, one, lambda s: field(s).ClearField("number"))
+    row("a number below 0", 401, one, lambda s: setattr(field(s), "number", -1))
+    row("a number between", 401, one, lambda s: setattr(field(s), "number", 19000))
+    row("a number twice", 402, oneofs, lambda s: setattr(message(s).field[1], "number", 1))
+    row("a reserved number", 403, oneofs, lambda s: setattr(field(s), "number", 30))
+    row("a reserved name", 404, oneofs, lambda s: setattr(field(s), "name", "old"))
+    row("ranges overlap", 405, oneofs, lambda s: setattr(message(s).reserved_range[0], "end", 31))
+    row("no start", 401, oneofs, lambda s: message(s).reserved_range[0].ClearField("start"))
+    row("a JSON name twice", 406, oneofs, lambda s: setattr(field(s), "json_name", "given"))
+    row("a float as a key", 407, maps, lambda s: setattr(entry(s).field[0], "type", 2))
+    row("an enum as a key", 407, maps, lambda s: (setattr(entry(s).field[0], "type", 14), setattr(entry(s).field[0], "type_name", ".p.q.M.E")))
+    row("a oneof without members", 408, oneofs, lambda s: message(s).oneof_decl.add(name="third"))
+    row("a repeated member", 408, oneofs, lambda s: setattr(field(s), "label", 3))
+    row("a map as a member", 408, maps, lambda s: (message(s).oneof_decl.add(name="o"), setattr(field(s), "oneof_index", 0)))
+    row("a first value of 1", 409, enums, lambda s: setattr(s.file[0].enum_type[0].value[0], "number", 1))
+    row("an alias", 410, enums, lambda s: s.file[0].enum_type[0].options.ClearField("allow_alias"))
+    row("no mode", 411, enums, lambda s: with_bytes(s.file[0].options, b"\x48\x04"))
+    row("packed texts", 412, oneofs, lambda s: setattr(message(s).field[5].options, "packed", True))
+    row("an enum without values", 414, enums, lambda s: s.file[0].enum_type.add(name="Empty"))
+    row("a name that is no word", 415, one, lambda s: setattr(message(s), "name", "9"))
+    row("no name", 415, one, lambda s: message(s).ClearField("name"))
+    row("a package that is none", 415, one, lambda s: setattr(s.file[0], "package", "p..q"))
+    return rows
+
+
+def text_of(data):
+    """The bytes as a Rust byte string on lines that aren't long."""
+    parts, line = [], ""
+    for byte in data:
+        char = chr(byte)
+        piece = char if 32 <= byte < 127 and char not in '"\\' else "\\x%02x" % byte
+        if len(line) + len(piece) > 88:
+            parts.append(line)
+            line = ""
+        line += piece
+    parts.append(line)
+    # A blank at a line's start would be skipped.
+    lines = []
+    for part in parts:
+        if part.startswith(" "):
+            part = "\\x20" + part[1:]
+        lines.append(part)
+    return 'b"' + "\\\n        ".join(lines) + '"'
+
+
+def table(says, name, number, rows):
+    """The lines of a constant of sets, each with a number before it."""
+    yield ""
+    yield "/// %s" % says
+    yield "pub const %s: &[(%s, &[u8])] = &[" % (name, number)
+    for called, value, data in rows:
+        yield "    // %s" % called
+        yield "    (\n        %d,\n        %s,\n    )," % (value, text_of(data))
+    yield "];"
+
+
+def main():
+    sets = by_protoc()
+    out = ["//! Sets of tools/descriptor_sets.py, which writes this file."]
+    out.append("")
+    out.append("/// Sets by protoc, which are written again as they are.")
+    out.append("pub const SAME: &[&[u8]] = &[")
+    for name in SOURCES:
+        out.append("    // %s" % name)
+        out.append("    %s," % text_of(sets[name].SerializeToString()))
+    out.append("];")
+    changed = [(name, place, read.SerializeToString()) for name, read, place in variants(sets)]
+    out.extend(table("Sets that are changed, and the place of the set above that is written again.", "CHANGED", "usize", changed))
+    out.extend(table("Sets that are refused, and by which code.", "REFUSED", "u16", refused(sets)))
+    with open(OUT, "w") as file:
+        file.write("\n".join(out) + "\n")
+
+
+main()
