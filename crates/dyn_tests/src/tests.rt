@@ -12,8 +12,8 @@ mod writing;
 
 use pg_dyn::{Content, DynError, Message, Value, decode, encode, fits};
 use pg_schema::{
-    Element, Field, FieldOptions, File, MessageOptions, MessageType, Parts, Presence, Scalar,
-    Schema, TypeId,
+    Element, Field, FieldOptions, File, MessageOptions, MessageType, Parts, PartsError, Presence,
+    Scalar, Schema, TypeId,
 };
 use std::alloc::{AllocError, Global};
 use std::test::Fail;
@@ -82,8 +82,11 @@ fn schema_from(alloc: Global, fields: Vec<Field>, oneofs: Vec<String>) -> Result
         enums: Vec::new(alloc),
         services: Vec::new(alloc),
     };
-    let schema = Schema::from_parts(alloc, parts);
-    Ok(schema.ok().ok_or("the parts are a schema")?)
+    match Schema::from_parts(alloc, parts) {
+        Ok(schema) => Ok(schema),
+        Err((PartsError::Memory, _)) => Err(Fail::from(AllocError)),
+        Err((PartsError::Invariant, _)) => Err(Fail::from("the parts make no schema")),
+    }
 }
 
 /// The message that the bytes are read as, by the type of `schema_of`.

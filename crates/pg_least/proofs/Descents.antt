@@ -18,7 +18,7 @@ use Rattle.pg_pairs.specs.Covering.{IsWithin}
 use Rattle.pg_pairs.specs.Laws.{ReachedBy}
 use Rattle.pg_pairs.specs.Settling.{IsAmong}
 use Rattle.pg_least.specs.declared.witness.Step.{Step}
-use Rattle.pg_least.specs.Descent.{IsExactTable, IsStep, IsWayDown, IsWholeWay, first_step}
+use Rattle.pg_least.specs.Descent.{IsExactTable, IsStep, IsWay, IsWayDown, IsWholeWay, first_step}
 
 among_each : {A : Type 0} (P : A → Type 0) (x : A) (xs : List A) → IsAmong x xs → AllByRecursion P xs → P x
 among_each P x [] among h = absurd among
@@ -64,7 +64,7 @@ module _ (sight : Sight) (old new : Shape) (table : Table) where
         let above : c.cost ≤ d.cost = among_each (λ (x : Choice). c.cost ≤ x.cost) d (choices sight table old new pair) chosen all in
         let below : n ≤ c.cost = among_each (λ (x : Choice). IsWithin (Some n) x.cost) c (choices sight table old new pair) among (exact pair (Some n) there).covered.bound_below in
         let same : n ≡ c.cost = omega arith in
-        record { among = among; costs = there ∙ ap (λ x. Some (Some x)) same }
+        record { is_first = is; among = among; costs = there ∙ ap (λ x. Some (Some x)) same }
 
     pub never_none : cheapest (choices sight table old new pair) ≡ None → ⊥
     never_none is =
@@ -88,6 +88,13 @@ module _ (sight : Sight) (old new : Shape) (table : Table) where
   way_off (x ∷ steps) s last (here, down, later) =
       let (way, child) = way_off steps s last later in
       ((here, down ∙ ap (λ (y : Step). Some y.pair) (first_on steps s last), way), child)
+
+  -- The steps to a last one without a child, and this one, are the way from the first one's pair.
+  pub whole_is_way : (steps : List Step) (last : Step) → IsWayDown sight old new table steps last → choice_child old new last.pair last.choice ≡ None
+      → IsWay sight old new table (first_step steps last).pair (steps ++ last ∷ [])
+  whole_is_way [] last step ends = (refl, step.is_first, ends)
+  whole_is_way (s ∷ []) last (here, down, later) ends = (refl, here.is_first, down, whole_is_way [] last later ends)
+  whole_is_way (s ∷ t ∷ steps) last (here, down, later) ends = (refl, here.is_first, down, whole_is_way (t ∷ steps) last later ends)
 
   -- The child of a step costs less than it.
   pub child_number : (child : Pair) (c : Choice) (o : Option Pair) → o ≡ Some child → ChildThere table o c.cost → (n : ℕ) × (table child ≡ Some (Some n)) × (n < c.cost)

@@ -4,6 +4,7 @@ use Rattle.pg_schema.specs.Shape.{Shape}
 use Rattle.pg_pairs.specs.declared.choice.Pair.{Pair}
 use Rattle.pg_pairs.specs.Sight.{Sight}
 use Rattle.pg_pairs.specs.Carried.{choice_child}
+use Rattle.pg_pairs.specs.Cheapest.{cheapest}
 use Rattle.pg_pairs.specs.Choices.{Table, choices}
 use Rattle.pg_pairs.specs.Laws.{IsExact}
 use Rattle.pg_pairs.specs.Settling.{IsAmong}
@@ -22,8 +23,9 @@ pub record IsTableOf (sight : Sight) (old new : Shape) (root : Pair) (bounds : L
   pub reached : IsReachedInOrder old new root (pairs_of bounds)
   pub exact : IsExactTable sight old new (bound_in bounds)
 
--- a choice of the pair, which costs what the table says
+-- the cheapest choice of the pair, which costs what the table says
 pub record IsStep (sight : Sight) (old new : Shape) (table : Table) (step : Step) : Type 0 where
+  pub is_first : cheapest (choices sight table old new step.pair) ≡ Some step.choice
   pub among : IsAmong step.choice (choices sight table old new step.pair)
   pub costs : table step.pair ≡ Some (Some step.choice.cost)
 
@@ -41,3 +43,13 @@ IsWayDown sight old new table (s ∷ ss) last =
 pub record IsWholeWay (sight : Sight) (old new : Shape) (table : Table) (steps : List Step) (last : Step) : Type 0 where
   pub way : IsWayDown sight old new table steps last
   pub ends : choice_child old new last.pair last.choice ≡ None
+
+-- The way of a witness: from the pair by its cheapest choice, of several the first, to the choice's child, and so on from there, as long
+-- as there is a child. A table has one way from a pair.
+abbrev pub IsWay : Sight → Shape → Shape → Table → Pair → List Step → Type 0
+IsWay sight old new table pair [] = ⊥
+IsWay sight old new table pair (s ∷ []) =
+    (s.pair ≡ pair) × (cheapest (choices sight table old new pair) ≡ Some s.choice) × (choice_child old new pair s.choice ≡ None)
+IsWay sight old new table pair (s ∷ t ∷ steps) =
+    (s.pair ≡ pair) × (cheapest (choices sight table old new pair) ≡ Some s.choice) × (choice_child old new pair s.choice ≡ Some t.pair)
+    × IsWay sight old new table t.pair (t ∷ steps)

@@ -7,3 +7,4 @@ mod settling;
 mod witness;
 
 pub use searching::{Found, find, search};
+pub use witness::{Step, way};

@@ -98,7 +98,7 @@ fn unbroken(old: &Schema, new: &Schema, root: Pair, bounds: Bounds) -> Found
 
 /// The certificate of a pair of types: the bounds of all pairs that it leads to, each the length of the
 /// shortest message of its pair that breaks, or 'none' where no message does; and where the pair's own
-/// bound is a number, a breaking message of just so many bytes.
+/// bound is a number, a breaking message of just so many bytes. The pair's old type has to be one of the old schema.
 ///
 /// Refused only where memory is.
 pub fn find(alloc: Global, old: &Schema, new: &Schema, root: Pair) -> Result<Found, AllocError>
@@ -114,7 +114,8 @@ pub fn find(alloc: Global, old: &Schema, new: &Schema, root: Pair) -> Result<Fou
     }
 }
 
-/// The same without the message.
+/// The certificate that `find` answers of a pair of types, without the message beside it. The pair's old type has to be
+/// one of the old schema.
 ///
 /// Refused only where memory is.
 pub fn search(

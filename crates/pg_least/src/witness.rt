@@ -9,9 +9,10 @@ ghost use Rattle.pg_pairs.specs.Choices.{Table, number_for};
 ghost use Rattle.pg_pairs.specs.Laws.{ReachedBy};
 ghost use Rattle.pg_pairs.specs.Sight.{by_numbers};
 ghost use Rattle.pg_cert.specs.Bounds.{bound_in};
-ghost use Rattle.pg_least.specs.Descent.{IsExactTable, IsStep, IsWholeWay, first_step};
+ghost use Rattle.pg_least.specs.Descent.{IsExactTable, IsStep, IsWay, IsWholeWay, first_step};
+ghost use Rattle.pg_least.specs.Exact.{IsSearched};
 
-use pg_cert::Bounds;
+use pg_cert::{Bounds, Certificate};
 use pg_dyn::Message;
 use pg_pairs::{
     Choice, Numbers, Pair, carry, cheapest, cheapest_is_least, choice_child, each_child_costs_less,
@@ -20,9 +21,9 @@ use pg_pairs::{
 use pg_schema::Schema;
 use std::alloc::{AllocError, Global};
 
-/// A pair and a choice of it.
-#[derive(Clone, Copy)]
-pub(crate) struct Step {
+/// A pair, and the choice of it by which a message breaks.
+#[derive(Clone, Copy, Debug, PartialEq, Eq)]
+pub struct Step {
     pub pair: Pair,
     pub choice: Choice,
 }
@@ -138,4 +139,24 @@ pub(crate) fn witness(
 {
     let (steps, last) = steps_down(alloc, old, new, bounds, pair)?;
     built(alloc, old, new, steps, last)
+}
+
+/// The way of the witness of a certificate that a search answers: from the root by the cheapest choice of each pair to
+/// the pair of the message that the choice holds, as long as it holds one. The certificate has to be one that `find` or
+/// `search` answered for these two schemas, with a witness.
+///
+/// Refused only where memory is.
+pub fn way(
+    alloc: Global,
+    old: &Schema,
+    new: &Schema,
+    certificate: &Certificate,
+) -> Result<Vec<Step>, AllocError>
+    requires searched { IsSearched by_numbers (shape_of old.now) (shape_of new.now) certificate.now.root certificate.now }
+    requires breaks { is_some certificate.now.witness ≡ true }
+    ensures { IfOk result (λ steps. IsWay by_numbers (shape_of old.now) (shape_of new.now) (bound_in certificate.now.bounds) certificate.now.root steps.items) }
+{
+    let (mut steps, last) = steps_down(alloc, old, new, certificate.bounds(), certificate.root())?;
+    steps.push(last)?;
+    Ok(steps)
 }

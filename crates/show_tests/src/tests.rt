@@ -6,7 +6,7 @@ mod words;
 use pg_dyn::DynError;
 use pg_schema::{
     Element, EnumId, EnumOptions, EnumType, EnumValue, EnumValueOptions, Field, FieldOptions, File,
-    MessageOptions, MessageType, Parts, Presence, Scalar, Schema, TypeId,
+    MessageOptions, MessageType, Parts, PartsError, Presence, Scalar, Schema, TypeId,
 };
 use pg_show::{bytes_of_hex, show};
 use std::alloc::{AllocError, Global};
@@ -135,8 +135,11 @@ fn schema_with(alloc: Global, rows: &[Row], oneofs: Vec<String>) -> Result<Schem
         enums: vec![in alloc; enum_type(alloc)?]?,
         services: Vec::new(alloc),
     };
-    let schema = Schema::from_parts(alloc, parts);
-    Ok(schema.ok().ok_or("the parts are a schema")?)
+    match Schema::from_parts(alloc, parts) {
+        Ok(schema) => Ok(schema),
+        Err((PartsError::Memory, _)) => Err(Fail::from(AllocError)),
+        Err((PartsError::Invariant, _)) => Err(Fail::from("the parts make no schema")),
+    }
 }
 
 /// The schema of the message type `M` of these fields, by rising number, without a oneof.

@@ -6,7 +6,7 @@ use super::{M, field, set, whole, write};
 use pg_dyn::{Content, DynError, Message, Value};
 use pg_schema::{
     Element, EnumId, EnumOptions, EnumType, EnumValue, EnumValueOptions, Field, File,
-    MessageOptions, MessageType, Parts, Presence, Scalar, Schema, TypeId,
+    MessageOptions, MessageType, Parts, PartsError, Presence, Scalar, Schema, TypeId,
 };
 use std::alloc::{AllocError, Global};
 use std::test::Fail;
@@ -123,8 +123,11 @@ fn schema(alloc: Global) -> Result<Schema, Fail> {
         enums: vec![in alloc; enum_of(alloc)?]?,
         services: Vec::new(alloc),
     };
-    let made = Schema::from_parts(alloc, parts);
-    Ok(made.ok().ok_or("the parts are a schema")?)
+    match Schema::from_parts(alloc, parts) {
+        Ok(schema) => Ok(schema),
+        Err((PartsError::Memory, _)) => Err(Fail::from(AllocError)),
+        Err((PartsError::Invariant, _)) => Err(Fail::from("the parts make no schema")),
+    }
 }
 
 fn int(number: i128) -> Content {

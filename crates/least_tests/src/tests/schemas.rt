@@ -1,8 +1,8 @@
 //! Schemas of a few fields.
 
 use pg_schema::{
-    Element, Field, FieldOptions, File, MessageOptions, MessageType, Parts, Presence, Scalar,
-    Schema, TypeId,
+    Element, Field, FieldOptions, File, MessageOptions, MessageType, Parts, PartsError, Presence,
+    Scalar, Schema, TypeId,
 };
 use std::alloc::{AllocError, Global};
 use std::test::Fail;
@@ -171,6 +171,9 @@ pub(crate) fn schema(alloc: Global, types: &[&[Line]]) -> Result<Schema, Fail> {
         enums: Vec::new(alloc),
         services: Vec::new(alloc),
     };
-    let schema = Schema::from_parts(alloc, parts);
-    Ok(schema.ok().ok_or("the parts are a schema")?)
+    match Schema::from_parts(alloc, parts) {
+        Ok(schema) => Ok(schema),
+        Err((PartsError::Memory, _)) => Err(Fail::from(AllocError)),
+        Err((PartsError::Invariant, _)) => Err(Fail::from("the parts make no schema")),
+    }
 }
