@@ -1,5 +1,5 @@
 //! What the gate finds, with the text that it prints.
-use crate::runs::{WORDS, expect_texts, file_of};
+use crate::runs::{expect_before_steps, file_of};
 use std::process::Abort;
 use std::test::Fail;
 
@@ -219,7 +219,7 @@ fn expect<R: Abort + AllocGlobal>(
     text: &str,
     status: u8,
 ) -> Result<(), Fail> {
-    expect_texts(rt, &WORDS, old, new, text, status)
+    expect_before_steps(rt, old, new, text, status)
 }
 
 /// Expects the answers on files with these fields.

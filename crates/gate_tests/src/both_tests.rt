@@ -24,7 +24,7 @@ fn says<R: Abort + AllocGlobal>(
 static DIRECTIONS: [((&str, &str), &str, u8); 5] = [
     (
         ("uint32 a = 1;", "int32 a = 1;"),
-        "forward\nbreaks M 6\nwitness 088080808008\nbackward\nbreaks M 11\nwitness 08ffffffffffffffffff01\n",
+        "forward\nbreaks M 6\nwitness 088080808008\nstep 1 M.a o.proto:2:20 M.a n.proto:2:19\nbackward\nbreaks M 11\nwitness 08ffffffffffffffffff01\nstep 1 M.a n.proto:2:19 M.a o.proto:2:20\n",
         1,
     ),
     (
@@ -34,12 +34,12 @@ static DIRECTIONS: [((&str, &str), &str, u8); 5] = [
     ),
     (
         ("bool a = 1;", "int32 a = 1;"),
-        "forward\ncompatible M\nbackward\nbreaks M 2\nwitness 0802\n",
+        "forward\ncompatible M\nbackward\nbreaks M 2\nwitness 0802\nstep 1 M.a n.proto:2:19 M.a o.proto:2:18\n",
         1,
     ),
     (
         ("int32 a = 1;", "bool a = 1;"),
-        "forward\nbreaks M 2\nwitness 0802\nbackward\ncompatible M\n",
+        "forward\nbreaks M 2\nwitness 0802\nstep 1 M.a o.proto:2:19 M.a n.proto:2:18\nbackward\ncompatible M\n",
         1,
     ),
     (

@@ -3,8 +3,8 @@ use crate::runs::file_of;
 use pg_gate::{Answer, GateError, gate, gate_files};
 use pg_link::Listed;
 use pg_schema::{
-    Element, Field, FieldOptions, File, MessageOptions, MessageType, Parts, Presence, Scalar,
-    Schema, TypeId,
+    Element, Field, FieldOptions, File, MessageOptions, MessageType, Parts, PartsError, Presence,
+    Scalar, Schema, TypeId,
 };
 use std::alloc::{AllocError, Global};
 use std::process::Abort;
@@ -54,8 +54,11 @@ fn parts_of(alloc: Global, scalar: Scalar) -> Result<Parts, AllocError> {
 }
 
 fn schema_of(alloc: Global, scalar: Scalar) -> Result<Schema, Fail> {
-    let schema = Schema::from_parts(alloc, parts_of(alloc, scalar)?);
-    Ok(schema.ok().ok_or("the parts are a schema")?)
+    match Schema::from_parts(alloc, parts_of(alloc, scalar)?) {
+        Ok(schema) => Ok(schema),
+        Err((PartsError::Memory, _)) => Err(Fail::from(AllocError)),
+        Err((PartsError::Invariant, _)) => Err(Fail::from("the parts make no schema")),
+    }
 }
 
 /// Whether the answer is a breaking message, with a certificate of these bytes and one pair.

@@ -64,7 +64,7 @@ static TOGETHER: [&[&str]; 3] = [
 ];
 
 /// Words for which the files are refused, and how.
-static REFUSED: [(&[&str], &str); 3] = [
+static REFUSED: [(&[&str], &str); 4] = [
     (
         &["compile", "--dir", "d", "a.proto", "c.proto"],
         "refused E301 c.proto\n",
@@ -74,6 +74,7 @@ static REFUSED: [(&[&str], &str); 3] = [
         "refused E302 b.proto:2:8\n",
     ),
     (&["compile", "d/a.proto"], "refused E301 d/a.proto:2:8\n"),
+    (&["compile", ""], "refused E301\n"),
 ];
 
 #[test]

@@ -1,5 +1,5 @@
 //! Types that hold messages, and themselves.
-use crate::runs::{CERTIFICATE, WORDS, expect_texts, printed, text_of};
+use crate::runs::{CERTIFICATE, WORDS, expect_before_steps, expect_texts, printed, text_of};
 use std::alloc::{AllocError, Global};
 use std::process::Abort;
 use std::test::Fail;
@@ -14,7 +14,7 @@ fn expect<R: Abort + AllocGlobal>(
 ) -> Result<(), Fail> {
     let old = text_of(rt.alloc(), old)?;
     let new = text_of(rt.alloc(), new)?;
-    expect_texts(rt, &WORDS, &old, &new, text, status)
+    expect_before_steps(rt, &old, &new, text, status)
 }
 
 /// The second lines of the old and the new text, the printed text and the status.

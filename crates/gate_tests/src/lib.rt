@@ -25,9 +25,13 @@ mod rule_tests;
 #[cfg(test)]
 mod runs;
 #[cfg(test)]
+mod set_tests;
+#[cfg(test)]
 mod show_tests;
 #[cfg(test)]
 mod sink_tests;
+#[cfg(test)]
+mod step_tests;
 #[cfg(test)]
 mod text_tests;
 #[cfg(test)]

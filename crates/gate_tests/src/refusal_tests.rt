@@ -9,77 +9,79 @@ static ONE: &[u8] = b"syntax = \"proto3\";\nmessage M { int32 a = 1; }\n";
 
 /// A text, and the code and place of its fault.
 static FAULTS: [(&str, &str); 22] = [
-    ("", "E201 m:1:1"),
-    ("\n \n", "E201 m:3:1"),
-    ("\n  message M { }", "E201 m:2:3"),
-    ("syntax = \"proto2\";", "E201 m:1:1"),
-    ("syntax = \"proto3;\n", "E103 m:1:10"),
-    ("syntax \"proto3\";", "E201 m:1:1"),
-    ("syntax = \"proto3\"", "E202 m:1:18"),
-    ("syntax = \"proto3\" message M { }", "E202 m:1:19"),
-    ("syntax = \"proto3\";\nmessage M", "E202 m:2:10"),
-    ("syntax = \"proto3\";\nmessage M { } }", "E202 m:2:15"),
+    ("", "E201 m.proto:1:1"),
+    ("\n \n", "E201 m.proto:3:1"),
+    ("\n  message M { }", "E201 m.proto:2:3"),
+    ("syntax = \"proto2\";", "E201 m.proto:1:1"),
+    ("syntax = \"proto3;\n", "E103 m.proto:1:10"),
+    ("syntax \"proto3\";", "E201 m.proto:1:1"),
+    ("syntax = \"proto3\"", "E202 m.proto:1:18"),
+    ("syntax = \"proto3\" message M { }", "E202 m.proto:1:19"),
+    ("syntax = \"proto3\";\nmessage M", "E202 m.proto:2:10"),
+    ("syntax = \"proto3\";\nmessage M { } }", "E202 m.proto:2:15"),
     (
         "syntax = \"proto3\";\nmessage M { message a = 1; }",
-        "E202 m:2:23",
+        "E202 m.proto:2:23",
     ),
     (
         "syntax = \"proto3\";\nmessage M { int32 1 = 1; }",
-        "E202 m:2:19",
+        "E202 m.proto:2:19",
     ),
     (
         "syntax = \"proto3\";\nmessage M { int32 a = 08; }",
-        "E102 m:2:23",
+        "E102 m.proto:2:23",
     ),
     (
         "syntax = \"proto3\";\nmessage M { int32 a = 1x; }",
-        "E102 m:2:23",
+        "E102 m.proto:2:23",
     ),
     (
         "syntax = \"proto3\";\nmessage M { int32 a = -1; }",
-        "E202 m:2:23",
+        "E202 m.proto:2:23",
     ),
     (
         "syntax = \"proto3\";\nmessage M { }\nmessage M { }",
-        "E304 m:3:9",
+        "E304 m.proto:3:9",
     ),
     (
         "syntax = \"proto3\";\nmessage M { int32 a = 0; int32 a = 1; }",
-        "E304 m:2:32",
+        "E304 m.proto:2:32",
     ),
     (
         "syntax = \"proto3\";\nmessage M { int32 a = 0; }",
-        "E401 m:2:19",
+        "E401 m.proto:2:19",
     ),
     (
         "syntax = \"proto3\";\nmessage M { int32 a = 19000; }",
-        "E401 m:2:19",
+        "E401 m.proto:2:19",
     ),
     (
         "syntax = \"proto3\";\nmessage M { int32 a = 19999; }",
-        "E401 m:2:19",
+        "E401 m.proto:2:19",
     ),
     (
         "syntax = \"proto3\";\nmessage M { int32 a = 536870912; }",
-        "E401 m:2:19",
+        "E401 m.proto:2:19",
     ),
     (
         "syntax = \"proto3\";\nmessage M { int32 a = 1; int32 b = 1; }",
-        "E402 m:2:32",
+        "E402 m.proto:2:32",
     ),
 ];
 
-static FILE: [&str; 7] = ["gate", "--old", "m", "--new", "m", "--type", "M"];
+static FILE: [&str; 7] = [
+    "gate", "--old", "m.proto", "--new", "m.proto", "--type", "M",
+];
 
-/// Expects a refusal of the file `m`, of these texts on the two sides.
+/// Expects a refusal of the file `m.proto`, of these texts on the two sides.
 fn refuses<R: Abort + AllocGlobal>(
     rt: &R,
     old: &[u8],
     new: &[u8],
     refused: &str,
 ) -> Result<(), Fail> {
-    let old = [("m", old)];
-    let new = [("m", new)];
+    let old = [("m.proto", old)];
+    let new = [("m.proto", new)];
     expect_files(rt, &FILE, &old, &new, refused, 2)
 }
 
@@ -105,7 +107,7 @@ fn tells_the_place_of_a_fault(rt: HostRuntime) -> Result<(), Fail> {
 fn tells_names_before_numbers(rt: HostRuntime) -> Result<(), Fail> {
     let text =
         b"syntax = \"proto3\";\nmessage M { int32 a = 0; }\nmessage N { bool b = 1; bool b = 2; }\n";
-    refuses(&rt, text.as_slice(), ONE, "refused old E304 m:3:30\n")
+    refuses(&rt, text.as_slice(), ONE, "refused old E304 m.proto:3:30\n")
 }
 
 #[test]
@@ -126,16 +128,16 @@ fn asks_for_files_in_their_folder(rt: HostRuntime) -> Result<(), Fail> {
         "a",
         "--new-dir=b",
         "--old",
-        "m",
+        "m.proto",
         "--new",
-        "m",
+        "m.proto",
         "--type",
         "M",
     ];
-    let both = [("a/m", ONE), ("b/m", ONE)];
+    let both = [("a/m.proto", ONE), ("b/m.proto", ONE)];
     expect_files(&rt, &words, &both, &both, "compatible M\n", 0)?;
-    let here = [("m", ONE)];
-    expect_files(&rt, &words, &here, &both, "refused old E301 m\n", 2)
+    let here = [("m.proto", ONE)];
+    expect_files(&rt, &words, &here, &both, "refused old E301 m.proto\n", 2)
 }
 
 #[test]

@@ -112,7 +112,8 @@ fn compares_the_root_alone(rt: HostRuntime) -> Result<(), Fail> {
         "enum E { A = 0; } message N { repeated M m = 1; } message M { int32 a = 1; }",
     )?;
     let new = file_of(rt.alloc(), "bool a = 1;")?;
-    answer_of(&rt, &old, &new, "breaks M 2\nwitness 0802\n", 1)
+    let printed = "breaks M 2\nwitness 0802\nstep 1 M.a o.proto:2:69 M.a n.proto:2:18\n";
+    answer_of(&rt, &old, &new, printed, 1)
 }
 
 static IMPORTED: [(&str, &[u8]); 2] = [

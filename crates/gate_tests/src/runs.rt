@@ -138,6 +138,33 @@ pub(crate) fn expect_texts<R: Abort + AllocGlobal>(
     expect_files(rt, words, &old, &new, text, status)
 }
 
+/// Whether the output is this text, with the lines of steps behind it or without.
+fn is_before_steps(output: &[u8], text: &str) -> bool {
+    let Ok(output) = std::str::from_utf8(output) else {
+        return false;
+    };
+    match output.strip_prefix(text) {
+        Some(rest) => rest.is_empty() || rest.starts_with("step "),
+        None => false,
+    }
+}
+
+/// The same of the gate, but for the lines of steps.
+pub(crate) fn expect_before_steps<R: Abort + AllocGlobal>(
+    rt: &R,
+    old: &str,
+    new: &str,
+    text: &str,
+    status: u8,
+) -> Result<(), Fail> {
+    let old = [("o.proto", old.as_bytes())];
+    let new = [("n.proto", new.as_bytes())];
+    let found = printed(rt.alloc(), &WORDS, &old, &new)?;
+    assert_eq!(rt; found.0, status, "status of {text}");
+    assert!(rt; is_before_steps(&found.1, text), "text {text}");
+    Ok(())
+}
+
 /// Expects these words to be no call, and what is said of them to have this part.
 pub(crate) fn says_usage<R: Abort + AllocGlobal>(
     rt: &R,

@@ -5,7 +5,7 @@ use pg_gate::GateError;
 use std::process::Abort;
 use std::test::Fail;
 
-static PRINTED: &[u8] = b"breaks M 2\nwitness 0802\n";
+static PRINTED: &[u8] = b"breaks M 2\nwitness 0802\nstep 1 M.a o.proto:2:19 M.a n.proto:2:18\n";
 
 static OLD: [(&str, &[u8]); 1] = [(
     "o.proto",
@@ -75,7 +75,7 @@ fn expect_in_memory<R: Abort + AllocGlobal>(
 
 #[test]
 fn keeps_to_memory(rt: HostRuntime) {
-    let printed = "breaks M 2\nwitness 0802\n";
+    let printed = "breaks M 2\nwitness 0802\nstep 1 M.a o.proto:2:19 M.a n.proto:2:18\n";
     expect_in_memory(&rt, &WORDS, "bool a = 1; M m = 2;", printed, 1);
     let printed = "compatible M\n";
     expect_in_memory(&rt, &WORDS, "int64 a = 1; M m = 2;", printed, 0);

@@ -118,6 +118,7 @@ fn takes_messages_64_deep(rt: HostRuntime) -> Result<(), Fail> {
 fn takes_all_spellings_of_a_text(rt: HostRuntime) -> Result<(), Fail> {
     let old = "\u{feff}syntax = 'pro' \"to3\"; // C\nmessage M { int32 message = 0x10; /* */ }";
     let new = text_of(rt.alloc(), "message M { bool stream = 020; }")?;
-    let printed = "breaks M 3\nwitness 800102\n";
+    let printed =
+        "breaks M 3\nwitness 800102\nstep 16 M.message o.proto:2:19 M.stream n.proto:2:18\n";
     answer_of(&rt, old.as_bytes(), new.as_bytes(), printed, 1)
 }

@@ -187,17 +187,17 @@ fn asks_the_old_source_for_the_certificate(rt: HostRuntime) -> Result<(), Fail> 
         "verify",
         "--old-dir=a",
         "--new-dir=b",
-        "--old=m",
-        "--new=m",
+        "--old=m.proto",
+        "--new=m.proto",
         "c",
     ];
-    let old = [("a/m", ONE), ("c", NONE)];
-    let lacking = [("a/m", ONE), ("a/c", NONE)];
-    let new = [("b/m", ONE), ("c", NONE)];
-    let faulty: [(&str, &[u8]); 1] = [("b/m", b"")];
+    let old = [("a/m.proto", ONE), ("c", NONE)];
+    let lacking = [("a/m.proto", ONE), ("a/c", NONE)];
+    let new = [("b/m.proto", ONE), ("c", NONE)];
+    let faulty: [(&str, &[u8]); 1] = [("b/m.proto", b"")];
     expect_files(&rt, &words, &old, &new, "compatible M\n", 0)?;
     expect_files(&rt, &words, &lacking, &new, "refused E301 c\n", 2)?;
-    let refused = "refused new E201 m:1:1\n";
+    let refused = "refused new E201 m.proto:1:1\n";
     expect_files(&rt, &words, &lacking, &faulty, refused, 2)
 }
 

@@ -115,6 +115,12 @@ claim_of_answer old new root is_old is_new (answers.Breaks witness certificate) 
     of claim roots searched =
         searched_there by_numbers old new claim is_old is_new (named_there old root claim.root.old roots.old_named) (named_there new root claim.root.new roots.new_named) searched
 
+-- the certificate of an answer is that of a search
+pub searched_by : (old new : Parts) (root : Text) (answer : Answer) → IsAnswer old new root answer
+    → IsSearched by_numbers (shape_of old) (shape_of new) (certificate_of answer).root (certificate_of answer)
+searched_by old new root (answers.Compatible certificate) is = is.searched
+searched_by old new root (answers.Breaks witness certificate) is = is.searched
+
 -- ---- what is told of an answer
 
 -- what is told of an answer's certificate is what is found
@@ -122,11 +128,11 @@ pub found_by : (old new : Parts) (root : Text) (answer : Answer) (certificate_on
     → Tells old new (certificate_of answer) certificate_only finding → IsFindingOf old new root certificate_only finding
 found_by old new root (answers.Compatible certificate) false findings.Compatible is tells = record { certificate = certificate; compatible = is }
 found_by old new root (answers.Breaks message certificate) false findings.Compatible is tells = absurd (let no : ◌≡◌ {A = Option (List ℕ)} None (Some _) = sym tells ∙ is.bytes_are in cc)
-found_by old new root (answers.Compatible certificate) false (findings.Breaks bytes) is tells = absurd (let no : ◌≡◌ {A = Option (List ℕ)} None (Some bytes.items) = sym is.no_witness ∙ tells in cc)
-found_by old new root (answers.Breaks message certificate) false (findings.Breaks bytes) is tells = record { message = message; certificate = certificate; broken = is; bytes_are = tells }
+found_by old new root (answers.Compatible certificate) false (findings.Breaks bytes steps) is tells = absurd (let no : ◌≡◌ {A = Option (List ℕ)} None (Some bytes.items) = sym is.no_witness ∙ tells.0 in cc)
+found_by old new root (answers.Breaks message certificate) false (findings.Breaks bytes steps) is tells = record { message = message; certificate = certificate; broken = is; bytes_are = tells.0; are_steps = tells.1 }
 found_by old new root answer false (findings.Certified text breaks) is tells = absurd tells
 found_by old new root answer true findings.Compatible is tells = absurd tells
-found_by old new root answer true (findings.Breaks bytes) is tells = absurd tells
+found_by old new root answer true (findings.Breaks bytes steps) is tells = absurd tells
 found_by old new root answer true (findings.Certified text breaks) is tells = record { answer = answer; is_answer = is; certifies = tells.0; breaks_is = tells.1 }
 found_by old new root answer false (findings.Verified verified) is tells = absurd tells
 found_by old new root answer true (findings.Verified verified) is tells = absurd tells
@@ -136,11 +142,11 @@ found_by old new root answer true (findings.Verified verified) is tells = absurd
 -- what is found is of two types that are there
 found_roots : (old new : Parts) (root : Text) (certificate_only : Bool) (finding : Finding) → IsFindingOf old new root certificate_only finding → (pair : Pair) × AreRoots old new root pair
 found_roots old new root false findings.Compatible is = (is.certificate.root, is.compatible.roots)
-found_roots old new root false (findings.Breaks bytes) is = (is.certificate.root, is.broken.roots)
+found_roots old new root false (findings.Breaks bytes steps) is = (is.certificate.root, is.broken.roots)
 found_roots old new root false (findings.Certified text breaks) is = absurd is
 found_roots old new root false (findings.Verified verified) is = absurd is
 found_roots old new root true findings.Compatible is = absurd is
-found_roots old new root true (findings.Breaks bytes) is = absurd is
+found_roots old new root true (findings.Breaks bytes steps) is = absurd is
 found_roots old new root true (findings.Certified text breaks) is = of is.answer is.is_answer
   where
     of : (answer : Answer) → IsAnswer old new root answer → (pair : Pair) × AreRoots old new root pair

@@ -71,7 +71,7 @@ pub record IsBroken (old new : Parts) (root : Text) (witness : Kept) (certificat
   pub least : Least numbers (shape_of old) (shape_of new) certificate.root.old certificate.root.new (length (enc (shape_of old) certificate.root.old (message_of witness)))
   pub bytes_are : certificate.witness ≡ Some (enc (shape_of old) certificate.root.old (message_of witness))
 
--- The headline: of two schemas with a message type of that name the gate answers one of the two, and nothing else.
+-- The promise: of two schemas with a message type of that name the gate answers one of the two, and nothing else.
 abbrev pub IsAnswer : Parts → Parts → Text → Answer → Type 0
 IsAnswer old new root (answers.Compatible certificate) = IsCompatible old new root certificate
 IsAnswer old new root (answers.Breaks witness certificate) = IsBroken old new root witness certificate

@@ -1,5 +1,6 @@
--- What a side's files declare, and where their faults are.
-use Rattle.std.specs.Prelude.{◌≡◌, ℕ, List, map, Result, Ok, Err}
+-- What a side's texts declare or its descriptor set states, and what either is refused for.
+use Rattle.std.specs.Prelude.{◌≡◌, ℕ, Bool, nat_eq, List, [], ◌∷◌, map, Option, Some, None, Result, Ok, Err, IsTrue, codes, if◌then◌else◌}
+use Rattle.std.specs.List.{ends_with}
 use Rattle.std.specs.Borrow.{Bor}
 use Rattle.clap.specs.Words.{Text}
 use Rattle.pg_check.specs.Declares.{Declares}
@@ -8,13 +9,16 @@ use Rattle.pg_check.specs.Sources.{linked_sources}
 use Rattle.pg_check.specs.declared.error.CheckError.{CheckError}
 use Rattle.pg_check.specs.declared.error.CheckError.TheVariants as checks
 use Rattle.pg_dyn.specs.declared.error.DynError.TheVariants as messages
+use Rattle.pg_fds.specs.Reads.{fds_reads}
+use Rattle.pg_fds.specs.Refused.{MayRefuseSet}
 use Rattle.pg_fds.specs.Set.{fds}
 use Rattle.pg_fds.specs.Written.{HasNoSet}
 use Rattle.pg_fds.specs.declared.error.FdsError.{FdsError}
 use Rattle.pg_fds.specs.declared.error.FdsError.TheVariants as sets
+use Rattle.pg_link.specs.Below.{path_below}
 use Rattle.pg_link.specs.Linked.{IsLinkedUp}
 use Rattle.pg_link.specs.UseFaults.{LinkRefuses}
-use Rattle.pg_link.specs.Walk.{Entry, IsLinked, World, failures_of}
+use Rattle.pg_link.specs.Walk.{Entry, IsLinked, IsReadFault, World, failures_of}
 use Rattle.pg_link.specs.declared.error.LinkError.{LinkError}
 use Rattle.pg_link.specs.declared.error.LinkError.TheVariants as links
 use Rattle.pg_link.specs.declared.target.Target.{Target}
@@ -30,12 +34,14 @@ use Rattle.pg_schema.specs.declared.parts.Parts.{Parts}
 abbrev pub paths_of : List (Bor Text) → List Text
 paths_of = map (λ path. path.now)
 
+-- ---- texts
+
 -- no name in linked files stands twice, but for parts of packages, and each use of one resolves
 abbrev pub IsSettled : List Entry → Type 0
 IsSettled files = (targets : List (List Target)) × IsLinkedUp (record { files = files; targets = targets })
 
--- The schema of a side: just what its files declare, which keep to the rules of the language. The files are those of its
--- roots and of all that they import, with texts that its source may give.
+-- The schema of texts: just what they declare, which keep to the rules of the language. The files are those of the roots and of
+-- all that they import, with texts that the source may give.
 pub record IsCompiled (w : World) (schema : Parts) : Type 0 where
   pub files : List Entry
   pub linked : IsLinked w files
@@ -52,11 +58,11 @@ pub record IsRuleFault (files : List Entry) (error : CheckError) : Type 0 where
   pub is_told : error ≡ checks.Memory → ⊥
   pub refuses : IsRefused (linked_sources files) error
 
--- linked files of the side break this rule
+-- linked files break this rule
 abbrev pub IsBrokenRule : World → CheckError → Type 0
 IsBrokenRule w error = (files : List Entry) × IsLinked w files × IsSettled files × IsRuleFault files error
 
--- what is wrong with a side: its files can't be linked, or those that are linked break a rule
+-- what is wrong with texts: their files can't be linked, or those that are linked break a rule
 abbrev pub IsFaultOf : World → Fault → Type 0
 IsFaultOf w (faults.Link error) = IsLinkFault w error
 IsFaultOf w (faults.Check error) = IsBrokenRule w error
@@ -85,10 +91,80 @@ IsErrorOf fault side gates.WriteFailed = ⊥
 IsErrorOf fault side gates.BadHex = ⊥
 IsErrorOf fault side (gates.Bytes error) = ⊥
 
-abbrev pub IsSideError : World → Side → GateError → Type 0
-IsSideError w = IsErrorOf (IsFaultOf w)
+-- ---- descriptor sets
 
--- ---- descriptor sets of files
+-- The schema of the descriptor set at the path below the folder: bytes state it, which the source may give.
+pub record IsRead (give : Text → Text → Bool) (folder path : Text) (schema : Parts) : Type 0 where
+  pub bytes : Text
+  pub given : IsTrue (give (path_below folder path) bytes)
+  pub states : fds_reads bytes schema
+
+-- the source may lack the set's file, or it failed
+pub record IsNotGiven (lack : Text → Bool) (folder path : Text) (error : LinkError) : Type 0 where
+  pub is_told : error ≡ links.Memory → ⊥
+  pub not_read : IsReadFault lack folder None path error
+
+-- bytes are refused as a set for this reason, which isn't want of memory
+pub record IsNoSet (bytes : Text) (error : FdsError) : Type 0 where
+  pub is_told : error ≡ sets.Memory → ⊥
+  pub refuses : MayRefuseSet bytes error
+
+-- such bytes are those that the source may give
+pub record IsRefusedSet (give : Text → Text → Bool) (folder path : Text) (error : FdsError) : Type 0 where
+  pub bytes : Text
+  pub given : IsTrue (give (path_below folder path) bytes)
+  pub is_none : IsNoSet bytes error
+
+-- what is wrong with a set: its file isn't given, or its bytes are refused
+abbrev pub IsFaultOfRead : (Text → Text → Bool) → (Text → Bool) → (folder path : Text) → Fault → Type 0
+IsFaultOfRead give lack folder path (faults.Link error) = IsNotGiven lack folder path error
+IsFaultOfRead give lack folder path (faults.Check error) = ⊥
+IsFaultOfRead give lack folder path (faults.Set error) = IsRefusedSet give folder path error
+
+-- a file that isn't given
+abbrev pub IsGivenFault : (Text → Bool) → (folder path : Text) → Fault → Type 0
+IsGivenFault lack folder path (faults.Link error) = IsNotGiven lack folder path error
+IsGivenFault lack folder path (faults.Check error) = ⊥
+IsGivenFault lack folder path (faults.Set error) = ⊥
+
+-- bytes that are refused
+abbrev pub IsFaultOfBytes : Text → Fault → Type 0
+IsFaultOfBytes bytes (faults.Link error) = ⊥
+IsFaultOfBytes bytes (faults.Check error) = ⊥
+IsFaultOfBytes bytes (faults.Set error) = IsNoSet bytes error
+
+-- ---- sides
+
+-- a path with this ending is a text's, any other a set's
+abbrev pub is_text : Text → Bool
+is_text path = ends_with nat_eq path (codes ".proto")
+
+-- the path of the set that a side is, where its one path is a set's; else the side is texts
+abbrev pub set_at : List Text → Option Text
+set_at [] = None
+set_at (path ∷ []) = if is_text path then None else Some path
+set_at (path ∷ other ∷ paths) = None
+
+abbrev pub IsSideBy : Option Text → World → Parts → Type 0
+IsSideBy (Some path) w schema = IsRead w.may_give w.folder path schema
+IsSideBy None w schema = IsCompiled w schema
+
+-- the schema of a side: what its set states, or its texts declare
+abbrev pub IsSide : World → Parts → Type 0
+IsSide w schema = IsSideBy (set_at w.roots) w schema
+
+abbrev pub IsSideFaultBy : Option Text → World → Fault → Type 0
+IsSideFaultBy (Some path) w fault = IsFaultOfRead w.may_give w.may_lack w.folder path fault
+IsSideFaultBy None w fault = IsFaultOf w fault
+
+-- what is wrong with a side: with its set, or with its texts
+abbrev pub IsFaultOfSide : World → Fault → Type 0
+IsFaultOfSide w fault = IsSideFaultBy (set_at w.roots) w fault
+
+abbrev pub IsSideError : World → Side → GateError → Type 0
+IsSideError w = IsErrorOf (IsFaultOfSide w)
+
+-- ---- sets that are written
 
 -- the bytes are the set of what the files declare
 pub record IsSetOf (w : World) (bytes : List ℕ) : Type 0 where

@@ -7,11 +7,12 @@ use Rattle.pg_dyn.specs.Kept.{Kept}
 use Rattle.pg_schema.specs.declared.parts.Parts.{Parts}
 use Rattle.pg_gate.specs.Call.{Request, compile, gate, show, verify}
 use Rattle.pg_link.specs.Walk.{World, world}
-use Rattle.pg_gate.specs.Files.{IsCompiled, IsFaultOf, IsFaultOfSet, IsSetOf, fault_failures}
+use Rattle.pg_gate.specs.Files.{IsFaultOfSet, IsFaultOfSide, IsSetOf, IsSide, fault_failures}
 use Rattle.pg_gate.specs.Answer.{IsAnswer, IsBroken, IsCompatible, Lacks, certificate_of}
 use Rattle.pg_gate.specs.declared.answer.Answer.{Answer}
 use Rattle.pg_gate.specs.Refusals.{refusal_for}
 use Rattle.pg_gate.specs.Showing.{IsShowFault, IsShown}
+use Rattle.pg_gate.specs.Steps.{AreSteps}
 use Rattle.pg_gate.specs.Verified.{IsClaimFault, IsHeldBy}
 use Rattle.pg_gate.specs.declared.error.CertificateFault.{CertificateFault}
 use Rattle.pg_gate.specs.declared.error.CertificateFault.TheVariants as certificates
@@ -24,6 +25,7 @@ use Rattle.pg_gate.specs.declared.reply.Finding.{Finding}
 use Rattle.pg_gate.specs.declared.reply.Finding.TheVariants as findings
 use Rattle.pg_gate.specs.declared.reply.Reply.{Reply}
 use Rattle.pg_gate.specs.declared.reply.Reply.TheVariants as replies
+use Rattle.pg_gate.specs.declared.step.Step.{Step}
 
 -- what a run knows of a source: what it may give and lack, and its failures before and after
 pub record Seen : Type 0 where
@@ -51,13 +53,13 @@ files_at folder paths = record { folder = folder; paths = paths }
 abbrev pub world_of : Seen → SideFiles → World
 world_of s files = world s.may_give s.may_lack files.folder files.paths
 
--- the schema of texts of the side, which its source may give
+-- the schema of texts or of a set of the side, which its source may give
 abbrev pub IsSideSchema : Seen → SideFiles → Parts → Type 0
-IsSideSchema s files parts = IsCompiled (world_of s files) parts
+IsSideSchema s files parts = IsSide (world_of s files) parts
 
 -- a fault of the side's files; a source failed only where it counted a failure
 pub record IsSideFault (s : Seen) (files : SideFiles) (fault : Fault) : Type 0 where
-  pub is_fault : IsFaultOf (world_of s files) fault
+  pub is_fault : IsFaultOfSide (world_of s files) fault
   pub counted : s.before + fault_failures fault ≤ s.after
 
 -- what holds of the schemas of two sides
@@ -88,12 +90,14 @@ pub record IsShownCompatible (old new : Parts) (root : Text) : Type 0 where
   pub certificate : Claim
   pub compatible : IsCompatible old new root certificate
 
--- the bytes are those of a message that breaks, and no message that breaks has fewer, as some certificate shows
-pub record IsLeastWitness (old new : Parts) (root : Text) (bytes : List ℕ) : Type 0 where
+-- The bytes are those of a message that breaks, and no message that breaks has fewer, as some certificate shows. The steps are those of
+-- the certificate's witness.
+pub record IsLeastWitness (old new : Parts) (root : Text) (bytes : List ℕ) (steps : List Step) : Type 0 where
   pub message : Kept
   pub certificate : Claim
   pub broken : IsBroken old new root message certificate
   pub bytes_are : certificate.witness ≡ Some bytes
+  pub are_steps : AreSteps old new certificate steps
 
 -- the text is that of the certificate of an answer, and this is whether a message breaks
 pub record IsCertificateText (old new : Parts) (root text : Text) (breaks : Bool) : Type 0 where
@@ -105,11 +109,11 @@ pub record IsCertificateText (old new : Parts) (root text : Text) (breaks : Bool
 -- what the gate finds of the types of that name; the certificate where that is asked for, and nowhere else
 abbrev pub IsFindingOf : Parts → Parts → Text → Bool → Finding → Type 0
 IsFindingOf old new root false findings.Compatible = IsShownCompatible old new root
-IsFindingOf old new root false (findings.Breaks witness) = IsLeastWitness old new root witness.items
+IsFindingOf old new root false (findings.Breaks witness steps) = IsLeastWitness old new root witness.items steps.items
 IsFindingOf old new root false (findings.Certified text breaks) = ⊥
 IsFindingOf old new root false (findings.Verified verified) = ⊥
 IsFindingOf old new root true findings.Compatible = ⊥
-IsFindingOf old new root true (findings.Breaks witness) = ⊥
+IsFindingOf old new root true (findings.Breaks witness steps) = ⊥
 IsFindingOf old new root true (findings.Certified text breaks) = IsCertificateText old new root (string_bytes text) breaks
 IsFindingOf old new root true (findings.Verified verified) = ⊥
 
@@ -122,22 +126,22 @@ IsGateReply old new root certificate_only both (replies.Found finding) = ((both 
 IsGateReply old new root certificate_only both (replies.Both forward backward) = ((both && not certificate_only) ≡ true) × IsFindingOf old new root false forward × IsFindingOf new old root false backward
 IsGateReply old new root certificate_only both (replies.Refused refusal) = ⊥
 
--- a finding tells a certificate's witness, or that it has none
-abbrev pub TellsAnswer : Claim → Finding → Type 0
-TellsAnswer certificate findings.Compatible = certificate.witness ≡ None
-TellsAnswer certificate (findings.Breaks witness) = certificate.witness ≡ Some witness.items
-TellsAnswer certificate (findings.Certified text breaks) = ⊥
-TellsAnswer certificate (findings.Verified verified) = ⊥
+-- a finding tells a certificate's witness and its steps, or that it has none
+abbrev pub TellsAnswer : Parts → Parts → Claim → Finding → Type 0
+TellsAnswer old new certificate findings.Compatible = certificate.witness ≡ None
+TellsAnswer old new certificate (findings.Breaks witness steps) = (certificate.witness ≡ Some witness.items) × AreSteps old new certificate steps.items
+TellsAnswer old new certificate (findings.Certified text breaks) = ⊥
+TellsAnswer old new certificate (findings.Verified verified) = ⊥
 
 -- a finding tells a certificate's text, and whether it has a witness
 abbrev pub TellsCertificate : Parts → Parts → Claim → Finding → Type 0
 TellsCertificate old new certificate findings.Compatible = ⊥
-TellsCertificate old new certificate (findings.Breaks witness) = ⊥
+TellsCertificate old new certificate (findings.Breaks witness steps) = ⊥
 TellsCertificate old new certificate (findings.Certified text breaks) = Certifies old new (string_bytes text) certificate × (breaks ≡ is_some certificate.witness)
 TellsCertificate old new certificate (findings.Verified verified) = ⊥
 
 abbrev pub Tells : Parts → Parts → Claim → Bool → Finding → Type 0
-Tells old new certificate false finding = TellsAnswer certificate finding
+Tells old new certificate false finding = TellsAnswer old new certificate finding
 Tells old new certificate true finding = TellsCertificate old new certificate finding
 
 -- ---- certificates that are checked

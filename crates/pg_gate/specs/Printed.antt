@@ -22,7 +22,7 @@ verdict_status (verdicts.AtLeast n) = 5
 -- 0 compatible, 1 breaks; a certificate that is written has its answer's, one that is checked its verdict's
 abbrev pub finding_status : Finding → ℕ
 finding_status finding.Compatible = 0
-finding_status (finding.Breaks witness) = 1
+finding_status (finding.Breaks witness steps) = 1
 finding_status (finding.Certified text breaks) = if breaks then 1 else 0
 finding_status (finding.Verified verified) = verdict_status verified.verdict
 

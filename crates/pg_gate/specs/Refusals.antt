@@ -123,10 +123,14 @@ told_of_message messages.TooLong = told_alone 607
 told_of_message (messages.TooDeep at) = told_at_byte 608 at
 told_of_message (messages.Wire error) = told_at_byte (wire_code error) (place_of error)
 
--- the code of what the codec of messages refuses
+-- the code of what the codec of messages refuses, of the set itself, or of a rule that it breaks
 abbrev pub told_of_set : FdsError → Told
 told_of_set sets.Memory = told_alone 1
 told_of_set (sets.Bytes error) = told_of_message error
+told_of_set sets.NotProto3 = told_alone 702
+told_of_set sets.BadType = told_alone 703
+told_of_set sets.BadReference = told_alone 704
+told_of_set (sets.Rule error) = told_alone (told_of_check error).code
 
 abbrev pub told_of : Fault → Told
 told_of (faults.Link error) = told_of_link error

@@ -14,6 +14,8 @@ use Rattle.pg_gate.specs.declared.refusal.Location.TheVariants as location
 use Rattle.pg_gate.specs.declared.refusal.Refusal.{Refusal}
 use Rattle.pg_gate.specs.declared.reply.Finding.{Finding}
 use Rattle.pg_gate.specs.declared.reply.Finding.TheVariants as finding
+use Rattle.pg_gate.specs.declared.step.NamedField.{NamedField}
+use Rattle.pg_gate.specs.declared.step.Step.{Step}
 use Rattle.pg_gate.specs.declared.verified.Verified.{Verified}
 
 -- the end of a line
@@ -34,6 +36,29 @@ abbrev pub hex_of : List ℕ → Text
 hex_of [] = codes "-"
 hex_of (byte ∷ bytes) = digits_of (byte ∷ bytes)
 
+-- ---- places and steps
+
+-- `FILE:LINE:COLUMN`
+abbrev pub place_of : Place → Text
+place_of place = string_bytes place.file ++ (codes ":" ++ (decimal place.line
+    ++ (codes ":" ++ decimal place.column)))
+
+-- a side that is no text has no places
+abbrev pub place_or_dash : Option Place → Text
+place_or_dash (Some place) = place_of place
+place_or_dash None = codes "-"
+
+abbrev pub field_of : NamedField → Text
+field_of field = string_bytes field.name ++ (codes " " ++ place_or_dash field.place)
+
+-- `step NUMBER OLDFIELD OLDPLACE NEWFIELD NEWPLACE`
+abbrev pub step_of : Step → Text
+step_of step = codes "step " ++ (decimal step.number ++ (codes " " ++ (field_of step.old
+    ++ (codes " " ++ (field_of step.new ++ line_end)))))
+
+abbrev pub steps_of : List Step → Text
+steps_of steps = flat_map step_of steps
+
 -- ---- what is found
 
 -- `compatible NAME`, `breaks NAME LENGTH`, or `bound NAME LENGTH`
@@ -45,12 +70,12 @@ shown_of name witness (verdicts.AtLeast n) = codes "bound " ++ (name ++ (codes "
 abbrev pub verified_of : Verified → Text
 verified_of verified = shown_of (string_bytes verified.name) verified.length verified.verdict
 
--- `compatible NAME`; `breaks NAME LENGTH` and `witness HEX`; a certificate's text alone; or what a certificate shows
+-- `compatible NAME`; `breaks NAME LENGTH`, `witness HEX` and the steps; a certificate's text alone; or what a certificate shows
 abbrev pub finding_of : Text → Finding → Text
 finding_of root finding.Compatible = codes "compatible " ++ (root ++ line_end)
-finding_of root (finding.Breaks witness) =
+finding_of root (finding.Breaks witness steps) =
     codes "breaks " ++ (root ++ (codes " " ++ (decimal (length witness.items) ++ (line_end
-    ++ (codes "witness " ++ (hex_of witness.items ++ line_end))))))
+    ++ (codes "witness " ++ (hex_of witness.items ++ (line_end ++ steps_of steps.items)))))))
 finding_of root (finding.Certified text breaks) = string_bytes text
 finding_of root (finding.Verified verified) = verified_of verified
 
@@ -61,11 +86,6 @@ both_of root forward backward = (codes "forward" ++ line_end)
 
 -- ---- refusals
 
--- `FILE:LINE:COLUMN`
-abbrev pub place_of : Place → Text
-place_of place = string_bytes place.file ++ (codes ":" ++ (decimal place.line
-    ++ (codes ":" ++ decimal place.column)))
-
 abbrev pub side_of : Side → Text
 side_of side.Old = codes "old"
 side_of side.New = codes "new"
@@ -74,10 +94,15 @@ abbrev pub side_before : Option Side → Text
 side_before (Some s) = side_of s ++ codes " "
 side_before None = []
 
+-- a file's name, where it isn't empty
+abbrev pub behind_blank : Text → Text
+behind_blank [] = []
+behind_blank (byte ∷ bytes) = codes " " ++ (byte ∷ bytes)
+
 abbrev pub location_of : Location → Text
 location_of location.Nowhere = []
 location_of (location.InPlace place) = codes " " ++ place_of place
-location_of (location.InFile file) = codes " " ++ string_bytes file
+location_of (location.InFile file) = behind_blank (string_bytes file)
 location_of (location.AtByte at) = codes " at " ++ decimal at
 location_of (location.AtPair names) = codes " " ++ (string_bytes names.old ++ (codes " " ++ string_bytes names.new))
 location_of (location.AtChoice names number case) =

@@ -52,6 +52,14 @@ const VERIFY_STATUSES: &str = "Statuses:
   4  help, or words that are no call
   5  bound: it holds, and says only how long a message is at least that breaks";
 
+/// What help says of a side's file.
+const OLD_FILE: &str = "The old proto3 file, or a descriptor set where F doesn't end in .proto";
+
+const NEW_FILE: &str = "The new proto3 file, or a descriptor set where F doesn't end in .proto";
+
+/// What help says of the file by which a message is shown.
+const SHOWN_FILE: &str = "The proto3 file, or a descriptor set where F doesn't end in .proto";
+
 /// A folder, by default the current one.
 fn folder<'a>(alloc: Global, name: &'a str, help: &'a str) -> Arg<'a>
     ensures rule { rule_of result ≡ command_line.folder name.entry.now }
@@ -121,8 +129,8 @@ fn gate_command<'a>(alloc: Global) -> Result<Command<'a>, AllocError>
         .after_help(GATE_STATUSES)
         .arg(folder(alloc, "old-dir", "The folder of the old file"))?
         .arg(folder(alloc, "new-dir", "The folder of the new file"))?
-        .arg(named(alloc, "old", "F", "The old proto3 file"))?
-        .arg(named(alloc, "new", "F", "The new proto3 file"))?
+        .arg(named(alloc, "old", "F", OLD_FILE))?
+        .arg(named(alloc, "new", "F", NEW_FILE))?
         .arg(named(alloc, "type", "NAME", "The message type, by its full name"))?
         .arg(flag(
             alloc,
@@ -144,8 +152,8 @@ fn verify_command<'a>(alloc: Global) -> Result<Command<'a>, AllocError>
         .after_help(VERIFY_STATUSES)
         .arg(folder(alloc, "old-dir", "The folder of the old file"))?
         .arg(folder(alloc, "new-dir", "The folder of the new file"))?
-        .arg(named(alloc, "old", "F", "The old proto3 file"))?
-        .arg(named(alloc, "new", "F", "The new proto3 file"))?
+        .arg(named(alloc, "old", "F", OLD_FILE))?
+        .arg(named(alloc, "new", "F", NEW_FILE))?
         .arg(positional(
             alloc,
             "CERT",
@@ -162,7 +170,7 @@ fn show_command<'a>(alloc: Global) -> Result<Command<'a>, AllocError>
         )
         .after_help(SHOW_STATUSES)
         .arg(folder(alloc, "dir", "The folder of the file and of its imports"))?
-        .arg(named(alloc, "file", "F", "The proto3 file"))?
+        .arg(named(alloc, "file", "F", SHOWN_FILE))?
         .arg(named(alloc, "type", "NAME", "The message type, by its full name"))?
         .arg(positional(
             alloc,

@@ -1,12 +1,13 @@
-//! A side's schema, from the texts that its source gives.
+//! A side's schema, from the texts or the descriptor set that its source gives.
 ghost use Rattle.std.specs.Prelude.{◌≡◌, ◌+◌, IfErr, IfOk};
 ghost use Rattle.pg_link.specs.Linked.{IsLinkedUp};
 ghost use Rattle.pg_link.specs.Walk.{IsLinked, world};
 ghost use Rattle.pg_check.specs.Declares.{Declares};
 ghost use Rattle.pg_check.specs.Sources.{linked_sources};
-ghost use Rattle.pg_gate.specs.Files.{IsCompiled, IsErrorOf, IsOfLink, IsOfRules, IsSideError, paths_of, source_failures};
+ghost use Rattle.pg_gate.specs.Files.{IsCompiled, IsErrorOf, IsFaultOf, IsFaultOfRead, IsOfLink, IsOfRules, IsRead, IsSide, IsSideError, paths_of, source_failures};
 
 use crate::error::{Fault, GateError, Side};
+use crate::sets::{read_set, set_at};
 use pg_check::{CheckError, build};
 use pg_link::{LinkError, Linked, Sources, link};
 use pg_schema::Schema;
@@ -48,7 +49,82 @@ fn schema_of(alloc: Global, side: Side, linked: &Linked) -> Result<Schema, GateE
     }
 }
 
-/// The schema of a side's files: those at these paths below the folder, and all that they import.
+/// A side that compiled: its schema, and the files that declare it. A descriptor set has none.
+#[derive(Drop)]
+pub(crate) struct Compiled {
+    pub schema: Schema,
+    pub files: Option<Linked>,
+}
+
+/// The schema of texts with their files: those at these paths below the folder, and all that they import.
+pub(crate) fn compile_texts<S: Sources>(
+    alloc: Global,
+    source: &mut S,
+    side: Side,
+    folder: &str,
+    paths: &[&str],
+) -> Result<Compiled, GateError>
+    ensures compiled { IfOk result (λ compiled. IsCompiled (world (S.may_give source.old) (S.may_lack source.old)
+        folder.now (paths_of paths.now)) compiled.schema) }
+    ensures refused { IfErr result (IsErrorOf (IsFaultOf (world (S.may_give source.old) (S.may_lack source.old)
+        folder.now (paths_of paths.now))) side) }
+    ensures counted { S.failures source.new ≡ S.failures source.old + source_failures result }
+    ensures same_given { S.may_give source.new ≡ S.may_give source.old }
+    ensures same_lacked { S.may_lack source.new ≡ S.may_lack source.old }
+{
+    let files = files_of(alloc, source, side, folder, paths)?;
+    let schema = schema_of(alloc, side, &files)?;
+    Ok(Compiled {
+        schema,
+        files: Some(files),
+    })
+}
+
+/// The schema of the descriptor set at this path below the folder, which has no files.
+fn compile_set<S: Sources>(
+    alloc: Global,
+    source: &mut S,
+    side: Side,
+    folder: &str,
+    path: &str,
+) -> Result<Compiled, GateError>
+    ensures stated { IfOk result (λ compiled. IsRead (S.may_give source.old) folder.now path.now compiled.schema) }
+    ensures refused { IfErr result (IsErrorOf (IsFaultOfRead (S.may_give source.old) (S.may_lack source.old)
+        folder.now path.now) side) }
+    ensures counted { S.failures source.new ≡ S.failures source.old + source_failures result }
+    ensures same_given { S.may_give source.new ≡ S.may_give source.old }
+    ensures same_lacked { S.may_lack source.new ≡ S.may_lack source.old }
+{
+    let schema = read_set(alloc, source, side, folder, path)?;
+    Ok(Compiled {
+        schema,
+        files: None,
+    })
+}
+
+/// A side's schema with its files: the set at its path, or else the texts at its paths and all that they import.
+pub(crate) fn compile_files<S: Sources>(
+    alloc: Global,
+    source: &mut S,
+    side: Side,
+    folder: &str,
+    paths: &[&str],
+) -> Result<Compiled, GateError>
+    ensures compiled { IfOk result (λ compiled. IsSide (world (S.may_give source.old) (S.may_lack source.old)
+        folder.now (paths_of paths.now)) compiled.schema) }
+    ensures refused { IfErr result (IsSideError (world (S.may_give source.old) (S.may_lack source.old)
+        folder.now (paths_of paths.now)) side) }
+    ensures counted { S.failures source.new ≡ S.failures source.old + source_failures result }
+    ensures same_given { S.may_give source.new ≡ S.may_give source.old }
+    ensures same_lacked { S.may_lack source.new ≡ S.may_lack source.old }
+{
+    match set_at(paths) {
+        Some(path) => compile_set(alloc, source, side, folder, path),
+        None => compile_texts(alloc, source, side, folder, paths),
+    }
+}
+
+/// A side's schema.
 pub(crate) fn compile<S: Sources>(
     alloc: Global,
     source: &mut S,
@@ -56,7 +132,7 @@ pub(crate) fn compile<S: Sources>(
     folder: &str,
     paths: &[&str],
 ) -> Result<Schema, GateError>
-    ensures compiled { IfOk result (IsCompiled (world (S.may_give source.old) (S.may_lack source.old)
+    ensures compiled { IfOk result (IsSide (world (S.may_give source.old) (S.may_lack source.old)
         folder.now (paths_of paths.now))) }
     ensures refused { IfErr result (IsSideError (world (S.may_give source.old) (S.may_lack source.old)
         folder.now (paths_of paths.now)) side) }
@@ -64,6 +140,6 @@ pub(crate) fn compile<S: Sources>(
     ensures same_given { S.may_give source.new ≡ S.may_give source.old }
     ensures same_lacked { S.may_lack source.new ≡ S.may_lack source.old }
 {
-    let linked = files_of(alloc, source, side, folder, paths)?;
-    schema_of(alloc, side, &linked)
+    let compiled = compile_files(alloc, source, side, folder, paths)?;
+    Ok(compiled.schema)
 }

@@ -19,13 +19,14 @@ pub enum Side {
 /// Why a side does not compile.
 #[derive(Debug, PartialEq, Eq, Drop, Error)]
 pub enum Fault {
-    /// Its files can't be linked: by the code of that fault, at its place.
+    /// Its texts can't be linked, or its descriptor set isn't there: by the code of that fault, at its place.
     #[error("{0}")]
     Link(LinkError),
     /// They break a rule of the language: by its code, at its place.
     #[error("{0}")]
     Check(CheckError),
-    /// What it declares has no descriptor set: by the code of what the codec of messages refuses.
+    /// Its descriptor set is refused, or what its texts declare has none: by the code of the codec of messages, of the
+    /// set, or of the rule that it breaks.
     #[error("{0}")]
     Set(FdsError),
 }

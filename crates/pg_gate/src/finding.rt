@@ -1,6 +1,9 @@
 //! What a call is answered, from its sources.
 ghost use Rattle.std.specs.Prelude.{◌≡◌, [], ◌∷◌, IfErr, IfOk};
 ghost use Rattle.pg_cert.specs.Text.{IsClaimOf};
+ghost use Rattle.pg_least.specs.Exact.{IsSearched};
+ghost use Rattle.pg_pairs.specs.Sight.{by_numbers};
+ghost use Rattle.pg_schema.specs.Parts.{shape_of};
 ghost use Rattle.pg_gate.specs.Answer.{IsRefusedRoot};
 ghost use Rattle.pg_gate.specs.Call.{request_of, sides_of};
 ghost use Rattle.pg_gate.specs.Files.{paths_of};
@@ -8,11 +11,12 @@ ghost use Rattle.pg_gate.specs.Grants.{Between, Grants, IsErrorFor, IsFindingOf,
 
 use crate::answer::gate;
 use crate::call::{Call, Sides};
-use crate::compile::compile;
+use crate::compile::{Compiled, compile_files};
 use crate::error::{GateError, Side};
 use crate::refusal::refusal_for;
 use crate::reply::{Finding, Reply};
 use crate::showing::shown;
+use crate::stepping::steps;
 use crate::verifying::verify;
 use crate::writing::written;
 use pg_cert::{Certificate, to_text};
@@ -29,13 +33,20 @@ struct Asked<'a> {
     both: bool,
 }
 
-/// What is told of an answer with this certificate: its witness's bytes, where it has one.
-fn told(alloc: Global, certificate: &Certificate) -> Result<Finding, AllocError>
-    ensures { IfOk result (TellsAnswer certificate.now) }
+/// What is told of an answer with this certificate: its witness's bytes and steps, where it has one.
+fn told(
+    alloc: Global,
+    old: &Compiled,
+    new: &Compiled,
+    certificate: &Certificate,
+) -> Result<Finding, AllocError>
+    requires { IsSearched by_numbers (shape_of old.now.schema) (shape_of new.now.schema) certificate.now.root certificate.now }
+    ensures { IfOk result (TellsAnswer old.now.schema new.now.schema certificate.now) }
 {
     match certificate.witness() {
         Some(bytes) => Ok(Finding::Breaks {
             witness: Vec::from_slice(alloc, bytes)?,
+            steps: steps(alloc, old, new, certificate)?,
         }),
         None => Ok(Finding::Compatible),
     }
@@ -60,51 +71,52 @@ fn certified(
 /// What is told of the answer with this certificate: the certificate alone where that is asked for.
 fn finding_of(
     alloc: Global,
-    old: &Schema,
-    new: &Schema,
+    old: &Compiled,
+    new: &Compiled,
     certificate: &Certificate,
     certificate_only: bool,
 ) -> Result<Finding, AllocError>
-    requires { IsClaimOf old.now new.now certificate.now }
-    ensures { IfOk result (Tells old.now new.now certificate.now certificate_only) }
+    requires searched { IsSearched by_numbers (shape_of old.now.schema) (shape_of new.now.schema) certificate.now.root certificate.now }
+    requires claim { IsClaimOf old.now.schema new.now.schema certificate.now }
+    ensures { IfOk result (Tells old.now.schema new.now.schema certificate.now certificate_only) }
 {
     if certificate_only {
-        certified(alloc, old, new, certificate)
+        certified(alloc, &old.schema, &new.schema, certificate)
     } else {
-        told(alloc, certificate)
+        told(alloc, old, new, certificate)
     }
 }
 
-/// What the gate finds from an old to a new schema.
+/// What the gate finds from an old to a new side.
 fn one_way(
     alloc: Global,
-    old: &Schema,
-    new: &Schema,
+    old: &Compiled,
+    new: &Compiled,
     root: &str,
     certificate_only: bool,
 ) -> Result<Finding, GateError>
-    ensures found { IfOk result (IsFindingOf old.now new.now root.now certificate_only) }
-    ensures refused { IfErr result (IsRefusedRoot old.now new.now root.now) }
+    ensures found { IfOk result (IsFindingOf old.now.schema new.now.schema root.now certificate_only) }
+    ensures refused { IfErr result (IsRefusedRoot old.now.schema new.now.schema root.now) }
 {
     // What holds of every schema.
-    old.parts();
-    new.parts();
-    let answer = gate(alloc, old, new, root)?;
+    old.schema.parts();
+    new.schema.parts();
+    let answer = gate(alloc, &old.schema, &new.schema, root)?;
     let finding = finding_of(alloc, old, new, answer.certificate(), certificate_only)?;
     Ok(finding)
 }
 
-/// What the gate answers of two schemas: for the certificate alone, or in one direction or both.
+/// What the gate answers of two sides that compiled: for the certificate alone, or in one direction or both.
 fn between(
     alloc: Global,
-    old: &Schema,
-    new: &Schema,
+    old: &Compiled,
+    new: &Compiled,
     root: &str,
     certificate_only: bool,
     both: bool,
 ) -> Result<Reply, GateError>
-    ensures found { IfOk result (IsGateReply old.now new.now root.now certificate_only both) }
-    ensures refused { IfErr result (IsRefusedRoot old.now new.now root.now) }
+    ensures found { IfOk result (IsGateReply old.now.schema new.now.schema root.now certificate_only both) }
+    ensures refused { IfErr result (IsRefusedRoot old.now.schema new.now.schema root.now) }
 {
     let forward = one_way(alloc, old, new, root, certificate_only)?;
     if certificate_only || !both {
@@ -138,12 +150,12 @@ fn find<S: Sources, T: Sources>(
     ensures new_lacked { T.may_lack new.new ≡ T.may_lack new.old }
 {
     let sides = asked.sides;
-    let old_schema = compile(alloc, old, Side::Old, sides.old_dir, &[sides.old])?;
-    let new_schema = compile(alloc, new, Side::New, sides.new_dir, &[sides.new])?;
+    let old_side = compile_files(alloc, old, Side::Old, sides.old_dir, &[sides.old])?;
+    let new_side = compile_files(alloc, new, Side::New, sides.new_dir, &[sides.new])?;
     between(
         alloc,
-        &old_schema,
-        &new_schema,
+        &old_side,
+        &new_side,
         asked.root,
         asked.certificate_only,
         asked.both,

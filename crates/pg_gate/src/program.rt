@@ -91,9 +91,7 @@ pub fn run<S: Sources, T: Sources, W: Sink>(
         Ok(call) => call,
         Err(error) => return usage(alloc, &error, sink),
     };
-    let reply = answer(alloc, &call, old, new)?;
-    let status = reply.status();
-    let text = reply.into_text(alloc, call.root())?;
-    write_all(sink, &text)?;
-    Ok(status)
+    let output = answer(alloc, &call, old, new)?.into_output(alloc, call.root())?;
+    write_all(sink, &output.text)?;
+    Ok(output.status)
 }

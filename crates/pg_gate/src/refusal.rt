@@ -149,7 +149,13 @@ impl fmt::Display for Location {
                 " {}:{}:{}",
                 place.file, place.line, place.column
             ),
-            Location::InFile(file) => write!(f, " {file}"),
+            Location::InFile(file) => {
+                if file.is_empty() {
+                    Ok(())
+                } else {
+                    write!(f, " {file}")
+                }
+            }
             Location::AtByte(at) => write!(f, " at {at}"),
             Location::AtPair(names) => write!(f, " {} {}", names.old, names.new),
             Location::AtChoice {

@@ -5,6 +5,7 @@ ghost use Rattle.pg_gate.specs.Printed.{either_status, finding_status, status_of
 
 use crate::hex::Hex;
 use crate::refusal::Refusal;
+use crate::step::{Step, Steps};
 use crate::verified::Verified;
 use std::alloc::{AllocError, Global};
 use std::fmt;
@@ -28,8 +29,8 @@ pub enum Reply {
 pub enum Finding {
     /// No message breaks.
     Compatible,
-    /// The bytes of a message that breaks. None that breaks has fewer.
-    Breaks { witness: Vec<u8> },
+    /// The bytes of a message that breaks, and the fields on its path, root first. None that breaks has fewer.
+    Breaks { witness: Vec<u8>, steps: Vec<Step> },
     /// The text of the certificate, and whether a message breaks.
     Certified { text: String, breaks: bool },
     /// What a certificate shows.
@@ -94,6 +95,27 @@ impl Reply {
     }
 }
 
+/// What a program prints, and the status with which it ends.
+#[derive(Drop)]
+pub(crate) struct Output {
+    pub text: Vec<u8>,
+    pub status: u8,
+}
+
+impl Reply {
+    /// Its text and its status.
+    pub(crate) fn into_output(self, alloc: Global, root: &str) -> Result<Output, AllocError>
+        ensures text { IfOk result (λ output. output.text.items ≡ text_of root.now self) }
+        ensures status { IfOk result (λ output. output.status ≡ status_of self) }
+    {
+        let status = self.status();
+        Ok(Output {
+            text: self.into_text(alloc, root)?,
+            status,
+        })
+    }
+}
+
 impl Finding {
     /// 0 where no message breaks, and else 1; of a certificate its verdict's.
     fn status(&self) -> u8
@@ -115,11 +137,13 @@ impl fmt::Display for Report<'_> {
         let root = self.root;
         match self.finding {
             Finding::Compatible => writeln!(f, "compatible {root}"),
-            Finding::Breaks { witness } => {
+            Finding::Breaks { witness, steps } => {
                 let length = witness.len();
                 let witness = Hex(witness);
+                let steps = Steps(steps);
                 writeln!(f, "breaks {root} {length}")?;
-                writeln!(f, "witness {witness}")
+                writeln!(f, "witness {witness}")?;
+                write!(f, "{steps}")
             }
             Finding::Certified { text, .. } => write!(f, "{text}"),
             Finding::Verified(verified) => write!(f, "{verified}"),

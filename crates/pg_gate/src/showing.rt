@@ -55,7 +55,7 @@ fn shown_by(alloc: Global, schema: &Schema, root: &str, word: &str) -> Result<St
     lines_of(alloc, schema, type_id, &bytes)
 }
 
-/// The same by the type of the file at this path below the folder, or of what it imports.
+/// The same by the type of the text or the set at this path below the folder, or of what a text imports.
 pub(crate) fn shown<S: Sources>(
     alloc: Global,
     source: &mut S,

@@ -177,13 +177,22 @@ pub(crate) fn told_of_message(error: DynError) -> Told
     }
 }
 
-/// What is told of a set: the code of what the codec of messages refuses.
+/// What is told of a set: the code of what the codec of messages refuses, of the set itself, or of a rule
+/// that it breaks.
 fn told_of_set(error: FdsError) -> Told
     ensures { result ≡ refusals.told_of_set error }
 {
     match error {
         FdsError::Memory => told_alone(OUT_OF_MEMORY),
         FdsError::Bytes(error) => told_of_message(error),
+        FdsError::NotProto3 => told_alone(702),
+        FdsError::BadType => told_alone(703),
+        FdsError::BadReference => told_alone(704),
+        // Of parts that come from no text the place is none.
+        FdsError::Rule(error) => {
+            let told = told_of_check(error);
+            told_alone(told.code)
+        }
     }
 }
 

@@ -39,7 +39,7 @@ fn read<S: Sources>(alloc: Global, source: &mut S, path: &str) -> Result<Vec<u8>
 }
 
 /// The full name of the type.
-fn name_of(alloc: Global, schema: &Schema, id: TypeId) -> Result<String, AllocError>
+pub(crate) fn name_of(alloc: Global, schema: &Schema, id: TypeId) -> Result<String, AllocError>
     ensures { IfOk result (λ name. string_bytes name ≡ names_of schema.now id) }
 {
     match schema.message_type(id) {

@@ -3,13 +3,13 @@ ghost use Rattle.std.specs.Prelude.{◌≡◌, ◌+◌, IfErr, IfOk};
 ghost use Rattle.pg_link.specs.Walk.{world};
 ghost use Rattle.pg_gate.specs.Files.{IsErrorOf, IsFaultOfSet, IsSetOf, paths_of, source_failures};
 
-use crate::compile::compile;
+use crate::compile::compile_texts;
 use crate::error::{Fault, GateError, Side};
 use pg_fds::{FdsError, write};
 use pg_link::Sources;
 use std::alloc::Global;
 
-/// The set of the files at these paths below the folder, and of all that they import.
+/// The set of the texts at these paths below the folder, and of all that they import.
 pub(crate) fn written<S: Sources>(
     alloc: Global,
     source: &mut S,
@@ -24,8 +24,8 @@ pub(crate) fn written<S: Sources>(
     ensures same_given { S.may_give source.new ≡ S.may_give source.old }
     ensures same_lacked { S.may_lack source.new ≡ S.may_lack source.old }
 {
-    let schema = compile(alloc, source, Side::Old, folder, paths)?;
-    match write(alloc, &schema) {
+    let compiled = compile_texts(alloc, source, Side::Old, folder, paths)?;
+    match write(alloc, &compiled.schema) {
         Ok(bytes) => Ok(bytes),
         Err(FdsError::Memory) => Err(GateError::Memory),
         Err(error) => Err(GateError::Compile(Side::Old, Fault::Set(error))),

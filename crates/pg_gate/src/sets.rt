@@ -1,0 +1,84 @@
+//! Sides that are descriptor sets.
+ghost use Rattle.std.specs.Prelude.{◌≡◌, ◌+◌, IfErr, IfOk, IsTrue, option_map};
+ghost use Rattle.pg_fds.specs.Reads.{fds_reads};
+ghost use Rattle.pg_link.specs.Below.{path_below};
+ghost use Rattle.pg_gate.specs.Files.{IsErrorOf, IsFaultOfBytes, IsFaultOfRead, IsGivenFault, IsRead, paths_of, source_failures};
+ghost use Rattle.pg_gate.specs.Files as spec;
+
+use crate::error::{Fault, GateError, Side};
+use pg_fds::{FdsError, read};
+use pg_link::{LinkError, Sources, read_file};
+use pg_schema::Schema;
+use std::alloc::Global;
+
+/// The ending of a path that is a text's.
+const TEXT: &[u8] = b".proto";
+
+/// Whether a file of this path is a text. Any other is a descriptor set.
+fn is_text(path: &str) -> bool
+    ensures { result ≡ spec.is_text path.now }
+{
+    path.as_bytes().ends_with(TEXT)
+}
+
+/// The path of the set, where a side of these paths is one.
+pub(crate) fn set_at<'a>(paths: &[&'a str]) -> Option<&'a str>
+    ensures { option_map (λ path. path.now) result ≡ spec.set_at (paths_of paths.now) }
+{
+    match paths {
+        [path] if !is_text(path) => Some(path),
+        _ => None,
+    }
+}
+
+/// The bytes of the set.
+fn bytes_of<S: Sources>(
+    alloc: Global,
+    source: &mut S,
+    side: Side,
+    folder: &str,
+    path: &str,
+) -> Result<Vec<u8>, GateError>
+    ensures given { IfOk result (λ bytes. IsTrue (S.may_give source.old (path_below folder.now path.now) bytes.items)) }
+    ensures refused { IfErr result (IsErrorOf (IsGivenFault (S.may_lack source.old) folder.now path.now) side) }
+    ensures counted { S.failures source.new ≡ S.failures source.old + source_failures result }
+    ensures same_given { S.may_give source.new ≡ S.may_give source.old }
+    ensures same_lacked { S.may_lack source.new ≡ S.may_lack source.old }
+{
+    match read_file(alloc, source, folder, path) {
+        Ok(bytes) => Ok(bytes),
+        Err(LinkError::Memory) => Err(GateError::Memory),
+        Err(error) => Err(GateError::Compile(side, Fault::Link(error))),
+    }
+}
+
+/// The schema that the bytes state.
+fn stated(alloc: Global, side: Side, bytes: &[u8]) -> Result<Schema, GateError>
+    ensures stated { IfOk result (fds_reads bytes.now) }
+    ensures refused { IfErr result (IsErrorOf (IsFaultOfBytes bytes.now) side) }
+{
+    match read(alloc, bytes) {
+        Ok(schema) => Ok(schema),
+        Err(FdsError::Memory) => Err(GateError::Memory),
+        Err(error) => Err(GateError::Compile(side, Fault::Set(error))),
+    }
+}
+
+/// The schema of the set at this path below the folder.
+pub(crate) fn read_set<S: Sources>(
+    alloc: Global,
+    source: &mut S,
+    side: Side,
+    folder: &str,
+    path: &str,
+) -> Result<Schema, GateError>
+    ensures stated { IfOk result (IsRead (S.may_give source.old) folder.now path.now) }
+    ensures refused { IfErr result (IsErrorOf (IsFaultOfRead (S.may_give source.old) (S.may_lack source.old)
+        folder.now path.now) side) }
+    ensures counted { S.failures source.new ≡ S.failures source.old + source_failures result }
+    ensures same_given { S.may_give source.new ≡ S.may_give source.old }
+    ensures same_lacked { S.may_lack source.new ≡ S.may_lack source.old }
+{
+    let bytes = bytes_of(alloc, source, side, folder, path)?;
+    stated(alloc, side, &bytes)
+}

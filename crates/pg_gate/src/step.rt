@@ -1,0 +1,59 @@
+//! The lines of the fields on a witness's path.
+ghost use Rattle.std.specs.Prelude.{Some};
+ghost use Rattle.pg_gate.specs.Text as spec;
+
+use pg_link::Place;
+use std::fmt;
+
+/// A field, by its full name, and where it is declared.
+#[derive(Debug, Drop)]
+pub struct NamedField {
+    pub name: String,
+    pub place: Option<Place>,
+}
+
+/// A field on a witness's path: by its number, as it stands in the old type and in the new one.
+#[derive(Debug, Drop)]
+pub struct Step {
+    pub number: u32,
+    pub old: NamedField,
+    pub new: NamedField,
+}
+
+/// The lines of steps.
+#[derive(Clone, Copy)]
+pub struct Steps<'a>(pub &'a [Step]);
+
+impl fmt::Display for NamedField {
+    ghost output = { λ it. Some (spec.field_of it) };
+
+    fn fmt<W: fmt::Write>(&self, f: &mut fmt::Formatter<W>) -> fmt::Result {
+        let name = &self.name;
+        match &self.place {
+            Some(place) => write!(f, "{name} {}:{}:{}", place.file, place.line, place.column),
+            None => write!(f, "{name} -"),
+        }
+    }
+}
+
+impl fmt::Display for Step {
+    ghost output = { λ it. Some (spec.step_of it) };
+
+    fn fmt<W: fmt::Write>(&self, f: &mut fmt::Formatter<W>) -> fmt::Result {
+        let number = self.number;
+        let old = &self.old;
+        let new = &self.new;
+        writeln!(f, "step {number} {old} {new}")
+    }
+}
+
+impl fmt::Display for Steps<'_> {
+    ghost output = { λ it. Some (spec.steps_of it.0.now) };
+
+    fn fmt<W: fmt::Write>(&self, f: &mut fmt::Formatter<W>) -> fmt::Result {
+        for step in self.0 {
+            write!(f, "{step}")?;
+        }
+        Ok(())
+    }
+}
