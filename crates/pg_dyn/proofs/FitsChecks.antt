@@ -19,6 +19,9 @@ use Rattle.pg_dyn.proofs.Lists.{list_any_at}
 pub same_value : (v w : Value) → ◌≡◌ {A = Option Value} (Some v) (Some w) → v ≡ w
 same_value v w e = cc
 
+pub none_found : (f : FieldShape) → ◌≡◌ {A = Option FieldShape} None (Some f) → ⊥
+none_found f e = cc
+
 pub same_field : (f g : FieldShape) → ◌≡◌ {A = Option FieldShape} (Some f) (Some g) → f ≡ g
 same_field f g e = cc
 

@@ -1,22 +1,17 @@
 -- An item that becomes the content of an implicit field, and a record that is kept.
-use Rattle.std.proofs.Common.{Bool, true, false, ◌≡◌, ℕ, List, [], ◌∷◌, ◌++◌, length, map, drop, ◌-◌, cond, None, refl, ap, ap₂, sym, subst, ◌∙◌, arith, length-append, drop_at, filter, not}
+use Rattle.std.proofs.Common.{false, ◌≡◌, ℕ, List, [], ◌∷◌, ◌++◌, length, map, drop, ◌-◌, refl, ap, ap₂, sym, subst, ◌∙◌, arith, length-append, drop_at}
 use Rattle.std.specs.List.{AllByRecursion}
 use Rattle.pg_schema.specs.declared.field.TypeId.{TypeId}
 use Rattle.pg_wire.specs.Records.{WireRecord, IsRecord}
 use Rattle.pg_dyn.specs.declared.message.UnknownRecord.{UnknownRecord}
 use Rattle.pg_dyn.specs.declared.message.Content.{Content}
-use Rattle.pg_dyn.specs.declared.message.Content.TheVariants as contents
 use Rattle.pg_dyn.specs.declared.message.Value.{Value}
 use Rattle.pg_dyn.specs.declared.message.Value.TheVariants as values
-use Rattle.pg_dyn.specs.Message.{Leaf, Part, is_zero}
-use Rattle.pg_dyn.specs.Kept.{Kept, KeptItem, Plain}
-use Rattle.pg_dyn.specs.Seen.{leaf_of, item_seen, content_seen, IsKey, record_seen}
-use Rattle.pg_schema.specs.declared.field.Presence.TheVariants as presences
-use Rattle.pg_dyn.specs.Setting.{is_zero_kept, settled_by}
-use Rattle.pg_dyn.specs.FieldList.{put_field, remove_field}
-use Rattle.pg_dyn.specs.Replacing.{with_parts, with_unknown, implicit_part}
+use Rattle.pg_dyn.specs.Kept.{Kept, Plain}
+use Rattle.pg_dyn.specs.Seen.{leaf_of, item_seen, IsKey, record_seen}
+use Rattle.pg_dyn.specs.Replacing.{with_unknown}
 use Rattle.pg_dyn.proofs.Lists.{each-append}
-use Rattle.pg_dyn.proofs.ReplacingLaws.{shown, put_shows, remove_shows, unknown_more}
+use Rattle.pg_dyn.proofs.ReplacingLaws.{shown, unknown_more}
 
 pub key_seen : (v : Value) → IsKey v → item_seen false v ≡ Plain false (leaf_of v)
 key_seen (values.Int x) h = refl
@@ -25,23 +20,6 @@ key_seen (values.F64 x) h = refl
 key_seen (values.Text x) h = refl
 key_seen (values.Bytes x) h = refl
 key_seen (values.Msg x) h = absurd h
-
-no_part : (n : ℕ) (leaf : Leaf) → is_zero leaf ≡ true → implicit_part n leaf ≡ []
-no_part n leaf zero = ap (λ b. cond b [] (record { number = n; key = None; item = Plain false leaf } ∷ [])) zero
-
-one_part : (n : ℕ) (v : Value) → IsKey v → is_zero (leaf_of v) ≡ false → implicit_part n (leaf_of v) ≡ content_seen n (contents.One v)
-one_part n v key zero =
-    ap (λ b. cond b [] (record { number = n; key = None; item = Plain false (leaf_of v) } ∷ [])) zero ∙ ap (λ (item : KeptItem). record { number = n; key = None; item = item } ∷ []) (sym (key_seen v key))
-
-pub held_none : (type : TypeId) (n : ℕ) (leaf : Leaf) (ms new : List (ℕ × Content)) (us : List WireRecord) (m : Kept) → is_zero leaf ≡ true → new ≡ remove_field n ms → shown type ms us ≡ m
-    → shown type new us ≡ with_parts n (implicit_part n leaf) m
-held_none type n leaf ms new us m zero is view =
-    ap (λ fs. shown type fs us) is ∙ remove_shows type n ms us ∙ ap₂ (with_parts n) (sym (no_part n leaf zero)) view
-
-pub held_one : (type : TypeId) (n : ℕ) (v : Value) (ms new : List (ℕ × Content)) (us : List WireRecord) (m : Kept) → IsKey v → is_zero (leaf_of v) ≡ false → new ≡ put_field n (contents.One v) ms → shown type ms us ≡ m
-    → shown type new us ≡ with_parts n (implicit_part n (leaf_of v)) m
-held_one type n v ms new us m key zero is view =
-    ap (λ fs. shown type fs us) is ∙ put_shows type n (contents.One v) ms us ∙ ap₂ (with_parts n) (sym (one_part n v key zero)) view
 
 -- the body of a record is its last bytes
 pub body_at_end : (r : WireRecord) → IsRecord r → drop (length r.bytes - length r.body) r.bytes ≡ r.body
@@ -74,12 +52,3 @@ pub all_records : (us new : List UnknownRecord) (u : UnknownRecord) (r : WireRec
 all_records us new u r is same h each =
     subst (λ xs. AllByRecursion IsRecord xs) (sym (ap (map record_seen) is ∙ map-snoc record_seen us u))
     (each-append IsRecord (map record_seen us) (record_seen u ∷ []) each (subst IsRecord (sym same) h, tt))
-
--- a content of one item, settled in an implicit field
-pub settled_one : (n : ℕ) (v : Value) → IsKey v → settled_by presences.Implicit (content_seen n (contents.One v)) ≡ implicit_part n (leaf_of v)
-settled_one n v key =
-    ap (λ (item : KeptItem). filter (λ (p : Part KeptItem). not (is_zero_kept p.item)) (record { number = n; key = None; item = item } ∷ [])) (key_seen v key) ∙ of (is_zero (leaf_of v)) refl
-  where
-    of : (b : Bool) → is_zero (leaf_of v) ≡ b → filter (λ (p : Part KeptItem). not (is_zero_kept p.item)) (record { number = n; key = None; item = Plain false (leaf_of v) } ∷ []) ≡ implicit_part n (leaf_of v)
-    of true e = rw e
-    of false e = rw e

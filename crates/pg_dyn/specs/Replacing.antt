@@ -1,10 +1,10 @@
 -- A message with another content under a number.
-use Rattle.std.specs.Prelude.{ℕ, List, [], ◌∷◌, ◌++◌, filter, nat_lt, nat_eq, Bool, false, not, ◌&&◌, if◌then◌else◌, Option, None}
+use Rattle.std.specs.Prelude.{ℕ, List, [], ◌∷◌, ◌++◌, filter, nat_lt, nat_eq, Bool, not, ◌&&◌, Option}
 use Rattle.std.specs.List.{list_any}
 use Rattle.pg_schema.specs.declared.field.TypeId.{TypeId}
 use Rattle.pg_schema.specs.Shape.{FieldShape}
 use Rattle.pg_wire.specs.Records.{WireRecord}
-use Rattle.pg_dyn.specs.Message.{Leaf, Part, is_zero}
+use Rattle.pg_dyn.specs.Message.{Leaf, Part}
 use Rattle.pg_dyn.specs.Content.{is_rival}
 use Rattle.pg_dyn.specs.Kept.{Kept, ends, holds, nests, KeptItem, Plain, Msg, type_of, parts_of, unknown_of}
 
@@ -41,7 +41,3 @@ with_content fs f ps m = with_parts f.number ps (without_rivals fs f m)
 -- the message with one unknown record more
 abbrev pub with_unknown : WireRecord → Kept → Kept
 with_unknown r m = kept_from (type_of m) (parts_of m) (unknown_of m ++ r ∷ [])
-
--- the part of an item of an implicit field: none where the item is zero
-abbrev pub implicit_part : ℕ → Leaf → List (Part KeptItem)
-implicit_part number leaf = if is_zero leaf then [] else record { number = number; key = None; item = Plain false leaf } ∷ []

@@ -101,9 +101,9 @@ impl Message {
             → Fits (shape_of schema.now) (without_rivals (fields (shape_of schema.now) (type_of self.old)) f self.new)) }
         ensures err { IfErr result (λ e. e ≡ errors.Memory) }
     {
-        // A content that is taken has a field.
         let Some(field) = schema.field(self.type_id, number) else {
-            return Err(DynError::Memory);
+            // A content that is taken has a field.
+            unreachable!();
         };
         match self.put_content(schema, field, content) {
             Ok(()) => Ok(()),

@@ -10,7 +10,7 @@ use Rattle.pg_dyn.specs.Replacing.{with_parts, without_rivals}
 use Rattle.pg_dyn.specs.Seen.{content_seen, record_seen}
 use Rattle.pg_dyn.specs.Setting.{settled}
 use Rattle.pg_dyn.specs.Told.{ItemsFit}
-use Rattle.pg_dyn.proofs.FitsChecks.{same_field}
+use Rattle.pg_dyn.proofs.FitsChecks.{none_found, same_field}
 use Rattle.pg_dyn.proofs.ReplacingLaws.{type_shown}
 use Rattle.pg_dyn.proofs.Splitting.{found_number}
 use Rattle.pg_dyn.proofs.message.Message.add.Goals.{in-Ok, in-Err}
@@ -32,6 +32,13 @@ put_content-requires-clause-items c =
     let found = ap (λ (t : TypeId). field_at (fields (shape_of c.args.schema.now) t) c.args.number) same ∙ sym c.in-Some.ensures.shape in
     let is = same_field g (field_shape c.in-Some.field.now) (sym taken.found ∙ found) in
     subst (λ (f : FieldShape). ItemsFit (shape_of c.args.schema.now) f.presence f.element c.args.content) is taken.items
+
+pub unreachable-requires : goal.unreachable-requires
+unreachable-requires c =
+    let a = c.self.inside in
+    let same : type_of c.args.self.now ≡ a.type_id = sym (ap type_of c.self.view_is) ∙ type_shown a.type_id a.fields.items (map record_seen a.unknown.items) in
+    let (g, taken) = c.requires.taken in
+    none_found g (c.in_default.ensures.shape ∙ ap (λ (t : TypeId). field_at (fields (shape_of c.args.schema.now) t) c.args.number) (sym same) ∙ taken.found)
 
 pub returns-clause-ok : goal.returns-clause-ok
 returns-clause-ok c =

@@ -1,5 +1,5 @@
 -- The content is put into the field that takes it, and the rivals are taken out.
-use Rattle.std.proofs.Common.{◌≡◌, None, Some, Option, map, ap, sym, subst, ◌∙◌}
+use Rattle.std.proofs.Common.{◌≡◌, map, ap, sym, subst, ◌∙◌}
 use Rattle.pg_schema.specs.declared.field.TypeId.{TypeId}
 use Rattle.pg_schema.specs.Parts.{field_shape, shape_of}
 use Rattle.pg_schema.specs.Shape.{FieldShape, fields, field_at}
@@ -8,15 +8,12 @@ use Rattle.pg_dyn.specs.Kept.{type_of}
 use Rattle.pg_dyn.specs.Replacing.{without_rivals}
 use Rattle.pg_dyn.specs.Seen.{record_seen}
 use Rattle.pg_dyn.specs.Told.{IsTaken, ItemsFit}
-use Rattle.pg_dyn.proofs.FitsChecks.{same_field}
+use Rattle.pg_dyn.proofs.FitsChecks.{none_found, same_field}
 use Rattle.pg_dyn.proofs.PutLaws.{cleared_fits}
 use Rattle.pg_dyn.proofs.ReplacingLaws.{type_shown}
 use Rattle.pg_dyn.proofs.SetSteps.{set_to, with_parts_type}
 use Rattle.pg_dyn.proofs.Splitting.{found_number}
 use Rattle.pg_dyn.proofs.message.Message.put.Goals as goal
-
-none_found : (f : FieldShape) → ◌≡◌ {A = Option FieldShape} None (Some f) → ⊥
-none_found f e = cc
 
 pub put_content-requires-clause-found : goal.put_content-requires-clause-found
 put_content-requires-clause-found c =
