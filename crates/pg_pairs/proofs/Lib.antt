@@ -3,6 +3,7 @@ pub mod Lengths
 pub mod Leaves
 pub mod Gaps
 pub mod GapItems
+pub mod ElementGaps
 pub mod Likeness
 pub mod Packed
 pub mod Across
@@ -17,6 +18,7 @@ pub mod Messages
 pub mod Splits
 pub mod Choosing
 pub mod LowerBound
+pub mod FieldAlone
 pub mod Settling
 pub mod Single
 pub mod Broken

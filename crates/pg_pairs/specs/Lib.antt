@@ -16,5 +16,7 @@ pub mod FirstSeen
 pub mod Settling
 pub mod Contents
 pub mod Laws
+pub mod FieldCosts
+pub mod ElementGaps
 pub mod LeastCosts
 pub mod SmallPairs

@@ -3,6 +3,8 @@
 ghost use Rattle.pg_pairs.specs.Carried.{EachChildCostsLess, EachChoiceIsCarried};
 ghost use Rattle.pg_pairs.specs.Cheapest.{CheapestIsLeast};
 ghost use Rattle.pg_pairs.specs.Contents.{ContentsCost};
+ghost use Rattle.pg_pairs.specs.ElementGaps.{ElementGaps};
+ghost use Rattle.pg_pairs.specs.FieldCosts.{ChildrenCost, ListsCost, MapsCost, SingleScalarsCost};
 ghost use Rattle.pg_pairs.specs.FirstSeen.{OnePairMore};
 ghost use Rattle.pg_pairs.specs.Gaps.{GapTable};
 ghost use Rattle.pg_pairs.specs.Laws.{CoveringBounds, EachChoiceIsReached, ExactIsLeast, NoneIsCompatible};
@@ -22,6 +24,12 @@ pub fn gap_table()
     ensures { GapTable }
 {}
 
+/// The gap between any two like elements that are no messages, under any view of enum items, is a least item that isn't
+/// seen; where there is none each is seen.
+pub fn element_gaps()
+    ensures { ElementGaps }
+{}
+
 /// By their numbers all enum items are alike.
 pub fn numbers_sight()
     ensures { IsSight by_numbers }
@@ -36,6 +44,26 @@ pub fn numbers_are_alike()
 /// and maps, and of children that are as long as the table says.
 pub fn contents_cost()
     ensures { ContentsCost }
+{}
+
+/// A message that breaks with one scalar or enum in a singular field alone has at least the bytes of the field's cheapest choice.
+pub fn single_scalars_cost()
+    ensures { SingleScalarsCost }
+{}
+
+/// So has one that breaks with a list alone, of scalars or of children, under a table that covers the pair.
+pub fn lists_cost()
+    ensures { ListsCost }
+{}
+
+/// And with a map alone.
+pub fn maps_cost()
+    ensures { MapsCost }
+{}
+
+/// And with a child in a singular field alone.
+pub fn children_cost()
+    ensures { ChildrenCost }
 {}
 
 /// A table that covers a pair bounds from below the messages that break, for each pair in it.

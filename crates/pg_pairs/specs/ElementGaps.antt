@@ -1,0 +1,19 @@
+-- The gap between any two like elements that are no messages, under any view of enum items.
+use Rattle.std.specs.Prelude.{◌≡◌, ⊤, Bool, true}
+use Rattle.pg_schema.specs.declared.field.Element.{Element}
+use Rattle.pg_schema.specs.declared.field.Element.TheVariants as elements
+use Rattle.pg_pairs.specs.Sight.{Sight, IsSight}
+use Rattle.pg_pairs.specs.Likeness.{like}
+use Rattle.pg_pairs.specs.Gaps.{IsGapItem, gap_item}
+
+abbrev pub IsNoMessage : Element → Type 0
+IsNoMessage (elements.Message t) = ⊥
+IsNoMessage (elements.Scalar s) = ⊤
+IsNoMessage (elements.Enum e) = ⊤
+
+-- Between two enums it is the number that the view names, beside a scalar an enum's goes by int32, and between scalars by the table: the
+-- item is a least one of all that count and aren't seen, and where there is none each that counts is seen.
+abbrev pub ElementGaps : Type 0
+ElementGaps =
+    (sight : Sight) → IsSight sight → (zero : Bool) (old new : Element) → IsNoMessage old → like old new ≡ true →
+    IsGapItem sight.alike zero old new (gap_item sight zero old new)
