@@ -9,6 +9,7 @@ mod maps;
 mod memory;
 mod schemas;
 mod tables;
+mod views;
 
 use pg_pairs::{Gap, gap};
 use pg_schema::Scalar;

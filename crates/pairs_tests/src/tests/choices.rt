@@ -18,7 +18,8 @@ pub(crate) const FIRST: Pair = Pair {
 /// Number, case, part and cost of each choice.
 pub(crate) type Rows = Vec<(u32, u8, u32, u32)>;
 
-fn rows_of(alloc: Global, choices: &[Choice]) -> Result<Rows, AllocError> {
+/// Of these choices.
+pub(crate) fn rows_of(alloc: Global, choices: &[Choice]) -> Result<Rows, AllocError> {
     let mut rows = Vec::new(alloc);
     for choice in choices {
         rows.push((choice.number, choice.case, choice.part, choice.cost))?;

@@ -1,11 +1,13 @@
 //! Each allocation refused in turn: `rt try --test --fail-alloc N`.
 
 use crate::tests::choices::FIRST;
-use crate::tests::schemas::{Line, child, map, member, optional, repeated, schema, singular};
+use crate::tests::schemas::{
+    Line, child, field, map, member, optional, repeated, schema, singular,
+};
 use crate::tests::tables::NOTHING;
 use pg_dyn::{DynError, Message, decode, encode, fits};
 use pg_pairs::{Choice, Numbers, Pair, breaks, carry, cheapest, children, options};
-use pg_schema::{Element, Scalar};
+use pg_schema::{Element, Presence, Scalar, TypeId};
 use std::alloc::{AllocError, Global};
 use std::test::Fail;
 
@@ -91,6 +93,32 @@ fn refused_messages(rt: HostRuntime) -> Result<(), Fail> {
     )
 }
 
+// A text that isn't zero beside a number, one zero in a packed list, and two empty messages in a list.
+#[test]
+fn refused_items(rt: HostRuntime) -> Result<(), Fail> {
+    use Scalar::{Int32, String};
+    let alloc = rt.alloc();
+    carried(
+        alloc,
+        &[singular(1, String)],
+        &[singular(1, Int32)],
+        &[0x0a, 0x01, 0x61],
+    )?;
+    carried(
+        alloc,
+        &[repeated(1, Int32)],
+        &[optional(1, Int32)],
+        &[0x0a, 0x01, 0x00],
+    )?;
+    let messages = Element::Message(FIRST.old);
+    carried(
+        alloc,
+        &[field(1, Presence::Repeated { packed: false }, messages)],
+        &[child(1, 0)],
+        &[0x0a, 0x00, 0x0a, 0x00],
+    )
+}
+
 // The child of a choice is put into a message, or memory was refused.
 #[test]
 fn a_refused_child(rt: HostRuntime) -> Result<(), Fail> {
@@ -113,6 +141,51 @@ fn a_refused_child(rt: HostRuntime) -> Result<(), Fail> {
     match carry(alloc, &Numbers, &old, &old, FIRST, &choice, Some(inner)) {
         Ok(found) => assert!(rt; found.is_some()),
         Err(AllocError) => {}
+    }
+    Ok(())
+}
+
+// `message M0 { map<int32, M1> f1 = 1; }`, where the field of `M1` changes from uint32 to int32: the child that breaks is put
+// into an entry, or memory was refused.
+#[test]
+fn a_refused_entry(rt: HostRuntime) -> Result<(), Fail> {
+    let alloc = rt.alloc();
+    let second = Pair {
+        old: TypeId { index: 1 },
+        new: TypeId { index: 1 },
+    };
+    let root = [map(1, Scalar::Int32, Element::Message(second.old))];
+    let old = schema(alloc, &[&root, &[singular(1, Scalar::Uint32)]])?;
+    let new = schema(alloc, &[&root, &[singular(1, Scalar::Int32)]])?;
+    if !old.has(FIRST.old) || !old.has(second.old) {
+        return Err(Fail::from("the old schema has two types"));
+    }
+    let gap = Choice {
+        number: 1,
+        case: 2,
+        part: 0,
+        cost: 6,
+    };
+    let Ok(inner) = carry(alloc, &Numbers, &old, &new, second, &gap, None) else {
+        return Ok(());
+    };
+    let inner = inner.ok_or("a child")?;
+    let choice = Choice {
+        number: 1,
+        case: 5,
+        part: 2,
+        cost: 12,
+    };
+    let Ok(found) = carry(alloc, &Numbers, &old, &new, FIRST, &choice, Some(inner)) else {
+        return Ok(());
+    };
+    let message = found.ok_or("a message of the choice")?;
+    let wanted = [
+        0x0a, 0x0a, 0x08, 0x00, 0x12, 0x06, 0x08, 0x80, 0x80, 0x80, 0x80, 0x08,
+    ];
+    match encode(alloc, &old, &message) {
+        Ok(bytes) => assert_eq!(rt; bytes.as_slice(), wanted.as_slice()),
+        Err(error) => assert_eq!(rt; error, DynError::Memory),
     }
     Ok(())
 }
