@@ -155,8 +155,8 @@ pub(crate) fn enum_type(alloc: Global) -> Result<EnumType, AllocError> {
     })
 }
 
-/// The schema of the message types `M0`, `M1` and so on with these fields, and of the enum `E`.
-pub(crate) fn schema(alloc: Global, types: &[&[Line]]) -> Result<Schema, Fail> {
+// The parts of that schema.
+fn parts_of(alloc: Global, types: &[&[Line]]) -> Result<Parts, AllocError> {
     let mut message_types = Vec::new(alloc);
     let mut places = Vec::new(alloc);
     let mut index = 0_u32;
@@ -175,12 +175,18 @@ pub(crate) fn schema(alloc: Global, types: &[&[Line]]) -> Result<Schema, Fail> {
         services: Vec::new(alloc),
         options: Vec::new(alloc),
     };
-    let parts = Parts {
+    Ok(Parts {
         files: vec![in alloc; file]?,
         types: message_types,
         enums: vec![in alloc; enum_type(alloc)?]?,
         services: Vec::new(alloc),
-    };
+    })
+}
+
+/// The schema of the message types `M0`, `M1` and so on with these fields, and of the enum `E`. Want of memory is told as
+/// such, whatever had no room.
+pub(crate) fn schema(alloc: Global, types: &[&[Line]]) -> Result<Schema, Fail> {
+    let parts = parts_of(alloc, types)?;
     match Schema::from_parts(alloc, parts) {
         Ok(schema) => Ok(schema),
         Err((PartsError::Memory, _)) => Err(Fail::from(AllocError)),
