@@ -13,6 +13,7 @@ pub mod WholeRead
 pub mod Places
 pub mod FullNames
 pub mod OneSpelling
+pub mod WorkedTexts
 pub mod Witnesses
 pub mod Setting
 pub mod WitnessSteps

@@ -5,4 +5,5 @@ pub mod Faults
 pub mod Laws
 pub mod Worked
 pub mod Text
+pub mod WorkedTexts
 pub mod Reading

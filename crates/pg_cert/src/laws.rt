@@ -2,6 +2,7 @@
 
 ghost use Rattle.pg_cert.specs.Laws.{CoversWithoutFault, OneSpelling, VerdictsAreTrue, WitnessFaultsAreReal};
 ghost use Rattle.pg_cert.specs.Worked.{WorkedCertificates};
+ghost use Rattle.pg_cert.specs.WorkedTexts.{WorkedTexts};
 
 use pg_dyn::{reads_again, self_compatible, worked_examples};
 use pg_pairs::{covering_bounds, none_is_compatible};
@@ -14,6 +15,11 @@ pub fn worked_certificates()
     reads_again();
     self_compatible();
 }
+
+/// The texts of these certificates, and texts with a wrong line.
+pub fn worked_texts()
+    ensures { WorkedTexts }
+{}
 
 /// A table covers its root exactly where it has no fault.
 pub fn covers_without_fault()

@@ -17,7 +17,7 @@ pub use checking::check;
 pub use error::CertError;
 pub use laws::{
     covers_without_fault, one_spelling, verdicts_are_true, witness_faults_are_real,
-    worked_certificates,
+    worked_certificates, worked_texts,
 };
 pub use reading::from_text;
 pub use verdict::Verdict;
