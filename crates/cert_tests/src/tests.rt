@@ -1,5 +1,6 @@
 //! Certificates of types of one field: one file with `message M { SCALAR a = 1; }` on each side. What the bounds and the
 //! witness are is computed by hand from the public encoding guide.
+mod forged;
 mod memory;
 mod messages;
 mod texts;

@@ -1,7 +1,9 @@
 //! Each allocation refused in turn: `rt try --test --fail-alloc N`.
+use super::messages::{INNER, linked};
 use super::{MINUS_ONE, ROOT, line, schema_of};
 use pg_cert::{Bounds, BoundsError, CertError, Certificate, Verdict, check, from_text, to_text};
-use pg_schema::Scalar;
+use pg_schema::{Scalar, Schema};
+use std::alloc::Global;
 use std::test::Fail;
 
 const TEXT: &str = "protogate-certificate 1\nroot M M\npair M M 11\nwitness 0102\nend\n";
@@ -65,6 +67,51 @@ fn refused_texts(rt: HostRuntime) -> Result<(), Fail> {
             }
         }
         Err(error) => assert_eq!(rt; error, CertError::Memory),
+    }
+    Ok(())
+}
+
+// What a text shows, or that memory was refused somewhere.
+fn shown(alloc: Global, old: &Schema, new: &Schema, text: &str) -> Result<Verdict, CertError> {
+    let certificate = from_text(alloc, old, new, text.as_bytes())?;
+    check(alloc, old, new, &certificate)
+}
+
+// Of two pairs: with and without a witness, with a pair missing, and texts that are none.
+#[test]
+fn refused_children(rt: HostRuntime) -> Result<(), Fail> {
+    let alloc = rt.alloc();
+    let old = linked(alloc, Scalar::Uint32)?;
+    let new = linked(alloc, Scalar::Int32)?;
+    let missing = CertError::PairMissing { pair: INNER };
+    for (lines, wanted) in [
+        (
+            "pair N N 8\npair M M 6\nwitness 1206088080808008\nend\n",
+            Ok(Verdict::Breaks),
+        ),
+        (
+            "pair N N 8\npair M M 6\nwitness none\nend\n",
+            Ok(Verdict::AtLeast(8)),
+        ),
+        ("pair N N 8\nwitness 1206088080808008\nend\n", Err(missing)),
+        (
+            "pair N N 8\npair M M 6\nwitness 120608808080800\nend\n",
+            Err(CertError::BadText),
+        ),
+        (
+            "pair N N 8\npair N N 8\nwitness none\nend\n",
+            Err(CertError::BadText),
+        ),
+        (
+            "pair N N 8\npair M M 6\nwitness none\n",
+            Err(CertError::BadText),
+        ),
+    ] {
+        let text = format!(in alloc; "protogate-certificate 1\nroot N N\n{lines}")?;
+        let found = shown(alloc, &old, &new, text.as_str());
+        if found != Err(CertError::Memory) {
+            assert_eq!(rt; found, wanted, "{lines}");
+        }
     }
     Ok(())
 }

@@ -195,13 +195,8 @@ fn chain(alloc: Global, links: u32, scalar: Scalar) -> Result<Schema, Fail> {
     schema_of_types(alloc, types, ids)
 }
 
-// The witness of the last link is deeper than many readers go.
-#[test]
-fn a_chain_that_breaks(rt: HostRuntime) -> Result<(), Fail> {
-    let alloc = rt.alloc();
-    let links = 200;
-    let old = chain(alloc, links, Scalar::Uint32)?;
-    let new = chain(alloc, links, Scalar::Int32)?;
+// The bounds of the pairs of a chain, the first link's first.
+fn chain_bounds(alloc: Global, links: u32) -> Result<Vec<PairBound>, AllocError> {
     let mut bounds = vec![in alloc; line(ROOT, Some(6))]?;
     let mut bytes = 6;
     for index in 1..links.saturating_add(1) {
@@ -209,6 +204,17 @@ fn a_chain_that_breaks(rt: HostRuntime) -> Result<(), Fail> {
         let id = TypeId { index };
         bounds.push(line(Pair { old: id, new: id }, Some(bytes)))?;
     }
+    Ok(bounds)
+}
+
+// As many types as a schema may have: the witness of the last one is far deeper than most readers go.
+#[test]
+fn a_chain_that_breaks(rt: HostRuntime) -> Result<(), Fail> {
+    let alloc = rt.alloc();
+    let links = 4_095;
+    let old = chain(alloc, links, Scalar::Uint32)?;
+    let new = chain(alloc, links, Scalar::Int32)?;
+    let bounds = chain_bounds(alloc, links)?;
     let last = TypeId { index: links };
     let root = Pair {
         old: last,
@@ -218,5 +224,15 @@ fn a_chain_that_breaks(rt: HostRuntime) -> Result<(), Fail> {
     let witness = nested(alloc, links as usize, &inner)?;
     let found = checked(alloc, &old, &new, root, &bounds, &witness)?;
     assert_eq!(rt; found, Ok(Verdict::Breaks));
+    let table = Bounds::new(alloc, bounds);
+    let table = table.ok().ok_or("the bounds are a table")?;
+    let length = u32::try_from(witness.len()).unwrap_or(0);
+    match Certificate::new(root, table, None) {
+        Ok(certificate) => assert_eq!(rt;
+            check(alloc, &old, &new, &certificate),
+            Ok(Verdict::AtLeast(length))
+        ),
+        Err(_) => return Err("a certificate without a witness".into()),
+    }
     Ok(())
 }
