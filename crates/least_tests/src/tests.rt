@@ -5,6 +5,7 @@ mod fields;
 mod memory;
 mod rounds;
 mod schemas;
+mod ways;
 
 use crate::tests::schemas::{Line, schema};
 use pg_cert::{Bounds, Certificate, PairBound, Verdict, check};

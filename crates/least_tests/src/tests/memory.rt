@@ -2,8 +2,9 @@
 
 use crate::tests::same;
 use crate::tests::schemas::{Line, child, children, map, member, schema, singular};
+use crate::tests::ways::step;
 use pg_cert::Certificate;
-use pg_least::{find, search};
+use pg_least::{find, search, way};
 use pg_schema::{Element, Scalar, Schema, TypeId};
 use std::alloc::{AllocError, Global};
 use std::process::Abort;
@@ -84,6 +85,33 @@ fn refused_steps(rt: HostRuntime) -> Result<(), Fail> {
         0x08,
     ];
     answers(&rt, alloc, &old, &new, &rows, Some(&bytes))
+}
+
+// The way to that witness.
+#[test]
+fn refused_ways(rt: HostRuntime) -> Result<(), Fail> {
+    let alloc = rt.alloc();
+    let old = types_around(alloc, Scalar::Uint32)?;
+    let new = types_around(alloc, Scalar::Int32)?;
+    let root = same(0);
+    if !old.has(root.old) {
+        return Err(Fail::from("the old schema has no type"));
+    }
+    let certificate = search(alloc, &old, &new, root)?;
+    if certificate.witness().is_none() {
+        return Err(Fail::from("no message breaks"));
+    }
+    let wanted = [
+        step(0, 1, 3, 0, 16),
+        step(1, 1, 5, 2, 14),
+        step(2, 1, 3, 0, 8),
+        step(3, 1, 2, 0, 6),
+    ];
+    match way(alloc, &old, &new, &certificate) {
+        Ok(steps) => assert!(rt; steps.as_slice() == wanted.as_slice()),
+        Err(AllocError) => {}
+    }
+    Ok(())
 }
 
 // The same types on both sides, which no message breaks.
