@@ -1,29 +1,26 @@
 -- Each by computing it, but for what is never linked.
-use Rattle.std.proofs.Common.{◌≡◌, ℕ, zero, suc, ◌<◌, true, false, List, [], ◌∷◌, codes, drop, refl, sym, subst, true≢false, arith}
+use Rattle.std.proofs.Common.{◌≡◌, zero, suc, true, List, [], ◌∷◌, codes, drop, refl, sym, subst, true≢false, arith}
 use Rattle.std.proofs.lemmas.List.Elements.{All-nil}
 use Rattle.std.specs.List.{All, IsAmong}
 use Rattle.pg_link.specs.Files.{File, Import, Imports, Next, Further, HasNoCycle, InOrder, Differ, import_paths, is_path_of, paths_of}
 use Rattle.pg_link.specs.Names.{Text}
-use Rattle.pg_link.specs.SmallFiles.{SmallFiles, chain, importing, line}
+use Rattle.pg_link.specs.SmallFiles.{SmallFiles, IsImporting, chain, line}
 use Rattle.pg_link.specs.Walk.{outlines}
+use Rattle.pg_link.proofs.SeesLaws.{among_map}
 use Rattle.pg_link.proofs.SightLaws.{first_among}
 
--- a file that is there and imports this path alone
-imports_it : (files : List File) (path other : Text) → IsAmong files (importing path (other ∷ [])) → Imports files path other
-imports_it files path other there = record {
-  file = importing path (other ∷ []);
-  line = record { path = other; is_public = false; at = 0 };
-  is_there = there;
-  has_line = first_among (record { path = other; is_public = false; at = 0 }) [];
-  from_path = refl;
-  to_other = refl;
-}
+-- a file that is there imports the first of its paths
+imports_it : (files : List File) (path other : Text) (others : List Text) (f : File) → IsAmong files f → IsImporting path (other ∷ others) f → Imports files path other
+imports_it files path other others f there importing =
+    let among = subst (λ (paths : List Text). IsAmong paths other) (sym importing.are_imports) (first_among other others) in
+    let line = among_map (λ (l : Import). l.path) f.imports other among in
+    record { file = f; line = line.0; is_there = there; has_line = line.1; from_path = importing.is_path; to_other = line.2 }
 
-circle_of_two : (files : List File) (path other : Text) → IsAmong files (importing path (other ∷ [])) → IsAmong files (importing other (path ∷ [])) → HasNoCycle files → ⊥
-circle_of_two files path other there back none = none path (Further (imports_it files path other there) (Next (imports_it files other path back)))
+circle_of_two : (files : List File) (path other : Text) → Imports files path other → Imports files other path → HasNoCycle files → ⊥
+circle_of_two files path other there back none = none path (Further there (Next back))
 
-circle_of_one : (files : List File) (path : Text) → IsAmong files (importing path (path ∷ [])) → HasNoCycle files → ⊥
-circle_of_one files path there none = none path (Next (imports_it files path path there))
+circle_of_one : (files : List File) (path : Text) → Imports files path path → HasNoCycle files → ⊥
+circle_of_one files path there none = none path (Next there)
 
 of_one : {X : Type 0} (P : X → Type 0) (x : X) → P x → All P (x ∷ [])
 of_one P x is zero d inside = is
@@ -62,12 +59,15 @@ small_files = record {
       let second : InOrder (drop 1 (chain last)) = (of_one (ready (drop 2 (chain last))) (codes "c.proto") refl, (refl, tt), third) in
       (of_one (ready (drop 1 (chain last))) (codes "b.proto") refl, (refl, tt), second);
   each_path_once = (refl, (refl, (refl, (refl, tt))));
-  circle_of_two = λ w entries a b linked. circle_of_two (outlines entries) (codes "a.proto") (codes "b.proto") a b linked.no_cycle;
-  circle_of_one = λ w entries a linked. circle_of_one (outlines entries) (codes "a.proto") a linked.no_cycle;
-  import_twice = λ w entries there linked.
-      true≢false (imports_differ (outlines entries) linked.in_order (importing (codes "m.proto") (codes "b.proto" ∷ codes "b.proto" ∷ [])) there).0;
-  import_twice_apart = λ w entries there linked.
-      true≢false (imports_differ (outlines entries) linked.in_order (importing (codes "m.proto") (codes "b.proto" ∷ codes "c.proto" ∷ codes "b.proto" ∷ [])) there).0;
+  circle_of_two = λ w entries f g f_there g_there f_imports g_imports linked. circle_of_two (outlines entries) (codes "a.proto") (codes "b.proto")
+      (imports_it (outlines entries) (codes "a.proto") (codes "b.proto") [] f f_there f_imports)
+      (imports_it (outlines entries) (codes "b.proto") (codes "a.proto") [] g g_there g_imports) linked.no_cycle;
+  circle_of_one = λ w entries f there importing linked. circle_of_one (outlines entries) (codes "a.proto")
+      (imports_it (outlines entries) (codes "a.proto") (codes "a.proto") [] f there importing) linked.no_cycle;
+  import_twice = λ w entries f there importing linked.
+      true≢false (subst (λ (paths : List Text). Differ paths) importing.are_imports (imports_differ (outlines entries) linked.in_order f there)).0;
+  import_twice_apart = λ w entries f there importing linked.
+      true≢false (subst (λ (paths : List Text). Differ paths) importing.are_imports (imports_differ (outlines entries) linked.in_order f there)).0;
   field_is_passed_over = refl;
   service_is_passed_over = refl;
   full_name_of_a_service = refl;

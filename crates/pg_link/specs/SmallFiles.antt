@@ -1,11 +1,11 @@
 -- What names name on small files, what small files declare, and which imports are never linked.
-use Rattle.std.specs.Prelude.{◌≡◌, true, false, List, [], ◌∷◌, Some, None, codes, map}
+use Rattle.std.specs.Prelude.{◌≡◌, true, false, List, [], ◌∷◌, Some, None, codes}
 use Rattle.std.specs.List.{IsAmong}
 use Rattle.pg_link.specs.declared.names.Kind.{Kind}
 use Rattle.pg_link.specs.declared.names.Kind.TheVariants.{Message, Enum, Entry, Value, Field, Oneof, Service, Method}
 use Rattle.pg_link.specs.Names.{Text, Names}
 use Rattle.pg_link.specs.Resolves.{Reference, found}
-use Rattle.pg_link.specs.Files.{File, Import, Declared, InOrder, Differ, visible_names, all_names, seen_paths, paths_of}
+use Rattle.pg_link.specs.Files.{File, Import, Declared, InOrder, Differ, visible_names, all_names, seen_paths, import_paths, paths_of}
 use Rattle.pg_link.specs.Declares.{Word, Declarations, Done, Alone, MapField, Within, Beside, names_of_file, entry_name}
 use Rattle.pg_link.specs.Walk.{World, Entry as Read, IsLinked, outlines}
 
@@ -28,16 +28,19 @@ line path = record { path = path; is_public = false; at = 0 }
 abbrev pub public_line : Text → Import
 public_line path = record { path = path; is_public = true; at = 0 }
 
--- a file that imports these paths, and declares nothing
-abbrev pub importing : Text → List Text → File
-importing path others = file path (map line others) []
+-- a file of this path that imports just these paths, wherever its words stand and whatever it declares
+pub record IsImporting (path : Text) (others : List Text) (f : File) : Type 0 where
+  pub is_path : f.path ≡ path
+  pub are_imports : import_paths f.imports ≡ others
 
--- Files with this one among them are never linked, whatever the source gives and whichever others are there.
-abbrev pub IsNeverLinked : File → Type 0
-IsNeverLinked f = (w : World) (entries : List Read) → IsAmong (outlines entries) f → IsLinked w entries → ⊥
+-- Files with such a one among them are never linked, whatever the source gives and whichever others are there.
+abbrev pub IsNeverLinked : Text → List Text → Type 0
+IsNeverLinked path others = (w : World) (entries : List Read) (f : File) → IsAmong (outlines entries) f → IsImporting path others f → IsLinked w entries → ⊥
 
-abbrev pub AreNeverLinked : File → File → Type 0
-AreNeverLinked f g = (w : World) (entries : List Read) → IsAmong (outlines entries) f → IsAmong (outlines entries) g → IsLinked w entries → ⊥
+-- two files, each of which imports just the other
+abbrev pub AreNeverLinked : Text → Text → Type 0
+AreNeverLinked path other = (w : World) (entries : List Read) (f g : File) → IsAmong (outlines entries) f → IsAmong (outlines entries) g
+    → IsImporting path (other ∷ []) f → IsImporting other (path ∷ []) g → IsLinked w entries → ⊥
 
 abbrev pub word : Text → Word
 word text = record { text = text; at = 0 }
@@ -121,11 +124,11 @@ pub record SmallFiles : Type 0 where
   pub each_stands_before_its_imports : InOrder (chain (line (codes "c.proto")))
   pub each_path_once : Differ (paths_of (chain (line (codes "c.proto"))))
   -- two files that import each other, and one that imports itself
-  pub circle_of_two : AreNeverLinked (importing (codes "a.proto") (codes "b.proto" ∷ [])) (importing (codes "b.proto") (codes "a.proto" ∷ []))
-  pub circle_of_one : IsNeverLinked (importing (codes "a.proto") (codes "a.proto" ∷ []))
+  pub circle_of_two : AreNeverLinked (codes "a.proto") (codes "b.proto")
+  pub circle_of_one : IsNeverLinked (codes "a.proto") (codes "a.proto" ∷ [])
   -- a file that imports one path twice, also with another between
-  pub import_twice : IsNeverLinked (importing (codes "m.proto") (codes "b.proto" ∷ codes "b.proto" ∷ []))
-  pub import_twice_apart : IsNeverLinked (importing (codes "m.proto") (codes "b.proto" ∷ codes "c.proto" ∷ codes "b.proto" ∷ []))
+  pub import_twice : IsNeverLinked (codes "m.proto") (codes "b.proto" ∷ codes "b.proto" ∷ [])
+  pub import_twice_apart : IsNeverLinked (codes "m.proto") (codes "b.proto" ∷ codes "c.proto" ∷ codes "b.proto" ∷ [])
   -- a name without a dot passes over fields and services, which a full name finds
   pub field_is_passed_over : found mixed in_m (part (codes "E") []) ≡ Some (codes ".E", Enum)
   pub service_is_passed_over : found mixed in_m (part (codes "S") []) ≡ None
