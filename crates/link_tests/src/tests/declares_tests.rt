@@ -20,6 +20,8 @@ service S { rpc R (M) returns (M); }";
 const ENTRIES: &[u8] =
     b"syntax = \"proto3\";\nmessage M { map<int32, M> foo_bar = 1; oneof o { M _1a = 2; } }";
 
+const ENTRY_OF_A_DIGIT: &[u8] = b"syntax = \"proto3\";\nmessage M { map<int32, M> _1a = 1; }";
+
 #[test]
 fn each_declaration_has_its_full_name(rt: HostRuntime) -> Result<(), Fail> {
     let files = links(rt.alloc(), EACH_KIND)?;
@@ -47,5 +49,15 @@ fn a_map_declares_its_entries(rt: HostRuntime) -> Result<(), Fail> {
     assert_eq!(rt; files.place("M.o"), Some((FILE, 2, 46)));
     assert_eq!(rt; files.place("M._1a"), Some((FILE, 2, 52)));
     assert_eq!(rt; files.place("M.o._1a"), None);
+    Ok(())
+}
+
+/// Nothing is carried past a digit.
+#[test]
+fn a_digit_has_no_upper_case(rt: HostRuntime) -> Result<(), Fail> {
+    let files = links(rt.alloc(), ENTRY_OF_A_DIGIT)?;
+    assert_eq!(rt; files.place("M._1a"), Some((FILE, 2, 27)));
+    assert_eq!(rt; files.place("M.1aEntry"), Some((FILE, 2, 27)));
+    assert_eq!(rt; files.place("M.1AEntry"), None);
     Ok(())
 }

@@ -31,3 +31,15 @@ fn a_folder_is_no_file(rt: HostRuntime) -> Result<(), Fail> {
     assert_eq!(rt; told(alloc, &mut folder, "/dev/null"), "given");
     Ok(())
 }
+
+/// The system refuses names of more than 255 bytes.
+#[test]
+fn a_name_that_is_too_long_is_a_failure(rt: HostRuntime) -> Result<(), Fail> {
+    let mut path = String::new(rt.alloc());
+    for _ in 0..300 {
+        path.push_str("a")?;
+    }
+    let mut folder = Folder::new(&rt);
+    assert_eq!(rt; told(rt.alloc(), &mut folder, path.as_str()), "failed");
+    Ok(())
+}

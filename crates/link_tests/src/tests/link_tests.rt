@@ -9,6 +9,10 @@ const NESTED: &str = "package p;\nmessage A { message B { } }\nmessage C { messa
 
 const K_PUBLICLY: &[u8] = b"syntax = \"proto3\";\nimport public \"c.proto\";\n";
 
+const K_FROM_D_PUBLICLY: &[u8] = b"syntax = \"proto3\";\nimport public \"d.proto\";\n";
+
+const TO_D: &[u8] = b"syntax = \"proto3\";\nimport \"d.proto\";\n";
+
 const TO_C: &[u8] = b"syntax = \"proto3\";\nimport \"c.proto\";\n";
 
 const USES_K: &[u8] = b"syntax = \"proto3\";\nimport \"b.proto\";\nmessage M { K k = 1; }\n";
@@ -88,6 +92,55 @@ fn an_import_hands_on_what_it_imports_publicly(rt: HostRuntime) -> Result<(), Fa
         &["a.proto"],
     )?;
     assert_eq!(rt; public.as_str(), "linked");
+    Ok(())
+}
+
+/// What the file `a.proto` is told that uses `K` of the last of three files behind it, by what `c.proto` says.
+fn through_two_files(alloc: Global, third: &[u8]) -> Result<String, AllocError> {
+    told(
+        alloc,
+        &[
+            ("a.proto", USES_K),
+            ("b.proto", K_PUBLICLY),
+            ("c.proto", third),
+            ("d.proto", DECLARES_K),
+        ],
+        &["a.proto"],
+    )
+}
+
+#[test]
+fn public_imports_hand_on_through_two_files(rt: HostRuntime) -> Result<(), Fail> {
+    let public = through_two_files(rt.alloc(), K_FROM_D_PUBLICLY)?;
+    assert_eq!(rt; public.as_str(), "linked");
+    let hidden = through_two_files(rt.alloc(), TO_D)?;
+    assert_eq!(rt; hidden.as_str(), "E307 a.proto:3:13");
+    Ok(())
+}
+
+/// Whatever it is told for: uses go by the order of the text alone.
+#[test]
+fn the_first_use_that_resolves_to_nothing_is_told(rt: HostRuntime) -> Result<(), Fail> {
+    let no_type = lines(rt.alloc(), "message M { .S s = 1; X x = 2; } service S { }")?;
+    assert_eq!(rt; no_type.as_str(), "E306 m.proto:2:13");
+    let unknown = lines(rt.alloc(), "message M { X x = 1; .S s = 2; } service S { }")?;
+    assert_eq!(rt; unknown.as_str(), "E305 m.proto:2:13");
+    Ok(())
+}
+
+/// A map's entries end the search for a name, though a type further out bears it too.
+#[test]
+fn an_entry_hides_what_is_further_out(rt: HostRuntime) -> Result<(), Fail> {
+    let word = lines(
+        rt.alloc(),
+        "message FooEntry { } message M { map<int32, int32> foo = 1; FooEntry f = 2; }",
+    )?;
+    assert_eq!(rt; word.as_str(), "E306 m.proto:2:61");
+    let part = lines(
+        rt.alloc(),
+        "message FooEntry { message N { } } message M { map<int32, int32> foo = 1; FooEntry.N n = 2; }",
+    )?;
+    assert_eq!(rt; part.as_str(), "E305 m.proto:2:75");
     Ok(())
 }
 
@@ -180,6 +233,18 @@ fn an_enum_that_is_not_imported_is_hidden_from_an_rpc(rt: HostRuntime) -> Result
         &["a.proto"],
     )?;
     assert_eq!(rt; hidden.as_str(), "E307 a.proto:3:20");
+    let imported = told(
+        rt.alloc(),
+        &[
+            (
+                "a.proto",
+                b"syntax = \"proto3\";\nimport \"c.proto\";\nservice S { rpc R (E) returns (E); }\n",
+            ),
+            ("c.proto", b"syntax = \"proto3\";\nenum E { A = 0; }\n"),
+        ],
+        &["a.proto"],
+    )?;
+    assert_eq!(rt; imported.as_str(), "E306 a.proto:3:20");
     Ok(())
 }
 
@@ -202,7 +267,8 @@ fn a_name_that_stands_twice_comes_before_one_that_is_unknown(rt: HostRuntime) ->
     Ok(())
 }
 
-const WITH_PACKAGE: &[u8] = b"syntax = \"proto3\";\npackage p;\nmessage M {\n  M field = 1;\n}\n";
+pub(crate) const WITH_PACKAGE: &[u8] =
+    b"syntax = \"proto3\";\npackage p;\nmessage M {\n  M field = 1;\n}\n";
 
 #[test]
 fn a_full_name_has_the_place_of_its_word(rt: HostRuntime) -> Result<(), Fail> {
@@ -216,7 +282,11 @@ fn a_full_name_has_the_place_of_its_word(rt: HostRuntime) -> Result<(), Fail> {
 }
 
 /// What the type of the first field of the first message resolves to in its scope, by `Linked::resolve`.
-fn resolved(alloc: Global, linked: &Linked, scope: &[&str]) -> Result<String, AllocError> {
+pub(crate) fn resolved(
+    alloc: Global,
+    linked: &Linked,
+    scope: &[&str],
+) -> Result<String, AllocError> {
     let Some((_, file)) = linked.files().get_index(0) else {
         return String::from_str(alloc, "no file");
     };

@@ -20,6 +20,14 @@ const TO_B_BY_AN_ESCAPE: &[u8] =
 const TO_B_IN_TWO_WAYS: &[u8] =
     b"syntax = \"proto3\";\nimport \"b.proto\";\nimport \"./b.proto\";\n";
 
+const TO_ODD_PATHS: &[u8] = b"syntax = \"proto3\";\nimport \"../x\"; import \"/x\"; import \"\";\n";
+
+const TO_A_LINE_END: &[u8] = b"syntax = \"proto3\";\nimport \"\\n\";\n";
+
+const TO_B_AND_C: &[u8] = b"syntax = \"proto3\";\nimport \"b.proto\";\nimport \"c.proto\";\n";
+
+const TO_D: &[u8] = b"syntax = \"proto3\";\nimport \"d.proto\";\n";
+
 const TO_NOTHING: &[u8] = b"syntax = \"proto3\";\nimport \"\";\n";
 
 const DECLARES_M: &[u8] = b"syntax = \"proto3\";\nmessage M { }\n";
@@ -84,6 +92,16 @@ fn the_first_import_is_followed_before_the_second_is_looked_at(
         &[("a.proto", TO_B_TWICE), ("b.proto", OPEN_STRING)],
     )?;
     assert_eq!(rt; fault.as_str(), "lex b.proto:1:10");
+    Ok(())
+}
+
+/// That the first one's file is missing, or leads back.
+#[test]
+fn a_second_import_is_told_after_the_faults_of_the_first(rt: HostRuntime) -> Result<(), Fail> {
+    let missing = from_a(rt.alloc(), &[("a.proto", TO_B_TWICE)])?;
+    assert_eq!(rt; missing.as_str(), "E301 a.proto:2:8");
+    let circle = from_a(rt.alloc(), &[("a.proto", TO_B_TWICE), ("b.proto", TO_A)])?;
+    assert_eq!(rt; circle.as_str(), "E302 b.proto:2:8");
     Ok(())
 }
 
@@ -184,6 +202,36 @@ fn a_file_too_many_is_read_before_it_is_told(rt: HostRuntime) -> Result<(), Fail
     Ok(())
 }
 
+/// The numbers below this one, as paths.
+fn numbers(alloc: Global, count: u32) -> Result<Vec<String>, AllocError> {
+    let mut names = Vec::new(alloc);
+    for number in 0..count {
+        names.push(format!(in alloc; "{number}")?)?;
+    }
+    Ok(names)
+}
+
+/// What a walk is refused with from this many roots, each an empty file.
+fn from_roots(alloc: Global, count: u32) -> Result<String, AllocError> {
+    let names = numbers(alloc, count)?;
+    let mut files = Vec::new(alloc);
+    let mut roots = Vec::new(alloc);
+    for name in &names {
+        files.push((name.as_str(), EMPTY))?;
+        roots.push(name.as_str())?;
+    }
+    told(alloc, &files, &roots)
+}
+
+#[test]
+fn roots_are_counted_among_the_files(rt: HostRuntime) -> Result<(), Fail> {
+    let most = from_roots(rt.alloc(), 1024)?;
+    assert_eq!(rt; most.as_str(), "linked");
+    let more = from_roots(rt.alloc(), 1025)?;
+    assert_eq!(rt; more.as_str(), "E308 1024:0:0");
+    Ok(())
+}
+
 /// The paths of the files from these roots, in their order.
 fn paths(alloc: Global, files: &[(&str, &[u8])], roots: &[&str]) -> Result<String, AllocError> {
     let mut text = String::new(alloc);
@@ -213,6 +261,46 @@ fn a_root_that_was_read_is_read_once(rt: HostRuntime) -> Result<(), Fail> {
     let mut source = FailingSource::new(listed, 3);
     let once = told_by(rt.alloc(), &mut source, &["b.proto", "a.proto", "b.proto"])?;
     assert_eq!(rt; once.as_str(), "linked");
+    Ok(())
+}
+
+/// Two imports of one file ask the source for it once; the first import's files come first.
+#[test]
+fn a_file_that_two_files_import_is_read_once(rt: HostRuntime) -> Result<(), Fail> {
+    let files: [(&str, &[u8]); 4] = [
+        ("a.proto", TO_B_AND_C),
+        ("b.proto", TO_D),
+        ("c.proto", TO_D),
+        ("d.proto", EMPTY),
+    ];
+    let order = paths(rt.alloc(), &files, &["a.proto"])?;
+    assert_eq!(rt; order.as_str(), "d.proto b.proto c.proto a.proto ");
+    let listed = Listed { files: &files };
+    // a fifth read would fail
+    let mut source = FailingSource::new(listed, 5);
+    let once = told_by(rt.alloc(), &mut source, &["a.proto"])?;
+    assert_eq!(rt; once.as_str(), "linked");
+    Ok(())
+}
+
+#[test]
+fn any_path_is_asked_for_and_printed_as_it_stands(rt: HostRuntime) -> Result<(), Fail> {
+    let odd = paths(
+        rt.alloc(),
+        &[
+            ("a.proto", TO_ODD_PATHS),
+            ("../x", EMPTY),
+            ("/x", EMPTY),
+            ("", EMPTY),
+        ],
+        &["a.proto"],
+    )?;
+    assert_eq!(rt; odd.as_str(), "../x /x  a.proto ");
+    let raw = from_a(
+        rt.alloc(),
+        &[("a.proto", TO_A_LINE_END), ("\n", OPEN_STRING)],
+    )?;
+    assert_eq!(rt; raw.as_str(), "lex \n:1:10");
     Ok(())
 }
 
