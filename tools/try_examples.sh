@@ -1,37 +1,125 @@
 #!/bin/sh
-# Runs the gate on each example of a change and compares what it says, and its status, with the example's file `says`.
-# Then it has the certificate of the answer checked, which must show the same, and runs the gate on the descriptor sets of the two
-# texts, of which it must say the same but for places.
-# usage: tools/try_examples.sh [PROGRAM]
+# Runs the examples and compares what is printed, and each status: the changes below `examples/changes`, each with its certificate
+# and its descriptor sets; the commands of README.md and docs/USAGE.md; and the script for continuous integration.
+# usage: tools/try_examples.sh [PROGRAM]    by default the script `protogate` at the top
+# Blocks of commands that call `protoc` want it on the path, and are passed over, with a line, where it isn't.
+set -u
 root=$(CDPATH= cd -- "$(dirname -- "$0")/.." && pwd -P) || exit 3
-program=${1:-"$root/protogate"}
+program=$(readlink -f -- "${1:-"$root/protogate"}") || exit 3
 room=$(mktemp -d) || exit 3
 trap 'rm -rf -- "$room"' EXIT
 passed=0
 failed=0
-for example in "$root"/examples/changes/*/; do
-    wanted=$(cat -- "$example/says")
-    type=$(printf '%s\n' "$wanted" | sed -n '1s/^[a-z]* \([^ ]*\).*/\1/p')
-    case $wanted in
-        compatible*) status=0 ;;
-        *) status=1 ;;
-    esac
-    said=$("$program" gate --old-dir "$example" --new-dir "$example" --old old.proto --new new.proto --type "$type")
-    ended=$?
-    "$program" gate --old-dir "$example" --new-dir "$example" --old old.proto --new new.proto --type "$type" --cert >"$room/certificate"
-    shown=$("$program" verify --old-dir "$example" --new-dir "$example" --old old.proto --new new.proto "$room/certificate")
-    checked=$?
-    "$program" compile --dir "$example" old.proto >"$room/old.pb"
-    "$program" compile --dir "$example" new.proto >"$room/new.pb"
-    of_sets=$("$program" gate --old-dir "$room" --new-dir "$room" --old old.pb --new new.pb --type "$type")
-    if [ $? -eq "$status" ] && [ "$checked" -eq "$status" ] && [ "$ended" -eq "$status" ] && [ "$said" = "$wanted" ] \
-        && [ "$shown" = "$(printf '%s\n' "$wanted" | sed -n 1p)" ] \
-        && [ "$of_sets" = "$(printf '%s\n' "$wanted" | sed 's/ [^ ]*:[0-9]*:[0-9]*/ -/g')" ]; then
+
+# Counts what was compared: a name, what was wanted, what was said.
+compare() {
+    if [ "$2" = "$3" ]; then
         passed=$((passed + 1))
     else
         failed=$((failed + 1))
-        printf '%s\nwanted:\n%s\nsaid:\n%s\nof its certificate:\n%s\nof its sets:\n%s\n' "$example" "$wanted" "$said" "$shown" "$of_sets"
+        printf '%s\nwanted:\n%s\nsaid:\n%s\n' "$1" "$2" "$3"
     fi
+}
+
+# What a call prints, and its status in a last line.
+said_by() {
+    "$program" "$@"
+    echo "status $?"
+}
+
+# The gate on the two texts of a change says what the file `says` has. Its certificate shows the same; of the two texts' sets the
+# gate says the same but for places; and a witness is, by the old text, read and written again as it stands.
+try_change() {
+    example=$1
+    sides="--old-dir $example --new-dir $example --old old.proto --new new.proto"
+    type=$(sed -n '1s/^[a-z]* \([^ ]*\).*/\1/p' "$example/says")
+    case $(cat -- "$example/says") in
+        compatible*) status='status 0' ;;
+        *) status='status 1' ;;
+    esac
+    compare "$example" "$(cat -- "$example/says" && echo "$status")" "$(said_by gate $sides --type "$type")"
+    "$program" gate $sides --type "$type" --cert >certificate
+    compare "$example: certificate" "$(sed -n 1p "$example/says" && echo "$status")" "$(said_by verify $sides certificate)"
+    "$program" compile --dir "$example" old.proto >old.pb
+    "$program" compile --dir "$example" new.proto >new.pb
+    compare "$example: sets" "$(sed 's/ [^ ]*:[0-9]*:[0-9]*/ -/g' "$example/says" && echo "$status")" \
+        "$(said_by gate --old old.pb --new new.pb --type "$type")"
+    for witness in $(sed -n 's/^witness //p' "$example/says"); do
+        compare "$example: witness" "$(echo "again $witness" && echo 'status 0')" \
+            "$(said_by show --dir "$example" --file old.proto --type "$type" "$witness" | tail -n 2)"
+    done
+}
+
+# Writes each block of a document that begins with a line '$ ..' to a file of its own, block.001 onwards, in the order of the text.
+blocks_of() {
+    awk '
+        /^```/ { in_block = !in_block; is_first = in_block; file = ""; next }
+        in_block && is_first && /^\$ / { file = sprintf("block.%03d", ++count) }
+        in_block { is_first = 0 }
+        file != "" { print > file }
+    ' "$1"
+}
+
+# The shell's text that types a block again: each command behind its own lines, with the status of the one before it.
+commands_of() {
+    awk '
+        function run() { if (command != "") print "(exit $status)\n" command "status=$?"; command = "" }
+        BEGIN { print "status=0" }
+        /^\$ / { run(); command = substr($0, 3) "\n" }
+        /^> / { command = command substr($0, 3) "\n" }
+        /^[$>] / { print "cat <<\047END OF A LINE\047\n" $0 "\nEND OF A LINE"; next }
+        END { run() }
+    ' "$1"
+}
+
+# Runs the blocks of a document, one behind the other in one folder, and compares what stands behind each command.
+try_document() {
+    rm -f block.*
+    blocks_of "$1"
+    for block in block.*; do
+        if ! command -v protoc >/dev/null && grep -q '^\$ protoc ' "$block"; then
+            echo "passed over, without protoc: $1, $block"
+            continue
+        fi
+        commands_of "$block" >typed
+        compare "$1, $block" "$(cat "$block")" "$(sh ./typed 2>&1)"
+    done
+}
+
+# A repository that has `examples/old` as its folder `proto` at the tag v1.4, and `examples/new` in its work tree.
+make_release() {
+    export GIT_CONFIG_NOSYSTEM=1 GIT_CONFIG_GLOBAL=/dev/null
+    git -c init.defaultBranch=main init -q && cp -R examples/old proto && git add proto \
+        && git -c user.name=nobody -c user.email=nobody@example.org commit -q -m v1.4 && git tag v1.4 \
+        && cp examples/new/* proto
+}
+
+# The status of the script for continuous integration, whatever it prints.
+try_gate() {
+    wanted=$1
+    shift
+    compare "examples/ci/gate.sh $*" "status $wanted" "$(examples/ci/gate.sh "$@" >/dev/null 2>&1; echo "status $?")"
+}
+
+cp -R -- "$root/examples/changes" "$room/changes" || exit 3
+cd -- "$room/changes" || exit 3
+for example in */; do
+    try_change "${example%/}"
 done
+
+mkdir -- "$room/top" && cp -R -- "$root/examples" "$room/top/examples" && cd -- "$room/top" || exit 3
+printf '#!/bin/sh\nexec "$PROGRAM" "$@"\n' >protogate && chmod 755 protogate || exit 3
+PROGRAM=$program
+PATH=$room/top:$PATH
+export PROGRAM PATH
+make_release || exit 3
+try_document "$root/README.md"
+try_document "$root/docs/USAGE.md"
+try_gate 0 v1.4 proto order.proto Customer
+try_gate 1 v1.4 proto order.proto Order Customer
+try_gate 2 v1.4 proto order.proto Order Nobody Customer
+try_gate 4 v0.1 proto order.proto Order
+try_gate 4 v1.4 texts order.proto Order
+try_gate 4 v1.4 proto order.proto
 echo "$passed passed, $failed failed"
 [ "$failed" -eq 0 ]
