@@ -13,10 +13,14 @@ fi
 mkdir -p -- "$prefix/bin" "$prefix/libexec" "$prefix/share/man/man1"
 prefix=$(CDPATH= cd -- "$prefix" && pwd -P)
 install -m 755 "$root/crates/protogate/out/protogate" "$prefix/libexec/protogate"
-# What users call gives the program the stack that messages nested deep need.
+# What users call gives the program the stack that messages nested deep need, and where a terminal shows it says of a run of over a
+# second that it is at work.
 cat >"$prefix/bin/protogate" <<END
 #!/bin/sh
 ulimit -S -s 1048576 2>/dev/null || ulimit -S -s "\$(ulimit -H -s)" 2>/dev/null
+if [ -t 2 ]; then
+    { sleep 1; kill -0 \$\$ 2>/dev/null && echo "protogate: still at work: \$*" >&2; } </dev/null >/dev/null &
+fi
 exec '$prefix/libexec/protogate' "\$@"
 END
 chmod 755 "$prefix/bin/protogate"
