@@ -1,6 +1,7 @@
 #!/bin/sh
 # Runs the examples and compares what is printed, and each status: the changes below `examples/changes`, each with its certificate
-# and its descriptor sets; the commands of README.md and docs/USAGE.md; and the script for continuous integration.
+# and its descriptor sets; the commands of README.md and docs/USAGE.md; and the script for continuous integration. The page for `man`
+# has each code of docs/REFUSALS.md.
 # usage: tools/try_examples.sh [PROGRAM]    by default the script `protogate` at the top
 # Blocks of commands that call `protoc` want it on the path, and are passed over, with a line, where it isn't.
 set -u
@@ -121,5 +122,7 @@ try_gate 2 v1.4 proto order.proto Order Nobody Customer
 try_gate 4 v0.1 proto order.proto Order
 try_gate 4 v1.4 texts order.proto Order
 try_gate 4 v1.4 proto order.proto
+compare "docs/protogate.1: codes" "$(sed -n 's/^| \(E[^|]*\)|.*/\1/p' "$root/docs/REFUSALS.md" | grep -o 'E[0-9][0-9]*' | sort -u)" \
+    "$(sed -n 's/^\.BI* \(E[0-9]*\).*/\1/p' "$root/docs/protogate.1" | sort -u)"
 echo "$passed passed, $failed failed"
 [ "$failed" -eq 0 ]
