@@ -161,9 +161,18 @@ fn keeps_to_memory(rt: HostRuntime) {
 
 /// Words that are no call, and what is said of them.
 static USAGE: [(&[&str], &str); 5] = [
-    (&["show", "--file", "m", "--type", "M"], "<HEX>"),
-    (&["show", "--type", "M", "-"], "--file <F>"),
-    (&["show", "--file", "m", "-"], "--type <NAME>"),
+    (
+        &["show", "--file", "m", "--type", "M"],
+        "not provided:\n  <HEX>\n",
+    ),
+    (
+        &["show", "--type", "M", "-"],
+        "not provided:\n  --file <F>\n",
+    ),
+    (
+        &["show", "--file", "m", "-"],
+        "not provided:\n  --type <NAME>\n",
+    ),
     (&["show", "--help"], "--dir <D>"),
     (&["--help"], "show"),
 ];

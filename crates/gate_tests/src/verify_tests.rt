@@ -238,15 +238,21 @@ fn keeps_to_memory(rt: HostRuntime) {
 
 /// Words that are no call, and what is said of them.
 static USAGE: [(&[&str], &str); 6] = [
-    (&["verify", "--old", "o", "--new", "n"], "<CERT>"),
-    (&["verify", "--old", "o", "c"], "--new <F>"),
+    (
+        &["verify", "--old", "o", "--new", "n"],
+        "not provided:\n  <CERT>\n",
+    ),
+    (
+        &["verify", "--old", "o", "c"],
+        "not provided:\n  --new <F>\n",
+    ),
     (
         &["verify", "--old", "o", "--new", "n", "c", "d"],
-        "unexpected argument",
+        "unexpected argument 'd' found",
     ),
     (
         &["verify", "--old", "o", "--new", "n", "--type", "M", "c"],
-        "unexpected argument",
+        "unexpected argument '--type' found",
     ),
     (&["verify", "--help"], "  5  "),
     (&["--help"], "verify"),
