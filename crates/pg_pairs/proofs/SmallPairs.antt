@@ -36,5 +36,6 @@ small_pairs = record {
   loop_unchanged = refl;
   child_of_a_loop = refl;
   loop_changed = refl;
+  nested_type_alone = refl;
   nested_type_breaks = refl;
 }

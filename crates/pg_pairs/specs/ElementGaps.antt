@@ -1,10 +1,14 @@
--- The gap between any two like elements that are no messages, under any view of enum items.
-use Rattle.std.specs.Prelude.{◌≡◌, ⊤, Bool, true}
+-- The gap between any two like elements that are no messages, under any view of enum items; and zero, which like scalars see.
+use Rattle.std.specs.Prelude.{◌≡◌, ⊤, Bool, true, false}
+use Rattle.pg_schema.specs.declared.field.Scalar.{Scalar}
 use Rattle.pg_schema.specs.declared.field.Element.{Element}
 use Rattle.pg_schema.specs.declared.field.Element.TheVariants as elements
+use Rattle.pg_dyn.specs.Message.{Leaf, is_zero}
+use Rattle.pg_dyn.specs.Coding.{scalar_form, InRange}
+use Rattle.pg_dyn.specs.Comparison.{numbers}
 use Rattle.pg_pairs.specs.Sight.{Sight, IsSight}
 use Rattle.pg_pairs.specs.Likeness.{like}
-use Rattle.pg_pairs.specs.Gaps.{IsGapItem, gap_item}
+use Rattle.pg_pairs.specs.Gaps.{is_seen, IsGapItem, gap_item}
 
 abbrev pub IsNoMessage : Element → Type 0
 IsNoMessage (elements.Message t) = ⊥
@@ -17,3 +21,9 @@ abbrev pub ElementGaps : Type 0
 ElementGaps =
     (sight : Sight) → IsSight sight → (zero : Bool) (old new : Element) → IsNoMessage old → like old new ≡ true →
     IsGapItem sight.alike zero old new (gap_item sight zero old new)
+
+-- Zero is seen between any two like scalars: an item that isn't seen isn't zero.
+abbrev pub UnseenAreNotZero : Type 0
+UnseenAreNotZero =
+    (s t : Scalar) → like (elements.Scalar s) (elements.Scalar t) ≡ true → (item : Leaf) → InRange (scalar_form s) item →
+    is_seen numbers (elements.Scalar s) (elements.Scalar t) item ≡ false → is_zero item ≡ false

@@ -68,5 +68,6 @@ pub record SmallPairs : Type 0 where
   pub child_of_a_loop : children (of_fields loops) (of_fields loops) (both first) ≡ both first ∷ []
   -- with a field beside that changed, the field's own choice is the cheapest, also beside those through the type itself
   pub loop_changed : choices by_numbers (λ pair. Some (Some 2)) (of_fields (looped scalars.Bool)) (of_fields (looped Sint32)) (both first) ≡ choice 1 3 0 4 ∷ choice 2 3 0 4 ∷ choice 3 2 0 2 ∷ []
-  -- a type that holds itself, and one that changed and breaks in 6 bytes: its own bound is 8
+  -- a type that changed and breaks in 6 bytes, and one that holds it and itself: its own bound is 8
+  pub nested_type_alone : choices by_numbers (of_two (Some 6) (Some 8)) (linked Uint32) (linked Int32) (both first) ≡ choice 1 2 0 6 ∷ []
   pub nested_type_breaks : choices by_numbers (of_two (Some 6) (Some 8)) (linked Uint32) (linked Int32) (both second) ≡ choice 1 3 0 10 ∷ choice 2 3 0 8 ∷ []

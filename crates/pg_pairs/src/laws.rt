@@ -3,7 +3,7 @@
 ghost use Rattle.pg_pairs.specs.Carried.{EachChildCostsLess, EachChoiceIsCarried};
 ghost use Rattle.pg_pairs.specs.Cheapest.{CheapestIsLeast};
 ghost use Rattle.pg_pairs.specs.Contents.{ContentsCost};
-ghost use Rattle.pg_pairs.specs.ElementGaps.{ElementGaps};
+ghost use Rattle.pg_pairs.specs.ElementGaps.{ElementGaps, UnseenAreNotZero};
 ghost use Rattle.pg_pairs.specs.FieldCosts.{ChildrenCost, ListsCost, MapsCost, SingleScalarsCost};
 ghost use Rattle.pg_pairs.specs.FirstSeen.{OnePairMore};
 ghost use Rattle.pg_pairs.specs.Gaps.{GapTable};
@@ -28,6 +28,11 @@ pub fn gap_table()
 /// seen; where there is none each is seen.
 pub fn element_gaps()
     ensures { ElementGaps }
+{}
+
+/// An item of a scalar that the reader of a like scalar doesn't read as the same item isn't zero.
+pub fn unseen_are_not_zero()
+    ensures { UnseenAreNotZero }
 {}
 
 /// By their numbers all enum items are alike.

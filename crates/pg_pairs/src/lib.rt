@@ -34,7 +34,7 @@ pub use laws::{
     each_choice_is_carried, each_choice_is_reached, element_gaps, exact_is_least, gap_table,
     least_costs_are_exact, least_costs_are_lengths, lists_cost, lower_tables_cost_no_more,
     maps_cost, none_is_compatible, numbers_are_alike, numbers_sight, one_pair_more, one_solution,
-    settled_by_induction, single_scalars_cost, small_pairs,
+    settled_by_induction, single_scalars_cost, small_pairs, unseen_are_not_zero,
 };
 pub use least_cost::cheapest;
 pub use option_list::options;
