@@ -101,6 +101,28 @@ fn a_type_that_holds_itself(rt: HostRuntime) -> Result<(), Fail> {
     Ok(())
 }
 
+// With `bool f3 = 3;` beside, then sint32: the field's own choice is cheaper than those through the type itself.
+#[test]
+fn a_type_that_holds_itself_and_changes(rt: HostRuntime) -> Result<(), Fail> {
+    let alloc = rt.alloc();
+    let next = child(1, 0);
+    let kids = field(2, LIST, message(0));
+    let old: [&[Line]; 1] = [&[next, kids, singular(3, Scalar::Bool)]];
+    let new: [&[Line]; 1] = [&[next, kids, singular(3, Scalar::Sint32)]];
+    assert_eq!(rt;
+        children_in(alloc, &old, &new)?.as_slice(),
+        [(0, 0)].as_slice()
+    );
+    let table = Bounds {
+        first: Some(Some(2)),
+        others: None,
+    };
+    let rows = choices_in(alloc, &old, &new, &table)?;
+    let wanted = [(1, 3, 0, 4), (2, 3, 0, 4), (3, 2, 0, 2)];
+    assert_eq!(rt; rows.as_slice(), wanted.as_slice());
+    Ok(())
+}
+
 // Two empty children in a list, of which the new type keeps one.
 #[test]
 fn a_list_of_children(rt: HostRuntime) -> Result<(), Fail> {

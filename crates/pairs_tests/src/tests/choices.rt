@@ -195,6 +195,22 @@ fn oneofs(rt: HostRuntime) -> Result<(), Fail> {
     Ok(())
 }
 
+// Of two fields that come into one oneof each costs a zero if it's `optional`, and else an item that isn't zero.
+#[test]
+fn two_alike_in_one_oneof(rt: HostRuntime) -> Result<(), Fail> {
+    let alloc = rt.alloc();
+    for (scalar, not_zeros, zeros) in [(Scalar::Int32, 4, 4), (Scalar::String, 6, 4)] {
+        let new = [member(1, scalar, 0), member(2, scalar, 0)];
+        let old = [singular(1, scalar), singular(2, scalar)];
+        let rows = choices_of(alloc, &old, &new)?;
+        assert_eq!(rt; rows.as_slice(), [(1, 6, 2, not_zeros)].as_slice());
+        let old = [optional(1, scalar), optional(2, scalar)];
+        let rows = choices_of(alloc, &old, &new)?;
+        assert_eq!(rt; rows.as_slice(), [(1, 6, 2, zeros)].as_slice());
+    }
+    Ok(())
+}
+
 #[test]
 fn three_in_one_oneof(rt: HostRuntime) -> Result<(), Fail> {
     let alloc = rt.alloc();

@@ -7,7 +7,7 @@ use crate::tests::schemas::{
 use crate::tests::tables::NOTHING;
 use pg_dyn::{DynError, Message, decode, encode, fits};
 use pg_pairs::{Choice, Numbers, Pair, breaks, carry, cheapest, children, options};
-use pg_schema::{Element, Presence, Scalar, TypeId};
+use pg_schema::{Element, Presence, Scalar, Schema, TypeId};
 use std::alloc::{AllocError, Global};
 use std::test::Fail;
 
@@ -145,19 +145,25 @@ fn a_refused_child(rt: HostRuntime) -> Result<(), Fail> {
     Ok(())
 }
 
-// `message M0 { map<int32, M1> f1 = 1; }`, where the field of `M1` changes from uint32 to int32: the child that breaks is put
-// into an entry, or memory was refused.
+// The second type of both schemas.
+const SECOND: Pair = Pair {
+    old: TypeId { index: 1 },
+    new: TypeId { index: 1 },
+};
+
+// `message M0 { map<int32, M1> f1 = 1; } message M1 { SCALAR f1 = 1; }`
+fn entries_of(alloc: Global, scalar: Scalar) -> Result<Schema, Fail> {
+    let root = [map(1, Scalar::Int32, Element::Message(SECOND.old))];
+    schema(alloc, &[&root, &[singular(1, scalar)]])
+}
+
+// Where the field of `M1` changes from uint32 to int32, the child that breaks is put into an entry, or memory was refused.
 #[test]
 fn a_refused_entry(rt: HostRuntime) -> Result<(), Fail> {
     let alloc = rt.alloc();
-    let second = Pair {
-        old: TypeId { index: 1 },
-        new: TypeId { index: 1 },
-    };
-    let root = [map(1, Scalar::Int32, Element::Message(second.old))];
-    let old = schema(alloc, &[&root, &[singular(1, Scalar::Uint32)]])?;
-    let new = schema(alloc, &[&root, &[singular(1, Scalar::Int32)]])?;
-    if !old.has(FIRST.old) || !old.has(second.old) {
+    let old = entries_of(alloc, Scalar::Uint32)?;
+    let new = entries_of(alloc, Scalar::Int32)?;
+    if !old.has(FIRST.old) || !old.has(SECOND.old) {
         return Err(Fail::from("the old schema has two types"));
     }
     let gap = Choice {
@@ -166,7 +172,7 @@ fn a_refused_entry(rt: HostRuntime) -> Result<(), Fail> {
         part: 0,
         cost: 6,
     };
-    let Ok(inner) = carry(alloc, &Numbers, &old, &new, second, &gap, None) else {
+    let Ok(inner) = carry(alloc, &Numbers, &old, &new, SECOND, &gap, None) else {
         return Ok(());
     };
     let inner = inner.ok_or("a child")?;
