@@ -7,6 +7,7 @@ use Rattle.pg_check.specs.declared.error.CheckError.TheVariants as rules
 use Rattle.pg_check.specs.PartErrors.{IsRefusedOf}
 use Rattle.pg_dyn.specs.Decoding.{dec}
 use Rattle.pg_dyn.specs.Message.{Message}
+use Rattle.pg_dyn.specs.declared.error.DynError.TheVariants as messages
 use Rattle.pg_dyn.specs.Refusals.{MayRefuse}
 use Rattle.pg_fds.specs.declared.error.FdsError.{FdsError}
 use Rattle.pg_fds.specs.declared.error.FdsError.TheVariants as errors
@@ -34,11 +35,11 @@ MayRefuseFiles files (errors.Rule e) = (list_all is_proto3 files ≡ true) × (l
 abbrev pub MayRefuseRead : List ℕ → FdsError → Type 0
 MayRefuseRead bytes e = IsSomeAnd (dec written_shape file_set bytes) (λ set. MayRefuseFiles (kept_files set) e)
 
--- What the codec refuses is a fault of the bytes, with messages nested at most 100 deep; else the bytes are a message, of whose files that
+-- What the codec refuses is a fault of the bytes, with messages nested at most 100 deep, and never want of memory; else the bytes are a message, of whose files that
 -- holds.
 abbrev pub MayRefuseSet : List ℕ → FdsError → Type 0
 MayRefuseSet bytes errors.Memory = ⊤
-MayRefuseSet bytes (errors.Bytes e) = MayRefuse written_shape file_set most_deep bytes e
+MayRefuseSet bytes (errors.Bytes e) = (e ≢ messages.Memory) × MayRefuse written_shape file_set most_deep bytes e
 MayRefuseSet bytes errors.NotProto3 = MayRefuseRead bytes errors.NotProto3
 MayRefuseSet bytes errors.BadType = MayRefuseRead bytes errors.BadType
 MayRefuseSet bytes errors.BadReference = MayRefuseRead bytes errors.BadReference

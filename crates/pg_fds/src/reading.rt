@@ -1,17 +1,18 @@
 //! Descriptor sets, read.
 
-ghost use Rattle.std.specs.Prelude.{◌≡◌, Some, IfErr, IfOk, map};
+ghost use Rattle.std.specs.Prelude.{ℕ, ◌≡◌, List, Some, IfErr, IfOk, map};
 ghost use Rattle.std.specs.List.{list_all};
 ghost use Rattle.pg_schema.specs.declared.parts.Parts.{Parts};
 ghost use Rattle.pg_check.specs.PartErrors.{IsRefusedOf};
 ghost use Rattle.pg_dyn.specs.Decoding.{dec};
 ghost use Rattle.pg_dyn.specs.Kept.{message_of};
+ghost use Rattle.pg_dyn.specs.Refusals.{MayRefuse};
 ghost use Rattle.pg_fds.specs.Building.{written_shape};
 ghost use Rattle.pg_fds.specs.Descriptor.{file_set};
 ghost use Rattle.pg_fds.specs.Lent.{lent};
 ghost use Rattle.pg_fds.specs.Reads.{States, StatesFiles, fds_reads, kept_files};
 ghost use Rattle.pg_fds.specs.Refused.{IsOfParts, MayRefuseFiles, MayRefuseSet};
-ghost use Rattle.pg_fds.specs.StatesFiles.{is_proto3};
+ghost use Rattle.pg_fds.specs.StatesFiles.{is_proto3, most_deep};
 
 use crate::codes::files_have_types;
 use crate::descriptor::descriptor_schema;
@@ -31,6 +32,16 @@ use std::alloc::Global;
 // How deep messages may be nested.
 const MOST_DEEP: usize = 100;
 
+// What is told of bytes that the codec refuses so.
+fn undecoded(error: DynError) -> FdsError
+    ensures { (bytes : List ℕ) → MayRefuse written_shape file_set most_deep bytes error → MayRefuseSet bytes result }
+{
+    match error {
+        DynError::Memory => FdsError::Memory,
+        _ => FdsError::Bytes(error),
+    }
+}
+
 // The message of a set.
 fn decoded(alloc: Global, bytes: &[u8]) -> Result<Message, FdsError>
     ensures message { IfOk result (λ set. dec written_shape file_set bytes.now ≡ Some (message_of set)) }
@@ -39,8 +50,7 @@ fn decoded(alloc: Global, bytes: &[u8]) -> Result<Message, FdsError>
     let table = descriptor_schema(alloc)?;
     match decode(alloc, &table, SET, bytes, MOST_DEEP) {
         Ok(set) => Ok(set),
-        Err(DynError::Memory) => Err(FdsError::Memory),
-        Err(error) => Err(FdsError::Bytes(error)),
+        Err(error) => Err(undecoded(error)),
     }
 }
 
