@@ -14,12 +14,21 @@ mkdir -p -- "$prefix/bin" "$prefix/libexec" "$prefix/share/man/man1"
 prefix=$(CDPATH= cd -- "$prefix" && pwd -P)
 install -m 755 "$root/crates/protogate/out/protogate" "$prefix/libexec/protogate"
 # What users call gives the program the stack that messages nested deep need, and where a terminal shows it says of a run of over a
-# second that it is at work.
+# second that it is at work, as the script `protogate` does.
 cat >"$prefix/bin/protogate" <<END
 #!/bin/sh
 ulimit -S -s 1048576 2>/dev/null || ulimit -S -s "\$(ulimit -H -s)" 2>/dev/null
+say_at_work() {
+    sleep 1
+    case \$(ps -o stat= -p \$\$ 2>/dev/null) in
+        '' | [TtXZ]*) ;;
+        *) printf 'protogate: still at work: %s\n' "\$1" >&2 ;;
+    esac
+}
 if [ -t 2 ]; then
-    { sleep 1; kill -0 \$\$ 2>/dev/null && echo "protogate: still at work: \$*" >&2; } </dev/null >/dev/null &
+    case \${1-} in
+        compile | gate | show | verify) { say_at_work "\$1"; } </dev/null >/dev/null 3>&- 4>&- 5>&- 6>&- 7>&- 8>&- 9>&- & ;;
+    esac
 fi
 exec '$prefix/libexec/protogate' "\$@"
 END

@@ -1,9 +1,10 @@
 #!/bin/sh
 # Runs the examples and compares what is printed, and each status: the changes below `examples/changes`, each with its certificate
-# and its descriptor sets; the commands of README.md and docs/USAGE.md; and the script for continuous integration. The page for `man`
-# has each code of docs/REFUSALS.md.
+# and its descriptor sets; the commands of README.md and docs/USAGE.md; the script for continuous integration; and what the scripts
+# that start the program say on a terminal. The page for `man` has each code of docs/REFUSALS.md.
 # usage: tools/try_examples.sh [PROGRAM]    by default the script `protogate` at the top
-# Blocks of commands that call `protoc` want it on the path, and are passed over, with a line, where it isn't.
+# Blocks of commands that call `protoc` want it on the path, and are passed over, with a line, where it isn't; so is what
+# is said on a terminal where there is no `script` of util-linux, or none of the other tools that it takes.
 set -u
 root=$(CDPATH= cd -- "$(dirname -- "$0")/.." && pwd -P) || exit 3
 program=$(readlink -f -- "${1:-"$root/protogate"}") || exit 3
@@ -95,11 +96,63 @@ make_release() {
         && cp examples/new/* proto
 }
 
-# The status of the script for continuous integration, whatever it prints.
-try_gate() {
+# The status of a call, whatever it prints.
+try_status() {
     wanted=$1
     shift
-    compare "examples/ci/gate.sh $*" "status $wanted" "$(examples/ci/gate.sh "$@" >/dev/null 2>&1; echo "status $?")"
+    compare "$*" "status $wanted" "$("$@" >/dev/null 2>&1; echo "status $?")"
+}
+
+# A repository's scripts with a program that answers by its first word: `gate` takes two seconds, `show` none, and `verify` stops.
+make_slow_program() {
+    mkdir -p slow/tools slow/docs slow/crates/protogate/out \
+        && cp -- "$root/protogate" slow && cp -- "$root/tools/install.sh" slow/tools && cp -- "$root/docs/protogate.1" slow/docs \
+        && : >slow/crates.txt || return 1
+    cat >slow/crates/protogate/out/protogate <<'END'
+#!/bin/sh
+case $1 in
+    gate) sleep 2 ;;
+    verify) kill -STOP $$ ;;
+    show) ;;
+    *) exit 4 ;;
+esac
+END
+    chmod 755 slow/crates/protogate/out/protogate && : >slow/crates/protogate/out/protogate.begun \
+        && slow/tools/install.sh slow/installed >/dev/null
+}
+
+# What a shell prints on a terminal that runs these lines, where `$slow` is the script that starts the program.
+said_on_terminal() {
+    SHELL=/bin/sh slow=$1 script -qec "$2" /dev/null </dev/null | tr -d '\r'
+}
+
+# A run of two seconds is said to be at work, by its first word alone, and only where standard error is a terminal. One that has
+# ended isn't, whether or not anybody waits for it, nor one that is stopped. The script leaves nothing behind that has a file open.
+try_terminal() {
+    at_work='protogate: still at work: gate'
+    compare "$1: two seconds" "$at_work" "$(said_on_terminal "$1" '"$slow" gate "a\\nb" "$(printf "\033[7m")"')"
+    compare "$1: not on a terminal" "" "$(said_on_terminal "$1" '"$slow" gate 2>said; cat said')"
+    compare "$1: ended" "" "$(said_on_terminal "$1" '"$slow" show; sleep 2')"
+    compare "$1: ended, and not waited for" "" "$(said_on_terminal "$1" '"$slow" show & exec sleep 2')"
+    compare "$1: stopped" "" "$(said_on_terminal "$1" '"$slow" verify & sleep 2; kill -CONT $!; wait')"
+    compare "$1: an open file" "free" "$(said_on_terminal "$1" '(flock -n 9; "$slow" show) 9>lock; flock -n lock echo free')"
+}
+
+# The same of the script at the top, and of the one that is installed.
+try_terminals() {
+    for tool in script ps flock; do
+        if ! command -v "$tool" >/dev/null; then
+            echo "passed over, without $tool: what is said on a terminal"
+            return
+        fi
+    done
+    if ! script --version 2>/dev/null | grep -q util-linux; then
+        echo "passed over, with another script than that of util-linux: what is said on a terminal"
+        return
+    fi
+    compare "a slow program" "status 0" "$(make_slow_program; echo "status $?")"
+    try_terminal slow/protogate
+    try_terminal slow/installed/bin/protogate
 }
 
 cp -R -- "$root/examples/changes" "$room/changes" || exit 3
@@ -116,12 +169,18 @@ export PROGRAM PATH
 make_release || exit 3
 try_document "$root/README.md"
 try_document "$root/docs/USAGE.md"
-try_gate 0 v1.4 proto order.proto Customer
-try_gate 1 v1.4 proto order.proto Order Customer
-try_gate 2 v1.4 proto order.proto Order Nobody Customer
-try_gate 4 v0.1 proto order.proto Order
-try_gate 4 v1.4 texts order.proto Order
-try_gate 4 v1.4 proto order.proto
+gate=examples/ci/gate.sh
+try_status 0 "$gate" v1.4 proto order.proto Customer
+try_status 1 "$gate" v1.4 proto order.proto Order Customer
+try_status 2 "$gate" v1.4 proto order.proto Order Nobody Customer
+try_status 4 "$gate" v0.1 proto order.proto Order
+try_status 4 "$gate" v1.4 texts order.proto Order
+try_status 4 "$gate" v1.4 proto order.proto
+mkdir -- "$room/failing" && printf '#!/bin/sh\nexit 2\n' >"$room/failing/tar" && chmod 755 "$room/failing/tar" || exit 3
+try_status 3 env TMPDIR="$room/none" "$gate" v1.4 proto order.proto Customer
+try_status 3 env PATH="$room/failing:$PATH" "$gate" v1.4 proto order.proto Customer
+try_status 127 env PROTOGATE="$room/none" "$gate" v1.4 proto order.proto Customer
+try_terminals
 compare "docs/protogate.1: codes" "$(sed -n 's/^| \(E[^|]*\)|.*/\1/p' "$root/docs/REFUSALS.md" | grep -o 'E[0-9][0-9]*' | sort -u)" \
     "$(sed -n 's/^\.BI* \(E[0-9]*\).*/\1/p' "$root/docs/protogate.1" | sort -u)"
 echo "$passed passed, $failed failed"
