@@ -20,15 +20,29 @@ const STATUSES: &str = "Statuses:
   4  help, or words that are no call
   5  bound: a certificate says only how long a message is at least that breaks";
 
-/// What help says of the statuses of a set that is written.
-const COMPILE_STATUSES: &str = "Statuses:
+/// What help says of a set that is written: what is printed, and the statuses.
+const COMPILE_ANSWERS: &str = "Prints the bytes of a google.protobuf.FileDescriptorSet, or a line
+  refused CODE PLACE   no set, for a fault at the place; docs/REFUSALS.md has each code
+
+Statuses:
   0  the set is written to standard output, and nothing else
   2  refused: a fault in a file
   3  out of memory, or a file or the output failed
   4  help, or words that are no call";
 
-/// What help says of the gate's statuses.
-const GATE_STATUSES: &str = "Statuses:
+/// What help says of the gate's answers: what is printed, and the statuses.
+const GATE_ANSWERS: &str = "Prints lines:
+  compatible NAME       no message breaks
+  breaks NAME LENGTH    some message does; the shortest have that many bytes
+  witness HEX           one of these, behind breaks
+  step NUMBER OLDFIELD OLDPLACE NEWFIELD NEWPLACE
+                        each field on the way to what breaks in it
+  forward, backward     with --both, before the lines of either direction
+  refused SIDE CODE PLACE
+                        no answer, for a fault of the old or the new side; docs/REFUSALS.md has each code
+With --cert it prints the lines of the certificate, or those of a refusal.
+
+Statuses:
   0  compatible: the new reader sees all that the old writer writes
   1  breaks: it doesn't see all of some message, of both directions in either
   2  refused: a fault in a file, or the message type is missing
@@ -36,15 +50,27 @@ const GATE_STATUSES: &str = "Statuses:
   4  help, or words that are no call
   5  never of gate: only verify ends so, where a certificate says a bound alone";
 
-/// What help says of the statuses of a message that is shown.
-const SHOW_STATUSES: &str = "Statuses:
+/// What help says of a message that is shown: what is printed, and the statuses.
+const SHOW_ANSWERS: &str = "Prints lines, those of a message inside two spaces further in:
+  NUMBER NAME ITEM      an item of a field
+  unknown HEX           a record that no field takes
+  again HEX             at the end, what is written of the message
+  refused CODE at BYTE  no message, for a fault at that byte; docs/REFUSALS.md has each code
+
+Statuses:
   0  the message is shown
   2  refused: a fault in a file, the message type is missing, or HEX is none or no message of it
   3  out of memory, or a file or the output failed
   4  help, or words that are no call";
 
-/// What help says of the statuses of a checked certificate.
-const VERIFY_STATUSES: &str = "Statuses:
+/// What help says of a checked certificate: what is printed, and the statuses.
+const VERIFY_ANSWERS: &str = "Prints one line:
+  compatible NAME       the certificate holds: no message breaks
+  breaks NAME LENGTH    it holds: its witness breaks, and no shorter message does
+  bound NAME LENGTH     it holds: a message that breaks has at least that many bytes
+  refused REASON        it doesn't hold, or a side has a fault; docs/REFUSALS.md has each code
+
+Statuses:
   0  compatible: the certificate holds, and no message breaks
   1  breaks: it holds, and its witness is a shortest message that breaks
   2  refused: a fault in a file, or the certificate doesn't hold
@@ -116,7 +142,7 @@ fn compile_command<'a>(alloc: Global) -> Result<Command<'a>, AllocError>
 {
     Command::new(alloc, "compile")
         .about("Write the descriptor set of proto3 files and of all that they import")
-        .after_help(COMPILE_STATUSES)
+        .after_help(COMPILE_ANSWERS)
         .arg(folder(alloc, "dir", "The folder of the files and of their imports"))?
         .arg(positionals(alloc, "FILE", "The proto3 files"))
 }
@@ -126,7 +152,7 @@ fn gate_command<'a>(alloc: Global) -> Result<Command<'a>, AllocError>
 {
     Command::new(alloc, "gate")
         .about("Find whether a reader of the new type sees all that a writer of the old one writes")
-        .after_help(GATE_STATUSES)
+        .after_help(GATE_ANSWERS)
         .arg(folder(alloc, "old-dir", "The folder of the old file"))?
         .arg(folder(alloc, "new-dir", "The folder of the new file"))?
         .arg(named(alloc, "old", "F", OLD_FILE))?
@@ -149,7 +175,7 @@ fn verify_command<'a>(alloc: Global) -> Result<Command<'a>, AllocError>
 {
     Command::new(alloc, "verify")
         .about("Check a certificate of two message types, which the gate wrote with --cert")
-        .after_help(VERIFY_STATUSES)
+        .after_help(VERIFY_ANSWERS)
         .arg(folder(alloc, "old-dir", "The folder of the old file"))?
         .arg(folder(alloc, "new-dir", "The folder of the new file"))?
         .arg(named(alloc, "old", "F", OLD_FILE))?
@@ -168,7 +194,7 @@ fn show_command<'a>(alloc: Global) -> Result<Command<'a>, AllocError>
         .about(
             "Show what the bytes of a message are read as, and the bytes that are written of it again",
         )
-        .after_help(SHOW_STATUSES)
+        .after_help(SHOW_ANSWERS)
         .arg(folder(alloc, "dir", "The folder of the file and of its imports"))?
         .arg(named(alloc, "file", "F", SHOWN_FILE))?
         .arg(named(alloc, "type", "NAME", "The message type, by its full name"))?
