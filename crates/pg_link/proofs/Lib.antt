@@ -8,6 +8,7 @@ pub mod OrderLaws
 pub mod PathLaws
 pub mod PlaceLaws
 pub mod PlacedLaws
+pub mod ReadLaws
 pub mod ResolvesLaws
 pub mod SeesLaws
 pub mod SightLaws

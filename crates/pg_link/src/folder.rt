@@ -1,4 +1,4 @@
-ghost use Rattle.std.specs.Prelude.{true};
+ghost use Rattle.std.specs.Prelude.{◌≡◌, Some, true};
 
 use crate::{SourceError, Sources, Tally};
 use std::alloc::Global;
@@ -19,14 +19,19 @@ const READ_LIMIT: usize = 2_147_483_647;
 pub struct Folder<'a, R> {
     files: &'a R,
     failures: Tally,
+    reads: Tally,
 }
 
 impl<'a, R: Files> Folder<'a, R> {
-    /// The files that these give. It has not failed yet.
-    pub fn new(files: &'a R) -> Folder<'a, R> {
+    /// The files that these give. It has not failed yet, and none was read.
+    pub fn new(files: &'a R) -> Folder<'a, R>
+        ensures failures { result.failures.count ≡ 0 }
+        ensures reads { result.reads.count ≡ 0 }
+    {
         Folder {
             files,
             failures: Tally::new(),
+            reads: Tally::new(),
         }
     }
 
@@ -68,7 +73,10 @@ impl<R: Files> Sources for Folder<'_, R> {
 
     ghost failures = { λ folder. folder.failures.count };
 
+    ghost reads = { λ folder. Some folder.reads.count };
+
     fn read(&mut self, alloc: Global, path: &str) -> Result<Vec<u8>, SourceError> {
+        self.reads.add();
         let answer = match self.open(path) {
             Ok(mut file) => read_to_end(alloc, &mut file),
             Err(error) => Err(error),

@@ -1,9 +1,10 @@
 //! A file's text and tree, with the places of the faults in them.
-ghost use Rattle.std.specs.Prelude.{◌≡◌, ◌≤◌, ◌+◌, IfErr, IfOk, IsTrue, length};
+ghost use Rattle.std.specs.Prelude.{◌≡◌, ◌≤◌, ◌+◌, IfErr, IfOk, IsTrue, OnOk, length};
 ghost use Rattle.pg_link.specs.Below.{path_below};
 ghost use Rattle.pg_lex.specs.Lexes.{lexes, max_len};
 ghost use Rattle.pg_lex.specs.Symbol.{placed};
 ghost use Rattle.pg_lex.specs.Faults as lex;
+ghost use Rattle.pg_link.specs.Sources.{more};
 ghost use Rattle.pg_link.specs.Walk as spec;
 
 use crate::below::read_below;
@@ -109,6 +110,7 @@ pub(crate) fn text_of<S: Sources>(
     ensures given { IfOk result (λ bytes. IsTrue (S.may_give source.old (path_below folder.now path.now) bytes.items)) }
     ensures fault { IfErr result (spec.IsReadFault (S.may_lack source.old) folder.now asking.entry path.now) }
     ensures counted { S.failures source.new ≡ S.failures source.old + spec.failures_of result }
+    ensures read_once { OnOk result (S.reads source.new ≡ more 1 (S.reads source.old)) }
     ensures same_given { S.may_give source.new ≡ S.may_give source.old }
     ensures same_lacked { S.may_lack source.new ≡ S.may_lack source.old }
 {
@@ -143,6 +145,7 @@ pub fn read_file<S: Sources>(
     ensures given { IfOk result (λ bytes. IsTrue (S.may_give source.old (path_below folder.now path.now) bytes.items)) }
     ensures fault { IfErr result (spec.IsReadFault (S.may_lack source.old) folder.now None path.now) }
     ensures counted { S.failures source.new ≡ S.failures source.old + spec.failures_of result }
+    ensures read_once { OnOk result (S.reads source.new ≡ more 1 (S.reads source.old)) }
     ensures same_given { S.may_give source.new ≡ S.may_give source.old }
     ensures same_lacked { S.may_lack source.new ≡ S.may_lack source.old }
 {

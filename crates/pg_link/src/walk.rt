@@ -2,6 +2,7 @@
 ghost use Rattle.std.specs.Prelude.{◌≡◌, ◌+◌, ◌≤◌, IfErr, IfOk, OnOk, ◌++◌, ◌∷◌, [], List, ℕ, false, true, length, map, string_bytes};
 ghost use Rattle.pg_link.specs.Files.{is_path_of};
 ghost use Rattle.pg_link.specs.Index.{texts};
+ghost use Rattle.pg_link.specs.Sources.{more};
 ghost use Rattle.pg_link.specs.Walk as spec;
 ghost use Rattle.pg_link.specs.declared.error.LinkError.TheVariants as error;
 
@@ -110,6 +111,7 @@ fn visit<S: Sources>(
     ensures has { OnOk result (spec.has_path walk.new path.now ≡ true) }
     ensures kept { OnOk result (spec.Keeps walk.old walk.new) }
     ensures grows { OnOk result (length (spec.entries walk.old) ≤ length (spec.entries walk.new)) }
+    ensures read_once { OnOk result ((roots : List (List ℕ)) → spec.Follows (spec.world (S.may_give source.old) (S.may_lack source.old) folder.now roots) walk.old asking.entry path.now → spec.ReadsEach (S.reads source.old) (S.reads source.new) walk.old walk.new) }
     ensures counted { S.failures source.new ≡ S.failures source.old + spec.failures_of result }
     ensures same_given { S.may_give source.new ≡ S.may_give source.old }
     ensures same_lacked { S.may_lack source.new ≡ S.may_lack source.old }
@@ -158,6 +160,8 @@ pub(crate) fn follow_imports<S: Sources>(
     ensures linked { IfOk result (λ walk. spec.IsLinked (spec.world (S.may_give source.old) (S.may_lack source.old) folder.now (texts roots.now)) (spec.entries walk)) }
     // Each refusal comes only where what it names is there, at its place.
     ensures refused { IfErr result (spec.Refuses (spec.world (S.may_give source.old) (S.may_lack source.old) folder.now (texts roots.now))) }
+    // A source that counts its reads was read as often as there are files.
+    ensures read_once { IfOk result (λ walk. S.reads source.new ≡ more (length (spec.entries walk)) (S.reads source.old)) }
     // A failure of the source is told as one, and nothing else is.
     ensures counted { S.failures source.new ≡ S.failures source.old + spec.failures_of result }
     ensures same_given { S.may_give source.new ≡ S.may_give source.old }

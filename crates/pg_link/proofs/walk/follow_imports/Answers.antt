@@ -1,4 +1,4 @@
-use Rattle.std.proofs.Common.{◌≡◌, ◌∙◌, ℕ, List, [], None, All, take, true, sym, subst, slice_index_or, arith}
+use Rattle.std.proofs.Common.{◌≡◌, ◌∙◌, ◌-◌, ℕ, List, [], None, All, length, take, true, sym, subst, slice_index_or, arith}
 use Rattle.std.proofs.lemmas.List.{take_all}
 use Rattle.std.proofs.lemmas.List.Elements.{All-more, All-map}
 use Rattle.std.proofs.lemmas.Result.{err_from_is_err_and}
@@ -6,6 +6,7 @@ use Rattle.std.specs.Borrow.{Bor}
 use Rattle.pg_link.specs.Files.{is_path_of, paths_of}
 use Rattle.pg_link.specs.Index.{texts}
 use Rattle.pg_link.specs.Walk.{World, world, IsSound, Follows, Refuses, entries, outlines, has_path}
+use Rattle.pg_link.proofs.ReadLaws.{then_more}
 use Rattle.pg_link.proofs.WalkLaws.{contains_root, follows_root, linked, same_world}
 use Rattle.pg_link.proofs.walk.follow_imports.Goals as goal
 
@@ -45,6 +46,12 @@ loop-root-preserved g c =
       sound = subst (λ (x : World). IsSound x [] (entries new)) now sound;
       opened = after.opened ∙ inv.opened;
       has_roots = All-more has roots c.loop-root.root-index none c.loop-root-test.true those after.has;
+      read_once =
+          let old : ℕ = length (entries c.loop-root.walk) in
+          let b : ℕ = length (entries new) - old in
+          then_more old b (length (entries new)) _ _ _ inv.read_once
+          (after.read_once (texts roots) (subst (λ (x : World). Follows x c.loop-root.walk None root) (sym now) follows) b (omega (arith, after.grows)))
+          (omega (arith, after.grows));
       counted = omega (arith, after.counted, inv.counted);
       same_given = after.same_given ∙ inv.same_given;
       same_lacked = after.same_lacked ∙ inv.same_lacked;
