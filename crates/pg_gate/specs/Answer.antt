@@ -4,19 +4,20 @@ use Rattle.clap.specs.Words.{Text}
 use Rattle.pg_schema.specs.declared.field.TypeId.{TypeId}
 use Rattle.pg_schema.specs.declared.parts.Parts.{Parts}
 use Rattle.pg_schema.specs.Parts.{name_at, shape_of}
-use Rattle.pg_schema.specs.Shape.{Shape}
+use Rattle.pg_schema.specs.Shape.{Shape, fields}
 use Rattle.pg_dyn.specs.Belonging.{IsMessage}
 use Rattle.pg_dyn.specs.Breaking.{Breaks, Compatible, Least}
-use Rattle.pg_dyn.specs.Comparison.{numbers, same}
+use Rattle.pg_dyn.specs.Comparison.{numbers, records_outside, same, unshared_bytes}
 use Rattle.pg_dyn.specs.Decoding.{dec}
 use Rattle.pg_dyn.specs.Encoding.{cap, enc}
 use Rattle.pg_dyn.specs.Fits.{Fits}
 use Rattle.pg_dyn.specs.Kept.{Kept, message_of, type_of}
-use Rattle.pg_dyn.specs.Message.{IsPlain, Message}
+use Rattle.pg_dyn.specs.Message.{IsPlain, Message, unknown_of}
+use Rattle.pg_dyn.specs.Writing.{bytes_of}
 use Rattle.pg_pairs.specs.declared.choice.Pair.{Pair}
 use Rattle.pg_pairs.specs.Sight.{by_numbers}
 use Rattle.pg_cert.specs.Bounds.{bound_in}
-use Rattle.pg_cert.specs.Certificate.{Claim}
+use Rattle.pg_cert.specs.Certificate.{Claim, Holds}
 use Rattle.pg_least.specs.Exact.{IsSearched}
 use Rattle.pg_gate.specs.declared.answer.Answer.{Answer}
 use Rattle.pg_gate.specs.declared.answer.Answer.TheVariants as answers
@@ -43,30 +44,41 @@ pub record OldWrites (old : Shape) (pair : Pair) (message : Message) : Type 0 wh
   pub has_encoding : length (enc old pair.old message) ≤ cap
 
 -- The new reader reads the old writer's bytes. It sees the same values in the fields of both types, at every depth, and gives back
--- all others.
+-- all others: among the records that it doesn't know, those of numbers that its type hasn't are the bytes that the writer wrote for them.
 pub record NewSees (old new : Shape) (pair : Pair) (message : Message) : Type 0 where
   pub read : Message
   pub reads : dec new pair.new (enc old pair.old message) ≡ Some read
   pub same : same numbers old new pair.old pair.new message read ≡ true
+  pub gives_back : bytes_of (records_outside (fields new pair.new) (unknown_of read)) ≡ unshared_bytes old pair.old (fields new pair.new) message
 
--- No message breaks: each message that the old writer encodes the new reader sees whole. The certificate is that of the root types,
--- which a checker takes, with each bound least; the root's bound in it is 'none', and there is no witness.
+-- The old writer encodes the message, and the new reader doesn't see it so.
+pub record IsLost (old new : Shape) (pair : Pair) (message : Message) : Type 0 where
+  pub written : OldWrites old pair message
+  pub not_seen : NewSees old new pair message → ⊥
+
+-- No message breaks: each message that the old writer encodes the new reader sees whole. The certificate is that of the root types, and
+-- it passes the checker; each bound in it is least. The root's bound in it is 'none', and there is no witness.
 pub record IsCompatible (old new : Parts) (root : Text) (certificate : Claim) : Type 0 where
   pub roots : AreRoots old new root certificate.root
+  pub each_is_seen : (message : Message) → OldWrites (shape_of old) certificate.root message → NewSees (shape_of old) (shape_of new) certificate.root message
+  pub passes : Holds by_numbers (shape_of old) (shape_of new) certificate
   pub searched : IsSearched by_numbers (shape_of old) (shape_of new) certificate.root certificate
   pub bound_is_none : bound_in certificate.bounds certificate.root ≡ Some None
   pub no_witness : certificate.witness ≡ None
   pub compatible : Compatible numbers (shape_of old) (shape_of new) certificate.root.old certificate.root.new
-  pub each_is_seen : (message : Message) → OldWrites (shape_of old) certificate.root message → NewSees (shape_of old) (shape_of new) certificate.root message
 
 -- The witness is a message of the old root type, without unknown records, and it breaks: the new reader doesn't see it whole. No message
--- that breaks has fewer bytes. The certificate is that of the root types, which a checker takes, with each bound least; the witness's
--- bytes stand in it.
+-- that the old writer encodes and the new reader doesn't see whole has fewer bytes. The certificate is that of the root types, and it
+-- passes the checker; each bound in it is least. The witness's bytes stand in it.
 pub record IsBroken (old new : Parts) (root : Text) (witness : Kept) (certificate : Claim) : Type 0 where
   pub roots : AreRoots old new root certificate.root
-  pub searched : IsSearched by_numbers (shape_of old) (shape_of new) certificate.root certificate
   pub fits : Fits (shape_of old) witness
   pub type_is : type_of witness ≡ certificate.root.old
+  pub lost : IsLost (shape_of old) (shape_of new) certificate.root (message_of witness)
+  pub none_shorter : (message : Message) → IsLost (shape_of old) (shape_of new) certificate.root message
+      → length (enc (shape_of old) certificate.root.old (message_of witness)) ≤ length (enc (shape_of old) certificate.root.old message)
+  pub passes : Holds by_numbers (shape_of old) (shape_of new) certificate
+  pub searched : IsSearched by_numbers (shape_of old) (shape_of new) certificate.root certificate
   pub breaks : Breaks numbers (shape_of old) (shape_of new) certificate.root.old certificate.root.new (message_of witness)
   pub least : Least numbers (shape_of old) (shape_of new) certificate.root.old certificate.root.new (length (enc (shape_of old) certificate.root.old (message_of witness)))
   pub bytes_are : certificate.witness ≡ Some (enc (shape_of old) certificate.root.old (message_of witness))
