@@ -16,7 +16,7 @@ use Rattle.pg_pairs.specs.Cheapest.{cheapest, IsCheapest, CheapestIsLeast}
 use Rattle.pg_pairs.specs.Choices.{Table, number_for, all_choices, affordable, choices}
 use Rattle.pg_pairs.specs.Covering.{IsWithin}
 use Rattle.pg_pairs.specs.Laws.{ReachedBy}
-use Rattle.pg_pairs.specs.Settling.{IsAmong}
+use Rattle.pg_pairs.specs.Among.{IsAmong}
 use Rattle.pg_least.specs.declared.witness.Step.{Step}
 use Rattle.pg_least.specs.Descent.{IsExactTable, IsStep, IsWay, IsWayDown, IsWholeWay, first_step}
 

@@ -12,7 +12,7 @@ use Rattle.pg_pairs.specs.Choices.{number_for}
 use Rattle.pg_pairs.specs.Covering.{same_pair, children, IsThere}
 use Rattle.pg_pairs.specs.Laws.{IsExact}
 use Rattle.pg_pairs.specs.LeastCosts.{least_cost, IsNoMore, IsNoHigher, LowerTablesCostNoMore, LeastCostsAreLengths, LeastCostsAreExact}
-use Rattle.pg_pairs.specs.Settling.{IsAmong}
+use Rattle.pg_pairs.specs.Among.{IsAmong}
 use Rattle.pg_cert.specs.declared.bounds.PairBound.{PairBound}
 use Rattle.pg_cert.specs.Bounds.{is_bound, bound_in, are_bounds, with_bound}
 use Rattle.pg_least.specs.Exact.{pairs_of}

@@ -7,7 +7,7 @@ use Rattle.std.proofs.Math.Seq.{take-suc}
 use Rattle.pg_pairs.specs.declared.choice.Pair.{Pair}
 use Rattle.pg_pairs.specs.Covering.{same_pair, distinct}
 use Rattle.pg_pairs.specs.FirstSeen.{OnePairMore}
-use Rattle.pg_pairs.specs.Settling.{IsAmong}
+use Rattle.pg_pairs.specs.Among.{IsAmong}
 use Rattle.pg_least.specs.Pairs.{has_pair, same_indices, AreSeen}
 
 pub same_pair-true : (p q : Pair) → same_pair p q ≡ true → p ≡ q

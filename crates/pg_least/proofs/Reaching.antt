@@ -7,7 +7,7 @@ use Rattle.pg_schema.specs.Shape.{Shape}
 use Rattle.pg_pairs.specs.declared.choice.Pair.{Pair}
 use Rattle.pg_pairs.specs.Covering.{children, distinct}
 use Rattle.pg_pairs.specs.FirstSeen.{OnePairMore}
-use Rattle.pg_pairs.specs.Settling.{IsAmong}
+use Rattle.pg_pairs.specs.Among.{IsAmong}
 use Rattle.pg_least.specs.Pairs.{IsClosed}
 use Rattle.pg_least.specs.Reached.{LeadsTo, IsReachedInOrder, onwards}
 use Rattle.pg_least.proofs.Grown.{distinct-again, distinct-front, grown_behind, each_distinct, among_distinct}

@@ -7,7 +7,7 @@ use Rattle.pg_pairs.specs.Carried.{choice_child}
 use Rattle.pg_pairs.specs.Cheapest.{cheapest}
 use Rattle.pg_pairs.specs.Choices.{Table, choices}
 use Rattle.pg_pairs.specs.Laws.{IsExact}
-use Rattle.pg_pairs.specs.Settling.{IsAmong}
+use Rattle.pg_pairs.specs.Among.{IsAmong}
 use Rattle.pg_cert.specs.declared.bounds.PairBound.{PairBound}
 use Rattle.pg_cert.specs.Bounds.{bound_in}
 use Rattle.pg_least.specs.Exact.{pairs_of}

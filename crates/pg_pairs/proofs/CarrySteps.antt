@@ -25,7 +25,7 @@ use Rattle.pg_pairs.specs.declared.item.Small.TheVariants.{Zero}
 use Rattle.pg_pairs.specs.Sight.{Sight, IsSight}
 use Rattle.pg_pairs.specs.Gaps.{gap_item}
 use Rattle.pg_pairs.specs.Choices.{Table, zero_counts, choices}
-use Rattle.pg_pairs.specs.Settling.{IsAmong}
+use Rattle.pg_pairs.specs.Among.{IsAmong}
 use Rattle.pg_pairs.specs.Laws.{ReachedBy}
 use Rattle.pg_pairs.specs.Carried.{least_part, key_of, carried_field, carried_two, carried_of, carried, choice_child, ChildReached}
 use Rattle.pg_pairs.specs.CarriedItems.{kept_item, key_by, leaf_parts, child_parts, lost_parts, key_parts, value_parts, carried_parts, least_small, least_parts}

@@ -21,7 +21,7 @@ use Rattle.pg_pairs.specs.Contents.{ChildBound, IsContent, total}
 use Rattle.pg_pairs.specs.Fields.{is_field_kept}
 use Rattle.pg_pairs.specs.Carried.{alone}
 use Rattle.pg_pairs.specs.FieldCosts.{list_alone, map_alone, IsShared, CostsCheapest, SingleScalarsCost, ListsCost, MapsCost, ChildrenCost}
-use Rattle.pg_pairs.specs.Settling.{IsAmong}
+use Rattle.pg_pairs.specs.Among.{IsAmong}
 use Rattle.pg_pairs.proofs.Cheaper.{cheapest_is_least}
 use Rattle.pg_pairs.proofs.GapItems.{IsLeafy}
 use Rattle.pg_pairs.proofs.LowerBound.{alone_breaks}

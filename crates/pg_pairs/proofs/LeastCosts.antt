@@ -22,7 +22,7 @@ use Rattle.pg_pairs.specs.Costs.{with_length, least_body, nonzero_body, entry_co
 use Rattle.pg_pairs.specs.Choices.{Table, number_for, choice, choice_of, zero_counts, unlike_cost, gap_body, child_body, singular_cost, plain_choices, map_choices, field_choices, joins, joined_choices, choices_beside, all_choices, affordable, choices}
 use Rattle.pg_pairs.specs.Cheapest.{cheaper, cheapest}
 use Rattle.pg_pairs.specs.Covering.{IsWithin}
-use Rattle.pg_pairs.specs.Settling.{IsAmong}
+use Rattle.pg_pairs.specs.Among.{IsAmong}
 use Rattle.pg_pairs.specs.LeastCosts.{IsNoMore, IsNoHigher, LowerTablesCostNoMore, LeastCostsAreLengths, LeastCostsAreExact}
 use Rattle.pg_pairs.proofs.Lengths.{varint_some, with_length_rises}
 

@@ -19,7 +19,6 @@ pub mod Splits
 pub mod Choosing
 pub mod LowerBound
 pub mod FieldAlone
-pub mod Settling
 pub mod Single
 pub mod Broken
 pub mod CarryAlone

@@ -12,7 +12,7 @@ use Rattle.pg_pairs.specs.declared.choice.Pair.{Pair}
 use Rattle.pg_pairs.specs.Sight.{Sight, IsSight}
 use Rattle.pg_pairs.specs.Costs.{least_content}
 use Rattle.pg_pairs.specs.Choices.{Table, choice, field_choices, in_one_oneof, joins, joined_choices, choices_beside, all_choices, choices}
-use Rattle.pg_pairs.specs.Settling.{IsAmong}
+use Rattle.pg_pairs.specs.Among.{IsAmong}
 use Rattle.pg_pairs.specs.Laws.{ReachedBy, IsReached, ChoicesReached}
 use Rattle.pg_pairs.specs.Carried.{carried_field, carried_two, carried_of, carried, field_child, child_of, choice_child, ChildReached, ChildThere, EachChildCostsLess, EachChoiceIsCarried}
 use Rattle.pg_pairs.proofs.CarriedFields.{IsCarried, CarriesOwn, presences_carried}

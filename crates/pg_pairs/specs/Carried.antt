@@ -15,7 +15,7 @@ use Rattle.pg_pairs.specs.Sight.{Sight, IsSight}
 use Rattle.pg_pairs.specs.Likeness.{like}
 use Rattle.pg_pairs.specs.Gaps.{gap_item}
 use Rattle.pg_pairs.specs.Choices.{Table, zero_counts, choices}
-use Rattle.pg_pairs.specs.Settling.{IsAmong}
+use Rattle.pg_pairs.specs.Among.{IsAmong}
 use Rattle.pg_pairs.specs.Laws.{ReachedBy}
 
 -- Items with the least bodies: zero; one that isn't zero; and one that isn't an integer's default.

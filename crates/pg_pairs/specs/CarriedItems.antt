@@ -20,7 +20,7 @@ use Rattle.pg_pairs.specs.Sight.{Sight}
 use Rattle.pg_pairs.specs.Likeness.{like}
 use Rattle.pg_pairs.specs.Gaps.{gap_item}
 use Rattle.pg_pairs.specs.Choices.{Table, zero_counts, choices}
-use Rattle.pg_pairs.specs.Settling.{IsAmong}
+use Rattle.pg_pairs.specs.Among.{IsAmong}
 use Rattle.pg_pairs.specs.Carried.{nonzero_leaf, far_leaf, key_of, choice_child, ChildReached}
 
 abbrev pub leaf_by : Small → Form → Leaf

@@ -2,7 +2,7 @@
 use Rattle.std.specs.Prelude.{◌≡◌, ◌≤◌, nat_le, List, [], ◌∷◌, if◌then◌else◌, Option, Some, None}
 use Rattle.std.specs.List.{AllByRecursion}
 use Rattle.pg_pairs.specs.declared.choice.Choice.{Choice}
-use Rattle.pg_pairs.specs.Settling.{IsAmong}
+use Rattle.pg_pairs.specs.Among.{IsAmong}
 
 -- of equal costs the former
 abbrev pub cheaper : Choice → Option Choice → Choice

@@ -1,3 +1,4 @@
+pub mod Among
 pub mod Sight
 pub mod Views
 pub mod Likeness
@@ -13,7 +14,6 @@ pub mod Members
 pub mod LeastMembers
 pub mod Fields
 pub mod FirstSeen
-pub mod Settling
 pub mod Contents
 pub mod Laws
 pub mod FieldCosts

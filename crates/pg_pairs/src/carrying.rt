@@ -10,7 +10,7 @@ ghost use Rattle.pg_pairs.specs.Carried.{ChildReached, choice_child};
 ghost use Rattle.pg_pairs.specs.CarriedItems.{IsChoiceRound, IsTakenBy};
 ghost use Rattle.pg_pairs.specs.Choices.{Table, choices};
 ghost use Rattle.pg_pairs.specs.Laws.{ReachedBy};
-ghost use Rattle.pg_pairs.specs.Settling.{IsAmong};
+ghost use Rattle.pg_pairs.specs.Among.{IsAmong};
 ghost use Rattle.pg_pairs.specs.Views.{sight_of};
 
 use crate::carried::{Beside, broken_content, least_content};

@@ -7,11 +7,10 @@ ghost use Rattle.pg_pairs.specs.ElementGaps.{ElementGaps, UnseenAreNotZero};
 ghost use Rattle.pg_pairs.specs.FieldCosts.{ChildrenCost, ListsCost, MapsCost, SingleScalarsCost};
 ghost use Rattle.pg_pairs.specs.FirstSeen.{OnePairMore};
 ghost use Rattle.pg_pairs.specs.Gaps.{GapTable};
-ghost use Rattle.pg_pairs.specs.Laws.{CoveringBounds, EachChoiceIsReached, ExactIsLeast, NoneIsCompatible};
+ghost use Rattle.pg_pairs.specs.Laws.{CoveringBounds, EachChoiceIsReached, ExactIsLeast, ExactTablesAgree, NoneIsCompatible};
 ghost use Rattle.pg_pairs.specs.LeastCosts.{LeastCostsAreExact, LeastCostsAreLengths, LowerTablesCostNoMore};
 ghost use Rattle.pg_pairs.specs.SmallPairs.{SmallPairs};
 ghost use Rattle.pg_pairs.specs.Sight.{IsSight, by_numbers};
-ghost use Rattle.pg_pairs.specs.Settling.{OneSolution, SettledByInduction};
 ghost use Rattle.pg_pairs.specs.Views.{NumbersAreAlike};
 
 /// Small pairs of types with all their choices.
@@ -81,16 +80,6 @@ pub fn none_is_compatible()
     ensures { NoneIsCompatible }
 {}
 
-/// A table of least costs over a graph, whose edges cost more than their children, is the only one.
-pub fn one_solution()
-    ensures { OneSolution }
-{}
-
-/// What holds of base costs, and through edges, holds of each least cost.
-pub fn settled_by_induction()
-    ensures { SettledByInduction }
-{}
-
 /// Each choice of a pair is the length of a message that breaks, if for each smaller number in the table there is one.
 pub fn each_choice_is_reached()
     ensures { EachChoiceIsReached }
@@ -115,6 +104,11 @@ pub fn cheapest_is_least()
 /// A table whose every bound is the least cost of its pair's choices says the least length of each pair's breaking messages.
 pub fn exact_is_least()
     ensures { ExactIsLeast }
+{}
+
+/// Two such tables say the same of a pair that is in both.
+pub fn exact_tables_agree()
+    ensures { ExactTablesAgree }
 {}
 
 /// Where the numbers of a table are no more, each pair's least cost is no more.

@@ -5,7 +5,7 @@ use Rattle.pg_pairs.specs.Carried.{choice_child, ChildReached}
 use Rattle.pg_pairs.specs.CarriedItems.{IsChoiceRound}
 use Rattle.pg_pairs.specs.Choices.{Table, choices}
 use Rattle.pg_pairs.specs.Laws.{ReachedBy}
-use Rattle.pg_pairs.specs.Settling.{IsAmong}
+use Rattle.pg_pairs.specs.Among.{IsAmong}
 use Rattle.pg_pairs.specs.Views.{sight_of}
 use Rattle.pg_least.proofs.witness.carried.Goals as goal
 
