@@ -10,8 +10,8 @@ use pg_schema::{EnumType, Schema};
 /// How the numbers of an old enum are compared with those of a new one.
 ///
 /// The law `least_is`: `least` gives, of the numbers from -2,147,483,648 to 2,147,483,647 that aren't
-/// alike, one with the shortest body, without 0 where `zero` is false; none only where there is no
-/// such number.
+/// alike, without 0 where `zero` is false, one with the shortest body, and of these the least number;
+/// none only where there is no such number.
 pub trait View {
     ghost is_alike: { Self → EnumType → EnumType → ℤ → Bool };
 
@@ -21,7 +21,7 @@ pub trait View {
     fn alike(&self, old: &EnumType, new: &EnumType, number: i32) -> bool
         ensures { result ≡ is_alike self.now old.now new.now number };
 
-    /// A shortest number that isn't alike; 0 only where `zero` says that it counts.
+    /// The least of the shortest numbers that aren't alike; 0 only where `zero` says that it counts.
     fn least(&self, old: &EnumType, new: &EnumType, zero: bool) -> Option<i32>
         ensures { result ≡ least_differing self.now old.now new.now zero };
 
