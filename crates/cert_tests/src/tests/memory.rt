@@ -1,4 +1,4 @@
-//! Each allocation refused in turn: `rt try --test --fail-alloc N`.
+//! What each call answers where memory is refused. `tools/try_memory.sh` refuses each growth in turn.
 use super::messages::{INNER, linked};
 use super::{MINUS_ONE, ROOT, line, schema_of};
 use pg_cert::{Bounds, BoundsError, CertError, Certificate, Verdict, check, from_text, to_text};

@@ -1,4 +1,4 @@
-//! Each allocation refused in turn: `rt try --test --fail-alloc N`.
+//! What each call answers where memory is refused. `tools/try_memory.sh` refuses each growth in turn.
 
 use crate::tests::same;
 use crate::tests::schemas::{Line, child, children, map, member, schema, singular};
