@@ -9,7 +9,7 @@ use Rattle.pg_pairs.specs.Covering.{children, distinct}
 use Rattle.pg_pairs.specs.FirstSeen.{OnePairMore}
 use Rattle.pg_pairs.specs.Among.{IsAmong}
 use Rattle.pg_least.specs.Pairs.{IsClosed}
-use Rattle.pg_least.specs.Reached.{LeadsTo, IsReachedInOrder, onwards}
+use Rattle.pg_least.specs.Reached.{LeadsTo, IsReachedInOrder, itself, onwards}
 use Rattle.pg_least.proofs.Grown.{distinct-again, distinct-front, grown_behind, each_distinct, among_distinct}
 
 -- Places in lists.
@@ -45,6 +45,10 @@ each_at : {A : Type 0} (P : A → Type 0) (xs : List A) (i : ℕ) (x : A) → sl
 each_at P [] i x h each = absurd (cc)
 each_at P (y ∷ xs) zero x h each = let same : y ≡ x = cc in subst P same each.0
 each_at P (y ∷ xs) (suc i) x h each = each_at P xs i x h each.1
+
+among_each : {A : Type 0} (P : A → Type 0) (x : A) (xs : List A) → IsAmong x xs → AllByRecursion P xs → P x
+among_each P x [] h each = absurd h
+among_each P x (y ∷ ys) h each = ⊎_elim (λ same. subst P (sym same) each.0) (λ later. among_each P x ys later each.1) h
 
 pub every_is_among : {A : Type 0} (P : A → Type 0) (xs : List A) → ((x : A) → IsAmong x xs → P x) → AllByRecursion P xs
 every_is_among P [] h = tt
@@ -101,14 +105,26 @@ module _ (law : OnePairMore) (old new : Shape) (root : Pair) where
         (each-append (LeadsTo old new root) ps (children old new x) led
         (every_is_among (LeadsTo old new root) (children old new x) (λ c among. onwards x c (each_at (LeadsTo old new root) ps at x here led) among))))
 
+  module _ (ps : List Pair) (in_order : ps ≡ distinct (root ∷ flat_map (children old new) ps)) where
+    -- what is found stands in the list
+    among_found : (y : Pair) → IsAmong y (root ∷ flat_map (children old new) ps) → IsAmong y ps
+    among_found y among = subst (IsAmong y) (sym in_order) (among_distinct y (root ∷ flat_map (children old new) ps) among)
+
+    pub all_closed : IsClosed old new ps
+    all_closed = each_flat (children old new) ps ps (λ y among. among_found y (inr among))
+
+    all_led : (p : Pair) → LeadsTo old new root p → IsAmong p ps
+    all_led p itself = among_found root (inl refl)
+    all_led p (onwards above child leads among) =
+        among_each (λ y. IsAmong y ps) child (children old new above) among
+        (among_each (λ q. AllByRecursion (λ y. IsAmong y ps) (children old new q)) above ps (all_led above leads) all_closed)
+
   -- all are found
   pub all_found : (ps : List Pair) (at : ℕ) → take at ps ≡ ps → ps ≡ found_to at ps → AllByRecursion (LeadsTo old new root) ps → IsReachedInOrder old new root ps
-  all_found ps at past so_far led = record {
-    in_order = so_far ∙ ap (λ qs. distinct (root ∷ flat_map (children old new) qs)) past;
-    led_to = led;
-  }
-
-  pub all_closed : (ps : List Pair) → IsReachedInOrder old new root ps → IsClosed old new ps
-  all_closed ps reached =
-      each_flat (children old new) ps ps
-      (λ y among. subst (IsAmong y) (sym reached.in_order) (among_distinct y (root ∷ flat_map (children old new) ps) (inr among)))
+  all_found ps at past so_far led =
+      let in_order : ps ≡ distinct (root ∷ flat_map (children old new) ps) = so_far ∙ ap (λ qs. distinct (root ∷ flat_map (children old new) qs)) past in
+      record {
+        in_order = in_order;
+        led_to = led;
+        all = all_led ps in_order;
+      }

@@ -1,5 +1,5 @@
 -- A table without numbers: each pair stands once.
-use Rattle.std.proofs.Common.{◌≡◌, List, [], ◌∷◌, map, filter, Bool, true, false, not, Option, None, refl, subst}
+use Rattle.std.proofs.Common.{◌≡◌, List, [], ◌∷◌, map, filter, Bool, true, false, not, None, refl, subst}
 use Rattle.pg_pairs.specs.declared.choice.Pair.{Pair}
 use Rattle.pg_pairs.specs.Covering.{same_pair, distinct}
 use Rattle.pg_cert.specs.Bounds.{bound_in, are_bounds}

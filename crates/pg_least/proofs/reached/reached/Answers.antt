@@ -48,15 +48,17 @@ pub returns-clause-once : goal.returns-clause-once
 returns-clause-once c =
     once c.one_pair_more.ensures (shape_of c.args.old.now) (shape_of c.args.new.now) c.args.root c.loop-at.at c.loop-at.pairs.items c.loop-at.invariant.in_order
 
-pub returns-clause-closed : goal.returns-clause-closed
-returns-clause-closed c =
+pub returns-clause-in_order : goal.returns-clause-in_order
+returns-clause-in_order c =
     let ps = c.loop-at.pairs.items in
-    let law = c.one_pair_more.ensures in
-    let old = shape_of c.args.old.now in
-    let new = shape_of c.args.new.now in
     let past : take c.loop-at.at ps ≡ ps =
     elim c.loop-at-test.branch [
       | else-loop-at-test w ↦ take_all c.loop-at.at ps (let far = w.loop-at-test.false in let small = c.loop-at.pairs.small in omega arith)
       | then-loop-at-test+in_default w ↦ take_past ps c.loop-at.at (ap (λ (qs : List Pair). slice_get qs c.loop-at.at) (sym w.deref.ensures.value) ∙ sym (copied_at (λ b. b.now) w.deref.result.now c.loop-at.at w.get.result w.get.ensures.lookup.0 (w.get.ensures.lookup.4 (omega arith))) ∙ sym w.copied.ensures ∙ none_is w.copied.result w.in_default.not-Some)
     ] in
-    all_closed law old new c.args.root ps (all_found law old new c.args.root ps c.loop-at.at past c.loop-at.invariant.in_order c.loop-at.invariant.led_to)
+    all_found c.one_pair_more.ensures (shape_of c.args.old.now) (shape_of c.args.new.now) c.args.root ps c.loop-at.at past c.loop-at.invariant.in_order c.loop-at.invariant.led_to
+
+pub returns-clause-closed : goal.returns-clause-closed
+returns-clause-closed c =
+    let reached = returns-clause-in_order c in
+    all_closed c.one_pair_more.ensures (shape_of c.args.old.now) (shape_of c.args.new.now) c.args.root c.loop-at.pairs.items reached.in_order

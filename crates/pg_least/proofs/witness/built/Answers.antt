@@ -1,4 +1,3 @@
-use Rattle.std.proofs.Common.{Some, None, subst}
 use Rattle.pg_schema.specs.Parts.{shape_of}
 use Rattle.pg_pairs.specs.Sight.{by_numbers}
 use Rattle.pg_least.specs.Descent.{first_step}
