@@ -17,7 +17,7 @@ static WORDS: [&str; 11] = [
 ];
 
 /// The old and the new text, and what is printed of them.
-static TEXTS: [(&[u8], &[u8], &str); 7] = [
+static TEXTS: [(&[u8], &[u8], &str); 8] = [
     (
         b"syntax = \"proto3\";\nmessage M { int32 a = 1; }\n",
         b"syntax = \"proto3\";\nmessage M { uint32 a = 1; }\n",
@@ -59,6 +59,12 @@ static TEXTS: [(&[u8], &[u8], &str); 7] = [
         b"syntax = \"proto3\";\nmessage M { optional string a = 1; }\n",
         "breaks M 4\nwitness 0a000a00\nstep 1 M.a m.proto:2:29 M.a m.proto:2:29\n",
     ),
+    // A later field of the text's first line.
+    (
+        b"syntax = \"proto3\"; message M { int32 a = 1; int32 b = 2; }\n",
+        b"syntax = \"proto3\"; message M { int32 a = 1; uint32 b = 2; }\n",
+        "breaks M 11\nwitness 10ffffffffffffffffff01\nstep 2 M.b m.proto:1:51 M.b m.proto:1:52\n",
+    ),
 ];
 
 #[test]
@@ -76,7 +82,7 @@ fn tells_the_fields_on_the_path(rt: HostRuntime) -> Result<(), Fail> {
     Ok(())
 }
 
-/// Files that import one another's types, with packages, and declare enums and services between them.
+/// Files that import one another's types, with a package that is stated behind a message, and declare an enum between them.
 static FILES: [(&str, &[u8]); 4] = [
     (
         "o/m.proto",
@@ -84,7 +90,7 @@ static FILES: [(&str, &[u8]); 4] = [
     ),
     (
         "o/d/k.proto",
-        b"syntax = \"proto3\";\npackage p.q;\nenum E { A = 0; }\nmessage H { message I { int32 a = 4; } }\nmessage K { message I { int32 a = 4; }\n  message L { oneof o { int32 b = 1; bytes a = 4; } } }\n",
+        b"syntax = \"proto3\";\nenum E { A = 0; }\nmessage H { message I { int32 a = 4; } }\npackage p.q;\nmessage K { message I { int32 a = 4; }\n  message L { oneof o { int32 b = 1; bytes a = 4; } } }\n",
     ),
     (
         "n/m.proto",

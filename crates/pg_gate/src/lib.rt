@@ -6,6 +6,7 @@ mod buffer;
 mod call;
 mod command_line;
 mod compile;
+mod cursor;
 mod error;
 mod finding;
 mod hex;

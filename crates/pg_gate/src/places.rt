@@ -1,6 +1,7 @@
-//! Where the fields of a side are declared.
+//! Where the fields of a side are declared: found for all steps of a witness by one pass over the files, so that long ways take no
+//! more than linear time. `Linked::place` goes by all names, and counts its text from the first byte, at each call.
 
-use pg_lex::place;
+use crate::cursor::Cursor;
 use pg_link::{Linked, Place};
 use pg_schema::TypeId;
 use pg_syntax::tree::{FileTree, Message, Name, OneofPart, Part, Statement};
@@ -13,29 +14,6 @@ struct Spot {
     file: usize,
     line: usize,
     column: usize,
-}
-
-/// Goes down a text: `start` is the beginning of a line, `line` its number.
-#[derive(Clone, Copy)]
-struct Cursor<'a> {
-    text: &'a [u8],
-    start: usize,
-    line: usize,
-}
-
-impl Cursor<'_> {
-    /// The line and the column of a byte, from which the next one is sought.
-    fn place(&mut self, at: usize) -> (usize, usize) {
-        if at < self.start || self.text.len() < self.start {
-            self.start = 0;
-            self.line = 1;
-        }
-        let ahead = at.saturating_sub(self.start);
-        let (line, column) = place(self.text.split_at(self.start).1, ahead);
-        self.line = self.line.saturating_add(line).saturating_sub(1);
-        self.start = at.saturating_sub(column).saturating_add(1);
-        (self.line, column)
-    }
 }
 
 /// Finds the fields of some message types, which are counted as they are declared.
@@ -170,21 +148,13 @@ pub(crate) fn places_of<'a>(
         wanted,
         next: 0,
         file: 0,
-        cursor: Cursor {
-            text: &[],
-            start: 0,
-            line: 1,
-        },
+        cursor: Cursor::new(&[]),
         spots: HashMap::new(alloc),
     };
     for file in 0..files.files().len() {
         if let Some((_, source)) = files.files().get_index(file) {
             finder.file = file;
-            finder.cursor = Cursor {
-                text: &source.bytes,
-                start: 0,
-                line: 1,
-            };
+            finder.cursor = Cursor::new(&source.bytes);
             add_tree(&mut finder, &source.tree)?;
         }
     }
