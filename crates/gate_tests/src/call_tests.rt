@@ -1,6 +1,6 @@
 //! The calls of the gate by themselves, beside the runs of the program.
 use crate::runs::file_of;
-use pg_gate::{Answer, GateError, gate, gate_files};
+use pg_gate::{Answer, GateError, Side, gate, gate_files};
 use pg_link::Listed;
 use pg_schema::{
     Element, Field, FieldOptions, File, MessageOptions, MessageType, Parts, PartsError, Presence,
@@ -143,6 +143,14 @@ fn a_gate_over_files_answers_one_of_two(rt: HostRuntime) -> Result<(), Fail> {
         )
     );
     assert!(rt; is_compatible(&over_files(alloc, "int32 a = 1;", "int32 a = 1;", "M")?));
+    Ok(())
+}
+
+/// Of two sides that have a fault the old one's is told.
+#[test]
+fn a_gate_over_files_tells_the_old_side_first(rt: HostRuntime) -> Result<(), Fail> {
+    let faulty = over_files(rt.alloc(), "int32 a = 0;", "int32 a = 0;", "M")?;
+    assert!(rt; matches!(faulty, Err(GateError::Compile(Side::Old, _))));
     Ok(())
 }
 

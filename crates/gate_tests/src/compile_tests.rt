@@ -120,15 +120,13 @@ fn keeps_to_memory(rt: HostRuntime) {
 }
 
 /// Words, and what is said of them.
-static USAGE: [(&[&str], &str); 5] = [
+static USAGE: [(&[&str], &str); 3] = [
     (&["compile"], "not provided:\n  <FILE>...\n"),
     (&["compile", "--dir", "d"], "not provided:\n  <FILE>...\n"),
     (
         &["compile", "--out", "o", "m.proto"],
         "unexpected argument '--out' found",
     ),
-    (&["compile", "--help"], "--dir <D>"),
-    (&["--help"], "compile  Write the descriptor set"),
 ];
 
 #[test]

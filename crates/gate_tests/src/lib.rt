@@ -16,6 +16,8 @@ mod failing_source;
 #[cfg(test)]
 mod graph_tests;
 #[cfg(test)]
+mod help_tests;
+#[cfg(test)]
 mod link_tests;
 mod one_byte;
 #[cfg(test)]

@@ -167,11 +167,9 @@ fn refuses_a_new_source_that_fails(rt: HostRuntime) -> Result<(), Fail> {
 }
 
 /// Words that are no call, and how the word at fault is told.
-static USAGE: [(&[&str], &str); 16] = [
+static USAGE: [(&[&str], &str); 14] = [
     (&[], "'protogate' requires a subcommand"),
     (&["help"], "Usage: protogate <COMMAND>"),
-    (&["--help"], "Find whether a reader of the new type"),
-    (&["gate", "--help"], "Usage: protogate gate "),
     (
         &["gate"],
         "not provided:\n  --old <F>\n  --new <F>\n  --type <NAME>\n",
@@ -235,31 +233,6 @@ static USAGE: [(&[&str], &str); 16] = [
 fn tells_the_word_at_fault(rt: HostRuntime) -> Result<(), Fail> {
     for (words, part) in USAGE {
         says_usage(&rt, words, part)?;
-    }
-    Ok(())
-}
-
-/// Help names the subcommand, its options and each status.
-static HELP: [&str; 13] = [
-    "gate",
-    "--old-dir",
-    "--new-dir",
-    "--old ",
-    "--new ",
-    "--type",
-    "--cert",
-    "--both",
-    "  0  ",
-    "  1  ",
-    "  2  ",
-    "  3  ",
-    "  4  ",
-];
-
-#[test]
-fn helps(rt: HostRuntime) -> Result<(), Fail> {
-    for part in HELP {
-        says_usage(&rt, &["gate", "--help"], part)?;
     }
     Ok(())
 }

@@ -165,17 +165,28 @@ pub(crate) fn expect_before_steps<R: Abort + AllocGlobal>(
     Ok(())
 }
 
-/// Expects these words to be no call, and what is said of them to have this part.
+/// Expects these words to be no call, and what is said of them to have each of these parts.
+pub(crate) fn says_parts<R: Abort + AllocGlobal>(
+    rt: &R,
+    words: &[&str],
+    parts: &[&str],
+) -> Result<(), Fail> {
+    let (ended, text) = printed(rt.alloc(), words, &[], &[])?;
+    assert_eq!(rt; ended, 4);
+    let text = std::str::from_utf8(&text)?;
+    for part in parts {
+        assert!(rt; text.contains(*part), "{part} in {text}");
+    }
+    Ok(())
+}
+
+/// The same of one part.
 pub(crate) fn says_usage<R: Abort + AllocGlobal>(
     rt: &R,
     words: &[&str],
     part: &str,
 ) -> Result<(), Fail> {
-    let (ended, text) = printed(rt.alloc(), words, &[], &[])?;
-    assert_eq!(rt; ended, 4);
-    let text = std::str::from_utf8(&text)?;
-    assert!(rt; text.contains(part), "{part} in {text}");
-    Ok(())
+    says_parts(rt, words, &[part])
 }
 
 /// Asserts that a run, where any one request for memory may be refused, ended so and printed this, or wanted memory and left the

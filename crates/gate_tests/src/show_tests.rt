@@ -95,8 +95,8 @@ static FILES: [(&str, &[u8]); 2] = [
 ];
 
 /// Words on these files, and what is printed: types are asked for by their full names, a name that none has is told before a
-/// word that is none, and a missing file before either.
-static WORDS: [(&[&str], &str, u8); 5] = [
+/// word that is none, and a missing file before either. Behind `--` no word is an option.
+static WORDS: [(&[&str], &str, u8); 7] = [
     (
         &[
             "show", "--dir", "d", "--file", "a.proto", "--type", "M", "0a021803",
@@ -108,6 +108,30 @@ static WORDS: [(&[&str], &str, u8); 5] = [
         &["show", "--dir=d", "--file=a.proto", "--type=p.N", "1803"],
         "3 s int -2\nagain 1803\n",
         0,
+    ),
+    (
+        &[
+            "show",
+            "--dir=d",
+            "--file=a.proto",
+            "--type=p.N",
+            "--",
+            "1803",
+        ],
+        "3 s int -2\nagain 1803\n",
+        0,
+    ),
+    (
+        &[
+            "show",
+            "--dir=d",
+            "--file=a.proto",
+            "--type=p.N",
+            "--",
+            "-08",
+        ],
+        "refused E905\n",
+        2,
     ),
     (
         &["show", "--dir=d", "--file=a.proto", "--type=N", "0"],
@@ -160,7 +184,7 @@ fn keeps_to_memory(rt: HostRuntime) {
 }
 
 /// Words that are no call, and what is said of them.
-static USAGE: [(&[&str], &str); 5] = [
+static USAGE: [(&[&str], &str); 4] = [
     (
         &["show", "--file", "m", "--type", "M"],
         "not provided:\n  <HEX>\n",
@@ -173,8 +197,10 @@ static USAGE: [(&[&str], &str); 5] = [
         &["show", "--file", "m", "-"],
         "not provided:\n  --type <NAME>\n",
     ),
-    (&["show", "--help"], "--dir <D>"),
-    (&["--help"], "show"),
+    (
+        &["show", "--file", "m", "--type", "M", "-08"],
+        "unexpected argument '-0' found",
+    ),
 ];
 
 #[test]

@@ -186,6 +186,28 @@ fn wants_memory<R: Abort + AllocGlobal>(rt: &R, words: &[&str], printed: &str, s
     is_refused
 }
 
+/// Help is said whole, or memory is told and the sink left alone, where any one request may be refused.
+#[test]
+fn keeps_to_memory_in_help(rt: HostRuntime) {
+    let Ok(mut sink) = buffer(rt.alloc()) else {
+        return;
+    };
+    match run_files(rt.alloc(), &["--help"], &[], &[], &mut sink) {
+        Ok(ended) => {
+            assert_eq!(rt; ended, 4);
+            assert!(rt; sink.bytes.starts_with(b"Compare proto3 message types "));
+            assert!(rt;
+                sink.bytes
+                    .ends_with(b" how long a message is at least that breaks\n")
+            );
+        }
+        Err(error) => {
+            assert!(rt; error == GateError::Memory);
+            assert!(rt; sink.bytes.is_empty());
+        }
+    }
+}
+
 /// One request is refused at most, so one call wants memory at most.
 #[test]
 fn keeps_to_memory(rt: HostRuntime) {

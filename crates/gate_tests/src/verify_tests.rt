@@ -201,6 +201,16 @@ fn asks_the_old_source_for_the_certificate(rt: HostRuntime) -> Result<(), Fail> 
     expect_files(&rt, &words, &lacking, &faulty, refused, 2)
 }
 
+/// Of two sides that have a fault the old one's is told, before the certificate is asked for.
+#[test]
+fn tells_the_old_side_first(rt: HostRuntime) -> Result<(), Fail> {
+    let old: [(&str, &[u8]); 1] = [("o.proto", b"")];
+    let new: [(&str, &[u8]); 1] = [("n.proto", b"")];
+    let refused = "refused old E201 o.proto:1:1\n";
+    expect_files(&rt, &WORDS, &old, &new, refused, 2)?;
+    expect_files(&rt, &WORDS, &[], &new, "refused old E301 o.proto\n", 2)
+}
+
 static OLD: [(&str, &[u8]); 2] = [("o.proto", ONE), ("c", NONE)];
 
 static NEW: [(&str, &[u8]); 1] = [("n.proto", ONE)];
@@ -237,7 +247,7 @@ fn keeps_to_memory(rt: HostRuntime) {
 }
 
 /// Words that are no call, and what is said of them.
-static USAGE: [(&[&str], &str); 6] = [
+static USAGE: [(&[&str], &str); 4] = [
     (
         &["verify", "--old", "o", "--new", "n"],
         "not provided:\n  <CERT>\n",
@@ -254,8 +264,6 @@ static USAGE: [(&[&str], &str); 6] = [
         &["verify", "--old", "o", "--new", "n", "--type", "M", "c"],
         "unexpected argument '--type' found",
     ),
-    (&["verify", "--help"], "  5  "),
-    (&["--help"], "verify"),
 ];
 
 #[test]

@@ -22,7 +22,7 @@ const STATUSES: &str = "Statuses:
 
 /// What help says of a set that is written: what is printed, and the statuses.
 const COMPILE_ANSWERS: &str = "Prints the bytes of a google.protobuf.FileDescriptorSet, or a line
-  refused CODE PLACE   no set, for a fault at the place; docs/REFUSALS.md has each code
+  refused CODE PLACE   no set, for a fault at the place; `man protogate` has each code
 
 Statuses:
   0  the set is written to standard output, and nothing else
@@ -39,7 +39,9 @@ const GATE_ANSWERS: &str = "Prints lines:
                         each field on the way to what breaks in it
   forward, backward     with --both, before the lines of either direction
   refused SIDE CODE PLACE
-                        no answer, for a fault of the old or the new side; docs/REFUSALS.md has each code
+                        no answer, for a fault of the old or the new side; `man protogate` has each code
+  refused E901          no answer, since the old side has no message type of that name
+  refused E902          no answer, since only the old side has it
 With --cert it prints the lines of the certificate, or those of a refusal.
 
 Statuses:
@@ -53,9 +55,14 @@ Statuses:
 /// What help says of a message that is shown: what is printed, and the statuses.
 const SHOW_ANSWERS: &str = "Prints lines, those of a message inside two spaces further in:
   NUMBER NAME ITEM      an item of a field
+  NUMBER NAME key ITEM value ITEM
+                        an entry of a map
   unknown HEX           a record that no field takes
   again HEX             at the end, what is written of the message
-  refused CODE at BYTE  no message, for a fault at that byte; docs/REFUSALS.md has each code
+  refused CODE PLACE    no message, for a fault of the file; `man protogate` has each code
+  refused CODE at BYTE  no message, for a fault of its bytes at that one
+An ITEM is int N, f32 HEX and f64 HEX with the bits, text HEX, bytes HEX, or msg, with the lines of that message behind it.
+For no bytes HEX is -.
 
 Statuses:
   0  the message is shown
@@ -68,7 +75,7 @@ const VERIFY_ANSWERS: &str = "Prints one line:
   compatible NAME       the certificate holds: no message breaks
   breaks NAME LENGTH    it holds: its witness breaks, and no shorter message does
   bound NAME LENGTH     it holds: a message that breaks has at least that many bytes
-  refused REASON        it doesn't hold, or a side has a fault; docs/REFUSALS.md has each code
+  refused REASON        it doesn't hold, or a side has a fault; `man protogate` has each code
 
 Statuses:
   0  compatible: the certificate holds, and no message breaks
