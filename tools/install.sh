@@ -13,6 +13,8 @@ fi
 mkdir -p -- "$prefix/bin" "$prefix/libexec" "$prefix/share/man/man1"
 prefix=$(CDPATH= cd -- "$prefix" && pwd -P)
 install -m 755 "$root/crates/protogate/out/protogate" "$prefix/libexec/protogate"
+# As a word of a script: what quotes it is written behind a quote's end.
+quoted=$(printf '%s' "$prefix" | sed "s/'/'\\\\''/g")
 # What users call gives the program the stack that messages nested deep need, and where a terminal shows it says of a run of over a
 # second that it is at work, as the script `protogate` does.
 cat >"$prefix/bin/protogate" <<END
@@ -30,7 +32,7 @@ if [ -t 2 ]; then
         compile | gate | show | verify) { say_at_work "\$1"; } </dev/null >/dev/null 3>&- 4>&- 5>&- 6>&- 7>&- 8>&- 9>&- & ;;
     esac
 fi
-exec '$prefix/libexec/protogate' "\$@"
+exec '$quoted/libexec/protogate' "\$@"
 END
 chmod 755 "$prefix/bin/protogate"
 install -m 644 "$root/docs/protogate.1" "$prefix/share/man/man1/protogate.1"

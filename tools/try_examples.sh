@@ -1,10 +1,12 @@
 #!/bin/sh
 # Runs the examples and compares what is printed, and each status: the changes below `examples/changes`, each with its certificate
-# and its descriptor sets; the commands of README.md and docs/USAGE.md; the script for continuous integration; and what the scripts
-# that start the program say on a terminal. The page for `man` has each code of docs/REFUSALS.md.
+# and its descriptor sets; the commands of README.md and docs/USAGE.md; the script for continuous integration; what the scripts that
+# start the program say on a terminal; and what `main` ends with on a full device, on a word that isn't UTF-8, and where memory is
+# refused. The page for `man` has each code of docs/REFUSALS.md.
 # usage: tools/try_examples.sh [PROGRAM]    by default the script `protogate` at the top
 # Blocks of commands that call `protoc` want it on the path, and are passed over, with a line, where it isn't; so is what
-# is said on a terminal where there is no `script` of util-linux, or none of the other tools that it takes.
+# is said on a terminal where there is no `script` of util-linux, or none of the other tools that it takes, and what is said where
+# memory is refused where there is no `cc`.
 set -u
 root=$(CDPATH= cd -- "$(dirname -- "$0")/.." && pwd -P) || exit 3
 program=$(readlink -f -- "${1:-"$root/protogate"}") || exit 3
@@ -118,7 +120,7 @@ case $1 in
 esac
 END
     chmod 755 slow/crates/protogate/out/protogate && : >slow/crates/protogate/out/protogate.begun \
-        && slow/tools/install.sh slow/installed >/dev/null
+        && slow/tools/install.sh "slow/o'clock" >/dev/null
 }
 
 # What a shell prints on a terminal that runs these lines, where `$slow` is the script that starts the program.
@@ -150,9 +152,66 @@ try_terminals() {
         echo "passed over, with another script than that of util-linux: what is said on a terminal"
         return
     fi
-    compare "a slow program" "status 0" "$(make_slow_program; echo "status $?")"
     try_terminal slow/protogate
-    try_terminal slow/installed/bin/protogate
+    try_terminal "slow/o'clock/bin/protogate"
+}
+
+# What is printed on standard error, and the status, where the output's device is full.
+said_on_full_device() {
+    "$program" "$@" 2>&1 >/dev/full
+    echo "status $?"
+}
+
+# The built program: what is called, or what the script at the top starts.
+built_program() {
+    case $(head -c 4 -- "$program") in
+        *ELF) echo "$program" ;;
+        *) echo "$root/crates/protogate/out/protogate" ;;
+    esac
+}
+
+# Runs a call with each growth of memory refused in turn: each time it says what it says else, with the same status, or that memory was
+# refused, and some growth is.
+try_refused_memory() {
+    "$built" "$@" >whole
+    wanted=$?
+    turn=0
+    refused=0
+    wrong=0
+    while :; do
+        turn=$((turn + 1))
+        REFUSE_MEMORY=$turn LD_PRELOAD="$room/refuse.so" "$built" "$@" >said 2>faults
+        status=$?
+        if grep -q 'no such growth' faults; then
+            break
+        elif [ "$status" -eq 3 ] && [ "$(cat said)" = 'refused E001' ]; then
+            refused=$((refused + 1))
+        elif [ "$status" -ne "$wanted" ] || ! cmp -s whole said; then
+            wrong=$((wrong + 1))
+        fi
+    done
+    compare "$*: growths refused" "some told, 0 wrong" "$([ "$refused" -gt 0 ] && echo some || echo none) told, $wrong wrong"
+}
+
+# The same of each subcommand, of help and of a word that is none.
+try_memory() {
+    if ! command -v cc >/dev/null; then
+        echo "passed over, without cc: what is said where memory is refused"
+        return
+    fi
+    built=$(built_program)
+    cc -O2 -shared -fPIC -o "$room/refuse.so" "$root/tools/refuse_memory.c" -ldl || exit 3
+    sides='--old-dir examples/old --new-dir examples/new --old order.proto --new order.proto'
+    "$program" gate $sides --type Order --cert >Order.cert
+    try_refused_memory compile --dir examples/new order.proto
+    try_refused_memory gate $sides --type Order
+    try_refused_memory gate $sides --type Order --both
+    try_refused_memory gate $sides --type Order --cert
+    try_refused_memory gate $sides --type Nothing
+    try_refused_memory verify $sides Order.cert
+    try_refused_memory show --dir examples/new --file order.proto --type Customer 08071a0161
+    try_refused_memory show --help
+    try_refused_memory relay
 }
 
 cp -R -- "$root/examples/changes" "$room/changes" || exit 3
@@ -180,6 +239,13 @@ mkdir -- "$room/failing" && printf '#!/bin/sh\nexit 2\n' >"$room/failing/tar" &&
 try_status 3 env TMPDIR="$room/none" "$gate" v1.4 proto order.proto Customer
 try_status 3 env PATH="$room/failing:$PATH" "$gate" v1.4 proto order.proto Customer
 try_status 127 env PROTOGATE="$room/none" "$gate" v1.4 proto order.proto Customer
+compare "a full device" "status 3" "$(said_on_full_device compile --dir examples/new order.proto)"
+compare "a full device, of help" "status 3" "$(said_on_full_device --help)"
+compare "a word that isn't UTF-8" "$(echo 'error: invalid UTF-8 was detected in one or more arguments' && echo 'status 4')" \
+    "$(said_by gate "$(printf '\377')")"
+try_memory
+compare "a slow program" "status 0" "$(make_slow_program; echo "status $?")"
+compare "an installed program" "status 4" "$("slow/o'clock/bin/protogate" relay; echo "status $?")"
 try_terminals
 compare "docs/protogate.1: codes" "$(sed -n 's/^| \(E[^|]*\)|.*/\1/p' "$root/docs/REFUSALS.md" | grep -o 'E[0-9][0-9]*' | sort -u)" \
     "$(sed -n 's/^\.BI* \(E[0-9]*\).*/\1/p' "$root/docs/protogate.1" | sort -u)"
