@@ -47,15 +47,18 @@ fn a_refused_growth_of_a_place_is_told(rt: HostRuntime) -> Result<(), Fail> {
 fn a_refused_growth_of_targets_is_told(rt: HostRuntime) -> Result<(), Fail> {
     let alloc = rt.alloc();
     let files: [(&str, &[u8]); 1] = [("c.proto", C)];
-    let Ok(links) = linked(alloc, &files, ".", &["c.proto"]) else {
-        return Ok(());
+    let links = match linked(alloc, &files, ".", &["c.proto"]) {
+        Ok(links) => links,
+        Err(error) => {
+            assert_eq!(rt; line(alloc, &error)?.as_str(), "E001");
+            return Ok(());
+        }
     };
     if links.files().is_empty() {
         return Err(Fail::from("no file"));
     }
-    if let Ok(found) = links.targets_by_place(alloc, 0) {
-        assert_eq!(rt; found.len(), 1);
-    }
+    let found = links.targets_by_place(alloc, 0)?;
+    assert_eq!(rt; found.len(), 1);
     Ok(())
 }
 
@@ -69,8 +72,12 @@ fn is_told(answer: &str, wanted: &str) -> bool {
 fn a_refused_growth_of_a_resolved_name_is_told(rt: HostRuntime) -> Result<(), Fail> {
     let alloc = rt.alloc();
     let files: [(&str, &[u8]); 1] = [("m.proto", WITH_PACKAGE)];
-    let Ok(links) = linked(alloc, &files, ".", &["m.proto"]) else {
-        return Ok(());
+    let links = match linked(alloc, &files, ".", &["m.proto"]) {
+        Ok(links) => links,
+        Err(error) => {
+            assert_eq!(rt; line(alloc, &error)?.as_str(), "E001");
+            return Ok(());
+        }
     };
     let inside = resolved(alloc, &links, &["p", "M"])?;
     assert!(rt; is_told(inside.as_str(), "p.M"));

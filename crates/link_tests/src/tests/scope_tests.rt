@@ -49,6 +49,13 @@ fn a_oneof_is_declared_before_its_members(rt: HostRuntime) -> Result<(), Fail> {
     Ok(())
 }
 
+#[test]
+fn an_enum_is_declared_before_its_values(rt: HostRuntime) -> Result<(), Fail> {
+    let value = lines(rt.alloc(), "enum A { A = 0; }")?;
+    assert_eq!(rt; value.as_str(), "E304 m.proto:2:10");
+    Ok(())
+}
+
 const IN_FOO: &[u8] = b"syntax = \"proto3\";\npackage q;\nmessage foo { }\n";
 
 const FOO_IN: &[u8] = b"syntax = \"proto3\";\npackage q.foo.r;\n";
@@ -118,6 +125,48 @@ fn a_word_that_no_type_bears_is_unknown(rt: HostRuntime) -> Result<(), Fail> {
         "message M { map<int32, int32> foo = 1; .M.FooEntry.key k = 2; }",
     )?;
     assert_eq!(rt; key.as_str(), "E305 m.proto:2:40");
+    Ok(())
+}
+
+#[test]
+fn a_oneof_and_a_value_hide_no_type_further_out(rt: HostRuntime) -> Result<(), Fail> {
+    let oneof = lines(
+        rt.alloc(),
+        "message o { } message M { oneof o { int32 a = 1; } o b = 2; }",
+    )?;
+    assert_eq!(rt; oneof.as_str(), "linked");
+    let value = lines(
+        rt.alloc(),
+        "message V { } message M { enum E { V = 0; } V v = 1; }",
+    )?;
+    assert_eq!(rt; value.as_str(), "linked");
+    Ok(())
+}
+
+const S_IN_P: &[u8] = b"syntax = \"proto3\";\npackage p;\nmessage S { }\n";
+
+const USES_S_BESIDE_A_SERVICE: &[u8] = b"syntax = \"proto3\";\npackage p.q;\nimport \"b.proto\";\n\
+service S { } message M { S s = 1; }\n";
+
+const MESSAGE_Q: &[u8] = b"syntax = \"proto3\";\nmessage q { }\n";
+
+const USES_Q_IN_PQ: &[u8] =
+    b"syntax = \"proto3\";\npackage p.q;\nimport \"b.proto\";\nmessage M { q x = 1; }\n";
+
+#[test]
+fn a_service_and_a_part_of_a_package_hide_no_type_further_out(rt: HostRuntime) -> Result<(), Fail> {
+    let service = told(
+        rt.alloc(),
+        &[("a.proto", USES_S_BESIDE_A_SERVICE), ("b.proto", S_IN_P)],
+        &["a.proto"],
+    )?;
+    assert_eq!(rt; service.as_str(), "linked");
+    let part = told(
+        rt.alloc(),
+        &[("a.proto", USES_Q_IN_PQ), ("b.proto", MESSAGE_Q)],
+        &["a.proto"],
+    )?;
+    assert_eq!(rt; part.as_str(), "linked");
     Ok(())
 }
 

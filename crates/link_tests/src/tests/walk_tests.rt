@@ -32,6 +32,11 @@ const TO_NOTHING: &[u8] = b"syntax = \"proto3\";\nimport \"\";\n";
 
 const DECLARES_M: &[u8] = b"syntax = \"proto3\";\nmessage M { }\n";
 
+const DECLARES_M_TWICE: &[u8] = b"syntax = \"proto3\";\nimport \"b.proto\";\n\
+import \"c.proto\";\nmessage M { } message M { }\n";
+
+const FAULT_BEHIND_AN_IMPORT: &[u8] = b"syntax = \"proto3\";\nimport \"b.proto\";\nmessage {\n";
+
 const OPEN_STRING: &[u8] = b"syntax = \"proto3;\n";
 
 /// What a walk from `a.proto` over these files is refused with, or `linked`.
@@ -102,6 +107,36 @@ fn a_second_import_is_told_after_the_faults_of_the_first(rt: HostRuntime) -> Res
     assert_eq!(rt; missing.as_str(), "E301 a.proto:2:8");
     let circle = from_a(rt.alloc(), &[("a.proto", TO_B_TWICE), ("b.proto", TO_A)])?;
     assert_eq!(rt; circle.as_str(), "E302 b.proto:2:8");
+    Ok(())
+}
+
+#[test]
+fn a_text_is_looked_at_before_its_imports(rt: HostRuntime) -> Result<(), Fail> {
+    let own = from_a(rt.alloc(), &[("a.proto", FAULT_BEHIND_AN_IMPORT)])?;
+    assert_eq!(rt; own.as_str(), "syntax a.proto:3:9");
+    Ok(())
+}
+
+#[test]
+fn all_below_the_first_import_comes_before_the_second(rt: HostRuntime) -> Result<(), Fail> {
+    let deep = from_a(
+        rt.alloc(),
+        &[
+            ("a.proto", TO_B_AND_C),
+            ("b.proto", TO_D),
+            ("c.proto", OPEN_STRING),
+        ],
+    )?;
+    assert_eq!(rt; deep.as_str(), "E301 b.proto:2:8");
+    let second = from_a(
+        rt.alloc(),
+        &[
+            ("a.proto", TO_B_AND_C),
+            ("b.proto", EMPTY),
+            ("c.proto", OPEN_STRING),
+        ],
+    )?;
+    assert_eq!(rt; second.as_str(), "lex c.proto:1:10");
     Ok(())
 }
 
@@ -280,6 +315,24 @@ fn a_file_that_two_files_import_is_read_once(rt: HostRuntime) -> Result<(), Fail
     let mut source = FailingSource::new(listed, 5);
     let once = told_by(rt.alloc(), &mut source, &["a.proto"])?;
     assert_eq!(rt; once.as_str(), "linked");
+    Ok(())
+}
+
+/// Also where the files are refused for what stands in them.
+#[test]
+fn a_file_that_two_refused_files_import_is_read_once(rt: HostRuntime) -> Result<(), Fail> {
+    let listed = Listed {
+        files: &[
+            ("a.proto", DECLARES_M_TWICE),
+            ("b.proto", TO_D),
+            ("c.proto", TO_D),
+            ("d.proto", EMPTY),
+        ],
+    };
+    // a fifth read would fail
+    let mut source = FailingSource::new(listed, 5);
+    let refused = told_by(rt.alloc(), &mut source, &["a.proto"])?;
+    assert_eq!(rt; refused.as_str(), "E304 a.proto:4:23");
     Ok(())
 }
 
