@@ -285,7 +285,7 @@ moved (p ∷ ps) fs path none apart = (
     kept_out p ps fs path other none =
         list_any-append (bytes_eq p) ps (path ∷ fs) ∙ three (is_path_of ps p) (bytes_eq p path) (is_path_of fs p) other (sym (list_any-append (bytes_eq p) ps fs) ∙ none)
 
-outlines-push : (es : List Entry) (e : Entry) → outlines (es ++ e ∷ []) ≡ outline e ∷ outlines es
+pub outlines-push : (es : List Entry) (e : Entry) → outlines (es ++ e ∷ []) ≡ outline e ∷ outlines es
 outlines-push es e = ap reverse (map-append outline es (e ∷ [])) ∙ reverse-append (map outline es) (outline e ∷ [])
 
 pub not_read : (w : World) (path : Text) (ps : List Text) (es : List Entry) → IsSound w (path ∷ ps) es → is_path_of (paths_of (outlines es)) path ≡ false

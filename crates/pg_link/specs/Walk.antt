@@ -20,7 +20,6 @@ use Rattle.pg_link.specs.Below.{path_below}
 use Rattle.pg_link.specs.Names.{Text}
 use Rattle.pg_link.specs.Files.{Import, File, Differ, InOrder, HasNoCycle, is_path_of, import_paths, paths_of}
 use Rattle.pg_link.specs.Outline.{file_imports, file_names}
-use Rattle.pg_link.specs.Sources.{more}
 use Rattle.pg_link.specs.declared.error.Place as places
 use Rattle.pg_link.specs.declared.error.LinkError as errors
 use Rattle.pg_link.specs.declared.error.LinkError.TheVariants as error
@@ -136,10 +135,6 @@ has_path walk path = is_path_of (paths_of (outlines (entries walk))) path
 -- what was read is still there
 abbrev pub Keeps : walks.Walk → walks.Walk → Type 0
 Keeps old new = (path : Text) → has_path old path ≡ true → has_path new path ≡ true
-
--- as many reads as files have come
-abbrev pub ReadsEach : Option ℕ → Option ℕ → walks.Walk → walks.Walk → Type 0
-ReadsEach before after old new = (k : ℕ) → length (entries new) ≡ length (entries old) + k → after ≡ more k before
 
 -- ---- places
 

@@ -1,6 +1,6 @@
-ghost use Rattle.std.specs.Prelude.{◌≡◌, Some, true};
+ghost use Rattle.std.specs.Prelude.{◌≡◌, [], Some, true};
 
-use crate::{SourceError, Sources, Tally};
+use crate::{PathRecord, SourceError, Sources, Tally};
 use std::alloc::Global;
 use std::fs::File;
 use std::io::{ErrorKind, Read};
@@ -19,19 +19,19 @@ const READ_LIMIT: usize = 2_147_483_647;
 pub struct Folder<'a, R> {
     files: &'a R,
     failures: Tally,
-    reads: Tally,
+    reads: PathRecord,
 }
 
 impl<'a, R: Files> Folder<'a, R> {
-    /// The files that these give. It has not failed yet, and none was read.
+    /// The files that these give. It has not failed yet, and was asked for none.
     pub fn new(files: &'a R) -> Folder<'a, R>
         ensures failures { result.failures.count ≡ 0 }
-        ensures reads { result.reads.count ≡ 0 }
+        ensures reads { result.reads.paths ≡ [] }
     {
         Folder {
             files,
             failures: Tally::new(),
-            reads: Tally::new(),
+            reads: PathRecord::new(),
         }
     }
 
@@ -73,10 +73,10 @@ impl<R: Files> Sources for Folder<'_, R> {
 
     ghost failures = { λ folder. folder.failures.count };
 
-    ghost reads = { λ folder. Some folder.reads.count };
+    ghost reads = { λ folder. Some folder.reads.paths };
 
     fn read(&mut self, alloc: Global, path: &str) -> Result<Vec<u8>, SourceError> {
-        self.reads.add();
+        self.reads.note(path.as_bytes());
         let answer = match self.open(path) {
             Ok(mut file) => read_to_end(alloc, &mut file),
             Err(error) => Err(error),

@@ -1,8 +1,8 @@
 //! Files, linked.
-ghost use Rattle.std.specs.Prelude.{◌≡◌, ◌+◌, IfErr, IfOk, length};
+ghost use Rattle.std.specs.Prelude.{◌≡◌, ◌+◌, IfErr, IfOk};
 ghost use Rattle.pg_link.specs.Index.{texts};
 ghost use Rattle.pg_link.specs.Linked.{IsLinkedUp};
-ghost use Rattle.pg_link.specs.Sources.{more};
+ghost use Rattle.pg_link.specs.Reads.{ReadsApart, ReadsEach};
 ghost use Rattle.pg_link.specs.UseFaults.{LinkRefuses};
 ghost use Rattle.pg_link.specs.Walk as spec;
 
@@ -33,8 +33,9 @@ pub fn link<S: Sources>(
     // Each refusal comes only where what it names is there, at its place: of names that stand twice the first is told, and
     // where none does the first use that resolves to nothing.
     ensures refused { IfErr result (LinkRefuses (spec.world (S.may_give source.old) (S.may_lack source.old) folder.now (texts roots.now))) }
-    // A source that counts its reads was read as often as there are files: with the above, once for each path.
-    ensures read_once { IfOk result (λ linked. S.reads source.new ≡ more (length linked.files) (S.reads source.old)) }
+    // Whatever is answered, the source was asked for no path twice; and where files are linked, for just their paths.
+    ensures reads_apart { ReadsApart (S.reads source.old) (S.reads source.new) }
+    ensures reads_each { IfOk result (λ linked. ReadsEach folder.now (S.reads source.old) (S.reads source.new) linked.files) }
     // A failure of the source is told as one, and nothing else is.
     ensures counted { S.failures source.new ≡ S.failures source.old + spec.failures_of result }
     ensures same_given { S.may_give source.new ≡ S.may_give source.old }

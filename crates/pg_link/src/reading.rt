@@ -1,10 +1,10 @@
 //! A file's text and tree, with the places of the faults in them.
-ghost use Rattle.std.specs.Prelude.{◌≡◌, ◌≤◌, ◌+◌, IfErr, IfOk, IsTrue, OnOk, length};
+ghost use Rattle.std.specs.Prelude.{◌≡◌, ◌≤◌, ◌+◌, ◌∷◌, [], IfErr, IfOk, IsTrue, OnOk, length};
 ghost use Rattle.pg_link.specs.Below.{path_below};
 ghost use Rattle.pg_lex.specs.Lexes.{lexes, max_len};
 ghost use Rattle.pg_lex.specs.Symbol.{placed};
 ghost use Rattle.pg_lex.specs.Faults as lex;
-ghost use Rattle.pg_link.specs.Sources.{more};
+ghost use Rattle.pg_link.specs.Sources.{also, AtMostOne};
 ghost use Rattle.pg_link.specs.Walk as spec;
 
 use crate::below::read_below;
@@ -110,7 +110,8 @@ pub(crate) fn text_of<S: Sources>(
     ensures given { IfOk result (λ bytes. IsTrue (S.may_give source.old (path_below folder.now path.now) bytes.items)) }
     ensures fault { IfErr result (spec.IsReadFault (S.may_lack source.old) folder.now asking.entry path.now) }
     ensures counted { S.failures source.new ≡ S.failures source.old + spec.failures_of result }
-    ensures read_once { OnOk result (S.reads source.new ≡ more 1 (S.reads source.old)) }
+    ensures asked { OnOk result (S.reads source.new ≡ also (path_below folder.now path.now ∷ []) (S.reads source.old)) }
+    ensures asked_once { AtMostOne (path_below folder.now path.now) (S.reads source.old) (S.reads source.new) }
     ensures same_given { S.may_give source.new ≡ S.may_give source.old }
     ensures same_lacked { S.may_lack source.new ≡ S.may_lack source.old }
 {
@@ -145,7 +146,8 @@ pub fn read_file<S: Sources>(
     ensures given { IfOk result (λ bytes. IsTrue (S.may_give source.old (path_below folder.now path.now) bytes.items)) }
     ensures fault { IfErr result (spec.IsReadFault (S.may_lack source.old) folder.now None path.now) }
     ensures counted { S.failures source.new ≡ S.failures source.old + spec.failures_of result }
-    ensures read_once { OnOk result (S.reads source.new ≡ more 1 (S.reads source.old)) }
+    ensures asked { OnOk result (S.reads source.new ≡ also (path_below folder.now path.now ∷ []) (S.reads source.old)) }
+    ensures asked_once { AtMostOne (path_below folder.now path.now) (S.reads source.old) (S.reads source.new) }
     ensures same_given { S.may_give source.new ≡ S.may_give source.old }
     ensures same_lacked { S.may_lack source.new ≡ S.may_lack source.old }
 {

@@ -2,7 +2,7 @@
 ghost use Rattle.std.specs.Prelude.{◌≡◌, ◌+◌, ◌≤◌, IfErr, IfOk, OnOk, ◌++◌, ◌∷◌, [], List, ℕ, false, true, length, map, string_bytes};
 ghost use Rattle.pg_link.specs.Files.{is_path_of};
 ghost use Rattle.pg_link.specs.Index.{texts};
-ghost use Rattle.pg_link.specs.Sources.{more};
+ghost use Rattle.pg_link.specs.Reads.{ReadsAll, ReadsApart, ReadsEach, ReadsNew};
 ghost use Rattle.pg_link.specs.Walk as spec;
 ghost use Rattle.pg_link.specs.declared.error.LinkError.TheVariants as error;
 
@@ -111,7 +111,9 @@ fn visit<S: Sources>(
     ensures has { OnOk result (spec.has_path walk.new path.now ≡ true) }
     ensures kept { OnOk result (spec.Keeps walk.old walk.new) }
     ensures grows { OnOk result (length (spec.entries walk.old) ≤ length (spec.entries walk.new)) }
-    ensures read_once { OnOk result ((roots : List (List ℕ)) → spec.Follows (spec.world (S.may_give source.old) (S.may_lack source.old) folder.now roots) walk.old asking.entry path.now → spec.ReadsEach (S.reads source.old) (S.reads source.new) walk.old walk.new) }
+    // Whatever is answered, the source was asked for no path twice, and for none that was begun.
+    ensures reads_new { ReadsNew folder.now (S.reads source.old) (S.reads source.new) walk.old }
+    ensures reads_all { OnOk result (ReadsAll folder.now (S.reads source.old) (S.reads source.new) walk.old walk.new) }
     ensures counted { S.failures source.new ≡ S.failures source.old + spec.failures_of result }
     ensures same_given { S.may_give source.new ≡ S.may_give source.old }
     ensures same_lacked { S.may_lack source.new ≡ S.may_lack source.old }
@@ -160,8 +162,9 @@ pub(crate) fn follow_imports<S: Sources>(
     ensures linked { IfOk result (λ walk. spec.IsLinked (spec.world (S.may_give source.old) (S.may_lack source.old) folder.now (texts roots.now)) (spec.entries walk)) }
     // Each refusal comes only where what it names is there, at its place.
     ensures refused { IfErr result (spec.Refuses (spec.world (S.may_give source.old) (S.may_lack source.old) folder.now (texts roots.now))) }
-    // A source that counts its reads was read as often as there are files.
-    ensures read_once { IfOk result (λ walk. S.reads source.new ≡ more (length (spec.entries walk)) (S.reads source.old)) }
+    // Whatever is answered, the source was asked for no path twice; and where all is read, for just the paths of the files.
+    ensures reads_apart { ReadsApart (S.reads source.old) (S.reads source.new) }
+    ensures reads_each { IfOk result (λ walk. ReadsEach folder.now (S.reads source.old) (S.reads source.new) (spec.entries walk)) }
     // A failure of the source is told as one, and nothing else is.
     ensures counted { S.failures source.new ≡ S.failures source.old + spec.failures_of result }
     ensures same_given { S.may_give source.new ≡ S.may_give source.old }

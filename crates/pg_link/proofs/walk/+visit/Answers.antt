@@ -1,4 +1,4 @@
-use Rattle.std.proofs.Common.{◌≡◌, ◌∙◌, ◌+◌, ◌-◌, ◌<◌, ◌≤◌, ℕ, List, [], ◌∷◌, ◌++◌, Some, All, true, false, sym, ap, subst, take, map, length, length-append, refl, string_bytes, arith, slice_index_or}
+use Rattle.std.proofs.Common.{◌≡◌, ◌∙◌, ◌+◌, ◌<◌, ◌≤◌, ℕ, List, [], ◌∷◌, ◌++◌, Some, All, true, false, sym, ap, subst, take, map, length, refl, string_bytes, arith, slice_index_or}
 use Rattle.std.proofs.lemmas.List.{map_more, take_all}
 use Rattle.std.proofs.lemmas.List.Elements.{All-more}
 use Rattle.std.proofs.lemmas.Result.{err_from_is_err_and}
@@ -9,16 +9,23 @@ use Rattle.pg_link.specs.Files.{Differ, is_path_of, paths_of}
 use Rattle.pg_link.specs.Walk.{World, world, Entry, IsSound, Follows, IsTextFault, IsParsed, IsImportFault, Refuses, entries, open_paths, outlines, has_path}
 use Rattle.pg_link.proofs.OrderLaws.{apart_more}
 use Rattle.pg_link.proofs.PathLaws.{has_found}
-use Rattle.pg_link.proofs.ReadLaws.{no_more, none_more, then_more}
+use Rattle.pg_link.proofs.ReadLaws.{at_most_new, first_way, next_way, none_new, none_read, not_begun, one_new, way_done, way_refused}
 use Rattle.pg_link.proofs.WalkLaws.{beyond, comes_of, follows_next, import_refused, line_path, next_import, none_yet, not_read, one_more, open_count, open_one, reached_of, read_refused, same_world, take_none, text_refused}
 use Rattle.pg_link.proofs.walk.+visit.Goals as goal
 
 pub returns-then-contains_key-clause-has : goal.returns-then-contains_key-clause-has
 returns-then-contains_key-clause-has g t c = has_found c.args.walk.now c.args.path.now ∙ (sym c.contains_key.ensures ∙ c.if-contains_key.true)
 
-pub returns-then-contains_key-clause-read_once : goal.returns-then-contains_key-clause-read_once
-returns-then-contains_key-clause-read_once g t c = λ roots f k same.
-    no_more k (g.S.Sources.reads c.args.source.now) (length (entries c.args.walk.now)) same
+pub returns-then-contains_key-clause-reads_new : goal.returns-then-contains_key-clause-reads_new
+returns-then-contains_key-clause-reads_new g t c = none_new c.args.folder.now _ _ c.args.walk.now refl
+
+pub returns-then-contains_key-clause-reads_all : goal.returns-then-contains_key-clause-reads_all
+returns-then-contains_key-clause-reads_all g t c = none_read c.args.folder.now _ _ c.args.walk.now refl
+
+pub returns-in_err-bytes-clause-reads_new : goal.returns-in_err-bytes-clause-reads_new
+returns-in_err-bytes-clause-reads_new g t c =
+    let none : has_path c.args.walk.now c.args.path.now ≡ false = has_found c.args.walk.now c.args.path.now ∙ (sym c.contains_key.ensures ∙ c.if-contains_key.false) in
+    at_most_new c.args.folder.now _ _ c.args.walk.now c.args.path.now (not_begun c.args.walk.now c.args.path.now c.requires.1.1.1 none) c.in_err-bytes.ensures.asked_once
 
 pub returns-in_err-bytes-clause-refused : goal.returns-in_err-bytes-clause-refused
 returns-in_err-bytes-clause-refused g t c =
@@ -62,7 +69,7 @@ lines-init g t c =
       before_is = ap (map string_bytes) c.new-before.ensures.empty ∙ ap (map line_path) (sym (take_none ls));
       differ = subst Differ (ap (map line_path) (sym (take_none ls))) tt;
       kept = λ p has. subst (λ (es : List Entry). is_path_of (paths_of (outlines es)) p ≡ true) (sym same) has;
-      read_once = λ roots f k count. then_more 1 0 (k + 1) _ _ _ c.in_ok-bytes.ensures.read_once (sym (none_more _)) (omega (arith, count, ap length same));
+      asked = first_way c.args.folder.now _ _ walk new path c.requires.1.1.1 none c.in_ok-bytes.ensures.asked same;
       counted = omega (arith, c.in_ok-bytes.ensures.counted);
       same_given = c.in_ok-bytes.ensures.same_given;
       same_lacked = c.in_ok-bytes.ensures.same_lacked;
@@ -155,20 +162,7 @@ lines-preserved g t c =
       before_is = c.in_ok-check.ensures.noted ∙ (ap (λ (qs : List (List ℕ)). qs ++ next ∷ []) inv.before_is ∙ sym more);
       differ = subst Differ (sym more) (apart_more (map line_path (take c.lines.index ls)) next inv.differ first);
       kept = λ q has. after.kept q (inv.kept q has);
-      read_once = λ roots f k count.
-          let now = same_world (g.S.Sources.may_give c.lines.source) (g.S.Sources.may_give c.args.source.now) (g.S.Sources.may_lack c.lines.source) (g.S.Sources.may_lack c.args.source.now)
-          c.args.folder.now roots inv.same_given inv.same_lacked in
-          let i = next_import (w roots) path c.in_ok-bytes.bytes.items here.text.now next c.in_ok-tree.tree ls c.lines.index line
-          record { is_given = c.in_ok-bytes.ensures.given; is_parsed = parsed } c.deref-in-lines.ensures.value c.as_str-next.ensures.value c.in_ok-lines.ensures
-          within c.index-line.ensures in
-          let follows = follows_next (w roots) c.lines.walk path (open_paths walk) here next inv.opened (inv.sound roots f) refl i.0
-          (comes_of (w roots) (open_paths walk) c.args.asking path f.asks) in
-          let mid : ℕ = length (entries c.lines.walk) in
-          let a : ℕ = mid - length (entries walk) in
-          let b : ℕ = length (entries new) - mid in
-          then_more (a + 1) b (k + 1) _ _ _ (inv.read_once roots f a (omega (arith, inv.grows)))
-          (after.read_once roots (subst (λ (x : World). Follows x c.lines.walk (Some here) next) (sym now) follows) b (omega (arith, after.grows)))
-          (omega (arith, count, inv.grows, after.grows));
+      asked = next_way c.args.folder.now _ _ _ walk c.lines.walk new path inv.asked inv.opened after.reads_all;
       counted = omega (arith, after.counted, inv.counted);
       same_given = after.same_given ∙ inv.same_given;
       same_lacked = after.same_lacked ∙ inv.same_lacked;
@@ -196,16 +190,47 @@ returns-clause-sound g t c = λ roots f.
     record { is_given = c.in_ok-bytes.ensures.given; is_parsed = parsed } (reached_of w (open_paths walk) c.args.asking path f.asks) c.in_ok-lines.ensures
     (subst (λ (xs : List lines.ImportLine). All has xs) whole inv.so_far) (subst (λ (xs : List lines.ImportLine). Differ (map line_path xs)) whole inv.differ)
 
-pub returns-clause-read_once : goal.returns-clause-read_once
-returns-clause-read_once g t c = λ roots f k count.
+pub returns-clause-reads_new : goal.returns-clause-reads_new
+returns-clause-reads_new g t c = c.lines.invariant.asked.reads
+
+pub returns-clause-reads_all : goal.returns-clause-reads_all
+returns-clause-reads_all g t c =
     let walk = c.args.walk.now in
     let path : List ℕ = c.args.path.now in
     let inv = c.lines.invariant in
-    let mid = c.lines.walk in
-    let new = c.end.new.self in
-    let w = world (g.S.Sources.may_give c.args.source.now) (g.S.Sources.may_lack c.args.source.now) c.args.folder.now roots in
-    let last = c.in_ok-end.ensures.comes.is_last (not_read w path (open_paths walk) (entries mid) (inv.sound roots f)) in
+    let last = c.in_ok-end.ensures.comes.is_last inv.asked.is_unread in
     let file : kept.SourceFile = record { bytes = c.in_ok-bytes.bytes; tree = c.in_ok-tree.tree } in
-    let a : ℕ = length (entries mid) - length (entries walk) in
-    let grown : length (entries new) ≡ length (entries mid) + 1 = ap length last.2 ∙ length-append (entries mid) ((last.0, file) ∷ []) in
-    then_more (a + 1) 0 k _ _ _ (inv.read_once roots f a (omega (arith, inv.grows))) (sym (none_more _)) (omega (arith, count, grown, inv.grows))
+    way_done c.args.folder.now _ _ walk c.lines.walk c.end.new.self path last.0 file inv.asked last.1 last.2
+
+pub returns-in_err-asked_at-clause-reads_new : goal.returns-in_err-asked_at-clause-reads_new
+returns-in_err-asked_at-clause-reads_new g t c =
+    let none : has_path c.args.walk.now c.args.path.now ≡ false = has_found c.args.walk.now c.args.path.now ∙ (sym c.contains_key.ensures ∙ c.if-contains_key.false) in
+    one_new c.args.folder.now _ _ c.args.walk.now c.args.path.now (not_begun c.args.walk.now c.args.path.now c.requires.1.1.1 none) c.in_ok-bytes.ensures.asked
+
+pub returns-then-len-ge-MAX_FILES-clause-reads_new : goal.returns-then-len-ge-MAX_FILES-clause-reads_new
+returns-then-len-ge-MAX_FILES-clause-reads_new g t c =
+    let none : has_path c.args.walk.now c.args.path.now ≡ false = has_found c.args.walk.now c.args.path.now ∙ (sym c.contains_key.ensures ∙ c.if-contains_key.false) in
+    one_new c.args.folder.now _ _ c.args.walk.now c.args.path.now (not_begun c.args.walk.now c.args.path.now c.requires.1.1.1 none) c.in_ok-bytes.ensures.asked
+
+pub returns-in_err-tree-clause-reads_new : goal.returns-in_err-tree-clause-reads_new
+returns-in_err-tree-clause-reads_new g t c =
+    let none : has_path c.args.walk.now c.args.path.now ≡ false = has_found c.args.walk.now c.args.path.now ∙ (sym c.contains_key.ensures ∙ c.if-contains_key.false) in
+    one_new c.args.folder.now _ _ c.args.walk.now c.args.path.now (not_begun c.args.walk.now c.args.path.now c.requires.1.1.1 none) c.in_ok-bytes.ensures.asked
+
+pub returns-in_err-lines-clause-reads_new : goal.returns-in_err-lines-clause-reads_new
+returns-in_err-lines-clause-reads_new g t c =
+    let none : has_path c.args.walk.now c.args.path.now ≡ false = has_found c.args.walk.now c.args.path.now ∙ (sym c.contains_key.ensures ∙ c.if-contains_key.false) in
+    one_new c.args.folder.now _ _ c.args.walk.now c.args.path.now (not_begun c.args.walk.now c.args.path.now c.requires.1.1.1 none) c.in_ok-bytes.ensures.asked
+
+pub returns-in_err-begin-clause-reads_new : goal.returns-in_err-begin-clause-reads_new
+returns-in_err-begin-clause-reads_new g t c =
+    let none : has_path c.args.walk.now c.args.path.now ≡ false = has_found c.args.walk.now c.args.path.now ∙ (sym c.contains_key.ensures ∙ c.if-contains_key.false) in
+    one_new c.args.folder.now _ _ c.args.walk.now c.args.path.now (not_begun c.args.walk.now c.args.path.now c.requires.1.1.1 none) c.in_ok-bytes.ensures.asked
+
+pub returns-in_err-check-clause-reads_new : goal.returns-in_err-check-clause-reads_new
+returns-in_err-check-clause-reads_new g t c = c.lines.invariant.asked.reads
+
+pub returns-in_err-visit-clause-reads_new : goal.returns-in_err-visit-clause-reads_new
+returns-in_err-visit-clause-reads_new g t c =
+    let inv = c.lines.invariant in
+    way_refused c.args.folder.now _ _ _ c.args.walk.now c.lines.walk c.args.path.now inv.asked inv.opened c.in_err-visit.ensures.reads_new

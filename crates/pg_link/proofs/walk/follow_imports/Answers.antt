@@ -1,13 +1,15 @@
-use Rattle.std.proofs.Common.{◌≡◌, ◌∙◌, ◌-◌, ℕ, List, [], None, All, length, take, true, sym, subst, slice_index_or, arith}
+use Rattle.std.proofs.Common.{◌≡◌, ◌∙◌, ℕ, List, [], None, String, string_bytes, All, ap, map, refl, reverse, take, true, sym, subst, slice_index_or, arith}
 use Rattle.std.proofs.lemmas.List.{take_all}
 use Rattle.std.proofs.lemmas.List.Elements.{All-more, All-map}
 use Rattle.std.proofs.lemmas.Result.{err_from_is_err_and}
 use Rattle.std.specs.Borrow.{Bor}
+use Rattle.std.specs.Global.{Global}
+use Rattle.pg_link.specs.declared.walk.Walk as walks
 use Rattle.pg_link.specs.Files.{is_path_of, paths_of}
 use Rattle.pg_link.specs.Index.{texts}
 use Rattle.pg_link.specs.Walk.{World, world, IsSound, Follows, Refuses, entries, outlines, has_path}
-use Rattle.pg_link.proofs.ReadLaws.{then_more}
-use Rattle.pg_link.proofs.WalkLaws.{contains_root, follows_root, linked, same_world}
+use Rattle.pg_link.proofs.ReadLaws.{all_far, far_apart, far_refused, first_far, next_far}
+use Rattle.pg_link.proofs.WalkLaws.{contains_root, first_sound, follows_root, linked, same_world}
 use Rattle.pg_link.proofs.walk.follow_imports.Goals as goal
 
 pub returns-in_err-visit-clause-refused : goal.returns-in_err-visit-clause-refused
@@ -46,12 +48,7 @@ loop-root-preserved g c =
       sound = subst (λ (x : World). IsSound x [] (entries new)) now sound;
       opened = after.opened ∙ inv.opened;
       has_roots = All-more has roots c.loop-root.root-index none c.loop-root-test.true those after.has;
-      read_once =
-          let old : ℕ = length (entries c.loop-root.walk) in
-          let b : ℕ = length (entries new) - old in
-          then_more old b (length (entries new)) _ _ _ inv.read_once
-          (after.read_once (texts roots) (subst (λ (x : World). Follows x c.loop-root.walk None root) (sym now) follows) b (omega (arith, after.grows)))
-          (omega (arith, after.grows));
+      asked = next_far c.args.folder.now _ _ _ c.loop-root.walk new inv.asked inv.opened after.reads_all;
       counted = omega (arith, after.counted, inv.counted);
       same_given = after.same_given ∙ inv.same_given;
       same_lacked = after.same_lacked ∙ inv.same_lacked;
@@ -67,3 +64,28 @@ returns-clause-linked g c =
     subst (λ (xs : List (Bor (List ℕ))). All has xs) (take_all c.loop-root.root-index roots (omega (arith, c.loop-root-test.false))) inv.has_roots in
     linked w (entries c.loop-root.walk) inv.sound
     (All-map (λ (root : List ℕ). is_path_of (paths_of (outlines (entries c.loop-root.walk))) root ≡ true) (λ (root : Bor (List ℕ)). root.now) roots all)
+
+pub returns-clause-reads_each : goal.returns-clause-reads_each
+returns-clause-reads_each g c = all_far c.args.folder.now _ _ c.loop-root.walk c.loop-root.invariant.asked
+
+pub returns-clause-reads_apart : goal.returns-clause-reads_apart
+returns-clause-reads_apart g c = far_apart c.args.folder.now _ _ c.loop-root.walk c.loop-root.invariant.asked
+
+pub returns-in_err-visit-clause-reads_apart : goal.returns-in_err-visit-clause-reads_apart
+returns-in_err-visit-clause-reads_apart g c =
+    let inv = c.loop-root.invariant in
+    far_refused c.args.folder.now _ _ _ c.loop-root.walk inv.asked inv.opened c.in_err-visit.ensures.reads_new
+
+pub loop-root-init : goal.loop-root-init
+loop-root-init g c =
+    let walk : walks.Walk = record { files = c.new.result; opened = c.new-2.result } in
+    let none : entries walk ≡ [] = c.new.ensures.empty in
+    record {
+      sound = first_sound _ (entries walk) none;
+      opened = ap (λ (keys : List (String Global)). reverse (map string_bytes keys)) c.new-2.ensures.empty;
+      has_roots = λ k d within. absurd (omega (arith, within));
+      asked = first_far c.args.folder.now _ _ walk refl none;
+      counted = refl;
+      same_given = refl;
+      same_lacked = refl;
+    }

@@ -1,7 +1,7 @@
-use Rattle.std.proofs.Common.{◌≡◌, [], All, length, take, true}
+use Rattle.std.proofs.Common.{◌≡◌, [], All, take, true}
 use Rattle.pg_link.specs.Index.{texts}
-use Rattle.pg_link.specs.Sources.{more}
 use Rattle.pg_link.specs.Walk.{world, IsSound, entries, open_paths, has_path}
+use Rattle.pg_link.proofs.ReadLaws.{IsSoFar}
 use Rattle.pg_link.proofs.walk.follow_imports.Given as goal
 
 abbrev pub invariant-loop-root : goal.invariant-loop-root
@@ -9,7 +9,7 @@ invariant-loop-root g l = record {
   sound : IsSound (world (g.S.Sources.may_give l.fn.source) (g.S.Sources.may_lack l.fn.source) l.folder (texts l.roots)) [] (entries l.walk);
   opened : open_paths l.walk ≡ [];
   has_roots : All (λ root. has_path l.walk root.now ≡ true) (take l.root-index l.roots);
-  read_once : g.S.Sources.reads l.source ≡ more (length (entries l.walk)) (g.S.Sources.reads l.fn.source);
+  asked : IsSoFar l.folder (g.S.Sources.reads l.fn.source) (g.S.Sources.reads l.source) l.walk;
   counted : g.S.Sources.failures l.source ≡ g.S.Sources.failures l.fn.source;
   same_given : g.S.Sources.may_give l.source ≡ g.S.Sources.may_give l.fn.source;
   same_lacked : g.S.Sources.may_lack l.source ≡ g.S.Sources.may_lack l.fn.source;

@@ -1,8 +1,8 @@
 use Rattle.std.proofs.Common.{◌≡◌, ◌∙◌, ℕ, Bool, List, [], ◌∷◌, ◌++◌, length, map, refl, sym, ap, subst, append_assoc, append-nil, arith}
 use Rattle.std.specs.Vec.Iter.{into_iter_items}
 use Rattle.pg_link.specs.declared.declares.DeclaredName as made
-use Rattle.pg_link.specs.Outline.{declared_of, file_names}
-use Rattle.pg_link.specs.Standing.{Adds, AddsAll, Standing, standing, standings}
+use Rattle.pg_link.specs.Outline.{declared_of}
+use Rattle.pg_link.specs.Standing.{Adds, AddsAll, Standing, standing}
 use Rattle.pg_link.proofs.StandingLaws.{adds_more, map-twice, standing_of, stands_twice}
 use Rattle.pg_link.specs.Walk.{IsPlace}
 use Rattle.pg_link.proofs.index.Index.add_file.Goals as goal

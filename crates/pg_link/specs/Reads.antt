@@ -1,0 +1,40 @@
+-- Which paths a source is asked for when imports are followed.
+use Rattle.std.specs.Prelude.{◌≡◌, ◌+◌, ◌||◌, Bool, true, false, List, length, map, Option}
+use Rattle.std.specs.List.{All}
+use Rattle.pg_link.specs.declared.walk.Walk as walks
+use Rattle.pg_link.specs.Below.{path_below}
+use Rattle.pg_link.specs.Files.{Differ, is_path_of}
+use Rattle.pg_link.specs.Names.{Text}
+use Rattle.pg_link.specs.Sources.{also}
+use Rattle.pg_link.specs.Walk.{Entry, entries, has_path, open_paths, path_of}
+
+-- the paths that a source was asked for between two moments: no path twice
+pub record ReadsApart (before after : Option (List Text)) : Type 0 where
+  pub asked : List Text
+  pub adds : after ≡ also asked before
+  pub apart : Differ asked
+
+-- and just those of the files, each where it lies below the folder
+pub record ReadsEach (folder : Text) (before after : Option (List Text)) (files : List Entry) : Type 0 where
+  pub reads : ReadsApart before after
+  pub as_many : length reads.asked ≡ length files
+  pub has_each : All (λ e. is_path_of reads.asked (path_below folder (path_of e)) ≡ true) files
+
+-- ---- while imports are followed
+
+-- the path is open, or its file was read
+abbrev pub is_begun : walks.Walk → Text → Bool
+is_begun walk path = is_path_of (open_paths walk) path || has_path walk path
+
+-- the source was asked for these paths below the folder, for none twice, and for none that was begun before
+pub record ReadsNew (folder : Text) (before after : Option (List Text)) (old : walks.Walk) : Type 0 where
+  pub added : List Text
+  pub adds : after ≡ also (map (path_below folder) added) before
+  pub apart : Differ added
+  pub is_new : (path : Text) → is_path_of added path ≡ true → is_begun old path ≡ false
+
+-- and the files of these paths have come
+pub record ReadsAll (folder : Text) (before after : Option (List Text)) (old new : walks.Walk) : Type 0 where
+  pub reads : ReadsNew folder before after old
+  pub count : length (entries new) ≡ length (entries old) + length reads.added
+  pub each : (path : Text) → has_path new path ≡ (has_path old path || is_path_of reads.added path)
