@@ -21,7 +21,7 @@ use Rattle.pg_link.specs.Imports.{line_of}
 use Rattle.pg_link.specs.Index.{texts}
 use Rattle.pg_link.specs.Names.{Text}
 use Rattle.pg_link.specs.Outline.{file_imports}
-use Rattle.pg_link.specs.Walk.{World, world, Gives, MayBe, ImportsAt, Comes, Reached, MayLead, Stays, Onwards, Entry, IsEntry, outline, outlines, entries, open_paths, IsSound, Follows, Asks, IsAsked, IsAskedAt, IsPlace, IsReadFault, IsTextFault, IsImportFault, IsLinked, Refuses}
+use Rattle.pg_link.specs.Walk.{World, world, Gives, MayBe, ImportsAt, Comes, Reached, MayLead, Stays, Onwards, Entry, IsEntry, outline, outlines, entries, open_paths, IsSound, Follows, Asks, IsAsked, IsAskedAt, IsPlace, IsReadFault, IsTextFault, IsImportFault, IsLinked, ComesTo, Refuses}
 use Rattle.pg_link.proofs.OrderLaws.{no_cycle}
 
 -- ---- who asks
@@ -207,7 +207,7 @@ split_at f xs i d within =
     ap (map f) (sym (take-append-drop i xs)) ∙ (map-append f (take i xs) (drop i xs)
     ∙ ap (λ l. map f (take i xs) ++ map f l) (drop-cons xs i d within ∙ ap (λ n. slice_index_or xs i d ∷ drop n xs) (sym (add-one i))))
 
-paths_of_lines : (ls : List lines.ImportLine) → import_paths (map line_of ls) ≡ map line_path ls
+pub paths_of_lines : (ls : List lines.ImportLine) → import_paths (map line_of ls) ≡ map line_path ls
 paths_of_lines [] = refl
 paths_of_lines (l ∷ ls) = ap (λ t. string_bytes l.path ∷ t) (paths_of_lines ls)
 
@@ -349,12 +349,14 @@ follows_root w walk root opened sound is_root = record {
   asks = subst (λ (xs : List Text). Asks w xs None root) (sym opened) is_root;
 }
 
-pub linked : (w : World) (es : List Entry) → IsSound w [] es → All (λ root. is_path_of (paths_of (outlines es)) root ≡ true) w.roots → IsLinked w es
-linked w es sound has = record {
+pub linked : (w : World) (es : List Entry) → IsSound w [] es → All (λ root. is_path_of (paths_of (outlines es)) root ≡ true) w.roots
+    → ((path : Text) → is_path_of (paths_of (outlines es)) path ≡ true → (root : Text) × Contains w.roots root × ComesTo (outlines es) root path) → IsLinked w es
+linked w es sound has from = record {
   each = sound.each;
   in_order = sound.in_order;
   apart = sound.apart;
   few = omega (arith, sound.few);
   has_roots = has;
+  from_roots = from;
   no_cycle = no_cycle (outlines es) sound.in_order sound.apart;
 }

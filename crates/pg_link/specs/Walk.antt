@@ -18,7 +18,7 @@ use Rattle.pg_syntax.specs.Tree.{Stands}
 use Rattle.pg_syntax.specs.Views as view
 use Rattle.pg_link.specs.Below.{path_below}
 use Rattle.pg_link.specs.Names.{Text}
-use Rattle.pg_link.specs.Files.{Import, File, Differ, InOrder, HasNoCycle, is_path_of, import_paths, paths_of}
+use Rattle.pg_link.specs.Files.{Import, File, Differ, InOrder, HasNoCycle, Leads, is_path_of, import_paths, paths_of}
 use Rattle.pg_link.specs.Outline.{file_imports, file_names}
 use Rattle.pg_link.specs.declared.error.Place as places
 use Rattle.pg_link.specs.declared.error.LinkError as errors
@@ -113,14 +113,20 @@ pub record IsSound (w : World) (open_paths : List Text) (entries : List Entry) :
   pub apart : Differ (open_paths ++ paths_of (outlines entries))
   pub few : length open_paths + length entries ≤ 1024
 
--- The files of the roots and of all that they import, each path once, at most 1,024. Each text is one that the source may
--- give for its path, each tree is that of its text, and each file stands behind those that it imports, none of them twice.
+-- by imports of these files a path comes to another, or is it
+abbrev pub ComesTo : List File → Text → Text → Type 0
+ComesTo files path other = (path ≡ other) ⊎ Leads files path other
+
+-- The files of the roots and of all that they import, and no others, each path once, at most 1,024. Each text is one that
+-- the source may give for its path, each tree is that of its text, and each file stands behind those that it imports, none
+-- of them twice.
 pub record IsLinked (w : World) (entries : List Entry) : Type 0 where
   pub each : All (IsEntry w) entries
   pub in_order : InOrder (outlines entries)
   pub apart : Differ (paths_of (outlines entries))
   pub few : length entries ≤ 1024
   pub has_roots : All (λ root. is_path_of (paths_of (outlines entries)) root ≡ true) w.roots
+  pub from_roots : (path : Text) → is_path_of (paths_of (outlines entries)) path ≡ true → (root : Text) × Contains w.roots root × ComesTo (outlines entries) root path
   pub no_cycle : HasNoCycle (outlines entries)
 
 abbrev pub entries : walks.Walk → List Entry
@@ -135,6 +141,14 @@ has_path walk path = is_path_of (paths_of (outlines (entries walk))) path
 -- what was read is still there
 abbrev pub Keeps : walks.Walk → walks.Walk → Type 0
 Keeps old new = (path : Text) → has_path old path ≡ true → has_path new path ≡ true
+
+-- the files that were read are still there, behind those that have come
+abbrev pub Extends : walks.Walk → walks.Walk → Type 0
+Extends old new = (front : List File) × (outlines (entries new) ≡ front ++ outlines (entries old))
+
+-- the path comes to each file that has come, by what was read
+abbrev pub ComeBy : walks.Walk → walks.Walk → Text → Type 0
+ComeBy old new path = (other : Text) → has_path new other ≡ true → (has_path old other ≡ true) ⊎ ComesTo (outlines (entries new)) path other
 
 -- ---- places
 

@@ -110,6 +110,9 @@ fn visit<S: Sources>(
     ensures opened { OnOk result (spec.open_paths walk.new ≡ spec.open_paths walk.old) }
     ensures has { OnOk result (spec.has_path walk.new path.now ≡ true) }
     ensures kept { OnOk result (spec.Keeps walk.old walk.new) }
+    // What has come is the path, or what it leads to by the texts that are kept.
+    ensures extends { OnOk result (spec.Extends walk.old walk.new) }
+    ensures come { OnOk result (spec.ComeBy walk.old walk.new path.now) }
     ensures grows { OnOk result (length (spec.entries walk.old) ≤ length (spec.entries walk.new)) }
     // Whatever is answered, the source was asked for no path twice, and for none that was begun.
     ensures reads_new { ReadsNew folder.now (S.reads source.old) (S.reads source.new) walk.old }
@@ -158,7 +161,8 @@ pub(crate) fn follow_imports<S: Sources>(
     roots: &[&str],
 ) -> Result<Walk, LinkError>
     // Each text that is kept is one that the source may give for its path, each tree is that of its text, each root and
-    // import is among the files, each path once; no file imports one twice, none is on a circle, and 1,024 is the most.
+    // import is among the files, each path once, and no other is; no file imports one twice, none is on a circle, and
+    // 1,024 is the most.
     ensures linked { IfOk result (λ walk. spec.IsLinked (spec.world (S.may_give source.old) (S.may_lack source.old) folder.now (texts roots.now)) (spec.entries walk)) }
     // Each refusal comes only where what it names is there, at its place.
     ensures refused { IfErr result (spec.Refuses (spec.world (S.may_give source.old) (S.may_lack source.old) folder.now (texts roots.now))) }

@@ -1,4 +1,4 @@
-use Rattle.std.proofs.Common.{◌≡◌, ◌∙◌, ◌+◌, ◌<◌, ◌≤◌, ℕ, List, [], ◌∷◌, ◌++◌, Some, All, true, false, sym, ap, subst, take, map, length, refl, string_bytes, arith, slice_index_or}
+use Rattle.std.proofs.Common.{◌≡◌, inl, ◌∙◌, ◌+◌, ◌<◌, ◌≤◌, ℕ, List, [], ◌∷◌, ◌++◌, Some, All, true, false, sym, ap, subst, take, map, length, refl, string_bytes, arith, slice_index_or}
 use Rattle.std.proofs.lemmas.List.{map_more, take_all}
 use Rattle.std.proofs.lemmas.List.Elements.{All-more}
 use Rattle.std.proofs.lemmas.Result.{err_from_is_err_and}
@@ -7,6 +7,7 @@ use Rattle.pg_link.specs.declared.walk.Asking as askings
 use Rattle.pg_link.specs.declared.walk.SourceFile as kept
 use Rattle.pg_link.specs.Files.{Differ, is_path_of, paths_of}
 use Rattle.pg_link.specs.Walk.{World, world, Entry, IsSound, Follows, IsTextFault, IsParsed, IsImportFault, Refuses, entries, open_paths, outlines, has_path}
+use Rattle.pg_link.proofs.LeadLaws.{ComeByThese, both_extend, come_done, come_first, come_next, one_extends, same_extends}
 use Rattle.pg_link.proofs.OrderLaws.{apart_more}
 use Rattle.pg_link.proofs.PathLaws.{has_found}
 use Rattle.pg_link.proofs.ReadLaws.{at_most_new, first_way, next_way, none_new, none_read, not_begun, one_new, way_done, way_refused}
@@ -69,6 +70,8 @@ lines-init g t c =
       before_is = ap (map string_bytes) c.new-before.ensures.empty ∙ ap (map line_path) (sym (take_none ls));
       differ = subst Differ (ap (map line_path) (sym (take_none ls))) tt;
       kept = λ p has. subst (λ (es : List Entry). is_path_of (paths_of (outlines es)) p ≡ true) (sym same) has;
+      extends = same_extends walk new same;
+      come = come_first walk new (map line_path (take 0 ls)) same;
       asked = first_way c.args.folder.now _ _ walk new path c.requires.1.1.1 none c.in_ok-bytes.ensures.asked same;
       counted = omega (arith, c.in_ok-bytes.ensures.counted);
       same_given = c.in_ok-bytes.ensures.same_given;
@@ -162,6 +165,8 @@ lines-preserved g t c =
       before_is = c.in_ok-check.ensures.noted ∙ (ap (λ (qs : List (List ℕ)). qs ++ next ∷ []) inv.before_is ∙ sym more);
       differ = subst Differ (sym more) (apart_more (map line_path (take c.lines.index ls)) next inv.differ first);
       kept = λ q has. after.kept q (inv.kept q has);
+      extends = both_extend walk c.lines.walk new inv.extends after.extends;
+      come = subst (λ (qs : List (List ℕ)). ComeByThese walk new qs) (sym more) (come_next walk c.lines.walk new (map line_path (take c.lines.index ls)) next inv.come after.extends after.come);
       asked = next_way c.args.folder.now _ _ _ walk c.lines.walk new path inv.asked inv.opened after.reads_all;
       counted = omega (arith, after.counted, inv.counted);
       same_given = after.same_given ∙ inv.same_given;
@@ -226,6 +231,30 @@ pub returns-in_err-begin-clause-reads_new : goal.returns-in_err-begin-clause-rea
 returns-in_err-begin-clause-reads_new g t c =
     let none : has_path c.args.walk.now c.args.path.now ≡ false = has_found c.args.walk.now c.args.path.now ∙ (sym c.contains_key.ensures ∙ c.if-contains_key.false) in
     one_new c.args.folder.now _ _ c.args.walk.now c.args.path.now (not_begun c.args.walk.now c.args.path.now c.requires.1.1.1 none) c.in_ok-bytes.ensures.asked
+
+pub returns-clause-extends : goal.returns-clause-extends
+returns-clause-extends g t c =
+    let inv = c.lines.invariant in
+    let last = c.in_ok-end.ensures.comes.is_last inv.asked.is_unread in
+    let file : kept.SourceFile = record { bytes = c.in_ok-bytes.bytes; tree = c.in_ok-tree.tree } in
+    both_extend c.args.walk.now c.lines.walk c.end.new.self inv.extends (one_extends c.lines.walk c.end.new.self (last.0, file) last.2)
+
+pub returns-clause-come : goal.returns-clause-come
+returns-clause-come g t c =
+    let walk = c.args.walk.now in
+    let inv = c.lines.invariant in
+    let ls : List lines.ImportLine = c.in_ok-lines.lines.items in
+    let last = c.in_ok-end.ensures.comes.is_last inv.asked.is_unread in
+    let file : kept.SourceFile = record { bytes = c.in_ok-bytes.bytes; tree = c.in_ok-tree.tree } in
+    let whole : take c.lines.index ls ≡ ls = take_all c.lines.index ls (omega arith) in
+    come_done walk c.lines.walk c.end.new.self c.args.path.now last.0 file ls
+    (subst (λ (xs : List lines.ImportLine). ComeByThese walk c.lines.walk (map line_path xs)) whole inv.come) c.in_ok-lines.ensures last.1 last.2
+
+pub returns-then-contains_key-clause-extends : goal.returns-then-contains_key-clause-extends
+returns-then-contains_key-clause-extends g t c = same_extends c.args.walk.now c.args.walk.now refl
+
+pub returns-then-contains_key-clause-come : goal.returns-then-contains_key-clause-come
+returns-then-contains_key-clause-come g t c = λ other has. inl has
 
 pub returns-in_err-check-clause-reads_new : goal.returns-in_err-check-clause-reads_new
 returns-in_err-check-clause-reads_new g t c = c.lines.invariant.asked.reads

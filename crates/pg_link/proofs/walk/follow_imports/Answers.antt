@@ -8,6 +8,7 @@ use Rattle.pg_link.specs.declared.walk.Walk as walks
 use Rattle.pg_link.specs.Files.{is_path_of, paths_of}
 use Rattle.pg_link.specs.Index.{texts}
 use Rattle.pg_link.specs.Walk.{World, world, IsSound, Follows, Refuses, entries, outlines, has_path}
+use Rattle.pg_link.proofs.LeadLaws.{none_come, root_next}
 use Rattle.pg_link.proofs.ReadLaws.{all_far, far_apart, far_refused, first_far, next_far}
 use Rattle.pg_link.proofs.WalkLaws.{contains_root, first_sound, follows_root, linked, same_world}
 use Rattle.pg_link.proofs.walk.follow_imports.Goals as goal
@@ -48,6 +49,7 @@ loop-root-preserved g c =
       sound = subst (λ (x : World). IsSound x [] (entries new)) now sound;
       opened = after.opened ∙ inv.opened;
       has_roots = All-more has roots c.loop-root.root-index none c.loop-root-test.true those after.has;
+      from_roots = root_next (texts roots) c.loop-root.walk new root (contains_root roots c.loop-root.root-index none c.loop-root-test.true) inv.from_roots after.extends after.come;
       asked = next_far c.args.folder.now _ _ _ c.loop-root.walk new inv.asked inv.opened after.reads_all;
       counted = omega (arith, after.counted, inv.counted);
       same_given = after.same_given ∙ inv.same_given;
@@ -64,6 +66,7 @@ returns-clause-linked g c =
     subst (λ (xs : List (Bor (List ℕ))). All has xs) (take_all c.loop-root.root-index roots (omega (arith, c.loop-root-test.false))) inv.has_roots in
     linked w (entries c.loop-root.walk) inv.sound
     (All-map (λ (root : List ℕ). is_path_of (paths_of (outlines (entries c.loop-root.walk))) root ≡ true) (λ (root : Bor (List ℕ)). root.now) roots all)
+    inv.from_roots
 
 pub returns-clause-reads_each : goal.returns-clause-reads_each
 returns-clause-reads_each g c = all_far c.args.folder.now _ _ c.loop-root.walk c.loop-root.invariant.asked
@@ -84,6 +87,7 @@ loop-root-init g c =
       sound = first_sound _ (entries walk) none;
       opened = ap (λ (keys : List (String Global)). reverse (map string_bytes keys)) c.new-2.ensures.empty;
       has_roots = λ k d within. absurd (omega (arith, within));
+      from_roots = none_come (texts c.args.roots.now) walk none;
       asked = first_far c.args.folder.now _ _ walk refl none;
       counted = refl;
       same_given = refl;
