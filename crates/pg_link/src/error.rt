@@ -40,7 +40,7 @@ pub enum LinkError {
     /// E304: a name stands twice, and not both times as a part of a package. At the later of the two.
     #[error("the name is declared twice")]
     DuplicateName(Place),
-    /// E305: a name of a type that no file declares.
+    /// E305: a type's name that names nothing in its scope, in whichever files.
     #[error("the name is unknown")]
     UnknownName(Place),
     /// E306: a name of what is neither a message type nor an enum, or of an enum where an rpc takes or returns it.
@@ -49,7 +49,7 @@ pub enum LinkError {
     /// E307: a name of a type in a file that isn't imported.
     #[error("the name stands in a file that isn't imported")]
     NotImported(Place),
-    /// E308: more than 1,024 files, at the import of the first beyond.
+    /// E308: more than 1,024 files. At the import of the first beyond, or for a root the file's name alone.
     #[error("more than 1,024 files")]
     TooManyFiles(Place),
     /// E309: the source failed to give the file.

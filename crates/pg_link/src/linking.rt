@@ -15,10 +15,20 @@ use std::alloc::Global;
 /// Reads the roots below the folder, and all that they import, each path once, and settles their names: which names each
 /// file sees, and what each use of a type name resolves to.
 ///
-/// Imports are followed depth first, a file's own text looked at before its imports (E101 to E108, E201 to E207, E301 to
-/// E303, E308, E309). Then come names that stand twice, by order of declaration (E304), and then uses that resolve to
-/// nothing, by their order (E305 to E307); files stand in the order in which their imports were done with. E309 comes only
-/// where the source failed in this call.
+/// Imports are followed depth first, a file's own text looked at before its imports. Then come names that stand twice, by
+/// order of declaration, and then uses that resolve to nothing, by their order; files stand in the order in which their
+/// imports were done with.
+///
+/// # Errors
+///
+/// The source then stands as its reads left it, and its count of failures rose by one where it failed.
+/// - Of a text, while imports are followed: `LinkError::Lex` (E101 to E108), `LinkError::Syntax` (E201 to E207).
+/// - Of an import or a root, meanwhile: `LinkError::MissingFile` (E301), `LinkError::ImportCycle` (E302),
+///   `LinkError::DuplicateImport` (E303), `LinkError::TooManyFiles` (E308).
+/// - `LinkError::SourceFailed` (E309), only where the source failed in this call.
+/// - `LinkError::DuplicateName` (E304): a name stands twice.
+/// - Of a use: `LinkError::UnknownName` (E305), `LinkError::NotAType` (E306), `LinkError::NotImported` (E307).
+/// - `LinkError::Memory` (E001): no memory is left. It may come in place of any other.
 pub fn link<S: Sources>(
     alloc: Global,
     source: &mut S,
@@ -26,7 +36,7 @@ pub fn link<S: Sources>(
     roots: &[&str],
 ) -> Result<Linked, LinkError>
     // Each text that is kept is one that the source may give for its path, each tree is that of its text, each root and
-    // import is among the files, each path once.
+    // import is among the files, each path once, and no other is.
     ensures linked { IfOk result (λ linked. spec.IsLinked (spec.world (S.may_give source.old) (S.may_lack source.old) folder.now (texts roots.now)) linked.files) }
     // No name stands twice, and each use resolves to its target.
     ensures settled { IfOk result IsLinkedUp }

@@ -116,8 +116,8 @@ impl Linked {
     /// The full name, without a dot in front, of the message type or enum that a name names in a scope of a file. The
     /// file is given by its number, the scope by its words.
     ///
-    /// E305 where no file has what it names, E306 where it names what is neither, E307 where a file has it that this one
-    /// doesn't see; line and column are 0.
+    /// E305 where nothing that is seen has what it names and no file has a type of that name, E306 where it names what is
+    /// neither, E307 where a file has such a type that this one doesn't see; line and column are 0.
     pub fn resolve(
         &self,
         alloc: Global,
