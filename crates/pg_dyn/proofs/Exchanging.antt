@@ -1,5 +1,5 @@
 -- A message that holds a member of a oneof loses just that one where another is set.
-use Rattle.std.proofs.Common.{◌≡◌, ◌≢◌, ℕ, ◌<◌, List, [], ◌∷◌, length, filter, get_or, nat_eq, Bool, true, false, cond, not, Option, Some, None, refl, ap, sym, subst, ◌∙◌, ⊎_elim, eq-eqb, ne_eqb, true≢false}
+use Rattle.std.proofs.Common.{◌≡◌, ◌≢◌, ℕ, ◌<◌, List, [], ◌∷◌, length, filter, get_or, nat_eq, Bool, true, false, cond, not, Option, Some, None, MatchOption, refl, ap, sym, subst, ◌∙◌, ⊎_elim, eq-eqb, ne_eqb, true≢false}
 use Rattle.std.specs.List.{AllByRecursion}
 use Rattle.std.proofs.lemmas.Bool.{and_parts, and_from, cases_eq, eqb-true}
 use Rattle.pg_schema.specs.declared.field.TypeId.{TypeId}
@@ -8,7 +8,7 @@ use Rattle.pg_wire.specs.Records.{WireRecord}
 use Rattle.pg_dyn.specs.declared.message.Content.{Content}
 use Rattle.pg_dyn.specs.Content.{same_oneof, is_rival}
 use Rattle.pg_dyn.specs.ContentFits.{NoneRivals}
-use Rattle.pg_dyn.specs.FieldList.{remove_field, IsExchanged}
+use Rattle.pg_dyn.specs.FieldList.{put_field, remove_field}
 use Rattle.pg_dyn.specs.Fits.{Fits}
 use Rattle.pg_dyn.specs.Held.{placeholder}
 use Rattle.pg_dyn.specs.Kept.{Kept, KeptItem, parts_of, of_number}
@@ -102,6 +102,11 @@ module _ (fs : List FieldShape) (rising : Rising fs) (f : FieldShape) (found : f
   -- and none of them is the field's own
   pub none_own : AllByRecursion (λ (x : ℕ × Content). x.0 ≢ f.number) ms
   none_own = let (g, there, one) = the_rival in own_absent g there one
+
+-- without a content under the other number; a zero may stand under the number
+abbrev pub IsExchanged : ℕ → ℕ → List (ℕ × Content) → List (ℕ × Content) → Type 0
+IsExchanged other number old new =
+    (content : Option Content) × MatchOption content (new ≡ remove_field other old) (λ _. new ≡ put_field number placeholder (remove_field other old))
 
 -- What holds of a message with these contents, in which the field takes the place of the other member of its oneof.
 pub record IsLifted (shape : Shape) (type : TypeId) (f : FieldShape) (us : List WireRecord) (m : Kept) (new : List (ℕ × Content)) : Type 0 where

@@ -109,6 +109,16 @@ apart_there fs i n d inside other y zs e =
     head_same : (x y : ℕ × Content) (xs ys : List (ℕ × Content)) → x ∷ xs ≡ y ∷ ys → x ≡ y
     head_same x y xs ys h = cc
 
+-- none of the number stands at the place, if there is one
+pub apart_at : (fs : List (ℕ × Content)) (i n : ℕ) → (i < length fs → (d : ℕ × Content) → (get_or fs i d).0 ≢ n) → (y : ℕ × Content) (zs : List (ℕ × Content)) → drop i fs ≡ y ∷ zs → y.0 ≢ n
+apart_at [] zero n other y zs e = absurd (cc)
+apart_at [] (suc i) n other y zs e = absurd (cc)
+apart_at (f ∷ fs) zero n other y zs e = λ k. other (omega arith) f (first f y fs zs e ∙ k)
+  where
+    first : (x y : ℕ × Content) (xs ys : List (ℕ × Content)) → x ∷ xs ≡ y ∷ ys → x.0 ≡ y.0
+    first x y xs ys h = cc
+apart_at (f ∷ fs) (suc i) n other y zs e = apart_at fs i n (λ inside d. other (omega arith) d) y zs e
+
 -- the numbers don't fall, index by index
 pub non_decreasing : (fs : List (ℕ × Content)) → Rises fs → IsNonDecreasingBy (λ (f : ℕ × Content). f.0) fs
 non_decreasing [] h i j d le inside = absurd (omega arith)

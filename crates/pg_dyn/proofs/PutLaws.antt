@@ -34,7 +34,7 @@ use Rattle.pg_dyn.proofs.FieldListLaws.{rises-filter, rises_put, rises_remove, e
 use Rattle.pg_dyn.proofs.FitsByContents.{own_rival, fits_from_contents, contents_from_fits}
 use Rattle.pg_dyn.proofs.FitsChecks.{same_field}
 use Rattle.pg_dyn.proofs.Flat.{is_rival_sym}
-use Rattle.pg_dyn.proofs.Lists.{filter_all, filter-append', each_weaker, each_both, each-filter, each_at}
+use Rattle.pg_dyn.proofs.Lists.{filter_all, filter-append', filter_swap, each_weaker, each_both, each-filter, each_at}
 use Rattle.pg_dyn.proofs.ReplacingLaws.{shown, content_number, parts_of-kept_onto, unknown_of-kept_onto, type_of-kept_onto}
 use Rattle.pg_dyn.proofs.SettledLaws.{zero_seen}
 use Rattle.pg_dyn.proofs.WithoutRivals.{rival_found, cleared_shown, each_left}
@@ -140,16 +140,6 @@ settled_number (presences.Repeated packed) n c = content_number n c
 settled_number (presences.Map key) n c = rising_number n (content_seen n c) (content_number n c)
 
 -- Without rivals before or after.
-
-filter_swap : {A : Type 0} (t u : A → Bool) (xs : List A) → filter t (filter u xs) ≡ filter u (filter t xs)
-filter_swap t u [] = refl
-filter_swap t u (x ∷ xs) = of (t x) (u x) refl refl (filter_swap t u xs)
-  where
-    of : (b d : Bool) → t x ≡ b → u x ≡ d → filter t (filter u xs) ≡ filter u (filter t xs) → filter t (cond d (x ∷ filter u xs) (filter u xs)) ≡ filter u (cond b (x ∷ filter t xs) (filter t xs))
-    of true true tx ux rest = ap (λ b. cond b (x ∷ filter t (filter u xs)) (filter t (filter u xs))) tx ∙ ap (λ ys. x ∷ ys) rest ∙ sym (ap (λ b. cond b (x ∷ filter u (filter t xs)) (filter u (filter t xs))) ux)
-    of true false tx ux rest = rest ∙ sym (ap (λ b. cond b (x ∷ filter u (filter t xs)) (filter u (filter t xs))) ux)
-    of false true tx ux rest = ap (λ b. cond b (x ∷ filter t (filter u xs)) (filter t (filter u xs))) tx ∙ rest
-    of false false tx ux rest = rest
 
 module _ (fs : List FieldShape) (f : FieldShape) (n : ℕ) (apart : is_rival_number fs f n ≡ false) where
   abbrev stays : ℕ → Bool

@@ -1,28 +1,30 @@
 ghost use Rattle.std.specs.Prelude.{◌≡◌, MatchOption};
-ghost use Rattle.pg_dyn.specs.FieldList.{put_field, remove_field};
+ghost use Rattle.pg_dyn.specs.FieldList.{filled_fields, put_field, remove_field};
 ghost use Rattle.pg_dyn.specs.Held.{placeholder};
 ghost use Rattle.pg_dyn.specs.Seen.{Rises};
 
+use crate::draft::Draft;
 use crate::error::DynError;
-use crate::field_list::{exchange, place_of, put, remove, reserve};
-use crate::message::{Content, Message, Value};
+use crate::field_list::{exchange, place_of, put, reserve};
+use crate::message::{Content, Value};
 use crate::noting::{note, noted_rival};
 use pg_schema::{Field, Schema};
+use std::mem;
 
-// Takes the content out from under the number, where there is one, and leaves a zero in its place.
+// Takes out the content under the number, where one holds something there, and leaves a zero in its place.
 fn take_out(fields: &mut Vec<(u32, Content)>, number: u32) -> Option<Content>
     requires { Rises fields.old.items }
-    ensures held { MatchOption result (fields.old.items ≡ remove_field number fields.old.items) (λ content. fields.old.items ≡ put_field number content fields.old.items) }
+    ensures held { MatchOption result (filled_fields fields.old.items ≡ remove_field number (filled_fields fields.old.items)) (λ content. filled_fields fields.old.items ≡ put_field number content (filled_fields fields.old.items)) }
     ensures rest { MatchOption result (fields.new.items ≡ fields.old.items) (λ _. fields.new.items ≡ put_field number placeholder fields.old.items) }
 {
     let place = place_of(fields, number);
-    if place < fields.len() && fields[place].0 == number {
-        return Some(std::mem::replace(&mut fields[place].1, Content::One(Value::Int(0))));
+    if place < fields.len() && fields[place].0 == number && fields[place].1.is_filled() {
+        return Some(mem::replace(&mut fields[place].1, Content::One(Value::Int(0))));
     }
     None
 }
 
-impl Message {
+impl Draft {
     ghost use Rattle.std.specs.Prelude.{ℕ, List, Some, OnOk, IfErr};
     ghost use Rattle.pg_schema.specs.Invariant.{IsSchema};
     ghost use Rattle.pg_schema.specs.Parts.{field_shape, shape_of};
@@ -68,7 +70,10 @@ impl Message {
         let type_id = self.type_id;
         match noted_rival(&self.fields, &self.noted, schema, type_id, field) {
             Some(other) => {
-                exchange(&mut self.fields, other, field.number);
+                if exchange(&mut self.fields, other, field.number) {
+                    return None;
+                }
+                self.drop_content(other);
                 None
             }
             None => self.lift_own(schema, field),
@@ -92,7 +97,7 @@ impl Message {
     {
         let number = field.number;
         let Some(content) = held else {
-            remove(&mut self.fields, number);
+            self.drop_content(number);
             return Ok(());
         };
         reserve(&mut self.fields, number)?;

@@ -5,7 +5,8 @@ ghost use Rattle.pg_dyn.specs.Content.{is_rival};
 ghost use Rattle.pg_dyn.specs.Replacing.{is_rival_number};
 ghost use Rattle.pg_dyn.specs.Seen.{Rises};
 
-use crate::field_list::{has_number, remove};
+use crate::draft::Draft;
+use crate::field_list::{holds, remove};
 use crate::message::{Content, Message};
 use crate::oneofs::is_same_oneof;
 use pg_schema::{Field, Schema, TypeId};
@@ -69,10 +70,6 @@ fn remove_rivals(
 }
 
 impl Message {
-    ghost use Rattle.std.specs.Prelude.{Some};
-    ghost use Rattle.pg_schema.specs.Invariant.{IsSchema};
-    ghost use Rattle.pg_schema.specs.Shape.{field_at};
-    ghost use Rattle.pg_dyn.specs.Fits.{Fits};
     ghost use Rattle.pg_dyn.specs.Kept.{type_of};
     ghost use Rattle.pg_dyn.specs.Replacing.{without_rivals};
 
@@ -87,8 +84,28 @@ impl Message {
             None => {}
         }
     }
+}
 
-    /// The same of a message that fits: where it holds the field, it holds no other member.
+impl Draft {
+    ghost use Rattle.std.specs.Prelude.{Some};
+    ghost use Rattle.pg_schema.specs.Invariant.{IsSchema};
+    ghost use Rattle.pg_schema.specs.Shape.{field_at};
+    ghost use Rattle.pg_dyn.specs.Fits.{Fits};
+    ghost use Rattle.pg_dyn.specs.Kept.{type_of};
+    ghost use Rattle.pg_dyn.specs.Replacing.{without_rivals};
+
+    // The same of a message that is read.
+    fn clear_rivals(&mut self, schema: &Schema, field: &Field)
+        ensures { self.new ≡ without_rivals (fields (shape_of schema.now) (type_of self.old)) (field_shape field.now) self.old }
+    {
+        let type_id = self.type_id;
+        match field.oneof {
+            Some(_) => remove_rivals(&mut self.fields, schema, type_id, field),
+            None => {}
+        }
+    }
+
+    /// The same of one that fits: where it holds the field, it holds no other member.
     pub(crate) fn clear_others(&mut self, schema: &Schema, field: &Field)
         requires is_schema { IsSchema schema.now }
         requires fits { Fits (shape_of schema.now) self.old }
@@ -97,7 +114,7 @@ impl Message {
     {
         // What holds of the message before.
         let _type_id = self.type_id;
-        if has_number(&self.fields, field.number) {
+        if holds(&self.fields, field.number) {
             return;
         }
         self.clear_rivals(schema, field);

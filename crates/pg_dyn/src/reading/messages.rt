@@ -15,6 +15,7 @@ ghost use Rattle.pg_dyn.specs.Kept.{type_of};
 ghost use Rattle.pg_dyn.specs.Steps.{FieldReads, HeldFits, HeldReadsOn, IsShallow, IsShallowIn, IsShallowItem, IsShallowRecord, ItemReadsOn, ReadsOn, RefusedIn, RefusedItem, RefusedOf, RefusedRecord};
 
 use crate::accept::{accepts, is_own};
+use crate::draft::Draft;
 use crate::error::DynError;
 use crate::message::{Content, Message, Value};
 use crate::reading::contents::push_row;
@@ -226,7 +227,7 @@ fn read_content(
 // Reads a message on by one record, which stands at that place.
 #[cycle(reading)]
 fn read_record(
-    message: &mut Message,
+    draft: &mut Draft,
     alloc: Global,
     schema: &Schema,
     found: &Record<'_>,
@@ -235,19 +236,19 @@ fn read_record(
 ) -> Result<(), DynError>
     requires is_schema { IsSchema schema.now }
     requires is_record { IsRecord (seen_record found.now) }
-    requires fits { Fits (shape_of schema.now) message.old }
+    requires fits { Fits (shape_of schema.now) draft.old }
     requires room { at + length found.now.bytes.now < 2 ^ 64 }
-    ensures ok { OnOk result (ReadsOn (shape_of schema.now) found.now.bytes.now message.old message.new) }
-    ensures shallow { OnOk result (IsShallowRecord (shape_of schema.now) levels (fields (shape_of schema.now) (type_of message.old)) (seen_record found.now)) }
-    ensures err { IfErr result (RefusedRecord (shape_of schema.now) levels (fields (shape_of schema.now) (type_of message.old)) (seen_record found.now) at) }
+    ensures ok { OnOk result (ReadsOn (shape_of schema.now) found.now.bytes.now draft.old draft.new) }
+    ensures shallow { OnOk result (IsShallowRecord (shape_of schema.now) levels (fields (shape_of schema.now) (type_of draft.old)) (seen_record found.now)) }
+    ensures err { IfErr result (RefusedRecord (shape_of schema.now) levels (fields (shape_of schema.now) (type_of draft.old)) (seen_record found.now) at) }
 {
-    match schema.field(message.type_id, found.number) {
+    match schema.field(draft.type_id, found.number) {
         Some(field) if accepts(field, found.wire_type) => {
-            let held = message.lift(schema, field);
+            let held = draft.lift(schema, field);
             let new = read_content(alloc, schema, field, held, found, at, levels)?;
-            message.lower(schema, field, new)
+            draft.lower(schema, field, new)
         }
-        _ => message.keep(alloc, found),
+        _ => draft.keep(alloc, found),
     }
 }
 
@@ -268,15 +269,17 @@ pub(crate) fn read_bytes(
     ensures shallow { OnOk result (IsShallowIn (shape_of schema.now) (suc levels) (fields (shape_of schema.now) (type_of message.old)) bytes.now) }
     ensures err { IfErr result (RefusedIn (shape_of schema.now) (suc levels) (fields (shape_of schema.now) (type_of message.old)) bytes.now start) }
 {
+    let mut draft = Draft::begin(alloc, message);
     let mut at = start;
     for found in Records::new(bytes) {
         match found {
             Ok(record) => {
-                read_record(message, alloc, schema, &record, at, levels)?;
+                read_record(&mut draft, alloc, schema, &record, at, levels)?;
                 at += record.bytes.len();
             }
             Err(error) => return Err(DynError::Wire(error.after(start))),
         }
     }
+    *message = draft.finish();
     Ok(())
 }

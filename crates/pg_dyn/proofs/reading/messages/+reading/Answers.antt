@@ -8,7 +8,7 @@ use Rattle.pg_dyn.specs.declared.error.DynError.{DynError}
 use Rattle.pg_dyn.specs.declared.error.DynError.TheVariants as errors
 use Rattle.pg_dyn.specs.EntrySteps.{PartFits, entry_fields}
 use Rattle.pg_dyn.specs.Kept.{type_of}
-use Rattle.pg_dyn.specs.Steps.{HeldReadsOn, ItemReadsOn, RefusedIn, RefusedItem, RefusedOf, RefusedRecord, IsShallowIn}
+use Rattle.pg_dyn.specs.Steps.{HeldReadsOn, ItemReadsOn, ReadsOn, RefusedIn, RefusedItem, RefusedOf, RefusedRecord, IsShallowIn}
 use Rattle.pg_dyn.proofs.MessageSteps.{MessageAhead}
 use Rattle.pg_dyn.proofs.MessageSteps as steps
 use Rattle.pg_dyn.proofs.Ahead as ahead
@@ -24,6 +24,7 @@ use Rattle.pg_dyn.proofs.reading.messages.+reading.Goals.{read_part-else-found-e
 use Rattle.pg_dyn.specs.Seen.{record_seen}
 use Rattle.pg_dyn.proofs.DecodeSteps.{on_ok_map}
 use Rattle.pg_dyn.proofs.FitsChecks.{unknown_by_field, unknown_without_field}
+use Rattle.pg_dyn.proofs.Gaps.{held, held_filled, held_keys, held_rises}
 use Rattle.pg_dyn.proofs.ReplacingLaws.{type_shown}
 use Rattle.pg_dyn.proofs.reading.messages.+reading.Goals.{read_record-in_default-via-in-Some+else-accepts, read_record-in_default-via-in_default}
 use Rattle.pg_dyn.proofs.reading.messages.+reading.Goals as goal
@@ -51,8 +52,9 @@ on_any_ok (Err e) h = tt
 pub read_bytes-loop-found-init : goal.read_bytes-loop-found-init
 read_bytes-loop-found-init t c =
     let shape = shape_of c.args.schema.now in
-    subst (λ l. MessageAhead shape c.args.levels c.args.bytes.now c.args.start c.args.message.now c.args.start l c.args.message.now) (sym (c.into_iter-found-iterator.ensures.into_iter_gives ∙ c.new-found-items.ensures))
-    (steps.begin shape c.args.levels c.args.bytes.now c.args.start c.args.message.now c.requires.is_schema.shape c.requires.fits)
+    subst (λ m. MessageAhead (shape_of c.args.schema.now) c.args.levels c.args.bytes.now c.args.start c.args.message.now c.args.start c.into_iter-found-iterator.result m) (sym c.begin-draft.ensures)
+    (subst (λ l. MessageAhead shape c.args.levels c.args.bytes.now c.args.start c.args.message.now c.args.start l c.args.message.now) (sym (c.into_iter-found-iterator.ensures.into_iter_gives ∙ c.new-found-items.ensures))
+    (steps.begin shape c.args.levels c.args.bytes.now c.args.start c.args.message.now c.requires.is_schema.shape c.requires.fits))
 
 pub read_bytes-read_record-requires : goal.read_bytes-read_record-requires
 read_bytes-read_record-requires t c =
@@ -71,7 +73,7 @@ read_bytes-returns-in_err-read_record-in-Ok-clause-err t c =
     let next = c.in-Some.ensures.steps ∙ ap (λ x. seen x ∷ c.next.new.self) c.in-Ok.is in
     let (y, is, from) = err_from_is_err_and c.from_residual.result c.from_residual.ensures.1 in
     handed_on (RefusedIn shape (suc c.args.levels) (fields shape (type_of c.args.message.now)) c.args.bytes.now c.args.start) c.from_residual.result _ y is from
-    (steps.refused shape c.args.levels c.args.bytes.now c.args.start c.args.message.now l.at l.found-iterator l.message l.invariant (seen_record c.in-Ok.record) c.next.new.self next _ c.in_err-read_record-in-Ok.ensures.err)
+    (steps.refused shape c.args.levels c.args.bytes.now c.args.start c.args.message.now l.at l.found-iterator l.draft l.invariant (seen_record c.in-Ok.record) c.next.new.self next _ c.in_err-read_record-in-Ok.ensures.err)
 
 pub read_bytes-overflow_add-at : goal.read_bytes-overflow_add-at
 read_bytes-overflow_add-at t c =
@@ -84,8 +86,8 @@ pub read_bytes-loop-found-preserved : goal.read_bytes-loop-found-preserved
 read_bytes-loop-found-preserved t c =
     let l = c.loop-found in
     let next = c.in-Some.ensures.steps ∙ ap (λ x. seen x ∷ c.next.new.self) c.in-Ok.is in
-    steps.onward (shape_of c.args.schema.now) c.args.levels c.args.bytes.now c.args.start c.args.message.now l.at l.found-iterator l.message l.invariant (seen_record c.in-Ok.record) c.next.new.self next
-    c.read_record.new.message c.in_ok-read_record-in-Ok.ensures.ok c.in_ok-read_record-in-Ok.ensures.shallow
+    steps.onward (shape_of c.args.schema.now) c.args.levels c.args.bytes.now c.args.start c.args.message.now l.at l.found-iterator l.draft l.invariant (seen_record c.in-Ok.record) c.next.new.self next
+    c.read_record.new.draft c.in_ok-read_record-in-Ok.ensures.ok c.in_ok-read_record-in-Ok.ensures.shallow
 
 pub read_bytes-after-requires : goal.read_bytes-after-requires
 read_bytes-after-requires t c =
@@ -106,12 +108,13 @@ read_bytes-returns-in-Err-clause-err t c =
 pub read_bytes-returns-clause-ok : goal.read_bytes-returns-clause-ok
 read_bytes-returns-clause-ok t c =
     let l = c.loop-found in
-    steps.done (shape_of c.args.schema.now) c.args.levels c.args.bytes.now c.args.start c.args.message.now l.at l.found-iterator l.message l.invariant c.in-None.ensures.steps.0
+    subst (ReadsOn (shape_of c.args.schema.now) c.args.bytes.now c.args.message.now) (sym c.finish.ensures)
+    (steps.done (shape_of c.args.schema.now) c.args.levels c.args.bytes.now c.args.start c.args.message.now l.at l.found-iterator l.draft l.invariant c.in-None.ensures.steps.0)
 
 pub read_bytes-returns-clause-shallow : goal.read_bytes-returns-clause-shallow
 read_bytes-returns-clause-shallow t c =
     let l = c.loop-found in
-    steps.all_shallow (shape_of c.args.schema.now) c.args.levels c.args.bytes.now c.args.start c.args.message.now l.at l.found-iterator l.message l.invariant c.in-None.ensures.steps.0
+    steps.all_shallow (shape_of c.args.schema.now) c.args.levels c.args.bytes.now c.args.start c.args.message.now l.at l.found-iterator l.draft l.invariant c.in-None.ensures.steps.0
 
 pub read_content-returns-in_err-entry-in-Map-clause-err : goal.read_content-returns-in_err-entry-in-Map-clause-err
 read_content-returns-in_err-entry-in-Map-clause-err t c =
@@ -354,34 +357,34 @@ read_part-returns-clause-ok t c =
 pub read_record-lift-held-requires-clause-found : goal.read_record-lift-held-requires-clause-found
 read_record-lift-held-requires-clause-found t c =
     let shape = shape_of c.args.schema.now in
-    let a = c.message.inside in
+    let a = c.draft.inside in
     let r = seen_record c.args.found.now in
     let f = field_shape c.in-Some.field.now in
-    let same : type_of c.args.message.now ≡ a.type_id = sym (ap type_of c.message.view_is) ∙ type_shown a.type_id a.fields.items (map record_seen a.unknown.items) in
-    let fs = fields shape (type_of c.args.message.now) in
+    let same : type_of c.args.draft.now ≡ a.type_id = sym (ap type_of c.draft.view_is) ∙ type_shown a.type_id (held a) (map record_seen a.unknown.items) in
+    let fs = fields shape (type_of c.args.draft.now) in
     let is : Some f ≡ field_at fs r.number = c.in-Some.ensures.shape ∙ ap (λ t. field_at (fields shape t) r.number) (sym same) in
     records.found_here fs r.number f is
 
 pub read_record-read_content-requires : goal.read_record-read_content-requires
 read_record-read_content-requires t c =
     let shape = shape_of c.args.schema.now in
-    let a = c.message.inside in
+    let a = c.draft.inside in
     let r = seen_record c.args.found.now in
     let f = field_shape c.in-Some.field.now in
-    let same : type_of c.args.message.now ≡ a.type_id = sym (ap type_of c.message.view_is) ∙ type_shown a.type_id a.fields.items (map record_seen a.unknown.items) in
-    let fs = fields shape (type_of c.args.message.now) in
+    let same : type_of c.args.draft.now ≡ a.type_id = sym (ap type_of c.draft.view_is) ∙ type_shown a.type_id (held a) (map record_seen a.unknown.items) in
+    let fs = fields shape (type_of c.args.draft.now) in
     let is : Some f ≡ field_at fs r.number = c.in-Some.ensures.shape ∙ ap (λ t. field_at (fields shape t) r.number) (sym same) in
     let taken = records.taken_here fs r f is (sym c.accepts.ensures ∙ c.if-accepts.true) in
-    (omega (arith, c.decreases), (c.requires.is_schema, (records.is_field c.args.schema.now c.requires.is_schema (type_of c.args.message.now) r.number f taken.found, (c.requires.is_record, (taken.taken, (c.lift-held.ensures.held_fits, c.requires.room))))))
+    (omega (arith, c.decreases), (c.requires.is_schema, (records.is_field c.args.schema.now c.requires.is_schema (type_of c.args.draft.now) r.number f taken.found, (c.requires.is_record, (taken.taken, (c.lift-held.ensures.held_fits, c.requires.room))))))
 
 pub read_record-returns-in_err-new-in-Some-clause-err : goal.read_record-returns-in_err-new-in-Some-clause-err
 read_record-returns-in_err-new-in-Some-clause-err t c =
     let shape = shape_of c.args.schema.now in
-    let a = c.message.inside in
+    let a = c.draft.inside in
     let r = seen_record c.args.found.now in
     let f = field_shape c.in-Some.field.now in
-    let same : type_of c.args.message.now ≡ a.type_id = sym (ap type_of c.message.view_is) ∙ type_shown a.type_id a.fields.items (map record_seen a.unknown.items) in
-    let fs = fields shape (type_of c.args.message.now) in
+    let same : type_of c.args.draft.now ≡ a.type_id = sym (ap type_of c.draft.view_is) ∙ type_shown a.type_id (held a) (map record_seen a.unknown.items) in
+    let fs = fields shape (type_of c.args.draft.now) in
     let is : Some f ≡ field_at fs r.number = c.in-Some.ensures.shape ∙ ap (λ t. field_at (fields shape t) r.number) (sym same) in
     let taken = records.taken_here fs r f is (sym c.accepts.ensures ∙ c.if-accepts.true) in
     let (y, was, from) = err_from_is_err_and c.from_residual.result c.from_residual.ensures.1 in
@@ -391,37 +394,37 @@ read_record-returns-in_err-new-in-Some-clause-err t c =
 pub read_record-lower-requires-clause-found : goal.read_record-lower-requires-clause-found
 read_record-lower-requires-clause-found t c =
     let shape = shape_of c.args.schema.now in
-    let a = c.message.inside in
+    let a = c.draft.inside in
     let r = seen_record c.args.found.now in
     let f = field_shape c.in-Some.field.now in
-    let same : type_of c.args.message.now ≡ a.type_id = sym (ap type_of c.message.view_is) ∙ type_shown a.type_id a.fields.items (map record_seen a.unknown.items) in
-    let fs = fields shape (type_of c.args.message.now) in
+    let same : type_of c.args.draft.now ≡ a.type_id = sym (ap type_of c.draft.view_is) ∙ type_shown a.type_id (held a) (map record_seen a.unknown.items) in
+    let fs = fields shape (type_of c.args.draft.now) in
     let is : Some f ≡ field_at fs r.number = c.in-Some.ensures.shape ∙ ap (λ t. field_at (fields shape t) r.number) (sym same) in
     subst (λ t. field_at (fields shape t) f.number ≡ Some f) (sym c.lift-held.ensures.of_type) (records.found_here fs r.number f is)
 
 pub read_record-returns-in_ok-new-in-Some-clause-ok : goal.read_record-returns-in_ok-new-in-Some-clause-ok
 read_record-returns-in_ok-new-in-Some-clause-ok t c =
     let shape = shape_of c.args.schema.now in
-    let a = c.message.inside in
+    let a = c.draft.inside in
     let r = seen_record c.args.found.now in
     let f = field_shape c.in-Some.field.now in
-    let same : type_of c.args.message.now ≡ a.type_id = sym (ap type_of c.message.view_is) ∙ type_shown a.type_id a.fields.items (map record_seen a.unknown.items) in
-    let fs = fields shape (type_of c.args.message.now) in
+    let same : type_of c.args.draft.now ≡ a.type_id = sym (ap type_of c.draft.view_is) ∙ type_shown a.type_id (held a) (map record_seen a.unknown.items) in
+    let fs = fields shape (type_of c.args.draft.now) in
     let is : Some f ≡ field_at fs r.number = c.in-Some.ensures.shape ∙ ap (λ t. field_at (fields shape t) r.number) (sym same) in
     let taken = records.taken_here fs r f is (sym c.accepts.ensures ∙ c.if-accepts.true) in
     let l = c.lift-held.ensures in
     on_ok_both c.lower.result (λ new_is fits.
-    records.record_reads c.args.schema.now c.requires.is_schema c.args.message.now c.lift-held.new.self c.lower.new.self r c.requires.is_record f taken c.lift-held.result c.in_ok-new-in-Some.new
+    records.record_reads c.args.schema.now c.requires.is_schema c.args.draft.now c.lift-held.new.self c.lower.new.self r c.requires.is_record f taken c.lift-held.result c.in_ok-new-in-Some.new
     l.parts c.in_ok-new-in-Some.ensures.ok c.in_ok-new-in-Some.ensures.readable l.same l.others new_is fits) c.lower.ensures.ok c.lower.ensures.fits
 
 pub read_record-returns-in_ok-new-in-Some-clause-shallow : goal.read_record-returns-in_ok-new-in-Some-clause-shallow
 read_record-returns-in_ok-new-in-Some-clause-shallow t c =
     let shape = shape_of c.args.schema.now in
-    let a = c.message.inside in
+    let a = c.draft.inside in
     let r = seen_record c.args.found.now in
     let f = field_shape c.in-Some.field.now in
-    let same : type_of c.args.message.now ≡ a.type_id = sym (ap type_of c.message.view_is) ∙ type_shown a.type_id a.fields.items (map record_seen a.unknown.items) in
-    let fs = fields shape (type_of c.args.message.now) in
+    let same : type_of c.args.draft.now ≡ a.type_id = sym (ap type_of c.draft.view_is) ∙ type_shown a.type_id (held a) (map record_seen a.unknown.items) in
+    let fs = fields shape (type_of c.args.draft.now) in
     let is : Some f ≡ field_at fs r.number = c.in-Some.ensures.shape ∙ ap (λ t. field_at (fields shape t) r.number) (sym same) in
     let taken = records.taken_here fs r f is (sym c.accepts.ensures ∙ c.if-accepts.true) in
     on_any_ok c.lower.result (records.taken_shallow shape c.args.levels fs r f taken c.in_ok-new-in-Some.ensures.shallow)
@@ -429,10 +432,10 @@ read_record-returns-in_ok-new-in-Some-clause-shallow t c =
 pub read_record-returns-in_default-clause-ok : goal.read_record-returns-in_default-clause-ok
 read_record-returns-in_default-clause-ok t c =
     let shape = shape_of c.args.schema.now in
-    let a = c.message.inside in
+    let a = c.draft.inside in
     let r = seen_record c.args.found.now in
-    let same : type_of c.args.message.now ≡ a.type_id = sym (ap type_of c.message.view_is) ∙ type_shown a.type_id a.fields.items (map record_seen a.unknown.items) in
-    let unknown : is_unknown (fields shape (type_of c.args.message.now)) r ≡ true =
+    let same : type_of c.args.draft.now ≡ a.type_id = sym (ap type_of c.draft.view_is) ∙ type_shown a.type_id (held a) (map record_seen a.unknown.items) in
+    let unknown : is_unknown (fields shape (type_of c.args.draft.now)) r ≡ true =
     subst (λ t. is_unknown (fields shape t) r ≡ true) (sym same)
     (elim c.in_default.branch as (λ b. is_unknown (fields shape a.type_id) r ≡ true) [
       | read_record-in_default-via-in-Some+else-accepts w ↦
@@ -440,23 +443,23 @@ read_record-returns-in_default-clause-ok t c =
       | read_record-in_default-via-in_default w ↦ unknown_without_field c.args.schema.now c.requires.is_schema a.type_id r w.in_default.ensures.shape
     ]) in
     on_ok_map c.keep.result
-    (records.unknown_reads c.args.schema.now c.requires.is_schema c.args.message.now c.keep.new.self r c.requires.is_record a.type_id a.fields.items (map record_seen a.unknown.items) c.message.view_is
-    c.message.invariant.rises c.message.invariant.filled c.message.invariant.keys c.requires.fits unknown) c.keep.ensures.ok
+    (records.unknown_reads c.args.schema.now c.requires.is_schema c.args.draft.now c.keep.new.self r c.requires.is_record a.type_id (held a) (map record_seen a.unknown.items) c.draft.view_is
+    (held_rises a c.draft.invariant) (held_filled a) (held_keys a c.draft.invariant) c.requires.fits unknown) c.keep.ensures.ok
 
 pub read_record-returns-in_default-clause-shallow : goal.read_record-returns-in_default-clause-shallow
 read_record-returns-in_default-clause-shallow t c =
     let shape = shape_of c.args.schema.now in
-    let a = c.message.inside in
+    let a = c.draft.inside in
     let r = seen_record c.args.found.now in
-    let same : type_of c.args.message.now ≡ a.type_id = sym (ap type_of c.message.view_is) ∙ type_shown a.type_id a.fields.items (map record_seen a.unknown.items) in
-    let unknown : is_unknown (fields shape (type_of c.args.message.now)) r ≡ true =
+    let same : type_of c.args.draft.now ≡ a.type_id = sym (ap type_of c.draft.view_is) ∙ type_shown a.type_id (held a) (map record_seen a.unknown.items) in
+    let unknown : is_unknown (fields shape (type_of c.args.draft.now)) r ≡ true =
     subst (λ t. is_unknown (fields shape t) r ≡ true) (sym same)
     (elim c.in_default.branch as (λ b. is_unknown (fields shape a.type_id) r ≡ true) [
       | read_record-in_default-via-in-Some+else-accepts w ↦
           unknown_by_field c.args.schema.now c.requires.is_schema a.type_id r (field_shape w.in-Some.field.now) w.in-Some.ensures.shape ∙ ap not (sym w.accepts.ensures ∙ w.if-accepts.false)
       | read_record-in_default-via-in_default w ↦ unknown_without_field c.args.schema.now c.requires.is_schema a.type_id r w.in_default.ensures.shape
     ]) in
-    on_any_ok c.keep.result (records.unknown_shallow shape c.args.levels (fields shape (type_of c.args.message.now)) r unknown)
+    on_any_ok c.keep.result (records.unknown_shallow shape c.args.levels (fields shape (type_of c.args.draft.now)) r unknown)
 
 pub read_value-returns-then-levels-eq0-clause-err : goal.read_value-returns-then-levels-eq0-clause-err
 read_value-returns-then-levels-eq0-clause-err t c =

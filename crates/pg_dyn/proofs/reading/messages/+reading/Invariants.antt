@@ -26,4 +26,4 @@ abbrev pub invariant-read_entry-loop-found : goal.invariant-read_entry-loop-foun
 invariant-read_entry-loop-found l = EntryAhead (shape_of l.fn.schema) l.fn.levels l.fn.key l.fn.element l.fn.bytes l.fn.start l.at l.found-iterator l.entry
 
 abbrev pub invariant-read_bytes-loop-found : goal.invariant-read_bytes-loop-found
-invariant-read_bytes-loop-found l = MessageAhead (shape_of l.fn.schema) l.fn.levels l.fn.bytes l.fn.start l.fn.message l.at l.found-iterator l.message
+invariant-read_bytes-loop-found l = MessageAhead (shape_of l.fn.schema) l.fn.levels l.fn.bytes l.fn.start l.fn.message l.at l.found-iterator l.draft

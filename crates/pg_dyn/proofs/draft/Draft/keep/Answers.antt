@@ -5,8 +5,9 @@ use Rattle.pg_wire.specs.Records.{IsRecord}
 use Rattle.pg_wire.specs.Reads.{seen_record}
 use Rattle.pg_dyn.specs.declared.message.UnknownRecord.{UnknownRecord}
 use Rattle.pg_dyn.specs.Seen.{record_seen}
+use Rattle.pg_dyn.proofs.Gaps.{held}
 use Rattle.pg_dyn.proofs.Holding.{record_again, kept_more, all_records}
-use Rattle.pg_dyn.proofs.message.Message.keep.Goals as goal
+use Rattle.pg_dyn.proofs.draft.Draft.keep.Goals as goal
 
 pub invariant_of-self : goal.invariant_of-self
 invariant_of-self c = record {
@@ -32,4 +33,4 @@ returns-clause-ok c =
     let r = seen_record c.args.found.now in
     let same = record_again r (length r.bytes - length r.body) c.in_ok-from_slice.field-0.items c.requires refl c.in_ok-from_slice.ensures.items in
     let a = c.self.inside in
-    kept_more a.type_id a.fields.items a.unknown.items _ _ r c.args.self.now c.in_ok-push.ensures.items same c.self.view_is
+    kept_more a.type_id (held a) a.unknown.items _ _ r c.args.self.now c.in_ok-push.ensures.items same c.self.view_is

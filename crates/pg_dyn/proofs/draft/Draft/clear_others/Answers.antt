@@ -6,31 +6,33 @@ use Rattle.pg_schema.specs.Shape.{fields, field_at}
 use Rattle.pg_dyn.specs.declared.message.Content.{Content}
 use Rattle.pg_dyn.specs.declared.message.Content.TheVariants as contents
 use Rattle.pg_dyn.specs.declared.message.Value.TheVariants as values
+use Rattle.pg_dyn.specs.FieldList.{filled_fields}
 use Rattle.pg_dyn.specs.Kept.{type_of}
 use Rattle.pg_dyn.specs.Replacing.{is_rival_number, without_rivals}
 use Rattle.pg_dyn.specs.Seen.{record_seen}
 use Rattle.pg_dyn.proofs.DecodeSteps.{rising}
 use Rattle.pg_dyn.proofs.FitsByContents.{contents_from_fits}
+use Rattle.pg_dyn.proofs.Gaps.{held, held_filled, held_keys}
 use Rattle.pg_dyn.proofs.HeldAlone.{held_alone}
 use Rattle.pg_dyn.proofs.Lists.{filter_all}
 use Rattle.pg_dyn.proofs.ReplacingLaws.{type_shown}
 use Rattle.pg_dyn.proofs.WithoutRivals.{cleared_shown}
-use Rattle.pg_dyn.proofs.message.Message.clear_others.Goals as goal
+use Rattle.pg_dyn.proofs.draft.Draft.clear_others.Goals as goal
 
-pub returns-then-has_number : goal.returns-then-has_number
-returns-then-has_number c =
+pub returns-then-holds : goal.returns-then-holds
+returns-then-holds c =
     let shape = shape_of c.args.schema.now in
     let a = c.self.inside in
-    let cs = a.fields.items in
+    let cs = held a in
     let us = map record_seen a.unknown.items in
     let f = field_shape c.args.field.now in
     let fs = fields shape a.type_id in
     let same = sym (ap type_of c.self.view_is) ∙ type_shown a.type_id cs us in
     let found = subst (λ (t : TypeId). field_at (fields (shape_of c.args.schema.now) t) c.args.field.now.number ≡ Some (field_shape c.args.field.now)) same c.requires.found in
-    let (i, inside, here) = c.has_number.ensures c.if-has_number.true in
-    let by = contents_from_fits shape a.type_id cs us c.args.self.now c.self.view_is c.requires.is_schema.shape c.self.invariant.filled c.self.invariant.keys c.requires.fits in
-    let within = subst (λ (xs : List (ℕ × Content)). i < length xs) c.deref.ensures.value inside in
-    let at = subst (λ (xs : List (ℕ × Content)). (d : ℕ × Content) → (get_or xs i d).0 ≡ c.args.field.now.number) c.deref.ensures.value here in
+    let (i, inside, here) = c.holds.ensures c.if-holds.true in
+    let by = contents_from_fits shape a.type_id cs us c.args.self.now c.self.view_is c.requires.is_schema.shape (held_filled a) (held_keys a c.self.invariant) c.requires.fits in
+    let within = subst (λ (xs : List (ℕ × Content)). i < length (filled_fields xs)) c.deref.ensures.value inside in
+    let at = subst (λ (xs : List (ℕ × Content)). (d : ℕ × Content) → (get_or (filled_fields xs) i d).0 ≡ c.args.field.now.number) c.deref.ensures.value here in
     let d : ℕ × Content = (0, contents.One (values.Int (pos 0))) in
     let all = held_alone fs (rising c.args.schema.now c.requires.is_schema a.type_id) f f.number found cs i d within (at d) by.apart in
     let left = sym (filter_all (λ (x : ℕ × Content). not (is_rival_number (fields (shape_of c.args.schema.now) a.type_id) (field_shape c.args.field.now) x.0)) cs all) in
