@@ -5,6 +5,7 @@ pub mod LeadLaws
 pub mod LookLaws
 pub mod MaskLaws
 pub mod NumberLaws
+pub mod OnceLaws
 pub mod OrderLaws
 pub mod PathLaws
 pub mod PlaceLaws

@@ -1,11 +1,14 @@
 -- Each by computing it, but for what is never linked.
-use Rattle.std.proofs.Common.{◌≡◌, zero, suc, true, List, [], ◌∷◌, codes, drop, refl, sym, subst, true≢false, arith}
+use Rattle.std.proofs.Common.{◌≡◌, ◌∙◌, false, inl, inr, zero, suc, true, List, [], ◌∷◌, codes, drop, refl, sym, subst, true≢false, arith}
 use Rattle.std.proofs.lemmas.List.Elements.{All-nil}
 use Rattle.std.specs.List.{All, IsAmong}
 use Rattle.pg_link.specs.Files.{File, Import, Imports, Next, Further, HasNoCycle, InOrder, Differ, import_paths, is_path_of, paths_of}
 use Rattle.pg_link.specs.Names.{Text}
-use Rattle.pg_link.specs.SmallFiles.{SmallFiles, IsImporting, chain, line}
+use Rattle.pg_link.specs.SmallFiles.{SmallFiles, IsImporting, chain, declared, line}
+use Rattle.pg_link.specs.Standing.{Standing, NoneTwice, may_share, standing}
+use Rattle.pg_link.specs.declared.names.Kind.TheVariants.{Message, Package}
 use Rattle.pg_link.specs.Walk.{outlines}
+use Rattle.pg_link.proofs.OnceLaws.{none_twice_is_once}
 use Rattle.pg_link.proofs.SeesLaws.{among_map}
 use Rattle.pg_link.proofs.SightLaws.{first_among}
 
@@ -31,6 +34,10 @@ imports_differ : (files : List File) → InOrder files → (file : File) → IsA
 imports_differ [] order file (i, (within, is)) = absurd (omega (arith, within))
 imports_differ (f ∷ files) order file (zero, (within, is)) = subst (λ (x : File). Differ (import_paths x.imports)) (sym is) order.1
 imports_differ (f ∷ files) order file (suc i, (within, is)) = imports_differ files order.2 file (i, (omega (arith, within), is))
+
+-- the first two have one name, and may not share it
+clash : (s t : Standing) (more : List Standing) → NoneTwice (s ∷ (t ∷ more)) → s.declared.name ≡ t.declared.name → may_share s.declared.kind t.declared.kind ≡ false → ⊥
+clash s t more none name not = true≢false (sym ((none_twice_is_once (s ∷ (t ∷ more))).0 none 0 1 s t (omega arith) refl refl name) ∙ not)
 
 pub small_files : SmallFiles
 small_files = record {
@@ -77,6 +84,11 @@ small_files = record {
   member_is_beside_its_oneof = refl;
   entry_is_found = refl;
   nothing_is_in_an_entry = refl;
+  message_twice = λ none. clash (standing 0 (declared Message (codes ".A"))) (standing 0 (declared Message (codes ".A"))) [] none refl refl;
+  package_behind_message = λ none. clash (standing 0 (declared Message (codes ".p"))) (standing 1 (declared Package (codes ".p"))) [] none refl refl;
+  message_behind_package = λ none. clash (standing 0 (declared Package (codes ".p"))) (standing 1 (declared Message (codes ".p"))) [] none refl refl;
+  message_in_its_package = (inl refl, (inl refl, tt));
+  package_of_two_files = (inr (_, refl, refl), (inl refl, tt));
   entry_of_two_words = refl;
   entry_of_digit = refl;
   entry_of_inner_digit = refl;

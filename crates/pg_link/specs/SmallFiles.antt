@@ -1,5 +1,5 @@
 -- What names name on small files, what small files declare, and which imports are never linked.
-use Rattle.std.specs.Prelude.{◌≡◌, true, false, List, [], ◌∷◌, Some, None, codes}
+use Rattle.std.specs.Prelude.{◌≡◌, ℕ, true, false, List, [], ◌∷◌, ◌++◌, Some, None, codes, map}
 use Rattle.std.specs.List.{IsAmong}
 use Rattle.pg_link.specs.declared.names.Kind.{Kind}
 use Rattle.pg_link.specs.declared.names.Kind.TheVariants.{Message, Enum, Entry, Value, Field, Oneof, Service, Method}
@@ -7,6 +7,7 @@ use Rattle.pg_link.specs.Names.{Text, Names}
 use Rattle.pg_link.specs.Resolves.{Reference, found}
 use Rattle.pg_link.specs.Files.{File, Import, Declared, InOrder, Differ, visible_names, all_names, seen_paths, import_paths, paths_of}
 use Rattle.pg_link.specs.Declares.{Word, Declarations, Done, Alone, MapField, Within, Beside, names_of_file, entry_name}
+use Rattle.pg_link.specs.Standing.{Standing, NoneTwice, standing}
 use Rattle.pg_link.specs.Walk.{World, Entry as Read, IsLinked, outlines}
 
 -- a name without a dot in front, and one with it
@@ -99,6 +100,14 @@ mixed_tree = Beside Enum (word (codes "E")) (Alone Value (word (codes "A")) Done
 abbrev pub mixed : Names
 mixed = in_own_file mixed_tree [] Done
 
+-- message p { }
+abbrev pub message_p : Declarations
+message_p = Within Message (word (codes "p")) Done Done
+
+-- the names of the file of this number, which has these declarations and the parts of its package
+abbrev pub names_in : ℕ → Declarations → List Word → List Standing
+names_in number front words = map (standing number) (names_of_file front words Done)
+
 pub record SmallFiles : Type 0 where
   -- in C, `A.B` is sought in the nearest A alone
   pub first_part_decides : found nested in_c (part (codes "A") (codes "B" ∷ [])) ≡ None
@@ -139,6 +148,14 @@ pub record SmallFiles : Type 0 where
   pub member_is_beside_its_oneof : found mixed in_m (full (codes "M") (codes "x" ∷ [])) ≡ Some (codes ".M.x", Field)
   pub entry_is_found : found mixed in_m (part (codes "FooBarEntry") []) ≡ Some (codes ".M.FooBarEntry", Entry)
   pub nothing_is_in_an_entry : found mixed in_m (part (codes "FooBarEntry") (codes "key" ∷ [])) ≡ None
+  -- message A { } message A { }
+  pub message_twice : NoneTwice (names_in 0 (Within Message (word (codes "A")) Done (Within Message (word (codes "A")) Done Done)) []) → ⊥
+  -- message p { } in one file and package p; in another, in either order; in one file the message is in the package
+  pub package_behind_message : NoneTwice (names_in 0 message_p [] ++ names_in 1 Done (word (codes "p") ∷ [])) → ⊥
+  pub message_behind_package : NoneTwice (names_in 0 Done (word (codes "p") ∷ []) ++ names_in 1 message_p []) → ⊥
+  pub message_in_its_package : NoneTwice (names_in 0 message_p (word (codes "p") ∷ []))
+  -- package p; in two files
+  pub package_of_two_files : NoneTwice (names_in 0 Done (word (codes "p") ∷ []) ++ names_in 1 Done (word (codes "p") ∷ []))
   pub entry_of_two_words : entry_name (codes "foo_bar") ≡ codes "FooBarEntry"
   pub entry_of_digit : entry_name (codes "_1a") ≡ codes "1aEntry"
   pub entry_of_inner_digit : entry_name (codes "foo_1bar") ≡ codes "Foo1barEntry"

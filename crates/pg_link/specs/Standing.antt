@@ -1,5 +1,5 @@
 -- The names of all files, each where it stands (proto3 language specification, "Package", "Message definition").
-use Rattle.std.specs.Prelude.{◌≡◌, ◌⊎◌, ◌&&◌, ℕ, Bool, true, false, List, [], ◌∷◌, ◌++◌, ◌+◌, slice_get, Option, Some, None, length, map, reverse}
+use Rattle.std.specs.Prelude.{◌≡◌, ◌⊎◌, ◌↔◌, ◌<◌, ◌&&◌, ℕ, Bool, true, false, List, [], ◌∷◌, ◌++◌, ◌+◌, slice_get, Option, Some, None, length, map, reverse}
 use Rattle.std.specs.List.{filter}
 use Rattle.std.specs.Option.{option_map}
 use Rattle.std.specs.Str.{bytes_eq}
@@ -68,6 +68,15 @@ AllMayStand (s ∷ before) = MayStand (reverse before) s × AllMayStand before
 
 abbrev pub NoneTwice : List Standing → Type 0
 NoneTwice all = AllMayStand (reverse all)
+
+-- of two that have one name, both are parts of packages
+abbrev pub OncePerName : List Standing → Type 0
+OncePerName all = (i j : ℕ) (s t : Standing) → i < j → slice_get all i ≡ Some s → slice_get all j ≡ Some t
+    → s.declared.name ≡ t.declared.name → may_share s.declared.kind t.declared.kind ≡ true
+
+-- One by one none stands twice exactly where this is so of any two.
+abbrev pub NoneTwiceIsOnce : Type 0
+NoneTwiceIsOnce = (all : List Standing) → NoneTwice all ↔ OncePerName all
 
 abbrev pub view : nameds.Named → Bearer
 view n = record { kind = n.kind; at = n.at; files = files_of n }

@@ -29,7 +29,7 @@ mod walk;
 
 pub use error::{LinkError, Place, place_in};
 pub use folder::Folder;
-pub use laws::{seen_paths_are_seen, small_files};
+pub use laws::{none_twice_is_once_per_name, seen_paths_are_seen, small_files};
 pub use linked::Linked;
 pub use linking::link;
 pub use listed::Listed;
