@@ -1,7 +1,7 @@
 #!/usr/bin/env bash
 # Times decode of messages of 1,000 and of 10,000 fields behind which 100,000 records alternate between the members of a oneof: next to
 # each other, around all other fields, in a oneof for each two fields, and in a child that each record reads on. The number of fields
-# should make no difference, but where the members stand around them.
+# should make no difference.
 # usage: bench/oneofs.sh [FOLDER]    FOLDER keeps the built program for the next run.
 set -eu
 top=$(cd "$(dirname "$0")/.." && pwd)
