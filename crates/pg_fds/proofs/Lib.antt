@@ -13,5 +13,8 @@ pub mod TypeLaws
 pub mod SetLaws
 pub mod FileStateLaws
 pub mod CodeLaws
+pub mod Matched
+pub mod StatedTypes
+pub mod StatedFiles
 pub mod ReadLaws
 pub mod ReadExamples

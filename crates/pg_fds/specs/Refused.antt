@@ -2,6 +2,7 @@
 use Rattle.std.specs.Prelude.{◌≡◌, ◌≢◌, ℕ, ⊤, true, false, List, IsSomeAnd}
 use Rattle.std.specs.List.{list_all}
 use Rattle.pg_schema.specs.declared.parts.Parts.{Parts}
+use Rattle.pg_schema.specs.Sound.{IsSound}
 use Rattle.pg_check.specs.declared.error.CheckError.{CheckError}
 use Rattle.pg_check.specs.declared.error.CheckError.TheVariants as rules
 use Rattle.pg_check.specs.PartErrors.{IsRefusedOf}
@@ -14,7 +15,7 @@ use Rattle.pg_fds.specs.declared.error.FdsError.TheVariants as errors
 use Rattle.pg_fds.specs.Building.{written_shape}
 use Rattle.pg_fds.specs.Codes.{file_has_types}
 use Rattle.pg_fds.specs.Descriptor.{file_set}
-use Rattle.pg_fds.specs.Reads.{kept_files}
+use Rattle.pg_fds.specs.Reads.{fds_reads, kept_files}
 use Rattle.pg_fds.specs.StatesFiles.{is_proto3, most_deep}
 
 -- parts of a schema are refused for it, and it isn't want of memory
@@ -44,6 +45,22 @@ MayRefuseSet bytes errors.NotProto3 = MayRefuseRead bytes errors.NotProto3
 MayRefuseSet bytes errors.BadType = MayRefuseRead bytes errors.BadType
 MayRefuseSet bytes errors.BadReference = MayRefuseRead bytes errors.BadReference
 MayRefuseSet bytes (errors.Rule e) = MayRefuseRead bytes (errors.Rule e)
+
+-- no schema is stated by the bytes
+abbrev pub StatesNone : List ℕ → Type 0
+StatesNone bytes = (parts : Parts) → IsSound parts → fds_reads bytes parts → ⊥
+
+-- Faults of the bytes, files that aren't proto3 and types are told only where no schema is stated. Want of memory and messages nested too
+-- deep aren't said to be; of bad references and broken rules that isn't said here.
+abbrev pub NoneIsStated : List ℕ → FdsError → Type 0
+NoneIsStated bytes errors.Memory = ⊤
+NoneIsStated bytes (errors.Bytes messages.Memory) = ⊤
+NoneIsStated bytes (errors.Bytes (messages.TooDeep at)) = ⊤
+NoneIsStated bytes (errors.Bytes e) = StatesNone bytes
+NoneIsStated bytes errors.NotProto3 = StatesNone bytes
+NoneIsStated bytes errors.BadType = StatesNone bytes
+NoneIsStated bytes errors.BadReference = ⊤
+NoneIsStated bytes (errors.Rule e) = ⊤
 
 -- memory, or what is told once files and types are looked at
 abbrev pub IsOfParts : FdsError → Type 0

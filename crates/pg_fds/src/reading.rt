@@ -11,7 +11,7 @@ ghost use Rattle.pg_fds.specs.Building.{written_shape};
 ghost use Rattle.pg_fds.specs.Descriptor.{file_set};
 ghost use Rattle.pg_fds.specs.Lent.{lent};
 ghost use Rattle.pg_fds.specs.Reads.{States, StatesFiles, fds_reads, kept_files};
-ghost use Rattle.pg_fds.specs.Refused.{IsOfParts, MayRefuseFiles, MayRefuseSet};
+ghost use Rattle.pg_fds.specs.Refused.{IsOfParts, MayRefuseFiles, MayRefuseSet, NoneIsStated};
 ghost use Rattle.pg_fds.specs.StatesFiles.{is_proto3, most_deep};
 
 use crate::codes::files_have_types;
@@ -25,7 +25,7 @@ use crate::places::SET;
 use crate::said::children;
 use crate::set_states::{kept, skips, states_files};
 use pg_check::{CheckError, admit};
-use pg_dyn::{DynError, Message, decode};
+use pg_dyn::{DynError, Message, decode, faults_are_real};
 use pg_schema::{Parts, Schema};
 use std::alloc::Global;
 
@@ -143,6 +143,15 @@ fn set_schema(alloc: Global, set: &Message) -> Result<Schema, FdsError>
     files_schema(alloc, skips, files)
 }
 
+// The schema that the bytes state.
+fn bytes_schema(alloc: Global, bytes: &[u8]) -> Result<Schema, FdsError>
+    ensures ok { IfOk result (λ schema. fds_reads bytes.now schema) }
+    ensures refused { IfErr result (MayRefuseSet bytes.now) }
+{
+    let set = decoded(alloc, bytes)?;
+    set_schema(alloc, &set)
+}
+
 /// The schema that the bytes of a descriptor set state (descriptor.proto; docs/MODEL.md, "Descriptor
 /// sets"). Files may come in any order; those of the schema stand behind those that they import.
 ///
@@ -152,11 +161,14 @@ fn set_schema(alloc: Global, set: &Message) -> Result<Schema, FdsError>
 /// stands twice or is of another kind, imports go round, a place is none, or an `optional` field or an
 /// entry type hasn't its form; `Rule` with the error of the first rule that what is declared breaks. A
 /// file `google/protobuf/descriptor.proto` that isn't proto3 is left out, as are imports of it.
-/// `Memory` may come in place of any.
+/// `Memory` may come in place of any. `Bytes`, but of messages nested too deep, `NotProto3` and `BadType`
+/// come only where the bytes state no schema.
 pub fn read(alloc: Global, bytes: &[u8]) -> Result<Schema, FdsError>
     ensures ok { IfOk result (λ schema. fds_reads bytes.now schema) }
     ensures refused { IfErr result (MayRefuseSet bytes.now) }
+    ensures none_stated { IfErr result (NoneIsStated bytes.now) }
 {
-    let set = decoded(alloc, bytes)?;
-    set_schema(alloc, &set)
+    // Bytes that have a fault have no reading.
+    faults_are_real();
+    bytes_schema(alloc, bytes)
 }

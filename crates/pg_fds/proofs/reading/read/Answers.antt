@@ -1,9 +1,13 @@
-use Rattle.pg_dyn.specs.Kept.{message_of}
-use Rattle.pg_fds.proofs.ReadLaws.{bytes_read, bytes_refused}
+use Rattle.std.proofs.lemmas.Result.{IfErr-weaker}
+use Rattle.pg_fds.specs.Refused.{MayRefuseSet, NoneIsStated}
+use Rattle.pg_fds.proofs.StatedFiles.{none_stated}
 use Rattle.pg_fds.proofs.reading.read.Goals as goal
 
 pub returns : goal.returns
-returns c = record {
-  ok = bytes_read c.args.bytes.now (message_of c.in_ok-set.set) c.set_schema.result c.in_ok-set.ensures.message c.set_schema.ensures.ok;
-  refused = bytes_refused c.args.bytes.now (message_of c.in_ok-set.set) c.set_schema.result c.in_ok-set.ensures.message c.set_schema.ensures.refused;
-}
+returns c =
+    let bytes = c.args.bytes.now in
+    record {
+      ok = c.bytes_schema.ensures.ok;
+      refused = c.bytes_schema.ensures.refused;
+      none_stated = IfErr-weaker c.bytes_schema.result (MayRefuseSet bytes) (NoneIsStated bytes) (none_stated c.faults_are_real.ensures bytes) c.bytes_schema.ensures.refused;
+    }

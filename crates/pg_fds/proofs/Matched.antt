@@ -1,0 +1,80 @@
+-- Things of which each is found in a list, under names that stand once: where the list is as long as they are, it holds nothing else.
+use Rattle.std.proofs.Common.{◌≡◌, ℕ, zero, suc, ◌<◌, Bool, true, not, ◌⊎◌, inl, inr, List, [], ◌∷◌, map, length, get_or, refl, ap, sym, subst, ◌∙◌, arith}
+use Rattle.std.proofs.lemmas.Bool.{false≢true}
+use Rattle.std.proofs.lemmas.Slice.Eq.{bytes_eq-Decides}
+use Rattle.std.specs.List.{AllByRecursion, Any, list_all}
+use Rattle.pg_schema.specs.Pairs.{are_distinct, differ}
+use Rattle.pg_schema.proofs.PairLemmas.{and_both, and_left, and_right}
+
+pub differ_apart : (a b : List ℕ) → differ a b ≡ true → a ≡ b → ⊥
+differ_apart a b h same = false≢true (sym (ap not ((bytes_eq-Decides a b).1 same)) ∙ h)
+
+-- it holds of one of the list
+abbrev Has : {A : Type 0} → (A → Type 0) → List A → Type 0
+Has P [] = ⊥
+Has P (x ∷ xs) = P x ⊎ Has P xs
+
+has_at : {A : Type 0} (P : A → Type 0) (xs : List A) (k : ℕ) (x : A) → k < length xs → get_or xs k x ≡ x → P x → Has P xs
+has_at P [] k x h is here = absurd (omega (arith, h))
+has_at P (y ∷ ys) zero x h is here = inl (subst P (sym is) here)
+has_at P (y ∷ ys) (suc k) x h is here = inr (has_at P ys k x (omega (arith, h)) is here)
+
+has_any : {A : Type 0} (P : A → Type 0) (xs : List A) → Any P xs → Has P xs
+has_any P xs any = has_at P xs any.0 any.1 any.2 any.3 any.4
+
+-- the list without that one
+abbrev rest : {A : Type 0} (P : A → Type 0) (xs : List A) → Has P xs → List A
+rest P [] has = []
+rest P (x ∷ xs) (inl here) = xs
+rest P (x ∷ xs) (inr later) = x ∷ rest P xs later
+
+rest_length : {A : Type 0} (P : A → Type 0) (xs : List A) (has : Has P xs) → suc (length (rest P xs has)) ≡ length xs
+rest_length P [] has = absurd has
+rest_length P (x ∷ xs) (inl here) = refl
+rest_length P (x ∷ xs) (inr later) = ap suc (rest_length P xs later)
+
+rest_tested : {A : Type 0} (P : A → Type 0) (test : A → Bool) → ((x : A) → P x → test x ≡ true) → (xs : List A) (has : Has P xs) → list_all test (rest P xs has) ≡ true → list_all test xs ≡ true
+rest_tested P test passes [] has others = absurd has
+rest_tested P test passes (x ∷ xs) (inl here) others = and_both (test x) (list_all test xs) (passes x here) others
+rest_tested P test passes (x ∷ xs) (inr later) others =
+    and_both (test x) (list_all test xs) (and_left (test x) (list_all test (rest P xs later)) others)
+    (rest_tested P test passes xs later (and_right (test x) (list_all test (rest P xs later)) others))
+
+-- what another thing holds of is still there
+still : {A : Type 0} (P Q : A → Type 0) → ((x : A) → P x → Q x → ⊥) → (xs : List A) (has : Has P xs) → Has Q xs → Has Q (rest P xs has)
+still P Q apart [] has other = absurd has
+still P Q apart (x ∷ xs) (inl here) (inl other) = absurd (apart x here other)
+still P Q apart (x ∷ xs) (inl here) (inr other) = other
+still P Q apart (x ∷ xs) (inr later) (inl other) = inl other
+still P Q apart (x ∷ xs) (inr later) (inr other) = inr (still P Q apart xs later other)
+
+module _ {A B : Type 0} (R : A → B → Type 0) (name : A → List ℕ) (called : B → List ℕ) (named : (a : A) (b : B) → R a b → name a ≡ called b) where
+  others : (b : B) (xs : List A) (has : Has (λ a. R a b) xs) (bs : List B) → list_all (differ (called b)) (map called bs) ≡ true
+      → AllByRecursion (λ c. Has (λ a. R a c) xs) bs → AllByRecursion (λ c. Has (λ a. R a c) (rest (λ a. R a b) xs has)) bs
+  others b xs has [] apart all = tt
+  others b xs has (c ∷ bs) apart all = (
+    still (λ a. R a b) (λ a. R a c)
+        (λ a here other. differ_apart (called b) (called c) (and_left (differ (called b) (called c)) (list_all (differ (called b)) (map called bs)) apart) (sym (named a b here) ∙ named a c other))
+        xs has all.0,
+    others b xs has bs (and_right (differ (called b) (called c)) (list_all (differ (called b)) (map called bs)) apart) all.1,
+  )
+
+  tested : (test : A → Bool) → ((a : A) (b : B) → R a b → test a ≡ true) → (bs : List B) (xs : List A) → length xs ≡ length bs → are_distinct (map called bs) ≡ true
+      → AllByRecursion (λ b. Has (λ a. R a b) xs) bs → list_all test xs ≡ true
+  tested test passes [] [] same once all = refl
+  tested test passes [] (a ∷ xs) same once all = absurd (omega (arith, same))
+  tested test passes (b ∷ bs) xs same once all =
+      let has = all.0 in
+      let less : suc (length (rest (λ a. R a b) xs has)) ≡ suc (length bs) = rest_length (λ a. R a b) xs has ∙ same in
+      rest_tested (λ a. R a b) test (λ a here. passes a b here) xs has
+      (tested test passes bs (rest (λ a. R a b) xs has) (omega (arith, less)) (and_right (list_all (differ (called b)) (map called bs)) (are_distinct (map called bs)) once)
+      (others b xs has bs (and_left (list_all (differ (called b)) (map called bs)) (are_distinct (map called bs)) once) all.1))
+
+  each_has : (xs : List A) (bs : List B) → AllByRecursion (λ b. Any (λ a. R a b) xs) bs → AllByRecursion (λ b. Has (λ a. R a b) xs) bs
+  each_has xs [] all = tt
+  each_has xs (b ∷ bs) all = (has_any (λ a. R a b) xs all.0, each_has xs bs all.1)
+
+  -- what holds of all that is found holds of all of the list
+  pub all_tested : (test : A → Bool) → ((a : A) (b : B) → R a b → test a ≡ true) → (xs : List A) (bs : List B) → length xs ≡ length bs → are_distinct (map called bs) ≡ true
+      → AllByRecursion (λ b. Any (λ a. R a b) xs) bs → list_all test xs ≡ true
+  all_tested test passes xs bs same once all = tested test passes bs xs same once (each_has xs bs all)

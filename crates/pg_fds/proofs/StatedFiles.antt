@@ -1,0 +1,111 @@
+-- What a set that states a schema says in each of its files, and what is refused only where none is stated.
+use Rattle.std.proofs.Common.{◌≡◌, ℕ, Bool, true, false, not, ◌||◌, List, [], ◌∷◌, ◌++◌, map, Option, Some, None, refl, ap, sym, subst, ◌∙◌}
+use Rattle.std.proofs.lemmas.Bool.{false≢true}
+use Rattle.std.proofs.lemmas.Slice.Eq.{bytes_eq-Decides}
+use Rattle.std.specs.Prelude.{IsSomeAnd}
+use Rattle.std.specs.List.{AllByRecursion, Any, list_all}
+use Rattle.std.specs.Str.{bytes_eq}
+use Rattle.pg_schema.specs.declared.file.File.{File}
+use Rattle.pg_schema.specs.declared.parts.Parts.{Parts}
+use Rattle.pg_schema.specs.Pairs.{are_distinct, differ}
+use Rattle.pg_schema.specs.Shape.{fields}
+use Rattle.pg_schema.specs.Sound.{IsSound}
+use Rattle.pg_schema.specs.TextSets.{is_among}
+use Rattle.pg_schema.proofs.PairLemmas.{among_push, and_both}
+use Rattle.pg_wire.specs.Errors.{fault_of, place_of}
+use Rattle.pg_dyn.specs.declared.error.DynError.{DynError}
+use Rattle.pg_dyn.specs.declared.error.DynError.TheVariants as messages
+use Rattle.pg_dyn.specs.Decoding.{dec}
+use Rattle.pg_dyn.specs.Faults.{Code, FaultIn, NotUtf8, Wire}
+use Rattle.pg_dyn.specs.Laws.{FaultsAreReal}
+use Rattle.pg_dyn.specs.Message.{Message}
+use Rattle.pg_dyn.specs.Refusals.{MayRefuse}
+use Rattle.pg_fds.specs.declared.error.FdsError.{FdsError}
+use Rattle.pg_fds.specs.declared.error.FdsError.TheVariants as errors
+use Rattle.pg_fds.specs.Building.{written_shape}
+use Rattle.pg_fds.specs.Codes.{file_has_types}
+use Rattle.pg_fds.specs.Descriptor.{file_set}
+use Rattle.pg_fds.specs.Places.{declared_in}
+use Rattle.pg_fds.specs.Reads.{AreBehind, States, StatesFiles, file_name, kept_files, skips}
+use Rattle.pg_fds.specs.Refused.{MayRefuseSet, NoneIsStated, StatesNone}
+use Rattle.pg_fds.specs.Said.{text_at}
+use Rattle.pg_fds.specs.StatesFiles.{StatesFile, is_proto3, most_deep}
+use Rattle.pg_fds.proofs.Matched.{all_tested}
+use Rattle.pg_fds.proofs.StatedTypes.{file_typed}
+
+-- ---- the names of files
+
+-- a name that is among those in front is none of the later files'
+differs_behind : (names : List (List ℕ)) (name : List ℕ) (files : List File) → is_among names name ≡ true → AreBehind names files → list_all (differ name) (map file_name files) ≡ true
+differs_behind names name [] among behind = refl
+differs_behind names name (f ∷ fs) among behind =
+    and_both (differ name (file_name f)) (list_all (differ name) (map file_name fs)) (of (bytes_eq name (file_name f)) refl)
+    (differs_behind (names ++ file_name f ∷ []) name fs (among_push names (file_name f) name ∙ ap (λ b. b || bytes_eq name (file_name f)) among) behind.2)
+  where
+    of : (b : Bool) → bytes_eq name (file_name f) ≡ b → differ name (file_name f) ≡ true
+    of true same = absurd (false≢true (sym behind.1 ∙ (ap (is_among names) (sym ((bytes_eq-Decides name (file_name f)).0 same)) ∙ among)))
+    of false same = ap not same
+
+files_distinct : (names : List (List ℕ)) (files : List File) → AreBehind names files → are_distinct (map file_name files) ≡ true
+files_distinct names [] behind = refl
+files_distinct names (f ∷ fs) behind =
+    and_both (list_all (differ (file_name f)) (map file_name fs)) (are_distinct (map file_name fs))
+    (differs_behind (names ++ file_name f ∷ []) (file_name f) fs (itself names (file_name f)) behind.2) (files_distinct (names ++ file_name f ∷ []) fs behind.2)
+  where
+    or_true : (a b : Bool) → b ≡ true → (a || b) ≡ true
+    or_true true b h = refl
+    or_true false b h = h
+
+    itself : (ns : List (List ℕ)) (n : List ℕ) → is_among (ns ++ n ∷ []) n ≡ true
+    itself ns n = among_push ns n n ∙ or_true (is_among ns n) (bytes_eq n n) ((bytes_eq-Decides n n).1 refl)
+
+-- ---- all files
+
+-- what holds of each message that states a file of the schema holds of all files that aren't skipped
+files_tested : (test : Message → Bool) (skip : Bool) (kept : List Message) (parts : Parts) → StatesFiles skip kept parts
+    → ((m : Message) (f : File) → StatesFile (declared_in parts) skip m f → test m ≡ true) → list_all test kept ≡ true
+files_tested test skip kept parts states passes =
+    all_tested (λ m f. StatesFile (declared_in parts) skip m f) (text_at 1) file_name (λ m f stated. stated.name) test passes kept parts.files.items states.as_many
+    (files_distinct [] parts.files.items states.behind) states.files
+
+stated_proto3 : (skip : Bool) (kept : List Message) (parts : Parts) → StatesFiles skip kept parts → list_all is_proto3 kept ≡ true
+stated_proto3 skip kept parts states = files_tested is_proto3 skip kept parts states (λ m f stated. stated.syntax)
+
+stated_types : (skip : Bool) (kept : List Message) (parts : Parts) → IsSound parts → StatesFiles skip kept parts → list_all file_has_types kept ≡ true
+stated_types skip kept parts sound states = files_tested file_has_types skip kept parts states (file_typed parts sound.names skip)
+
+-- ---- refusals
+
+both_said : {A : Type 0} (o : Option A) (P Q : A → Type 0) → ((x : A) → P x → Q x → ⊥) → IsSomeAnd o P → IsSomeAnd o Q → ⊥
+both_said None P Q apart h k = h
+both_said (Some x) P Q apart h k = apart x h k
+
+unread : (real : FaultsAreReal) (bytes : List ℕ) (code : Code) (place : ℕ) → FaultIn written_shape (fields written_shape file_set) bytes code place → StatesNone bytes
+unread real bytes code place fault parts sound reads = subst (λ o. IsSomeAnd o (λ set. States set parts)) (real written_shape file_set bytes code place fault) reads
+
+bytes_unread : (real : FaultsAreReal) (bytes : List ℕ) (e : DynError) → MayRefuse written_shape file_set most_deep bytes e → NoneIsStated bytes (errors.Bytes e)
+bytes_unread real bytes messages.Memory fault = tt
+bytes_unread real bytes messages.NoSuchField fault = absurd fault
+bytes_unread real bytes messages.WrongKind fault = absurd fault
+bytes_unread real bytes messages.OutOfRange fault = absurd fault
+bytes_unread real bytes (messages.NotUtf8 None) fault = absurd fault
+bytes_unread real bytes (messages.NotUtf8 (Some at)) fault = unread real bytes NotUtf8 at fault
+bytes_unread real bytes messages.OneofTwice fault = absurd fault
+bytes_unread real bytes messages.DuplicateKey fault = absurd fault
+bytes_unread real bytes messages.TooLong fault = absurd fault
+bytes_unread real bytes (messages.TooDeep at) fault = tt
+bytes_unread real bytes (messages.Wire e) fault = unread real bytes (Wire (fault_of e)) (place_of e) fault
+
+pub none_stated : (real : FaultsAreReal) (bytes : List ℕ) (e : FdsError) → MayRefuseSet bytes e → NoneIsStated bytes e
+none_stated real bytes errors.Memory may = tt
+none_stated real bytes (errors.Bytes e) may = bytes_unread real bytes e may.1
+none_stated real bytes errors.NotProto3 may =
+    λ parts sound reads.
+    both_said (dec written_shape file_set bytes) (λ set. list_all is_proto3 (kept_files set) ≡ false) (λ set. States set parts)
+    (λ set other states. false≢true (sym other ∙ stated_proto3 (skips set) (kept_files set) parts states)) may reads
+none_stated real bytes errors.BadType may =
+    λ parts sound reads.
+    both_said (dec written_shape file_set bytes) (λ set. (list_all is_proto3 (kept_files set) ≡ true) × (list_all file_has_types (kept_files set) ≡ false)) (λ set. States set parts)
+    (λ set other states. false≢true (sym other.1 ∙ stated_types (skips set) (kept_files set) parts sound states)) may reads
+none_stated real bytes errors.BadReference may = tt
+none_stated real bytes (errors.Rule e) may = tt
