@@ -16,5 +16,15 @@ pub mod CodeLaws
 pub mod Matched
 pub mod StatedTypes
 pub mod StatedFiles
+pub mod Slots
+pub mod WrittenNames
+pub mod WrittenEnums
+pub mod WrittenFields
+pub mod WrittenEntries
+pub mod WrittenOneofs
+pub mod WrittenTypes
+pub mod WrittenFiles
+pub mod WrittenDepth
+pub mod WrittenSets
 pub mod ReadLaws
 pub mod ReadExamples

@@ -10,7 +10,7 @@ pub differ_apart : (a b : List ℕ) → differ a b ≡ true → a ≡ b → ⊥
 differ_apart a b h same = false≢true (sym (ap not ((bytes_eq-Decides a b).1 same)) ∙ h)
 
 -- it holds of one of the list
-abbrev Has : {A : Type 0} → (A → Type 0) → List A → Type 0
+abbrev pub Has : {A : Type 0} → (A → Type 0) → List A → Type 0
 Has P [] = ⊥
 Has P (x ∷ xs) = P x ⊎ Has P xs
 
@@ -19,16 +19,24 @@ has_at P [] k x h is here = absurd (omega (arith, h))
 has_at P (y ∷ ys) zero x h is here = inl (subst P (sym is) here)
 has_at P (y ∷ ys) (suc k) x h is here = inr (has_at P ys k x (omega (arith, h)) is here)
 
-has_any : {A : Type 0} (P : A → Type 0) (xs : List A) → Any P xs → Has P xs
+pub has_any : {A : Type 0} (P : A → Type 0) (xs : List A) → Any P xs → Has P xs
 has_any P xs any = has_at P xs any.0 any.1 any.2 any.3 any.4
 
+pub any_has : {A : Type 0} (P : A → Type 0) (xs : List A) → Has P xs → Any P xs
+any_has P [] has = absurd has
+any_has P (x ∷ xs) (inl here) = (0, x, omega arith, refl, here)
+any_has P (x ∷ xs) (inr later) =
+    let any = any_has P xs later in
+    let below : any.0 < length xs = any.2 in
+    (suc any.0, any.1, omega (arith, below), any.3, any.4)
+
 -- the list without that one
-abbrev rest : {A : Type 0} (P : A → Type 0) (xs : List A) → Has P xs → List A
+abbrev pub rest : {A : Type 0} (P : A → Type 0) (xs : List A) → Has P xs → List A
 rest P [] has = []
 rest P (x ∷ xs) (inl here) = xs
 rest P (x ∷ xs) (inr later) = x ∷ rest P xs later
 
-rest_length : {A : Type 0} (P : A → Type 0) (xs : List A) (has : Has P xs) → suc (length (rest P xs has)) ≡ length xs
+pub rest_length : {A : Type 0} (P : A → Type 0) (xs : List A) (has : Has P xs) → suc (length (rest P xs has)) ≡ length xs
 rest_length P [] has = absurd has
 rest_length P (x ∷ xs) (inl here) = refl
 rest_length P (x ∷ xs) (inr later) = ap suc (rest_length P xs later)
@@ -41,7 +49,7 @@ rest_tested P test passes (x ∷ xs) (inr later) others =
     (rest_tested P test passes xs later (and_right (test x) (list_all test (rest P xs later)) others))
 
 -- what another thing holds of is still there
-still : {A : Type 0} (P Q : A → Type 0) → ((x : A) → P x → Q x → ⊥) → (xs : List A) (has : Has P xs) → Has Q xs → Has Q (rest P xs has)
+pub still : {A : Type 0} (P Q : A → Type 0) → ((x : A) → P x → Q x → ⊥) → (xs : List A) (has : Has P xs) → Has Q xs → Has Q (rest P xs has)
 still P Q apart [] has other = absurd has
 still P Q apart (x ∷ xs) (inl here) (inl other) = absurd (apart x here other)
 still P Q apart (x ∷ xs) (inl here) (inr other) = other

@@ -9,7 +9,7 @@ use Rattle.std.specs.Str.Pattern.{HasCharAt}
 use Rattle.pg_schema.specs.Words.{before_first, parts_at_dots}
 use Rattle.pg_fds.specs.Messages.{last_of, own_name}
 
-abbrev HasNoDot : List ℕ → Type 0
+abbrev pub HasNoDot : List ℕ → Type 0
 HasNoDot xs = (i : ℕ) → i < length xs → get_or xs i 0 ≢ 46
 
 not_dot : (x : ℕ) → x ≢ 46 → (x == 46) ≡ false
@@ -40,6 +40,9 @@ pub own_of_dotted : (before own : List ℕ) → HasNoDot own → own ≡ own_nam
 own_of_dotted before own h =
     let (first, others, is) = parts_around before own in
     sym (ap last_of (is ∙ ap (λ ps. first ∷ (others ++ ps)) (one_part own h)) ∙ last_behind first others own)
+
+pub own_of_word : (name : List ℕ) → HasNoDot name → name ≡ own_name name
+own_of_word name h = sym (ap last_of (one_part name h))
 
 pub own_of_plain : (name : List ℕ) → NoCharPasses (λ d. d == 46) name → name ≡ own_name name
 own_of_plain name none = sym (ap last_of (one_part name (λ i below. NoCharPasses-char 46 name i none (omega arith) below)))

@@ -46,7 +46,7 @@ differs_behind names name (f ∷ fs) among behind =
     of true same = absurd (false≢true (sym behind.1 ∙ (ap (is_among names) (sym ((bytes_eq-Decides name (file_name f)).0 same)) ∙ among)))
     of false same = ap not same
 
-files_distinct : (names : List (List ℕ)) (files : List File) → AreBehind names files → are_distinct (map file_name files) ≡ true
+pub files_distinct : (names : List (List ℕ)) (files : List File) → AreBehind names files → are_distinct (map file_name files) ≡ true
 files_distinct names [] behind = refl
 files_distinct names (f ∷ fs) behind =
     and_both (list_all (differ (file_name f)) (map file_name fs)) (are_distinct (map file_name fs))

@@ -21,4 +21,5 @@ pub mod StatesFiles
 pub mod Codes
 pub mod Reads
 pub mod Refused
+pub mod Again
 pub mod ReadExamples

@@ -6,7 +6,9 @@ ghost use Rattle.pg_schema.specs.Parts.{shape_of};
 ghost use Rattle.pg_dyn.specs.declared.error.DynError.TheVariants as faults;
 ghost use Rattle.pg_dyn.specs.Encoding.{cap};
 ghost use Rattle.pg_fds.specs.declared.error.FdsError.TheVariants as errors;
+ghost use Rattle.pg_fds.specs.Again.{IsReadable};
 ghost use Rattle.pg_fds.specs.Building.{IsOf, items_of, written_shape};
+ghost use Rattle.pg_fds.specs.Reads.{fds_reads};
 ghost use Rattle.pg_fds.specs.Set.{fds};
 ghost use Rattle.pg_fds.specs.Written.{HasNoSet, set_items};
 ghost use Rattle.pg_fds.specs.Writable.{are_counted, has_counted_imports, has_counted_places};
@@ -16,7 +18,7 @@ use crate::descriptor::descriptor_schema;
 use crate::error::FdsError;
 use crate::files::files;
 use crate::places::{FILE, SET};
-use pg_dyn::{DynError, Message, encode};
+use pg_dyn::{DynError, Message, encode, reads_again};
 use pg_schema::{File, MessageType, Parts, Schema};
 use std::alloc::{AllocError, Global};
 
@@ -71,7 +73,8 @@ fn set(alloc: Global, table: &Schema, source: &Schema) -> Result<Message, AllocE
 
 /// The bytes of the schema's descriptor set: a `FileDescriptorSet` of its files, in their order
 /// (descriptor.proto; docs/MODEL.md, "Descriptor sets"). They are those of the definition, and at most
-/// 2,147,483,647.
+/// 2,147,483,647. Where each file stands behind those that it imports, and messages are nested at most 100
+/// deep, they state the schema, as `read` asks it of a set.
 ///
 /// The errors are `Memory`, and `Bytes` of `TooLong`: only where the set would have more than
 /// 2,147,483,647 bytes, or a message type more oneofs, real and synthetic, or a file more imports than
@@ -79,6 +82,7 @@ fn set(alloc: Global, table: &Schema, source: &Schema) -> Result<Message, AllocE
 pub fn write(alloc: Global, schema: &Schema) -> Result<Vec<u8>, FdsError>
     ensures ok { IfOk result (λ bytes. fds schema.now bytes.items) }
     ensures short { IfOk result (λ bytes. length bytes.items ≤ cap) }
+    ensures stated { IfOk result (λ bytes. IsReadable schema.now → fds_reads bytes.items schema.now) }
     ensures err { IfErr result (λ e. (e ≡ errors.Memory) ⊎ ((e ≡ errors.Bytes faults.TooLong) × HasNoSet schema.now)) }
 {
     let parts = schema.parts();
@@ -86,6 +90,9 @@ pub fn write(alloc: Global, schema: &Schema) -> Result<Vec<u8>, FdsError>
         return Err(FdsError::Bytes(DynError::TooLong));
     }
     let table = descriptor_schema(alloc)?;
+    // What holds of every schema, and of what is written by it.
+    table.parts();
+    reads_again();
     let message = set(alloc, &table, schema)?;
     match encode(alloc, &table, &message) {
         Ok(bytes) => Ok(bytes),
