@@ -64,6 +64,7 @@ seen_whole old new pair v kept = of (dec new pair.new (enc old pair.old v)) refl
   where
     seen : (w : Message) → dec new pair.new (enc old pair.old v) ≡ Some w → same numbers old new pair.old pair.new v w ≡ true → NewSees old new pair v
     seen w is shows = record { read = w; reads = is; same = shows; gives_back = given_back old new pair v w shows }
+
     of : (o : Option Message) → dec new pair.new (enc old pair.old v) ≡ o → NewSees old new pair v
     of (Some w) is = seen w is (rw is at kept)
     of None is = absurd (let no = rw is at kept in cc)
