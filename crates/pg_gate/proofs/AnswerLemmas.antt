@@ -1,12 +1,12 @@
 -- What a search answers, as the gate's answer; and this as the answer of two sides.
-use Rattle.std.proofs.Common.{◌≡◌, ◌∙◌, ℕ, ◌≤◌, List, length, Bool, true, false, ◌&&◌, Option, Some, None, refl, ap, sym, subst, option_and_then, is_some}
+use Rattle.std.proofs.Common.{◌≡◌, ◌∙◌, ℕ, List, length, Bool, true, false, ◌&&◌, Option, Some, None, refl, ap, sym, subst, option_and_then, is_some}
 use Rattle.std.proofs.lemmas.Slice.Eq.{bytes_eq-Decides}
 use Rattle.clap.specs.Words.{Text}
 use Rattle.pg_schema.specs.declared.parts.Parts.{Parts}
 use Rattle.pg_schema.specs.Parts.{shape_of}
 use Rattle.pg_schema.specs.Shape.{IsShape, Shape, fields}
-use Rattle.pg_dyn.specs.Breaking.{Breaks, Compatible, Least, is_kept}
-use Rattle.pg_dyn.specs.Comparison.{numbers, records_outside, same, same_message, unshared_bytes}
+use Rattle.pg_dyn.specs.Breaking.{Breaks, Compatible, is_kept}
+use Rattle.pg_dyn.specs.Comparison.{numbers, records_outside, same, unshared_bytes}
 use Rattle.pg_dyn.specs.Decoding.{dec}
 use Rattle.pg_dyn.specs.Encoding.{enc}
 use Rattle.pg_dyn.specs.Kept.{Kept, message_of}
