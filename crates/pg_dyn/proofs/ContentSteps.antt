@@ -43,6 +43,7 @@ use Rattle.pg_dyn.proofs.Fields.{field_of}
 use Rattle.pg_dyn.proofs.Holding.{key_seen}
 use Rattle.pg_dyn.proofs.ItemSteps.{child_type}
 use Rattle.pg_dyn.proofs.Joining.{is_some_found}
+use Rattle.pg_dyn.proofs.Lists.{map_map}
 
 -- The record of a field.
 
@@ -240,10 +241,6 @@ singular_on shape is_shape f r held v is_r s presence taken held_fits read fits 
 
 abbrev list_parts : ℕ → List Value → List (Part Item)
 list_parts n vs = map (λ v. part_at n (item_of (item_seen true v))) vs
-
-map_map : {A B C : Type 0} (g : B → C) (h : A → B) (xs : List A) → map g (map h xs) ≡ map (λ x. g (h x)) xs
-map_map g h [] = refl
-map_map g h (x ∷ xs) = ap (λ ys. g (h x) ∷ ys) (map_map g h xs)
 
 many_parts : (n : ℕ) (vs : List Value) → map part_of (map (λ value. record { number = n; key = None; item = item_seen true value }) vs) ≡ list_parts n vs
 many_parts n vs = map_map part_of (λ value. record { number = n; key = None; item = item_seen true value }) vs

@@ -1,7 +1,7 @@
 -- A decoder goes over the records of bytes.
 use Rattle.std.proofs.Common.{◌≡◌, ℕ, ◌+◌, ◌≤◌, List, [], ◌∷◌, length, Some, Result, Ok, Err, refl, ap, ap₂, sym, ◌∙◌, arith, drop, drop_at}
 use Rattle.pg_schema.specs.declared.field.TypeId.{TypeId}
-use Rattle.pg_schema.specs.Shape.{Shape, FieldShape, IsShape, fields}
+use Rattle.pg_schema.specs.Shape.{Shape, IsShape, fields}
 use Rattle.pg_wire.specs.declared.error.WireError.{WireError}
 use Rattle.pg_wire.specs.Reading.{Fault, Front, ◌>>=◌}
 use Rattle.pg_wire.specs.Errors.{error_at, fault_of, place_of, placed}
@@ -12,10 +12,9 @@ use Rattle.pg_wire.proofs.Results.{fault_of-error_at, results-end, results-ok, r
 use Rattle.pg_dyn.specs.Message.{Message}
 use Rattle.pg_dyn.specs.Message as model
 use Rattle.pg_dyn.specs.Decoding.{dec}
-use Rattle.pg_dyn.specs.Writing.{records_in}
 use Rattle.pg_dyn.specs.Encoding.{enc}
 use Rattle.pg_dyn.proofs.Again.{reads_again}
-use Rattle.pg_dyn.proofs.Splitting.{field_records_none}
+use Rattle.pg_dyn.proofs.Splitting.{records_in_none}
 
 cons_not_nil : {A : Type 0} (x : A) (xs : List A) → ◌≡◌ {A = List A} [] (x ∷ xs) → ⊥
 cons_not_nil x xs e = cc
@@ -92,13 +91,9 @@ end_step at (b ∷ bytes) h = of (record_at (b ∷ bytes)) refl
     of (Ok x) k = absurd (cons_not_nil _ _ (sym h ∙ (results-ok at (b ∷ bytes) x.0 (found_of (b ∷ bytes) (Ok x) k)).then))
     of (Err f) k = absurd (cons_not_nil _ [] (sym h ∙ results-err at (b ∷ bytes) (error_at f 0) (omega arith) (found_of (b ∷ bytes) (Err f) k)))
 
-nothing : (fs : List FieldShape) → records_in fs [] ≡ []
-nothing [] = refl
-nothing (f ∷ fs) = rw (field_records_none f, nothing fs)
-
 nothing_written : (shape : Shape) (type : TypeId) → enc shape type (model.ends []) ≡ []
 unfolding enc
-nothing_written shape type = rw (nothing (fields shape type))
+nothing_written shape type = rw (records_in_none (fields shape type))
 
 -- no bytes are read as the message without content
 pub dec_nothing : (shape : Shape) (type : TypeId) → IsShape shape → dec shape type [] ≡ Some (model.ends [])

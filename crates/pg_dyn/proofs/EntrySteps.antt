@@ -52,7 +52,7 @@ use Rattle.pg_dyn.proofs.Joining.{list_all-append}
 use Rattle.pg_dyn.proofs.Holding.{key_seen}
 use Rattle.pg_dyn.proofs.ContentSteps.{child_read, own_leaves, item_readable}
 use Rattle.pg_dyn.proofs.ReadsOn.{singular_on, message_on}
-use Rattle.pg_dyn.proofs.Lists.{each_weaker, filter-append'}
+use Rattle.pg_dyn.proofs.Lists.{each_weaker, filter-append', map_map}
 use Rattle.pg_dyn.proofs.FitsSteps.{key_trans}
 use Rattle.pg_dyn.proofs.EntryPlaces.{less_from_above}
 
@@ -324,10 +324,6 @@ put_parts n k v (e ∷ es) = of (key_cmp (leaf_of k) (leaf_of e.0)) refl (put_pa
     of Equal is rest = rw is
     of Greater is rest = rw is (ap (λ ps. record { number = n; key = Some (leaf_of e.0); item = item_of (item_seen false e.1) } ∷ ps) rest)
 
-map_map : {A B C : Type 0} (g : B → C) (h : A → B) (xs : List A) → map g (map h xs) ≡ map (λ x. g (h x)) xs
-map_map g h [] = refl
-map_map g h (x ∷ xs) = ap (λ ys. g (h x) ∷ ys) (map_map g h xs)
-
 seen_parts : (n : ℕ) (es : List (Value × Value)) → map part_of (map (λ (e : Value × Value). record { number = n; key = Some (leaf_of e.0); item = item_seen false e.1 }) es) ≡ map_parts n es
 seen_parts n es = map_map part_of (λ (e : Value × Value). record { number = n; key = Some (leaf_of e.0); item = item_seen false e.1 }) es
 
@@ -446,7 +442,7 @@ rises_with s k v (e ∷ es) one each rise = of (key_cmp (leaf_of k) (leaf_of e.0
     of Greater is rest =
         rw is (each_with (λ (x : Value × Value). key_cmp (leaf_of e.0) (leaf_of x.0) ≡ Less) k v es (less_from_above (leaf_of k) (leaf_of e.0) is) rise.0, rest)
 
-with_some : (k v : Value) (es : List (Value × Value)) → with_entry k v es ≢ []
+pub with_some : (k v : Value) (es : List (Value × Value)) → with_entry k v es ≢ []
 with_some k v [] h = clash (k, v) [] h
   where
     clash : (x : Value × Value) (xs : List (Value × Value)) → ◌≡◌ {A = List (Value × Value)} (x ∷ xs) [] → ⊥

@@ -26,7 +26,7 @@ use Rattle.pg_dyn.specs.ScalarItems.{IsItemOf}
 use Rattle.pg_dyn.specs.ContentFits.{ItemFits, KeysRise, ContentFits, HoldsContent, AreApart, NoneRivals, FitsByContents}
 use Rattle.pg_dyn.proofs.Belonging.{child_type_is, fields-IsType}
 use Rattle.pg_dyn.proofs.KeptParts.{unknown_of-items, unknown_of-entries, fields_keep}
-use Rattle.pg_dyn.proofs.Lists.{each_weaker, each-append, each_at}
+use Rattle.pg_dyn.proofs.Lists.{each_weaker, each-append, each_at, each_before, each_after}
 use Rattle.pg_dyn.proofs.ItemLeaves.{in_range, item_of_range, ZeroFits, zero_of_child, leaf_to, leaf_back, child_of}
 use Rattle.pg_dyn.proofs.Splitting.{found_number}
 
@@ -53,14 +53,6 @@ places-items_onto n (v ∷ vs) later = places-value_onto n None true v (items_on
 places-entries_onto : (n : ℕ) (es : List (Value × Value)) (later : Kept) → places (message_of (entries_onto n es later)) ≡ map (key_place n) es ++ places (message_of later)
 places-entries_onto n [] later = refl
 places-entries_onto n (e ∷ es) later = places-value_onto n (Some (leaf_of e.0)) false e.1 (entries_onto n es later) ∙ ap (λ ps. key_place n e ∷ ps) (places-entries_onto n es later)
-
-each_after : {A : Type 0} (P : A → Type 0) (xs ys : List A) → AllByRecursion P (xs ++ ys) → AllByRecursion P ys
-each_after P [] ys h = h
-each_after P (x ∷ xs) ys h = each_after P xs ys h.1
-
-each_before : {A : Type 0} (P : A → Type 0) (xs ys : List A) → AllByRecursion P (xs ++ ys) → AllByRecursion P xs
-each_before P [] ys h = tt
-each_before P (x ∷ xs) ys h = (h.0, each_before P xs ys h.1)
 
 pub own_rival : (f : FieldShape) → is_rival f f ≡ false
 own_rival f = ap (λ b. same_oneof f.oneof f.oneof && not b) (eq-eqb f.number f.number refl) ∙ and-false (same_oneof f.oneof f.oneof)

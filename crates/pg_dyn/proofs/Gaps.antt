@@ -3,8 +3,6 @@ use Rattle.std.proofs.Common.{◌≡◌, ℕ, ◌<◌, List, [], ◌∷◌, ◌+
 use Rattle.std.specs.List.{AllByRecursion}
 use Rattle.pg_dyn.specs.declared.message.Content.{Content}
 use Rattle.pg_dyn.specs.declared.message.Content.TheVariants as contents
-use Rattle.pg_dyn.specs.declared.draft.Draft.TheInside.{Inside}
-use Rattle.pg_dyn.specs.Drafts.{IsDraft}
 use Rattle.pg_dyn.specs.FieldList.{IsGap, fields_above, fields_below, filled_fields, is_filled, put_field, remove_field}
 use Rattle.pg_dyn.specs.Held.{placeholder}
 use Rattle.pg_dyn.specs.Seen.{HasKeys, IsFilled, Rises}
@@ -99,17 +97,3 @@ filled_place n c ms is some =
       omega (arith, ap length there, length-append low ((n, c) ∷ high)),
       λ d. ap (λ xs. (get_or xs (length low) d).0) there ∙ ap (λ (f : ℕ × Content). f.0) (middle low high (n, c) d),
     )
-
--- What a message that is being read holds.
-
-abbrev pub held : Inside → List (ℕ × Content)
-held a = filled_fields a.fields.items
-
-pub held_rises : (a : Inside) → IsDraft a → Rises (filled_fields a.fields.items)
-held_rises a h = filled_rises a.fields.items h.rises
-
-pub held_filled : (a : Inside) → AllByRecursion (λ (f : ℕ × Content). IsFilled f.1) (filled_fields a.fields.items)
-held_filled a = all_filled a.fields.items
-
-pub held_keys : (a : Inside) → IsDraft a → AllByRecursion (λ (f : ℕ × Content). HasKeys f.1) (filled_fields a.fields.items)
-held_keys a h = each_filled (λ (f : ℕ × Content). HasKeys f.1) a.fields.items h.keys

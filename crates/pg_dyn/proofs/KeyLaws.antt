@@ -1,5 +1,5 @@
 -- Entries in the order of their keys.
-use Rattle.std.proofs.Common.{Bor, ◌≡◌, ℕ, ℤ, zero, suc, ◌<◌, ◌≤◌, ◌+◌, List, [], ◌∷◌, length, map, filter, get_or, Bool, true, false, true≢false, cond, ◌⊎◌, inl, inr, ⊎_elim, refl, ap, ap₂, sym, subst, ◌∙◌, arith, add-one, eqb-true, eq-eqb}
+use Rattle.std.proofs.Common.{Bor, ◌≡◌, ℕ, ℤ, zero, suc, ◌<◌, ◌≤◌, ◌+◌, List, [], ◌∷◌, length, map, filter, get_or, Bool, true, false, true≢false, cond, ◌⊎◌, inl, inr, ⊎_elim, refl, ap, ap₂, sym, subst, ◌∙◌, arith, add-one}
 use Rattle.std.specs.Prelude.{⊤, ◌<ℤ◌, sum_by}
 use Rattle.std.specs.List.{AllByRecursion}
 use Rattle.std.specs.List.Sorted.{IsPermutation, IsSortedBy}
@@ -8,13 +8,11 @@ use Rattle.std.specs.Cmp.Lexicographic.{slice_cmp}
 use Rattle.std.specs.Ordering.{is_lt, int_cmp, nat_cmp, ordering_reverse, ordering_then}
 use Rattle.std.specs.declared.cmp.Ordering.{Ordering}
 use Rattle.std.specs.declared.cmp.Ordering.TheVariants.{Less, Equal, Greater}
-use Rattle.std.proofs.lemmas.Bool.Decides.{Decides-int_eq}
 use Rattle.std.proofs.lemmas.Cmp.{by_ranked, int_cmp_total, int_ranked, nat_list_cmp_total, on_total, ranked, then_total}
 use Rattle.std.proofs.lemmas.List.{get_or-map, length-map}
 use Rattle.std.proofs.lemmas.List.MinMax.{ranks_by}
 use Rattle.std.proofs.lemmas.List.Sums.{length-filter}
 use Rattle.std.proofs.lemmas.List.Sorted.{All-permutation, sum_by-IsPermutation}
-use Rattle.std.proofs.lemmas.Slice.Eq.{bytes_eq-Decides}
 use Rattle.pg_dyn.specs.declared.message.Value.{Value}
 use Rattle.pg_dyn.specs.declared.message.Value.TheVariants as values
 use Rattle.pg_dyn.specs.Content.{leaf_bytes}
@@ -24,6 +22,7 @@ use Rattle.pg_dyn.specs.KeyOrder.{AreAlike, IsNumber, IsText, number_in, rank_cm
 use Rattle.pg_dyn.specs.Message.{Leaf, Int, F32, F64, Bytes, key_cmp, leaf_eq}
 use Rattle.pg_dyn.specs.Seen.{IsKey, leaf_of}
 use Rattle.pg_dyn.proofs.FitsSteps.{IsBelow, rises_from, same_default}
+use Rattle.pg_dyn.proofs.Leaves.{same_leaf, leaf_eq_self}
 
 -- The order is one.
 
@@ -65,30 +64,6 @@ key_less_self (Int n) h = less_self int_cmp int_cmp_total n h
 key_less_self (F32 b) h = absurd (cc)
 key_less_self (F64 b) h = absurd (cc)
 key_less_self (Bytes b) h = less_self (slice_cmp nat_cmp) nat_list_cmp_total b h
-
-pub same_leaf : (k l : Leaf) → leaf_eq k l ≡ true → k ≡ l
-same_leaf (Int m) (Int n) h = ap Int ((Decides-int_eq m n).0 h)
-same_leaf (Int m) (F32 b) h = absurd (cc)
-same_leaf (Int m) (F64 b) h = absurd (cc)
-same_leaf (Int m) (Bytes b) h = absurd (cc)
-same_leaf (F32 a) (Int n) h = absurd (cc)
-same_leaf (F32 a) (F32 b) h = ap F32 (eqb-true a b h)
-same_leaf (F32 a) (F64 b) h = absurd (cc)
-same_leaf (F32 a) (Bytes b) h = absurd (cc)
-same_leaf (F64 a) (Int n) h = absurd (cc)
-same_leaf (F64 a) (F32 b) h = absurd (cc)
-same_leaf (F64 a) (F64 b) h = ap F64 (eqb-true a b h)
-same_leaf (F64 a) (Bytes b) h = absurd (cc)
-same_leaf (Bytes a) (Int n) h = absurd (cc)
-same_leaf (Bytes a) (F32 b) h = absurd (cc)
-same_leaf (Bytes a) (F64 b) h = absurd (cc)
-same_leaf (Bytes a) (Bytes b) h = ap Bytes ((bytes_eq-Decides a b).0 h)
-
-pub leaf_eq_self : (k : Leaf) → leaf_eq k k ≡ true
-leaf_eq_self (Int n) = (Decides-int_eq n n).1 refl
-leaf_eq_self (F32 b) = eq-eqb b b refl
-leaf_eq_self (F64 b) = eq-eqb b b refl
-leaf_eq_self (Bytes b) = (bytes_eq-Decides b b).1 refl
 
 equal_numbers : (m n : ℤ) → int_cmp m n ≡ Equal → m ≡ n
 equal_numbers m n e = by_ranked (m <ℤ n) (m ≡ n) (n <ℤ m) (int_cmp m n) (int_ranked m n (int_cmp m n) refl) (λ o h. absurd (cc)) (λ o h. h) (λ o h. absurd (cc))

@@ -68,7 +68,7 @@ module _ (f : FieldShape) where
   one_more : (gs : List FieldShape) (g : FieldShape) (n : ℕ) → is_rival_number (gs ++ g ∷ []) f n ≡ (is_rival_number gs f n || (is_rival f g && nat_eq g.number n))
   one_more gs g n = list_any-append (λ (h : FieldShape). is_rival f h && nat_eq h.number n) gs (g ∷ []) ∙ ap (λ b. is_rival_number gs f n || b) (or-false (is_rival f g && nat_eq g.number n))
 
-  rival_out : (gs : List FieldShape) (g : FieldShape) (cs : List (ℕ × Content)) → is_rival f g ≡ true → Rises cs → remove_field g.number (without gs cs) ≡ without (gs ++ g ∷ []) cs
+  pub rival_out : (gs : List FieldShape) (g : FieldShape) (cs : List (ℕ × Content)) → is_rival f g ≡ true → Rises cs → remove_field g.number (without gs cs) ≡ without (gs ++ g ∷ []) cs
   rival_out gs g cs rival rises =
       removed_is g.number (without gs cs) (rises-filter (λ (c : ℕ × Content). not (is_rival_number gs f c.0)) cs rises)
       ∙ filter-both (λ (c : ℕ × Content). not (is_rival_number gs f c.0)) (λ (c : ℕ × Content). not (nat_eq g.number c.0)) cs

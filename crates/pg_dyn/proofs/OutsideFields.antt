@@ -6,7 +6,7 @@ use Rattle.pg_schema.specs.Shape.{Shape, FieldShape, IsShape, Rising, fields, fi
 use Rattle.pg_wire.specs.Records.{WireRecord}
 use Rattle.pg_dyn.specs.declared.message.Content.{Content}
 use Rattle.pg_dyn.specs.Message.{is_of}
-use Rattle.pg_dyn.specs.Kept.{ends, message_of}
+use Rattle.pg_dyn.specs.Kept.{Kept, ends, message_of, type_of}
 use Rattle.pg_dyn.specs.Seen.{fields_onto, Rises}
 use Rattle.pg_dyn.specs.Writing.{field_records, records_in, bytes_of}
 use Rattle.pg_dyn.specs.Encoding.{encoded_parts}
@@ -15,26 +15,24 @@ use Rattle.pg_dyn.specs.ContentFits.{HoldsContent}
 use Rattle.pg_dyn.specs.EncodedFields.{written_parts, records_by, content_records, content_bytes}
 use Rattle.pg_dyn.specs.Written.{field_written}
 use Rattle.pg_dyn.specs.Outside.{outside_written}
-use Rattle.pg_dyn.proofs.Lists.{each_weaker, each_of_all, each-filter, filter-append', flat_map_same}
+use Rattle.pg_dyn.proofs.Lists.{each_weaker, each_of_all, each-filter, filter-append', flat_map_same, each_filtered}
+use Rattle.pg_dyn.proofs.KeptParts.{fields_keep}
 use Rattle.pg_dyn.proofs.Splitting.{found_number}
 use Rattle.pg_dyn.proofs.Belonging.{fields-IsType}
 use Rattle.pg_dyn.proofs.EncodedFields.{all_parts, by_fields, fields_shown, other_parts, merged}
 use Rattle.pg_dyn.proofs.EncodeSteps.{flat_bytes, content_is}
 
-kept_all : {A : Type 0} (P : A → Type 0) (test : A → Bool) (xs : List A) → AllByRecursion P xs → AllByRecursion P (filter test xs)
-kept_all P test xs h = each_weaker (λ x. P x × (test x ≡ true)) P (λ x k. k.0) (filter test xs) (each-filter P test xs h)
-
 rising_kept : (test : FieldShape → Bool) (fs : List FieldShape) → Rising fs → Rising (filter test fs)
 rising_kept test [] h = tt
 rising_kept test (f ∷ fs) h =
     elim (test f) as (λ b. test f ≡ b → Rising (cond b (f ∷ filter test fs) (filter test fs)))
-    [ true ↦ λ e. (kept_all (λ g. f.number < g.number) test fs h.0, rising_kept test fs h.1) | false ↦ λ e. rising_kept test fs h.1 ] refl
+    [ true ↦ λ e. (each_filtered (λ g. f.number < g.number) test fs h.0, rising_kept test fs h.1) | false ↦ λ e. rising_kept test fs h.1 ] refl
 
 rises_kept : (test : ℕ × Content → Bool) (ms : List (ℕ × Content)) → Rises ms → Rises (filter test ms)
 rises_kept test [] h = tt
 rises_kept test (m ∷ ms) h =
     elim (test m) as (λ b. test m ≡ b → Rises (cond b (m ∷ filter test ms) (filter test ms)))
-    [ true ↦ λ e. (kept_all (λ (x : ℕ × Content). m.0 < x.0) test ms h.0, rises_kept test ms h.1) | false ↦ λ e. rises_kept test ms h.1 ] refl
+    [ true ↦ λ e. (each_filtered (λ (x : ℕ × Content). m.0 < x.0) test ms h.0, rises_kept test ms h.1) | false ↦ λ e. rises_kept test ms h.1 ] refl
 
 -- a field that passes is found among those that do
 found_kept : (test : FieldShape → Bool) (fs : List FieldShape) (n : ℕ) (g : FieldShape) → field_at fs n ≡ Some g → test g ≡ true → field_at (filter test fs) n ≡ Some g
@@ -116,3 +114,10 @@ module _ (shape : Shape) (type : TypeId) (gs : List FieldShape) where
       sym (ap (λ ps. bytes_of (records_in lone ps)) parts_are ∙ ap bytes_of (out_records lone ms lone_out) ∙ ap bytes_of (by ∙ looked) ∙ flat_bytes shape type (filter is_out ms)
       ∙ flat_map_same (content_bytes shape type) (field_written shape type) (filter is_out ms) (each_weaker Lone (λ (m : ℕ × Content). content_bytes shape type m ≡ field_written shape type m) (λ m l. content_is shape type is_shape m l.held) (filter is_out ms) alone)
       ∙ only_out ms)
+
+-- the same of a message that is seen as these contents and unknown records
+pub seen_outside : (shape : Shape) (type : TypeId) (gs : List FieldShape) → IsShape shape → (ms : List (ℕ × Content)) (us : List WireRecord) (m : Kept) → fields_onto ms (ends type us) ≡ m → Rises ms → AllByRecursion (HoldsContent shape type) ms → flat_map (outside_written shape type gs) ms ≡ unshared_bytes shape (type_of m) gs (message_of m)
+seen_outside shape type gs is_shape ms us m seen rises hold =
+    outside_is shape type gs is_shape ms us rises hold
+    ∙ ap (λ t. unshared_bytes shape t gs (message_of (fields_onto ms (ends type us)))) (sym (fields_keep ms (ends type us)).1)
+    ∙ ap (λ (k : Kept). unshared_bytes shape (type_of k) gs (message_of k)) seen

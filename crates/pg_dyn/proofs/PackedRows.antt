@@ -1,11 +1,8 @@
 -- Packed lists, element by element.
-use Rattle.std.proofs.Common.{◌≡◌, ℕ, ℤ, zero, suc, ◌+◌, ◌-◌, ◌<◌, ◌≤◌, List, [], ◌∷◌, ◌++◌, length, map, take, drop, Some, option_and_then, Result, Ok, Err, IfOk, IfErr, true, refl, ap, ap₂, sym, ◌∙◌, arith, lt-ltb, le-ltb, length-append, length-drop, drop-drop, drop_at, append_assoc}
+use Rattle.std.proofs.Common.{◌≡◌, ℕ, zero, suc, ◌+◌, ◌-◌, ◌<◌, ◌≤◌, List, [], ◌∷◌, ◌++◌, length, map, take, drop, Some, option_and_then, Result, Ok, Err, IfOk, refl, ap, ap₂, sym, ◌∙◌, arith, lt-ltb, le-ltb, length-append, length-drop, drop-drop, drop_at, append_assoc}
 use Rattle.std.specs.List.{AllByRecursion}
 use Rattle.std.proofs.lemmas.List.{append-nil, map-append, drop_all, take_at, take_all}
 use Rattle.pg_schema.specs.declared.field.Scalar.{Scalar}
-use Rattle.pg_schema.specs.declared.field.Scalar.TheVariants as scalars
-use Rattle.pg_schema.specs.declared.field.Element.TheVariants as elements
-use Rattle.pg_schema.specs.Shape.{is_packable}
 use Rattle.pg_wire.specs.declared.error.WireError.{WireError}
 use Rattle.pg_wire.specs.declared.record.WireType.{WireType}
 use Rattle.pg_wire.specs.declared.record.WireType.TheVariants.{Varint, I64, Len, I32}
@@ -17,13 +14,11 @@ use Rattle.pg_wire.specs.Varint.{varint_at, varint_value}
 use Rattle.pg_wire.proofs.RecordLaws.{exactly_takes}
 use Rattle.pg_wire.proofs.Varints.{varint_at_takes, length-IsVarint}
 use Rattle.pg_dyn.specs.declared.message.Value.{Value}
-use Rattle.pg_dyn.specs.declared.message.Value.TheVariants as values
-use Rattle.pg_dyn.specs.Message.{Int}
-use Rattle.pg_dyn.specs.WordOf.{IsInteger, IsIntegerOf, WordFits, number_by}
-use Rattle.pg_dyn.specs.Coding.{Text, form_wire, leaf_in, element_at, scalar_form, word_in}
+use Rattle.pg_dyn.specs.WordOf.{HasBits}
+use Rattle.pg_dyn.specs.Coding.{form_wire, leaf_in, element_at, scalar_form, word_in}
 use Rattle.pg_dyn.specs.Content.{packed_leaves, option_from}
 use Rattle.pg_dyn.specs.Optional.{all_some}
-use Rattle.pg_dyn.specs.ScalarItems.{HasShape, IsItemOf}
+use Rattle.pg_dyn.specs.ScalarItems.{IsItemOf}
 use Rattle.pg_dyn.specs.Seen.{leaf_of}
 use Rattle.pg_dyn.proofs.Lists.{each-append}
 use Rattle.pg_dyn.proofs.ReadsOn.{all_some-append}
@@ -167,40 +162,13 @@ module _ (s : Scalar) (body : List ℕ) (old : List Value) where
           row_err = λ f h. a.row_err f (step ∙ ap (λ r. r >>= λ others. Ok (take n (drop start body) ∷ others)) h);
         }
 
--- a body of the shape of the element's wire type
-pub one_shape : (wire : WireType) (bytes : List ℕ) (n : ℕ) → IsOne wire bytes n → HasShape wire (take n bytes)
-one_shape Varint bytes n h = (varint_at_takes bytes (take n bytes) (drop n bytes) h.0).0
-one_shape I64 bytes n h = (exactly_takes 8 bytes (take n bytes) (drop n bytes) h.0).0
-one_shape I32 bytes n h = (exactly_takes 4 bytes (take n bytes) (drop n bytes) h.0).0
-one_shape Len bytes n h = tt
-
--- no text is packed
-pub no_packed_text : (s : Scalar) → is_packable (elements.Scalar s) ≡ true → scalar_form s ≡ Text → ⊥
-no_packed_text scalars.String h e = absurd (cc)
-no_packed_text scalars.Bytes h e = absurd (cc)
-no_packed_text scalars.Double h e = cc
-no_packed_text scalars.Float h e = cc
-no_packed_text scalars.Int32 h e = cc
-no_packed_text scalars.Int64 h e = cc
-no_packed_text scalars.Uint32 h e = cc
-no_packed_text scalars.Uint64 h e = cc
-no_packed_text scalars.Sint32 h e = cc
-no_packed_text scalars.Sint64 h e = cc
-no_packed_text scalars.Fixed32 h e = cc
-no_packed_text scalars.Fixed64 h e = cc
-no_packed_text scalars.Sfixed32 h e = cc
-no_packed_text scalars.Sfixed64 h e = cc
-no_packed_text scalars.Bool h e = cc
-
 -- a length that is there, or isn't
-pub if_there : (wire : WireType) (len : ℕ) (bytes : List ℕ) (r : Result ℕ WireError) → 1 ≤ len → element_at wire bytes ≡ exactly len bytes → IfOk r (λ n. (n ≡ len) × (len ≤ length bytes)) → IfOk r (IsOne wire bytes)
-if_there wire len bytes (Ok n) some is h = (is ∙ exact_ok len bytes h.1 ∙ ap (λ k. Ok (take k bytes, drop k bytes)) (sym h.0), (let e = h.0 in omega arith), (let e = h.0 in let k = h.1 in omega arith))
-if_there wire len bytes (Err e) some is h = tt
+pub if_there : (wire : WireType) (len : ℕ) (bytes : List ℕ) → 1 ≤ len → element_at wire bytes ≡ exactly len bytes → len ≤ length bytes → IsOne wire bytes len
+if_there wire len bytes some is h = (is ∙ exact_ok len bytes h, some, h)
 
-pub if_short : (wire : WireType) (len : ℕ) (bytes : List ℕ) (r : Result ℕ WireError) → element_at wire bytes ≡ exactly len bytes → IfErr r (λ e. (e ≡ error_at Truncated 0) × (length bytes < len))
-    → IfErr r (λ e. (fault : Fault) × (element_at wire bytes ≡ Err fault) × (e ≡ error_at fault 0))
-if_short wire len bytes (Ok n) is h = tt
-if_short wire len bytes (Err e) is h = (Truncated, is ∙ exact_err len bytes h.1, h.0)
+pub if_short : (wire : WireType) (len : ℕ) (bytes : List ℕ) → element_at wire bytes ≡ exactly len bytes → length bytes < len
+    → (fault : Fault) × (element_at wire bytes ≡ Err fault) × (error_at Truncated 0 ≡ error_at fault 0)
+if_short wire len bytes is h = (Truncated, is ∙ exact_err len bytes h, refl)
 
 -- an error of what stands first, that many bytes further
 pub error_after : (f : Fault) (e : WireError) (at : ℕ) → e ≡ error_at f 0 → error_at (fault_of e) (place_of e + at) ≡ error_at f at
@@ -212,61 +180,7 @@ error_after f e at is =
 pub to_end : (body : List ℕ) (start : ℕ) → take (length body - start) (drop start body) ≡ drop start body
 to_end body start = take_all (length body - start) (drop start body) (omega (arith, length-drop start body))
 
--- Packed varints.
-
--- the number that the word of a varint is
-pub varint_leaf : (s : Scalar) (body : List ℕ) (word : ℕ) → form_wire (scalar_form s) ≡ Varint → word_in Varint body ≡ word → leaf_in (scalar_form s) body ≡ Some (Int (number_by (scalar_form s) word))
-varint_leaf scalars.Int32 body word is read = ap (λ n. Some (Int (number_by (scalar_form scalars.Int32) n))) read
-varint_leaf scalars.Int64 body word is read = ap (λ n. Some (Int (number_by (scalar_form scalars.Int64) n))) read
-varint_leaf scalars.Uint32 body word is read = ap (λ n. Some (Int (number_by (scalar_form scalars.Uint32) n))) read
-varint_leaf scalars.Uint64 body word is read = ap (λ n. Some (Int (number_by (scalar_form scalars.Uint64) n))) read
-varint_leaf scalars.Sint32 body word is read = ap (λ n. Some (Int (number_by (scalar_form scalars.Sint32) n))) read
-varint_leaf scalars.Sint64 body word is read = ap (λ n. Some (Int (number_by (scalar_form scalars.Sint64) n))) read
-varint_leaf scalars.Bool body word is read = ap (λ n. Some (Int (number_by (scalar_form scalars.Bool) n))) read
-varint_leaf scalars.Double body word is read = absurd (cc)
-varint_leaf scalars.Float body word is read = absurd (cc)
-varint_leaf scalars.Fixed32 body word is read = absurd (cc)
-varint_leaf scalars.Fixed64 body word is read = absurd (cc)
-varint_leaf scalars.Sfixed32 body word is read = absurd (cc)
-varint_leaf scalars.Sfixed64 body word is read = absurd (cc)
-varint_leaf scalars.String body word is read = absurd (cc)
-varint_leaf scalars.Bytes body word is read = absurd (cc)
-
--- a number in range is an item
-pub varint_item : (s : Scalar) (n : ℤ) → form_wire (scalar_form s) ≡ Varint → (IsInteger (scalar_form s) → IsIntegerOf (scalar_form s) n) → IsItemOf s (values.Int n)
-varint_item scalars.Int32 n is h = h tt
-varint_item scalars.Int64 n is h = h tt
-varint_item scalars.Uint32 n is h = h tt
-varint_item scalars.Uint64 n is h = h tt
-varint_item scalars.Sint32 n is h = h tt
-varint_item scalars.Sint64 n is h = h tt
-varint_item scalars.Bool n is h = h tt
-varint_item scalars.Double n is h = absurd (cc)
-varint_item scalars.Float n is h = absurd (cc)
-varint_item scalars.Fixed32 n is h = absurd (cc)
-varint_item scalars.Fixed64 n is h = absurd (cc)
-varint_item scalars.Sfixed32 n is h = absurd (cc)
-varint_item scalars.Sfixed64 n is h = absurd (cc)
-varint_item scalars.String n is h = absurd (cc)
-varint_item scalars.Bytes n is h = absurd (cc)
-
--- every word is one of a varint
-pub varint_fits : (s : Scalar) (word : ℕ) → form_wire (scalar_form s) ≡ Varint → WordFits (scalar_form s) word
-varint_fits scalars.Int32 word is = tt
-varint_fits scalars.Int64 word is = tt
-varint_fits scalars.Uint32 word is = tt
-varint_fits scalars.Uint64 word is = tt
-varint_fits scalars.Sint32 word is = tt
-varint_fits scalars.Sint64 word is = tt
-varint_fits scalars.Bool word is = tt
-varint_fits scalars.Double word is = tt
-varint_fits scalars.Float word is = tt
-varint_fits scalars.Fixed32 word is = absurd (cc)
-varint_fits scalars.Fixed64 word is = tt
-varint_fits scalars.Sfixed32 word is = absurd (cc)
-varint_fits scalars.Sfixed64 word is = tt
-varint_fits scalars.String word is = tt
-varint_fits scalars.Bytes word is = tt
+-- Words at the front.
 
 -- the word at the front is that of the first element
 pub front_word : (bytes : List ℕ) (word n : ℕ) → ◌≡◌ {A = Result (ℕ × ℕ) WireError} (Ok (word, n)) (value_at bytes) → word_in Varint (take n bytes) ≡ word
@@ -280,3 +194,12 @@ front_word bytes word n h = of (varint_at bytes) refl h
         let len : n ≡ length r.0 = ok_pair_is word n (varint_value r.0) (length r.0) e in
         let front : take n bytes ≡ r.0 = ap₂ take len taken.1 ∙ take_at r.0 r.1 (length r.0) refl in
         ap varint_value front ∙ sym (ok_pair_first word n (varint_value r.0) (length r.0) e)
+
+-- a varint that is read is the first element, and its word
+pub varint_is_one : (bytes : List ℕ) (r : Result (ℕ × ℕ) WireError) → r ≡ value_at bytes → IfOk r (λ read. IsOne Varint bytes read.1)
+varint_is_one bytes (Ok read) h = varint_one bytes read.0 read.1 h
+varint_is_one bytes (Err e) h = tt
+
+pub varint_is_word : (bytes : List ℕ) (r : Result (ℕ × ℕ) WireError) → r ≡ value_at bytes → IfOk r (λ read. (word_in Varint (take read.1 bytes) ≡ read.0) × HasBits Varint read.0)
+varint_is_word bytes (Ok read) h = (front_word bytes read.0 read.1 h, tt)
+varint_is_word bytes (Err e) h = tt

@@ -1,17 +1,18 @@
 -- The laws that proofs of other crates cite. Each is the contract of the public function of its name.
-use Rattle.std.proofs.Common.{◌≡◌, ℕ, ◌<◌, ◌^◌, List, [], ◌∷◌, length, refl, arith}
+use Rattle.std.proofs.Common.{◌≡◌, ℕ, ◌<◌, ◌^◌, List, [], ◌∷◌, length, refl, arith, true, subst}
 use Rattle.std.specs.Bool.{⊤}
 use Rattle.std.specs.declared.cmp.Ordering.TheVariants.{Less, Greater}
 use Rattle.pg_schema.specs.Shape.{fields}
 use Rattle.pg_dyn.specs.Kept.{Kept, message_of}
 use Rattle.pg_dyn.specs.Kept as kept
-use Rattle.pg_dyn.specs.Message.{Leaf, key_cmp}
+use Rattle.pg_dyn.specs.Message.{Leaf, key_cmp, leaf_eq}
 use Rattle.pg_dyn.specs.Message as model
 use Rattle.pg_dyn.specs.Bodies.{BodiesReadAgain, EntryBodiesRead, PackedBodiesRead, SingleBodiesRead}
 use Rattle.pg_dyn.specs.Encoding.{enc, encoded_parts}
-use Rattle.pg_dyn.specs.OwnParts.{ChildrenAreShorter, OneIsEmpty, OwnPartsFit, RivalsMutual}
-use Rattle.pg_dyn.specs.FieldLaws.{ContentsAreSeen, EntriesRise, FieldsAreFound, LastItems, PackableWires, PartsKeepTypes, PlainIsKept, RecordsOfFields, RisingEntriesStay}
+use Rattle.pg_dyn.specs.OwnParts.{CellsAreWritten, ChildrenAreShorter, OneIsEmpty, OwnPartsFit, RivalsMutual}
+use Rattle.pg_dyn.specs.FieldLaws.{ContentsAreSeen, EntriesRise, EqualLeaves, FieldsAreFound, LastItems, OwnContents, PackableWires, PartsKeepTypes, PlainIsKept, RecordsOfFields, RisingEntriesStay, UnknownIsKept}
 use Rattle.pg_dyn.specs.Laws.{DecodingIs, EncodingSpells, KeptByField, MessageSplits, WritingSplits}
+use Rattle.pg_dyn.specs.ByCells.{KeptByCells}
 use Rattle.pg_dyn.proofs.Lists.{each_of_all, each_weaker}
 use Rattle.pg_dyn.proofs.Codings.{Reads-from_range}
 use Rattle.pg_dyn.proofs.Plain as Plain
@@ -25,9 +26,13 @@ use Rattle.pg_dyn.proofs.Again.{records_of-enc}
 use Rattle.pg_dyn.proofs.ReadSplits.{reading_of, field_split, no_field_split, unknown_split}
 use Rattle.pg_dyn.proofs.Depth.{dec_is}
 use Rattle.pg_dyn.proofs.ByField as ByField
+use Rattle.pg_dyn.proofs.ByCells as ByCells
+use Rattle.pg_dyn.proofs.MessageReadsOn.{content_none}
 use Rattle.pg_dyn.proofs.ItemLeaves.{item_is_key}
-use Rattle.pg_dyn.proofs.ReplacingLaws.{content_number, type_of-kept_onto}
+use Rattle.pg_dyn.proofs.ReplacingLaws.{content_number, type_of-kept_onto, unknown-message_of}
 use Rattle.pg_dyn.proofs.Lifted.{type_of-with_parts, type_of-without_rivals}
+use Rattle.pg_dyn.proofs.SelfSame.{plain_unknown}
+use Rattle.pg_dyn.proofs.Leaves.{leaf_eq_self, same_leaf}
 
 -- ---- bytes and their messages
 
@@ -55,7 +60,16 @@ kept_by_field =
     let short : length (enc old a v) < 2 ^ 64 = omega arith in
     (ByField.kept_gives view old new a b v is_old is_new is_message plain short, λ h. ByField.kept_from view old new a b v is_old is_new is_message plain short h.0 h.1 h.2)
 
+pub kept_by_cells : KeptByCells
+kept_by_cells =
+    λ view old new a b v is_old is_new is_message plain fits apart.
+    let short : length (enc old a v) < 2 ^ 64 = omega arith in
+    (ByCells.cells_kept view old new a b v is_old is_new is_message plain short apart, ByCells.kept_by_cells view old new a b v is_old is_new is_message plain short apart)
+
 -- ---- the parts of a message
+
+pub cells_are_written : CellsAreWritten
+cells_are_written = ByCells.cells_written
 
 pub own_parts_fit : OwnPartsFit
 own_parts_fit = λ shape type m f is_shape is found.
@@ -103,6 +117,9 @@ fields_are_found = (fields-IsType, Splitting.found_number, Splitting.each_found,
 pub records_of_fields : RecordsOfFields
 records_of_fields = (Splitting.field_records_number, Splitting.field_records_none, Splitting.takes_number)
 
+pub own_contents : OwnContents
+own_contents = (Splitting.records_in_none, content_none, ByCells.same_content-filter)
+
 above_from_below : (es : List (Leaf × Leaf)) → EntriesRise es → Fields.EntriesRise es
 above_from_below [] h = tt
 above_from_below (e ∷ es) h =
@@ -133,3 +150,9 @@ kept_plain (kept.nests number key listed child later) h = (kept_plain child h.0,
 
 pub plain_is_kept : PlainIsKept
 plain_is_kept = λ m. (plain_kept m, kept_plain m)
+
+pub unknown_is_kept : UnknownIsKept
+unknown_is_kept = (unknown-message_of, plain_unknown)
+
+pub equal_leaves : EqualLeaves
+equal_leaves = λ a b. (same_leaf a b, λ same. subst (λ x. leaf_eq a x ≡ true) same (leaf_eq_self a))

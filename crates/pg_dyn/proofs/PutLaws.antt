@@ -62,7 +62,7 @@ module _ (shape : Shape) (e : Element) (es : List (Value × Value)) where
   numbers : (w : Whole) (s : Scalar) → scalar_form s ≡ Integer w → AllByRecursion (EntryFits shape s e) es → AreAlike es
   numbers w s is h = inl (each_weaker (EntryFits shape s e) (λ (x : Value × Value). IsNumber x.0) (λ x k. number_of w s is x.0 k.0) es h)
 
-  keys_alike : (s : Scalar) → is_key s ≡ true → AllByRecursion (EntryFits shape s e) es → AreAlike es
+  pub keys_alike : (s : Scalar) → is_key s ≡ true → AllByRecursion (EntryFits shape s e) es → AreAlike es
   keys_alike scalars.Double key h = absurd (cc)
   keys_alike scalars.Float key h = absurd (cc)
   keys_alike scalars.Bytes key h = absurd (cc)
@@ -79,7 +79,7 @@ module _ (shape : Shape) (e : Element) (es : List (Value × Value)) where
   keys_alike scalars.Sfixed64 key h = numbers _ scalars.Sfixed64 refl h
   keys_alike scalars.Bool key h = numbers _ scalars.Bool refl h
 
-alike_by : (shape : Shape) (p : Presence) (e : Element) (o : Option ℕ) (c : Content) → PresenceFits p e o → ItemsFit shape p e c → KeysAlike c
+pub alike_by : (shape : Shape) (p : Presence) (e : Element) (o : Option ℕ) (c : Content) → PresenceFits p e o → ItemsFit shape p e c → KeysAlike c
 alike_by shape p e o (contents.One v) fits h = tt
 alike_by shape p e o (contents.Many vs) fits h = tt
 alike_by shape presences.Implicit e o (contents.Map es) fits h = absurd h

@@ -1,5 +1,8 @@
 -- What setting a content does.
-use Rattle.std.proofs.Common.{◌≡◌, ℕ, List, ◌++◌, filter, nat_lt, Some, ap, ◌∙◌}
+use Rattle.std.proofs.Common.{◌≡◌, ℕ, List, ◌++◌, filter, nat_eq, nat_lt, not, ◌&&◌, false, Option, Some, None, IfSome, ap, sym, ◌∙◌, ⊎_elim, eq-eqb, ne_eqb}
+use Rattle.std.specs.List.{AllByRecursion}
+use Rattle.std.proofs.lemmas.Bool.{cases_eq}
+use Rattle.std.proofs.Math.Bool.{and-false}
 use Rattle.pg_schema.specs.declared.field.TypeId.{TypeId}
 use Rattle.pg_schema.specs.declared.parts.Parts.{Parts}
 use Rattle.pg_schema.specs.Parts.{shape_of}
@@ -11,11 +14,13 @@ use Rattle.pg_dyn.specs.declared.message.Content.{Content}
 use Rattle.pg_dyn.specs.Kept.{Kept, KeptItem, ends, parts_of, type_of, unknown_of}
 use Rattle.pg_dyn.specs.Message.{Part}
 use Rattle.pg_dyn.specs.Seen.{content_seen}
-use Rattle.pg_dyn.specs.Replacing.{with_parts, with_content, without_rivals}
+use Rattle.pg_dyn.specs.Content.{is_rival, same_oneof}
+use Rattle.pg_dyn.specs.Replacing.{is_rival_number, with_parts, with_content, without_rivals}
 use Rattle.pg_dyn.specs.ContentFaults.{ContentFault, HasKeyTwice, IsLowest, HasNoFault, MayRefuseFor}
 use Rattle.pg_dyn.specs.Setting.{settled, IsSetTo}
 use Rattle.pg_dyn.specs.Told.{IsTaken}
 use Rattle.pg_dyn.proofs.ContentChecks.{taken_once, taken_twice}
+use Rattle.pg_dyn.proofs.Lists.{each_of_all, list_any_none}
 use Rattle.pg_dyn.proofs.PutLaws.{no_self_rival, rivals_after, settled_number}
 use Rattle.pg_dyn.proofs.ReplacingLaws.{type_of-kept_onto}
 use Rattle.pg_dyn.proofs.Splitting.{found_number}
@@ -59,3 +64,22 @@ module _ (parts : Parts) (h : IsSchema parts) (n : ℕ) (c : Content) (f : Field
 
 pub with_parts_type : (n : ℕ) (ps : List (Part KeptItem)) (m : Kept) → type_of (with_parts n ps m) ≡ type_of m
 with_parts_type n ps m = type_of-kept_onto (filter (λ (p : Part KeptItem). nat_lt p.number n) (parts_of m) ++ (ps ++ filter (λ (p : Part KeptItem). nat_lt n p.number) (parts_of m))) (ends (type_of m) (unknown_of m))
+
+-- Which other members are looked for makes no difference after a content of the field is put in, if it made none before.
+
+own_apart : (gs : List FieldShape) (f : FieldShape) → is_rival_number gs f f.number ≡ false
+own_apart gs f = list_any_none (λ (g : FieldShape). is_rival f g && nat_eq g.number f.number) gs (each_of_all (λ (g : FieldShape). (is_rival f g && nat_eq g.number f.number) ≡ false) one gs)
+  where
+    one : (g : FieldShape) → (is_rival f g && nat_eq g.number f.number) ≡ false
+    one g =
+        ⊎_elim
+        (λ same. ap (λ b. (same_oneof f.oneof g.oneof && not b) && nat_eq g.number f.number) (eq-eqb f.number g.number same) ∙ ap (λ b. b && nat_eq g.number f.number) (and-false (same_oneof f.oneof g.oneof)))
+        (λ other. ap (λ b. is_rival f g && b) (ne_eqb g.number f.number (λ e. other (sym e))) ∙ and-false (is_rival f g))
+        (cases_eq f.number g.number)
+
+pub members_after : {X : Type 0} (gs : X → List FieldShape) (fs : List FieldShape) (f : FieldShape) (ps : List (Part KeptItem)) (m put : Kept) → put ≡ with_parts f.number ps m → AllByRecursion (λ (p : Part KeptItem). p.number ≡ f.number) ps
+    → (o : Option X) → IfSome o (λ x. without_rivals (gs x) f m ≡ without_rivals fs f m) → IfSome o (λ x. without_rivals (gs x) f put ≡ without_rivals fs f put)
+members_after gs fs f ps m put is own None h = tt
+members_after gs fs f ps m put is own (Some x) h =
+    ap (without_rivals (gs x) f) is ∙ rivals_after (gs x) f f.number (own_apart (gs x) f) ps m own ∙ ap (with_parts f.number ps) h
+    ∙ sym (rivals_after fs f f.number (own_apart fs f) ps m own) ∙ sym (ap (without_rivals fs f) is)

@@ -22,6 +22,7 @@ use Rattle.pg_dyn.specs.Seen.{content_seen, item_seen, leaf_of}
 use Rattle.pg_dyn.specs.Setting.{by_rising_key, is_zero_kept, settled_by}
 use Rattle.pg_dyn.specs.Told.{EntryFits, entry_seen, is_nothing, ItemsFit}
 use Rattle.pg_dyn.proofs.KeySorting.{entry_part, sorted_is}
+use Rattle.pg_dyn.proofs.Lists.{map_map}
 
 first_same : {A : Type 0} {x y : A} {xs ys : List A} → x ∷ xs ≡ y ∷ ys → x ≡ y
 first_same e = cc
@@ -50,10 +51,6 @@ module _ {A : Type 0} where
       at_index (y ∷ ys) (suc k) inside h = at_index ys k (omega arith) h.1
 
 -- What a settled content shows.
-
-map_map : {A B C : Type 0} (g : B → C) (f : A → B) (xs : List A) → map g (map f xs) ≡ map (λ x. g (f x)) xs
-map_map g f [] = refl
-map_map g f (x ∷ xs) = ap (λ ys. g (f x) ∷ ys) (map_map g f xs)
 
 shown_by : {A B C : Type 0} (g : B → C) (f : A → B) (xs ys : List A) → map f xs ≡ map f ys → map (λ x. g (f x)) xs ≡ map (λ x. g (f x)) ys
 shown_by g f xs ys e = sym (map_map g f xs) ∙ ap (map g) e ∙ map_map g f ys

@@ -1,6 +1,6 @@
 -- Laws of a type's fields, of what is written and read of them, and of the contents that a message holds; their choice is this
 -- profile's.
-use Rattle.std.specs.Prelude.{◌≡◌, ◌↔◌, ⊤, ℕ, List, [], ◌∷◌, length, true, false, Some}
+use Rattle.std.specs.Prelude.{◌≡◌, ◌↔◌, ⊤, ℕ, List, [], ◌∷◌, length, map, filter, true, false, Some}
 use Rattle.std.specs.List.{AllByRecursion}
 use Rattle.std.specs.declared.cmp.Ordering.TheVariants.{Less}
 use Rattle.pg_schema.specs.declared.field.TypeId.{TypeId}
@@ -8,19 +8,21 @@ use Rattle.pg_schema.specs.declared.field.Scalar.{Scalar}
 use Rattle.pg_schema.specs.declared.field.Element.{Element}
 use Rattle.pg_schema.specs.declared.field.Element.TheVariants as elements
 use Rattle.pg_schema.specs.declared.field.Presence.{Presence}
-use Rattle.pg_schema.specs.Shape.{Shape, FieldShape, IsShape, IsType, Rising, fields, field_at, is_packable}
+use Rattle.pg_schema.specs.Shape.{Shape, FieldShape, IsShape, IsType, Rising, fields, field_at, is_key, is_packable}
 use Rattle.pg_wire.specs.declared.record.WireType.TheVariants.{Len}
 use Rattle.pg_wire.specs.Records.{WireRecord}
 use Rattle.pg_dyn.specs.declared.message.Content.{Content}
 use Rattle.pg_dyn.specs.declared.message.Value.{Value}
-use Rattle.pg_dyn.specs.Message.{Leaf, Part, key_cmp}
+use Rattle.pg_dyn.specs.Message.{Item, Leaf, Message, Part, is_of, key_cmp, leaf_eq}
 use Rattle.pg_dyn.specs.Message as model
 use Rattle.pg_dyn.specs.Bodies.{IsNestedLeaf}
 use Rattle.pg_dyn.specs.Coding.{form, form_wire}
-use Rattle.pg_dyn.specs.Content.{by_key, last_item, same_wire, takes}
-use Rattle.pg_dyn.specs.Writing.{field_records}
+use Rattle.pg_dyn.specs.Optional.{all_some, last_of}
+use Rattle.pg_dyn.specs.Content.{by_key, content, entry_in, last_item, same_wire, takes}
+use Rattle.pg_dyn.specs.Writing.{field_records, records_in}
 use Rattle.pg_dyn.specs.Encoding.{child_type}
 use Rattle.pg_dyn.specs.Belonging.{MayBeZero}
+use Rattle.pg_dyn.specs.Comparison.{Sought, View, same_content}
 use Rattle.pg_dyn.specs.Laws.{of_number}
 use Rattle.pg_dyn.specs.Kept.{Kept, KeptItem, message_of, type_of}
 use Rattle.pg_dyn.specs.Kept as kept
@@ -45,6 +47,15 @@ RecordsOfFields =
     × ((f : FieldShape) → field_records f [] ≡ [])
     × ((f : FieldShape) (r : WireRecord) → takes f r ≡ true → of_number f.number r ≡ true)
 
+-- Of no parts there are no records, and of no records there is no content. Whether two contents of a field are the same depends on
+-- the field's own parts alone.
+abbrev pub OwnContents : Type 0
+OwnContents =
+    ((fs : List FieldShape) → records_in fs [] ≡ [])
+    × ((f : FieldShape) → content f [] ≡ Some [])
+    × ((view : View) (f g : FieldShape) (old : List (Part Sought)) (new : List (Part Item)) →
+    same_content view f g (filter (is_of f.number) old) (filter (is_of f.number) new) ≡ same_content view f g old new)
+
 -- A singular field keeps the one item that it may hold, and of none none.
 abbrev pub LastItems : Type 0
 LastItems =
@@ -64,6 +75,12 @@ EntriesRise (e ∷ es) = AllByRecursion (λ (x : Leaf × Leaf). key_cmp e.0 x.0 
 abbrev pub RisingEntriesStay : Type 0
 RisingEntriesStay = (es : List (Leaf × Leaf)) → EntriesRise es → by_key es ≡ es
 
+-- Of the entries that are read of a map, by their records, its keys rise, and of each key it has the last (language guide, "Maps").
+abbrev pub LastOfEachKey : Type 0
+LastOfEachKey =
+    (key : Scalar) (element : Element) (rs : List WireRecord) (es : List (Leaf × Leaf)) → is_key key ≡ true → all_some (map (entry_in key element) rs) ≡ Some es →
+    EntriesRise (by_key es) × ((k : Leaf) → filter (λ (e : Leaf × Leaf). leaf_eq e.0 k) (by_key es) ≡ last_of (filter (λ (e : Leaf × Leaf). leaf_eq e.0 k) es))
+
 -- Parts in front of a message, and parts put into one or taken out of it, leave its type.
 abbrev pub PartsKeepTypes : Type 0
 PartsKeepTypes =
@@ -80,3 +97,12 @@ ContentsAreSeen =
 -- What is kept holds no unknown records just where the message that it means holds none.
 abbrev pub PlainIsKept : Type 0
 PlainIsKept = (m : Kept) → kept.IsPlain m ↔ model.IsPlain (message_of m)
+
+-- What is kept has the unknown records of the message that it means; a plain message has none.
+abbrev pub UnknownIsKept : Type 0
+UnknownIsKept =
+    ((m : Kept) → model.unknown_of (message_of m) ≡ kept.unknown_of m) × ((v : Message) → model.IsPlain v → model.unknown_of v ≡ [])
+
+-- Items are equal just where the test says so.
+abbrev pub EqualLeaves : Type 0
+EqualLeaves = (a b : Leaf) → (leaf_eq a b ≡ true) ↔ (a ≡ b)

@@ -1,13 +1,11 @@
 -- When bytes may be refused, and with what (this profile's choice).
-use Rattle.std.specs.Prelude.{◌≡◌, ℕ, true, ⊤, List, Some, None}
+use Rattle.std.specs.Prelude.{ℕ, ⊤, List, Some, None}
 use Rattle.pg_schema.specs.declared.field.TypeId.{TypeId}
-use Rattle.pg_schema.specs.Shape.{Shape, FieldShape, fields, field_at}
+use Rattle.pg_schema.specs.Shape.{Shape, fields}
 use Rattle.pg_wire.specs.Errors.{fault_of, place_of}
-use Rattle.pg_wire.specs.Records.{WireRecord}
 use Rattle.pg_dyn.specs.declared.error.DynError.{DynError}
 use Rattle.pg_dyn.specs.declared.error.DynError.TheVariants as errors
-use Rattle.pg_dyn.specs.Content.{takes}
-use Rattle.pg_dyn.specs.Faults.{Wire, NotUtf8, FaultIn, FaultOf}
+use Rattle.pg_dyn.specs.Faults.{Wire, NotUtf8, FaultIn}
 use Rattle.pg_dyn.specs.TooDeep.{TooDeepIn}
 
 -- memory was refused, or what the error names stands at its place
@@ -23,7 +21,3 @@ MayRefuse shape type limit bytes errors.OutOfRange = ⊥
 MayRefuse shape type limit bytes errors.OneofTwice = ⊥
 MayRefuse shape type limit bytes errors.DuplicateKey = ⊥
 MayRefuse shape type limit bytes errors.TooLong = ⊥
-
--- a record that a field of the type accepts holds a text that isn't UTF-8
-abbrev pub HasNoText : Shape → TypeId → WireRecord → Type 0
-HasNoText shape type r = (f : FieldShape) × (field_at (fields shape type) r.number ≡ Some f) × (takes f r ≡ true) × FaultOf shape f r NotUtf8 0

@@ -1,15 +1,11 @@
 -- Items of scalar fields, as the program holds them.
-use Rattle.std.specs.Prelude.{◌≡◌, ℕ, ⊤, List, length, Some, None, false}
+use Rattle.std.specs.Prelude.{◌≡◌, ℕ, ⊤, List, length, None, false}
 use Rattle.std.specs.Str.{is_utf8}
 use Rattle.pg_schema.specs.declared.field.Scalar.{Scalar}
 use Rattle.pg_schema.specs.declared.field.Scalar.TheVariants as scalars
 use Rattle.pg_wire.specs.declared.record.WireType.{WireType}
 use Rattle.pg_wire.specs.declared.record.WireType.TheVariants.{Varint, I64, Len, I32}
 use Rattle.pg_wire.specs.Varint.{IsVarint}
-use Rattle.pg_schema.specs.declared.field.Element.TheVariants as elements
-use Rattle.pg_schema.specs.Shape.{FieldShape, field_at}
-use Rattle.pg_dyn.specs.declared.message.Content.{Content}
-use Rattle.pg_dyn.specs.declared.message.Content.TheVariants as contents
 use Rattle.pg_dyn.specs.declared.message.Value.{Value}
 use Rattle.pg_dyn.specs.declared.message.Value.TheVariants as values
 use Rattle.pg_dyn.specs.Coding.{Form, Integer, Single, Double, Text, Raw, InRange, scalar_form}
@@ -69,16 +65,3 @@ IsFaultOf s value errors.WrongKind = IsKindOf (scalar_form s) value → ⊥
 IsFaultOf s value errors.OutOfRange = IsOutOfRange s value
 IsFaultOf s value (errors.NotUtf8 None) = IsNoText s value
 IsFaultOf s value e = ⊥
-
--- a content of one item of the scalar
-abbrev pub IsContentOf : Scalar → Content → Type 0
-IsContentOf s (contents.One value) = IsItemOf s value
-IsContentOf s (contents.Many vs) = ⊥
-IsContentOf s (contents.Map es) = ⊥
-
--- a content of the field of the number, which is of the scalar
-pub record TakesItem (fs : List FieldShape) (s : Scalar) (number : ℕ) (content : Content) : Type 0 where
-  pub field : FieldShape
-  pub found : field_at fs number ≡ Some field
-  pub element_is : field.element ≡ elements.Scalar s
-  pub item : IsContentOf s content

@@ -1,18 +1,28 @@
 //! Messages while they are read.
 
-ghost use Rattle.std.specs.Prelude.{◌≡◌, [], IfErr, OnOk};
+ghost use Rattle.std.specs.Prelude.{◌≡◌, ℕ, [], false, IfErr, IfOk, OnOk};
+ghost use Rattle.std.specs.List.{AllByRecursion};
+ghost use Rattle.pg_schema.specs.Shape.{IsShape, Shape};
+ghost use Rattle.pg_dyn.specs.FieldList.{filled_fields};
+ghost use Rattle.pg_dyn.specs.Fits.{Fits};
+ghost use Rattle.pg_dyn.specs.Seen.{IsFilled};
 
 use crate::error::DynError;
 use crate::field_list::vacate;
 use crate::message::{Content, Message, UnknownRecord};
+use crate::ordering::settle_all;
 use pg_schema::TypeId;
 use pg_wire::Record;
-use std::alloc::Global;
+use std::alloc::{AllocError, Global};
 use std::marker::Model;
 use std::mem;
 
+/// How many entries are put in between others while a message is read; later ones come behind.
+pub(crate) const MOST_PUT_BETWEEN: usize = 16;
+
 /// A message that is read on. A content that is taken out leaves an empty list in its place, so that the contents
-/// behind it needn't be moved each time; these places go when reading ends.
+/// behind it needn't be moved each time; these places go when reading ends. An entry of a map that has its place between
+/// others comes behind them, if there were many such; these maps are put in order when reading ends.
 #[derive(Drop)]
 pub(crate) struct Draft {
     pub(crate) type_id: TypeId,
@@ -21,6 +31,22 @@ pub(crate) struct Draft {
     pub(crate) noted: Vec<u32>,
     /// Whether there may be places of contents that were taken out.
     pub(crate) has_gaps: bool,
+    /// How many entries were put in between others.
+    pub(crate) put_between: usize,
+    /// Whether entries of maps may stand as they were read.
+    pub(crate) in_disorder: bool,
+}
+
+// The contents that hold something, where some may not.
+fn without_gaps(fields: Vec<(u32, Content)>, has_gaps: bool) -> Vec<(u32, Content)>
+    requires { has_gaps ≡ false → AllByRecursion (λ f. IsFilled f.1) fields.items }
+    ensures { result.items ≡ filled_fields fields.items }
+{
+    let mut contents = fields;
+    if has_gaps {
+        contents.retain(|content| content.1.is_filled());
+    }
+    contents
 }
 
 impl Model for Draft {
@@ -43,6 +69,7 @@ impl Draft {
 
     /// Takes the message over, and leaves it without content.
     pub(crate) fn begin(alloc: Global, message: &mut Message) -> Draft
+        requires { (shape : Shape) × IsShape shape × Fits shape message.old }
         ensures { result ≡ message.old }
     {
         let type_id = message.type_id;
@@ -58,12 +85,14 @@ impl Draft {
             unknown,
             noted,
             has_gaps: false,
+            put_between: 0,
+            in_disorder: false,
         }
     }
 
     /// The message that was read.
-    pub(crate) fn finish(self) -> Message
-        ensures { result ≡ self }
+    pub(crate) fn finish(self) -> Result<Message, AllocError>
+        ensures { IfOk result (λ m. m ≡ self) }
     {
         let Draft {
             type_id,
@@ -71,17 +100,16 @@ impl Draft {
             unknown,
             noted,
             has_gaps,
+            put_between: _,
+            in_disorder,
         } = self;
-        let mut contents = fields;
-        if has_gaps {
-            contents.retain(|content| content.1.is_filled());
-        }
-        Message {
+        let contents = settle_all(without_gaps(fields, has_gaps), in_disorder)?;
+        Ok(Message {
             type_id,
             fields: contents,
             unknown,
             noted,
-        }
+        })
     }
 
     /// Takes out what stands under the number.

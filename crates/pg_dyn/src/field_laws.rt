@@ -1,7 +1,7 @@
 //! Laws of a type's fields, of what is written and read of them, and of the contents that a message holds. Each is the
 //! contract of a function that does nothing.
 
-ghost use Rattle.pg_dyn.specs.FieldLaws.{ContentsAreSeen, FieldsAreFound, LastItems, PackableWires, PartsKeepTypes, PlainIsKept, RecordsOfFields, RisingEntriesStay};
+ghost use Rattle.pg_dyn.specs.FieldLaws.{ContentsAreSeen, EqualLeaves, FieldsAreFound, LastItems, LastOfEachKey, OwnContents, PackableWires, PartsKeepTypes, PlainIsKept, RecordsOfFields, RisingEntriesStay, UnknownIsKept};
 
 /// The fields of each type of a sound schema are sound; the field that is found by a number has it; each field of a
 /// type is found by its number; the type of a message field is that of its children.
@@ -13,6 +13,12 @@ pub fn fields_are_found()
 /// of its own number.
 pub fn records_of_fields()
     ensures { RecordsOfFields }
+{}
+
+/// Of no parts there are no records, and of no records there is no content; whether two contents of a field are the
+/// same depends on the field's own parts alone.
+pub fn own_contents()
+    ensures { OwnContents }
 {}
 
 /// A singular field keeps the one item that it may hold, and of none none.
@@ -30,6 +36,11 @@ pub fn rising_entries_stay()
     ensures { RisingEntriesStay }
 {}
 
+/// Of the entries that are read of a map, its keys rise, and of each key it has the last.
+pub fn last_of_each_key()
+    ensures { LastOfEachKey }
+{}
+
 /// Parts in front of a message, and parts put into one or taken out of it, leave its type.
 pub fn parts_keep_types()
     ensures { PartsKeepTypes }
@@ -43,4 +54,14 @@ pub fn contents_are_seen()
 /// What is kept of a message holds no unknown records just where the message that it means holds none.
 pub fn plain_is_kept()
     ensures { PlainIsKept }
+{}
+
+/// What is kept has the unknown records of the message that it means; a plain message has none.
+pub fn unknown_is_kept()
+    ensures { UnknownIsKept }
+{}
+
+/// Items are equal just where the test says so.
+pub fn equal_leaves()
+    ensures { EqualLeaves }
 {}

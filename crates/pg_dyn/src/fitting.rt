@@ -175,9 +175,11 @@ impl Message {
 }
 
 /// Whether the message is one of this schema: of a type that the schema has, each content one of a field of that
-/// type, of that field's shape and not empty, each item in its range, each text UTF-8, at most one member of each oneof, no zero in a
-/// field without presence, each message inside one of its field's type, and no unknown record that a field
-/// accepts (proto3 language guide, "Field Presence", "Oneof", "Unknown Fields").
+/// type, of that field's shape and not empty, each item in its range, each text UTF-8, at most one member of each
+/// oneof, no zero in a field without presence, each message inside one of its field's type, and no unknown record
+/// that a field accepts (proto3 language guide, "Field Presence", "Oneof", "Unknown Fields").
+///
+/// It takes memory to look at oneofs; where that is refused it takes longer, and answers the same.
 pub fn fits(schema: &Schema, message: &Message) -> bool
     ensures { IsTrue result ↔ Fits (shape_of schema.now) message.now }
 {

@@ -1,16 +1,19 @@
 //! The bytes of the fields that another type doesn't have.
 
-ghost use Rattle.std.specs.Prelude.{◌≡◌, ◌<◌, ◌++◌, length, OnOk, IfOk};
+ghost use Rattle.std.specs.Prelude.{◌≡◌, ◌<◌, ◌++◌, ◌⊎◌, length, OnOk, IfOk, IfErr};
 ghost use Rattle.pg_schema.specs.Invariant.{IsSchema};
 ghost use Rattle.pg_schema.specs.Parts.{shape_of};
 ghost use Rattle.pg_schema.specs.Shape.{fields};
 ghost use Rattle.pg_dyn.specs.Comparison.{unshared_bytes};
 ghost use Rattle.pg_dyn.specs.ContentFits.{HoldsContent};
+ghost use Rattle.pg_dyn.specs.Encoding.{cap};
 ghost use Rattle.pg_dyn.specs.Fits.{Fits};
 ghost use Rattle.pg_dyn.specs.Kept.{message_of, type_of};
 ghost use Rattle.pg_dyn.specs.Outside.{outside_written};
 ghost use Rattle.pg_dyn.specs.Written.{field_written};
+ghost use Rattle.pg_dyn.specs.declared.error.DynError.TheVariants as errors;
 
+use crate::counting::MOST;
 use crate::error::DynError;
 use crate::message::{Content, Message};
 use pg_schema::{Schema, TypeId};
@@ -26,16 +29,23 @@ fn push_content(
 ) -> Result<(), DynError>
     requires is_schema { IsSchema schema.now }
     requires holds { HoldsContent (shape_of schema.now) type_id held.now }
-    ensures { OnOk result (out.new.items ≡ out.old.items ++ field_written (shape_of schema.now) type_id held.now) }
+    ensures ok { OnOk result (out.new.items ≡ out.old.items ++ field_written (shape_of schema.now) type_id held.now) }
+    ensures err { IfErr result (λ e. (e ≡ errors.Memory) ⊎ ((e ≡ errors.TooLong) × (cap < length (field_written (shape_of schema.now) type_id held.now)))) }
 {
     let (number, content) = held;
     let Some(field) = schema.field(type_id, *number) else {
         return Ok(());
     };
     let mut lengths = Vec::new(alloc);
-    content.count(schema, *number, field, &mut lengths)?;
-    content.write(out, schema, *number, field, &lengths)?;
-    Ok(())
+    let len = content.count(schema, *number, field, &mut lengths)?;
+    if len > MOST {
+        return Err(DynError::TooLong);
+    }
+    match content.write(out, schema, *number, field, &lengths) {
+        Ok(_) => Ok(()),
+        // Nothing is too long that was counted.
+        Err(_) => Err(DynError::Memory),
+    }
 }
 
 // The same, where another type has no field of the number; else nothing.
@@ -48,7 +58,8 @@ fn push_outside(
 ) -> Result<(), DynError>
     requires is_schema { IsSchema schemas.now.own.now }
     requires holds { HoldsContent (shape_of schemas.now.own.now) type_id held.now }
-    ensures { OnOk result (out.new.items ≡ out.old.items ++ outside_written (shape_of schemas.now.own.now) type_id (fields (shape_of schemas.now.other.now) schemas.now.other_type) held.now) }
+    ensures ok { OnOk result (out.new.items ≡ out.old.items ++ outside_written (shape_of schemas.now.own.now) type_id (fields (shape_of schemas.now.other.now) schemas.now.other_type) held.now) }
+    ensures err { IfErr result (λ e. (e ≡ errors.Memory) ⊎ ((e ≡ errors.TooLong) × (cap < length (outside_written (shape_of schemas.now.own.now) type_id (fields (shape_of schemas.now.other.now) schemas.now.other_type) held.now)))) }
 {
     match schemas.other.field(schemas.other_type, held.0) {
         Some(_) => Ok(()),
@@ -67,7 +78,7 @@ struct Other<'a> {
 /// Of a message's encoding the records of the fields whose numbers another type doesn't have, in their order: what a
 /// reader of that type keeps as unknown (proto3 language guide, "Unknown Fields").
 ///
-/// The errors are `TooLong`, only where the message's encoding is, and `Memory`.
+/// The errors are `TooLong`, only where these records have more than 2,147,483,647 bytes, and `Memory`.
 pub fn encode_outside(
     alloc: Global,
     schema: &Schema,
@@ -76,7 +87,8 @@ pub fn encode_outside(
     other_type: TypeId,
 ) -> Result<Vec<u8>, DynError>
     requires { Fits (shape_of schema.now) message.now }
-    ensures { IfOk result (λ bytes. bytes.items ≡ unshared_bytes (shape_of schema.now) (type_of message.now) (fields (shape_of other.now) other_type) (message_of message.now)) }
+    ensures ok { IfOk result (λ bytes. bytes.items ≡ unshared_bytes (shape_of schema.now) (type_of message.now) (fields (shape_of other.now) other_type) (message_of message.now)) }
+    ensures err { IfErr result (λ e. (e ≡ errors.Memory) ⊎ ((e ≡ errors.TooLong) × (cap < length (unshared_bytes (shape_of schema.now) (type_of message.now) (fields (shape_of other.now) other_type) (message_of message.now))))) }
 {
     // What holds of every schema.
     schema.parts();

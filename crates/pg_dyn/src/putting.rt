@@ -28,8 +28,9 @@ impl Message {
             // A content that is taken has a field.
             unreachable!();
         };
+        let members = self.held_rivals(schema, field);
         self.put_content(schema, field, content)?;
-        self.clear_rivals(schema, field);
+        self.settle_rivals(schema, field, members);
         Ok(())
     }
 }

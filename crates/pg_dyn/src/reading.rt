@@ -2,7 +2,7 @@
 
 mod contents;
 mod elements;
-mod entries;
+pub(crate) mod entries;
 mod items;
 mod messages;
 mod rows;

@@ -8,8 +8,10 @@ ghost use Rattle.pg_dyn.specs.Seen.{Rises};
 use crate::draft::Draft;
 use crate::field_list::{holds, remove};
 use crate::message::{Content, Message};
+use crate::noting::{note, noted_rival};
 use crate::oneofs::is_same_oneof;
 use pg_schema::{Field, Schema, TypeId};
+use std::slice;
 
 // Whether the other field is another member of the field's oneof.
 fn is_other_member(field: &Field, other: &Field) -> bool
@@ -70,6 +72,10 @@ fn remove_rivals(
 }
 
 impl Message {
+    ghost use Rattle.std.specs.Prelude.{Some, IfSome};
+    ghost use Rattle.pg_schema.specs.Invariant.{IsSchema};
+    ghost use Rattle.pg_schema.specs.Shape.{field_at};
+    ghost use Rattle.pg_dyn.specs.Fits.{Fits};
     ghost use Rattle.pg_dyn.specs.Kept.{type_of};
     ghost use Rattle.pg_dyn.specs.Replacing.{without_rivals};
 
@@ -83,6 +89,49 @@ impl Message {
             Some(_) => remove_rivals(&mut self.fields, schema, type_id, field),
             None => {}
         }
+    }
+
+    /// Fields among which is each other member of the field's oneof that the message holds, where that is known without
+    /// going over the type's fields: none where it holds the field itself, else the member that was noted last.
+    pub(crate) fn held_rivals<'a>(&self, schema: &'a Schema, field: &Field) -> Option<&'a [Field]>
+        requires is_schema { IsSchema schema.now }
+        requires fits { Fits (shape_of schema.now) self.now }
+        requires found { field_at (fields (shape_of schema.now) (type_of self.now)) field.now.number ≡ Some (field_shape field.now) }
+        ensures { IfSome result (λ members. without_rivals (map field_shape members.now) (field_shape field.now) self.now ≡ without_rivals (fields (shape_of schema.now) (type_of self.now)) (field_shape field.now) self.now) }
+    {
+        let type_id = self.type_id;
+        let number = field.number;
+        if holds(&self.fields, number) {
+            return Some(&[]);
+        }
+        let other = noted_rival(&self.fields, &self.noted, schema, type_id, field)?;
+        let member = schema.field(type_id, other)?;
+        Some(slice::from_ref(member))
+    }
+
+    // Takes out the contents of the other members of the field's oneof that are among these fields.
+    fn clear_members(&mut self, members: &[Field], field: &Field)
+        ensures { self.new ≡ without_rivals (map field_shape members.now) (field_shape field.now) self.old }
+    {
+        remove_members(&mut self.fields, members, field);
+    }
+
+    /// Takes out the contents of the other members of the field's oneof, which are among the fields that are given, if any
+    /// are, and notes the field as the one that was set last.
+    pub(crate) fn settle_rivals(
+        &mut self,
+        schema: &Schema,
+        field: &Field,
+        members: Option<&[Field]>,
+    )
+        requires { IfSome members (λ members. without_rivals (map field_shape members.now) (field_shape field.now) self.old ≡ without_rivals (fields (shape_of schema.now) (type_of self.old)) (field_shape field.now) self.old) }
+        ensures { self.new ≡ without_rivals (fields (shape_of schema.now) (type_of self.old)) (field_shape field.now) self.old }
+    {
+        match members {
+            Some(members) => self.clear_members(members, field),
+            None => self.clear_rivals(schema, field),
+        }
+        note(&mut self.noted, self.fields.len(), field);
     }
 }
 

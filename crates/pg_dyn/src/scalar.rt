@@ -1,5 +1,7 @@
-ghost use Rattle.std.specs.Prelude.{◌≡◌, ◌⊎◌, ◌↔◌, ◌^◌, ◌<◌, false, Some, IfOk, IfErr, IsTrue};
+ghost use Rattle.std.specs.Prelude.{◌≡◌, ◌⊎◌, ◌↔◌, ◌^◌, ◌<◌, ℕ, List, true, false, Some, IfOk, IfErr, IsTrue};
 ghost use Rattle.std.specs.Str.{is_utf8};
+ghost use Rattle.pg_schema.specs.declared.field.Element.TheVariants as elements;
+ghost use Rattle.pg_schema.specs.Shape.{is_packable};
 ghost use Rattle.pg_dyn.specs.Coding.{Text, form_wire, leaf_in, scalar_form, word_in};
 ghost use Rattle.pg_dyn.specs.declared.error.DynError.TheVariants as errors;
 ghost use Rattle.pg_dyn.specs.ScalarItems.{HasShape, IsItemOf};
@@ -38,7 +40,23 @@ fn body_word(wire_type: WireType, body: &[u8]) -> u64
     }
 }
 
-/// The item of a body of the scalar's own wire type, which stands in the record at that place.
+/// The item that a reader makes of a word, which is no text and no bytes.
+pub(crate) fn word_item(scalar: Scalar, word: u64) -> Value
+    requires packable { is_packable (elements.Scalar scalar) ≡ true }
+    requires bits { HasBits (form_wire (scalar_form scalar)) word }
+    ensures leaf { (body : List ℕ) → word_in (form_wire (scalar_form scalar)) body ≡ word → leaf_in (scalar_form scalar) body ≡ Some (leaf_of result) }
+    ensures item { IsItemOf scalar result }
+{
+    match scalar {
+        Scalar::Float => Value::F32(word as u32),
+        Scalar::Double => Value::F64(word),
+        _ => Value::Int(number_of(scalar, word)),
+    }
+}
+
+/// The item of a body of the scalar's own wire type, which stands in the record at that place. Not inlined, so that a level
+/// of messages takes no more of the stack for it.
+#[inline(never)]
 pub(crate) fn read_item(
     alloc: Global,
     scalar: Scalar,
@@ -55,8 +73,6 @@ pub(crate) fn read_item(
             Err(_) => Err(DynError::NotUtf8 { at: Some(at) }),
         },
         Scalar::Bytes => Ok(Value::Bytes(Vec::from_slice(alloc, body)?)),
-        Scalar::Float => Ok(Value::F32(body_word(WireType::I32, body) as u32)),
-        Scalar::Double => Ok(Value::F64(body_word(WireType::I64, body))),
-        _ => Ok(Value::Int(number_of(scalar, body_word(wire_type_of(scalar), body)))),
+        _ => Ok(word_item(scalar, body_word(wire_type_of(scalar), body))),
     }
 }

@@ -45,9 +45,10 @@ impl Message {
         if let Err(error) = check_keys(alloc, &content) {
             return Err((error, content));
         }
+        let members = self.held_rivals(schema, field);
         match self.put_content(schema, field, content) {
             Ok(()) => {
-                self.clear_rivals(schema, field);
+                self.settle_rivals(schema, field, members);
                 Ok(())
             }
             Err(back) => Err((DynError::Memory, back)),

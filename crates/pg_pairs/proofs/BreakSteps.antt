@@ -1,6 +1,7 @@
 -- What a message's encoding is read as decides whether it breaks.
 use Rattle.std.proofs.Common.{◌≡◌, ◌<◌, ◌≤◌, ◌↔◌, ℕ, zero, suc, List, [], ◌∷◌, ◌++◌, length, get_or, filter, Bool, true, false, not, IsTrue, nat_eq, Some, None, refl, ap, sym, ◌∙◌, subst, arith, eqb-true, eq-eqb, true≢false}
 use Rattle.std.specs.List.{list_all}
+use Rattle.std.proofs.lemmas.Bool.{not-true}
 use Rattle.pg_schema.specs.declared.field.TypeId.{TypeId}
 use Rattle.pg_schema.specs.Shape.{Shape, FieldShape, IsShape, fields, field_at}
 use Rattle.pg_wire.specs.Records.{WireRecord}
@@ -73,15 +74,11 @@ module _ (view : View) (old new : Shape) (m : Kept) (a b : TypeId) where
   abbrev pub Answers : Bool → Type 0
   Answers so = IsTrue so ↔ ((type_of m ≡ a) × Breaks view old new a b (message_of m))
 
-  not_true : (x : Bool) → not x ≡ true → x ≡ false
-  not_true false h = refl
-  not_true true h = absurd (cc)
-
   pub answered : (x : Bool) → type_of m ≡ a → Fits old m → kept.IsPlain m → length (enc old (type_of m) (message_of m)) ≤ cap → is_kept view old new (type_of m) b (message_of m) ≡ x → Answers (not x)
   answered x type_is fits plain short is = (
     λ e.
         subst (λ t. (type_of m ≡ t) × Breaks view old new t b (message_of m)) type_is
-        (refl, record { is_message = fits.is_message; is_plain = (plain_is_kept m).0 plain; has_encoding = short; not_kept = is ∙ not_true x e }),
+        (refl, record { is_message = fits.is_message; is_plain = (plain_is_kept m).0 plain; has_encoding = short; not_kept = is ∙ not-true x e }),
     λ k. ap not (sym is ∙ subst (λ t. is_kept view old new t b (message_of m) ≡ false) (sym type_is) k.1.not_kept),
   )
 

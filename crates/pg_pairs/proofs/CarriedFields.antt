@@ -14,7 +14,7 @@ use Rattle.pg_dyn.specs.Message.{Leaf, Message, ends, holds, nests}
 use Rattle.pg_dyn.specs.Coding.{form, form_wire, zero_leaf, InRange}
 use Rattle.pg_dyn.specs.Encoding.{cap}
 use Rattle.pg_dyn.specs.Belonging.{KeyFits}
-use Rattle.pg_dyn.proofs.Lists.{each-append}
+use Rattle.pg_dyn.proofs.Lists.{each-append, option_map_some}
 use Rattle.pg_pairs.specs.declared.choice.Choice.{Choice}
 use Rattle.pg_pairs.specs.declared.choice.Pair.{Pair}
 use Rattle.pg_pairs.specs.Sight.{Sight, IsSight}
@@ -24,12 +24,11 @@ use Rattle.pg_pairs.specs.Costs.{with_length, least_body, nonzero_body, entry_co
 use Rattle.pg_pairs.specs.Choices.{Table, choice, choice_of, zero_counts, unlike_cost, gap_body, child_body, singular_cost, plain_choices, map_choices, field_choices}
 use Rattle.pg_pairs.specs.Laws.{ReachedBy}
 use Rattle.pg_pairs.specs.Carried.{nonzero_leaf, far_leaf, apart_leaf, apart_item, item_by, least_part, part_onto, alone, leaf_alone, child_alone, lost_onto, key_alone, value_alone, carried_field, field_child, ChildReached, ChildThere}
-use Rattle.pg_pairs.proofs.GapItems.{IsLeafy}
+use Rattle.pg_pairs.proofs.GapItems.{IsLeafy, implicit_leafy, leafy_like}
 use Rattle.pg_pairs.proofs.Likeness.{like_wire}
 use Rattle.pg_pairs.proofs.AcrossPlain.{IsNoMap, IsUnpacked}
 use Rattle.pg_pairs.proofs.Cells.{unpacked_implicit, unpacked_explicit, unpacked_repeated}
-use Rattle.pg_pairs.proofs.Broken.{mapped}
-use Rattle.pg_pairs.proofs.CarriedItems.{leaf_or_message, leafy_like, like_message, leafy_childless, leaf_part, implicit_least, Gapped, gapped, nested, same_bound, longer, same_cost}
+use Rattle.pg_pairs.proofs.CarriedItems.{leaf_or_message, like_message, leafy_childless, leaf_part, implicit_least, Gapped, gapped, nested, same_bound, longer, same_cost}
 use Rattle.pg_pairs.proofs.CarryAlone.{reach_gap, reach_child}
 use Rattle.pg_pairs.proofs.CarryTwo.{reach_two_children}
 use Rattle.pg_pairs.proofs.CarryLists.{zero_in_range, zero_length, packable_leafy, reach_packed, reach_two_zeros, reach_zero, reach_packed_gap}
@@ -37,7 +36,6 @@ use Rattle.pg_pairs.proofs.CarryLeast.{reach_unlike_implicit, reach_unlike_expli
 use Rattle.pg_pairs.proofs.CarryMaps.{reach_key_gap, reach_value_gap}
 use Rattle.pg_pairs.proofs.CarryMapChild.{reach_map_child, reach_key_gap_child}
 use Rattle.pg_pairs.proofs.CarryUnlikeMaps.{far_in_range, far_length, reach_far_leaves, reach_far_child}
-use Rattle.pg_pairs.proofs.LeastContents.{implicit_leafy}
 
 module _ (sight : Sight) (law : IsSight sight) (old new : Shape) (shape_old : IsShape old) (shape_new : IsShape new) (table : Table) (pair : Pair) where
   -- A choice of that cost whose messages are made so is reached by them.
@@ -75,7 +73,7 @@ module _ (sight : Sight) (law : IsSight sight) (old new : Shape) (shape_old : Is
   child_carried : (number : ℕ) (o r : Option ℕ) (e d : Element) (p q : Presence) → KeyFits p None → IsNoMap q → ((x : Element) → IsUnpacked (record { number = number; presence = p; element = x; oneof = o })) → ((x : Element) (b : ℕ) → one_item (record { number = number; presence = p; element = x; oneof = o }) b ≡ length (tag number (form_wire (form x))) + b) → field_at (fields old pair.old) number ≡ Some (record { number = number; presence = p; element = e; oneof = o }) → field_at (fields new pair.new) number ≡ Some (record { number = number; presence = q; element = d; oneof = r }) → (cost : ℕ) → option_map (one_item (record { number = number; presence = p; element = e; oneof = o })) (child_body table e d) ≡ Some cost → CarriesField (record { number = number; presence = p; element = e; oneof = o }) (record { number = number; presence = q; element = d; oneof = r }) (choice number 3 0 cost)
   child_carried number o r (elements.Message s) (elements.Message t) p q no_key no_map unpacked cost_is found at cost h small =
       let f = child_old number o r s t p q in
-      let (body, there, made) = mapped (one_item (child_old number o r s t p q)) (child_body table (elements.Message s) (elements.Message t)) cost h in
+      let (body, there, made) = option_map_some (one_item (child_old number o r s t p q)) (child_body table (elements.Message s) (elements.Message t)) cost h in
       let (x, at_x, body_is) = nested table s t body there in
       let is : one_item (child_old number o r s t p q) (with_length x) ≡ cost = ap (one_item (child_old number o r s t p q)) body_is ∙ made in
       let less : x < cost = (let long = longer x in let is_cost = cost_is (elements.Message s) (with_length x) in omega (arith, is)) in (
@@ -101,7 +99,7 @@ module _ (sight : Sight) (law : IsSight sight) (old new : Shape) (shape_old : Is
 
   map_child_carried : (number : ℕ) (o r : Option ℕ) (e d : Element) (k l : Scalar) → field_at (fields old pair.old) number ≡ Some (map_field number o e k) → field_at (fields new pair.new) number ≡ Some (map_field number r d l) → (cost : ℕ) → option_map (one_item (map_field number o e k)) (child_body table e d) ≡ Some cost → CarriesField (map_field number o e k) (map_field number r d l) (choice number 5 2 cost)
   map_child_carried number o r (elements.Message s) (elements.Message t) k l found at cost h small =
-      let (body, there, made) = mapped (one_item (map_field number o (elements.Message s) k)) (child_body table (elements.Message s) (elements.Message t)) cost h in
+      let (body, there, made) = option_map_some (one_item (map_field number o (elements.Message s) k)) (child_body table (elements.Message s) (elements.Message t)) cost h in
       let (x, at_x, body_is) = nested table s t body there in
       let is : one_item (map_field number o (elements.Message s) k) (with_length x) ≡ cost = ap (one_item (map_field number o (elements.Message s) k)) body_is ∙ made in
       let less : x < cost = (let long = longer x in omega (arith, is)) in (
@@ -271,7 +269,7 @@ module _ (sight : Sight) (law : IsSight sight) (old new : Shape) (shape_old : Is
               (choice_of number 3 0 (option_map (one_item (at_old p)) (child_body table e d)))
               (offered (at_old p) (at_new q) 2 0 _ refl
               (λ cost h.
-              let (body, there, made) = mapped (one_item (at_old p)) (gap_body sight (zero_counts (at_old p) (at_new q)) e d) cost h in
+              let (body, there, made) = option_map_some (one_item (at_old p)) (gap_body sight (zero_counts (at_old p) (at_new q)) e d) cost h in
               subst (Carries p q 2 0) made (gap_carried p q no_map_old no_map is_like found at fits body (gapped sight law (zero_counts (at_old p) (at_new q)) e d is_like body there))))
               (offered (at_old p) (at_new q) 3 0 _ refl (child_reached p q no_map_old no_map found at fits)))
               (offered (at_old p) (at_new q) 4 0 _ refl (singular_carried p q is_like found at fits fits_new))
@@ -406,11 +404,11 @@ module _ (sight : Sight) (law : IsSight sight) (old new : Shape) (shape_old : Is
                 (choice_of number 5 2 (option_map (one_item old_map) (gap_body sight true e d)))
                 (offered old_map new_map 5 1 _ refl
                 (λ cost h.
-                let (body, there, made) = mapped (λ body. entry_cost number body (least_body e)) (gap_body sight true (elements.Scalar k) (elements.Scalar l)) cost h in
+                let (body, there, made) = option_map_some (λ body. entry_cost number body (least_body e)) (gap_body sight true (elements.Scalar k) (elements.Scalar l)) cost h in
                 subst (Carries (presences.Map k) (presences.Map l) 5 1) made (key_gap_carried like_keys like_values found at body (gapped sight law true (elements.Scalar k) (elements.Scalar l) like_keys body there))))
                 (offered old_map new_map 5 2 _ refl
                 (λ cost h.
-                let (body, there, made) = mapped (one_item old_map) (gap_body sight true e d) cost h in
+                let (body, there, made) = option_map_some (one_item old_map) (gap_body sight true e d) cost h in
                 subst (Carries (presences.Map k) (presences.Map l) 5 2) made (value_gap_carried like_values found at body (gapped sight law true e d like_values body there)))))
                 (offered old_map new_map 5 2 _ refl (map_child_carried number o r e d k l found at))
             | false ↦ λ unlike. ((refl, refl, childless (alone number (Some (apart_leaf (elements.Scalar k) (elements.Scalar l))) (apart_item e d)) (least_content old_map) (unlike_maps_made unlike found at)), tt)

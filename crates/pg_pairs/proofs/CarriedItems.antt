@@ -13,8 +13,8 @@ use Rattle.pg_pairs.specs.Costs.{with_length}
 use Rattle.pg_pairs.specs.Choices.{Table, number_for, gap_body, child_body}
 use Rattle.pg_pairs.specs.Carried.{nonzero_leaf, item_by, least_part_of, part_onto, child_pair}
 use Rattle.pg_pairs.proofs.GapItems.{IsLeafy, gap_item_is}
-use Rattle.pg_pairs.proofs.Broken.{mapped}
 use Rattle.pg_wire.proofs.PublicLaws.{lengths_grow}
+use Rattle.pg_dyn.proofs.Lists.{option_map_some}
 
 -- a leaf or a message
 pub leaf_or_message : (e : Element) → IsLeafy e ⊎ ((s : TypeId) × (e ≡ elements.Message s))
@@ -30,13 +30,6 @@ like_leafy (elements.Scalar s) (elements.Enum t) h leafy = tt
 like_leafy (elements.Enum s) (elements.Message t) h leafy = absurd (cc)
 like_leafy (elements.Enum s) (elements.Scalar t) h leafy = tt
 like_leafy (elements.Enum s) (elements.Enum t) h leafy = tt
-
-pub leafy_like : (e d : Element) → like e d ≡ true → IsLeafy d → IsLeafy e
-leafy_like (elements.Message s) (elements.Message t) h leafy = absurd leafy
-leafy_like (elements.Message s) (elements.Scalar t) h leafy = absurd (cc)
-leafy_like (elements.Message s) (elements.Enum t) h leafy = absurd (cc)
-leafy_like (elements.Scalar s) d h leafy = tt
-leafy_like (elements.Enum s) d h leafy = tt
 
 pub like_message : (s : TypeId) (d : Element) → like (elements.Message s) d ≡ true → (t : TypeId) × (d ≡ elements.Message t)
 like_message s (elements.Message t) h = (t, refl)
@@ -77,7 +70,7 @@ pub record Gapped (sight : Sight) (zero : Bool) (e d : Element) (body : ℕ) : T
 -- the item of a gap
 pub gapped : (sight : Sight) → IsSight sight → (zero : Bool) (e d : Element) → like e d ≡ true → (body : ℕ) → gap_body sight zero e d ≡ Some body → Gapped sight zero e d body
 gapped sight law zero e d is_like body h =
-    let (item, item_is, made) = mapped (body_length (form e)) (gap_item sight zero e d) body h in
+    let (item, item_is, made) = option_map_some (body_length (form e)) (gap_item sight zero e d) body h in
     let leafy = gap_leafy sight zero e d item item_is in
     record {
       item = item;
@@ -96,7 +89,7 @@ number_there None x h = absurd (cc)
 
 pub nested : (table : Table) (s t : TypeId) (body : ℕ) → child_body table (elements.Message s) (elements.Message t) ≡ Some body → (x : ℕ) × (table (record { old = s; new = t }) ≡ Some (Some x)) × (with_length x ≡ body)
 nested table s t body h =
-    let (x, number, made) = mapped with_length (number_for table (record { old = s; new = t })) body h in
+    let (x, number, made) = option_map_some with_length (number_for table (record { old = s; new = t })) body h in
     (x, number_there (table (record { old = s; new = t })) x number, made)
 
 pub same_bound : (o : Option (Option ℕ)) (x y : ℕ) → o ≡ Some (Some x) → o ≡ Some (Some y) → x ≡ y

@@ -21,10 +21,9 @@ use Rattle.pg_pairs.specs.Laws.{ReachedBy}
 use Rattle.pg_pairs.specs.Carried.{apart_leaf, apart_item, item_by, alone, leaf_alone, child_alone, lost_onto, key_of, key_alone, value_alone, entry_message, carried_field, carried_two, carried_of, carried, child_pair, has_child, field_child, child_of, choice_child, ChildReached}
 use Rattle.pg_pairs.specs.CarriedItems.{is_child_of, has_value, has_entry, has_content, IsOfPair, IsChoiceRound}
 use Rattle.pg_pairs.proofs.LeastCosts.{choice_some}
-use Rattle.pg_pairs.proofs.Meeting.{no_parts}
 use Rattle.pg_pairs.proofs.Messages.{one_found}
 use Rattle.pg_pairs.proofs.Reached.{choices_carried}
-use Rattle.pg_dyn.proofs.PublicLaws.{fields_are_found}
+use Rattle.pg_dyn.proofs.PublicLaws.{fields_are_found, own_contents}
 use Rattle.pg_dyn.proofs.Lists.{each_at}
 
 no_key : (p : Presence) → KeyFits p None → not (is_map p) ≡ true
@@ -47,7 +46,7 @@ module _ (sight : Sight) (old new : Shape) (pair : Pair) (cost : ℕ) (some : 1 
   pub empty_reaches : Reaches (ends []) → ⊥
   unfolding enc
   empty_reaches by =
-      let none : length (enc old pair.old (ends [])) ≡ 0 = rw (no_parts sight.alike old new pair.old pair.new (fields old pair.old)) refl in
+      let none : length (enc old pair.old (ends [])) ≡ 0 = rw (own_contents.0 (fields old pair.old)) refl in
       let is = by.1 in
       omega (arith, some, none, is)
 

@@ -1,6 +1,6 @@
 -- What setting the contents of a choice makes: its message.
 use Rattle.std.proofs.Common.{◌≡◌, ℕ, ◌<◌, List, [], ◌∷◌, Bool, true, false, not, ◌&&◌, nat_eq, nat_lt, if◌then◌else◌, Option, Some, None, option_map, ◌⊎◌, inl, inr, ⊎_elim, refl, ap, ap₂, sym, ◌∙◌, subst, append-nil, arith, eqb-true}
-use Rattle.std.specs.List.{AllByRecursion, list_any}
+use Rattle.std.specs.List.{AllByRecursion}
 use Rattle.pg_schema.specs.declared.field.TypeId.{TypeId}
 use Rattle.pg_schema.specs.declared.field.Element.{Element}
 use Rattle.pg_schema.specs.declared.field.Element.TheVariants as elements
@@ -18,7 +18,7 @@ use Rattle.pg_dyn.specs.Content.{same_oneof, is_rival}
 use Rattle.pg_dyn.specs.Replacing.{kept_from, is_rival_number, with_content}
 use Rattle.pg_dyn.specs.Seen.{content_seen}
 use Rattle.pg_dyn.specs.Setting.{settled, settled_by, IsSetTo}
-use Rattle.pg_dyn.proofs.Lists.{each_weaker}
+use Rattle.pg_dyn.proofs.Lists.{each_weaker, list_any_none}
 use Rattle.pg_pairs.specs.declared.choice.Choice.{Choice}
 use Rattle.pg_pairs.specs.declared.choice.Pair.{Pair}
 use Rattle.pg_pairs.specs.declared.item.Small.TheVariants.{Zero}
@@ -164,13 +164,9 @@ settled_least f = settled_least_at f.number f.presence f.element f.oneof
 apart_sym : (a b : Option ℕ) → same_oneof a b ≡ false → same_oneof b a ≡ false
 apart_sym a b h = ⊎_elim (λ same. absurd (let yes = rivals_mutual.0 b a same in let no : true ≡ false = sym yes ∙ h in cc)) (λ no. no) (cases_Bool (same_oneof b a))
 
-none_any : {A : Type 0} (test : A → Bool) (xs : List A) → AllByRecursion (λ x. test x ≡ false) xs → list_any test xs ≡ false
-none_any test [] h = refl
-none_any test (x ∷ xs) h = rw h.0 (none_any test xs h.1)
-
 not_rival : (fs : List FieldShape) → Rising fs → (f e : FieldShape) → field_at fs f.number ≡ Some f → same_oneof e.oneof f.oneof ≡ false → is_rival_number fs e f.number ≡ false
 not_rival fs rising f e found apart =
-    none_any (λ g. is_rival e g && nat_eq g.number f.number) fs
+    list_any_none (λ g. is_rival e g && nat_eq g.number f.number) fs
     (each_weaker (λ (g : FieldShape). field_at fs g.number ≡ Some g) (λ g. (is_rival e g && nat_eq g.number f.number) ≡ false) (λ g there. of g there (nat_eq g.number f.number) refl) fs (fields_are_found.2 fs rising))
   where
     of : (g : FieldShape) → field_at fs g.number ≡ Some g → (b : Bool) → nat_eq g.number f.number ≡ b → (is_rival e g && nat_eq g.number f.number) ≡ false

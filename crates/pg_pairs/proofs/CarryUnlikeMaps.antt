@@ -21,7 +21,7 @@ use Rattle.pg_dyn.specs.Encoding.{child_type, enc, cap}
 use Rattle.pg_dyn.specs.Decoding.{read_item, dec}
 use Rattle.pg_dyn.specs.Belonging.{IsMessage}
 use Rattle.pg_dyn.specs.Comparison.{View, Alike, meets, alike_leaves, same_message, unshared_bytes, Kept}
-use Rattle.pg_dyn.proofs.Lists.{filter_none}
+use Rattle.pg_dyn.proofs.Lists.{filter_none, option_map_some}
 use Rattle.pg_pairs.proofs.Packed.{Reads}
 use Rattle.pg_dyn.specs.Bodies.{IsNestedLeaf}
 use Rattle.pg_pairs.proofs.EntryRecords.{two_records}
@@ -31,23 +31,21 @@ use Rattle.pg_pairs.specs.Likeness.{like}
 use Rattle.pg_pairs.specs.Gaps.{body_length}
 use Rattle.pg_pairs.specs.Costs.{with_length, least_body, entry_cost}
 use Rattle.pg_dyn.specs.Comparison.{Cell}
-use Rattle.pg_pairs.specs.Fields.{is_field_kept}
+use Rattle.pg_dyn.specs.ByCells.{is_field_kept}
 use Rattle.pg_pairs.specs.Laws.{ReachedBy}
 use Rattle.pg_pairs.specs.Carried.{far_leaf}
-use Rattle.pg_pairs.proofs.Leaves.{leaf_eq-true, alike_equal}
+use Rattle.pg_pairs.proofs.Leaves.{alike_equal}
 use Rattle.pg_pairs.proofs.GapItems.{IsLeafy}
 use Rattle.pg_pairs.proofs.Costs.{length-len_record}
 use Rattle.pg_pairs.proofs.Cells.{leafy_reader, length-entry_bytes}
 use Rattle.pg_pairs.proofs.Single.{single_length, single_broken}
-use Rattle.pg_pairs.proofs.Broken.{mapped}
 use Rattle.pg_pairs.proofs.KindsRead.{kind, form_kind, IsOfForm, content_kind}
 use Rattle.pg_pairs.proofs.CarryWires.{unlike_leaves}
 use Rattle.pg_pairs.proofs.CarryLists.{zero_in_range}
 use Rattle.pg_pairs.proofs.CarryMaps.{nested, reach_entry}
 use Rattle.pg_pairs.proofs.CarryMapChild.{empty_length}
 use Rattle.pg_pairs.proofs.EntriesRead.{entry_broken, entry_parts}
-use Rattle.pg_pairs.proofs.Meeting.{no_parts}
-use Rattle.pg_dyn.proofs.PublicLaws.{bodies_read_again}
+use Rattle.pg_dyn.proofs.PublicLaws.{bodies_read_again, equal_leaves, own_contents}
 
 pub far_in_range : (e : Element) → IsLeafy e → InRange (form e) (far_leaf (form e))
 far_in_range (elements.Scalar scalars.String) leafy = zero_in_range (elements.Scalar scalars.String) tt
@@ -88,7 +86,7 @@ part_field n d = record { number = n; presence = presences.Explicit; element = d
 
 part_kind : (n : ℕ) (d : Element) → IsLeafy d → (rs : List WireRecord) (y : Leaf) → entry_part (part_field n d) rs ≡ Some y → IsOfForm (form d) y
 part_kind n d leafy rs y h =
-    let (leaves, content_is, made) = mapped (first_or (zero_leaf (form d))) (plain_content (part_field n d) _) y h in
+    let (leaves, content_is, made) = option_map_some (first_or (zero_leaf (form d))) (plain_content (part_field n d) _) y h in
     subst (IsOfForm (form d)) made (first_kind (form d) leaves (content_kind (part_field n d) leafy _ leaves content_is))
 
 -- without a record the part is its default
@@ -108,7 +106,7 @@ unfolding written
 untaken_other m n e d leaf apart = and_left (nat_eq m n) (is_accepted (part_field n d) (item_record m e leaf)) apart
 
 not_equal : (a b : Leaf) → (a ≡ b → ⊥) → leaf_eq a b ≡ false
-not_equal a b apart = ⊎_elim (λ same. absurd (apart (leaf_eq-true a b same))) (λ no. no) (cases_Bool (leaf_eq a b))
+not_equal a b apart = ⊎_elim (λ same. absurd (apart ((equal_leaves a b).0 same))) (λ no. no) (cases_Bool (leaf_eq a b))
 
 -- an integer's form
 int_far : (f : Form) → form_kind f ≡ 0 → far_leaf f ≡ Int (pos 1)
@@ -179,7 +177,7 @@ module _ (sight : Sight) (old new : Shape) (shape_old : IsShape old) (shape_new 
     where
       of : (x : Element) → d ≡ x → meets sight.alike (map_of e) beside (Alike value) item ≡ false
       of (elements.Message t) is =
-          let (m, read, made) = mapped Msg (dec new t (leaf_bytes y)) item (subst (λ z. read_item (dec new) z y ≡ Some item) is h) in
+          let (m, read, made) = option_map_some Msg (dec new t (leaf_bytes y)) item (subst (λ z. read_item (dec new) z y ≡ Some item) is h) in
           subst (λ i. meets sight.alike (map_of e) beside (Alike value) i ≡ false) made refl
       of (elements.Scalar s) is =
           let leafy_new : IsLeafy d = subst IsLeafy (sym is) tt in
@@ -212,7 +210,7 @@ module _ (sight : Sight) (old new : Shape) (shape_old : IsShape old) (shape_new 
       is_message = is;
       is_plain = (tt, tt);
       has_encoding = short;
-      not_kept = single_broken sight.alike old new shape_old shape_new pair.old pair.new v is refl short f beside found at (refl, tt) broken;
+      not_kept = single_broken sight.alike old new shape_old shape_new pair.old pair.new v is (tt, tt) short f beside found at (refl, tt) broken;
     },
     whole,
   )
@@ -236,7 +234,7 @@ module _ (sight : Sight) (old new : Shape) (shape_old : IsShape old) (shape_new 
       literal = record { number = number; key = Some key; written = Bytes []; sought = Kept test }
 
       written_is : c.written ≡ Bytes []
-      written_is = ap (λ rs. Bytes (bytes_of rs ++ [])) (no_parts sight.alike old new pair.old pair.new (fields old (child_type (fields old pair.old) number)))
+      written_is = ap (λ rs. Bytes (bytes_of rs ++ [])) (own_contents.0 (fields old (child_type (fields old pair.old) number)))
 
       entry_length : length (entry_bytes k (elements.Message s) key (Bytes [])) ≡ 2 + body_length (form (elements.Scalar k)) key + least_body (elements.Message s)
       entry_length = length-entry_bytes k (elements.Message s) key (Bytes []) ∙ ap (λ n. 2 + body_length (form (elements.Scalar k)) key + n) (empty_length s)

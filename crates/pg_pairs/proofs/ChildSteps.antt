@@ -9,7 +9,8 @@ use Rattle.pg_schema.specs.Shape.{Shape, FieldShape, fields, field_at}
 use Rattle.pg_pairs.specs.declared.choice.Pair.{Pair}
 use Rattle.pg_pairs.specs.Covering.{same_pair, children_beside, all_children, children, distinct}
 use Rattle.pg_pairs.proofs.Choosing.{same_pair-true}
-use Rattle.pg_pairs.proofs.FirstSeen.{has_pair, same_indices, grown, distinct-grown, row_more, flat_map-map'}
+use Rattle.pg_pairs.proofs.FirstSeen.{has_pair, same_indices, grown, distinct-grown, row_more}
+use Rattle.pg_dyn.proofs.Lists.{flat_map-map}
 
 abbrev pub indices : Pair → ℕ × ℕ
 indices p = (p.old.index, p.new.index)
@@ -41,9 +42,9 @@ pub one_more : (gs : List FieldShape) (list : List Field) (i : ℕ) (x : Field) 
 one_more gs list i x ps found inside is so_far found_is =
     let give : Field → List Pair = λ (f : Field). children_beside (field_shape f) (field_at gs f.number) in
     ap distinct
-    (flat_map-map' (λ (f : FieldShape). children_beside f (field_at gs f.number)) field_shape (take (i + 1) list)
+    (flat_map-map (λ (f : FieldShape). children_beside f (field_at gs f.number)) field_shape (take (i + 1) list)
     ∙ row_more (λ (f : Field). children_beside (field_shape f) (field_at gs f.number)) list i x inside is
-    ∙ ap (λ ys. ys ++ children_beside (field_shape x) (field_at gs x.number)) (sym (flat_map-map' (λ (f : FieldShape). children_beside f (field_at gs f.number)) field_shape (take i list)))
+    ∙ ap (λ ys. ys ++ children_beside (field_shape x) (field_at gs x.number)) (sym (flat_map-map (λ (f : FieldShape). children_beside f (field_at gs f.number)) field_shape (take i list)))
     ∙ ap (λ ys. all_children gs (map field_shape (take i list)) ++ ys) (sym found_is))
     ∙ distinct-grown (all_children gs (map field_shape (take i list))) found
     ∙ ap (λ qs. grown qs found) (sym so_far)

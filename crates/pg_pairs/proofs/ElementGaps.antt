@@ -10,7 +10,8 @@ use Rattle.pg_pairs.specs.Likeness.{like_forms, like}
 use Rattle.pg_pairs.specs.Gaps.{is_seen}
 use Rattle.pg_pairs.specs.ElementGaps.{IsNoMessage, ElementGaps, UnseenAreNotZero}
 use Rattle.pg_pairs.proofs.GapItems.{IsLeafy, gap_item_is}
-use Rattle.pg_pairs.proofs.Leaves.{leaf_eq_refl, seen_from}
+use Rattle.pg_pairs.proofs.Leaves.{seen_from}
+use Rattle.pg_dyn.proofs.PublicLaws.{equal_leaves}
 use Rattle.pg_pairs.proofs.Likeness.{like_wire}
 use Rattle.pg_pairs.proofs.Zeros.{zero_by_form, zero_across}
 
@@ -37,7 +38,7 @@ zero_seen : (s t : Scalar) → like (elements.Scalar s) (elements.Scalar t) ≡ 
 zero_seen s t is_like item range zero =
     let wires = like_wire (elements.Scalar s) (elements.Scalar t) is_like in
     let same : item ≡ zero_leaf (scalar_form t) = zero_by_form (scalar_form s) item range zero ∙ like_zeros (scalar_form s) (scalar_form t) is_like in
-    seen_from numbers (elements.Scalar s) (elements.Scalar t) item (zero_across (elements.Scalar s) (elements.Scalar t) item wires range zero ∙ ap Some (sym same)) (leaf_eq_refl item)
+    seen_from numbers (elements.Scalar s) (elements.Scalar t) item (zero_across (elements.Scalar s) (elements.Scalar t) item wires range zero ∙ ap Some (sym same)) ((equal_leaves item item).1 refl)
 
 pub unseen_are_not_zero : UnseenAreNotZero
 unseen_are_not_zero s t is_like item range unseen = of (is_zero item) refl

@@ -1,5 +1,5 @@
 -- A message that breaks with the content of one field alone costs at least the field's cheapest choice.
-use Rattle.std.proofs.Common.{◌≡◌, ℕ, ◌≤◌, List, [], ◌∷◌, length, false, Option, Some, None, ⊎_elim, refl, sym, subst, arith}
+use Rattle.std.proofs.Common.{◌≡◌, ℕ, ◌≤◌, List, [], ◌∷◌, length, false, Option, Some, None, refl, subst, arith}
 use Rattle.std.specs.List.{AllByRecursion}
 use Rattle.pg_schema.specs.declared.field.Element.{Element}
 use Rattle.pg_schema.specs.declared.field.Element.TheVariants as elements
@@ -18,19 +18,16 @@ use Rattle.pg_pairs.specs.Choices.{Table, field_choices, choices}
 use Rattle.pg_pairs.specs.Covering.{IsThere, IsWithin, IsCovered, Covers, children}
 use Rattle.pg_pairs.specs.Cheapest.{cheapest, IsCheapest}
 use Rattle.pg_pairs.specs.Contents.{ChildBound, IsContent, total}
-use Rattle.pg_pairs.specs.Fields.{is_field_kept}
+use Rattle.pg_dyn.specs.ByCells.{cells_at, is_field_kept}
 use Rattle.pg_pairs.specs.Carried.{alone}
 use Rattle.pg_pairs.specs.FieldCosts.{list_alone, map_alone, IsShared, CostsCheapest, SingleScalarsCost, ListsCost, MapsCost, ChildrenCost}
 use Rattle.pg_pairs.specs.Among.{IsAmong}
+use Rattle.pg_pairs.proofs.Among.{among_each}
 use Rattle.pg_pairs.proofs.Cheaper.{cheapest_is_least}
 use Rattle.pg_pairs.proofs.GapItems.{IsLeafy}
 use Rattle.pg_pairs.proofs.LowerBound.{alone_breaks}
-use Rattle.pg_pairs.proofs.Messages.{cells_at, one_found}
+use Rattle.pg_pairs.proofs.Messages.{one_found}
 use Rattle.pg_pairs.proofs.OneField.{contents_cost}
-
-among_each : {A : Type 0} (P : A → Type 0) (x : A) (xs : List A) → IsAmong x xs → AllByRecursion P xs → P x
-among_each P x [] h each = absurd h
-among_each P x (y ∷ ys) h each = ⊎_elim (λ same. subst P (sym same) each.0) (λ later. among_each P x ys later each.1) h
 
 -- the cheapest choice costs no more than one of them does
 cheapest_within : (cs : List Choice) (c : Choice) (n : ℕ) → IsAmong c cs → c.cost ≤ n → (d : Choice) × (cheapest cs ≡ Some d) × (d.cost ≤ n)

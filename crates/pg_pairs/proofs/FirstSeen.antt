@@ -1,6 +1,7 @@
 -- Lists in which each pair stands once, where it was first seen.
-use Rattle.std.proofs.Common.{◌≡◌, ℕ, List, [], ◌∷◌, ◌++◌, map, filter, flat_map, Bool, true, false, not, ◌&&◌, ◌||◌, nat_eq, cond, refl, ap, sym, ◌∙◌, subst, append-nil, option_to_list, Option, Some, None, take, slice_index_or, length, ◌<◌, ◌+◌, zero, suc, arith, add-one}
+use Rattle.std.proofs.Common.{◌≡◌, ℕ, List, [], ◌∷◌, ◌++◌, filter, flat_map, Bool, true, false, not, ◌&&◌, ◌||◌, nat_eq, cond, refl, ap, sym, ◌∙◌, subst, append-nil, option_to_list, Option, Some, None, take, slice_index_or, length, ◌<◌, ◌+◌}
 use Rattle.std.specs.List.{list_any}
+use Rattle.std.proofs.lemmas.List.{take_more}
 use Rattle.pg_dyn.proofs.Lists.{flat_map-append'}
 use Rattle.pg_pairs.specs.declared.choice.Pair.{Pair}
 use Rattle.pg_pairs.specs.Covering.{same_pair, distinct}
@@ -59,16 +60,7 @@ pub distinct-grown : (ps : List Pair) (o : Option Pair) → distinct (ps ++ opti
 distinct-grown ps None = ap distinct (append-nil ps)
 distinct-grown ps (Some p) = distinct-more ps p
 
-take_more : {X : Type 0} (xs : List X) (k : ℕ) (x : X) → k < length xs → x ≡ slice_index_or xs k x → take (suc k) xs ≡ take k xs ++ x ∷ []
-take_more [] k y h e = absurd (omega arith)
-take_more (z ∷ xs) zero y h e = ap (λ w. w ∷ []) (sym e)
-take_more (z ∷ xs) (suc k) y h e = ap (λ ws. z ∷ ws) (take_more xs k y (omega arith) e)
-
 -- what each of a front gives, and what the next one does
 pub row_more : {X B : Type 0} (give : X → List B) (xs : List X) (i : ℕ) (x : X) → i < length xs → x ≡ slice_index_or xs i x → flat_map give (take (i + 1) xs) ≡ flat_map give (take i xs) ++ give x
 row_more give xs i x inside is =
-    ap (λ n. flat_map give (take n xs)) (add-one i) ∙ ap (flat_map give) (take_more xs i x inside is) ∙ flat_map-append' give (take i xs) (x ∷ []) ∙ ap (λ ys. flat_map give (take i xs) ++ ys) (append-nil (give x))
-
-pub flat_map-map' : {X Y B : Type 0} (give : Y → List B) (make : X → Y) (xs : List X) → flat_map give (map make xs) ≡ flat_map (λ x. give (make x)) xs
-flat_map-map' give make [] = refl
-flat_map-map' give make (x ∷ xs) = ap (λ ys. give (make x) ++ ys) (flat_map-map' give make xs)
+    ap (flat_map give) (take_more xs i x inside ∙ ap (λ y. take i xs ++ y ∷ []) (sym is)) ∙ flat_map-append' give (take i xs) (x ∷ []) ∙ ap (λ ys. flat_map give (take i xs) ++ ys) (append-nil (give x))

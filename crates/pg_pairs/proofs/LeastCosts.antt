@@ -1,5 +1,5 @@
 -- Under a lower table each choice has one of at most its cost; and a cheapest choice is one of the choices.
-use Rattle.std.proofs.Common.{◌≡◌, ℕ, ◌+◌, ◌≤◌, List, [], ◌∷◌, ◌++◌, length, Bool, true, false, ◌&&◌, nat_le, cond, if◌then◌else◌, Option, Some, None, option_map, IfSome, ◌⊎◌, inl, inr, ⊎_elim, refl, ap, sym, ◌∙◌, subst, arith}
+use Rattle.std.proofs.Common.{◌≡◌, ℕ, ◌+◌, ◌≤◌, List, [], ◌∷◌, ◌++◌, length, Bool, true, false, ◌&&◌, nat_le, cond, if◌then◌else◌, Option, Some, None, option_map, IfSome, ◌⊎◌, inl, inr, ⊎_elim, refl, ap, subst, arith}
 use Rattle.std.specs.List.{AllByRecursion}
 use Rattle.std.proofs.lemmas.Bool.{leb-true, leb-false}
 use Rattle.pg_schema.specs.declared.field.Scalar.{Scalar}
@@ -20,17 +20,20 @@ use Rattle.pg_pairs.specs.Sight.{Sight}
 use Rattle.pg_pairs.specs.Likeness.{like}
 use Rattle.pg_pairs.specs.Costs.{with_length, least_body, nonzero_body, entry_cost, one_item, least_content}
 use Rattle.pg_pairs.specs.Choices.{Table, number_for, choice, choice_of, zero_counts, unlike_cost, gap_body, child_body, singular_cost, plain_choices, map_choices, field_choices, joins, joined_choices, choices_beside, all_choices, affordable, choices}
-use Rattle.pg_pairs.specs.Cheapest.{cheaper, cheapest}
+use Rattle.pg_pairs.specs.Cheapest.{cheaper, cheapest, IsCheapest}
 use Rattle.pg_pairs.specs.Covering.{IsWithin}
 use Rattle.pg_pairs.specs.Among.{IsAmong}
 use Rattle.pg_pairs.specs.LeastCosts.{IsNoMore, IsNoHigher, LowerTablesCostNoMore, LeastCostsAreLengths, LeastCostsAreExact}
-use Rattle.pg_pairs.proofs.Lengths.{varint_some, with_length_rises}
+use Rattle.pg_pairs.proofs.Among.{among_each}
+use Rattle.pg_pairs.proofs.Cheaper.{cheapest_is_least}
+use Rattle.pg_pairs.proofs.Lengths.{with_length_rises}
+use Rattle.pg_wire.proofs.PublicLaws.{lengths_grow}
 
 -- Costs are at least 1, and rise with what they are made of.
 
 tag_some : (number : ℕ) (wire : WireType) → 1 ≤ length (tag number wire)
 unfolding tag
-tag_some number wire = varint_some _
+tag_some number wire = lengths_grow.3 _
 
 entry_some : (number key value : ℕ) → 1 ≤ entry_cost number key value
 entry_some number key value = omega (arith, tag_some number Len)
@@ -286,15 +289,7 @@ cheaper_is c d =
     [ true ↦ λ e. inl (refl, leb-true c.cost d.cost e) | false ↦ λ e. inr (refl, let above = leb-false c.cost d.cost e in omega arith) ] refl
 
 cheapest_among : (cs : List Choice) (d : Choice) → cheapest cs ≡ Some d → IsAmong d cs
-cheapest_among [] d h = absurd (cc)
-cheapest_among (c ∷ cs) d h = of (cheapest cs) (λ x e. cheapest_among cs x e) h
-  where
-    of : (o : Option Choice) → ((x : Choice) → o ≡ Some x → IsAmong x cs) → Some (cheaper c o) ≡ Some d → IsAmong d (c ∷ cs)
-    of None rest k = inl (let same : c ≡ d = cc in sym same)
-    of (Some x) rest k =
-        ⊎_elim (λ first. let same : cheaper c (Some x) ≡ d = cc in inl (sym same ∙ first.0))
-        (λ second. let same : cheaper c (Some x) ≡ d = cc in inr (subst (λ y. IsAmong y cs) (sym second.0 ∙ same) (rest x refl)))
-        (cheaper_is c x)
+cheapest_among cs d is = (subst (λ o. IsCheapest o cs) is (cheapest_is_least cs)).0
 
 -- it costs no more than each bound that one of the list keeps to
 cheapest_within : (cs : List Choice) (n : ℕ) → HasWithin cs n → IsNoMore (cost_of (cheapest cs)) (Some n)
@@ -307,10 +302,6 @@ cheapest_within (c ∷ cs) n h = of (cheapest cs) (λ later. cheapest_within cs 
         ⊎_elim (λ first. let is = ap (λ (y : Choice). y.cost) first.0 in let le = first.1 in ⊎_elim (λ here. omega (arith, is, here)) (λ later. let below = rest later in omega arith) k)
         (λ second. let is = ap (λ (y : Choice). y.cost) second.0 in let le = second.1 in ⊎_elim (λ here. omega arith) (λ later. let below = rest later in omega arith) k)
         (cheaper_is c x)
-
-among_each : {A : Type 0} (P : A → Type 0) (x : A) (xs : List A) → IsAmong x xs → AllByRecursion P xs → P x
-among_each P x [] h each = absurd h
-among_each P x (y ∷ ys) h each = ⊎_elim (λ same. subst P (sym same) each.0) (λ later. among_each P x ys later each.1) h
 
 every_within : (cs : List Choice) → AllByRecursion (λ (c : Choice). HasWithin cs c.cost) cs
 every_within [] = tt

@@ -6,6 +6,7 @@ pub mod GapItems
 pub mod ElementGaps
 pub mod Likeness
 pub mod Packed
+pub mod Among
 pub mod Across
 pub mod AcrossPlain
 pub mod AcrossMap
@@ -15,7 +16,6 @@ pub mod Cells
 pub mod Decisions
 pub mod OneField
 pub mod Messages
-pub mod Splits
 pub mod Choosing
 pub mod LowerBound
 pub mod FieldAlone

@@ -1,7 +1,7 @@
 -- Each choice of a pair is reached, by its own message, if the smaller bounds in the table are.
-use Rattle.std.proofs.Common.{◌≡◌, ℕ, ◌+◌, ◌<◌, List, [], ◌∷◌, ◌++◌, length, filter, Bool, true, false, not, cond, nat_le, nat_eq, if◌then◌else◌, Option, Some, None, ⊎_elim, refl, ap, sym, ◌∙◌, subst, subst₂}
+use Rattle.std.proofs.Common.{◌≡◌, ℕ, ◌+◌, ◌<◌, List, [], ◌∷◌, ◌++◌, length, filter, Bool, true, false, not, cond, nat_le, nat_eq, if◌then◌else◌, Option, Some, None, refl, ap, sym, ◌∙◌, subst, subst₂}
 use Rattle.std.specs.List.{AllByRecursion}
-use Rattle.std.proofs.lemmas.Bool.{and_parts, leb-true}
+use Rattle.std.proofs.lemmas.Bool.{and_parts, leb-true, not-true}
 use Rattle.pg_schema.specs.Shape.{Shape, FieldShape, PresenceFits, IsField, IsShape, Rising, fields, field_at}
 use Rattle.pg_dyn.specs.Message.{Message}
 use Rattle.pg_dyn.specs.Content.{same_oneof}
@@ -15,6 +15,7 @@ use Rattle.pg_pairs.specs.Choices.{Table, choice, field_choices, in_one_oneof, j
 use Rattle.pg_pairs.specs.Among.{IsAmong}
 use Rattle.pg_pairs.specs.Laws.{ReachedBy, IsReached, ChoicesReached}
 use Rattle.pg_pairs.specs.Carried.{carried_field, carried_two, carried_of, carried, field_child, child_of, choice_child, ChildReached, ChildThere, EachChildCostsLess, EachChoiceIsCarried}
+use Rattle.pg_pairs.proofs.Among.{among_each}
 use Rattle.pg_pairs.proofs.CarriedFields.{IsCarried, CarriesOwn, presences_carried}
 use Rattle.pg_pairs.proofs.Messages.{one_found}
 use Rattle.pg_pairs.proofs.Meeting.{reach_meeting}
@@ -67,14 +68,10 @@ module _ (sight : Sight) (law : IsSight sight) (old new : Shape) (shape_old : Is
     one : same_oneof first.oneof second.oneof ≡ true
     not_old : same_oneof a.oneof b.oneof ≡ false
 
-  not_true : (b : Bool) → not b ≡ true → b ≡ false
-  not_true false h = refl
-  not_true true h = absurd (cc)
-
   meet : (a b : FieldShape) → joins (fields new pair.new) a b ≡ true → Meet a b
   meet a b h =
       let (apart, together) = and_parts (not (same_oneof a.oneof b.oneof)) (in_one_oneof (field_at (fields new pair.new) a.number) (field_at (fields new pair.new) b.number)) h in
-      of (field_at (fields new pair.new) a.number) (field_at (fields new pair.new) b.number) refl refl (not_true (same_oneof a.oneof b.oneof) apart) together
+      of (field_at (fields new pair.new) a.number) (field_at (fields new pair.new) b.number) refl refl (not-true (same_oneof a.oneof b.oneof) apart) together
     where
       of : (x y : Option FieldShape) → field_at (fields new pair.new) a.number ≡ x → field_at (fields new pair.new) b.number ≡ y → same_oneof a.oneof b.oneof ≡ false → in_one_oneof x y ≡ true → Meet a b
       of (Some g) (Some k) at_g at_k apart together = record { first = g; second = k; at_first = at_g; at_second = at_k; one = together; not_old = apart }
@@ -124,10 +121,6 @@ module _ (sight : Sight) (law : IsSight sight) (old new : Shape) (shape_old : Is
       (beside_carried f each.0) (joined_carried f each.0 later each.1 rising.0))
       (all_carried later each.1 rising.1)
 
-  among_each : {A : Type 0} (P : A → Type 0) (x : A) (xs : List A) → AllByRecursion P xs → IsAmong x xs → P x
-  among_each P x [] h among = absurd among
-  among_each P x (y ∷ ys) h among = ⊎_elim (λ same. subst P (sym same) h.0) (λ later. among_each P x ys h.1 later) among
-
   -- what is known of a choice that an encoding may have
   abbrev Known : Choice → Type 0
   Known c = AreApart c × ChildThere table (choice_child old new pair c) c.cost × ((child : Option Message) → ChildReached sight old new table (choice_child old new pair c) child → ReachedBy sight old new pair (carried sight old new pair c child) c.cost)
@@ -140,9 +133,9 @@ module _ (sight : Sight) (law : IsSight sight) (old new : Shape) (shape_old : Is
 
   pub choice_known : (c : Choice) → IsAmong c (choices sight table old new pair) → Known c
   choice_known c among =
-      among_each Known c (choices sight table old new pair)
+      among_each Known c (choices sight table old new pair) among
       (kept_each (all_choices sight table (fields new pair.new) (fields old pair.old))
-      (all_carried (fields old pair.old) (fields_are_found.2 (fields old pair.old) (fields_are_found.0 old pair.old shape_old).rising) (fields_are_found.0 old pair.old shape_old).rising)) among
+      (all_carried (fields old pair.old) (fields_are_found.2 (fields old pair.old) (fields_are_found.0 old pair.old shape_old).rising) (fields_are_found.0 old pair.old shape_old).rising))
 
   -- the child that a smaller bound in the table gives
   child_given : (wanted : Option Pair) (cost : ℕ) → ChildThere table wanted cost → ((p : Pair) (x : ℕ) → table p ≡ Some (Some x) → x < cost → IsReached sight old new p x) → (child : Option Message) × ChildReached sight old new table wanted child

@@ -25,6 +25,7 @@ use Rattle.pg_dyn.specs.Kept as kept
 use Rattle.pg_dyn.specs.Seen.{IsFilled, IsKey, leaf_of, item_seen, content_seen}
 use Rattle.pg_dyn.specs.ContentFits.{ContentFits, HoldsContent, ItemFits, is_zero_value}
 use Rattle.pg_dyn.specs.ScalarItems.{IsItemOf}
+use Rattle.pg_dyn.specs.Setting.{is_zero_kept}
 use Rattle.pg_dyn.specs.Encoding.{child_type, element_type}
 use Rattle.pg_dyn.specs.Fits.{Fits}
 use Rattle.pg_dyn.specs.Comparison.{View, Sought, Alike, is_zero_sought, is_zero_item, hides_zero, shown, same_key, meets, sought, same}
@@ -143,12 +144,8 @@ item_type shape (elements.Message t) (values.Msg child) h = h.1
 
 -- ---- the parts that are shown, with something in the place of their items
 
-abbrev zero_kept : KeptItem → Bool
-zero_kept (kept.Plain listed leaf) = is_zero leaf
-zero_kept (kept.Msg listed m) = false
-
 abbrev is_shown_part : Bool → Part KeptItem → Bool
-is_shown_part hidden p = not (hidden && zero_kept p.item)
+is_shown_part hidden p = not (hidden && is_zero_kept p.item)
 
 abbrev put_in : {B : Type 0} → (ℕ → KeptItem → B) → Part KeptItem → Part B
 put_in make p = record { number = p.number; key = p.key; item = make p.number p.item }
@@ -156,7 +153,7 @@ put_in make p = record { number = p.number; key = p.key; item = make p.number p.
 abbrev put_held : {B : Type 0} → ℕ → (Value → B) → Keyed → Part B
 put_held n make x = record { number = n; key = option_map leaf_of x.0; item = make x.1 }
 
-zero_same : (listed : Bool) (v : Value) → zero_kept (item_seen listed v) ≡ is_zero_value v
+zero_same : (listed : Bool) (v : Value) → is_zero_kept (item_seen listed v) ≡ is_zero_value v
 zero_same listed (values.Int n) = refl
 zero_same listed (values.F32 n) = refl
 zero_same listed (values.F64 n) = refl

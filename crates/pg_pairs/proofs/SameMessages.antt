@@ -12,16 +12,14 @@ use Rattle.pg_schema.specs.declared.message_type.MessageType.{MessageType}
 use Rattle.pg_schema.specs.Parts.{field_shape, shape_of, type_at}
 use Rattle.pg_schema.specs.Shape.{Shape, FieldShape, IsShape, fields, field_at}
 use Rattle.pg_dyn.specs.declared.message.UnknownRecord.{UnknownRecord}
-use Rattle.pg_dyn.specs.Message as model
 use Rattle.pg_dyn.specs.Kept.{Kept, type_of, message_of, unknown_of}
-use Rattle.pg_dyn.specs.Kept as kept
 use Rattle.pg_dyn.specs.Seen.{record_seen}
 use Rattle.pg_dyn.specs.Writing.{bytes_of}
 use Rattle.pg_dyn.specs.Comparison.{records_outside, unshared_bytes, same}
 use Rattle.pg_pairs.specs.Comparing.{is_same, is_same_beside, outside_record}
 use Rattle.pg_pairs.proofs.ChildSteps.{past}
 use Rattle.pg_pairs.proofs.SameSteps.{list_all-map, each-unmap}
-use Rattle.pg_dyn.proofs.PublicLaws.{fields_are_found}
+use Rattle.pg_dyn.proofs.PublicLaws.{fields_are_found, unknown_is_kept}
 use Rattle.pg_dyn.proofs.Lists.{each_at_index, list_all_true}
 
 pub outside_all : (gs : List FieldShape) (us : List UnknownRecord) → flat_map (outside_record gs) us ≡ bytes_of (records_outside gs (map record_seen us))
@@ -32,11 +30,6 @@ outside_all gs (u ∷ us) =
       | true ↦ ap (λ bytes. u.bytes.items ++ bytes) rest
       | false ↦ rest
     ]
-
-unknown_same : (m : Kept) → model.unknown_of (message_of m) ≡ unknown_of m
-unknown_same (kept.ends type unknown) = refl
-unknown_same (kept.holds number key listed leaf later) = unknown_same later
-unknown_same (kept.nests number key listed child later) = unknown_same later
 
 -- one that isn't so makes it false of all
 pub one_false : {A : Type 0} (test : A → Bool) (xs : List A) (i : ℕ) (x : A) → i < length xs → x ≡ get_or xs i x → test x ≡ false → false ≡ list_all test xs
@@ -58,7 +51,7 @@ module _ (alike : EnumType → EnumType → ℤ → Bool) (old new : Parts) (v w
 
   same_is : is_same alike old new v w ≡ (list_all same_by (fields (shape_of old) (type_of v)) && outside_same)
   unfolding same
-  same_is = ap (λ us. list_all same_by (fields (shape_of old) (type_of v)) && bytes_eq (bytes_of (records_outside (fields (shape_of new) (type_of w)) us)) (unshared_bytes (shape_of old) (type_of v) (fields (shape_of new) (type_of w)) (message_of v))) (unknown_same w)
+  same_is = ap (λ us. list_all same_by (fields (shape_of old) (type_of v)) && bytes_eq (bytes_of (records_outside (fields (shape_of new) (type_of w)) us)) (unshared_bytes (shape_of old) (type_of v) (fields (shape_of new) (type_of w)) (message_of v))) (unknown_is_kept.0 w)
 
   module _ (list : List Field) (are : map field_shape list ≡ fields (shape_of old) (type_of v)) (so : Bool) (is : so ≡ list_all (λ f. same_by (field_shape f)) list) where
     all_is : list_all same_by (fields (shape_of old) (type_of v)) ≡ so

@@ -1,6 +1,7 @@
 -- What two fields show, item by item, and part by part as the definitions see it.
 use Rattle.std.proofs.Common.{◌≡◌, ℕ, zero, suc, ◌+◌, ◌<◌, ◌≤◌, Bor, List, [], ◌∷◌, map, filter, drop, length, slice_get, Bool, true, false, not, ◌&&◌, cond, Option, Some, None, option_map, IfSome, MatchOption, refl, ap, ap₂, sym, ◌∙◌, subst, arith, add-one}
 use Rattle.std.specs.List.{AllByRecursion, list_all}
+use Rattle.std.proofs.lemmas.List.{drop_all}
 use Rattle.std.specs.Option.{option_copied}
 use lib.Pointwise.{pointwise}
 use Rattle.pg_dyn.specs.declared.message.Content.{Content}
@@ -29,14 +30,8 @@ pub both_go_on : {X : Type 0} (test : X → X → Bool) (xs ys : List X) (i : �
     pointwise test (drop i xs) (drop i ys) ≡ (test x y && pointwise test (drop (i + 1) xs) (drop (i + 1) ys))
 both_go_on test xs ys i x y first second = ap₂ (pointwise test) (next_from xs i x first) (next_from ys i y second)
 
-drop_all : {X : Type 0} (xs : List X) (i : ℕ) → length xs ≤ i → drop i xs ≡ []
-drop_all [] zero h = refl
-drop_all [] (suc i) h = refl
-drop_all (x ∷ xs) zero h = absurd (omega arith)
-drop_all (x ∷ xs) (suc i) h = drop_all xs i (omega arith)
-
 pub both_end : {X : Type 0} (test : X → X → Bool) (xs ys : List X) (i : ℕ) → length xs ≤ i → length ys ≤ i → pointwise test (drop i xs) (drop i ys) ≡ true
-both_end test xs ys i h k = ap₂ (pointwise test) (drop_all xs i h) (drop_all ys i k)
+both_end test xs ys i h k = ap₂ (pointwise test) (drop_all i xs h) (drop_all i ys k)
 
 pub other_lengths : {X : Type 0} (test : X → X → Bool) (xs ys : List X) → (length xs ≡ length ys → ⊥) → false ≡ pointwise test xs ys
 other_lengths test [] [] h = absurd (h refl)

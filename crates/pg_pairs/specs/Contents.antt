@@ -21,7 +21,7 @@ use Rattle.pg_pairs.specs.Sight.{Sight, IsSight}
 use Rattle.pg_pairs.specs.Likeness.{like}
 use Rattle.pg_pairs.specs.Choices.{Table, number_for, field_choices}
 use Rattle.pg_dyn.specs.Comparison.{Cell, writes}
-use Rattle.pg_pairs.specs.Fields.{is_field_kept}
+use Rattle.pg_dyn.specs.ByCells.{is_field_kept}
 use Rattle.pg_pairs.specs.Among.{IsAmong}
 
 -- the bytes of the content's records

@@ -12,7 +12,6 @@ pub mod Covering
 pub mod Comparing
 pub mod Members
 pub mod LeastMembers
-pub mod Fields
 pub mod FirstSeen
 pub mod Contents
 pub mod Laws

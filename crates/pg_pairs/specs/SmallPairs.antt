@@ -60,7 +60,7 @@ pub record SmallPairs : Type 0 where
   pub child_breaks : choices by_numbers (λ pair. Some (Some 6)) (linked Uint32) (linked Int32) (both second) ≡ choice 1 3 0 8 ∷ choice 2 3 0 8 ∷ []
   pub child_of_two_length_bytes : choices by_numbers (λ pair. Some (Some 128)) (linked Uint32) (linked Int32) (both second) ≡ choice 1 3 0 131 ∷ choice 2 3 0 131 ∷ []
   pub children_of_a_linked_type : children (linked Uint32) (linked Int32) (both second) ≡ both second ∷ both first ∷ []
-  -- a chain of types, each the only field of the next: 126 bytes take one length byte, 128 take two
+  -- a type whose one field is of the type itself, under a table with one bound for each pair: of 126 bytes the length takes one byte, of 128 two
   pub chain_of_one_length_byte : choices by_numbers (λ pair. Some (Some 126)) (of_fields (field 1 Explicit (elements.Message first) ∷ [])) (of_fields (field 1 Explicit (elements.Message first) ∷ [])) (both first) ≡ choice 1 3 0 128 ∷ []
   pub chain_of_two_length_bytes : choices by_numbers (λ pair. Some (Some 128)) (of_fields (field 1 Explicit (elements.Message first) ∷ [])) (of_fields (field 1 Explicit (elements.Message first) ∷ [])) (both first) ≡ choice 1 3 0 131 ∷ []
   -- a type that reaches only itself, unchanged, has no choice where no message of it breaks

@@ -35,6 +35,6 @@ pub(crate) fn push_row(
     ensures err { IfErr result (RowRefused (read_as element) body.now at) }
 {
     let mut values = list_of(alloc, held);
-    read_row(alloc, scalar_of(element), &mut values, body, at)?;
+    read_row(scalar_of(element), &mut values, body, at)?;
     Ok(list_left(values))
 }

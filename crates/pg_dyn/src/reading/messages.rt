@@ -1,7 +1,8 @@
-ghost use Rattle.std.specs.Prelude.{◌≡◌, ◌+◌, ◌^◌, ◌<◌, ◌++◌, ◌∷◌, [], List, length, suc, true, Ok, IfOk, IfErr, OnOk};
+ghost use Rattle.std.specs.Prelude.{◌≡◌, ◌+◌, ◌^◌, ◌<◌, ◌++◌, ◌∷◌, [], List, length, suc, true, false, Ok, IfOk, IfErr, OnOk};
 ghost use Rattle.pg_schema.specs.Invariant.{IsSchema};
 ghost use Rattle.pg_schema.specs.Parts.{field_shape, shape_of};
-ghost use Rattle.pg_schema.specs.Shape.{ElementFits, IsField, fields};
+ghost use Rattle.pg_schema.specs.Shape.{ElementFits, IsField, fields, is_map};
+ghost use Rattle.pg_schema.specs.declared.field.Presence.TheVariants as presences;
 ghost use Rattle.pg_wire.specs.Reads.{seen_record};
 ghost use Rattle.pg_wire.specs.Records.{IsRecord, WireRecord, records_of};
 ghost use Rattle.pg_dyn.specs.Coding.{form, form_wire};
@@ -12,6 +13,7 @@ ghost use Rattle.pg_dyn.specs.Faults.{body_start};
 ghost use Rattle.pg_dyn.specs.Decoding.{all_readable, dec};
 ghost use Rattle.pg_dyn.specs.Fits.{Fits};
 ghost use Rattle.pg_dyn.specs.Kept.{type_of};
+ghost use Rattle.pg_dyn.specs.Lifting.{EntryReadsOn, IsEntryOf};
 ghost use Rattle.pg_dyn.specs.Steps.{FieldReads, HeldFits, HeldReadsOn, IsShallow, IsShallowIn, IsShallowItem, IsShallowRecord, ItemReadsOn, ReadsOn, RefusedIn, RefusedItem, RefusedOf, RefusedRecord};
 
 use crate::accept::{accepts, is_own};
@@ -20,7 +22,6 @@ use crate::error::DynError;
 use crate::message::{Content, Message, Value};
 use crate::reading::contents::push_row;
 use crate::reading::elements::{scalar_of, whole_item};
-use crate::reading::entries::put_entry;
 use crate::reading::items::{child_of, left, only, push_item};
 use crate::scalar::read_item;
 use pg_schema::{Element, Field, Presence, Scalar, Schema};
@@ -178,6 +179,38 @@ fn read_entry(
     Ok(entry)
 }
 
+// The key and the value of the entry that a record of a map field holds, which stands at that place; a missing one is its
+// default.
+#[cycle(reading)]
+fn read_map_entry(
+    alloc: Global,
+    schema: &Schema,
+    field: &Field,
+    key: Scalar,
+    found: &Record<'_>,
+    at: usize,
+    levels: usize,
+) -> Result<(Value, Value), DynError>
+    requires is_schema { IsSchema schema.now }
+    requires is_field { IsField (length (shape_of schema.now)) (field_shape field.now) }
+    requires is_record { IsRecord (seen_record found.now) }
+    requires taken { takes (field_shape field.now) (seen_record found.now) ≡ true }
+    requires of_map { field.now.presence ≡ presences.Map key }
+    requires room { at + length found.now.bytes.now < 2 ^ 64 }
+    ensures ok { IfOk result (λ e. EntryReadsOn (shape_of schema.now) (field_shape field.now) (seen_record found.now) e.0 e.1) }
+    ensures readable { OnOk result (FieldReads (shape_of schema.now) (field_shape field.now) (seen_record found.now)) }
+    ensures fits { IfOk result (λ e. IsEntryOf (shape_of schema.now) (field_shape field.now) e.0 e.1) }
+    ensures shallow { OnOk result (IsShallow (shape_of schema.now) levels (field_shape field.now) (seen_record found.now)) }
+    ensures err { IfErr result (RefusedOf (shape_of schema.now) levels (field_shape field.now) (seen_record found.now) at) }
+{
+    let element = field.element;
+    let start = body_place(found, at);
+    let entry = read_entry(alloc, schema, key, element, found.body, start, levels)?;
+    let whole_key = whole_item(alloc, Element::Scalar(key), entry.key, at, levels)?;
+    let whole_value = whole_item(alloc, element, entry.value, at, levels)?;
+    Ok((whole_key, whole_value))
+}
+
 // Reads what a field holds on by a record that the field takes.
 #[cycle(reading)]
 fn read_content(
@@ -193,6 +226,7 @@ fn read_content(
     requires is_field { IsField (length (shape_of schema.now)) (field_shape field.now) }
     requires is_record { IsRecord (seen_record found.now) }
     requires taken { takes (field_shape field.now) (seen_record found.now) ≡ true }
+    requires no_map { is_map field.now.presence ≡ false }
     requires held { HeldFits (shape_of schema.now) (field_shape field.now) held }
     requires room { at + length found.now.bytes.now < 2 ^ 64 }
     ensures ok { IfOk result (HeldReadsOn (shape_of schema.now) (field_shape field.now) (seen_record found.now) held) }
@@ -203,13 +237,6 @@ fn read_content(
 {
     let element = field.element;
     match field.presence {
-        Presence::Map { key } => {
-            let start = body_place(found, at);
-            let entry = read_entry(alloc, schema, key, element, found.body, start, levels)?;
-            let whole_key = whole_item(alloc, Element::Scalar(key), entry.key, at, levels)?;
-            let whole_value = whole_item(alloc, element, entry.value, at, levels)?;
-            Ok(Some(put_entry(alloc, held, whole_key, whole_value)?))
-        }
         Presence::Repeated { .. } => {
             if !is_own(found.wire_type, element) {
                 return push_row(alloc, element, held, found.body, at);
@@ -217,7 +244,7 @@ fn read_content(
             let value = read_value(alloc, schema, element, None, found, at, levels)?;
             Ok(Some(push_item(alloc, held, value)?))
         }
-        Presence::Implicit | Presence::Explicit => {
+        Presence::Implicit | Presence::Explicit | Presence::Map { .. } => {
             let value = read_value(alloc, schema, element, only(held), found, at, levels)?;
             Ok(left(field.presence, value))
         }
@@ -244,6 +271,10 @@ fn read_record(
 {
     match schema.field(draft.type_id, found.number) {
         Some(field) if accepts(field, found.wire_type) => {
+            if let Presence::Map { key } = field.presence {
+                let (key, value) = read_map_entry(alloc, schema, field, key, found, at, levels)?;
+                return draft.add_entry(alloc, schema, field, key, value);
+            }
             let held = draft.lift(schema, field);
             let new = read_content(alloc, schema, field, held, found, at, levels)?;
             draft.lower(schema, field, new)
@@ -280,6 +311,6 @@ pub(crate) fn read_bytes(
             Err(error) => return Err(DynError::Wire(error.after(start))),
         }
     }
-    *message = draft.finish();
+    *message = draft.finish()?;
     Ok(())
 }

@@ -5,105 +5,95 @@ ghost use Rattle.pg_schema.specs.Shape.{is_packable};
 ghost use Rattle.pg_wire.specs.Errors.{error_at};
 ghost use Rattle.pg_wire.specs.Reading.{Fault};
 ghost use Rattle.pg_wire.specs.declared.error.WireError.TheVariants as wire_errors;
-ghost use Rattle.pg_wire.specs.declared.record.WireType.TheVariants.{Varint};
-ghost use Rattle.pg_dyn.specs.Coding.{element_at, form_wire, scalar_form};
+ghost use Rattle.pg_dyn.specs.Coding.{element_at, form_wire, scalar_form, word_in};
 ghost use Rattle.pg_dyn.specs.Content.{packed_leaves};
 ghost use Rattle.pg_dyn.specs.declared.error.DynError.TheVariants as errors;
 ghost use Rattle.pg_dyn.specs.declared.message.Value.{Value};
 ghost use Rattle.pg_dyn.specs.ScalarItems.{IsItemOf};
 ghost use Rattle.pg_dyn.specs.Seen.{leaf_of};
 ghost use Rattle.pg_dyn.specs.Steps.{RowReads, RowRefused};
+ghost use Rattle.pg_dyn.specs.WordOf.{HasBits};
 
 use crate::body::wire_type_of;
 use crate::error::DynError;
 use crate::message::Value;
-use crate::scalar::read_item;
-use crate::word::number_of;
+use crate::scalar::word_item;
 use pg_schema::Scalar;
 use pg_wire::{WireError, WireType, read_varint};
-use std::alloc::Global;
 
-// So many bytes, if there are as many.
-fn exact_len(len: usize, bytes: &[u8]) -> Result<usize, WireError>
-    ensures ok { IfOk result (λ n. (n ≡ len) × (len ≤ length bytes.now)) }
-    ensures err { IfErr result (λ e. (e ≡ wire_errors.Truncated 0) × (length bytes.now < len)) }
-{
-    if bytes.len() < len {
-        return Err(WireError::Truncated { at: 0 });
-    }
-    Ok(len)
-}
-
-// How many bytes the body of one element takes at the front of a packed list.
-fn element_len(wire_type: WireType, bytes: &[u8]) -> Result<usize, WireError>
-    ensures ok { IfOk result (λ len. (element_at wire_type bytes.now ≡ Ok (take len bytes.now, drop len bytes.now)) × (1 ≤ len) × (len ≤ length bytes.now)) }
+// The word at the front of a packed list, and how many bytes it takes.
+#[inline(always)]
+#[tactic(auto, unfolding(crate::specs::Coding::word_in))]
+fn front_word(wire_type: WireType, bytes: &[u8]) -> Result<(u64, usize), WireError>
+    ensures ok { IfOk result (λ read. (element_at wire_type bytes.now ≡ Ok (take read.1 bytes.now, drop read.1 bytes.now)) × (1 ≤ read.1) × (read.1 ≤ length bytes.now)) }
+    ensures word { IfOk result (λ read. (word_in wire_type (take read.1 bytes.now) ≡ read.0) × HasBits wire_type read.0) }
     ensures err { IfErr result (λ e. (fault : Fault) × (element_at wire_type bytes.now ≡ Err fault) × (e ≡ error_at fault 0)) }
 {
     match wire_type {
-        WireType::Varint => match read_varint(bytes) {
-            Ok((_word, len)) => Ok(len),
-            Err(error) => Err(error),
+        WireType::Varint => read_varint(bytes),
+        WireType::I64 => match bytes.split_first_chunk::<8>() {
+            Some((word, _)) => Ok((u64::from_le_bytes(*word), 8)),
+            None => Err(WireError::Truncated { at: 0 }),
         },
-        WireType::I64 => exact_len(8, bytes),
-        WireType::I32 => exact_len(4, bytes),
+        WireType::I32 => match bytes.split_first_chunk::<4>() {
+            Some((word, _)) => Ok((u64::from(u32::from_le_bytes(*word)), 4)),
+            None => Err(WireError::Truncated { at: 0 }),
+        },
         WireType::Len => Err(WireError::Truncated { at: 0 }),
     }
 }
 
-// How many items a packed list has, where it is one: of a varint just the last byte is below 128.
+// How many of the bytes end a varint: these are below 128.
+fn ends_in(piece: &[u8]) -> u8
+    requires { length piece.now ≤ 128 }
+{
+    let mut count = 0;
+    for place in 0..piece.len() {
+        count += u8::from(piece[place] < 128);
+    }
+    count
+}
+
+// How many varints end in the bytes. They are counted in pieces, of which each count is a byte: so many bytes are added at a time.
+fn varints_in(body: &[u8]) -> usize {
+    let mut count: usize = 0;
+    for piece in body.chunks(128) {
+        count = count.saturating_add(usize::from(ends_in(piece)));
+    }
+    count
+}
+
+// How many items a packed list has, where it is one.
 fn row_len(wire_type: WireType, body: &[u8]) -> usize {
     match wire_type {
-        WireType::Varint => body.iter().filter(|byte| **byte < 128).count(),
+        WireType::Varint => varints_in(body),
         WireType::I64 => body.len() / 8,
         WireType::I32 => body.len() / 4,
         WireType::Len => 0,
     }
 }
 
-// Reads a packed list of varints behind the items.
-fn read_varints(
+// Reads a packed list of words of the wire type behind the items. Inlined, so that there is a loop for each wire type.
+#[inline(always)]
+fn read_words(
+    wire_type: WireType,
     scalar: Scalar,
     values: &mut Vec<Value>,
     body: &[u8],
     at: usize,
 ) -> Result<(), DynError>
-    requires { form_wire (scalar_form scalar) ≡ Varint }
+    requires packable { is_packable (elements.Scalar scalar) ≡ true }
+    requires wire { wire_type ≡ form_wire (scalar_form scalar) }
     ensures ok { OnOk result (RowReads scalar body.now values.old.items values.new.items) }
     ensures err { IfErr result (RowRefused scalar body.now at) }
 {
     let mut start = 0;
     while start < body.len() {
-        let (word, len) = match read_varint(&body[start..]) {
+        let (word, len) = match front_word(wire_type, &body[start..]) {
             Ok(read) => read,
             Err(error) => return Err(DynError::Wire(error.after(at))),
         };
-        values.push(Value::Int(number_of(scalar, word)))?;
-        start += len;
-    }
-    Ok(())
-}
-
-// Reads any other packed list behind the items.
-fn read_elements(
-    alloc: Global,
-    scalar: Scalar,
-    values: &mut Vec<Value>,
-    body: &[u8],
-    at: usize,
-) -> Result<(), DynError>
-    requires { is_packable (elements.Scalar scalar) ≡ true }
-    ensures ok { OnOk result (RowReads scalar body.now values.old.items values.new.items) }
-    ensures err { IfErr result (RowRefused scalar body.now at) }
-{
-    let wire_type = wire_type_of(scalar);
-    let mut start = 0;
-    while start < body.len() {
-        let len = match element_len(wire_type, &body[start..]) {
-            Ok(len) => len,
-            Err(error) => return Err(DynError::Wire(error.after(at))),
-        };
-        let value = read_item(alloc, scalar, &body[start..start + len], at)?;
-        values.push(value)?;
+        values.push(word_item(scalar, word))?;
         start += len;
     }
     Ok(())
@@ -112,7 +102,6 @@ fn read_elements(
 // Reads a packed list, which stands in the record at that place, behind the items (Protocol Buffers encoding guide, "Packed
 // Repeated Fields"). Room for all of them is made at once.
 pub(crate) fn read_row(
-    alloc: Global,
     scalar: Scalar,
     values: &mut Vec<Value>,
     body: &[u8],
@@ -125,9 +114,9 @@ pub(crate) fn read_row(
     let wire_type = wire_type_of(scalar);
     values.reserve(row_len(wire_type, body))?;
     match wire_type {
-        WireType::Varint => read_varints(scalar, values, body, at),
-        WireType::I64 | WireType::I32 | WireType::Len => {
-            read_elements(alloc, scalar, values, body, at)
-        }
+        WireType::Varint => read_words(WireType::Varint, scalar, values, body, at),
+        WireType::I64 => read_words(WireType::I64, scalar, values, body, at),
+        WireType::I32 => read_words(WireType::I32, scalar, values, body, at),
+        WireType::Len => read_words(WireType::Len, scalar, values, body, at),
     }
 }

@@ -19,8 +19,8 @@ count-requires-clause-packed c = packs (shape_of c.args.schema.now) c.args.type_
 pub write-requires-clause-packed : goal.write-requires-clause-packed
 write-requires-clause-packed c = packs (shape_of c.args.schema.now) c.args.type_id c.requires.is_schema.shape c.args.held.now.0 (field_shape c.in-Some.field.now) (sym c.in-Some.ensures.shape)
 
-pub returns : goal.returns
-returns c =
-    let lengths = c.deref.ensures.value ∙ c.in_ok-count.ensures.inner ∙ ap (λ xs. xs ++ content_lengths (shape_of c.args.schema.now) c.args.held.now.1) c.new-lengths.ensures.items in
-    let wrote = c.in_ok-write.ensures.ok [] (lengths ∙ sym (append-nil (content_lengths (shape_of c.args.schema.now) c.args.held.now.1))) in
+pub returns-in-Ok-clause-ok : goal.returns-in-Ok-clause-ok
+returns-in-Ok-clause-ok c =
+    let lengths = c.deref.ensures.value ∙ c.in_ok-len.ensures.inner ∙ ap (λ xs. xs ++ content_lengths (shape_of c.args.schema.now) c.args.held.now.1) c.new-lengths.ensures.items in
+    let wrote = c.in-Ok.ensures.ok [] (lengths ∙ sym (append-nil (content_lengths (shape_of c.args.schema.now) c.args.held.now.1))) in
     wrote.0 ∙ ap (λ o. c.args.out.now.items ++ written_by (shape_of c.args.schema.now) o c.args.held.now) c.in-Some.ensures.shape

@@ -12,7 +12,7 @@ use Rattle.pg_dyn.specs.Replacing.{is_rival_number, without_rivals}
 use Rattle.pg_dyn.specs.Seen.{record_seen}
 use Rattle.pg_dyn.proofs.DecodeSteps.{rising}
 use Rattle.pg_dyn.proofs.FitsByContents.{contents_from_fits}
-use Rattle.pg_dyn.proofs.Gaps.{held, held_filled, held_keys}
+use Rattle.pg_dyn.proofs.Drafted.{held, held_filled, held_keys, seen_is, settle_place}
 use Rattle.pg_dyn.proofs.HeldAlone.{held_alone}
 use Rattle.pg_dyn.proofs.Lists.{filter_all}
 use Rattle.pg_dyn.proofs.ReplacingLaws.{type_shown}
@@ -27,14 +27,15 @@ returns-then-holds c =
     let us = map record_seen a.unknown.items in
     let f = field_shape c.args.field.now in
     let fs = fields shape a.type_id in
-    let same = sym (ap type_of c.self.view_is) ∙ type_shown a.type_id cs us in
+    let same = sym (ap type_of (seen_is c.self.inside ∙ c.self.view_is)) ∙ type_shown a.type_id cs us in
     let found = subst (λ (t : TypeId). field_at (fields (shape_of c.args.schema.now) t) c.args.field.now.number ≡ Some (field_shape c.args.field.now)) same c.requires.found in
     let (i, inside, here) = c.holds.ensures c.if-holds.true in
-    let by = contents_from_fits shape a.type_id cs us c.args.self.now c.self.view_is c.requires.is_schema.shape (held_filled a) (held_keys a c.self.invariant) c.requires.fits in
+    let by = contents_from_fits shape a.type_id cs us c.args.self.now (seen_is c.self.inside ∙ c.self.view_is) c.requires.is_schema.shape (held_filled a) (held_keys a c.self.invariant) c.requires.fits in
     let within = subst (λ (xs : List (ℕ × Content)). i < length (filled_fields xs)) c.deref.ensures.value inside in
     let at = subst (λ (xs : List (ℕ × Content)). (d : ℕ × Content) → (get_or (filled_fields xs) i d).0 ≡ c.args.field.now.number) c.deref.ensures.value here in
+    let (j, there, number) = settle_place f.number (filled_fields a.fields.items) (i, within, at) in
     let d : ℕ × Content = (0, contents.One (values.Int (pos 0))) in
-    let all = held_alone fs (rising c.args.schema.now c.requires.is_schema a.type_id) f f.number found cs i d within (at d) by.apart in
+    let all = held_alone fs (rising c.args.schema.now c.requires.is_schema a.type_id) f f.number found cs j d there (number d) by.apart in
     let left = sym (filter_all (λ (x : ℕ × Content). not (is_rival_number (fields (shape_of c.args.schema.now) a.type_id) (field_shape c.args.field.now) x.0)) cs all) in
-    sym c.self.view_is ∙ cleared_shown fs f a.type_id cs cs us c.args.self.now left c.self.view_is
+    sym (seen_is c.self.inside ∙ c.self.view_is) ∙ cleared_shown fs f a.type_id cs cs us c.args.self.now left (seen_is c.self.inside ∙ c.self.view_is)
     ∙ ap (λ (t : TypeId). without_rivals (fields (shape_of c.args.schema.now) t) (field_shape c.args.field.now) c.args.self.now) (sym same)

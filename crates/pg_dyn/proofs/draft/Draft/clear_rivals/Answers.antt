@@ -8,9 +8,11 @@ use Rattle.pg_dyn.specs.declared.message.Content.{Content}
 use Rattle.pg_dyn.specs.FieldList.{filled_fields, is_filled}
 use Rattle.pg_dyn.specs.Kept.{type_of}
 use Rattle.pg_dyn.specs.Replacing.{is_rival_number, without_rivals}
-use Rattle.pg_dyn.specs.Seen.{IsFilled, HasKeys, Rises, record_seen}
+use Rattle.pg_dyn.specs.Drafts.{IsInOrder}
+use Rattle.pg_dyn.specs.KeyOrder.{KeysAlike}
+use Rattle.pg_dyn.specs.Seen.{IsFilled, Rises, record_seen}
 use Rattle.pg_dyn.proofs.FieldListLaws.{rises-filter}
-use Rattle.pg_dyn.proofs.Gaps.{held}
+use Rattle.pg_dyn.proofs.Drafted.{held, seen_is, seen_raw, settle_each, settle_filter}
 use Rattle.pg_dyn.proofs.Lists.{filter_swap}
 use Rattle.pg_dyn.proofs.ReplacingLaws.{no_rivals, type_shown}
 use Rattle.pg_dyn.proofs.WithoutRivals.{cleared_shown, each_left}
@@ -25,7 +27,8 @@ invariant_of-self c =
     record {
       rises = subst Rises is (rises-filter (λ (x : ℕ × Content). not (is_rival_number (fields (shape_of c.args.schema.now) a.type_id) (field_shape c.args.field.now) x.0)) a.fields.items c.self.invariant.rises);
       filled = λ none. subst (AllByRecursion (λ (x : ℕ × Content). IsFilled x.1)) is (each_left (λ (x : ℕ × Content). IsFilled x.1) fs f a.fields.items (c.self.invariant.filled none));
-      keys = subst (AllByRecursion (λ (x : ℕ × Content). HasKeys x.1)) is (each_left (λ (x : ℕ × Content). HasKeys x.1) fs f a.fields.items c.self.invariant.keys);
+      alike = subst (AllByRecursion (λ (x : ℕ × Content). KeysAlike x.1)) is (each_left (λ (x : ℕ × Content). KeysAlike x.1) fs f a.fields.items c.self.invariant.alike);
+      in_order = λ none. subst (AllByRecursion (λ (x : ℕ × Content). IsInOrder x.1)) is (each_left (λ (x : ℕ × Content). IsInOrder x.1) fs f a.fields.items (c.self.invariant.in_order none));
       records = c.self.invariant.records;
     }
 
@@ -34,9 +37,11 @@ returns-in-Some c =
     let a = c.self.inside in
     let us = map record_seen a.unknown.items in
     let f = field_shape c.args.field.now in
-    let same = sym (ap type_of c.self.view_is) ∙ type_shown a.type_id (held a) us in
-    cleared_shown (fields (shape_of c.args.schema.now) a.type_id) f a.type_id (held a) _ us c.args.self.now
-    (ap filled_fields c.remove_rivals.ensures ∙ filter_swap (λ (x : ℕ × Content). is_filled x.1) (λ (x : ℕ × Content). not (is_rival_number (fields (shape_of c.args.schema.now) c.self.inside.type_id) (field_shape c.args.field.now) x.0)) a.fields.items) c.self.view_is
+    let same = sym (ap type_of (seen_is c.self.inside ∙ c.self.view_is)) ∙ type_shown a.type_id (held a) us in
+    seen_raw a.type_id c.remove_rivals.new.contents.items us
+    ∙ cleared_shown (fields (shape_of c.args.schema.now) a.type_id) f a.type_id (held a) (settle_each (filled_fields c.remove_rivals.new.contents.items)) us c.args.self.now
+    (ap settle_each (ap filled_fields c.remove_rivals.ensures ∙ filter_swap (λ (x : ℕ × Content). is_filled x.1) (λ (x : ℕ × Content). not (is_rival_number (fields (shape_of c.args.schema.now) c.self.inside.type_id) (field_shape c.args.field.now) x.0)) a.fields.items)
+    ∙ sym (settle_filter (λ (k : ℕ). not (is_rival_number (fields (shape_of c.args.schema.now) c.self.inside.type_id) (field_shape c.args.field.now) k)) (filled_fields a.fields.items))) (seen_is c.self.inside ∙ c.self.view_is)
     ∙ ap (λ (t : TypeId). without_rivals (fields (shape_of c.args.schema.now) t) (field_shape c.args.field.now) c.args.self.now) (sym same)
 
 pub returns-in-None : goal.returns-in-None

@@ -1,5 +1,5 @@
 -- The member that was noted last is the only other one that the message holds.
-use Rattle.std.proofs.Common.{◌≡◌, ◌<◌, ℕ, List, [], true, map, length, get_or, Some, None, refl, ap, sym, subst, ◌∙◌}
+use Rattle.std.proofs.Common.{◌≡◌, ◌<◌, ℕ, List, [], true, map, length, get_or, flat_map, Some, None, refl, ap, sym, subst, ◌∙◌}
 use Rattle.std.specs.List.{AllByRecursion}
 use Rattle.pg_schema.specs.declared.field.TypeId.{TypeId}
 use Rattle.pg_schema.specs.declared.parts.Parts.{Parts}
@@ -8,19 +8,21 @@ use Rattle.pg_schema.specs.Parts.{field_shape, shape_of}
 use Rattle.pg_schema.specs.Shape.{FieldShape, fields, field_at}
 use Rattle.pg_dyn.specs.declared.draft.Draft.TheInside.{Inside}
 use Rattle.pg_dyn.specs.declared.message.Content.{Content}
-use Rattle.pg_dyn.specs.Drafts.{IsDraft}
+use Rattle.pg_dyn.specs.Drafts.{IsDraft, IsInOrder, settled_seen}
 use Rattle.pg_dyn.specs.FieldList.{filled_fields, put_field, remove_field}
 use Rattle.pg_dyn.specs.Fits.{Fits}
 use Rattle.pg_dyn.specs.Held.{placeholder}
-use Rattle.pg_dyn.specs.Kept.{Kept, KeptItem, of_number, type_of}
+use Rattle.pg_dyn.specs.Kept.{Kept, KeptItem, ends, of_number, type_of}
 use Rattle.pg_dyn.specs.Message.{Part}
-use Rattle.pg_dyn.specs.Replacing.{is_rival_number, with_content, with_parts, without_rivals}
-use Rattle.pg_dyn.specs.Seen.{HasKeys, IsFilled, Rises, record_seen}
+use Rattle.pg_dyn.specs.Replacing.{is_rival_number, kept_onto, with_content, with_parts, without_rivals}
+use Rattle.pg_dyn.specs.KeyOrder.{KeysAlike}
+use Rattle.pg_dyn.specs.Seen.{IsFilled, Rises, record_seen}
 use Rattle.pg_dyn.specs.Steps.{MayHold}
 use Rattle.pg_dyn.proofs.DecodeSteps.{rising}
 use Rattle.pg_dyn.proofs.Exchanging.{IsExchanged, lifted}
 use Rattle.pg_dyn.proofs.FieldListLaws.{each_put, each_removed, rises_put, rises_remove}
-use Rattle.pg_dyn.proofs.Gaps.{filled_put, filled_removed, held, held_filled, held_keys, held_rises}
+use Rattle.pg_dyn.proofs.Drafted.{held, held_filled, held_keys, held_rises, seen_is, seen_raw, settle_each, settle_place, settle_removed, settle_zero}
+use Rattle.pg_dyn.proofs.Gaps.{filled_put, filled_removed}
 use Rattle.pg_dyn.proofs.ReplacingLaws.{remove_shows, shown, type_shown}
 use Rattle.pg_dyn.proofs.draft.Draft.lift.Goals.{Then-exchange}
 use Rattle.pg_dyn.proofs.draft.Draft.lift.Goals as goal
@@ -33,13 +35,13 @@ record Left (parts : Parts) (f : FieldShape) (m new : Kept) : Type 0 where
   of_type : type_of new ≡ type_of m
   others : Fits (shape_of parts) (without_rivals (fields (shape_of parts) (type_of m)) f m)
 
-module _ (parts : Parts) (is_schema : IsSchema parts) (f : FieldShape) (m : Kept) (a : Inside) (view : shown a.type_id (filled_fields a.fields.items) (map record_seen a.unknown.items) ≡ m) (inv : IsDraft a) (fits : Fits (shape_of parts) m)
+module _ (parts : Parts) (is_schema : IsSchema parts) (f : FieldShape) (m : Kept) (a : Inside) (view : shown a.type_id (held a) (map record_seen a.unknown.items) ≡ m) (inv : IsDraft a) (fits : Fits (shape_of parts) m)
     (found : field_at (fields (shape_of parts) (type_of m)) f.number ≡ Some f) (other : ℕ) (rival : is_rival_number (fields (shape_of parts) a.type_id) f other ≡ true)
-    (there : (i : ℕ) × (i < length (filled_fields a.fields.items)) × ((d : ℕ × Content) → (get_or (filled_fields a.fields.items) i d).0 ≡ other)) where
+    (there : (i : ℕ) × (i < length (held a)) × ((d : ℕ × Content) → (get_or (held a) i d).0 ≡ other)) where
   type_is : type_of m ≡ a.type_id
-  type_is = sym (ap type_of view) ∙ type_shown a.type_id (filled_fields a.fields.items) (map record_seen a.unknown.items)
+  type_is = sym (ap type_of view) ∙ type_shown a.type_id (held a) (map record_seen a.unknown.items)
 
-  left : (new : List (ℕ × Content)) → IsExchanged other f.number (filled_fields a.fields.items) new → (w : Kept) → w ≡ shown a.type_id new (map record_seen a.unknown.items) → Left parts f m w
+  left : (new : List (ℕ × Content)) → IsExchanged other f.number (held a) new → (w : Kept) → w ≡ shown a.type_id new (map record_seen a.unknown.items) → Left parts f m w
   left new exchanged w is =
       let shape = shape_of parts in
       let us = map record_seen a.unknown.items in
@@ -55,16 +57,25 @@ module _ (parts : Parts) (is_schema : IsSchema parts) (f : FieldShape) (m : Kept
 
 -- Exchanged: a zero stands under the number.
 
-swapped : (c : Then-exchange) → Left c.args.schema.now (field_shape c.args.field.now) c.args.self.now (shown c.self.inside.type_id (filled_fields c.exchange.new.fields.items) (map record_seen c.self.inside.unknown.items))
+swapped : (c : Then-exchange) → Left c.args.schema.now (field_shape c.args.field.now) c.args.self.now (shown c.self.inside.type_id (settle_each (filled_fields c.exchange.new.fields.items)) (map record_seen c.self.inside.unknown.items))
 swapped c =
     let a = c.self.inside in
     let n = c.args.field.now.number in
-    let there = subst (λ (xs : List (ℕ × Content)). (i : ℕ) × (i < length (filled_fields xs)) × ((d : ℕ × Content) → (get_or (filled_fields xs) i d).0 ≡ c.in-Some.other)) c.deref.ensures.value c.in-Some.ensures.there in
+    let there = settle_place c.in-Some.other (filled_fields c.self.inside.fields.items) (subst (λ (xs : List (ℕ × Content)). (i : ℕ) × (i < length (filled_fields xs)) × ((d : ℕ × Content) → (get_or (filled_fields xs) i d).0 ≡ c.in-Some.other)) c.deref.ensures.value c.in-Some.ensures.there) in
     let is = c.exchange.ensures.exchanged c.if-exchange.true in
-    left c.args.schema.now c.requires.is_schema (field_shape c.args.field.now) c.args.self.now a c.self.view_is c.self.invariant c.requires.fits c.requires.found c.in-Some.other c.in-Some.ensures.rival there
-    (filled_fields c.exchange.new.fields.items)
-    (Some placeholder, ap filled_fields is ∙ filled_put n placeholder (remove_field c.in-Some.other a.fields.items) refl ∙ ap (put_field n placeholder) (filled_removed c.in-Some.other a.fields.items))
-    (shown a.type_id (filled_fields c.exchange.new.fields.items) (map record_seen a.unknown.items)) refl
+    left c.args.schema.now c.requires.is_schema (field_shape c.args.field.now) c.args.self.now a (seen_is c.self.inside ∙ c.self.view_is) c.self.invariant c.requires.fits c.requires.found c.in-Some.other c.in-Some.ensures.rival there
+    (settle_each (filled_fields c.exchange.new.fields.items)) (
+      Some placeholder,
+      ap settle_each (ap filled_fields is ∙ filled_put n placeholder (remove_field c.in-Some.other a.fields.items) refl) ∙ settle_zero n (filled_fields (remove_field c.in-Some.other a.fields.items))
+          ∙ ap (put_field n placeholder) (ap settle_each (filled_removed c.in-Some.other a.fields.items) ∙ settle_removed c.in-Some.other (filled_fields a.fields.items)),
+    )
+    (shown a.type_id (settle_each (filled_fields c.exchange.new.fields.items)) (map record_seen a.unknown.items)) refl
+
+left_seen : {parts : Parts} {f : FieldShape} {m old new : Kept} → old ≡ new → Left parts f m new → Left parts f m old
+left_seen {parts} {f} {m} {old} {new} is h = subst (Left parts f m) (sym is) h
+
+swapped_seen : (c : Then-exchange) → Left c.args.schema.now (field_shape c.args.field.now) c.args.self.now (kept_onto (flat_map (λ (x : ℕ × Content). settled_seen x.0 x.1) (filled_fields c.exchange.new.fields.items)) (ends c.self.inside.type_id (map record_seen c.self.inside.unknown.items)))
+swapped_seen c = left_seen (seen_raw c.self.inside.type_id c.exchange.new.fields.items (map record_seen c.self.inside.unknown.items)) (swapped c)
 
 pub invariant_of-self : goal.invariant_of-self
 invariant_of-self c =
@@ -75,25 +86,27 @@ invariant_of-self c =
       rises = subst Rises is (rises_put n placeholder (remove_field c.in-Some.other a.fields.items) (rises_remove c.in-Some.other a.fields.items c.self.invariant.rises));
       filled = λ none. subst (AllByRecursion (λ (f : ℕ × Content). IsFilled f.1)) is
           (each_put (λ (f : ℕ × Content). IsFilled f.1) n placeholder (remove_field c.in-Some.other a.fields.items) tt (each_removed (λ (f : ℕ × Content). IsFilled f.1) c.in-Some.other a.fields.items (c.self.invariant.filled none)));
-      keys = subst (AllByRecursion (λ (f : ℕ × Content). HasKeys f.1)) is
-          (each_put (λ (f : ℕ × Content). HasKeys f.1) n placeholder (remove_field c.in-Some.other a.fields.items) tt (each_removed (λ (f : ℕ × Content). HasKeys f.1) c.in-Some.other a.fields.items c.self.invariant.keys));
+      alike = subst (AllByRecursion (λ (f : ℕ × Content). KeysAlike f.1)) is
+          (each_put (λ (f : ℕ × Content). KeysAlike f.1) n placeholder (remove_field c.in-Some.other a.fields.items) tt (each_removed (λ (f : ℕ × Content). KeysAlike f.1) c.in-Some.other a.fields.items c.self.invariant.alike));
+      in_order = λ none. subst (AllByRecursion (λ (f : ℕ × Content). IsInOrder f.1)) is
+          (each_put (λ (f : ℕ × Content). IsInOrder f.1) n placeholder (remove_field c.in-Some.other a.fields.items) tt (each_removed (λ (f : ℕ × Content). IsInOrder f.1) c.in-Some.other a.fields.items (c.self.invariant.in_order none)));
       records = c.self.invariant.records;
     }
 
 pub returns-then-exchange-clause-parts : goal.returns-then-exchange-clause-parts
-returns-then-exchange-clause-parts c = (swapped c).nothing_held
+returns-then-exchange-clause-parts c = (swapped_seen c).nothing_held
 
 pub returns-then-exchange-clause-same : goal.returns-then-exchange-clause-same
-returns-then-exchange-clause-same c = (swapped c).same
+returns-then-exchange-clause-same c = (swapped_seen c).same
 
 pub returns-then-exchange-clause-may_hold : goal.returns-then-exchange-clause-may_hold
-returns-then-exchange-clause-may_hold c = (swapped c).may_hold
+returns-then-exchange-clause-may_hold c = (swapped_seen c).may_hold
 
 pub returns-then-exchange-clause-of_type : goal.returns-then-exchange-clause-of_type
-returns-then-exchange-clause-of_type c = (swapped c).of_type
+returns-then-exchange-clause-of_type c = (swapped_seen c).of_type
 
 pub returns-then-exchange-clause-others : goal.returns-then-exchange-clause-others
-returns-then-exchange-clause-others c = (swapped c).others
+returns-then-exchange-clause-others c = (swapped_seen c).others
 
 -- Taken out: its place stays.
 
@@ -102,12 +115,13 @@ taken c =
     let a = c.self.inside in
     let us = map record_seen a.unknown.items in
     let other = c.in-Some.other in
-    let there = subst (λ (xs : List (ℕ × Content)). (i : ℕ) × (i < length (filled_fields xs)) × ((d : ℕ × Content) → (get_or (filled_fields xs) i d).0 ≡ c.in-Some.other)) c.deref.ensures.value c.in-Some.ensures.there in
-    left c.args.schema.now c.requires.is_schema (field_shape c.args.field.now) c.args.self.now a c.self.view_is c.self.invariant c.requires.fits c.requires.found other c.in-Some.ensures.rival there
-    (remove_field other (filled_fields a.fields.items)) (None, refl) c.drop_content.new.self
+    let there = settle_place c.in-Some.other (filled_fields c.self.inside.fields.items) (subst (λ (xs : List (ℕ × Content)). (i : ℕ) × (i < length (filled_fields xs)) × ((d : ℕ × Content) → (get_or (filled_fields xs) i d).0 ≡ c.in-Some.other)) c.deref.ensures.value c.in-Some.ensures.there) in
+    left c.args.schema.now c.requires.is_schema (field_shape c.args.field.now) c.args.self.now a (seen_is c.self.inside ∙ c.self.view_is) c.self.invariant c.requires.fits c.requires.found other c.in-Some.ensures.rival there
+    (remove_field other (held a)) (None, refl) c.drop_content.new.self
     (c.drop_content.ensures
-    ∙ ap (λ (xs : List (ℕ × Content)). with_parts other [] (shown a.type_id (filled_fields xs) us)) (c.exchange.ensures.left c.if-exchange.false)
-    ∙ sym (remove_shows a.type_id other (filled_fields a.fields.items) us))
+    ∙ ap (λ (xs : List (ℕ × Content)). with_parts other [] (kept_onto (flat_map (λ (x : ℕ × Content). settled_seen x.0 x.1) (filled_fields xs)) (ends a.type_id us))) (c.exchange.ensures.left c.if-exchange.false)
+    ∙ ap (with_parts other []) (seen_raw a.type_id a.fields.items us)
+    ∙ sym (remove_shows a.type_id other (held a) us))
 
 pub returns-else-exchange-clause-parts : goal.returns-else-exchange-clause-parts
 returns-else-exchange-clause-parts c = (taken c).nothing_held

@@ -1,6 +1,9 @@
 -- Each step reads on, and tells a fault where it stands.
-use Rattle.std.proofs.Common.{◌≡◌, suc, ◌-◌, ◌∷◌, map, true, false, not, Some, None, Result, Ok, Err, OnOk, IfOk, IfErr, inl, inr, refl, ap, sym, subst, ◌∙◌, arith}
+use Rattle.std.proofs.Common.{◌≡◌, suc, ◌-◌, ◌∷◌, map, true, false, not, Some, None, Result, Ok, Err, OnOk, IfOk, IfErr, ◌⊎◌, inl, inr, length, true≢false, refl, ap, sym, subst, ◌∙◌, arith}
 use Rattle.std.proofs.lemmas.Result.{err_from_is_err_and}
+use Rattle.pg_schema.specs.declared.field.Presence.{Presence}
+use Rattle.pg_schema.specs.declared.field.Presence.TheVariants as presences
+use Rattle.pg_schema.specs.declared.field.Scalar.{Scalar}
 use Rattle.pg_schema.specs.Parts.{field_shape, shape_of}
 use Rattle.pg_schema.specs.Shape.{fields, field_at}
 use Rattle.pg_wire.specs.Reads.{seen, seen_record}
@@ -14,6 +17,7 @@ use Rattle.pg_dyn.proofs.MessageSteps as steps
 use Rattle.pg_dyn.proofs.Ahead as ahead
 use Rattle.pg_dyn.proofs.ItemSteps as items
 use Rattle.pg_dyn.proofs.RecordSteps as records
+use Rattle.pg_dyn.proofs.Adding.{entry_reads}
 use Rattle.pg_dyn.proofs.ContentSteps as contents
 use Rattle.pg_dyn.proofs.EntrySteps as entries
 use Rattle.pg_dyn.specs.Content.{is_unknown, same_wire, takes, key_field, value_field}
@@ -24,7 +28,7 @@ use Rattle.pg_dyn.proofs.reading.messages.+reading.Goals.{read_part-else-found-e
 use Rattle.pg_dyn.specs.Seen.{record_seen}
 use Rattle.pg_dyn.proofs.DecodeSteps.{on_ok_map}
 use Rattle.pg_dyn.proofs.FitsChecks.{unknown_by_field, unknown_without_field}
-use Rattle.pg_dyn.proofs.Gaps.{held, held_filled, held_keys, held_rises}
+use Rattle.pg_dyn.proofs.Drafted.{held, held_filled, held_keys, held_rises, seen_is}
 use Rattle.pg_dyn.proofs.ReplacingLaws.{type_shown}
 use Rattle.pg_dyn.proofs.reading.messages.+reading.Goals.{read_record-in_default-via-in-Some+else-accepts, read_record-in_default-via-in_default}
 use Rattle.pg_dyn.proofs.reading.messages.+reading.Goals as goal
@@ -48,6 +52,18 @@ on_ok_both (Err e) f h k = tt
 on_any_ok : {T E : Type 0} {A : Type 0} (r : Result T E) → A → OnOk r A
 on_any_ok (Ok x) h = h
 on_any_ok (Err e) h = tt
+
+-- which presence it is, if it is no map's
+singular : (p : Presence) → is_map p ≡ false → (p ≡ presences.Implicit) ⊎ ((p ≡ presences.Explicit) ⊎ ((s : Scalar) × (p ≡ presences.Map s))) → (p ≡ presences.Implicit) ⊎ (p ≡ presences.Explicit)
+singular p no_map (inl i) = inl i
+singular p no_map (inr (inl e)) = inr e
+singular p no_map (inr (inr (s, m))) = absurd (true≢false (sym (ap is_map m) ∙ no_map))
+
+not_map : (p : Presence) → ((s : Scalar) → p ≡ presences.Map s → ⊥) → is_map p ≡ false
+not_map presences.Implicit h = refl
+not_map presences.Explicit h = refl
+not_map (presences.Repeated packed) h = refl
+not_map (presences.Map s) h = absurd (h s refl)
 
 pub read_bytes-loop-found-init : goal.read_bytes-loop-found-init
 read_bytes-loop-found-init t c =
@@ -105,10 +121,13 @@ read_bytes-returns-in-Err-clause-err t c =
     subst (λ x. RefusedIn shape (suc c.args.levels) fs c.args.bytes.now c.args.start (errors.Wire x)) (sym c.after.ensures)
     (ahead.stopped shape c.args.levels fs c.args.bytes.now c.args.start l.at l.found-iterator l.invariant.ahead c.in-Err.error c.next.new.self next)
 
+pub read_bytes-begin-draft-requires : goal.read_bytes-begin-draft-requires
+read_bytes-begin-draft-requires t c = (shape_of c.args.schema.now, c.requires.is_schema.shape, c.requires.fits)
+
 pub read_bytes-returns-clause-ok : goal.read_bytes-returns-clause-ok
 read_bytes-returns-clause-ok t c =
     let l = c.loop-found in
-    subst (ReadsOn (shape_of c.args.schema.now) c.args.bytes.now c.args.message.now) (sym c.finish.ensures)
+    subst (ReadsOn (shape_of c.args.schema.now) c.args.bytes.now c.args.message.now) (sym c.in_ok-message.ensures)
     (steps.done (shape_of c.args.schema.now) c.args.levels c.args.bytes.now c.args.start c.args.message.now l.at l.found-iterator l.draft l.invariant c.in-None.ensures.steps.0)
 
 pub read_bytes-returns-clause-shallow : goal.read_bytes-returns-clause-shallow
@@ -116,31 +135,24 @@ read_bytes-returns-clause-shallow t c =
     let l = c.loop-found in
     steps.all_shallow (shape_of c.args.schema.now) c.args.levels c.args.bytes.now c.args.start c.args.message.now l.at l.found-iterator l.draft l.invariant c.in-None.ensures.steps.0
 
-pub read_content-returns-in_err-entry-in-Map-clause-err : goal.read_content-returns-in_err-entry-in-Map-clause-err
-read_content-returns-in_err-entry-in-Map-clause-err t c =
+pub read_map_entry-returns-in_err-entry-clause-err : goal.read_map_entry-returns-in_err-entry-clause-err
+read_map_entry-returns-in_err-entry-clause-err t c =
     let shape = shape_of c.args.schema.now in
     let f = field_shape c.args.field.now in
     let r = seen_record c.args.found.now in
     let (y, was, from) = err_from_is_err_and c.from_residual.result c.from_residual.ensures.1 in
     handed_on (RefusedOf shape c.args.levels f r c.args.at) c.from_residual.result _ y was from
-    (entries.entry_refused shape c.args.levels f r c.in-Map.key c.args.at c.body_place-start.result c.in_err-entry-in-Map.field-0.0 c.in-Map.is c.body_place-start.ensures.start c.in_err-entry-in-Map.ensures.err)
+    (entries.entry_refused shape c.args.levels f r c.args.key c.args.at c.body_place-start.result c.in_err-entry.field-0.0 c.requires.of_map c.body_place-start.ensures.start c.in_err-entry.ensures.err)
 
-pub read_content-returns-in_err-whole_value-in-Map-clause-err : goal.read_content-returns-in_err-whole_value-in-Map-clause-err
-read_content-returns-in_err-whole_value-in-Map-clause-err t c =
+pub read_map_entry-returns-in_err-whole_value-clause-err : goal.read_map_entry-returns-in_err-whole_value-clause-err
+read_map_entry-returns-in_err-whole_value-clause-err t c =
     let shape = shape_of c.args.schema.now in
     let f = field_shape c.args.field.now in
     let r = seen_record c.args.found.now in
-    let (y, was, from) = err_from_is_err_and c.from_residual-in_err-whole_value-in-Map.result c.from_residual-in_err-whole_value-in-Map.ensures.1 in
-    let read = c.in_ok-entry-in-Map.ensures.ok in
-    handed_on (RefusedOf shape c.args.levels f r c.args.at) c.from_residual-in_err-whole_value-in-Map.result _ y was from
-    (entries.value_missing shape c.args.levels f r c.in-Map.key read.0 c.in_ok-entry-in-Map.entry c.args.at c.in_err-whole_value-in-Map.field-0.0 c.in-Map.is read.1 read.2 c.in_err-whole_value-in-Map.ensures.err)
-
-pub read_content-put_entry-requires-clause-keys : goal.read_content-put_entry-requires-clause-keys
-read_content-put_entry-requires-clause-keys t c =
-    let shape = shape_of c.args.schema.now in
-    let f = field_shape c.args.field.now in
-    let r = seen_record c.args.found.now in
-    entries.held_keys shape f c.in-Map.key c.args.held c.in-Map.is c.requires.held
+    let (y, was, from) = err_from_is_err_and c.from_residual-in_err-whole_value.result c.from_residual-in_err-whole_value.ensures.1 in
+    let read = c.in_ok-entry.ensures.ok in
+    handed_on (RefusedOf shape c.args.levels f r c.args.at) c.from_residual-in_err-whole_value.result _ y was from
+    (entries.value_missing shape c.args.levels f r c.args.key read.0 c.in_ok-entry.entry c.args.at c.in_err-whole_value.field-0.0 c.requires.of_map read.1 read.2 c.in_err-whole_value.ensures.err)
 
 pub read_content-returns-then-not-is_own-clause-ok : goal.read_content-returns-then-not-is_own-clause-ok
 read_content-returns-then-not-is_own-clause-ok t c =
@@ -174,43 +186,51 @@ read_content-returns-in_err-value-in-Repeated-clause-err t c =
     let shape = shape_of c.args.schema.now in
     let f = field_shape c.args.field.now in
     let r = seen_record c.args.found.now in
-    let (y, was, from) = err_from_is_err_and c.from_residual-in_err-value-in-Repeated.result c.from_residual-in_err-value-in-Repeated.ensures.1 in
-    handed_on (RefusedOf shape c.args.levels f r c.args.at) c.from_residual-in_err-value-in-Repeated.result _ y was from (c.in_err-value-in-Repeated.ensures.err f (ap is_map c.in-Repeated.is) refl)
+    let (y, was, from) = err_from_is_err_and c.from_residual.result c.from_residual.ensures.1 in
+    handed_on (RefusedOf shape c.args.levels f r c.args.at) c.from_residual.result _ y was from (c.in_err-value-in-Repeated.ensures.err f (ap is_map c.in-Repeated.is) refl)
 
 pub read_content-returns-in_err-value-in-Implicit-clause-err : goal.read_content-returns-in_err-value-in-Implicit-clause-err
 read_content-returns-in_err-value-in-Implicit-clause-err t c =
     let shape = shape_of c.args.schema.now in
     let f = field_shape c.args.field.now in
     let r = seen_record c.args.found.now in
-    let single = contents.singular-of f.presence c.in-Implicit.is in
+    let single = contents.singular-of f.presence (singular c.args.field.now.presence c.requires.no_map c.in-Implicit.is) in
     let (y, was, from) = err_from_is_err_and c.from_residual-in_err-value-in-Implicit.result c.from_residual-in_err-value-in-Implicit.ensures.1 in
     handed_on (RefusedOf shape c.args.levels f r c.args.at) c.from_residual-in_err-value-in-Implicit.result _ y was from (c.in_err-value-in-Implicit.ensures.err f single.0 refl)
 
-pub read_content-returns-in_ok-put_entry-in-Map-clause-ok : goal.read_content-returns-in_ok-put_entry-in-Map-clause-ok
-read_content-returns-in_ok-put_entry-in-Map-clause-ok t c =
-    let shape = shape_of c.args.schema.now in
-    let f = field_shape c.args.field.now in
-    let r = seen_record c.args.found.now in
-    let read = c.in_ok-entry-in-Map.ensures.ok in
-    entries.map_on shape f r c.in-Map.key read.0 c.in_ok-entry-in-Map.entry c.args.held c.in_ok-whole_key-in-Map.whole_key c.in_ok-whole_value-in-Map.whole_value c.in_ok-put_entry-in-Map.field-0
-    c.requires.is_record c.in-Map.is c.requires.taken c.requires.held read.1 read.2 (entries.map_readable shape f r c.in-Map.key read.0 c.in_ok-entry-in-Map.entry c.in-Map.is read.1 read.2)
-    (c.in_ok-whole_key-in-Map.ensures.fits shape tt c.in_ok-entry-in-Map.ensures.key_fits) (c.in_ok-whole_key-in-Map.ensures.ok shape c.requires.is_schema.shape) (c.in_ok-whole_value-in-Map.ensures.ok shape c.requires.is_schema.shape) c.in_ok-put_entry-in-Map.ensures.ok
+pub read_map_entry-returns-clause-readable : goal.read_map_entry-returns-clause-readable
+read_map_entry-returns-clause-readable t c =
+    let read = c.in_ok-entry.ensures.ok in
+    entries.map_readable (shape_of c.args.schema.now) (field_shape c.args.field.now) (seen_record c.args.found.now) c.args.key read.0 c.in_ok-entry.entry c.requires.of_map read.1 read.2
 
-pub read_content-returns-in_ok-put_entry-in-Map-clause-fits : goal.read_content-returns-in_ok-put_entry-in-Map-clause-fits
-read_content-returns-in_ok-put_entry-in-Map-clause-fits t c =
+pub read_map_entry-returns-clause-ok : goal.read_map_entry-returns-clause-ok
+read_map_entry-returns-clause-ok t c =
     let shape = shape_of c.args.schema.now in
     let f = field_shape c.args.field.now in
     let r = seen_record c.args.found.now in
-    entries.map_fits shape f c.in-Map.key c.args.held c.in_ok-whole_key-in-Map.whole_key c.in_ok-whole_value-in-Map.whole_value c.in_ok-put_entry-in-Map.field-0 c.in-Map.is c.requires.held
-    (c.in_ok-whole_key-in-Map.ensures.fits shape tt c.in_ok-entry-in-Map.ensures.key_fits) (c.in_ok-whole_value-in-Map.ensures.fits shape c.requires.is_field.element_fits c.in_ok-entry-in-Map.ensures.value_fits) c.in_ok-put_entry-in-Map.ensures.ok
+    let read = c.in_ok-entry.ensures.ok in
+    λ before made before_fits made_is.
+    entries.map_on shape f r c.args.key read.0 c.in_ok-entry.entry before c.in_ok-whole_key.whole_key c.in_ok-whole_value.whole_value made
+    c.requires.is_record c.requires.of_map c.requires.taken before_fits read.1 read.2 (entries.map_readable shape f r c.args.key read.0 c.in_ok-entry.entry c.requires.of_map read.1 read.2)
+    (c.in_ok-whole_key.ensures.fits shape tt c.in_ok-entry.ensures.key_fits) (c.in_ok-whole_key.ensures.ok shape c.requires.is_schema.shape) (c.in_ok-whole_value.ensures.ok shape c.requires.is_schema.shape) made_is
 
-pub read_content-returns-in_ok-put_entry-in-Map-clause-shallow : goal.read_content-returns-in_ok-put_entry-in-Map-clause-shallow
-read_content-returns-in_ok-put_entry-in-Map-clause-shallow t c =
+pub read_map_entry-returns-clause-fits : goal.read_map_entry-returns-clause-fits
+read_map_entry-returns-clause-fits t c =
+    let shape = shape_of c.args.schema.now in
+    record {
+      scalar = c.args.key;
+      is_map = c.requires.of_map;
+      key_fits = c.in_ok-whole_key.ensures.fits shape tt c.in_ok-entry.ensures.key_fits;
+      value_fits = c.in_ok-whole_value.ensures.fits shape c.requires.is_field.element_fits c.in_ok-entry.ensures.value_fits;
+    }
+
+pub read_map_entry-returns-clause-shallow : goal.read_map_entry-returns-clause-shallow
+read_map_entry-returns-clause-shallow t c =
     let shape = shape_of c.args.schema.now in
     let f = field_shape c.args.field.now in
     let r = seen_record c.args.found.now in
-    let read = c.in_ok-entry-in-Map.ensures.ok in
-    entries.entry_shallow shape c.args.levels f r c.in-Map.key read.0 c.in_ok-entry-in-Map.entry c.in-Map.is read.1 read.2 c.in_ok-entry-in-Map.ensures.shallow c.in_ok-whole_value-in-Map.ensures.shallow
+    let read = c.in_ok-entry.ensures.ok in
+    entries.entry_shallow shape c.args.levels f r c.args.key read.0 c.in_ok-entry.entry c.requires.of_map read.1 read.2 c.in_ok-entry.ensures.shallow c.in_ok-whole_value.ensures.shallow
 
 pub read_content-returns-in_ok-push_item-in-Repeated-clause-ok : goal.read_content-returns-in_ok-push_item-in-Repeated-clause-ok
 read_content-returns-in_ok-push_item-in-Repeated-clause-ok t c =
@@ -226,7 +246,7 @@ read_content-returns-in_ok-value-in-Implicit-clause-ok t c =
     let f = field_shape c.args.field.now in
     let r = seen_record c.args.found.now in
     subst (λ o. HeldReadsOn shape f r c.args.held o) (sym c.left.ensures)
-    (contents.singular_on shape c.requires.is_schema.shape f r c.args.held c.in_ok-value-in-Implicit.value c.requires.is_record c.in-Implicit.is c.requires.is_field.presence_fits c.requires.taken c.requires.held
+    (contents.singular_on shape c.requires.is_schema.shape f r c.args.held c.in_ok-value-in-Implicit.value c.requires.is_record (singular c.args.field.now.presence c.requires.no_map c.in-Implicit.is) c.requires.is_field.presence_fits c.requires.taken c.requires.held
     (subst (λ o. ItemReadsOn shape f.element r.body o c.in_ok-value-in-Implicit.value) c.only.ensures c.in_ok-value-in-Implicit.ensures.ok) c.in_ok-value-in-Implicit.ensures.fits)
 
 pub read_content-returns-in_ok-value-in-Implicit-clause-readable : goal.read_content-returns-in_ok-value-in-Implicit-clause-readable
@@ -234,9 +254,9 @@ read_content-returns-in_ok-value-in-Implicit-clause-readable t c =
     let shape = shape_of c.args.schema.now in
     let f = field_shape c.args.field.now in
     let r = seen_record c.args.found.now in
-    let single = contents.singular-of f.presence c.in-Implicit.is in
+    let single = contents.singular-of f.presence (singular c.args.field.now.presence c.requires.no_map c.in-Implicit.is) in
     contents.item_readable shape f r (item_held c.args.held) c.in_ok-value-in-Implicit.value single.0 c.requires.taken (contents.singular_wire f r c.requires.taken single.0 single.1)
-    (contents.item_held-fits shape f.presence f.element c.args.held c.in-Implicit.is (contents.held_by_field shape f c.args.held c.requires.held))
+    (contents.item_held-fits shape f.presence f.element c.args.held (singular c.args.field.now.presence c.requires.no_map c.in-Implicit.is) (contents.held_by_field shape f c.args.held c.requires.held))
     (subst (λ o. ItemReadsOn shape f.element r.body o c.in_ok-value-in-Implicit.value) c.only.ensures c.in_ok-value-in-Implicit.ensures.ok)
 
 pub read_entry-loop-found-init : goal.read_entry-loop-found-init
@@ -354,16 +374,102 @@ read_part-returns-clause-ok t c =
     ] in
     entries.neither_on shape c.args.key c.args.element r c.args.entry no_key no_value
 
+pub read_record-lift-held-requires-clause-no_map : goal.read_record-lift-held-requires-clause-no_map
+read_record-lift-held-requires-clause-no_map t c = not_map c.in-Some.field.now.presence c.in_default-presence.not-Map
+
 pub read_record-lift-held-requires-clause-found : goal.read_record-lift-held-requires-clause-found
 read_record-lift-held-requires-clause-found t c =
     let shape = shape_of c.args.schema.now in
     let a = c.draft.inside in
     let r = seen_record c.args.found.now in
     let f = field_shape c.in-Some.field.now in
-    let same : type_of c.args.draft.now ≡ a.type_id = sym (ap type_of c.draft.view_is) ∙ type_shown a.type_id (held a) (map record_seen a.unknown.items) in
+    let same : type_of c.args.draft.now ≡ a.type_id = sym (ap type_of (seen_is c.draft.inside ∙ c.draft.view_is)) ∙ type_shown a.type_id (held a) (map record_seen a.unknown.items) in
     let fs = fields shape (type_of c.args.draft.now) in
     let is : Some f ≡ field_at fs r.number = c.in-Some.ensures.shape ∙ ap (λ t. field_at (fields shape t) r.number) (sym same) in
     records.found_here fs r.number f is
+
+pub read_record-read_map_entry-requires : goal.read_record-read_map_entry-requires
+read_record-read_map_entry-requires t c =
+    let shape = shape_of c.args.schema.now in
+    let a = c.draft.inside in
+    let r = seen_record c.args.found.now in
+    let f = field_shape c.in-Some.field.now in
+    let same : type_of c.args.draft.now ≡ a.type_id = sym (ap type_of (seen_is c.draft.inside ∙ c.draft.view_is)) ∙ type_shown a.type_id (held a) (map record_seen a.unknown.items) in
+    let fs = fields shape (type_of c.args.draft.now) in
+    let is : Some f ≡ field_at fs r.number = c.in-Some.ensures.shape ∙ ap (λ t. field_at (fields shape t) r.number) (sym same) in
+    let taken = records.taken_here fs r f is (sym c.accepts.ensures ∙ c.if-accepts.true) in
+    (omega (arith, c.decreases), (c.requires.is_schema, (records.is_field c.args.schema.now c.requires.is_schema (type_of c.args.draft.now) r.number f taken.found, (c.requires.is_record, (taken.taken, (c.in-Map.is, c.requires.room))))))
+
+pub read_record-returns-in_err-key-in-Some-clause-err : goal.read_record-returns-in_err-key-in-Some-clause-err
+read_record-returns-in_err-key-in-Some-clause-err t c =
+    let shape = shape_of c.args.schema.now in
+    let a = c.draft.inside in
+    let r = seen_record c.args.found.now in
+    let f = field_shape c.in-Some.field.now in
+    let same : type_of c.args.draft.now ≡ a.type_id = sym (ap type_of (seen_is c.draft.inside ∙ c.draft.view_is)) ∙ type_shown a.type_id (held a) (map record_seen a.unknown.items) in
+    let fs = fields shape (type_of c.args.draft.now) in
+    let is : Some f ≡ field_at fs r.number = c.in-Some.ensures.shape ∙ ap (λ t. field_at (fields shape t) r.number) (sym same) in
+    let taken = records.taken_here fs r f is (sym c.accepts.ensures ∙ c.if-accepts.true) in
+    let (y, was, from) = err_from_is_err_and c.from_residual.result c.from_residual.ensures.1 in
+    handed_on (RefusedRecord shape c.args.levels fs r c.args.at) c.from_residual.result _ y was from
+    (records.taken_refused shape c.args.levels fs r f c.args.at c.in_err-key-in-Some.field-0.0 taken c.in_err-key-in-Some.ensures.err)
+
+pub read_record-add_entry-requires-clause-is_field : goal.read_record-add_entry-requires-clause-is_field
+read_record-add_entry-requires-clause-is_field t c =
+    let shape = shape_of c.args.schema.now in
+    let a = c.draft.inside in
+    let r = seen_record c.args.found.now in
+    let f = field_shape c.in-Some.field.now in
+    let same : type_of c.args.draft.now ≡ a.type_id = sym (ap type_of (seen_is c.draft.inside ∙ c.draft.view_is)) ∙ type_shown a.type_id (held a) (map record_seen a.unknown.items) in
+    let fs = fields shape (type_of c.args.draft.now) in
+    let is : Some f ≡ field_at fs r.number = c.in-Some.ensures.shape ∙ ap (λ t. field_at (fields shape t) r.number) (sym same) in
+    let taken = records.taken_here fs r f is (sym c.accepts.ensures ∙ c.if-accepts.true) in
+    records.is_field c.args.schema.now c.requires.is_schema (type_of c.args.draft.now) r.number f taken.found
+
+pub read_record-add_entry-requires-clause-found : goal.read_record-add_entry-requires-clause-found
+read_record-add_entry-requires-clause-found t c =
+    let shape = shape_of c.args.schema.now in
+    let a = c.draft.inside in
+    let r = seen_record c.args.found.now in
+    let f = field_shape c.in-Some.field.now in
+    let same : type_of c.args.draft.now ≡ a.type_id = sym (ap type_of (seen_is c.draft.inside ∙ c.draft.view_is)) ∙ type_shown a.type_id (held a) (map record_seen a.unknown.items) in
+    let fs = fields shape (type_of c.args.draft.now) in
+    let is : Some f ≡ field_at fs r.number = c.in-Some.ensures.shape ∙ ap (λ t. field_at (fields shape t) r.number) (sym same) in
+    records.found_here fs r.number f is
+
+pub read_record-returns-in-Map-clause-err : goal.read_record-returns-in-Map-clause-err
+read_record-returns-in-Map-clause-err t c =
+    let shape = shape_of c.args.schema.now in
+    let fs = fields shape (type_of c.args.draft.now) in
+    let r = seen_record c.args.found.now in
+    if_err _ _ c.add_entry.result (λ e is. subst (RefusedRecord shape c.args.levels fs r c.args.at) (sym is) tt) c.add_entry.ensures.err
+
+pub read_record-returns-in-Map-clause-ok : goal.read_record-returns-in-Map-clause-ok
+read_record-returns-in-Map-clause-ok t c =
+    let shape = shape_of c.args.schema.now in
+    let a = c.draft.inside in
+    let r = seen_record c.args.found.now in
+    let f = field_shape c.in-Some.field.now in
+    let same : type_of c.args.draft.now ≡ a.type_id = sym (ap type_of (seen_is c.draft.inside ∙ c.draft.view_is)) ∙ type_shown a.type_id (held a) (map record_seen a.unknown.items) in
+    let fs = fields shape (type_of c.args.draft.now) in
+    let is : Some f ≡ field_at fs r.number = c.in-Some.ensures.shape ∙ ap (λ t. field_at (fields shape t) r.number) (sym same) in
+    let taken = records.taken_here fs r f is (sym c.accepts.ensures ∙ c.if-accepts.true) in
+    let read = c.in_ok-key-in-Some.ensures in
+    on_ok_both c.add_entry.result (λ put fits.
+    entry_reads c.args.schema.now c.requires.is_schema c.args.draft.now c.add_entry.new.self r c.requires.is_record f taken (length shape) (records.is_field c.args.schema.now c.requires.is_schema (type_of c.args.draft.now) r.number f taken.found)
+    c.in_ok-key-in-Some.key c.in_ok-key-in-Some.value read.fits c.requires.fits read.readable read.ok put fits) c.add_entry.ensures.ok c.add_entry.ensures.fits
+
+pub read_record-returns-in-Map-clause-shallow : goal.read_record-returns-in-Map-clause-shallow
+read_record-returns-in-Map-clause-shallow t c =
+    let shape = shape_of c.args.schema.now in
+    let a = c.draft.inside in
+    let r = seen_record c.args.found.now in
+    let f = field_shape c.in-Some.field.now in
+    let same : type_of c.args.draft.now ≡ a.type_id = sym (ap type_of (seen_is c.draft.inside ∙ c.draft.view_is)) ∙ type_shown a.type_id (held a) (map record_seen a.unknown.items) in
+    let fs = fields shape (type_of c.args.draft.now) in
+    let is : Some f ≡ field_at fs r.number = c.in-Some.ensures.shape ∙ ap (λ t. field_at (fields shape t) r.number) (sym same) in
+    let taken = records.taken_here fs r f is (sym c.accepts.ensures ∙ c.if-accepts.true) in
+    on_any_ok c.add_entry.result (records.taken_shallow shape c.args.levels fs r f taken c.in_ok-key-in-Some.ensures.shallow)
 
 pub read_record-read_content-requires : goal.read_record-read_content-requires
 read_record-read_content-requires t c =
@@ -371,11 +477,11 @@ read_record-read_content-requires t c =
     let a = c.draft.inside in
     let r = seen_record c.args.found.now in
     let f = field_shape c.in-Some.field.now in
-    let same : type_of c.args.draft.now ≡ a.type_id = sym (ap type_of c.draft.view_is) ∙ type_shown a.type_id (held a) (map record_seen a.unknown.items) in
+    let same : type_of c.args.draft.now ≡ a.type_id = sym (ap type_of (seen_is c.draft.inside ∙ c.draft.view_is)) ∙ type_shown a.type_id (held a) (map record_seen a.unknown.items) in
     let fs = fields shape (type_of c.args.draft.now) in
     let is : Some f ≡ field_at fs r.number = c.in-Some.ensures.shape ∙ ap (λ t. field_at (fields shape t) r.number) (sym same) in
     let taken = records.taken_here fs r f is (sym c.accepts.ensures ∙ c.if-accepts.true) in
-    (omega (arith, c.decreases), (c.requires.is_schema, (records.is_field c.args.schema.now c.requires.is_schema (type_of c.args.draft.now) r.number f taken.found, (c.requires.is_record, (taken.taken, (c.lift-held.ensures.held_fits, c.requires.room))))))
+    (omega (arith, c.decreases), (c.requires.is_schema, (records.is_field c.args.schema.now c.requires.is_schema (type_of c.args.draft.now) r.number f taken.found, (c.requires.is_record, (taken.taken, (not_map c.in-Some.field.now.presence c.in_default-presence.not-Map, (c.lift-held.ensures.held_fits, c.requires.room)))))))
 
 pub read_record-returns-in_err-new-in-Some-clause-err : goal.read_record-returns-in_err-new-in-Some-clause-err
 read_record-returns-in_err-new-in-Some-clause-err t c =
@@ -383,13 +489,16 @@ read_record-returns-in_err-new-in-Some-clause-err t c =
     let a = c.draft.inside in
     let r = seen_record c.args.found.now in
     let f = field_shape c.in-Some.field.now in
-    let same : type_of c.args.draft.now ≡ a.type_id = sym (ap type_of c.draft.view_is) ∙ type_shown a.type_id (held a) (map record_seen a.unknown.items) in
+    let same : type_of c.args.draft.now ≡ a.type_id = sym (ap type_of (seen_is c.draft.inside ∙ c.draft.view_is)) ∙ type_shown a.type_id (held a) (map record_seen a.unknown.items) in
     let fs = fields shape (type_of c.args.draft.now) in
     let is : Some f ≡ field_at fs r.number = c.in-Some.ensures.shape ∙ ap (λ t. field_at (fields shape t) r.number) (sym same) in
     let taken = records.taken_here fs r f is (sym c.accepts.ensures ∙ c.if-accepts.true) in
-    let (y, was, from) = err_from_is_err_and c.from_residual.result c.from_residual.ensures.1 in
-    handed_on (RefusedRecord shape c.args.levels fs r c.args.at) c.from_residual.result _ y was from
+    let (y, was, from) = err_from_is_err_and c.from_residual-in_err-new-in-Some.result c.from_residual-in_err-new-in-Some.ensures.1 in
+    handed_on (RefusedRecord shape c.args.levels fs r c.args.at) c.from_residual-in_err-new-in-Some.result _ y was from
     (records.taken_refused shape c.args.levels fs r f c.args.at c.in_err-new-in-Some.field-0.0 taken c.in_err-new-in-Some.ensures.err)
+
+pub read_record-lower-requires-clause-no_map : goal.read_record-lower-requires-clause-no_map
+read_record-lower-requires-clause-no_map t c = not_map c.in-Some.field.now.presence c.in_default-presence.not-Map
 
 pub read_record-lower-requires-clause-found : goal.read_record-lower-requires-clause-found
 read_record-lower-requires-clause-found t c =
@@ -397,7 +506,7 @@ read_record-lower-requires-clause-found t c =
     let a = c.draft.inside in
     let r = seen_record c.args.found.now in
     let f = field_shape c.in-Some.field.now in
-    let same : type_of c.args.draft.now ≡ a.type_id = sym (ap type_of c.draft.view_is) ∙ type_shown a.type_id (held a) (map record_seen a.unknown.items) in
+    let same : type_of c.args.draft.now ≡ a.type_id = sym (ap type_of (seen_is c.draft.inside ∙ c.draft.view_is)) ∙ type_shown a.type_id (held a) (map record_seen a.unknown.items) in
     let fs = fields shape (type_of c.args.draft.now) in
     let is : Some f ≡ field_at fs r.number = c.in-Some.ensures.shape ∙ ap (λ t. field_at (fields shape t) r.number) (sym same) in
     subst (λ t. field_at (fields shape t) f.number ≡ Some f) (sym c.lift-held.ensures.of_type) (records.found_here fs r.number f is)
@@ -408,7 +517,7 @@ read_record-returns-in_ok-new-in-Some-clause-ok t c =
     let a = c.draft.inside in
     let r = seen_record c.args.found.now in
     let f = field_shape c.in-Some.field.now in
-    let same : type_of c.args.draft.now ≡ a.type_id = sym (ap type_of c.draft.view_is) ∙ type_shown a.type_id (held a) (map record_seen a.unknown.items) in
+    let same : type_of c.args.draft.now ≡ a.type_id = sym (ap type_of (seen_is c.draft.inside ∙ c.draft.view_is)) ∙ type_shown a.type_id (held a) (map record_seen a.unknown.items) in
     let fs = fields shape (type_of c.args.draft.now) in
     let is : Some f ≡ field_at fs r.number = c.in-Some.ensures.shape ∙ ap (λ t. field_at (fields shape t) r.number) (sym same) in
     let taken = records.taken_here fs r f is (sym c.accepts.ensures ∙ c.if-accepts.true) in
@@ -423,7 +532,7 @@ read_record-returns-in_ok-new-in-Some-clause-shallow t c =
     let a = c.draft.inside in
     let r = seen_record c.args.found.now in
     let f = field_shape c.in-Some.field.now in
-    let same : type_of c.args.draft.now ≡ a.type_id = sym (ap type_of c.draft.view_is) ∙ type_shown a.type_id (held a) (map record_seen a.unknown.items) in
+    let same : type_of c.args.draft.now ≡ a.type_id = sym (ap type_of (seen_is c.draft.inside ∙ c.draft.view_is)) ∙ type_shown a.type_id (held a) (map record_seen a.unknown.items) in
     let fs = fields shape (type_of c.args.draft.now) in
     let is : Some f ≡ field_at fs r.number = c.in-Some.ensures.shape ∙ ap (λ t. field_at (fields shape t) r.number) (sym same) in
     let taken = records.taken_here fs r f is (sym c.accepts.ensures ∙ c.if-accepts.true) in
@@ -434,7 +543,7 @@ read_record-returns-in_default-clause-ok t c =
     let shape = shape_of c.args.schema.now in
     let a = c.draft.inside in
     let r = seen_record c.args.found.now in
-    let same : type_of c.args.draft.now ≡ a.type_id = sym (ap type_of c.draft.view_is) ∙ type_shown a.type_id (held a) (map record_seen a.unknown.items) in
+    let same : type_of c.args.draft.now ≡ a.type_id = sym (ap type_of (seen_is c.draft.inside ∙ c.draft.view_is)) ∙ type_shown a.type_id (held a) (map record_seen a.unknown.items) in
     let unknown : is_unknown (fields shape (type_of c.args.draft.now)) r ≡ true =
     subst (λ t. is_unknown (fields shape t) r ≡ true) (sym same)
     (elim c.in_default.branch as (λ b. is_unknown (fields shape a.type_id) r ≡ true) [
@@ -443,7 +552,7 @@ read_record-returns-in_default-clause-ok t c =
       | read_record-in_default-via-in_default w ↦ unknown_without_field c.args.schema.now c.requires.is_schema a.type_id r w.in_default.ensures.shape
     ]) in
     on_ok_map c.keep.result
-    (records.unknown_reads c.args.schema.now c.requires.is_schema c.args.draft.now c.keep.new.self r c.requires.is_record a.type_id (held a) (map record_seen a.unknown.items) c.draft.view_is
+    (records.unknown_reads c.args.schema.now c.requires.is_schema c.args.draft.now c.keep.new.self r c.requires.is_record a.type_id (held a) (map record_seen a.unknown.items) (seen_is c.draft.inside ∙ c.draft.view_is)
     (held_rises a c.draft.invariant) (held_filled a) (held_keys a c.draft.invariant) c.requires.fits unknown) c.keep.ensures.ok
 
 pub read_record-returns-in_default-clause-shallow : goal.read_record-returns-in_default-clause-shallow
@@ -451,7 +560,7 @@ read_record-returns-in_default-clause-shallow t c =
     let shape = shape_of c.args.schema.now in
     let a = c.draft.inside in
     let r = seen_record c.args.found.now in
-    let same : type_of c.args.draft.now ≡ a.type_id = sym (ap type_of c.draft.view_is) ∙ type_shown a.type_id (held a) (map record_seen a.unknown.items) in
+    let same : type_of c.args.draft.now ≡ a.type_id = sym (ap type_of (seen_is c.draft.inside ∙ c.draft.view_is)) ∙ type_shown a.type_id (held a) (map record_seen a.unknown.items) in
     let unknown : is_unknown (fields shape (type_of c.args.draft.now)) r ≡ true =
     subst (λ t. is_unknown (fields shape t) r ≡ true) (sym same)
     (elim c.in_default.branch as (λ b. is_unknown (fields shape a.type_id) r ≡ true) [

@@ -16,6 +16,9 @@ decreases-read_entry l = 8 * l.levels + 4
 abbrev pub decreases-read_content : goal.decreases-read_content
 decreases-read_content l = 8 * l.levels + 5
 
+abbrev pub decreases-read_map_entry : goal.decreases-read_map_entry
+decreases-read_map_entry l = 8 * l.levels + 5
+
 abbrev pub decreases-read_record : goal.decreases-read_record
 decreases-read_record l = 8 * l.levels + 6
 

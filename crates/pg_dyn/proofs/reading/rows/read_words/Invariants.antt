@@ -1,7 +1,7 @@
 -- The items up to the place are read.
 use Rattle.std.proofs.Common.{◌-◌, length}
 use Rattle.pg_dyn.proofs.PackedRows.{RowSoFar}
-use Rattle.pg_dyn.proofs.reading.rows.read_varints.Given as goal
+use Rattle.pg_dyn.proofs.reading.rows.read_words.Given as goal
 
 abbrev pub invariant-loop-start : goal.invariant-loop-start
 invariant-loop-start l = RowSoFar l.fn.scalar l.fn.body l.start l.fn.values.items l.values.items
