@@ -8,6 +8,9 @@ pub mod FileLaws
 pub mod SmallLaws
 pub mod SaidLaws
 pub mod Zips
+pub mod MadeLaws
+pub mod ElementLaws
+pub mod PresenceLaws
 pub mod OneofLaws
 pub mod TypeLaws
 pub mod SetLaws
@@ -25,6 +28,14 @@ pub mod WrittenOneofs
 pub mod WrittenTypes
 pub mod WrittenFiles
 pub mod WrittenDepth
+pub mod Levels
+pub mod WrittenLevels
+pub mod WrittenOrder
 pub mod WrittenSets
+pub mod Marks
+pub mod Walking
+pub mod Visited
+pub mod Ordering
+pub mod OrderSteps
 pub mod ReadLaws
 pub mod ReadExamples

@@ -1,16 +1,18 @@
 -- Places that are marked, and the oneofs there.
-use Rattle.std.proofs.Common.{◌≡◌, ◌≢◌, ℕ, zero, suc, ◌+◌, ◌<◌, ℤ, pos, Bool, true, false, ◌||◌, nat_eq, List, [], ◌∷◌, String, map, length, take, get_or, Some, slice_get, refl, ap, sym, subst, ◌∙◌, arith, add-one}
+use Rattle.std.proofs.Common.{◌≡◌, ◌≢◌, ℕ, zero, suc, ◌+◌, ◌<◌, ℤ, pos, Bool, true, false, ◌&&◌, ◌||◌, nat_eq, nat_lt, List, [], ◌∷◌, String, map, length, take, get_or, Some, slice_get, refl, ap, sym, subst, ◌∙◌, arith, add-one}
 use Rattle.std.proofs.Math.ListN.{set, length-set}
 use Rattle.std.proofs.lemmas.Bool.Decides.{nat_tests}
 use Rattle.std.proofs.lemmas.Grind.{get_or-set_at}
 use Rattle.std.proofs.lemmas.List.{get_or-set_other}
 use Rattle.std.specs.Prelude.{IsSomeAnd}
+use Rattle.std.specs.List.{list_all}
 use Rattle.std.specs.String.{string_bytes}
 use denote.Ref.{Bor}
 use Rattle.pg_dyn.specs.Kept.{Kept, message_of}
 use Rattle.pg_fds.specs.Lent.{lent}
 use Rattle.pg_fds.specs.Said.{text_at}
-use Rattle.pg_fds.specs.StatesTypes.{AreMarked, NamesOneof, is_marked}
+use Rattle.pg_fds.specs.StatesFiles.{is_place}
+use Rattle.pg_fds.specs.StatesTypes.{AreMarked, NamesOneof, is_at, is_marked}
 
 -- the item at a place, as a look-up finds it
 got : {A B : Type 0} (f : A → B) (xs : List A) (i : ℕ) (x : A) → i < length xs → x ≡ get_or xs i x → slice_get (map f xs) i ≡ Some (f x)
@@ -46,19 +48,19 @@ or_assoc : (a b c : Bool) → (a || (b || c)) ≡ ((a || b) || c)
 or_assoc true b c = refl
 or_assoc false b c = refl
 
-marked_suc : (numbers : List ℕ) (i : ℕ) (p : ℕ) → i < length numbers
-    → is_marked (map pos (take (suc i) numbers)) p ≡ (is_marked (map pos (take i numbers)) p || nat_eq (get_or numbers i 0) p)
+marked_suc : (numbers : List ℤ) (i : ℕ) (p : ℕ) → i < length numbers
+    → is_marked (take (suc i) numbers) p ≡ (is_marked (take i numbers) p || is_at p (get_or numbers i (pos 0)))
 marked_suc [] i p h = absurd (omega (arith, h))
-marked_suc (n ∷ ns) zero p h = of (nat_eq n p)
+marked_suc (n ∷ ns) zero p h = of (is_at p n)
   where
     of : (b : Bool) → (b || false) ≡ (false || b)
     of true = refl
     of false = refl
-marked_suc (n ∷ ns) (suc i) p h = ap (λ b. nat_eq n p || b) (marked_suc ns i p (omega (arith, h))) ∙ or_assoc (nat_eq n p) (is_marked (map pos (take i ns)) p) (nat_eq (get_or ns i 0) p)
+marked_suc (n ∷ ns) (suc i) p h = ap (λ b. is_at p n || b) (marked_suc ns i p (omega (arith, h))) ∙ or_assoc (is_at p n) (is_marked (take i ns) p) (is_at p (get_or ns i (pos 0)))
 
 -- one place more is marked
-pub marks_step : (numbers : List ℕ) (i place count : ℕ) (marks : List Bool) → i < length numbers → place ≡ get_or numbers i 0 → place < count
-    → AreMarked (map pos (take i numbers)) count marks → AreMarked (map pos (take (i + 1) numbers)) count (set marks place true)
+pub marks_step : (numbers : List ℤ) (i place count : ℕ) (marks : List Bool) → i < length numbers → get_or numbers i (pos 0) ≡ pos place → place < count
+    → AreMarked (take i numbers) count marks → AreMarked (take (i + 1) numbers) count (set marks place true)
 marks_step numbers i place count marks h is below marked = record {
   all = length-set marks place true ∙ marked.all;
   each = λ p within. one p within (nat_eq place p) refl;
@@ -67,8 +69,8 @@ marks_step numbers i place count marks h is below marked = record {
     room : place < length marks
     room = subst (λ k. place < k) (sym marked.all) below
 
-    more : (p : ℕ) (b : Bool) → nat_eq place p ≡ b → is_marked (map pos (take (i + 1) numbers)) p ≡ (is_marked (map pos (take i numbers)) p || b)
-    more p b e = rw add-one (marked_suc numbers i p h ∙ ap (λ x. is_marked (map pos (take i numbers)) p || x) (ap (λ n. nat_eq n p) (sym is) ∙ e))
+    more : (p : ℕ) (b : Bool) → nat_eq place p ≡ b → is_marked (take (i + 1) numbers) p ≡ (is_marked (take i numbers) p || b)
+    more p b e = rw add-one (marked_suc numbers i p h ∙ ap (λ x. is_marked (take i numbers) p || x) (ap (is_at p) is ∙ e))
 
     or_true : (a : Bool) → (a || true) ≡ true
     or_true true = refl
@@ -78,9 +80,27 @@ marks_step numbers i place count marks h is below marked = record {
     or_no true = refl
     or_no false = refl
 
-    one : (p : ℕ) → p < count → (b : Bool) → nat_eq place p ≡ b → get_or (set marks place true) p false ≡ is_marked (map pos (take (i + 1) numbers)) p
+    one : (p : ℕ) → p < count → (b : Bool) → nat_eq place p ≡ b → get_or (set marks place true) p false ≡ is_marked (take (i + 1) numbers) p
     one p within true e =
         let same : p ≡ place = same_place place p e in
-        get_or-set_at marks place p true false same room ∙ sym (more p true e ∙ or_true (is_marked (map pos (take i numbers)) p))
+        get_or-set_at marks place p true false same room ∙ sym (more p true e ∙ or_true (is_marked (take i numbers) p))
     one p within false e =
-        get_or-set_other marks place p true false (other_place place p e) ∙ (marked.each p within ∙ sym (more p false e ∙ or_no (is_marked (map pos (take i numbers)) p)))
+        get_or-set_other marks place p true false (other_place place p e) ∙ (marked.each p within ∙ sym (more p false e ∙ or_no (is_marked (take i numbers) p)))
+
+-- ---- numbers of places
+
+pub is_one : (count : ℕ) (n : ℤ) (place : ℕ) → n ≡ pos place → place < count → is_place count n ≡ true
+is_one count n place is h = ap (is_place count) is ∙ within place count h
+  where
+    within : (a b : ℕ) → a < b → nat_lt a b ≡ true
+    within a b h = grind (arith, nat_tests)
+
+-- one that is none is missed
+pub none_place : (test : ℤ → Bool) (numbers : List ℤ) (i : ℕ) (n : ℤ) → i < length numbers → n ≡ get_or numbers i n → test n ≡ false → list_all test numbers ≡ false
+none_place test [] i n h is fails = absurd (omega (arith, h))
+none_place test (x ∷ xs) zero n h is fails = ap (λ b. b && list_all test xs) (ap test (sym is) ∙ fails)
+none_place test (x ∷ xs) (suc i) n h is fails = ap (λ b. test x && b) (none_place test xs i n (omega (arith, h)) is fails) ∙ and_no (test x)
+  where
+    and_no : (b : Bool) → (b && false) ≡ false
+    and_no true = refl
+    and_no false = refl

@@ -29,7 +29,8 @@ use Rattle.pg_fds.specs.Fields.{element_code, label, type_code}
 use Rattle.pg_fds.specs.Messages.{declared_fields, where_found}
 use Rattle.pg_fds.specs.Places.{declared_in}
 use Rattle.pg_fds.specs.ReadExamples.{OneFieldRead}
-use Rattle.pg_fds.specs.Reads.{AreBehind, States}
+use Rattle.pg_fds.specs.PostOrder.{IsPostOrder, all_visited, listed_last}
+use Rattle.pg_fds.specs.Reads.{AreBehind, States, file_name, importer_of}
 use Rattle.pg_fds.specs.States.{HasEntry, StatesEnums, StatesField, StatesFieldRange}
 use Rattle.pg_fds.specs.StatesFiles.{StatesFile, StatesOptions, StatesServices, import_of, most_deep}
 use Rattle.pg_fds.specs.StatesTypes.{StandsIn, StatesType, StatesTypes, StatesWhole}
@@ -103,6 +104,7 @@ file_stated parts file t a p m f =
       name = sym p.file_fits.name;
       package_name = sym p.file_fits.package_name;
       imports = sym (ap (map import_of) p.file_fits.imports);
+      imports_once = refl;
       public_places = refl;
       types = subst (λ ids. StatesTypes most_deep all scope (type_message ∷ []) ids) (sym p.file_fits.types)
           (subst (λ ts. IsSomeAnd (slice_get ts 0) (StatesWhole all (StatesTypes 99 all) scope type_message)) (sym p.types) (type_stated parts scope t a p.file_fits.package_name m f, inside), tt);
@@ -119,4 +121,6 @@ one_field_read parts file t a p m f =
       as_many = sym (ap length p.files);
       files = subst (AllByRecursion (λ (g : File). Any (λ x. StatesFile (declared_in parts) false x g) (file_message ∷ []))) (sym p.files) ((0, file_message, lit≤ tt, refl, file_stated parts file t a p m f), tt);
       behind = subst (AreBehind []) (sym p.files) (ap (list_all (λ (i : Import). is_among [] (string_bytes i.path))) p.file_fits.imports, refl, tt);
+      order = subst (IsPostOrder false (importer_of file_message ∷ [])) (sym (ap (map file_name) p.files ∙ ap (λ n. n ∷ []) p.file_fits.name))
+          (listed_last [] [] [] [] (codes "m.proto" ∷ []) (codes "m.proto") refl refl (all_visited []) (all_visited (codes "m.proto" ∷ [])));
     })

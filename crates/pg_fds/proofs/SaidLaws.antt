@@ -1,14 +1,20 @@
 -- What messages say by the numbers of their fields, from what they keep.
-use Rattle.std.proofs.Common.{◌≡◌, ℕ, Bool, true, false, cond, List, [], ◌∷◌, map, filter, Some, None, slice_get, refl, ap, sym, ◌∙◌}
+use Rattle.std.proofs.Common.{◌≡◌, ℕ, zero, suc, ◌<◌, Bool, true, false, cond, List, [], ◌∷◌, String, map, length, get_or, filter, Option, Some, None, option_map, slice_get, refl, ap, sym, subst, ◌∙◌, arith, unwrap_or}
+use Rattle.std.proofs.lemmas.Str.{IsUtf8-nil, IsUtf8-string_bytes}
+use Rattle.std.specs.List.{AllByRecursion}
+use Rattle.std.specs.Str.{IsUtf8}
+use Rattle.std.specs.String.{string_bytes}
+use denote.Ref.{Bor}
 use Rattle.pg_dyn.specs.declared.message.Content.TheVariants as contents
 use Rattle.pg_dyn.specs.declared.message.Value.{Value}
 use Rattle.pg_dyn.specs.declared.message.Value.TheVariants as values
 use Rattle.pg_dyn.specs.Kept.{Kept, KeptItem, parts_of, message_of, of_number}
 use Rattle.pg_dyn.specs.Message.{Item, Part, is_of}
-use Rattle.pg_dyn.specs.Seen.{content_seen, item_seen}
+use Rattle.pg_dyn.specs.Seen.{content_seen, item_seen, leaf_of}
 use Rattle.pg_dyn.proofs.ReplacingLaws.{parts-message_of, item_of, part_item}
 use Rattle.pg_fds.specs.Building.{shown}
-use Rattle.pg_fds.specs.Said.{item_at, items_at}
+use Rattle.pg_fds.specs.Lent.{lent}
+use Rattle.pg_fds.specs.Said.{item_at, items_at, text_of}
 
 filtered : (n : ℕ) (ps : List (Part KeptItem)) → filter (is_of n) (map part_item ps) ≡ map part_item (filter (is_of n) ps)
 filtered n [] = refl
@@ -53,3 +59,53 @@ shown_list n (v ∷ vs) = ap (λ x. x ∷ map (λ (p : Part KeptItem). item_of p
 
 pub many_items : (n : ℕ) (m : Kept) (vs : List Value) → of_number n m ≡ map (λ (v : Value). record { number = n; key = None; item = item_seen true v }) vs → map shown vs ≡ items_at n (message_of m)
 many_items n m vs many = sym (items_kept n m ∙ ap (map (λ (p : Part KeptItem). item_of p.item)) many ∙ shown_list n vs)
+
+-- ---- the items of other contents
+
+first_shown : (vs : List Value) → option_map shown (slice_get vs 0) ≡ slice_get (map shown vs) 0
+first_shown [] = refl
+first_shown (v ∷ vs) = refl
+
+-- the first of several
+pub first_of : (n : ℕ) (m : Kept) (vs : List Value) (first : Option Value) → map shown vs ≡ items_at n (message_of m) → first ≡ slice_get vs 0 → option_map shown first ≡ item_at n (message_of m)
+first_of n m vs first are is = ap (option_map shown) is ∙ (first_shown vs ∙ ap (λ (xs : List Item). slice_get xs 0) are)
+
+pub one_of : (n : ℕ) (m : Kept) (v : Value) → of_number n m ≡ content_seen n (contents.One v) → shown v ∷ [] ≡ items_at n (message_of m)
+one_of n m v one = sym (items_kept n m ∙ ap (map (λ (p : Part KeptItem). item_of p.item)) one ∙ ap (λ x. x ∷ []) (shown_kept false v))
+
+abbrev entry_part : ℕ → Value × Value → Part KeptItem
+entry_part n e = record { number = n; key = Some (leaf_of e.0); item = item_seen false e.1 }
+
+shown_entries : (n : ℕ) (es : List (Value × Value)) → map (λ (p : Part KeptItem). item_of p.item) (map (entry_part n) es) ≡ map shown (map (λ (e : Value × Value). e.1) es)
+shown_entries n [] = refl
+shown_entries n (e ∷ es) =
+    ap (λ x. x ∷ map (λ (p : Part KeptItem). item_of p.item) (map (entry_part n) es)) (shown_kept false e.1) ∙ ap (λ xs. shown e.1 ∷ xs) (shown_entries n es)
+
+pub entry_items : (n : ℕ) (m : Kept) (es : List (Value × Value)) → of_number n m ≡ map (entry_part n) es → map shown (map (λ (e : Value × Value). e.1) es) ≡ items_at n (message_of m)
+entry_items n m es entries = sym (items_kept n m ∙ ap (map (λ (p : Part KeptItem). item_of p.item)) entries ∙ shown_entries n es)
+
+first_shown_entry : (es : List (Value × Value)) → option_map (λ (e : Value × Value). shown e.1) (slice_get es 0) ≡ slice_get (map shown (map (λ (e : Value × Value). e.1) es)) 0
+first_shown_entry [] = refl
+first_shown_entry (e ∷ es) = refl
+
+pub first_entry : (n : ℕ) (m : Kept) (es : List (Value × Value)) (e : Value × Value) → map shown (map (λ (e : Value × Value). e.1) es) ≡ items_at n (message_of m) → Some e ≡ slice_get es 0
+    → Some (shown e.1) ≡ item_at n (message_of m)
+first_entry n m es e are is = ap (option_map (λ (e : Value × Value). shown e.1)) is ∙ (first_shown_entry es ∙ ap (λ (xs : List Item). slice_get xs 0) are)
+
+-- ---- texts
+
+-- bytes that are no text, among others
+pub none_text : (vs : List (Bor Value)) (i : ℕ) (v : Bor Value) → i < length vs → v ≡ get_or vs i v → (IsUtf8 (text_of (shown v.now)) → ⊥)
+    → AllByRecursion IsUtf8 (map text_of (map shown (lent vs))) → ⊥
+none_text [] i v h is none all = absurd (omega (arith, h))
+none_text (x ∷ vs) zero v h is none all = none (subst (λ (b : Bor Value). IsUtf8 (text_of (shown b.now))) (sym is) all.0)
+none_text (x ∷ vs) (suc i) v h is none all = none_text vs i v (omega (arith, h)) is none all.1
+
+pub all_text : {Z : Type 0} (texts : List (String Z)) → AllByRecursion IsUtf8 (map string_bytes texts)
+all_text [] = tt
+all_text (t ∷ texts) = (IsUtf8-string_bytes t, all_text texts)
+
+-- where a text with a default is one, it is one with none
+pub or_text : (o : Option (List ℕ)) (default : List ℕ) → IsUtf8 (unwrap_or o default) → IsUtf8 (unwrap_or o [])
+or_text None default is = IsUtf8-nil
+or_text (Some text) default is = is

@@ -1,13 +1,17 @@
 -- The files of a set, as loops come to them.
-use Rattle.std.proofs.Common.{◌≡◌, ℕ, zero, suc, ◌+◌, ◌<◌, Bool, true, false, ◌&&◌, ◌||◌, List, [], ◌∷◌, ◌++◌, map, length, take, get_or, refl, ap, sym, subst, ◌∙◌, arith, add-one}
+use Rattle.std.proofs.Common.{◌≡◌, ℕ, zero, suc, ◌+◌, ◌<◌, Bool, true, false, ◌&&◌, ◌||◌, List, [], ◌∷◌, ◌++◌, map, length, take, get_or, refl, ap, ap₂, sym, subst, ◌∙◌, arith, add-one}
 use Rattle.std.specs.List.{AllByRecursion, list_all, list_any}
 use denote.Ref.{Bor}
 use Rattle.pg_schema.specs.declared.file.File.{File}
+use Rattle.pg_schema.specs.Pairs.{are_distinct}
+use Rattle.pg_schema.proofs.PairLemmas.{and_left, and_right}
 use Rattle.pg_dyn.specs.Kept.{Kept, message_of}
 use Rattle.pg_dyn.specs.Message.{Message}
+use Rattle.pg_fds.specs.FilePlaces.{name_at}
 use Rattle.pg_fds.specs.Lent.{lent}
-use Rattle.pg_fds.specs.Reads.{file_name}
-use Rattle.pg_fds.specs.Said.{text_at}
+use Rattle.pg_fds.specs.PostOrder.{imports_once, paths_of}
+use Rattle.pg_fds.specs.Reads.{file_name, importer_of}
+use Rattle.pg_fds.specs.Said.{text_at, texts_at}
 
 suc_of_names : (files : List (Bor Kept)) (i : ℕ) (m : Bor Kept) (key : List ℕ) → i < length files → m ≡ get_or files i m → key ≡ text_at 1 (message_of m.now)
     → map (text_at 1) (map message_of (lent (take (suc i) files))) ≡ map (text_at 1) (map message_of (lent (take i files))) ++ key ∷ []
@@ -73,3 +77,41 @@ pub all_lost : (test : Message → Bool) (ms : List (Bor Kept)) (i : ℕ) (m : B
 all_lost test [] i m h is here = absurd (omega (arith, h))
 all_lost test (x ∷ xs) zero m h is here = ap (λ b. b && list_all test (map message_of (lent xs))) (ap (λ (b : Bor Kept). test (message_of b.now)) (sym is) ∙ here)
 all_lost test (x ∷ xs) (suc i) m h is here = and_false (test (message_of x.now)) (list_all test (map message_of (lent xs))) (all_lost test xs i m (omega (arith, h)) is here)
+
+-- ---- names and imports, file by file
+
+pub paths_are : (ms : List Message) → paths_of (map importer_of ms) ≡ map (text_at 1) ms
+paths_are [] = refl
+paths_are (m ∷ ms) = ap (λ ps. text_at 1 m ∷ ps) (paths_are ms)
+
+-- the file at a place imports no path twice
+pub once_at : (ms : List (Bor Kept)) (i : ℕ) (m : Bor Kept) → list_all imports_once (map importer_of (map message_of (lent ms))) ≡ true → i < length ms → m ≡ get_or ms i m
+    → are_distinct (texts_at 3 (message_of m.now)) ≡ true
+once_at [] i m once h is = absurd (omega (arith, h))
+once_at (x ∷ ms) zero m once h is =
+    subst (λ (b : Bor Kept). are_distinct (texts_at 3 (message_of b.now)) ≡ true) (sym is)
+    (and_left (are_distinct (texts_at 3 (message_of x.now))) (list_all imports_once (map importer_of (map message_of (lent ms)))) once)
+once_at (x ∷ ms) (suc i) m once h is =
+    once_at ms i m (and_right (are_distinct (texts_at 3 (message_of x.now))) (list_all imports_once (map importer_of (map message_of (lent ms)))) once) (omega (arith, h)) is
+
+-- the name of the file at a place
+pub named_at : (ms : List (Bor Kept)) (i : ℕ) (m : Bor Kept) → i < length ms → m ≡ get_or ms i m → name_at (paths_of (map importer_of (map message_of (lent ms)))) i ≡ text_at 1 (message_of m.now)
+named_at [] i m h is = absurd (omega (arith, h))
+named_at (x ∷ ms) zero m h is = ap (λ (b : Bor Kept). text_at 1 (message_of b.now)) (sym is)
+named_at (x ∷ ms) (suc i) m h is = named_at ms i m (omega (arith, h)) is
+
+suc_of_named : (names : List (List ℕ)) (places : List ℕ) (files : List File) (i : ℕ) (place : ℕ) (f : File) → i < length places → i < length files → place ≡ get_or places i place → f ≡ get_or files i f
+    → name_at names place ≡ file_name f → map (name_at names) (take i places) ≡ map file_name (take i files) → map (name_at names) (take (suc i) places) ≡ map file_name (take (suc i) files)
+suc_of_named names [] files i place f h k is same here before = absurd (omega (arith, h))
+suc_of_named names (p ∷ places) [] i place f h k is same here before = absurd (omega (arith, k))
+suc_of_named names (p ∷ places) (x ∷ files) zero place f h k is same here before =
+    ap (λ n. n ∷ []) (ap (name_at names) (sym is) ∙ (here ∙ ap file_name same))
+suc_of_named names (p ∷ places) (x ∷ files) (suc i) place f h k is same here before =
+    let first : name_at names p ≡ file_name x = cc in
+    let later : map (name_at names) (take i places) ≡ map file_name (take i files) = cc in
+    ap₂ (λ n ns. n ∷ ns) first (suc_of_named names places files i place f (omega (arith, h)) (omega (arith, k)) is same here later)
+
+-- one file more has its name
+pub named_step : (names : List (List ℕ)) (places : List ℕ) (files : List File) (i : ℕ) (place : ℕ) (f : File) → i < length places → i < length files → place ≡ get_or places i place → f ≡ get_or files i f
+    → name_at names place ≡ file_name f → map (name_at names) (take i places) ≡ map file_name (take i files) → map (name_at names) (take (i + 1) places) ≡ map file_name (take (i + 1) files)
+named_step names places files i place f h k is same here before = rw add-one (suc_of_named names places files i place f h k is same here before)

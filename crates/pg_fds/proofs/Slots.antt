@@ -1,11 +1,11 @@
 -- Messages that are written slot by slot, each slot under a number of its own, and what they say.
-use Rattle.std.proofs.Common.{◌≡◌, ℕ, ℤ, pos, Bool, true, false, cond, not, nat_eq, ◌&&◌, List, [], ◌∷◌, ◌++◌, map, filter, Option, Some, None, option_map, slice_get, refl, ap, ap₂, sym, subst, ◌∙◌, arith, unwrap_or}
+use Rattle.std.proofs.Common.{◌≡◌, ℕ, ℤ, pos, Bool, true, false, cond, not, nat_eq, ◌&&◌, List, [], ◌∷◌, ◌++◌, map, filter, filter_map, Option, Some, None, option_map, slice_get, refl, ap, ap₂, sym, subst, ◌∙◌, arith, unwrap_or}
 use Rattle.std.proofs.lemmas.Bool.Decides.{nat_tests}
 use Rattle.std.proofs.lemmas.List.{append-nil}
 use Rattle.pg_schema.proofs.PairLemmas.{and_left, and_right}
 use Rattle.pg_dyn.specs.Message.{Int, Bytes, Item, Plain, Msg, Message, ends, Part, is_of, message_from, parts, with_part}
 use Rattle.pg_fds.specs.Items.{Items, child, children, count, counts, filled, flag, item, mark, maybe_count, maybe_text, options, stated, text, texts, whole}
-use Rattle.pg_fds.specs.Said.{child_of, children_at, flag_of, item_at, items_at, maybe_flag_at, number_of, numbers_at, options_at, text_of, texts_at}
+use Rattle.pg_fds.specs.Said.{child_in, child_of, children_at, flag_of, item_at, items_at, maybe_flag_at, number_of, numbers_at, options_at, text_of, texts_at}
 
 pub record Slot : Type 0 where
   pub number : ℕ
@@ -252,9 +252,9 @@ numbers_of (k ∷ list) = ap (λ xs. pos k ∷ xs) (numbers_of list)
 pub numbers_said : (n : ℕ) (m : Message) (list : List ℕ) → items_at n m ≡ map (λ k. Plain (Int (pos k))) list → numbers_at n m ≡ map pos list
 numbers_said n m list e = ap (map number_of) e ∙ numbers_of list
 
-children_of : (list : List Items) → map child_of (map (λ its. Msg (made its)) list) ≡ map made list
+children_of : (list : List Items) → filter_map child_in (map (λ its. Msg (made its)) list) ≡ map made list
 children_of [] = refl
 children_of (its ∷ list) = ap (λ ms. made its ∷ ms) (children_of list)
 
 pub children_said : (n : ℕ) (m : Message) (list : List Items) → items_at n m ≡ map (λ its. Msg (made its)) list → children_at n m ≡ map made list
-children_said n m list e = ap (map child_of) e ∙ children_of list
+children_said n m list e = ap (filter_map child_in) e ∙ children_of list

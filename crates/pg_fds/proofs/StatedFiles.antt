@@ -1,9 +1,9 @@
 -- What a set that states a schema says in each of its files, and what is refused only where none is stated.
-use Rattle.std.proofs.Common.{◌≡◌, ℕ, Bool, true, false, not, ◌||◌, List, [], ◌∷◌, ◌++◌, map, Option, Some, None, refl, ap, sym, subst, ◌∙◌}
+use Rattle.std.proofs.Common.{◌≡◌, ℕ, Bool, true, false, not, ◌&&◌, ◌||◌, inl, inr, List, [], ◌∷◌, ◌++◌, map, Option, Some, None, refl, ap, sym, subst, ◌∙◌}
 use Rattle.std.proofs.lemmas.Bool.{false≢true}
 use Rattle.std.proofs.lemmas.Slice.Eq.{bytes_eq-Decides}
 use Rattle.std.specs.Prelude.{IsSomeAnd}
-use Rattle.std.specs.List.{AllByRecursion, Any, list_all}
+use Rattle.std.specs.List.{list_all}
 use Rattle.std.specs.Str.{bytes_eq}
 use Rattle.pg_schema.specs.declared.file.File.{File}
 use Rattle.pg_schema.specs.declared.parts.Parts.{Parts}
@@ -26,11 +26,13 @@ use Rattle.pg_fds.specs.Building.{written_shape}
 use Rattle.pg_fds.specs.Codes.{file_has_types}
 use Rattle.pg_fds.specs.Descriptor.{file_set}
 use Rattle.pg_fds.specs.Places.{declared_in}
-use Rattle.pg_fds.specs.Reads.{AreBehind, States, StatesFiles, file_name, kept_files, skips}
+use Rattle.pg_fds.specs.PostOrder.{HasNoOrder, imports_once}
+use Rattle.pg_fds.specs.Reads.{AreBehind, States, StatesFiles, file_name, importer_of, kept_files, skips}
 use Rattle.pg_fds.specs.Refused.{MayRefuseSet, NoneIsStated, StatesNone}
-use Rattle.pg_fds.specs.Said.{text_at}
+use Rattle.pg_fds.specs.Said.{text_at, texts_at}
 use Rattle.pg_fds.specs.StatesFiles.{StatesFile, is_proto3, most_deep}
 use Rattle.pg_fds.proofs.Matched.{all_tested}
+use Rattle.pg_fds.proofs.SetLaws.{paths_are}
 use Rattle.pg_fds.proofs.StatedTypes.{file_typed}
 
 -- ---- the names of files
@@ -73,6 +75,19 @@ stated_proto3 skip kept parts states = files_tested is_proto3 skip kept parts st
 
 stated_types : (skip : Bool) (kept : List Message) (parts : Parts) → IsSound parts → StatesFiles skip kept parts → list_all file_has_types kept ≡ true
 stated_types skip kept parts sound states = files_tested file_has_types skip kept parts states (file_typed parts sound.names skip)
+
+-- ---- files that have no order
+
+imports_tested : (kept : List Message) → list_all (λ m. are_distinct (texts_at 3 m)) kept ≡ list_all imports_once (map importer_of kept)
+imports_tested [] = refl
+imports_tested (m ∷ kept) = ap (λ b. are_distinct (texts_at 3 m) && b) (imports_tested kept)
+
+-- files that state a schema have one
+pub none_ordered : (skip : Bool) (kept : List Message) → HasNoOrder skip (map importer_of kept) → (parts : Parts) → StatesFiles skip kept parts → ⊥
+none_ordered skip kept (inl twice) parts states = false≢true (sym twice ∙ (ap are_distinct (paths_are kept) ∙ states.once))
+none_ordered skip kept (inr (inl twice)) parts states =
+    false≢true (sym twice ∙ (sym (imports_tested kept) ∙ files_tested (λ m. are_distinct (texts_at 3 m)) skip kept parts states (λ m f stated. stated.imports_once)))
+none_ordered skip kept (inr (inr none)) parts states = none (map file_name parts.files.items) states.order
 
 -- ---- refusals
 

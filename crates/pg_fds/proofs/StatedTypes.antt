@@ -1,5 +1,5 @@
 -- A set that states a schema has types and labels that are taken.
-use Rattle.std.proofs.Common.{◌≡◌, ℕ, zero, suc, pos, Bool, true, false, cond, not, ◌&&◌, List, [], ◌∷◌, ◌++◌, map, filter, flat_map, length, Option, Some, None, slice_get, refl, ap, sym, subst, ◌∙◌}
+use Rattle.std.proofs.Common.{◌≡◌, ℕ, zero, suc, pos, Bool, true, false, cond, not, ◌&&◌, List, [], ◌∷◌, ◌++◌, map, filter, filter_map, flat_map, length, Option, Some, None, slice_get, refl, ap, sym, subst, ◌∙◌}
 use Rattle.std.specs.Prelude.{IsSomeAnd}
 use Rattle.std.specs.List.{AllByRecursion, AllZip, Any, list_all, list_any}
 use Rattle.std.specs.Ordering.{int_eq}
@@ -20,7 +20,7 @@ use Rattle.pg_schema.specs.declared.field.TypeId.{TypeId}
 use Rattle.pg_schema.specs.declared.file.File.{File}
 use Rattle.pg_schema.specs.declared.message_type.MessageType.{MessageType}
 use Rattle.pg_schema.specs.declared.parts.Parts.{Parts}
-use Rattle.pg_schema.specs.DeclaredNames.{declared_names, entry_name, entry_names, entry_of, file_names, service_names, type_names, values_at, within}
+use Rattle.pg_schema.specs.DeclaredNames.{declared_names, entry_name, entry_names, file_names, service_names, type_names, values_at, within}
 use Rattle.pg_schema.specs.MessageRules.{field_names}
 use Rattle.pg_schema.specs.Pairs.{all_pairs, are_distinct, differ}
 use Rattle.pg_schema.specs.Shape.{is_map}
@@ -29,7 +29,7 @@ use Rattle.pg_dyn.specs.Message.{Message}
 use Rattle.pg_fds.specs.Codes.{file_has_types, has_types, have_types, is_taken, label_codes, type_codes}
 use Rattle.pg_fds.specs.Fields.{element_code, label, scalar_code, type_code}
 use Rattle.pg_fds.specs.Places.{Declared, declared_in}
-use Rattle.pg_fds.specs.Said.{child_of, children_at, items_at, number_at, text_at}
+use Rattle.pg_fds.specs.Said.{child_in, children_at, items_at, number_at, text_at}
 use Rattle.pg_fds.specs.States.{AreKeyAndValue, HasEntry, StatesEntries, StatesEntry, StatesEntryField, StatesField, label_at}
 use Rattle.pg_fds.specs.StatesFiles.{StatesFile, most_deep}
 use Rattle.pg_fds.specs.StatesTypes.{StatesTypes, StatesWhole, is_entry, is_no_entry}
@@ -209,7 +209,7 @@ none_inside zero ms none = refl
 none_inside (suc depth) ms none = ap (list_all (has_types (have_types depth))) none
 
 entry_typed : (depth : ℕ) (m : Message) (f : Field) → IsEntryOf m f → has_types (have_types depth) m ≡ true
-entry_typed depth m f is = and_both (list_all is_taken (children_at 2 m)) (have_types depth (children_at 3 m)) is.1 (none_inside depth (children_at 3 m) (ap (map child_of) is.2))
+entry_typed depth m f is = and_both (list_all is_taken (children_at 2 m)) (have_types depth (children_at 3 m)) is.1 (none_inside depth (children_at 3 m) (ap (filter_map child_in) is.2))
 
 -- what holds of those that pass and of the others holds of all
 both_kinds : (test kind : Message → Bool) (ms : List Message) → list_all test (filter kind ms) ≡ true → list_all test (filter (λ m. not (kind m)) ms) ≡ true → list_all test ms ≡ true

@@ -1,8 +1,8 @@
 -- What is written of the entry types of a message type's map fields states them.
-use Rattle.std.proofs.Common.{◌≡◌, ℕ, zero, suc, ◌+◌, ◌<◌, Bool, true, false, cond, not, nat_eq, nat_lt, ◌&&◌, ◌||◌, ◌⊎◌, inl, inr, List, [], ◌∷◌, ◌++◌, map, filter, find, flat_map, length, get_or, Option, Some, None, refl, ap, ap₂, sym, subst, ◌∙◌, arith}
+use Rattle.std.proofs.Common.{◌≡◌, ℕ, suc, ◌+◌, Bool, true, false, cond, nat_eq, nat_lt, ◌||◌, ◌⊎◌, inl, inr, List, [], ◌∷◌, ◌++◌, map, filter, find, flat_map, length, Some, refl, ap, sym, subst, ◌∙◌, arith}
 use Rattle.std.proofs.lemmas.Bool.{false≢true}
 use Rattle.std.proofs.lemmas.Bool.Decides.{nat_tests}
-use Rattle.std.specs.List.{AllByRecursion, Any, list_all, list_any}
+use Rattle.std.specs.List.{AllByRecursion, list_all, list_any}
 use Rattle.pg_schema.specs.declared.field.Field.{Field}
 use Rattle.pg_schema.specs.declared.field.Presence.{Presence}
 use Rattle.pg_schema.specs.declared.field.Presence.TheVariants as presences
@@ -18,10 +18,9 @@ use Rattle.pg_fds.specs.Items.{Items}
 use Rattle.pg_fds.specs.Messages.{declared_fields, where_found}
 use Rattle.pg_fds.specs.Places.{Declared}
 use Rattle.pg_fds.specs.States.{HasEntry, StatesEntries, StatesEntry}
-use Rattle.pg_fds.specs.StatesTypes.{is_entry}
 use Rattle.pg_fds.proofs.Matched.{Has, any_has, rest, rest_length, still}
 use Rattle.pg_fds.proofs.Slots.{made}
-use Rattle.pg_fds.proofs.WrittenFields.{entry_is_entry, entry_parts, states_entry}
+use Rattle.pg_fds.proofs.WrittenFields.{entry_parts, states_entry}
 
 abbrev maps : List Field → List Field
 maps fields = filter (λ (f : Field). is_map f.presence) fields

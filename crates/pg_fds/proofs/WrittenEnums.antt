@@ -1,8 +1,8 @@
 -- What is written of an enum or a service states it.
-use Rattle.std.proofs.Common.{◌≡◌, ℕ, pos, Bool, true, false, ◌&&◌, List, [], ◌∷◌, ◌++◌, map, flat_map, Option, Some, None, option_map, slice_get, refl, ap, sym, subst, ◌∙◌, unwrap_or}
+use Rattle.std.proofs.Common.{◌≡◌, ℕ, pos, true, List, [], ◌∷◌, ◌++◌, map, Option, Some, None, option_map, slice_get, refl, ap, sym, subst, ◌∙◌, unwrap_or}
 use Rattle.std.proofs.lemmas.Bool.{false≢true}
 use Rattle.std.specs.Prelude.{IsSomeAnd}
-use Rattle.std.specs.List.{AllZip, list_all}
+use Rattle.std.specs.List.{AllZip}
 use Rattle.std.specs.String.{string_bytes}
 use Rattle.pg_schema.specs.declared.enum_type.EnumType.{EnumType}
 use Rattle.pg_schema.specs.declared.enum_type.EnumValue.{EnumValue}
@@ -15,7 +15,7 @@ use Rattle.pg_dyn.specs.Message.{Message}
 use Rattle.pg_fds.specs.Items.{Items, stated}
 use Rattle.pg_fds.specs.Messages.{enum_items, enum_options, enums_items, own_name, value_items, value_range, where_found}
 use Rattle.pg_fds.specs.Places.{Declared}
-use Rattle.pg_fds.specs.Said.{children_at, maybe_flag_at, number_of, options_at}
+use Rattle.pg_fds.specs.Said.{maybe_flag_at, options_at}
 use Rattle.pg_fds.specs.States.{StatesEnum, StatesEnums, StatesValue, StatesValueRange}
 use Rattle.pg_fds.proofs.Slots.{Slot, children_said, children_slot, made, number_said, options_said, options_slot, says, stated_said, stated_slot, text_said, text_slot, texts_said, texts_slot, whole_slot}
 use Rattle.pg_fds.proofs.WrittenNames.{name_within}

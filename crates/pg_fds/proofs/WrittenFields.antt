@@ -1,11 +1,10 @@
 -- What is written of a field or of an entry type states it.
-use Rattle.std.proofs.Common.{◌≡◌, ℕ, suc, pos, Bool, true, false, cond, List, [], ◌∷◌, ◌++◌, map, codes, Option, Some, None, option_map, slice_get, refl, ap, sym, subst, ◌∙◌, unwrap_or}
+use Rattle.std.proofs.Common.{◌≡◌, ℕ, suc, pos, true, false, cond, List, [], ◌∷◌, ◌++◌, map, codes, Some, option_map, slice_get, refl, ap, sym, subst, ◌∙◌, unwrap_or}
 use Rattle.std.specs.List.{AllZip}
 use Rattle.std.specs.String.{string_bytes}
 use Rattle.pg_schema.specs.declared.field.Element.{Element}
 use Rattle.pg_schema.specs.declared.field.Element.TheVariants as elements
 use Rattle.pg_schema.specs.declared.field.Field.{Field}
-use Rattle.pg_schema.specs.declared.field.Presence.TheVariants as presences
 use Rattle.pg_schema.specs.declared.field.Scalar.{Scalar}
 use Rattle.pg_schema.specs.declared.message_type.ReservedFields.{ReservedFields}
 use Rattle.pg_schema.specs.DeclaredNames.{entry_name}
@@ -13,10 +12,10 @@ use Rattle.pg_schema.specs.JsonName.{default_json_name}
 use Rattle.pg_dyn.specs.Message.{Message, ends, parts}
 use Rattle.pg_fds.specs.Entries.{entry_field}
 use Rattle.pg_fds.specs.Fields.{element_code, element_name, field_items, field_options, fields_items, label, named_type, oneof_place, type_code}
-use Rattle.pg_fds.specs.Items.{Items, child, children, count, flag, text}
+use Rattle.pg_fds.specs.Items.{Items, child, children, flag, text}
 use Rattle.pg_fds.specs.Messages.{field_range}
 use Rattle.pg_fds.specs.Places.{Declared}
-use Rattle.pg_fds.specs.Said.{child_of, flag_at, flag_of, item_at, maybe_flag_at, maybe_number_at, number_of, options_at, text_at}
+use Rattle.pg_fds.specs.Said.{child_of, flag_at, flag_of, maybe_flag_at, maybe_number_at, options_at, text_at}
 use Rattle.pg_fds.specs.States.{AreKeyAndValue, StatesEntry, StatesEntryField, StatesField, StatesFieldRange}
 use Rattle.pg_fds.specs.StatesTypes.{is_entry}
 use Rattle.pg_fds.proofs.Slots.{Slot, child_slot, children_said, children_slot, count_slot, made, mark_said, mark_slot, maybe_count_slot, maybe_number_said, maybe_text_said, maybe_text_slot, number_said, options_said, options_slot, says, stated_said, stated_slot, text_said, text_slot}

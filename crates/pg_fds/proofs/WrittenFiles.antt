@@ -1,9 +1,8 @@
 -- What is written of services and files states them.
-use Rattle.std.proofs.Common.{◌≡◌, ℕ, zero, suc, ◌+◌, ◌<◌, ◌≤◌, ℤ, pos, Bool, true, false, cond, not, nat_eq, nat_lt, ◌&&◌, ◌||◌, List, [], ◌∷◌, ◌++◌, map, filter, find, flat_map, length, codes, Option, Some, None, option_map, slice_get, refl, ap, ap₂, sym, subst, ◌∙◌, arith, unwrap_or}
-use Rattle.std.proofs.lemmas.Bool.{false≢true}
+use Rattle.std.proofs.Common.{◌≡◌, ℕ, zero, suc, ◌+◌, ◌<◌, ◌≤◌, ℤ, pos, Bool, true, false, cond, nat_eq, nat_lt, ◌&&◌, ◌||◌, List, [], ◌∷◌, ◌++◌, map, filter, find, length, codes, Option, Some, None, option_map, slice_get, refl, ap, ap₂, sym, subst, ◌∙◌, arith}
 use Rattle.std.proofs.lemmas.Bool.Decides.{nat_tests}
 use Rattle.std.specs.Prelude.{IsSomeAnd}
-use Rattle.std.specs.List.{AllByRecursion, AllZip, list_all, list_any}
+use Rattle.std.specs.List.{AllByRecursion, AllZip, list_all}
 use Rattle.std.specs.Str.{bytes_eq}
 use Rattle.std.specs.String.{string_bytes}
 use Rattle.pg_schema.specs.declared.field.TypeId.{TypeId}
@@ -19,22 +18,23 @@ use Rattle.pg_schema.specs.declared.service.Service.{Service}
 use Rattle.pg_schema.specs.declared.service.ServiceId.{ServiceId}
 use Rattle.pg_schema.specs.DeclaredNames.{within}
 use Rattle.pg_schema.specs.FileRules.{is_method, is_service}
+use Rattle.pg_schema.specs.Pairs.{are_distinct}
 use Rattle.pg_schema.specs.Scopes.{are_enums_in, are_services_in, are_types_in, is_file_scope, is_in, is_named_in, service_name, type_name}
 use Rattle.pg_schema.specs.Sound.{IsSound}
 use Rattle.pg_schema.proofs.PairLemmas.{and_left, and_right}
-use Rattle.pg_dyn.specs.Message.{Bytes, Int, Item, Message, Part, Plain}
-use Rattle.pg_fds.specs.Again.{nest_within}
+use Rattle.pg_dyn.specs.Message.{Item, Message, Part}
+use Rattle.pg_fds.specs.Again.{imports_apart, nest_within}
 use Rattle.pg_fds.specs.Fields.{dotted}
-use Rattle.pg_fds.specs.Items.{Items, item, stated}
+use Rattle.pg_fds.specs.Items.{item, stated}
 use Rattle.pg_fds.specs.Messages.{enums_items, own_name, types_items, where_found}
 use Rattle.pg_fds.specs.Places.{Declared, declared_in}
-use Rattle.pg_fds.specs.Said.{child_of, children_at, item_at, maybe_flag_at, maybe_text_at, numbers_at, options_at, text_at, texts_at}
+use Rattle.pg_fds.specs.Said.{item_at, maybe_flag_at, maybe_text_at, numbers_at, text_at, texts_at}
 use Rattle.pg_fds.specs.Set.{called_type, file_items, file_options, method_items, option_items, public_places, service_items, services_items}
 use Rattle.pg_fds.specs.States.{StatesEnums}
 use Rattle.pg_fds.specs.StatesFiles.{StatesCalled, StatesFile, StatesMethod, StatesOptions, StatesService, StatesServices, import_of, is_place, is_proto3, kept_imports, most_deep, option_item, option_places, stated_option}
 use Rattle.pg_fds.specs.StatesTypes.{StatesTypes, is_marked}
 use Rattle.pg_fds.proofs.Slots.{Slot, at, children_said, children_slot, counts_slot, filled_said, filled_slot, item_found, mark_said, mark_slot, maybe_bytes, maybe_text_said, made, numbers_said, options_said, options_slot, says, stated_said, stated_slot, text_said, text_slot, texts_said, texts_slot}
-use Rattle.pg_fds.proofs.WrittenEnums.{named_there, states_enums, zip_made}
+use Rattle.pg_fds.proofs.WrittenEnums.{named_there, states_enums}
 use Rattle.pg_fds.proofs.WrittenNames.{name_within}
 use Rattle.pg_fds.proofs.WrittenTypes.{states_types, test_at}
 
@@ -138,7 +138,7 @@ states_options os (n ∷ ns) = (item_found n (file_options os) ∙ options_found
 
 -- ---- imports
 
-abbrev path_of : Import → List ℕ
+abbrev pub path_of : Import → List ℕ
 path_of i = string_bytes i.path
 
 not_earlier : (a b : ℕ) → a < b → nat_eq b a ≡ false
@@ -208,17 +208,20 @@ file_called all f = text_said 1 (made (file_items all f)) (string_bytes f.name) 
 pub file_is_proto3 : (all : Declared) (f : File) → is_proto3 (made (file_items all f)) ≡ true
 file_is_proto3 all f = ap (λ t. bytes_eq t (codes "proto3")) (text_said 12 (made (file_items all f)) (codes "proto3") (says 12 (file_slots all f) refl))
 
-pub states_file : (parts : Parts) (f : File) → IsSound parts → is_file_scope parts.types.items parts.enums.items parts.services.items f ≡ true
+pub file_imports : (all : Declared) (f : File) → texts_at 3 (made (file_items all f)) ≡ map path_of f.imports.items
+file_imports all f = texts_said 3 (made (file_items all f)) (map path_of f.imports.items) (says 3 (file_slots all f) refl)
+
+pub states_file : (parts : Parts) (f : File) → IsSound parts → imports_apart f ≡ true → is_file_scope parts.types.items parts.enums.items parts.services.items f ≡ true
     → nest_within most_deep parts.types.items f.types.items ≡ true → nest_within (length parts.types.items) parts.types.items f.types.items ≡ true
     → StatesFile (declared_in parts) false (made (file_items (declared_in parts) f)) f
-states_file parts f sound scoped shallow enough =
+states_file parts f sound apart scoped shallow enough =
     let all : Declared = declared_in parts in
     let m : Message = made (file_items all f) in
     let slots : List Slot = file_slots all f in
     let is : List Import = f.imports.items in
     let own_scope : List ℕ = string_bytes f.package in
     let numbers : numbers_at 10 m ≡ map pos (public_places 0 is) = numbers_said 10 m (public_places 0 is) (says 10 slots refl) in
-    let paths : texts_at 3 m ≡ map path_of is = texts_said 3 m (map path_of is) (says 3 slots refl) in
+    let paths : texts_at 3 m ≡ map path_of is = file_imports all f in
     let count : length (texts_at 3 m) ≡ length is = ap length paths ∙ path_count is in
     let types_in : are_types_in parts.types.items own_scope f.types.items ≡ true = and_left _ _ (and_left _ _ scoped) in
     let enums_in : are_enums_in parts.enums.items own_scope f.enums.items ≡ true = and_right _ _ (and_left _ _ scoped) in
@@ -227,6 +230,7 @@ states_file parts f sound scoped shallow enough =
       name = file_called all f;
       package_name = filled_said 2 m own_scope (says 2 slots refl);
       imports = ap₂ (λ marks texts. kept_imports false marks 0 texts) numbers paths ∙ imports_kept (map pos (public_places 0 is)) 0 is (λ p h. refl);
+      imports_once = ap are_distinct paths ∙ apart;
       public_places = ap₂ (λ n marks. list_all (is_place n) marks) count numbers ∙ are_places (length is) 0 is (omega arith);
       types = subst (λ ms. StatesTypes most_deep all own_scope ms f.types.items) (sym (children_said 4 m (types_items (length all.types) all f.types.items) (says 4 slots refl)))
           (states_types parts sound most_deep (length all.types) own_scope f.types.items shallow enough types_in);

@@ -1,5 +1,5 @@
 -- What is written of a message type's oneofs states them: the real ones, and behind them one for each `optional` field.
-use Rattle.std.proofs.Common.{◌≡◌, ℕ, zero, suc, ◌+◌, ◌<◌, ◌≤◌, ℤ, pos, Bool, true, false, cond, not, nat_eq, nat_lt, ◌||◌, List, [], ◌∷◌, ◌++◌, map, filter, filter_map, length, Option, Some, None, option_map, slice_get, refl, ap, ap₂, sym, subst, ◌∙◌, arith, length-append}
+use Rattle.std.proofs.Common.{◌≡◌, ℕ, zero, suc, ◌+◌, ◌<◌, ◌≤◌, ℤ, pos, Bool, true, false, cond, nat_eq, nat_lt, ◌||◌, List, [], ◌∷◌, ◌++◌, map, filter, filter_map, length, Option, Some, None, option_map, slice_get, refl, ap, ap₂, sym, subst, ◌∙◌, arith, length-append}
 use Rattle.std.proofs.lemmas.Bool.Decides.{nat_tests}
 use Rattle.std.specs.Prelude.{IsSomeAnd}
 use Rattle.std.specs.List.{AllByRecursion, AllZip}
@@ -8,14 +8,13 @@ use Rattle.pg_schema.specs.declared.field.Field.{Field}
 use Rattle.pg_schema.specs.declared.message_type.MessageType.{MessageType}
 use Rattle.pg_schema.specs.FieldRules.{is_oneof}
 use Rattle.pg_dyn.specs.Message.{Message}
-use Rattle.pg_fds.specs.Fields.{field_items, fields_items, oneof_place}
-use Rattle.pg_fds.specs.Items.{Items, text}
+use Rattle.pg_fds.specs.Fields.{field_items, fields_items}
 use Rattle.pg_fds.specs.Messages.{oneof_items}
 use Rattle.pg_fds.specs.Places.{Declared}
 use Rattle.pg_fds.specs.Said.{maybe_number_at, text_at}
-use Rattle.pg_fds.specs.StatesTypes.{NamesOneof, StandsIn, StatesOneofs, is_at, is_marked, is_optional, real_oneofs, synthetic_places}
+use Rattle.pg_fds.specs.StatesTypes.{NamesOneof, StandsIn, StatesOneofs, is_marked, is_optional, real_oneofs, synthetic_places}
 use Rattle.pg_fds.specs.Synthetic.{synthetic_name, synthetic_names, synthetic_oneofs}
-use Rattle.pg_fds.proofs.Slots.{Slot, made, says, text_said, text_slot}
+use Rattle.pg_fds.proofs.Slots.{made, says, text_said, text_slot}
 use Rattle.pg_fds.proofs.WrittenFields.{optional_said, place_said}
 
 abbrev optional_fields : List Field → List Field

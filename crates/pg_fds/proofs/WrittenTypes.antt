@@ -1,9 +1,9 @@
 -- What is written of message types states them, with all that stands inside.
-use Rattle.std.proofs.Common.{◌≡◌, ℕ, zero, suc, Bool, true, false, cond, not, nat_eq, ◌&&◌, List, [], ◌∷◌, ◌++◌, map, filter, find, flat_map, length, Option, Some, None, option_map, slice_get, refl, ap, ap₂, sym, subst, ◌∙◌, unwrap_or}
+use Rattle.std.proofs.Common.{◌≡◌, ℕ, zero, suc, Bool, true, false, cond, not, List, [], ◌∷◌, ◌++◌, map, filter, length, Option, Some, None, option_map, slice_get, refl, ap, sym, subst, ◌∙◌, unwrap_or}
 use Rattle.std.proofs.lemmas.Bool.{false≢true}
 use Rattle.std.proofs.lemmas.Option.{none-some, same_Some}
 use Rattle.std.specs.Prelude.{IsSomeAnd}
-use Rattle.std.specs.List.{AllByRecursion, AllZip, list_all, list_any}
+use Rattle.std.specs.List.{AllByRecursion, AllZip, list_all}
 use Rattle.std.specs.String.{string_bytes}
 use Rattle.pg_schema.specs.declared.field.Field.{Field}
 use Rattle.pg_schema.specs.declared.field.Presence.{Presence}
@@ -25,7 +25,7 @@ use Rattle.pg_fds.specs.Fields.{fields_items}
 use Rattle.pg_fds.specs.Items.{Items, stated}
 use Rattle.pg_fds.specs.Messages.{declared_fields, enums_items, field_range, names_within, oneof_items, oneof_names, own_type_name, type_items, types_items, where_found}
 use Rattle.pg_fds.specs.Places.{Declared, declared_in}
-use Rattle.pg_fds.specs.Said.{children_at, flag_at, flag_of, maybe_flag_at, options_at, texts_at}
+use Rattle.pg_fds.specs.Said.{children_at, flag_at, flag_of, maybe_flag_at, options_at}
 use Rattle.pg_fds.specs.States.{StatesEntries, StatesEnums, StatesField, StatesFieldRange}
 use Rattle.pg_fds.specs.StatesTypes.{StatesOneofs, StatesType, StatesTypes, StatesWhole, is_entry, is_no_entry}
 use Rattle.pg_fds.proofs.FieldLaws.{each_found_holds}

@@ -2,6 +2,8 @@
 use Rattle.std.specs.Prelude.{ℕ, zero, suc, ℤ, pos, Bool, true, ◌&&◌, List, [], ◌∷◌}
 use Rattle.std.specs.List.{list_all, list_any}
 use Rattle.std.specs.Ordering.{int_eq}
+use Rattle.pg_schema.specs.declared.field.Scalar.{Scalar}
+use Rattle.pg_schema.specs.declared.field.Scalar.TheVariants as kinds
 use Rattle.pg_dyn.specs.Message.{Message}
 use Rattle.pg_fds.specs.Said.{children_at, number_at}
 use Rattle.pg_fds.specs.States.{label_at}
@@ -11,6 +13,12 @@ use Rattle.pg_fds.specs.StatesFiles.{most_deep}
 abbrev pub type_codes : List ℤ
 type_codes =
     pos 1 ∷ pos 2 ∷ pos 3 ∷ pos 4 ∷ pos 5 ∷ pos 6 ∷ pos 7 ∷ pos 8 ∷ pos 9 ∷ pos 11 ∷ pos 12 ∷ pos 13 ∷ pos 14 ∷ pos 15 ∷ pos 16 ∷ pos 17 ∷ pos 18 ∷ []
+
+-- the scalars, by rising code
+abbrev pub scalars : List Scalar
+scalars =
+    kinds.Double ∷ kinds.Float ∷ kinds.Int64 ∷ kinds.Uint64 ∷ kinds.Int32 ∷ kinds.Fixed64 ∷ kinds.Fixed32 ∷ kinds.Bool ∷ kinds.String ∷ kinds.Bytes ∷ kinds.Uint32
+    ∷ kinds.Sfixed32 ∷ kinds.Sfixed64 ∷ kinds.Sint32 ∷ kinds.Sint64 ∷ []
 
 -- LABEL_OPTIONAL, LABEL_REPEATED
 abbrev pub label_codes : List ℤ

@@ -19,6 +19,10 @@ pub mod States
 pub mod StatesTypes
 pub mod StatesFiles
 pub mod Codes
+pub mod PostOrder
+pub mod Walks
+pub mod FilePlaces
+pub mod Made
 pub mod Reads
 pub mod Refused
 pub mod Again

@@ -12,7 +12,8 @@ use Rattle.pg_dyn.specs.Message.{Message}
 use Rattle.pg_fds.specs.Building.{written_shape}
 use Rattle.pg_fds.specs.Descriptor.{file_set}
 use Rattle.pg_fds.specs.Places.{declared_in}
-use Rattle.pg_fds.specs.Said.{children_at, text_at}
+use Rattle.pg_fds.specs.PostOrder.{Importer, IsPostOrder}
+use Rattle.pg_fds.specs.Said.{children_at, text_at, texts_at}
 use Rattle.pg_fds.specs.StatesFiles.{StatesFile, is_skipped}
 
 -- whether the set has a file that is skipped
@@ -36,13 +37,17 @@ AreBehind names [] = ⊤
 AreBehind names (f ∷ fs) =
     (imports_among names f.imports.items ≡ true) × (is_among names (file_name f) ≡ false) × AreBehind (names ++ file_name f ∷ []) fs
 
+abbrev pub importer_of : Message → Importer
+importer_of m = record { path = text_at 1 m; imports = texts_at 3 m }
+
 -- These files are the schema's: names stand once on both sides, there are as many here as there, and each of the schema is stated by one
--- of these, behind those that it imports. So none is left out.
+-- of these, so none is left out. Those of the schema stand behind those that they import, in post-order.
 pub record StatesFiles (skips : Bool) (kept : List Message) (parts : Parts) : Type 0 where
   pub once : are_distinct (map (text_at 1) kept) ≡ true
   pub as_many : length kept ≡ length parts.files.items
   pub files : AllByRecursion (λ (f : File). Any (λ m. StatesFile (declared_in parts) skips m f) kept) parts.files.items
   pub behind : AreBehind [] parts.files.items
+  pub order : IsPostOrder skips (map importer_of kept) (map file_name parts.files.items)
 
 -- the message of a set states the schema of these parts
 abbrev pub States : Message → Parts → Type 0

@@ -1,6 +1,6 @@
 -- What a message of a descriptor set says, by the numbers of its fields. A field that is missing says its default. Unknown records, and
 -- fields that no fact of a set asks for, say nothing.
-use Rattle.std.specs.Prelude.{ℕ, ℤ, pos, Bool, false, not, List, [], map, filter, Option, option_map, slice_get}
+use Rattle.std.specs.Prelude.{ℕ, ℤ, pos, Bool, false, not, List, [], map, filter, filter_map, Option, Some, None, option_map, slice_get}
 use Rattle.std.specs.Option.{unwrap_or}
 use Rattle.std.specs.Ordering.{int_eq}
 use Rattle.pg_dyn.specs.Message.{Int, F32, F64, Bytes, Item, Plain, Msg, Message, ends, Part, parts, is_of}
@@ -15,6 +15,12 @@ item_at number m = slice_get (items_at number m) 0
 
 -- ---- what an item is
 
+-- the message that it is
+abbrev pub child_in : Item → Option Message
+child_in (Plain leaf) = None
+child_in (Msg m) = Some m
+
+-- the same, empty where it is none
 abbrev pub child_of : Item → Message
 child_of (Plain leaf) = ends []
 child_of (Msg m) = m
@@ -38,8 +44,9 @@ flag_of item = not (int_eq (number_of item) (pos 0))
 
 -- ---- what a field says
 
+-- the messages among the items
 abbrev pub children_at : ℕ → Message → List Message
-children_at number m = map child_of (items_at number m)
+children_at number m = filter_map child_in (items_at number m)
 
 abbrev pub texts_at : ℕ → Message → List (List ℕ)
 texts_at number m = map text_of (items_at number m)

@@ -1,6 +1,10 @@
 -- Numbers that an int32 holds.
-use Rattle.std.specs.Prelude.{◌+◌, ◌<◌, ◌^◌, length, IfSome}
+use Rattle.std.specs.Prelude.{◌+◌, ◌<◌, ◌^◌, length, FitsSigned, IfSome}
+use Rattle.std.specs.Int.{w32}
 use Rattle.std.specs.List.{AllByRecursion}
+use Rattle.pg_schema.specs.declared.enum_type.EnumType.{EnumType}
+use Rattle.pg_schema.specs.declared.enum_type.EnumValue.{EnumValue}
+use Rattle.pg_schema.specs.declared.enum_type.ReservedValues.{ReservedValues}
 use Rattle.pg_schema.specs.declared.field.Field.{Field}
 use Rattle.pg_schema.specs.declared.message_type.MessageType.{MessageType}
 use Rattle.pg_schema.specs.declared.message_type.ReservedFields.{ReservedFields}
@@ -19,3 +23,15 @@ pub record IsSmallType (t : MessageType) : Type 0 where
   pub fields : AllByRecursion HasSmallNumbers t.fields.items
   pub ranges : AllByRecursion IsSmallRange t.reserved_numbers.items
   pub places : length t.oneofs.items + length t.declared.items < 2 ^ 31
+
+-- that of an enum's value
+abbrev pub IsSmallValue : EnumValue → Type 0
+IsSmallValue v = FitsSigned w32 v.number
+
+abbrev pub AreSmallEnds : ReservedValues → Type 0
+AreSmallEnds r = FitsSigned w32 r.first × FitsSigned w32 r.last
+
+-- those of its values and reserved ranges
+pub record IsSmallEnum (e : EnumType) : Type 0 where
+  pub values : AllByRecursion IsSmallValue e.values.items
+  pub ranges : AllByRecursion AreSmallEnds e.reserved_numbers.items

@@ -13,6 +13,7 @@ use Rattle.pg_schema.specs.declared.service.Method.{Method}
 use Rattle.pg_schema.specs.declared.service.Service.{Service}
 use Rattle.pg_schema.specs.declared.service.ServiceId.{ServiceId}
 use Rattle.pg_schema.specs.DeclaredNames.{within}
+use Rattle.pg_schema.specs.Pairs.{are_distinct}
 use Rattle.pg_schema.specs.Scopes.{type_name}
 use Rattle.pg_dyn.specs.Message.{Bytes, Int, Item, Message, Plain}
 use Rattle.pg_fds.specs.Fields.{dotted}
@@ -103,10 +104,12 @@ is_place count (negsuc n) = false
 abbrev pub most_deep : ℕ
 most_deep = 100
 
+-- No path stands twice among the imports, that of descriptor.proto neither.
 pub record StatesFile (all : Declared) (skips : Bool) (m : Message) (f : File) : Type 0 where
   pub name : text_at 1 m ≡ string_bytes f.name
   pub package_name : text_at 2 m ≡ string_bytes f.package
   pub imports : kept_imports skips (numbers_at 10 m) 0 (texts_at 3 m) ≡ map import_of f.imports.items
+  pub imports_once : are_distinct (texts_at 3 m) ≡ true
   pub public_places : list_all (is_place (length (texts_at 3 m))) (numbers_at 10 m) ≡ true
   pub types : StatesTypes most_deep all (string_bytes f.package) (children_at 4 m) f.types.items
   pub enums : StatesEnums all (string_bytes f.package) (children_at 5 m) f.enums.items

@@ -1,24 +1,23 @@
 //! The codes of types and labels in sets.
 
-ghost use Rattle.std.specs.Prelude.{◌≡◌, ◌&&◌, IfOk, map};
+ghost use Rattle.std.specs.Prelude.{◌≡◌, ◌&&◌, pos, IfOk, find, map};
 ghost use Rattle.std.specs.List.{list_all, list_any};
 ghost use Rattle.std.specs.Ordering.{int_eq};
 ghost use Rattle.pg_dyn.specs.Kept.{message_of};
-ghost use Rattle.pg_fds.specs.Codes.{file_has_types, have_types, is_taken, label_codes, type_codes};
+ghost use Rattle.pg_fds.specs.Codes.{file_has_types, have_types, is_taken, label_codes, scalars, type_codes};
+ghost use Rattle.pg_fds.specs.Fields.{scalar_code};
 ghost use Rattle.pg_fds.specs.Lent.{lent};
+ghost use Rattle.pg_fds.specs.Said.{number_at};
 
-use crate::error::Unstated;
+use crate::fields::scalar_code;
 use crate::said::{children, number};
 use crate::states::label_of;
 use pg_dyn::Message;
 use pg_schema::Scalar;
-use std::alloc::Global;
+use std::alloc::{AllocError, Global};
 
 /// TYPE_MESSAGE.
 pub const MESSAGE_CODE: i128 = 11;
-
-/// TYPE_ENUM.
-pub const ENUM_CODE: i128 = 14;
 
 /// LABEL_REPEATED.
 pub const REPEATED: i128 = 3;
@@ -26,26 +25,43 @@ pub const REPEATED: i128 = 3;
 // How deep message types may be nested.
 const MOST_DEEP: usize = 100;
 
-/// The scalar of a code. `None` of messages, enums and codes that aren't taken.
-pub fn scalar_of(code: i128) -> Option<Scalar> {
-    match code {
-        1 => Some(Scalar::Double),
-        2 => Some(Scalar::Float),
-        3 => Some(Scalar::Int64),
-        4 => Some(Scalar::Uint64),
-        5 => Some(Scalar::Int32),
-        6 => Some(Scalar::Fixed64),
-        7 => Some(Scalar::Fixed32),
-        8 => Some(Scalar::Bool),
-        9 => Some(Scalar::String),
-        12 => Some(Scalar::Bytes),
-        13 => Some(Scalar::Uint32),
-        15 => Some(Scalar::Sfixed32),
-        16 => Some(Scalar::Sfixed64),
-        17 => Some(Scalar::Sint32),
-        18 => Some(Scalar::Sint64),
-        _ => None,
+// The scalars by rising code.
+const SCALARS: [Scalar; 15] = [
+    Scalar::Double,
+    Scalar::Float,
+    Scalar::Int64,
+    Scalar::Uint64,
+    Scalar::Int32,
+    Scalar::Fixed64,
+    Scalar::Fixed32,
+    Scalar::Bool,
+    Scalar::String,
+    Scalar::Bytes,
+    Scalar::Uint32,
+    Scalar::Sfixed32,
+    Scalar::Sfixed64,
+    Scalar::Sint32,
+    Scalar::Sint64,
+];
+
+// Whether the field's type is that scalar.
+fn has_code(field: &Message, scalar: Scalar) -> bool
+    ensures { result ≡ int_eq (number_at 5 (message_of field.now)) (pos (scalar_code scalar)) }
+{
+    number(field, 5) == i128::from(scalar_code(scalar))
+}
+
+/// The scalar that a field's type is. `None` of messages, enums and codes that aren't taken.
+pub fn scalar_of(field: &Message) -> Option<Scalar>
+    ensures { result ≡ find (λ s. int_eq (number_at 5 (message_of field.now)) (pos (scalar_code s))) scalars }
+{
+    for scalar in SCALARS {
+        let is_of = has_code(field, scalar);
+        if is_of {
+            return Some(scalar);
+        }
     }
+    None
 }
 
 // The codes of types that are taken: all but TYPE_GROUP.
@@ -87,31 +103,31 @@ fn both(first: bool, second: bool) -> bool
 }
 
 // Whether the field's type and label are taken.
-fn is_taken(field: &Message) -> Result<bool, Unstated>
-    ensures { IfOk result (λ taken. taken ≡ is_taken (message_of field.now)) }
+fn is_taken(field: &Message) -> bool
+    ensures { result ≡ is_taken (message_of field.now) }
 {
-    let code = number(field, 5)?;
-    let label = label_of(field)?;
+    let code = number(field, 5);
+    let label = label_of(field);
     let has_type = is_type(code);
     let has_label = is_label(label);
-    Ok(both(has_type, has_label))
+    both(has_type, has_label)
 }
 
 // Whether the types and labels of the fields are taken.
-fn are_taken(fields: &[&Message]) -> Result<bool, Unstated>
-    ensures { IfOk result (λ taken. taken ≡ list_all is_taken (map message_of (lent fields.now))) }
+fn are_taken(fields: &[&Message]) -> bool
+    ensures { result ≡ list_all is_taken (map message_of (lent fields.now)) }
 {
     for field in fields {
-        let taken = is_taken(field)?;
+        let taken = is_taken(field);
         if !taken {
-            return Ok(false);
+            return false;
         }
     }
-    Ok(true)
+    true
 }
 
 /// Whether the types and labels of all fields of the message types are taken, nested less deep than that.
-pub fn have_types(alloc: Global, depth: usize, messages: &[&Message]) -> Result<bool, Unstated>
+pub fn have_types(alloc: Global, depth: usize, messages: &[&Message]) -> Result<bool, AllocError>
     ensures { IfOk result (λ taken. taken ≡ have_types depth (map message_of (lent messages.now))) }
 {
     if depth == 0 {
@@ -121,7 +137,7 @@ pub fn have_types(alloc: Global, depth: usize, messages: &[&Message]) -> Result<
     for message in messages {
         let own = children(alloc, message, 2)?;
         let fields = own.as_slice();
-        let taken = are_taken(fields)?;
+        let taken = are_taken(fields);
         let inside = children(alloc, message, 3)?;
         let types = inside.as_slice();
         let deep = have_types(alloc, depth - 1, types)?;
@@ -133,7 +149,7 @@ pub fn have_types(alloc: Global, depth: usize, messages: &[&Message]) -> Result<
 }
 
 // Whether those of a file's message types are.
-fn file_has_types(alloc: Global, file: &Message) -> Result<bool, Unstated>
+fn file_has_types(alloc: Global, file: &Message) -> Result<bool, AllocError>
     ensures { IfOk result (λ taken. taken ≡ file_has_types (message_of file.now)) }
 {
     let declared = children(alloc, file, 4)?;
@@ -143,7 +159,7 @@ fn file_has_types(alloc: Global, file: &Message) -> Result<bool, Unstated>
 }
 
 /// Whether those of all files are.
-pub fn files_have_types(alloc: Global, files: &[&Message]) -> Result<bool, Unstated>
+pub fn files_have_types(alloc: Global, files: &[&Message]) -> Result<bool, AllocError>
     ensures { IfOk result (λ taken. taken ≡ list_all file_has_types (map message_of (lent files.now))) }
 {
     for file in files {

@@ -16,7 +16,7 @@ ghost use Rattle.pg_fds.specs.States.{AreKeyAndValue, HasEntry, StatesEntries, S
 use crate::error::Unstated;
 use crate::fields::{element_code, element_name};
 use crate::names::entry_name;
-use crate::said::{children, ensure, flag, item, items, number, option, text};
+use crate::said::{children, ensure, flag, item, number, option, text};
 use crate::states::{has_json_name, has_type_name, label_of, same_text};
 use pg_dyn::{Message, Value};
 use pg_schema::{Element, Field, Presence, Scalar, Schema, default_json_name};
@@ -27,7 +27,7 @@ use std::collections::BTreeMap;
 pub fn lacks(message: &Message, number: u32) -> Result<(), Unstated>
     ensures { OnOk result (item_at number (message_of message.now) ≡ None) }
 {
-    match item(message, number)? {
+    match item(message, number) {
         None => Ok(()),
         Some(_) => Err(Unstated::Reference),
     }
@@ -37,7 +37,10 @@ pub fn lacks(message: &Message, number: u32) -> Result<(), Unstated>
 pub fn lacks_all(message: &Message, number: u32) -> Result<(), Unstated>
     ensures { OnOk result (items_at number (message_of message.now) ≡ []) }
 {
-    ensure(items(message, number)?.is_empty())
+    match message.get(number) {
+        None => Ok(()),
+        Some(_) => Err(Unstated::Reference),
+    }
 }
 
 // The message has no content.
@@ -51,10 +54,9 @@ fn is_empty(message: &Message) -> Result<(), Unstated>
 pub fn has_no_options(message: &Message, number: u32) -> Result<(), Unstated>
     ensures { OnOk result (parts (options_at number (message_of message.now)) ≡ []) }
 {
-    match item(message, number)? {
-        None => Ok(()),
+    match item(message, number) {
         Some(Value::Msg(child)) => is_empty(child),
-        Some(_) => Err(Unstated::Reference),
+        _ => Ok(()),
     }
 }
 
@@ -71,14 +73,14 @@ fn entry_field(
     let type_name = element_name(alloc, source, element)?;
     let json_name = default_json_name(alloc, name)?;
     same_text(text(message, 1)?, name)?;
-    ensure(number(message, 3)? == i128::from(place))?;
-    ensure(label_of(message)? == 1)?;
-    ensure(number(message, 5)? == i128::from(element_code(element)))?;
+    ensure(number(message, 3) == i128::from(place))?;
+    ensure(label_of(message) == 1)?;
+    ensure(number(message, 5) == i128::from(element_code(element)))?;
     has_type_name(message, &type_name)?;
     has_no_options(message, 8)?;
     lacks(message, 9)?;
     has_json_name(alloc, message, &json_name)?;
-    ensure(!flag(message, 17)?)
+    ensure(!flag(message, 17))
 }
 
 fn key_and_value(
@@ -114,7 +116,7 @@ fn entry(
     key_and_value(alloc, source, &fields, key, field.element)?;
     lacks_all(message, 3)?;
     lacks_all(message, 4)?;
-    ensure(option(message, 7, 3)?.is_none())?;
+    ensure(option(message, 7, 3).is_none())?;
     lacks_all(message, 8)?;
     lacks_all(message, 9)?;
     lacks_all(message, 10)

@@ -61,12 +61,22 @@ pub enum Unstated {
 }
 
 impl<T: Drop> From<AllocFailed<T>> for Unstated {
+    ghost use Rattle.std.specs.Prelude.{◌≡◌};
+    ghost use Rattle.pg_fds.specs.declared.error.Unstated.TheVariants.{Memory};
+
+    ghost from_gives = { λ _ e. e ≡ Memory };
+
     fn from(_e: AllocFailed<T>) -> Unstated {
         Unstated::Memory
     }
 }
 
 impl From<AllocError> for Unstated {
+    ghost use Rattle.std.specs.Prelude.{◌≡◌};
+    ghost use Rattle.pg_fds.specs.declared.error.Unstated.TheVariants.{Memory};
+
+    ghost from_gives = { λ _ e. e ≡ Memory };
+
     fn from(_e: AllocError) -> Unstated {
         Unstated::Memory
     }

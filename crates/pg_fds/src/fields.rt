@@ -31,8 +31,8 @@ pub fn label(presence: Presence) -> u32
     }
 }
 
-// TYPE_DOUBLE and the others.
-fn scalar_code(scalar: Scalar) -> u32
+/// TYPE_DOUBLE and the others.
+pub fn scalar_code(scalar: Scalar) -> u32
     ensures value { result ≡ scalar_code scalar }
     ensures small { result ≤ 18 }
 {

@@ -1,15 +1,16 @@
 //! Whether the messages of a set state files. What they don't state is told as a bad reference.
 
-ghost use Rattle.std.specs.Prelude.{◌≡◌, ◌&&◌, true, IfOk, OnOk, find, length, map, nat_eq, pos};
-ghost use Rattle.std.specs.List.{AllByRecursion, list_all};
+ghost use Rattle.std.specs.Prelude.{◌≡◌, ◌&&◌, true, IfOk, OnOk, find, length, map, nat_eq};
+ghost use Rattle.std.specs.List.{AllByRecursion};
 ghost use Rattle.std.specs.Option.{option_copied};
 ghost use Rattle.pg_schema.specs.declared.options.FileOption.{FileOption};
+ghost use Rattle.pg_schema.specs.Pairs.{are_distinct};
 ghost use Rattle.pg_dyn.specs.Kept.{message_of};
 ghost use Rattle.pg_fds.specs.Building.{shown};
 ghost use Rattle.pg_fds.specs.Lent.{lent};
 ghost use Rattle.pg_fds.specs.Places.{declared_in};
-ghost use Rattle.pg_fds.specs.Said.{item_at, options_at};
-ghost use Rattle.pg_fds.specs.StatesFiles.{StatesFile, StatesOptions, import_of, is_descriptor, is_place, is_proto3, is_skipped, kept_imports, most_deep, option_item, stated_option};
+ghost use Rattle.pg_fds.specs.Said.{item_at, options_at, texts_at};
+ghost use Rattle.pg_fds.specs.StatesFiles.{StatesFile, StatesOptions, import_of, is_descriptor, is_proto3, is_skipped, kept_imports, most_deep, option_item, stated_option};
 ghost use Rattle.pg_fds.specs.StatesTypes.{AreMarked};
 
 use crate::error::Unstated;
@@ -88,7 +89,7 @@ fn stated(options: &[FileOption], number: u32) -> Option<&FileOption>
 fn has_option(message: &Message, options: &[FileOption], number: u32) -> Result<(), Unstated>
     ensures { OnOk result (item_at number (message_of message.now) ≡ stated_option options.now number) }
 {
-    match (item(message, number)?, stated(options, number)) {
+    match (item(message, number), stated(options, number)) {
         (None, None) => Ok(()),
         (Some(value), Some(option)) => option_value(value, &option.value),
         _ => Err(Unstated::Reference),
@@ -109,26 +110,13 @@ fn has_options(message: &Message, options: &[FileOption]) -> Result<(), Unstated
 fn options(message: &Message, options: &[FileOption]) -> Result<(), Unstated>
     ensures { OnOk result (StatesOptions (options_at 8 (message_of message.now)) options.now) }
 {
-    match item(message, 8)? {
-        None => ensure(options.is_empty()),
+    match item(message, 8) {
         Some(Value::Msg(child)) => has_options(child, options),
-        Some(_) => Err(Unstated::Reference),
+        _ => ensure(options.is_empty()),
     }
 }
 
 // ---- imports
-
-// Each number is that of one of so many places.
-fn are_places(numbers: &[u32], count: usize) -> Result<(), Unstated>
-    ensures { OnOk result (list_all (is_place count) (map pos numbers.now) ≡ true) }
-{
-    for number in numbers {
-        if *number as usize >= count {
-            return Err(Unstated::Reference);
-        }
-    }
-    Ok(())
-}
 
 /// Whether an import of the path is left out, where descriptor.proto is skipped or not.
 pub fn is_left_out(skips: bool, path: &str) -> bool
@@ -143,13 +131,13 @@ pub fn is_left_out(skips: bool, path: &str) -> bool
 // The paths from a place on are those of the imports, without those that are skipped.
 fn kept_imports(
     skips: bool,
-    public: &[u32],
+    public: &[i128],
     marks: &[bool],
     paths: &[&str],
     imports: &[Import],
 ) -> Result<(), Unstated>
-    requires { AreMarked (map pos public.now) (length paths.now) marks.now }
-    ensures { OnOk result (kept_imports skips (map pos public.now) 0 (lent paths.now) ≡ map import_of imports.now) }
+    requires { AreMarked public.now (length paths.now) marks.now }
+    ensures { OnOk result (kept_imports skips public.now 0 (lent paths.now) ≡ map import_of imports.now) }
 {
     let mut next = 0;
     for (place, path) in paths.iter().enumerate() {
@@ -168,7 +156,7 @@ fn kept_imports(
 
 // ---- files
 
-/// The message states the file.
+/// The message, which imports no path twice, states the file.
 pub fn file(
     alloc: Global,
     source: &Schema,
@@ -176,6 +164,7 @@ pub fn file(
     message: &Message,
     declared: &File,
 ) -> Result<(), Unstated>
+    requires { are_distinct (texts_at 3 (message_of message.now)) ≡ true }
     ensures { OnOk result (StatesFile (declared_in source.now) skips (message_of message.now) declared.now) }
 {
     let paths = texts(alloc, message, 3)?;
@@ -185,7 +174,6 @@ pub fn file(
     same_text(text(message, 1)?, &declared.name)?;
     same_text(text(message, 2)?, scope)?;
     kept_imports(skips, &public, &marks, &paths, &declared.imports)?;
-    are_places(&public, paths.len())?;
     let inside = children(alloc, message, 4)?;
     types(alloc, source, MOST_DEEP, scope, &inside, &declared.types)?;
     enums(

@@ -33,6 +33,7 @@ mod states;
 mod synthetic;
 mod type_states;
 mod types;
+mod walk;
 mod writing;
 
 pub use descriptor::descriptor_schema;

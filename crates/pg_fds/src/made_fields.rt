@@ -1,12 +1,33 @@
 //! Fields of a schema, made of a set's messages.
 
-use crate::codes::{ENUM_CODE, MESSAGE_CODE, REPEATED, scalar_of};
+ghost use Rattle.std.specs.Prelude.{◌≡◌, ℕ, pos, false, true, ◌||◌, List, ◌∷◌, Some, IfErr, IfOk, OnErr};
+ghost use Rattle.std.specs.BTreeMap.{get_by_text};
+ghost use Rattle.std.specs.Str.{IsUtf8};
+ghost use Rattle.std.specs.String.{string_bytes};
+ghost use Rattle.pg_schema.specs.declared.field.Element.{Element as StatedElement};
+ghost use Rattle.pg_schema.specs.declared.field.Element.TheVariants.{Scalar as ScalarElement};
+ghost use Rattle.pg_schema.specs.declared.field.Presence.{Presence as StatedPresence};
+ghost use Rattle.pg_schema.specs.declared.field.Scalar.{Scalar as StatedScalar};
+ghost use Rattle.pg_schema.specs.FieldRules.{has_presence, is_message, is_packed};
+ghost use Rattle.pg_schema.specs.Shape.{is_map};
+ghost use Rattle.pg_dyn.specs.Kept.{message_of};
+ghost use Rattle.pg_fds.specs.declared.outline.Named.{Named as Meaning};
+ghost use Rattle.pg_fds.specs.declared.error.Unstated.TheVariants.{Memory};
+ghost use Rattle.pg_fds.specs.Fields.{element_code, label, scalar_code};
+ghost use Rattle.pg_fds.specs.Made.{HasNames, Means, StatesElement, StatesPresence};
+ghost use Rattle.pg_fds.specs.Places.{Declared};
+ghost use Rattle.pg_fds.specs.Said.{maybe_text_at, number_at, text_at};
+ghost use Rattle.pg_fds.specs.States.{json_name_at};
+
+use crate::codes::{MESSAGE_CODE, REPEATED, scalar_of};
 use crate::entry_states::{has_no_options, lacks, lacks_all};
 use crate::error::Unstated;
+use crate::fields::element_code;
 use crate::names::{dotted_within, entry_name};
-use crate::oneof_states::oneof_place;
 use crate::outline::Named;
-use crate::said::{children, ensure, flag, maybe_text, number, option, text};
+use crate::said::{
+    children, ensure, flag, maybe_number, maybe_text, number, option, place_in, text,
+};
 use crate::states::{has_json_name, label_of, same_text};
 use pg_dyn::Message;
 use pg_schema::{Element, Field, FieldOptions, Presence, Scalar, default_json_name};
@@ -25,30 +46,88 @@ pub struct Scope<'a> {
     pub members: Vec<usize>,
 }
 
+// A full name without the dot in front.
+fn behind_dot(dotted: &str) -> Result<&str, Unstated>
+    ensures ok { IfOk result (λ name. (rest : List ℕ) → dotted.now ≡ 46 ∷ rest → name.now ≡ rest) }
+    ensures refused { OnErr result ((rest : List ℕ) → dotted.now ≡ 46 ∷ rest → ⊥) }
+{
+    match dotted.strip_prefix(".") {
+        Some(name) => Ok(name),
+        None => Err(Unstated::Reference),
+    }
+}
+
 /// What a full name with a dot in front is that of.
-pub fn resolved(names: &BTreeMap<String, Named>, dotted: &str) -> Result<Named, Unstated> {
-    let Some(name) = dotted.strip_prefix('.') else {
-        return Err(Unstated::Reference);
-    };
+pub fn resolved(names: &BTreeMap<String, Named>, dotted: &str) -> Result<Named, Unstated>
+    ensures ok { IfOk result (λ named. (rest : List ℕ) → dotted.now ≡ 46 ∷ rest → get_by_text names.now rest ≡ Some named) }
+    ensures refused { OnErr result ((rest : List ℕ) (named : Meaning) → dotted.now ≡ 46 ∷ rest → get_by_text names.now rest ≡ Some named → ⊥) }
+{
+    let name = behind_dot(dotted)?;
     match names.get(name) {
         Some(named) => Ok(*named),
         None => Err(Unstated::Reference),
     }
 }
 
+// What a field's items are, where it names no type.
+fn scalar_element(message: &Message) -> Result<Element, Unstated>
+    ensures made { IfOk result (λ made. (s : StatedScalar) → number_at 5 (message_of message.now) ≡ pos (scalar_code s) → made ≡ ScalarElement s) }
+    ensures refused { OnErr result ((s : StatedScalar) → number_at 5 (message_of message.now) ≡ pos (scalar_code s) → ⊥) }
+{
+    let scalar = scalar_of(message);
+    match scalar {
+        Some(scalar) => Ok(Element::Scalar(scalar)),
+        None => Err(Unstated::Reference),
+    }
+}
+
+// The element that a name means.
+fn meant(named: Named) -> Result<Element, Unstated>
+    ensures made { IfOk result (λ made. Means named made) }
+    ensures refused { OnErr result ((e : StatedElement) → Means named e → ⊥) }
+{
+    match named {
+        Named::Type(id) => Ok(Element::Message(id)),
+        Named::Enum(id) => Ok(Element::Enum(id)),
+        Named::Package | Named::Entry | Named::Other => Err(Unstated::Reference),
+    }
+}
+
+// The element, where its code is that of the field's type.
+fn of_its_code(message: &Message, element: Element) -> Result<Element, Unstated>
+    ensures made { IfOk result (λ made. made ≡ element) }
+    ensures refused { OnErr result (number_at 5 (message_of message.now) ≡ pos (element_code element) → ⊥) }
+{
+    let code = element_code(element);
+    if number(message, 5) != i128::from(code) {
+        return Err(Unstated::Reference);
+    }
+    Ok(element)
+}
+
+// What a field's items are, where it names a type.
+fn named_element(
+    names: &BTreeMap<String, Named>,
+    message: &Message,
+    name: &str,
+) -> Result<Element, Unstated>
+    ensures made { IfOk result (λ made. (all : Declared) (e : StatedElement) → HasNames all names.now → StatesElement all (message_of message.now) e → maybe_text_at 6 (message_of message.now) ≡ Some name.now → made ≡ e) }
+    ensures refused { OnErr result ((all : Declared) (e : StatedElement) → HasNames all names.now → StatesElement all (message_of message.now) e → maybe_text_at 6 (message_of message.now) ≡ Some name.now → ⊥) }
+{
+    let named = resolved(names, name)?;
+    let element = meant(named)?;
+    of_its_code(message, element)
+}
+
 // What a field's items are, where it isn't a map.
-fn element(names: &BTreeMap<String, Named>, message: &Message) -> Result<Element, Unstated> {
-    let code = number(message, 5)?;
-    let Some(name) = maybe_text(message, 6)? else {
-        return match scalar_of(code) {
-            Some(scalar) => Ok(Element::Scalar(scalar)),
-            None => Err(Unstated::Reference),
-        };
-    };
-    match resolved(names, name)? {
-        Named::Type(id) if code == MESSAGE_CODE => Ok(Element::Message(id)),
-        Named::Enum(id) if code == ENUM_CODE => Ok(Element::Enum(id)),
-        _ => Err(Unstated::Reference),
+fn element(names: &BTreeMap<String, Named>, message: &Message) -> Result<Element, Unstated>
+    ensures made { IfOk result (λ made. (all : Declared) (e : StatedElement) → HasNames all names.now → StatesElement all (message_of message.now) e → made ≡ e) }
+    ensures refused { OnErr result ((all : Declared) (e : StatedElement) → HasNames all names.now → StatesElement all (message_of message.now) e → ⊥) }
+{
+    let name = maybe_text(message, 6)?;
+    match name {
+        Some(name) => named_element(names, message, name),
+        None => scalar_element(message),
     }
 }
 
@@ -60,12 +139,12 @@ fn check_entry_field(
     place: i128,
 ) -> Result<(), Unstated> {
     same_text(text(message, 1)?, name)?;
-    ensure(number(message, 3)? == place)?;
-    ensure(label_of(message)? == 1)?;
+    ensure(number(message, 3) == place)?;
+    ensure(label_of(message) == 1)?;
     has_no_options(message, 8)?;
     lacks(message, 9)?;
     has_json_name(alloc, message, name)?;
-    ensure(!flag(message, 17)?)
+    ensure(!flag(message, 17))
 }
 
 // What a map's keys are. A type that may not be one is told as that of floats, which may not either.
@@ -84,7 +163,7 @@ fn key_and_value(
 ) -> Result<(Scalar, Element), Unstated> {
     lacks_all(entry, 3)?;
     lacks_all(entry, 4)?;
-    ensure(option(entry, 7, 3)?.is_none())?;
+    ensure(option(entry, 7, 3).is_none())?;
     lacks_all(entry, 8)?;
     lacks_all(entry, 9)?;
     lacks_all(entry, 10)?;
@@ -105,7 +184,7 @@ fn is_map(scope: &Scope<'_>, message: &Message) -> Result<bool, Unstated> {
         return Ok(false);
     };
     let is_entry = matches!(resolved(scope.names, name)?, Named::Entry);
-    Ok(is_entry && number(message, 5)? == MESSAGE_CODE)
+    Ok(is_entry && number(message, 5) == MESSAGE_CODE)
 }
 
 // The presence and element of a map field: its entry type is that of its name, in its own message, and
@@ -115,7 +194,7 @@ fn map_parts(
     scope: &mut Scope<'_>,
     message: &Message,
 ) -> Result<(Presence, Element), Unstated> {
-    ensure(label_of(message)? == REPEATED)?;
+    ensure(label_of(message) == REPEATED)?;
     let own = entry_name(alloc, text(message, 1)?)?;
     let full = dotted_within(alloc, scope.name, &own)?;
     ensure(maybe_text(message, 6)? == Some(full.as_str()))?;
@@ -139,12 +218,12 @@ fn real_place(synthetic: &[bool], place: usize) -> Result<u32, Unstated> {
 
 // The oneof that a field stands in: none where it is `optional`, whose oneof is its own.
 fn oneof(scope: &Scope<'_>, message: &Message) -> Result<Option<u32>, Unstated> {
-    let is_optional = flag(message, 17)?;
-    let Some(named) = oneof_place(message)? else {
+    let is_optional = flag(message, 17);
+    let Some(named) = maybe_number(message, 9) else {
         ensure(!is_optional)?;
         return Ok(None);
     };
-    let place = named as usize;
+    let place = place_in(&named, scope.synthetic.len())?;
     let Some(is_synthetic) = scope.synthetic.get(place) else {
         return Err(Unstated::Reference);
     };
@@ -156,29 +235,81 @@ fn oneof(scope: &Scope<'_>, message: &Message) -> Result<Option<u32>, Unstated> 
     Ok(Some(real_place(&scope.synthetic, place)?))
 }
 
+// Whether a singular field of these items is explicit, where it is a member of a oneof or `optional`.
+fn is_explicit(element: Element, member: bool, optional: bool) -> bool
+    ensures { result ≡ (is_message element || member || optional) }
+{
+    match element {
+        Element::Message(_) => true,
+        Element::Scalar(_) | Element::Enum(_) => member || optional,
+    }
+}
+
+// The presence of a singular field.
+fn singular(element: Element, member: bool, optional: bool) -> Presence
+    ensures { (p : StatedPresence) → is_map p ≡ false → label p ≡ 1 → has_presence p element member optional ≡ true → result ≡ p }
+{
+    let explicit = is_explicit(element, member, optional);
+    if explicit {
+        return Presence::Explicit;
+    }
+    Presence::Implicit
+}
+
+// The presence of a repeated field.
+fn repeated(element: Element, stated: Option<bool>) -> Presence
+    ensures { (p : StatedPresence) → is_map p ≡ false → label p ≡ 3 → is_packed p element stated ≡ true → result ≡ p }
+{
+    let default = element.is_packable();
+    let packed = stated.unwrap_or(default);
+    Presence::Repeated { packed }
+}
+
 // The presence of a field that is no map.
 fn presence(
     message: &Message,
     element: Element,
-    oneof: Option<u32>,
+    member: bool,
     packed: Option<bool>,
-) -> Result<Presence, Unstated> {
-    let is_optional = flag(message, 17)?;
-    if label_of(message)? == REPEATED {
-        ensure(!is_optional)?;
-        return Ok(Presence::Repeated {
-            packed: packed.unwrap_or(element.is_packable()),
-        });
+) -> Result<Presence, Unstated>
+    ensures made { IfOk result (λ made. (p : StatedPresence) → StatesPresence (message_of message.now) element member packed p → made ≡ p) }
+    ensures refused { OnErr result ((p : StatedPresence) → StatesPresence (message_of message.now) element member packed p → ⊥) }
+{
+    let optional = flag(message, 17);
+    let label = label_of(message);
+    if label != REPEATED {
+        return Ok(singular(element, member, optional));
     }
-    if is_optional || oneof.is_some() || matches!(element, Element::Message(_)) {
-        return Ok(Presence::Explicit);
+    if optional {
+        return Err(Unstated::Reference);
     }
-    Ok(Presence::Implicit)
+    Ok(repeated(element, packed))
+}
+
+// The presence and element of a field that is no map.
+fn plain_parts(
+    names: &BTreeMap<String, Named>,
+    message: &Message,
+    member: bool,
+    packed: Option<bool>,
+) -> Result<(Presence, Element), Unstated>
+    ensures made { IfOk result (λ made. (all : Declared) (e : StatedElement) (p : StatedPresence) → HasNames all names.now → StatesElement all (message_of message.now) e
+        → StatesPresence (message_of message.now) e member packed p → (made.0 ≡ p) × (made.1 ≡ e)) }
+    ensures refused { OnErr result ((all : Declared) (e : StatedElement) (p : StatedPresence) → HasNames all names.now → StatesElement all (message_of message.now) e
+        → StatesPresence (message_of message.now) e member packed p → ⊥) }
+{
+    let element = element(names, message)?;
+    let presence = presence(message, element, member, packed)?;
+    Ok((presence, element))
 }
 
 // The JSON name, given or default.
-fn json_name(alloc: Global, message: &Message) -> Result<String, Unstated> {
-    match maybe_text(message, 10)? {
+fn json_name(alloc: Global, message: &Message) -> Result<String, Unstated>
+    ensures ok { IfOk result (λ name. string_bytes name ≡ json_name_at (message_of message.now)) }
+    ensures refused { IfErr result (λ e. IsUtf8 (text_at 1 (message_of message.now)) → IsUtf8 (json_name_at (message_of message.now)) → e ≡ Memory) }
+{
+    let given = maybe_text(message, 10)?;
+    match given {
         Some(given) => Ok(String::from_str(alloc, given)?),
         None => Ok(default_json_name(alloc, text(message, 1)?)?),
     }
@@ -190,26 +321,25 @@ pub fn made_field(
     scope: &mut Scope<'_>,
     message: &Message,
 ) -> Result<Field, Unstated> {
-    let packed = option(message, 8, 2)?;
+    let packed = option(message, 8, 2);
     let oneof = oneof(scope, message)?;
     let (presence, element) = if is_map(scope, message)? {
-        ensure(!flag(message, 17)?)?;
+        ensure(!flag(message, 17))?;
         map_parts(alloc, scope, message)?
     } else {
-        let element = element(scope.names, message)?;
-        (presence(message, element, oneof, packed)?, element)
+        plain_parts(scope.names, message, oneof.is_some(), packed)?
     };
     Ok(Field {
-        number: u32::try_from(number(message, 3)?).unwrap_or(0),
+        number: u32::try_from(number(message, 3)).unwrap_or(0),
         name: String::from_str(alloc, text(message, 1)?)?,
         presence,
         element,
         oneof,
         json_name: json_name(alloc, message)?,
-        states_optional: flag(message, 17)?,
+        states_optional: flag(message, 17),
         options: FieldOptions {
             packed,
-            deprecated: option(message, 8, 3)?,
+            deprecated: option(message, 8, 3),
         },
     })
 }

@@ -43,10 +43,10 @@ fn methods(
             name: String::from_str(alloc, text(message, 1)?)?,
             input: called(names, message, 2)?,
             output: called(names, message, 3)?,
-            client_streaming: flag(message, 5)?,
-            server_streaming: flag(message, 6)?,
+            client_streaming: flag(message, 5),
+            server_streaming: flag(message, 6),
             options: MethodOptions {
-                deprecated: option(message, 4, 33)?,
+                deprecated: option(message, 4, 33),
             },
         })?;
     }
@@ -63,7 +63,7 @@ fn service(
         name: outlined.name.clone()?,
         methods: methods(alloc, names, &children(alloc, message, 2)?)?,
         options: ServiceOptions {
-            deprecated: option(message, 3, 33)?,
+            deprecated: option(message, 3, 33),
         },
     })
 }
@@ -86,11 +86,11 @@ fn option_value(alloc: Global, number: u32, value: &Value) -> Result<OptionValue
 // The options of a file, by rising number.
 fn options(alloc: Global, message: &Message) -> Result<Vec<FileOption>, Unstated> {
     let mut options = Vec::new(alloc);
-    let Some(Value::Msg(child)) = item(message, 8)? else {
+    let Some(Value::Msg(child)) = item(message, 8) else {
         return Ok(options);
     };
     for number in OPTIONS {
-        if let Some(value) = item(child, number)? {
+        if let Some(value) = item(child, number) {
             options.push(FileOption {
                 number,
                 value: option_value(alloc, number, value)?,

@@ -1,21 +1,40 @@
 //! Message types and enums of a schema, made of a set's messages.
 
+ghost use Rattle.std.specs.Prelude.{◌≡◌, ℕ, ◌<◌, ◌^◌, pos, true, List, FitsSigned, IfErr, IfOk, OnErr, map};
+ghost use Rattle.std.specs.Int.{w32};
+ghost use Rattle.std.specs.List.{AllByRecursion, AllZip, list_all};
+ghost use Rattle.std.specs.String.{string_bytes};
+ghost use Rattle.pg_schema.specs.declared.enum_type.EnumType.{EnumType as StatedEnum};
+ghost use Rattle.pg_schema.specs.declared.enum_type.EnumValue.{EnumValue as StatedValue};
+ghost use Rattle.pg_schema.specs.declared.enum_type.ReservedValues.{ReservedValues as StatedRange};
+ghost use Rattle.pg_schema.specs.declared.message_type.ReservedFields.{ReservedFields as StatedFields};
+ghost use Rattle.pg_schema.specs.DeclaredNames.{within};
+ghost use Rattle.pg_schema.specs.UsedNumbers.{is_reserved_range};
+ghost use Rattle.pg_dyn.specs.Kept.{message_of};
+ghost use Rattle.pg_fds.specs.declared.error.Unstated.TheVariants.{Memory};
+ghost use Rattle.pg_fds.specs.Lent.{lent};
+ghost use Rattle.pg_fds.specs.Said.{number_at, text_at};
+ghost use Rattle.pg_fds.specs.Small.{AreSmallEnds, IsSmallEnum, IsSmallValue};
+ghost use Rattle.pg_fds.specs.States.{StatesEnum, StatesFieldRange, StatesValue, StatesValueRange};
+
 use crate::error::Unstated;
 use crate::made_fields::{Scope, made_field};
-use crate::oneof_states::{marks, oneof_place, real_names, synthetic_places};
+use crate::oneof_states::{marks, real_names, synthetic_places};
 use crate::outline::{Named, Outlined, OutlinedType};
-use crate::said::{children, ensure, number, option, text, texts};
+use crate::said::{children, ensure, maybe_number, number, option, place_in, text, texts};
 use crate::type_states::entries_of;
 use pg_dyn::Message;
 use pg_schema::{
     EnumOptions, EnumType, EnumValue, EnumValueOptions, Field, MessageOptions, MessageType,
     ReservedFields, ReservedValues,
 };
-use std::alloc::Global;
+use std::alloc::{AllocError, Global};
 use std::collections::BTreeMap;
 
 // Own copies of the texts.
-fn copies(alloc: Global, texts: &[&str]) -> Result<Vec<String>, Unstated> {
+fn copies(alloc: Global, texts: &[&str]) -> Result<Vec<String>, AllocError>
+    ensures { IfOk result (λ copies. map string_bytes copies.items ≡ lent texts.now) }
+{
     let mut copies = Vec::new(alloc);
     for text in texts {
         copies.push(String::from_str(alloc, text)?)?;
@@ -26,65 +45,113 @@ fn copies(alloc: Global, texts: &[&str]) -> Result<Vec<String>, Unstated> {
 // ---- enums
 
 // The number as one of 32 bits, which a decoded one is.
-fn whole(message: &Message, field: u32) -> Result<i32, Unstated> {
-    match i32::try_from(number(message, field)?) {
+fn whole(message: &Message, field: u32) -> Result<i32, Unstated>
+    ensures ok { IfOk result (λ found. number_at field (message_of message.now) ≡ found) }
+    ensures refused { OnErr result (FitsSigned w32 (number_at field (message_of message.now)) → ⊥) }
+{
+    match i32::try_from(number(message, field)) {
         Ok(number) => Ok(number),
         Err(_) => Err(Unstated::Reference),
     }
 }
 
-fn values(alloc: Global, messages: &[&Message]) -> Result<Vec<EnumValue>, Unstated> {
+fn value(alloc: Global, message: &Message) -> Result<EnumValue, Unstated>
+    ensures states { IfOk result (StatesValue (message_of message.now)) }
+    ensures refused { IfErr result (λ e. (v : StatedValue) → StatesValue (message_of message.now) v → IsSmallValue v → e ≡ Memory) }
+{
+    Ok(EnumValue {
+        name: String::from_str(alloc, text(message, 1)?)?,
+        number: whole(message, 2)?,
+        options: EnumValueOptions {
+            deprecated: option(message, 3, 1),
+        },
+    })
+}
+
+fn values(alloc: Global, messages: &[&Message]) -> Result<Vec<EnumValue>, Unstated>
+    ensures states { IfOk result (λ made. AllZip StatesValue (map message_of (lent messages.now)) made.items) }
+    ensures refused { IfErr result (λ e. (vs : List StatedValue) → AllZip StatesValue (map message_of (lent messages.now)) vs → AllByRecursion IsSmallValue vs → e ≡ Memory) }
+{
     let mut values = Vec::new(alloc);
     for message in messages {
-        values.push(EnumValue {
-            name: String::from_str(alloc, text(message, 1)?)?,
-            number: whole(message, 2)?,
-            options: EnumValueOptions {
-                deprecated: option(message, 3, 1)?,
-            },
-        })?;
+        let made = value(alloc, message)?;
+        values.push(made)?;
     }
     Ok(values)
 }
 
-fn value_ranges(alloc: Global, messages: &[&Message]) -> Result<Vec<ReservedValues>, Unstated> {
+fn value_range(message: &Message) -> Result<ReservedValues, Unstated>
+    ensures states { IfOk result (StatesValueRange (message_of message.now)) }
+    ensures refused { IfErr result (λ e. (r : StatedRange) → StatesValueRange (message_of message.now) r → AreSmallEnds r → e ≡ Memory) }
+{
+    Ok(ReservedValues {
+        first: whole(message, 1)?,
+        last: whole(message, 2)?,
+    })
+}
+
+fn value_ranges(alloc: Global, messages: &[&Message]) -> Result<Vec<ReservedValues>, Unstated>
+    ensures states { IfOk result (λ made. AllZip StatesValueRange (map message_of (lent messages.now)) made.items) }
+    ensures refused { IfErr result (λ e. (rs : List StatedRange) → AllZip StatesValueRange (map message_of (lent messages.now)) rs → AllByRecursion AreSmallEnds rs → e ≡ Memory) }
+{
     let mut ranges = Vec::new(alloc);
     for message in messages {
-        ranges.push(ReservedValues {
-            first: whole(message, 1)?,
-            last: whole(message, 2)?,
-        })?;
+        let made = value_range(message)?;
+        ranges.push(made)?;
     }
     Ok(ranges)
 }
 
-/// The enum of a message.
-pub fn made_enum(alloc: Global, outlined: &Outlined<'_>) -> Result<EnumType, Unstated> {
+/// The enum of a message, which states it. Refused, memory aside, only where none is stated, of numbers
+/// that an int32 holds.
+pub fn made_enum(alloc: Global, outlined: &Outlined<'_>) -> Result<EnumType, Unstated>
+    ensures states { IfOk result (λ made. (scope : List ℕ) → string_bytes outlined.now.name ≡ within scope (text_at 1 (message_of outlined.now.message.now)) → StatesEnum scope (message_of outlined.now.message.now) made) }
+    ensures refused { IfErr result (λ e. (scope : List ℕ) (stated : StatedEnum) → StatesEnum scope (message_of outlined.now.message.now) stated → IsSmallEnum stated → e ≡ Memory) }
+{
     let message = outlined.message;
+    let name = outlined.name.clone()?;
+    let values = values(alloc, &children(alloc, message, 2)?)?;
+    let reserved_numbers = value_ranges(alloc, &children(alloc, message, 4)?)?;
+    let reserved_names = copies(alloc, &texts(alloc, message, 5)?)?;
     Ok(EnumType {
-        name: outlined.name.clone()?,
-        values: values(alloc, &children(alloc, message, 2)?)?,
-        reserved_numbers: value_ranges(alloc, &children(alloc, message, 4)?)?,
-        reserved_names: copies(alloc, &texts(alloc, message, 5)?)?,
+        name,
+        values,
+        reserved_numbers,
+        reserved_names,
         options: EnumOptions {
-            allow_alias: option(message, 3, 2)?,
-            deprecated: option(message, 3, 3)?,
+            allow_alias: option(message, 3, 2),
+            deprecated: option(message, 3, 3),
         },
     })
 }
 
 // ---- message types
 
-// The reserved numbers, which end before the second number. A number that may not be reserved is told as 0,
-// which may not either.
-fn field_ranges(alloc: Global, messages: &[&Message]) -> Result<Vec<ReservedFields>, Unstated> {
+// The number, which is above 0 and one of 32 bits; any other is told as 0, which is no field's.
+fn count(message: &Message, field: u32) -> u32
+    ensures { (n : ℕ) → number_at field (message_of message.now) ≡ pos n → n < 2 ^ 32 → result ≡ n }
+{
+    u32::try_from(number(message, field)).unwrap_or(0)
+}
+
+// The reserved numbers, which end before the second number.
+fn field_range(message: &Message) -> ReservedFields
+    ensures { (r : StatedFields) → StatesFieldRange (message_of message.now) r → is_reserved_range r ≡ true → result ≡ r }
+{
+    let end = count(message, 2);
+    ReservedFields {
+        first: count(message, 1),
+        last: end.saturating_sub(1),
+    }
+}
+
+fn field_ranges(alloc: Global, messages: &[&Message]) -> Result<Vec<ReservedFields>, AllocError>
+    ensures { IfOk result (λ made. (rs : List StatedFields) → AllZip StatesFieldRange (map message_of (lent messages.now)) rs → list_all is_reserved_range rs ≡ true → made.items ≡ rs) }
+{
     let mut ranges = Vec::new(alloc);
     for message in messages {
-        let end = u32::try_from(number(message, 2)?).unwrap_or(0);
-        ranges.push(ReservedFields {
-            first: u32::try_from(number(message, 1)?).unwrap_or(0),
-            last: end.saturating_sub(1),
-        })?;
+        let made = field_range(message);
+        ranges.push(made)?;
     }
     Ok(ranges)
 }
@@ -93,10 +160,10 @@ fn field_ranges(alloc: Global, messages: &[&Message]) -> Result<Vec<ReservedFiel
 fn member_counts(alloc: Global, fields: &[&Message], count: usize) -> Result<Vec<usize>, Unstated> {
     let mut counts: Vec<usize> = vec![in alloc; 0; count]?;
     for field in fields {
-        let Some(place) = oneof_place(field)? else {
+        let Some(named) = maybe_number(field, 9) else {
             continue;
         };
-        match counts.get_mut(place as usize) {
+        match counts.get_mut(place_in(&named, count)?) {
             Some(slot) => *slot = slot.saturating_add(1),
             None => return Err(Unstated::Reference),
         }
@@ -172,7 +239,7 @@ pub fn made_type(
         reserved_numbers: field_ranges(alloc, &children(alloc, message, 9)?)?,
         reserved_names: copies(alloc, &texts(alloc, message, 10)?)?,
         options: MessageOptions {
-            deprecated: option(message, 7, 3)?,
+            deprecated: option(message, 7, 3),
         },
     })
 }

@@ -1,59 +1,46 @@
 //! Whether the messages of a set state oneofs. What they don't state is told as a bad reference.
 
-ghost use Rattle.std.specs.Prelude.{◌≡◌, ◌<◌, Some, pos, true, IfOk, OnOk, length, filter, map, option_map};
-ghost use Rattle.std.specs.List.{AllZip};
+ghost use Rattle.std.specs.Prelude.{◌≡◌, Some, true, IfErr, IfOk, OnOk, length, filter, map};
+ghost use Rattle.std.specs.List.{AllZip, list_all};
 ghost use Rattle.std.specs.String.{string_bytes};
 ghost use Rattle.pg_dyn.specs.Kept.{message_of};
+ghost use Rattle.pg_fds.specs.declared.error.Unstated.TheVariants.{Memory};
 ghost use Rattle.pg_fds.specs.Lent.{lent};
-ghost use Rattle.pg_fds.specs.Said.{maybe_number_at, text_at};
+ghost use Rattle.pg_fds.specs.Said.{text_at};
+ghost use Rattle.pg_fds.specs.StatesFiles.{is_place};
 ghost use Rattle.pg_fds.specs.StatesTypes.{AreMarked, NamesOneof, StandsIn, StatesOneofs, is_optional, real_oneofs, synthetic_places};
 
 use crate::error::Unstated;
-use crate::said::{ensure, flag, maybe_number, text};
+use crate::said::{ensure, flag, maybe_number, place_in, text};
 use crate::states::{same_text, same_texts};
 use pg_dyn::Message;
 use pg_schema::{Field, MessageType};
-use std::alloc::Global;
+use std::alloc::{AllocError, Global};
 
 /// Of each of so many places, whether it is among the numbers, which are all of such places.
-pub fn marks(alloc: Global, numbers: &[u32], count: usize) -> Result<Vec<bool>, Unstated>
-    ensures { IfOk result (λ marks. AreMarked (map pos numbers.now) count marks.items) }
+pub fn marks(alloc: Global, numbers: &[i128], count: usize) -> Result<Vec<bool>, Unstated>
+    ensures marks { IfOk result (λ marks. AreMarked numbers.now count marks.items) }
+    ensures places { OnOk result (list_all (is_place count) numbers.now ≡ true) }
+    ensures refused { IfErr result (λ e. list_all (is_place count) numbers.now ≡ true → e ≡ Memory) }
 {
     let mut marks = vec![in alloc; false; count]?;
     for number in numbers {
-        let place = *number as usize;
-        if place >= count {
-            return Err(Unstated::Reference);
-        }
+        let place = place_in(number, count)?;
         marks[place] = true;
     }
     Ok(marks)
 }
 
-/// The place of the oneof that a field names, where it names one.
-pub fn oneof_place(message: &Message) -> Result<Option<u32>, Unstated>
-    ensures { IfOk result (λ place. option_map pos place ≡ maybe_number_at 9 (message_of message.now)) }
-{
-    let Some(number) = maybe_number(message, 9)? else {
-        return Ok(None);
-    };
-    let Ok(place) = u32::try_from(number) else {
-        return Err(Unstated::Reference);
-    };
-    ensure(number == i128::from(place))?;
-    Ok(Some(place))
-}
-
 /// The places of the oneofs that fields marked `proto3_optional` name.
-pub fn synthetic_places(alloc: Global, fields: &[&Message]) -> Result<Vec<u32>, Unstated>
-    ensures { IfOk result (λ places. map pos places.items ≡ synthetic_places (map message_of (lent fields.now))) }
+pub fn synthetic_places(alloc: Global, fields: &[&Message]) -> Result<Vec<i128>, AllocError>
+    ensures { IfOk result (λ places. places.items ≡ synthetic_places (map message_of (lent fields.now))) }
 {
     let mut places = Vec::new(alloc);
     for field in fields {
-        if !flag(field, 17)? {
+        if !flag(field, 17) {
             continue;
         }
-        let Some(place) = oneof_place(field)? else {
+        let Some(place) = maybe_number(field, 9) else {
             continue;
         };
         places.push(place)?;
@@ -62,27 +49,27 @@ pub fn synthetic_places(alloc: Global, fields: &[&Message]) -> Result<Vec<u32>, 
 }
 
 // How many fields are marked `proto3_optional`.
-fn optional_count(fields: &[&Message]) -> Result<usize, Unstated>
-    ensures { IfOk result (λ count. count ≡ length (filter is_optional (map message_of (lent fields.now)))) }
+fn optional_count(fields: &[&Message]) -> usize
+    ensures { result ≡ length (filter is_optional (map message_of (lent fields.now))) }
 {
     let mut count = 0;
     for field in fields {
-        if flag(field, 17)? {
+        if flag(field, 17) {
             count += 1;
         }
     }
-    Ok(count)
+    count
 }
 
 /// The names of the oneofs at places that aren't marked.
 pub fn real_names<'a>(
     alloc: Global,
     oneofs: &[&'a Message],
-    numbers: &[u32],
+    numbers: &[i128],
     marks: &[bool],
 ) -> Result<Vec<&'a str>, Unstated>
-    requires { AreMarked (map pos numbers.now) (length oneofs.now) marks.now }
-    ensures { IfOk result (λ names. lent names.items ≡ map (text_at 1) (real_oneofs (map pos numbers.now) 0 (map message_of (lent oneofs.now)))) }
+    requires { AreMarked numbers.now (length oneofs.now) marks.now }
+    ensures { IfOk result (λ names. lent names.items ≡ map (text_at 1) (real_oneofs numbers.now 0 (map message_of (lent oneofs.now)))) }
 {
     let mut names = Vec::new(alloc);
     for (place, oneof) in oneofs.iter().enumerate() {
@@ -96,20 +83,17 @@ pub fn real_names<'a>(
 // A field that names the oneof at the one place is a member of the one at its own.
 fn names_oneof(
     oneofs: &[&Message],
-    numbers: &[u32],
+    numbers: &[i128],
     marks: &[bool],
     names: &[String],
-    named: u32,
+    named: &i128,
     own: u32,
 ) -> Result<(), Unstated>
-    requires { AreMarked (map pos numbers.now) (length oneofs.now) marks.now }
-    ensures { OnOk result (NamesOneof (map message_of (lent oneofs.now)) (map pos numbers.now) (map string_bytes names.now) (Some (pos named)) (Some own)) }
+    requires { AreMarked numbers.now (length oneofs.now) marks.now }
+    ensures { OnOk result (NamesOneof (map message_of (lent oneofs.now)) numbers.now (map string_bytes names.now) (Some named.now) (Some own)) }
 {
-    let place = named as usize;
+    let place = place_in(named, oneofs.len())?;
     let own = own as usize;
-    if place >= oneofs.len() {
-        return Err(Unstated::Reference);
-    }
     if marks[place] {
         return Err(Unstated::Reference);
     }
@@ -122,19 +106,19 @@ fn names_oneof(
 
 fn stands_in(
     oneofs: &[&Message],
-    numbers: &[u32],
+    numbers: &[i128],
     marks: &[bool],
     names: &[String],
     message: &Message,
     declared: &Field,
 ) -> Result<(), Unstated>
-    requires { AreMarked (map pos numbers.now) (length oneofs.now) marks.now }
-    ensures { OnOk result (StandsIn (map message_of (lent oneofs.now)) (map pos numbers.now) (map string_bytes names.now) (message_of message.now) declared.now) }
+    requires { AreMarked numbers.now (length oneofs.now) marks.now }
+    ensures { OnOk result (StandsIn (map message_of (lent oneofs.now)) numbers.now (map string_bytes names.now) (message_of message.now) declared.now) }
 {
     if declared.states_optional {
         return Ok(());
     }
-    match (oneof_place(message)?, declared.oneof) {
+    match (&maybe_number(message, 9), declared.oneof) {
         (None, None) => Ok(()),
         (Some(named), Some(own)) => names_oneof(oneofs, numbers, marks, names, named, own),
         _ => Err(Unstated::Reference),
@@ -143,14 +127,14 @@ fn stands_in(
 
 fn members(
     oneofs: &[&Message],
-    numbers: &[u32],
+    numbers: &[i128],
     marks: &[bool],
     names: &[String],
     messages: &[&Message],
     declared: &[&Field],
 ) -> Result<(), Unstated>
-    requires { AreMarked (map pos numbers.now) (length oneofs.now) marks.now }
-    ensures { OnOk result (AllZip (StandsIn (map message_of (lent oneofs.now)) (map pos numbers.now) (map string_bytes names.now)) (map message_of (lent messages.now)) (lent declared.now)) }
+    requires { AreMarked numbers.now (length oneofs.now) marks.now }
+    ensures { OnOk result (AllZip (StandsIn (map message_of (lent oneofs.now)) numbers.now (map string_bytes names.now)) (map message_of (lent messages.now)) (lent declared.now)) }
 {
     ensure(messages.len() == declared.len())?;
     for (place, message) in messages.iter().enumerate() {
@@ -164,19 +148,19 @@ fn marked_oneofs(
     alloc: Global,
     oneofs: &[&Message],
     messages: &[&Message],
-    numbers: &[u32],
+    numbers: &[i128],
     marks: &[bool],
     message_type: &MessageType,
     declared: &[&Field],
 ) -> Result<(), Unstated>
-    requires synthetic { map pos numbers.now ≡ synthetic_places (map message_of (lent messages.now)) }
-    requires marked { AreMarked (map pos numbers.now) (length oneofs.now) marks.now }
+    requires synthetic { numbers.now ≡ synthetic_places (map message_of (lent messages.now)) }
+    requires marked { AreMarked numbers.now (length oneofs.now) marks.now }
     ensures { OnOk result (StatesOneofs (map message_of (lent oneofs.now)) (map message_of (lent messages.now)) message_type.now (lent declared.now)) }
 {
     let stated = message_type.oneofs.as_slice();
     let names = real_names(alloc, oneofs, numbers, marks)?;
     same_texts(names.as_slice(), stated)?;
-    let optional = optional_count(messages)?;
+    let optional = optional_count(messages);
     if optional > oneofs.len() {
         return Err(Unstated::Reference);
     }

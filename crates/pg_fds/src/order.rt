@@ -1,34 +1,76 @@
 //! The order of a set's files: each behind those that it imports.
 
+ghost use Rattle.std.specs.Prelude.{◌≡◌, ◌⊎◌, false, true, ℕ, List, IfErr, IfOk, OnOk, map};
+ghost use Rattle.std.specs.List.{list_all};
+ghost use Rattle.pg_schema.specs.Pairs.{are_distinct};
+ghost use Rattle.pg_schema.specs.TextSets.{is_among};
+ghost use Rattle.pg_dyn.specs.Kept.{message_of};
+ghost use Rattle.pg_fds.specs.declared.error.Unstated.TheVariants as errors;
+ghost use Rattle.pg_fds.specs.Lent.{lent};
+ghost use Rattle.pg_fds.specs.FilePlaces.{AreOrdered, ImportsAt, IsIndex, StandAt, importer, importers};
+ghost use Rattle.pg_fds.specs.PostOrder.{HasNoOrder, imports_once, kept_paths, paths_of};
+ghost use Rattle.pg_fds.specs.Reads.{importer_of};
+ghost use Rattle.pg_fds.specs.Walks.{lists_of};
+
 use crate::error::Unstated;
 use crate::file_states::is_left_out;
-use crate::said::{ensure, text, texts};
+use crate::said::{text, texts};
+use crate::walk::post_order;
 use pg_dyn::Message;
 use std::alloc::Global;
 use std::collections::{BTreeMap, BTreeSet};
 
+// A file by its name, with the paths that it imports.
+#[derive(Drop)]
+struct Importing<'a> {
+    name: &'a str,
+    paths: Vec<&'a str>,
+}
+
 // The places of files by their names, of which none stands twice.
-fn places(alloc: Global, files: &[&Message]) -> Result<BTreeMap<String, usize>, Unstated> {
+fn places(alloc: Global, files: &[Importing<'_>]) -> Result<BTreeMap<String, usize>, Unstated>
+    ensures index { IfOk result (λ places. IsIndex (paths_of (importers files.now)) places) }
+    ensures once { OnOk result (are_distinct (paths_of (importers files.now)) ≡ true) }
+    ensures refused { IfErr result (λ e. (e ≡ errors.Memory) ⊎ (are_distinct (paths_of (importers files.now)) ≡ false)) }
+{
     let mut places = BTreeMap::new(alloc);
     for (place, file) in files.iter().enumerate() {
-        let name = String::from_str(alloc, text(file, 1)?)?;
-        ensure(places.insert(name, place)?.is_none())?;
+        let name = String::from_str(alloc, file.name)?;
+        match places.insert(name, place)? {
+            None => {}
+            Some(_) => return Err(Unstated::Reference),
+        }
     }
     Ok(places)
 }
 
-// The places of the files that a file imports, of which each is there and none stands twice. Those that
-// are skipped are left out.
+// No path stands twice.
+fn are_apart(alloc: Global, paths: &[&str]) -> Result<(), Unstated>
+    ensures once { OnOk result (are_distinct (lent paths.now) ≡ true) }
+    ensures refused { IfErr result (λ e. (e ≡ errors.Memory) ⊎ (are_distinct (lent paths.now) ≡ false)) }
+{
+    let mut seen = BTreeSet::new(alloc);
+    for path in paths {
+        let is_new = seen.insert(String::from_str(alloc, path)?)?;
+        if !is_new {
+            return Err(Unstated::Reference);
+        }
+    }
+    Ok(())
+}
+
+// The places of the files of these paths, of which each is there. Those that are skipped are left out.
 fn imported(
     alloc: Global,
     places: &BTreeMap<String, usize>,
     skips: bool,
-    file: &Message,
-) -> Result<Vec<usize>, Unstated> {
-    let mut seen = BTreeSet::new(alloc);
+    paths: &[&str],
+) -> Result<Vec<usize>, Unstated>
+    ensures ok { IfOk result (λ own. (all : List (List ℕ)) → IsIndex all places.now → StandAt all own.items (kept_paths skips (lent paths.now))) }
+    ensures refused { IfErr result (λ e. (e ≡ errors.Memory) ⊎ ((all : List (List ℕ)) → IsIndex all places.now → list_all (is_among all) (kept_paths skips (lent paths.now)) ≡ false)) }
+{
     let mut imported = Vec::new(alloc);
-    for path in texts(alloc, file, 3)?.as_slice() {
-        ensure(seen.insert(String::from_str(alloc, path)?)?)?;
+    for path in paths {
         if is_left_out(skips, path) {
             continue;
         }
@@ -44,106 +86,58 @@ fn imported(
 fn all_imported(
     alloc: Global,
     skips: bool,
-    files: &[&Message],
-) -> Result<Vec<Vec<usize>>, Unstated> {
+    files: &[Importing<'_>],
+) -> Result<Vec<Vec<usize>>, Unstated>
+    ensures ok { IfOk result (λ all. ImportsAt skips (importers files.now) (lists_of all.items)) }
+    ensures once { OnOk result (are_distinct (paths_of (importers files.now)) ≡ true) }
+    ensures imports_once { OnOk result (list_all imports_once (importers files.now) ≡ true) }
+    ensures refused { IfErr result (λ e. (e ≡ errors.Memory) ⊎ HasNoOrder skips (importers files.now)) }
+{
     let places = places(alloc, files)?;
     let mut all = Vec::new(alloc);
     for file in files {
-        all.push(imported(alloc, &places, skips, file)?)?;
+        are_apart(alloc, &file.paths)?;
+        all.push(imported(alloc, &places, skips, &file.paths)?)?;
     }
     Ok(all)
 }
 
-// How far a walk over the imports has come with a file.
-#[derive(Clone, Copy, PartialEq, Eq)]
-enum Seen {
-    Not,
-    Open,
-    Done,
-}
-
-// A walk over the imports: the files that are done, in order, and those that are open, with how many of
-// their imports were looked at.
-#[derive(Drop)]
-struct Walk {
-    seen: Vec<Seen>,
-    open: Vec<(usize, usize)>,
-    done: Vec<usize>,
-}
-
-impl Walk {
-    fn mark(&mut self, place: usize, seen: Seen) -> Result<(), Unstated> {
-        match self.seen.get_mut(place) {
-            Some(slot) => {
-                *slot = seen;
-                Ok(())
-            }
-            None => Err(Unstated::Reference),
-        }
-    }
-
-    // Opens a file where it wasn't seen; one that is open is on a circle.
-    fn enter(&mut self, place: usize) -> Result<(), Unstated> {
-        match self.seen.get(place) {
-            Some(Seen::Not) => {
-                self.mark(place, Seen::Open)?;
-                self.open.push((place, 0))?;
-                Ok(())
-            }
-            Some(Seen::Done) => Ok(()),
-            _ => Err(Unstated::Reference),
-        }
-    }
-
-    // One step: the next import of the file that was opened last, or its end.
-    fn step(&mut self, imported: &[Vec<usize>]) -> Result<(), Unstated> {
-        let Some((place, next)) = self.open.pop() else {
-            return Ok(());
-        };
-        let Some(imports) = imported.get(place) else {
-            return Err(Unstated::Reference);
-        };
-        match imports.get(next) {
-            Some(import) => {
-                self.open.push((place, next.saturating_add(1)))?;
-                self.enter(*import)
-            }
-            None => {
-                self.mark(place, Seen::Done)?;
-                self.done.push(place)?;
-                Ok(())
-            }
-        }
-    }
-}
-
-// How many steps a walk from a file on takes at most.
-fn steps(imported: &[Vec<usize>]) -> usize {
-    let mut steps: usize = 0;
-    for imports in imported {
-        steps = steps.saturating_add(imports.len()).saturating_add(1);
-    }
-    steps
-}
-
-/// The places of the files, each behind those that it imports: in post-order, begun at the files in their
-/// order.
-pub fn order(alloc: Global, skips: bool, files: &[&Message]) -> Result<Vec<usize>, Unstated> {
+// The places of the files in post-order of imports, begun at the files in their order. Refused, memory aside,
+// only where they have none.
+fn order_of(alloc: Global, skips: bool, files: &[Importing<'_>]) -> Result<Vec<usize>, Unstated>
+    ensures ok { IfOk result (λ order. AreOrdered skips (importers files.now) order.items) }
+    ensures refused { IfErr result (λ e. (e ≡ errors.Memory) ⊎ HasNoOrder skips (importers files.now)) }
+{
     let imported = all_imported(alloc, skips, files)?;
-    let mut walk = Walk {
-        seen: vec![in alloc; Seen::Not; files.len()]?,
-        open: Vec::new(alloc),
-        done: Vec::new(alloc),
-    };
-    let most = steps(&imported);
-    for place in 0..files.len() {
-        walk.enter(place)?;
-        for _ in 0..most {
-            if walk.open.is_empty() {
-                break;
-            }
-            walk.step(&imported)?;
-        }
+    post_order(alloc, &imported)
+}
+
+// What a file says of its name and its imports.
+fn importing_file(alloc: Global, file: &Message) -> Result<Importing<'_>, Unstated>
+    ensures { IfOk result (λ i. importer i ≡ importer_of (message_of file.now)) }
+{
+    Ok(Importing {
+        name: text(file, 1)?,
+        paths: texts(alloc, file, 3)?,
+    })
+}
+
+// The same of all files.
+fn importing_files<'a>(alloc: Global, files: &[&'a Message]) -> Result<Vec<Importing<'a>>, Unstated>
+    ensures { IfOk result (λ found. importers found.items ≡ map importer_of (map message_of (lent files.now))) }
+{
+    let mut found = Vec::new(alloc);
+    for file in files {
+        found.push(importing_file(alloc, file)?)?;
     }
-    Ok(walk.done)
+    Ok(found)
+}
+
+/// The places of the files in post-order of imports, begun at the files in their order: each stands behind
+/// those that it imports.
+pub fn order(alloc: Global, skips: bool, files: &[&Message]) -> Result<Vec<usize>, Unstated>
+    ensures { IfOk result (λ order. AreOrdered skips (map importer_of (map message_of (lent files.now))) order.items) }
+{
+    let found = importing_files(alloc, files)?;
+    order_of(alloc, skips, &found)
 }

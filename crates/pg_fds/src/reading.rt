@@ -153,7 +153,8 @@ fn bytes_schema(alloc: Global, bytes: &[u8]) -> Result<Schema, FdsError>
 }
 
 /// The schema that the bytes of a descriptor set state (descriptor.proto; docs/MODEL.md, "Descriptor
-/// sets"). Files may come in any order; those of the schema stand behind those that they import.
+/// sets"). Files may come in any order; those of the schema stand in post-order of imports, begun at the
+/// set's in their order.
 ///
 /// The errors, over the whole set and in this order: `Bytes` where the codec refuses the bytes, with
 /// messages nested at most 100 deep; `NotProto3` where a file isn't proto3; `BadType` where a field has a

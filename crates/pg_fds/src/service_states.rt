@@ -49,9 +49,9 @@ fn method(
     same_text(text(message, 1)?, &declared.name)?;
     called(alloc, source, message, 2, declared.input)?;
     called(alloc, source, message, 3, declared.output)?;
-    ensure(option(message, 4, 33)? == declared.options.deprecated)?;
-    ensure(flag(message, 5)? == declared.client_streaming)?;
-    ensure(flag(message, 6)? == declared.server_streaming)
+    ensure(option(message, 4, 33) == declared.options.deprecated)?;
+    ensure(flag(message, 5) == declared.client_streaming)?;
+    ensure(flag(message, 6) == declared.server_streaming)
 }
 
 fn methods(
@@ -85,7 +85,7 @@ fn service(
         &children(alloc, message, 2)?,
         &declared.methods,
     )?;
-    ensure(option(message, 3, 33)? == declared.options.deprecated)
+    ensure(option(message, 3, 33) == declared.options.deprecated)
 }
 
 fn service_at(

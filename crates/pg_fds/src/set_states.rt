@@ -1,21 +1,20 @@
 //! Whether the files of a set state a schema. What it doesn't state is told as a bad reference.
 
 ghost use Rattle.std.specs.Prelude.{◌≡◌, [], true, not, IfOk, OnOk, ℕ, List, filter, map};
-ghost use Rattle.std.specs.List.{AllByRecursion, Any, list_any};
-ghost use Rattle.std.specs.String.{string_bytes};
+ghost use Rattle.std.specs.List.{AllByRecursion, Any, list_all, list_any};
 ghost use Rattle.pg_schema.specs.declared.file.File.{File};
-ghost use Rattle.pg_schema.specs.Pairs.{are_distinct};
 ghost use Rattle.pg_schema.specs.TextSets.{IsSetOf};
 ghost use Rattle.pg_dyn.specs.Kept.{message_of};
+ghost use Rattle.pg_fds.specs.FilePlaces.{AreOrdered, name_at};
 ghost use Rattle.pg_fds.specs.Lent.{lent};
 ghost use Rattle.pg_fds.specs.Places.{declared_in};
-ghost use Rattle.pg_fds.specs.Reads.{AreBehind, StatesFiles, imports_among};
-ghost use Rattle.pg_fds.specs.Said.{text_at};
+ghost use Rattle.pg_fds.specs.PostOrder.{imports_once, paths_of};
+ghost use Rattle.pg_fds.specs.Reads.{AreBehind, StatesFiles, file_name, importer_of, imports_among};
 ghost use Rattle.pg_fds.specs.StatesFiles.{StatesFile, is_skipped};
 
 use crate::error::Unstated;
 use crate::file_states::{file, is_skipped};
-use crate::said::{ensure, text};
+use crate::said::ensure;
 use pg_dyn::Message;
 use pg_schema::{File, Import, Schema};
 use std::alloc::Global;
@@ -47,29 +46,6 @@ pub fn kept<'a>(alloc: Global, files: &[&'a Message]) -> Result<Vec<&'a Message>
     Ok(kept)
 }
 
-// What the message is called.
-fn name_of(alloc: Global, message: &Message) -> Result<String, Unstated>
-    ensures { IfOk result (λ name. string_bytes name ≡ text_at 1 (message_of message.now)) }
-{
-    let name = text(message, 1)?;
-    Ok(String::from_str(alloc, name)?)
-}
-
-// No two files have one name.
-fn are_distinct(alloc: Global, files: &[&Message]) -> Result<(), Unstated>
-    ensures { OnOk result (are_distinct (map (text_at 1) (map message_of (lent files.now))) ≡ true) }
-{
-    let mut names = BTreeSet::new(alloc);
-    for file in files {
-        let name = name_of(alloc, file)?;
-        let is_new = names.insert(name)?;
-        if !is_new {
-            return Err(Unstated::Reference);
-        }
-    }
-    Ok(())
-}
-
 // What is imported is among the names.
 fn has_imports(names: &BTreeSet<String>, imports: &[Import]) -> Result<(), Unstated>
     ensures { OnOk result ((texts : List (List ℕ)) → IsSetOf texts names.now → imports_among texts imports.now ≡ true) }
@@ -96,7 +72,7 @@ fn are_behind(alloc: Global, files: &[File]) -> Result<(), Unstated>
     Ok(())
 }
 
-// One of the messages states the file: the one at the place.
+// One of the messages states the file: the one at the place, whose name it has.
 fn states_file(
     alloc: Global,
     source: &Schema,
@@ -105,7 +81,9 @@ fn states_file(
     place: usize,
     declared: &File,
 ) -> Result<(), Unstated>
-    ensures { OnOk result (Any (λ m. StatesFile (declared_in source.now) skips m declared.now) (map message_of (lent messages.now))) }
+    requires { list_all imports_once (map importer_of (map message_of (lent messages.now))) ≡ true }
+    ensures states { OnOk result (Any (λ m. StatesFile (declared_in source.now) skips m declared.now) (map message_of (lent messages.now))) }
+    ensures named { OnOk result (name_at (paths_of (map importer_of (map message_of (lent messages.now)))) place ≡ file_name declared.now) }
 {
     if place >= messages.len() {
         return Err(Unstated::Reference);
@@ -123,7 +101,9 @@ fn states_each(
     places: &[usize],
     files: &[File],
 ) -> Result<(), Unstated>
-    ensures { OnOk result (AllByRecursion (λ (f : File). Any (λ m. StatesFile (declared_in source.now) skips m f) (map message_of (lent messages.now))) files.now) }
+    requires { list_all imports_once (map importer_of (map message_of (lent messages.now))) ≡ true }
+    ensures named { OnOk result (map (name_at (paths_of (map importer_of (map message_of (lent messages.now))))) places.now ≡ map file_name files.now) }
+    ensures states { OnOk result (AllByRecursion (λ (f : File). Any (λ m. StatesFile (declared_in source.now) skips m f) (map message_of (lent messages.now))) files.now) }
 {
     ensure(places.len() == files.len())?;
     for (next, declared) in files.iter().enumerate() {
@@ -132,7 +112,8 @@ fn states_each(
     Ok(())
 }
 
-/// The files that aren't skipped state the schema, whose files are those at these places.
+/// The files that aren't skipped state the schema, whose files are those at these places, which are in
+/// post-order of imports.
 pub fn states_files(
     alloc: Global,
     source: &Schema,
@@ -140,10 +121,10 @@ pub fn states_files(
     messages: &[&Message],
     places: &[usize],
 ) -> Result<(), Unstated>
+    requires { AreOrdered skips (map importer_of (map message_of (lent messages.now))) places.now }
     ensures { OnOk result (StatesFiles skips (map message_of (lent messages.now)) source.now) }
 {
     let files = source.parts().files.as_slice();
-    are_distinct(alloc, messages)?;
     if messages.len() != files.len() {
         return Err(Unstated::Reference);
     }

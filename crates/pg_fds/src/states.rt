@@ -54,8 +54,8 @@ fn value(message: &Message, declared: &EnumValue) -> Result<(), Unstated>
     ensures { OnOk result (StatesValue (message_of message.now) declared.now) }
 {
     same_text(text(message, 1)?, &declared.name)?;
-    ensure(number(message, 2)? == i128::from(declared.number))?;
-    ensure(option(message, 3, 1)? == declared.options.deprecated)
+    ensure(number(message, 2) == i128::from(declared.number))?;
+    ensure(option(message, 3, 1) == declared.options.deprecated)
 }
 
 fn values(messages: &[&Message], declared: &[EnumValue]) -> Result<(), Unstated>
@@ -71,8 +71,8 @@ fn values(messages: &[&Message], declared: &[EnumValue]) -> Result<(), Unstated>
 fn value_range(message: &Message, declared: ReservedValues) -> Result<(), Unstated>
     ensures { OnOk result (StatesValueRange (message_of message.now) declared) }
 {
-    ensure(number(message, 1)? == i128::from(declared.first))?;
-    ensure(number(message, 2)? == i128::from(declared.last))
+    ensure(number(message, 1) == i128::from(declared.first))?;
+    ensure(number(message, 2) == i128::from(declared.last))
 }
 
 fn value_ranges(messages: &[&Message], declared: &[ReservedValues]) -> Result<(), Unstated>
@@ -95,8 +95,8 @@ fn enum_type(
 {
     is_within(alloc, scope, text(message, 1)?, &declared.name)?;
     values(&children(alloc, message, 2)?, &declared.values)?;
-    ensure(option(message, 3, 2)? == declared.options.allow_alias)?;
-    ensure(option(message, 3, 3)? == declared.options.deprecated)?;
+    ensure(option(message, 3, 2) == declared.options.allow_alias)?;
+    ensure(option(message, 3, 3) == declared.options.deprecated)?;
     value_ranges(&children(alloc, message, 4)?, &declared.reserved_numbers)?;
     same_texts(&texts(alloc, message, 5)?, &declared.reserved_names)
 }
@@ -136,12 +136,12 @@ pub fn enums(
 // ---- fields
 
 /// The label of a field, LABEL_OPTIONAL where it is missing.
-pub fn label_of(message: &Message) -> Result<i128, Unstated>
-    ensures { IfOk result (λ label. label ≡ label_at (message_of message.now)) }
+pub fn label_of(message: &Message) -> i128
+    ensures { result ≡ label_at (message_of message.now) }
 {
-    match maybe_number(message, 4)? {
-        Some(label) => Ok(label),
-        None => Ok(1),
+    match maybe_number(message, 4) {
+        Some(label) => label,
+        None => 1,
     }
 }
 
@@ -181,14 +181,14 @@ fn field(
     let code = type_code(declared.presence, declared.element);
     let type_name = named_type(alloc, source, scope, declared)?;
     same_text(text(message, 1)?, &declared.name)?;
-    ensure(number(message, 3)? == i128::from(declared.number))?;
-    ensure(label_of(message)? == i128::from(label(declared.presence)))?;
-    ensure(number(message, 5)? == i128::from(code))?;
+    ensure(number(message, 3) == i128::from(declared.number))?;
+    ensure(label_of(message) == i128::from(label(declared.presence)))?;
+    ensure(number(message, 5) == i128::from(code))?;
     has_type_name(message, &type_name)?;
-    ensure(option(message, 8, 2)? == declared.options.packed)?;
-    ensure(option(message, 8, 3)? == declared.options.deprecated)?;
+    ensure(option(message, 8, 2) == declared.options.packed)?;
+    ensure(option(message, 8, 3) == declared.options.deprecated)?;
     has_json_name(alloc, message, &declared.json_name)?;
-    ensure(flag(message, 17)? == declared.states_optional)
+    ensure(flag(message, 17) == declared.states_optional)
 }
 
 /// The messages state the fields, of a message type of that full name.
@@ -211,8 +211,8 @@ pub fn fields(
 fn field_range(message: &Message, declared: ReservedFields) -> Result<(), Unstated>
     ensures { OnOk result (StatesFieldRange (message_of message.now) declared) }
 {
-    ensure(number(message, 1)? == i128::from(declared.first))?;
-    ensure(number(message, 2)? == i128::from(declared.last) + 1)
+    ensure(number(message, 1) == i128::from(declared.first))?;
+    ensure(number(message, 2) == i128::from(declared.last) + 1)
 }
 
 /// The messages state the reserved field numbers.

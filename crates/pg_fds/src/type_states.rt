@@ -15,25 +15,28 @@ use crate::said::{children, ensure, option, text, texts};
 use crate::states::{enums, field_ranges, fields, is_within, same_texts};
 use pg_dyn::Message;
 use pg_schema::{Field, MessageType, Schema, TypeId};
-use std::alloc::Global;
+use std::alloc::{AllocError, Global};
 
 /// Whether the message is marked `map_entry`.
-pub fn is_entry(message: &Message) -> Result<bool, Unstated>
-    ensures { IfOk result (λ entry. entry ≡ is_entry (message_of message.now)) }
+pub fn is_entry(message: &Message) -> bool
+    ensures { result ≡ is_entry (message_of message.now) }
 {
-    match option(message, 7, 7)? {
-        Some(flag) => Ok(flag),
-        None => Ok(false),
+    match option(message, 7, 7) {
+        Some(flag) => flag,
+        None => false,
     }
 }
 
 /// Those of the messages that are entry types, in their order.
-pub fn entries_of<'a>(alloc: Global, messages: &[&'a Message]) -> Result<Vec<&'a Message>, Unstated>
+pub fn entries_of<'a>(
+    alloc: Global,
+    messages: &[&'a Message],
+) -> Result<Vec<&'a Message>, AllocError>
     ensures { IfOk result (λ found. map message_of (lent found.items) ≡ filter is_entry (map message_of (lent messages.now))) }
 {
     let mut found = Vec::new(alloc);
     for message in messages {
-        if is_entry(message)? {
+        if is_entry(message) {
             found.push(*message)?;
         }
     }
@@ -41,12 +44,12 @@ pub fn entries_of<'a>(alloc: Global, messages: &[&'a Message]) -> Result<Vec<&'a
 }
 
 /// Those of the messages that aren't, in their order.
-pub fn types_of<'a>(alloc: Global, messages: &[&'a Message]) -> Result<Vec<&'a Message>, Unstated>
+pub fn types_of<'a>(alloc: Global, messages: &[&'a Message]) -> Result<Vec<&'a Message>, AllocError>
     ensures { IfOk result (λ found. map message_of (lent found.items) ≡ filter is_no_entry (map message_of (lent messages.now))) }
 {
     let mut found = Vec::new(alloc);
     for message in messages {
-        if !is_entry(message)? {
+        if !is_entry(message) {
             found.push(*message)?;
         }
     }
@@ -59,7 +62,7 @@ fn declared_fields<'a>(
     source: &'a Schema,
     id: TypeId,
     message_type: &MessageType,
-) -> Result<Vec<&'a Field>, Unstated>
+) -> Result<Vec<&'a Field>, AllocError>
     requires { type_at source.now id ≡ Some message_type.now }
     ensures { IfOk result (λ fields. lent fields.items ≡ declared_fields message_type.now) }
 {
@@ -88,7 +91,7 @@ fn own_type(
     let inside = children(alloc, message, 3)?;
     let name = declared.name.as_str();
     is_within(alloc, scope, text(message, 1)?, name)?;
-    ensure(!is_entry(message)?)?;
+    ensure(!is_entry(message))?;
     fields(alloc, source, name, &own, &declared_fields)?;
     entries(
         alloc,
@@ -98,7 +101,7 @@ fn own_type(
     )?;
     let enums_inside = children(alloc, message, 4)?;
     enums(alloc, source, name, &enums_inside, &declared.nested_enums)?;
-    ensure(option(message, 7, 3)? == declared.options.deprecated)?;
+    ensure(option(message, 7, 3) == declared.options.deprecated)?;
     let oneofs_inside = children(alloc, message, 8)?;
     oneofs(alloc, &oneofs_inside, &own, declared, &declared_fields)?;
     field_ranges(&children(alloc, message, 9)?, &declared.reserved_numbers)?;

@@ -6,7 +6,7 @@ ghost use Rattle.pg_schema.specs.Parts.{shape_of};
 ghost use Rattle.pg_dyn.specs.declared.error.DynError.TheVariants as faults;
 ghost use Rattle.pg_dyn.specs.Encoding.{cap};
 ghost use Rattle.pg_fds.specs.declared.error.FdsError.TheVariants as errors;
-ghost use Rattle.pg_fds.specs.Again.{IsReadable};
+ghost use Rattle.pg_fds.specs.Again.{IsNotTooDeep, IsReadable, are_shallow};
 ghost use Rattle.pg_fds.specs.Building.{IsOf, items_of, written_shape};
 ghost use Rattle.pg_fds.specs.Reads.{fds_reads};
 ghost use Rattle.pg_fds.specs.Set.{fds};
@@ -18,7 +18,7 @@ use crate::descriptor::descriptor_schema;
 use crate::error::FdsError;
 use crate::files::files;
 use crate::places::{FILE, SET};
-use pg_dyn::{DynError, Message, encode, reads_again};
+use pg_dyn::{DynError, Message, encode, encoding_spells, reads_again, writing_splits};
 use pg_schema::{File, MessageType, Parts, Schema};
 use std::alloc::{AllocError, Global};
 
@@ -73,8 +73,9 @@ fn set(alloc: Global, table: &Schema, source: &Schema) -> Result<Message, AllocE
 
 /// The bytes of the schema's descriptor set: a `FileDescriptorSet` of its files, in their order
 /// (descriptor.proto; docs/MODEL.md, "Descriptor sets"). They are those of the definition, and at most
-/// 2,147,483,647. Where each file stands behind those that it imports, and messages are nested at most 100
-/// deep, they state the schema, as `read` asks it of a set.
+/// 2,147,483,647. Where each file stands behind those that it imports, no path twice, and messages are
+/// nested at most 100 deep, they state the schema, as `read` asks it of a set. Where messages are nested at
+/// most 64 deep, no message of the set stands deeper than `read` takes.
 ///
 /// The errors are `Memory`, and `Bytes` of `TooLong`: only where the set would have more than
 /// 2,147,483,647 bytes, or a message type more oneofs, real and synthetic, or a file more imports than
@@ -83,6 +84,7 @@ pub fn write(alloc: Global, schema: &Schema) -> Result<Vec<u8>, FdsError>
     ensures ok { IfOk result (λ bytes. fds schema.now bytes.items) }
     ensures short { IfOk result (λ bytes. length bytes.items ≤ cap) }
     ensures stated { IfOk result (λ bytes. IsReadable schema.now → fds_reads bytes.items schema.now) }
+    ensures shallow { IfOk result (λ bytes. are_shallow schema.now ≡ true → IsNotTooDeep bytes.items) }
     ensures err { IfErr result (λ e. (e ≡ errors.Memory) ⊎ ((e ≡ errors.Bytes faults.TooLong) × HasNoSet schema.now)) }
 {
     let parts = schema.parts();
@@ -93,11 +95,14 @@ pub fn write(alloc: Global, schema: &Schema) -> Result<Vec<u8>, FdsError>
     // What holds of every schema, and of what is written by it.
     table.parts();
     reads_again();
+    encoding_spells();
+    writing_splits();
     let message = set(alloc, &table, schema)?;
     match encode(alloc, &table, &message) {
         Ok(bytes) => Ok(bytes),
         Err(DynError::TooLong) => Err(FdsError::Bytes(DynError::TooLong)),
-        // Else only memory is wanting.
-        Err(_) => Err(FdsError::Memory),
+        Err(DynError::Memory) => Err(FdsError::Memory),
+        // The codec tells nothing else of a message that fits its type.
+        Err(_) => unreachable!(),
     }
 }

@@ -12,8 +12,8 @@ passed test n stated r fits e is = e ∙ (ap test (to_z-of_z w128 n fits) ∙ ap
 
 pub returns : goal.returns
 returns c =
-    let code : SFits w128 c.in_ok-code.code = search rules in
-    let label : SFits w128 c.in_ok-label.label = search rules in
+    let code : SFits w128 c.number-code.result = search rules in
+    let label : SFits w128 c.label_of-label.result = search rules in
     c.both.ensures
-    ∙ ap₂ (λ a b. a && b) (passed (λ n. list_any (int_eq n) type_codes) c.in_ok-code.code _ c.is_type-has_type.result code c.is_type-has_type.ensures c.in_ok-code.ensures)
-    (passed (λ n. list_any (int_eq n) label_codes) c.in_ok-label.label _ c.is_label-has_label.result label c.is_label-has_label.ensures c.in_ok-label.ensures)
+    ∙ ap₂ (λ a b. a && b) (passed (λ n. list_any (int_eq n) type_codes) c.number-code.result _ c.is_type-has_type.result code c.is_type-has_type.ensures c.number-code.ensures)
+    (passed (λ n. list_any (int_eq n) label_codes) c.label_of-label.result _ c.is_label-has_label.result label c.is_label-has_label.ensures c.label_of-label.ensures)

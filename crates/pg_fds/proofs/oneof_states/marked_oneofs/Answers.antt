@@ -1,4 +1,4 @@
-use Rattle.std.proofs.Common.{arith, map, length, subst, ap, pos}
+use Rattle.std.proofs.Common.{arith, map, length, subst, ap}
 use Rattle.std.specs.List.{AllZip}
 use Rattle.std.specs.String.{string_bytes}
 use Rattle.pg_dyn.specs.Kept.{message_of}
@@ -14,7 +14,7 @@ returns c =
     let many = ap length c.as_slice-stated.ensures.value in
     record {
       names = cc (c.in_ok-names.ensures, c.in_ok-same_texts.ensures, c.requires.synthetic);
-      as_many = omega (arith, seen_length c.args.oneofs.now, many, c.in_ok-optional.ensures);
+      as_many = omega (arith, seen_length c.args.oneofs.now, many, c.optional_count-optional.ensures);
       members = subst (λ ns. AllZip (StandsIn oneofs ns (map string_bytes c.args.message_type.now.oneofs.items)) seen (lent c.args.declared.now)) c.requires.synthetic
-          (subst (λ xs. AllZip (StandsIn oneofs (map pos c.args.numbers.now) (map string_bytes xs)) seen (lent c.args.declared.now)) c.as_slice-stated.ensures.value c.in_ok-members.ensures);
+          (subst (λ xs. AllZip (StandsIn oneofs c.args.numbers.now (map string_bytes xs)) seen (lent c.args.declared.now)) c.as_slice-stated.ensures.value c.in_ok-members.ensures);
     }

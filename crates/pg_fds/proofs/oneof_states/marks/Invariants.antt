@@ -1,6 +1,11 @@
-use Rattle.std.proofs.Common.{map, pos, take}
+use Rattle.std.proofs.Common.{◌≡◌, true, take}
+use Rattle.std.specs.List.{list_all}
+use Rattle.pg_fds.specs.StatesFiles.{is_place}
 use Rattle.pg_fds.specs.StatesTypes.{AreMarked}
 use Rattle.pg_fds.proofs.oneof_states.marks.Given as goal
 
 abbrev pub invariant-loop-number : goal.invariant-loop-number
-invariant-loop-number l = AreMarked (map pos (take l.number-index l.numbers)) l.count l.marks.items
+invariant-loop-number l = record {
+  marked : AreMarked (take l.number-index l.numbers) l.count l.marks.items;
+  places : list_all (is_place l.count) (take l.number-index l.numbers) ≡ true;
+}

@@ -1,4 +1,7 @@
-use Rattle.pg_fds.proofs.SaidLaws.{no_item, one_item}
+use Rattle.std.proofs.Common.{List, ap, slice_get, ◌∙◌}
+use Rattle.std.specs.Option.{option_copied}
+use Rattle.pg_dyn.specs.declared.message.Value.{Value}
+use Rattle.pg_fds.proofs.SaidLaws.{entry_items, first_entry, first_of, many_items, no_item, one_item}
 use Rattle.pg_fds.proofs.said.item.Goals as goal
 
 pub returns-in-None : goal.returns-in-None
@@ -6,3 +9,15 @@ returns-in-None c = no_item c.args.number c.args.message.now c.in-None.ensures.c
 
 pub returns-in-Some-One : goal.returns-in-Some-One
 returns-in-Some-One c = one_item c.args.number c.args.message.now c.in-Some-One.value (rw c.in-Some-One.field-0-is at c.in-Some-One.ensures.content)
+
+pub returns-in-Some-Many : goal.returns-in-Some-Many
+returns-in-Some-Many c =
+    let vs = c.in-Some-Many.values.items in
+    first_of c.args.number c.args.message.now vs (option_copied c.first.result) (many_items c.args.number c.args.message.now vs (rw c.in-Some-Many.field-0-is at c.in-Some-Many.ensures.content))
+    (c.first.ensures.value ∙ ap (λ (xs : List Value). slice_get xs 0) c.deref.ensures.value)
+
+pub returns-in-Some : goal.returns-in-Some
+returns-in-Some c =
+    let es = c.in-Some-Map.entries.items in
+    first_entry c.args.number c.args.message.now es c.in-Some.field-0.now (entry_items c.args.number c.args.message.now es (rw c.in-Some-Map.field-0-is at c.in-Some-Map.ensures.content))
+    (c.in-Some.ensures.value ∙ ap (λ (xs : List (Value × Value)). slice_get xs 0) c.deref-in-Some-Map.ensures.value)

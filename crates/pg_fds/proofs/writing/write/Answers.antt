@@ -5,7 +5,7 @@ use Rattle.pg_dyn.specs.Fits.{Fits}
 use Rattle.pg_fds.specs.Building.{written_shape}
 use Rattle.pg_schema.specs.Shape.{IsShape}
 use Rattle.pg_fds.proofs.SmallLaws.{set_bytes}
-use Rattle.pg_fds.proofs.WrittenSets.{written_states}
+use Rattle.pg_fds.proofs.WrittenSets.{written_shallow, written_states}
 use Rattle.pg_fds.proofs.writing.write.Goals as goal
 
 pub set-requires-clause-table : goal.set-requires-clause-table
@@ -28,6 +28,14 @@ returns-in-Ok-clause-stated c =
     c.in_ok-message.ensures.kept c.in_ok-message.ensures.items
     (c.in-Ok.ensures.ok.0 ∙ set_bytes (shape_of c.in_ok-table.table) c.args.schema.now c.in_ok-message.message c.in_ok-table.ensures c.in_ok-message.ensures.kept c.in_ok-message.ensures.items)
     c.in-Ok.ensures.ok.1 c.parts-parts.ensures.checked.sound readable
+
+pub returns-in-Ok-clause-shallow : goal.returns-in-Ok-clause-shallow
+unfolding written_shape
+returns-in-Ok-clause-shallow c =
+    written_shallow c.encoding_spells.ensures c.writing_splits.ensures c.args.schema.now c.in_ok-message.message c.in-Ok.bytes.items (subst IsShape c.in_ok-table.ensures c.parts.ensures.checked.shape)
+    c.in_ok-message.ensures.kept c.in_ok-message.ensures.items
+    (c.in-Ok.ensures.ok.0 ∙ set_bytes (shape_of c.in_ok-table.table) c.args.schema.now c.in_ok-message.message c.in_ok-table.ensures c.in_ok-message.ensures.kept c.in_ok-message.ensures.items)
+    c.in-Ok.ensures.ok.1
 
 pub returns-in-Err-TooLong-clause-err : goal.returns-in-Err-TooLong-clause-err
 returns-in-Err-TooLong-clause-err c =
