@@ -1,7 +1,8 @@
 #!/usr/bin/env bash
 # Times decode of messages of 1,000 and of 10,000 fields behind which 100,000 records alternate between the members of a oneof: next to
 # each other, around all other fields, in a oneof for each two fields, and in a child that each record reads on. The number of fields
-# should make no difference.
+# should make no difference next to each other and around all others; the first member of each oneof goes over the fields once, and so
+# does each record of a child.
 # usage: bench/oneofs.sh [FOLDER]    FOLDER keeps the built program for the next run.
 set -eu
 top=$(cd "$(dirname "$0")/.." && pwd)

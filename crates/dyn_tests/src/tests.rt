@@ -1,13 +1,19 @@
 //! Messages. The bytes are those of the public encoding guide and of the Python runtime.
+mod apart_rows;
 mod copying;
+mod far_rows;
+mod maps;
 mod memory;
 mod nested;
 mod numbers;
+mod outside;
 mod reading;
 mod rows;
 mod runtime;
 mod setting;
 mod shapes;
+mod wide;
+mod wide_rows;
 mod writing;
 
 use pg_dyn::{Content, DynError, Message, Value, decode, encode, fits};

@@ -38,16 +38,25 @@ pub(super) fn type_of_rows(alloc: Global) -> Result<Schema, Fail> {
 }
 
 // Each byte string is read and written as the other runtime does, or refused by both.
-fn agrees(rt: &impl Abort, alloc: Global, rows: &[(&[u8], Option<&[u8]>)]) -> Result<(), Fail> {
-    let schema = type_of_rows(alloc)?;
+pub(super) fn agrees_by(
+    rt: &impl Abort,
+    alloc: Global,
+    schema: &Schema,
+    rows: &[(&[u8], Option<&[u8]>)],
+) -> Result<(), Fail> {
     for (bytes, kept) in rows {
-        match (again(alloc, &schema, bytes), kept) {
+        match (again(alloc, schema, bytes), kept) {
             (Ok(found), Some(kept)) => assert_eq!(rt; found.as_slice(), *kept),
             (Err(error), None) => assert!(rt; error != DynError::Memory),
             _ => panic!(rt; "one reads the bytes, and the other refuses them"),
         }
     }
     Ok(())
+}
+
+// The same by the type of the rows.
+fn agrees(rt: &impl Abort, alloc: Global, rows: &[(&[u8], Option<&[u8]>)]) -> Result<(), Fail> {
+    agrees_by(rt, alloc, &type_of_rows(alloc)?, rows)
 }
 
 #[test]

@@ -2,7 +2,7 @@
 //! 3; } map<int32, bool> f4 = 4; repeated string f5 = 5; optional bytes f6 = 6; M f7 = 7; map<string, M> f8 = 8;
 //! repeated M f9 = 9; E f10 = 10; map<string, bytes> f11 = 11; N f12 = 12; } message N { } enum E { ZERO = 0; }`. The bytes
 //! are those of the public encoding guide.
-use super::{M, field, set, whole, write};
+use super::{M, field, read, set, whole, write};
 use pg_dyn::{Content, DynError, Message, Value};
 use pg_schema::{
     Element, EnumId, EnumOptions, EnumType, EnumValue, EnumValueOptions, Field, File,
@@ -15,7 +15,7 @@ use std::test::Fail;
 const N: TypeId = TypeId { index: 1 };
 
 /// A field of the number, presence and element.
-fn shaped(
+pub(super) fn shaped(
     alloc: Global,
     number: u32,
     presence: Presence,
@@ -62,7 +62,7 @@ fn fields(alloc: Global) -> Result<Vec<Field>, AllocError> {
     Ok(made)
 }
 
-fn type_of(
+pub(super) fn type_of(
     alloc: Global,
     name: &str,
     fields: Vec<Field>,
@@ -86,7 +86,7 @@ fn type_of(
 }
 
 /// The enum `E`.
-fn enum_of(alloc: Global) -> Result<EnumType, AllocError> {
+pub(super) fn enum_of(alloc: Global) -> Result<EnumType, AllocError> {
     let zero = EnumValue {
         name: String::from_str(alloc, "ZERO")?,
         number: 0,
@@ -228,6 +228,38 @@ fn a_long_map_in_falling_order(rt: HostRuntime) -> Result<(), Fail> {
     assert_eq!(rt; found.len(), 10_000);
     assert_eq!(rt; found.first().copied(), Some(1));
     assert_eq!(rt; found.last().copied(), Some(10_000));
+    Ok(())
+}
+
+/// Whether the content of field 5 is a list of that many texts, that of field 6 bytes, and that of field 11 a map from
+/// texts to bytes.
+fn has_own_variants(message: &Message, texts: usize) -> bool {
+    let list = match message.get(5) {
+        Some(Content::Many(values)) => {
+            values.len() == texts && values.iter().all(|value| matches!(value, Value::Text(_)))
+        }
+        _ => false,
+    };
+    let map = match message.get(11) {
+        Some(Content::Map(entries)) => entries.iter().all(|(key, value)| matches!(
+            key,
+            Value::Text(_)
+        ) && matches!(value, Value::Bytes(_))),
+        _ => false,
+    };
+    list && map && matches!(message.get(6), Some(Content::One(Value::Bytes(_))))
+}
+
+// What is read holds the variant of its field.
+#[test]
+fn texts_and_bytes_that_are_read(rt: HostRuntime) -> Result<(), Fail> {
+    let alloc = rt.alloc();
+    let schema = schema(alloc)?;
+    let bytes = b"\x2a\x01a\x2a\x00\x32\x01b\x5a\x06\x0a\x01k\x12\x01v\x5a\x00";
+    let Ok(message) = read(alloc, &schema, bytes) else {
+        panic!(rt; "the bytes are a message");
+    };
+    assert!(rt; has_own_variants(&message, 2));
     Ok(())
 }
 
