@@ -62,7 +62,8 @@ fn push_front(
     push_length(out, wire_type, len)
 }
 
-// Adds the record of an item at the end.
+// Adds the record of an item at the end. Not inlined, so that a level of messages takes no more of the stack for it.
+#[inline(never)]
 fn push_item(
     out: &mut Vec<u8>,
     number: u32,
@@ -77,6 +78,7 @@ fn push_item(
 }
 
 // Adds the body of an item that is no message.
+#[inline(always)]
 fn push_leaf(out: &mut Vec<u8>, element: Element, value: &Value) -> Result<(), AllocError>
     requires { LeafFits element value.now }
     ensures ok { OnOk result (out.new.items ≡ out.old.items ++ body (form element) (leaf_of value.now)) }
@@ -100,7 +102,8 @@ fn push_each(out: &mut Vec<u8>, element: Element, values: &[Value]) -> Result<()
     Ok(())
 }
 
-// Adds the bodies of a list, by a loop for each scalar of which lists are packed.
+// Adds the bodies of a list, by a loop for each scalar of which lists are packed. Not inlined, as `push_item`.
+#[inline(never)]
 fn push_bodies(out: &mut Vec<u8>, element: Element, values: &[Value]) -> Result<(), AllocError>
     requires { AllByRecursion (LeafFits element) values.now }
     ensures ok { OnOk result (out.new.items ≡ out.old.items ++ packed_body element values.now) }
