@@ -103,8 +103,9 @@ pub(crate) fn leaf_len(element: Element, value: &Value) -> usize
     }
 }
 
-/// How many bytes the bodies of a packed list take.
-pub(crate) fn packed_len(element: Element, values: &[Value]) -> usize
+// How many bytes the bodies of a list take, counted one by one.
+#[inline(always)]
+fn each_len(element: Element, values: &[Value]) -> usize
     requires { AllByRecursion (LeafFits element) values.now }
     ensures { result ≡ capped (length (packed_body element values.now)) }
 {
@@ -113,6 +114,35 @@ pub(crate) fn packed_len(element: Element, values: &[Value]) -> usize
         total = add(total, cap(leaf_len(element, value)));
     }
     total
+}
+
+// The same, by a loop for each scalar whose bodies are varints.
+fn bodies_len(element: Element, values: &[Value]) -> usize
+    requires { AllByRecursion (LeafFits element) values.now }
+    ensures { result ≡ capped (length (packed_body element values.now)) }
+{
+    match element {
+        Element::Scalar(Scalar::Int32) => each_len(Element::Scalar(Scalar::Int32), values),
+        Element::Scalar(Scalar::Int64) => each_len(Element::Scalar(Scalar::Int64), values),
+        Element::Scalar(Scalar::Uint32) => each_len(Element::Scalar(Scalar::Uint32), values),
+        Element::Scalar(Scalar::Uint64) => each_len(Element::Scalar(Scalar::Uint64), values),
+        Element::Scalar(Scalar::Sint32) => each_len(Element::Scalar(Scalar::Sint32), values),
+        Element::Scalar(Scalar::Sint64) => each_len(Element::Scalar(Scalar::Sint64), values),
+        Element::Scalar(Scalar::Bool) => each_len(Element::Scalar(Scalar::Bool), values),
+        _ => each_len(element, values),
+    }
+}
+
+/// How many bytes the bodies of a packed list take.
+pub(crate) fn packed_len(element: Element, values: &[Value]) -> usize
+    requires { AllByRecursion (LeafFits element) values.now }
+    ensures { result ≡ capped (length (packed_body element values.now)) }
+{
+    match element_wire_type(element) {
+        WireType::I64 => cap(values.len().saturating_mul(8)),
+        WireType::I32 => cap(values.len().saturating_mul(4)),
+        WireType::Varint | WireType::Len => bodies_len(element, values),
+    }
 }
 
 // How many bytes the record of a packed list takes, which an empty one doesn't have.

@@ -18,22 +18,13 @@ ghost use Rattle.pg_dyn.specs.Writing.{item_record};
 ghost use Rattle.pg_dyn.specs.Written.{CanBePacked, LeafFits, capped, content_lengths, content_written, inner_lengths, item_body, item_bytes, own_bytes, packed_body, packed_bytes, value_lengths};
 
 use crate::accept::element_wire_type;
-use crate::body::{push_body, wire_type_of};
+use crate::body::{push_body, push_varint, wire_type_of};
 use crate::counting::{MOST, body_len, cap, entry_len, packed_len};
 use crate::error::DynError;
 use crate::message::{Content, Message, UnknownRecord, Value};
 use pg_schema::{Element, Field, Presence, Scalar, Schema};
-use pg_wire::{WireType, write_varint};
+use pg_wire::WireType;
 use std::alloc::{AllocError, Global};
-
-// Adds a varint at the end.
-fn push_varint(out: &mut Vec<u8>, value: u64) -> Result<(), AllocError>
-    ensures ok { OnOk result (out.new.items ≡ out.old.items ++ varint value) }
-{
-    let mut bytes = [0; 10];
-    let len = write_varint(value, &mut bytes);
-    out.extend_from_slice(&bytes[..len])
-}
 
 // Adds the length before a body of as many bytes, which only LEN records have.
 fn push_length(out: &mut Vec<u8>, wire_type: WireType, len: usize) -> Result<(), AllocError>
@@ -71,7 +62,8 @@ fn push_front(
     push_length(out, wire_type, len)
 }
 
-// Adds the record of an item at the end.
+// Adds the record of an item at the end. Not inlined, so that a level of messages takes no more of the stack for it.
+#[inline(never)]
 fn push_item(
     out: &mut Vec<u8>,
     number: u32,
@@ -86,6 +78,7 @@ fn push_item(
 }
 
 // Adds the body of an item that is no message.
+#[inline(always)]
 fn push_leaf(out: &mut Vec<u8>, element: Element, value: &Value) -> Result<(), AllocError>
     requires { LeafFits element value.now }
     ensures ok { OnOk result (out.new.items ≡ out.old.items ++ body (form element) (leaf_of value.now)) }
@@ -97,8 +90,9 @@ fn push_leaf(out: &mut Vec<u8>, element: Element, value: &Value) -> Result<(), A
     }
 }
 
-// Adds the bodies of a list.
-fn push_bodies(out: &mut Vec<u8>, element: Element, values: &[Value]) -> Result<(), AllocError>
+// Adds the body of each item of a list.
+#[inline(always)]
+fn push_each(out: &mut Vec<u8>, element: Element, values: &[Value]) -> Result<(), AllocError>
     requires { AllByRecursion (LeafFits element) values.now }
     ensures ok { OnOk result (out.new.items ≡ out.old.items ++ packed_body element values.now) }
 {
@@ -106,6 +100,46 @@ fn push_bodies(out: &mut Vec<u8>, element: Element, values: &[Value]) -> Result<
         push_leaf(out, element, value)?;
     }
     Ok(())
+}
+
+// Adds the bodies of a list, by a loop for each scalar of which lists are packed. Not inlined, as `push_item`.
+#[inline(never)]
+fn push_bodies(out: &mut Vec<u8>, element: Element, values: &[Value]) -> Result<(), AllocError>
+    requires { AllByRecursion (LeafFits element) values.now }
+    ensures ok { OnOk result (out.new.items ≡ out.old.items ++ packed_body element values.now) }
+{
+    match element {
+        Element::Scalar(Scalar::Double) => push_each(out, Element::Scalar(Scalar::Double), values),
+        Element::Scalar(Scalar::Float) => push_each(out, Element::Scalar(Scalar::Float), values),
+        Element::Scalar(Scalar::Int32) => push_each(out, Element::Scalar(Scalar::Int32), values),
+        Element::Scalar(Scalar::Int64) => push_each(out, Element::Scalar(Scalar::Int64), values),
+        Element::Scalar(Scalar::Uint32) => push_each(out, Element::Scalar(Scalar::Uint32), values),
+        Element::Scalar(Scalar::Uint64) => push_each(out, Element::Scalar(Scalar::Uint64), values),
+        Element::Scalar(Scalar::Sint32) => push_each(out, Element::Scalar(Scalar::Sint32), values),
+        Element::Scalar(Scalar::Sint64) => push_each(out, Element::Scalar(Scalar::Sint64), values),
+        Element::Scalar(Scalar::Fixed32) => push_each(
+            out,
+            Element::Scalar(Scalar::Fixed32),
+            values,
+        ),
+        Element::Scalar(Scalar::Fixed64) => push_each(
+            out,
+            Element::Scalar(Scalar::Fixed64),
+            values,
+        ),
+        Element::Scalar(Scalar::Sfixed32) => push_each(
+            out,
+            Element::Scalar(Scalar::Sfixed32),
+            values,
+        ),
+        Element::Scalar(Scalar::Sfixed64) => push_each(
+            out,
+            Element::Scalar(Scalar::Sfixed64),
+            values,
+        ),
+        Element::Scalar(Scalar::Bool) => push_each(out, Element::Scalar(Scalar::Bool), values),
+        _ => push_each(out, element, values),
+    }
 }
 
 // Adds the record of a packed list, where it isn't empty.

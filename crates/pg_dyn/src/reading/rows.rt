@@ -73,7 +73,7 @@ fn row_len(wire_type: WireType, body: &[u8]) -> usize {
     }
 }
 
-// Reads a packed list of words of the wire type behind the items. Inlined, so that there is a loop for each wire type.
+// Reads a packed list of words of the wire type behind the items. Inlined, so that there is a loop for each scalar.
 #[inline(always)]
 fn read_words(
     wire_type: WireType,
@@ -100,7 +100,9 @@ fn read_words(
 }
 
 // Reads a packed list, which stands in the record at that place, behind the items (Protocol Buffers encoding guide, "Packed
-// Repeated Fields"). Room for all of them is made at once.
+// Repeated Fields"). Room for all of them is made at once. Not inlined, so that a level of messages takes no more of the stack
+// for it.
+#[inline(never)]
 pub(crate) fn read_row(
     scalar: Scalar,
     values: &mut Vec<Value>,
@@ -111,12 +113,22 @@ pub(crate) fn read_row(
     ensures ok { OnOk result (RowReads scalar body.now values.old.items values.new.items) }
     ensures err { IfErr result (RowRefused scalar body.now at) }
 {
-    let wire_type = wire_type_of(scalar);
-    values.reserve(row_len(wire_type, body))?;
-    match wire_type {
-        WireType::Varint => read_words(WireType::Varint, scalar, values, body, at),
-        WireType::I64 => read_words(WireType::I64, scalar, values, body, at),
-        WireType::I32 => read_words(WireType::I32, scalar, values, body, at),
-        WireType::Len => read_words(WireType::Len, scalar, values, body, at),
+    values.reserve(row_len(wire_type_of(scalar), body))?;
+    match scalar {
+        Scalar::Double => read_words(WireType::I64, Scalar::Double, values, body, at),
+        Scalar::Float => read_words(WireType::I32, Scalar::Float, values, body, at),
+        Scalar::Int32 => read_words(WireType::Varint, Scalar::Int32, values, body, at),
+        Scalar::Int64 => read_words(WireType::Varint, Scalar::Int64, values, body, at),
+        Scalar::Uint32 => read_words(WireType::Varint, Scalar::Uint32, values, body, at),
+        Scalar::Uint64 => read_words(WireType::Varint, Scalar::Uint64, values, body, at),
+        Scalar::Sint32 => read_words(WireType::Varint, Scalar::Sint32, values, body, at),
+        Scalar::Sint64 => read_words(WireType::Varint, Scalar::Sint64, values, body, at),
+        Scalar::Fixed32 => read_words(WireType::I32, Scalar::Fixed32, values, body, at),
+        Scalar::Fixed64 => read_words(WireType::I64, Scalar::Fixed64, values, body, at),
+        Scalar::Sfixed32 => read_words(WireType::I32, Scalar::Sfixed32, values, body, at),
+        Scalar::Sfixed64 => read_words(WireType::I64, Scalar::Sfixed64, values, body, at),
+        Scalar::Bool => read_words(WireType::Varint, Scalar::Bool, values, body, at),
+        Scalar::String => read_words(WireType::Len, Scalar::String, values, body, at),
+        Scalar::Bytes => read_words(WireType::Len, Scalar::Bytes, values, body, at),
     }
 }
