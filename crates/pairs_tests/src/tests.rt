@@ -1,6 +1,7 @@
 //! The table of gaps, and small pairs with their choices and children.
 
 mod breaking;
+mod calls;
 mod carrying;
 mod children;
 mod choices;
@@ -13,12 +14,13 @@ mod views;
 
 use pg_pairs::{Gap, gap};
 use pg_schema::Scalar;
+use std::process::Abort;
 
 const UNLIKE: Gap = Gap::Unlike;
 
 const NONE: Gap = Gap::None;
 
-const SCALARS: [Scalar; 15] = [
+static SCALARS: [Scalar; 15] = [
     Scalar::Int32,
     Scalar::Int64,
     Scalar::Uint32,
@@ -37,7 +39,7 @@ const SCALARS: [Scalar; 15] = [
 ];
 
 // A row for each old scalar type, and in it a cell for each new one, in the order above.
-const GAPS: [[Gap; 15]; 15] = [
+static GAPS: [[Gap; 15]; 15] = [
     [
         NONE,
         NONE,
@@ -295,11 +297,16 @@ const GAPS: [[Gap; 15]; 15] = [
     ],
 ];
 
+// Expects these gaps of the old scalar type to each new one.
+fn expect_gaps(rt: &impl Abort, old: Scalar, gaps: &[Gap; 15]) {
+    for (new, wanted) in SCALARS.iter().zip(gaps.iter()) {
+        assert_eq!(rt; gap(old, *new), *wanted);
+    }
+}
+
 #[test]
 fn gaps_are_those_of_the_table(rt: HostRuntime) {
-    for old in 0..15 {
-        for new in 0..15 {
-            assert_eq!(rt; gap(SCALARS[old], SCALARS[new]), GAPS[old][new]);
-        }
+    for (old, gaps) in SCALARS.iter().zip(GAPS.iter()) {
+        expect_gaps(&rt, *old, gaps);
     }
 }

@@ -1,14 +1,14 @@
 //! Messages that break and messages that are kept, by their bytes. Which do is told by the public encoding and
 //! language guides.
 
-use crate::tests::choices::FIRST;
-use crate::tests::schemas::{
-    Line, child, field, map, member, optional, repeated, schema, singular,
-};
-use pg_dyn::{Message, decode};
-use pg_pairs::{Numbers, Pair, breaks};
-use pg_schema::{Element, Presence, Scalar, Schema, TypeId};
+use crate::tests::calls::{FIRST, ROOT, is_broken, message_of};
+use crate::tests::schemas::Line::{Child, Map, Member, Optional, Other, Repeated, Singular};
+use crate::tests::schemas::{Line, Types, schemas};
+use pg_pairs::{Numbers, Pair, View};
+use pg_schema::Scalar::{Bool, Bytes, Fixed32, Int32, String, Uint32};
+use pg_schema::{Element, Presence, Schema, TypeId};
 use std::alloc::Global;
+use std::process::Abort;
 use std::test::Fail;
 
 const SECOND: Pair = Pair {
@@ -16,158 +16,305 @@ const SECOND: Pair = Pair {
     new: TypeId { index: 1 },
 };
 
-// The message of the old type that the bytes spell.
-fn message(alloc: Global, old: &Schema, type_id: TypeId, bytes: &[u8]) -> Result<Message, Fail> {
-    if !old.has(type_id) {
-        return Err(Fail::from("the schema has no such type"));
-    }
-    match decode(alloc, old, type_id, bytes, 100) {
-        Ok(message) => Ok(message),
-        Err(_) => Err(Fail::from("the bytes are no message")),
-    }
-}
-
-// Whether the message of those bytes breaks between the pair's types of these schemas.
-fn breaks_in(
+// Whether the message of that type of those bytes breaks between the pair's types.
+fn bytes_break<V: View>(
     alloc: Global,
-    old: &[&[Line]],
-    new: &[&[Line]],
+    view: &V,
+    old: &Schema,
+    new: &Schema,
+    type_id: TypeId,
     pair: Pair,
     bytes: &[u8],
 ) -> Result<bool, Fail> {
-    let old = schema(alloc, old)?;
-    let new = schema(alloc, new)?;
-    let message = message(alloc, &old, pair.old, bytes)?;
-    if !pg_dyn::fits(&old, &message) {
-        return Err(Fail::from("the message doesn't fit"));
-    }
-    match breaks(alloc, &Numbers, &old, &new, pair, &message) {
-        Ok(so) => Ok(so),
-        Err(_) => Err(Fail::from("out of memory")),
-    }
+    let message = message_of(alloc, old, type_id, bytes)?;
+    is_broken(alloc, view, old, new, pair, &message)
 }
 
-// The same of two types of these fields.
-fn broken(alloc: Global, old: &[Line], new: &[Line], bytes: &[u8]) -> Result<bool, Fail> {
-    breaks_in(alloc, &[old], &[new], FIRST, bytes)
+/// Old types, new types, the bytes of a message, and whether it breaks.
+pub(crate) type Case<'a> = (Types<'a>, Types<'a>, &'a [u8], bool);
+
+/// Expects the message of that type to break between the pair's types, or not to.
+fn expect_broken<R: Abort + AllocGlobal, V: View>(
+    rt: &R,
+    view: &V,
+    case: &Case,
+    type_id: TypeId,
+    pair: Pair,
+) -> Result<(), Fail> {
+    let (old, new) = schemas(rt.alloc(), case.0, case.1)?;
+    let so = bytes_break(rt.alloc(), view, &old, &new, type_id, pair, case.2)?;
+    assert_eq!(rt; so, case.3);
+    Ok(())
 }
+
+/// The same of each of these between the pair's types.
+pub(crate) fn expect_cases<R: Abort + AllocGlobal, V: View>(
+    rt: &R,
+    view: &V,
+    pair: Pair,
+    cases: &[Case],
+) -> Result<(), Fail> {
+    for case in cases {
+        expect_broken(rt, view, case, pair.old, pair)?;
+    }
+    Ok(())
+}
+
+const MINUS_ONE: &[u8] = b"\x08\xff\xff\xff\xff\xff\xff\xff\xff\xff\x01";
+
+const LARGE: &[u8] = b"\x08\x80\x80\x80\x80\x08";
+
+static SCALARS: [Case; 8] = [
+    (
+        &[&[Singular(1, Int32)]],
+        &[&[Singular(1, Uint32)]],
+        MINUS_ONE,
+        true,
+    ),
+    (
+        &[&[Singular(1, Int32)]],
+        &[&[Singular(1, Uint32)]],
+        b"\x08\x01",
+        false,
+    ),
+    (
+        &[&[Singular(1, Int32)]],
+        &[&[Singular(1, Uint32)]],
+        b"",
+        false,
+    ),
+    (
+        &[&[Singular(1, Int32)]],
+        &[&[Singular(1, Bool)]],
+        b"\x08\x02",
+        true,
+    ),
+    (
+        &[&[Singular(1, Int32)]],
+        &[&[Singular(1, Bool)]],
+        b"\x08\x01",
+        false,
+    ),
+    (
+        &[&[Singular(1, Uint32)]],
+        &[&[Singular(1, Int32)]],
+        LARGE,
+        true,
+    ),
+    (
+        &[&[Singular(1, Bytes)]],
+        &[&[Singular(1, String)]],
+        b"\x0a\x01\x80",
+        true,
+    ),
+    (
+        &[&[Singular(1, Bytes)]],
+        &[&[Singular(1, String)]],
+        b"\x0a\x01\x61",
+        false,
+    ),
+];
 
 #[test]
 fn scalars(rt: HostRuntime) -> Result<(), Fail> {
-    use Scalar::{Bool, Bytes, Int32, String, Uint32};
-    let alloc = rt.alloc();
-    let minus_one = [
-        0x08, 0xff, 0xff, 0xff, 0xff, 0xff, 0xff, 0xff, 0xff, 0xff, 0x01,
-    ];
-    let old = [singular(1, Int32)];
-    assert!(rt; broken(alloc, &old, &[singular(1, Uint32)], &minus_one)?);
-    assert!(rt; !broken(alloc, &old, &[singular(1, Uint32)], &[0x08, 0x01])?);
-    assert!(rt; !broken(alloc, &old, &[singular(1, Uint32)], &[])?);
-    assert!(rt; broken(alloc, &old, &[singular(1, Bool)], &[0x08, 0x02])?);
-    assert!(rt; !broken(alloc, &old, &[singular(1, Bool)], &[0x08, 0x01])?);
-    let large = [0x08, 0x80, 0x80, 0x80, 0x80, 0x08];
-    assert!(rt; broken(alloc, &[singular(1, Uint32)], &old, &large)?);
-    let texts = [singular(1, String)];
-    assert!(rt; broken(alloc, &[singular(1, Bytes)], &texts, &[0x0a, 0x01, 0x80])?);
-    assert!(rt; !broken(alloc, &[singular(1, Bytes)], &texts, &[0x0a, 0x01, 0x61])?);
-    Ok(())
+    expect_cases(&rt, &Numbers, FIRST, &SCALARS)
 }
+
+const THREE: &[u8] = b"\x08\x01\x12\x01\x61\x18\x05";
+
+static KEPT: [Case; 4] = [
+    (
+        &[&[Optional(1, String)]],
+        &[&[Singular(1, String)]],
+        b"\x0a\x00",
+        false,
+    ),
+    (
+        &[&[Singular(1, Int32), Singular(2, String), Singular(3, Int32)]],
+        &[&[Singular(1, Int32)]],
+        THREE,
+        false,
+    ),
+    (
+        &[&[Singular(1, Int32), Singular(2, String), Singular(3, Int32)]],
+        &[&[Singular(2, String)]],
+        THREE,
+        false,
+    ),
+    (
+        &[&[Singular(1, Int32), Singular(2, String), Singular(3, Int32)]],
+        &[&[]],
+        THREE,
+        false,
+    ),
+];
 
 // A zero that the new type doesn't write is kept, and so are the fields that it lacks.
 #[test]
 fn kept(rt: HostRuntime) -> Result<(), Fail> {
-    use Scalar::{Int32, String};
-    let alloc = rt.alloc();
-    let old = [optional(1, String)];
-    assert!(rt; !broken(alloc, &old, &[singular(1, String)], &[0x0a, 0x00])?);
-    let old = [singular(1, Int32), singular(2, String), singular(3, Int32)];
-    let bytes = [0x08, 0x01, 0x12, 0x01, 0x61, 0x18, 0x05];
-    assert!(rt; !broken(alloc, &old, &[singular(1, Int32)], &bytes)?);
-    assert!(rt; !broken(alloc, &old, &[singular(2, String)], &bytes)?);
-    assert!(rt; !broken(alloc, &old, &[], &bytes)?);
-    Ok(())
+    expect_cases(&rt, &Numbers, FIRST, &KEPT)
 }
+
+static LISTS_AND_ONEOFS: [Case; 6] = [
+    (
+        &[&[Repeated(1, String)]],
+        &[&[Optional(1, String)]],
+        b"\x0a\x00\x0a\x00",
+        true,
+    ),
+    (
+        &[&[Repeated(1, String)]],
+        &[&[Optional(1, String)]],
+        b"\x0a\x00",
+        false,
+    ),
+    (
+        &[&[Repeated(1, String)]],
+        &[&[Singular(1, String)]],
+        b"\x0a\x00",
+        true,
+    ),
+    (
+        &[&[Singular(1, Int32), Singular(2, Int32)]],
+        &[&[Member(1, Int32, 0), Member(2, Int32, 0)]],
+        b"\x08\x01\x10\x01",
+        true,
+    ),
+    (
+        &[&[Singular(1, Int32), Singular(2, Int32)]],
+        &[&[Member(1, Int32, 0), Member(2, Int32, 0)]],
+        b"\x08\x01",
+        false,
+    ),
+    (
+        &[&[Singular(1, Int32), Singular(2, Int32)]],
+        &[&[Member(1, Int32, 0), Member(2, Int32, 0)]],
+        b"\x10\x01",
+        false,
+    ),
+];
 
 #[test]
 fn lists_and_oneofs(rt: HostRuntime) -> Result<(), Fail> {
-    use Scalar::{Int32, String};
-    let alloc = rt.alloc();
-    let old = [repeated(1, String)];
-    let two = [0x0a, 0x00, 0x0a, 0x00];
-    assert!(rt; broken(alloc, &old, &[optional(1, String)], &two)?);
-    assert!(rt; !broken(alloc, &old, &[optional(1, String)], &[0x0a, 0x00])?);
-    assert!(rt; broken(alloc, &old, &[singular(1, String)], &[0x0a, 0x00])?);
-    let old = [singular(1, Int32), singular(2, Int32)];
-    let new = [member(1, Int32, 0), member(2, Int32, 0)];
-    assert!(rt; broken(alloc, &old, &new, &[0x08, 0x01, 0x10, 0x01])?);
-    assert!(rt; !broken(alloc, &old, &new, &[0x08, 0x01])?);
-    assert!(rt; !broken(alloc, &old, &new, &[0x10, 0x01])?);
-    Ok(())
+    expect_cases(&rt, &Numbers, FIRST, &LISTS_AND_ONEOFS)
 }
+
+const FLAG: Element = Element::Scalar(Bool);
+
+static MAPS: [Case; 3] = [
+    (
+        &[&[Map(1, Int32, FLAG)]],
+        &[&[Map(1, Fixed32, FLAG)]],
+        b"\x0a\x04\x08\x01\x10\x00",
+        true,
+    ),
+    (
+        &[&[Map(1, Int32, FLAG)]],
+        &[&[Map(1, Uint32, FLAG)]],
+        b"\x0a\x04\x08\x01\x10\x00",
+        false,
+    ),
+    (
+        &[&[Map(1, Int32, FLAG)]],
+        &[&[Other(1, Presence::Explicit, FLAG)]],
+        b"\x0a\x04\x08\x01\x10\x00",
+        true,
+    ),
+];
 
 #[test]
 fn maps(rt: HostRuntime) -> Result<(), Fail> {
-    use Scalar::{Bool, Fixed32, Int32, Uint32};
-    let alloc = rt.alloc();
-    let bools = Element::Scalar(Bool);
-    let entry = [0x0a, 0x04, 0x08, 0x01, 0x10, 0x00];
-    let old = [map(1, Int32, bools)];
-    assert!(rt; broken(alloc, &old, &[map(1, Fixed32, bools)], &entry)?);
-    assert!(rt; !broken(alloc, &old, &[map(1, Uint32, bools)], &entry)?);
-    assert!(rt; broken(alloc, &old, &[field(1, Presence::Explicit, bools)], &entry)?);
-    Ok(())
+    expect_cases(&rt, &Numbers, FIRST, &MAPS)
 }
+
+const OUTER: &[Line] = &[Child(1, 1), Child(2, 0)];
+
+static CHILDREN: [Case; 4] = [
+    (
+        &[&[Singular(1, Uint32)], OUTER],
+        &[&[Singular(1, Int32)], OUTER],
+        b"\x12\x06\x08\x80\x80\x80\x80\x08",
+        true,
+    ),
+    (
+        &[&[Singular(1, Uint32)], OUTER],
+        &[&[Singular(1, Int32)], OUTER],
+        b"\x12\x02\x08\x01",
+        false,
+    ),
+    (
+        &[&[Singular(1, Uint32)], OUTER],
+        &[&[Singular(1, Int32)], OUTER],
+        b"\x0a\x08\x12\x06\x08\x80\x80\x80\x80\x08",
+        true,
+    ),
+    (
+        &[&[Singular(1, Uint32)], OUTER],
+        &[&[Singular(1, Int32)], OUTER],
+        b"\x0a\x00",
+        false,
+    ),
+];
 
 // The second type holds itself and the first one, whose number changes.
 #[test]
 fn children(rt: HostRuntime) -> Result<(), Fail> {
-    use Scalar::{Int32, Uint32};
-    let alloc = rt.alloc();
-    let outer = [child(1, 1), child(2, 0)];
-    let old: [&[Line]; 2] = [&[singular(1, Uint32)], &outer];
-    let new: [&[Line]; 2] = [&[singular(1, Int32)], &outer];
-    let inside = [0x12, 0x06, 0x08, 0x80, 0x80, 0x80, 0x80, 0x08];
-    assert!(rt; breaks_in(alloc, &old, &new, SECOND, &inside)?);
-    assert!(rt; !breaks_in(alloc, &old, &new, SECOND, &[0x12, 0x02, 0x08, 0x01])?);
-    let deeper = [0x0a, 0x08, 0x12, 0x06, 0x08, 0x80, 0x80, 0x80, 0x80, 0x08];
-    assert!(rt; breaks_in(alloc, &old, &new, SECOND, &deeper)?);
-    assert!(rt; !breaks_in(alloc, &old, &new, SECOND, &[0x0a, 0x00])?);
-    Ok(())
+    expect_cases(&rt, &Numbers, SECOND, &CHILDREN)
 }
+
+const SEVENTH: TypeId = TypeId { index: 7 };
+
+// A pair, and messages of its schemas' first types.
+static OTHERS: [(Pair, Case); 4] = [
+    (
+        Pair {
+            old: ROOT,
+            new: SEVENTH,
+        },
+        (
+            &[&[Singular(1, Int32)]],
+            &[&[Singular(1, Bool)]],
+            b"\x08\x02",
+            false,
+        ),
+    ),
+    (
+        FIRST,
+        (
+            &[&[Singular(1, Int32)]],
+            &[&[Singular(1, Bool)]],
+            b"\x08\x02\x10\x01",
+            false,
+        ),
+    ),
+    (
+        Pair {
+            old: SEVENTH,
+            new: ROOT,
+        },
+        (
+            &[&[Singular(1, Int32)]],
+            &[&[Singular(1, Bool)]],
+            b"\x08\x02",
+            false,
+        ),
+    ),
+    (
+        FIRST,
+        (
+            &[&[Singular(1, Int32)]],
+            &[&[Singular(1, Bool)]],
+            b"\x08\x02",
+            true,
+        ),
+    ),
+];
 
 // No message of another type breaks, nor one with unknown records, nor any where the new type isn't there.
 #[test]
 fn other_messages(rt: HostRuntime) -> Result<(), Fail> {
-    let alloc = rt.alloc();
-    let numbers: [&[Line]; 1] = [&[singular(1, Scalar::Int32)]];
-    let bools: [&[Line]; 1] = [&[singular(1, Scalar::Bool)]];
-    let absent = Pair {
-        old: FIRST.old,
-        new: TypeId { index: 7 },
-    };
-    assert!(rt; !breaks_in(alloc, &numbers, &bools, absent, &[0x08, 0x02])?);
-    assert!(rt; !breaks_in(alloc, &numbers, &bools, FIRST, &[0x08, 0x02, 0x10, 0x01])?);
-    let old = schema(alloc, &numbers)?;
-    let new = schema(alloc, &bools)?;
-    let message = message(alloc, &old, FIRST.old, &[0x08, 0x02])?;
-    if !pg_dyn::fits(&old, &message) {
-        return Err(Fail::from("the message doesn't fit"));
+    for (pair, case) in &OTHERS {
+        expect_broken(&rt, &Numbers, case, ROOT, *pair)?;
     }
-    let other = Pair {
-        old: TypeId { index: 7 },
-        new: FIRST.new,
-    };
-    assert!(rt;
-        matches!(
-            breaks(alloc, &Numbers, &old, &new, other, &message),
-            Ok(false)
-        )
-    );
-    assert!(rt;
-        matches!(
-            breaks(alloc, &Numbers, &old, &new, FIRST, &message),
-            Ok(true)
-        )
-    );
     Ok(())
 }

@@ -1,13 +1,14 @@
 //! A view by which the numbers 0 and 300 of an old enum are other items in a new one. The costs are those of the shortest
 //! breaking messages by the public encoding guide.
 
-use crate::tests::choices::{FIRST, Rows, rows_of};
-use crate::tests::schemas::{Line, field, map, schema, singular};
-use crate::tests::tables::NOTHING;
-use pg_dyn::{decode, encode, fits};
-use pg_pairs::{View, breaks, carry, cheapest, options};
-use pg_schema::{Element, EnumId, EnumType, Presence, Scalar};
-use std::alloc::Global;
+use crate::tests::calls::FIRST;
+use crate::tests::schemas::Line;
+use crate::tests::schemas::Line::{Map, Other, Singular};
+use crate::tests::{breaking, carrying, choices};
+use pg_pairs::View;
+use pg_schema::Presence::{Explicit, Implicit};
+use pg_schema::Scalar::{Int32, Int64, Uint64};
+use pg_schema::{Element, EnumId, EnumType, Presence};
 use std::test::Fail;
 
 #[derive(Clone, Copy)]
@@ -38,175 +39,114 @@ const PACKED: Presence = Presence::Repeated { packed: true };
 const UNPACKED: Presence = Presence::Repeated { packed: false };
 
 // A field of the enum.
-fn of_enum(presence: Presence) -> Line {
-    field(1, presence, NUMBER)
-}
+const PLAIN: Line = Other(1, Implicit, NUMBER);
 
-fn choices_of(alloc: Global, old: Line, new: Line) -> Result<Rows, Fail> {
-    let old = schema(alloc, &[&[old]])?;
-    let new = schema(alloc, &[&[new]])?;
-    let choices = options(alloc, &Changed, &old, &new, FIRST, &NOTHING)?;
-    Ok(rows_of(alloc, &choices)?)
-}
+const STATED: Line = Other(1, Explicit, NUMBER);
+
+const LISTED: Line = Other(1, PACKED, NUMBER);
+
+const LISTED_APART: Line = Other(1, UNPACKED, NUMBER);
+
+const ENTRIES: Line = Map(1, Int32, NUMBER);
+
+static CHOICES: [choices::Case; 12] = [
+    (&[&[PLAIN]], &[&[PLAIN]], &[(1, 2, 0, 3)]),
+    (&[&[PLAIN]], &[&[STATED]], &[(1, 2, 0, 3)]),
+    (&[&[PLAIN]], &[&[LISTED]], &[(1, 2, 0, 3)]),
+    (&[&[STATED]], &[&[PLAIN]], &[(1, 2, 0, 3)]),
+    (&[&[STATED]], &[&[STATED]], &[(1, 2, 0, 2)]),
+    (&[&[STATED]], &[&[LISTED_APART]], &[(1, 2, 0, 2)]),
+    (&[&[LISTED]], &[&[LISTED]], &[(1, 2, 0, 3)]),
+    (&[&[LISTED_APART]], &[&[LISTED]], &[(1, 2, 0, 2)]),
+    (&[&[LISTED]], &[&[STATED]], &[(1, 2, 0, 3), (1, 4, 0, 3)]),
+    (
+        &[&[LISTED_APART]],
+        &[&[STATED]],
+        &[(1, 2, 0, 2), (1, 4, 0, 4)],
+    ),
+    (&[&[LISTED]], &[&[PLAIN]], &[(1, 2, 0, 3), (1, 4, 0, 3)]),
+    (
+        &[&[LISTED_APART]],
+        &[&[PLAIN]],
+        &[(1, 2, 0, 2), (1, 4, 0, 2)],
+    ),
+];
 
 // Beside an implicit field, and in one, zero doesn't count; a body of 300 takes two bytes.
 #[test]
 fn choices(rt: HostRuntime) -> Result<(), Fail> {
-    use Presence::{Explicit, Implicit};
-    let alloc = rt.alloc();
-    for (old, new, choice) in [
-        (Implicit, Implicit, (1, 2, 0, 3)),
-        (Implicit, Explicit, (1, 2, 0, 3)),
-        (Implicit, PACKED, (1, 2, 0, 3)),
-        (Explicit, Implicit, (1, 2, 0, 3)),
-        (Explicit, Explicit, (1, 2, 0, 2)),
-        (Explicit, UNPACKED, (1, 2, 0, 2)),
-        (PACKED, PACKED, (1, 2, 0, 3)),
-        (UNPACKED, PACKED, (1, 2, 0, 2)),
-    ] {
-        let rows = choices_of(alloc, of_enum(old), of_enum(new))?;
-        assert_eq!(rt; rows.as_slice(), [choice].as_slice());
-    }
-    for (old, new, choices) in [
-        (PACKED, Explicit, [(1, 2, 0, 3), (1, 4, 0, 3)]),
-        (UNPACKED, Explicit, [(1, 2, 0, 2), (1, 4, 0, 4)]),
-        (PACKED, Implicit, [(1, 2, 0, 3), (1, 4, 0, 3)]),
-        (UNPACKED, Implicit, [(1, 2, 0, 2), (1, 4, 0, 2)]),
-    ] {
-        let rows = choices_of(alloc, of_enum(old), of_enum(new))?;
-        assert_eq!(rt; rows.as_slice(), choices.as_slice());
-    }
-    Ok(())
+    choices::expect_cases(&rt, &Changed, &CHOICES)
 }
+
+static VALUES_AND_SCALARS: [choices::Case; 4] = [
+    (&[&[ENTRIES]], &[&[ENTRIES]], &[(1, 5, 2, 6)]),
+    (&[&[PLAIN]], &[&[Singular(1, Int32)]], &[]),
+    (&[&[PLAIN]], &[&[Singular(1, Uint64)]], &[(1, 2, 0, 11)]),
+    (&[&[Singular(1, Int64)]], &[&[PLAIN]], &[(1, 2, 0, 6)]),
+];
 
 // The value of an entry may be zero. Beside a scalar an enum goes by int32, whatever the view.
 #[test]
 fn values_and_scalars(rt: HostRuntime) -> Result<(), Fail> {
-    use Scalar::{Int32, Int64, Uint64};
-    let alloc = rt.alloc();
-    let entries = map(1, Int32, NUMBER);
-    let rows = choices_of(alloc, entries, entries)?;
-    assert_eq!(rt; rows.as_slice(), [(1, 5, 2, 6)].as_slice());
-    let one = of_enum(Presence::Implicit);
-    let rows = choices_of(alloc, one, singular(1, Int32))?;
-    assert_eq!(rt; rows.len(), 0);
-    let rows = choices_of(alloc, one, singular(1, Uint64))?;
-    assert_eq!(rt; rows.as_slice(), [(1, 2, 0, 11)].as_slice());
-    let rows = choices_of(alloc, singular(1, Int64), one)?;
-    assert_eq!(rt; rows.as_slice(), [(1, 2, 0, 6)].as_slice());
-    Ok(())
+    choices::expect_cases(&rt, &Changed, &VALUES_AND_SCALARS)
 }
 
-// The bytes of the cheapest choice's message, which breaks and has as many as the choice costs.
-fn reached(alloc: Global, old: Line, new: Line) -> Result<Vec<u8>, Fail> {
-    let old = schema(alloc, &[&[old]])?;
-    let new = schema(alloc, &[&[new]])?;
-    let choice = cheapest(alloc, &Changed, &old, &new, FIRST, &NOTHING)?.ok_or("a choice")?;
-    if !old.has(FIRST.old) {
-        return Err(Fail::from("the old schema has no type"));
-    }
-    let message = carry(alloc, &Changed, &old, &new, FIRST, &choice, None)?.ok_or("a message")?;
-    let Ok(true) = breaks(alloc, &Changed, &old, &new, FIRST, &message) else {
-        return Err(Fail::from("the message doesn't break"));
-    };
-    let Ok(bytes) = encode(alloc, &old, &message) else {
-        return Err(Fail::from("the message has no encoding"));
-    };
-    if bytes.len() != choice.cost as usize {
-        return Err(Fail::from("the bytes aren't as many as the choice costs"));
-    }
-    Ok(bytes)
-}
+static MESSAGES: [carrying::Case; 10] = [
+    (&[&[PLAIN]], &[&[PLAIN]], b"\x08\xac\x02"),
+    (&[&[PLAIN]], &[&[STATED]], b"\x08\xac\x02"),
+    (&[&[STATED]], &[&[PLAIN]], b"\x08\xac\x02"),
+    (&[&[PLAIN]], &[&[LISTED]], b"\x08\xac\x02"),
+    (&[&[STATED]], &[&[STATED]], b"\x08\x00"),
+    (&[&[LISTED_APART]], &[&[LISTED]], b"\x08\x00"),
+    (&[&[LISTED_APART]], &[&[STATED]], b"\x08\x00"),
+    (&[&[LISTED_APART]], &[&[PLAIN]], b"\x08\x00"),
+    (&[&[LISTED]], &[&[LISTED_APART]], b"\x0a\x01\x00"),
+    (&[&[ENTRIES]], &[&[ENTRIES]], b"\x0a\x04\x08\x00\x10\x00"),
+];
 
 #[test]
 fn messages(rt: HostRuntime) -> Result<(), Fail> {
-    use Presence::{Explicit, Implicit};
-    let alloc = rt.alloc();
-    let far = [0x08, 0xac, 0x02];
-    for (old, new) in [
-        (Implicit, Implicit),
-        (Implicit, Explicit),
-        (Explicit, Implicit),
-        (Implicit, PACKED),
-    ] {
-        let bytes = reached(alloc, of_enum(old), of_enum(new))?;
-        assert_eq!(rt; bytes.as_slice(), far.as_slice());
-    }
-    for (old, new) in [
-        (Explicit, Explicit),
-        (UNPACKED, PACKED),
-        (UNPACKED, Explicit),
-        (UNPACKED, Implicit),
-    ] {
-        let bytes = reached(alloc, of_enum(old), of_enum(new))?;
-        assert_eq!(rt; bytes.as_slice(), [0x08, 0x00].as_slice());
-    }
-    let bytes = reached(alloc, of_enum(PACKED), of_enum(UNPACKED))?;
-    assert_eq!(rt; bytes.as_slice(), [0x0a, 0x01, 0x00].as_slice());
-    let entries = map(1, Scalar::Int32, NUMBER);
-    let bytes = reached(alloc, entries, entries)?;
-    assert_eq!(rt;
-        bytes.as_slice(),
-        [0x0a, 0x04, 0x08, 0x00, 0x10, 0x00].as_slice()
-    );
-    Ok(())
+    carrying::expect_cases(&rt, &Changed, &MESSAGES)
 }
 
-// Whether the message of those bytes breaks.
-fn broken(alloc: Global, old: Line, new: Line, bytes: &[u8]) -> Result<bool, Fail> {
-    let old = schema(alloc, &[&[old]])?;
-    let new = schema(alloc, &[&[new]])?;
-    if !old.has(FIRST.old) {
-        return Err(Fail::from("the old schema has no type"));
-    }
-    let Ok(message) = decode(alloc, &old, FIRST.old, bytes, 9) else {
-        return Err(Fail::from("the bytes are no message"));
-    };
-    if !fits(&old, &message) {
-        return Err(Fail::from("the message doesn't fit"));
-    }
-    match breaks(alloc, &Changed, &old, &new, FIRST, &message) {
-        Ok(so) => Ok(so),
-        Err(_) => Err(Fail::from("out of memory")),
-    }
-}
+static BROKEN_AND_KEPT: [breaking::Case; 13] = [
+    (&[&[PLAIN]], &[&[PLAIN]], b"\x08\xac\x02", true),
+    (&[&[PLAIN]], &[&[PLAIN]], b"\x08\x01", false),
+    (&[&[PLAIN]], &[&[PLAIN]], b"", false),
+    (&[&[STATED]], &[&[STATED]], b"\x08\x00", true),
+    (&[&[STATED]], &[&[STATED]], b"\x08\xad\x02", false),
+    (&[&[STATED]], &[&[PLAIN]], b"\x08\x00", false),
+    (&[&[STATED]], &[&[PLAIN]], b"\x08\xac\x02", true),
+    (&[&[LISTED]], &[&[LISTED]], b"\x0a\x02\x01\x00", true),
+    (&[&[LISTED]], &[&[LISTED]], b"\x0a\x02\x01\x02", false),
+    (
+        &[&[ENTRIES]],
+        &[&[ENTRIES]],
+        b"\x0a\x04\x08\x01\x10\x00",
+        true,
+    ),
+    (
+        &[&[ENTRIES]],
+        &[&[ENTRIES]],
+        b"\x0a\x04\x08\x00\x10\x01",
+        false,
+    ),
+    (
+        &[&[PLAIN]],
+        &[&[Singular(1, Int32)]],
+        b"\x08\xac\x02",
+        false,
+    ),
+    (
+        &[&[Singular(1, Int32)]],
+        &[&[PLAIN]],
+        b"\x08\xac\x02",
+        false,
+    ),
+];
 
 // Numbers that are alike are kept, and so is a zero beside an implicit field, which shows none.
 #[test]
 fn broken_and_kept(rt: HostRuntime) -> Result<(), Fail> {
-    use Presence::{Explicit, Implicit};
-    let alloc = rt.alloc();
-    let plain = of_enum(Implicit);
-    let stated = of_enum(Explicit);
-    let listed = of_enum(PACKED);
-    let entries = map(1, Scalar::Int32, NUMBER);
-    assert!(rt; broken(alloc, plain, plain, &[0x08, 0xac, 0x02])?);
-    assert!(rt; !broken(alloc, plain, plain, &[0x08, 0x01])?);
-    assert!(rt; !broken(alloc, plain, plain, &[])?);
-    assert!(rt; broken(alloc, stated, stated, &[0x08, 0x00])?);
-    assert!(rt; !broken(alloc, stated, stated, &[0x08, 0xad, 0x02])?);
-    assert!(rt; !broken(alloc, stated, plain, &[0x08, 0x00])?);
-    assert!(rt; broken(alloc, stated, plain, &[0x08, 0xac, 0x02])?);
-    assert!(rt; broken(alloc, listed, listed, &[0x0a, 0x02, 0x01, 0x00])?);
-    assert!(rt; !broken(alloc, listed, listed, &[0x0a, 0x02, 0x01, 0x02])?);
-    assert!(rt;
-        broken(
-            alloc,
-            entries,
-            entries,
-            &[0x0a, 0x04, 0x08, 0x01, 0x10, 0x00]
-        )?
-    );
-    assert!(rt;
-        !broken(
-            alloc,
-            entries,
-            entries,
-            &[0x0a, 0x04, 0x08, 0x00, 0x10, 0x01]
-        )?
-    );
-    let number = singular(1, Scalar::Int32);
-    assert!(rt; !broken(alloc, plain, number, &[0x08, 0xac, 0x02])?);
-    assert!(rt; !broken(alloc, number, plain, &[0x08, 0xac, 0x02])?);
-    Ok(())
+    breaking::expect_cases(&rt, &Changed, FIRST, &BROKEN_AND_KEPT)
 }
