@@ -12,6 +12,7 @@ mod error;
 mod fields;
 mod file_states;
 mod files;
+mod in_order;
 mod laws;
 mod made_fields;
 mod made_files;
@@ -38,6 +39,6 @@ mod writing;
 
 pub use descriptor::descriptor_schema;
 pub use error::FdsError;
-pub use laws::{worked_pieces, worked_reads, worked_sets};
+pub use laws::{worked_pieces, worked_places, worked_reads, worked_sets};
 pub use reading::read;
 pub use writing::write;
