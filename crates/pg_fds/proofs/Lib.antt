@@ -37,6 +37,8 @@ pub mod Walking
 pub mod Visited
 pub mod Ordering
 pub mod OrderSteps
+pub mod NameTable
+pub mod NameLoops
 pub mod InOrderLaws
 pub mod ReadLaws
 pub mod ReadExamples

@@ -23,6 +23,7 @@ pub mod PostOrder
 pub mod Walks
 pub mod FilePlaces
 pub mod Made
+pub mod SetNames
 pub mod InOrder
 pub mod Reads
 pub mod Refused

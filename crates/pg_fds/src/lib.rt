@@ -4,6 +4,7 @@
 
 mod building;
 mod codes;
+mod declare;
 mod descriptor;
 mod entries;
 mod entry_states;
