@@ -37,5 +37,9 @@ pub mod Walking
 pub mod Visited
 pub mod Ordering
 pub mod OrderSteps
+pub mod NameTable
+pub mod NameLoops
+pub mod InOrderLaws
 pub mod ReadLaws
 pub mod ReadExamples
+pub mod PlaceExamples

@@ -23,7 +23,10 @@ pub mod PostOrder
 pub mod Walks
 pub mod FilePlaces
 pub mod Made
+pub mod SetNames
+pub mod InOrder
 pub mod Reads
 pub mod Refused
 pub mod Again
 pub mod ReadExamples
+pub mod PlaceExamples

@@ -2,6 +2,7 @@
 
 ghost use Rattle.pg_fds.specs.Examples.{WorkedSets};
 ghost use Rattle.pg_fds.specs.Pieces.{WorkedPieces};
+ghost use Rattle.pg_fds.specs.PlaceExamples.{WorkedPlaces};
 ghost use Rattle.pg_fds.specs.ReadExamples.{OneFieldRead};
 
 /// The bytes of the sets of two small files.
@@ -17,4 +18,10 @@ pub fn worked_pieces()
 /// The bytes of a small file's set state its schema.
 pub fn worked_reads()
     ensures { OneFieldRead }
+{}
+
+/// Places in order of declaration, by small examples: those of nested message types and their enums, and of
+/// a file with one message type.
+pub fn worked_places()
+    ensures { WorkedPlaces }
 {}

@@ -4,6 +4,7 @@
 
 mod building;
 mod codes;
+mod declare;
 mod descriptor;
 mod entries;
 mod entry_states;
@@ -12,6 +13,7 @@ mod error;
 mod fields;
 mod file_states;
 mod files;
+mod in_order;
 mod laws;
 mod made_fields;
 mod made_files;
@@ -38,6 +40,6 @@ mod writing;
 
 pub use descriptor::descriptor_schema;
 pub use error::FdsError;
-pub use laws::{worked_pieces, worked_reads, worked_sets};
+pub use laws::{worked_pieces, worked_places, worked_reads, worked_sets};
 pub use reading::read;
 pub use writing::write;

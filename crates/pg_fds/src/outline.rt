@@ -1,8 +1,10 @@
 //! What a set declares: the places of message types, enums and services, and all full names.
 
+ghost use Rattle.std.specs.Prelude.{◌≡◌, ◌<◌, ◌^◌, IfOk, OnErr};
+
+use crate::declare::{declare, declare_each, declare_package, full_name, real_oneofs};
 use crate::error::Unstated;
-use crate::names::entry_name;
-use crate::oneof_states::{marks, real_names, synthetic_places};
+use crate::oneof_states::{marks, synthetic_places};
 use crate::said::{children, ensure, text};
 use crate::type_states::{entries_of, types_of};
 use pg_dyn::Message;
@@ -55,111 +57,89 @@ pub struct Outline<'a> {
     pub names: BTreeMap<String, Named>,
 }
 
-/// The full name of a name that the scope declares.
-pub fn full_name(alloc: Global, scope: &str, name: &str) -> Result<String, Unstated> {
-    let mut full = String::from_str(alloc, scope)?;
-    if !scope.is_empty() {
-        full.push('.')?;
-    }
-    full.push_str(name)?;
-    Ok(full)
-}
-
 // The next place behind so many.
-fn next_place(count: usize) -> Result<u32, Unstated> {
+fn next_place(count: usize) -> Result<u32, Unstated>
+    ensures ok { IfOk result (λ place. place ≡ count) }
+    ensures refused { OnErr result (count < 2 ^ 32 → ⊥) }
+{
     match u32::try_from(count) {
         Ok(place) => Ok(place),
         Err(_) => Err(Unstated::Reference),
     }
 }
 
+// ---- enums
+
+// An enum, with its name and those of its values.
+fn outline_enum<'a>(
+    alloc: Global,
+    names: &mut BTreeMap<String, Named>,
+    enums: &mut Vec<Outlined<'a>>,
+    scope: &str,
+    message: &'a Message,
+) -> Result<EnumId, Unstated> {
+    let own = text(message, 1)?;
+    let name = full_name(alloc, scope, own)?;
+    let index = next_place(enums.len())?;
+    let id = EnumId { index };
+    declare(names, name.clone()?, Named::Enum(id))?;
+    let values = children(alloc, message, 2)?;
+    declare_each(alloc, names, scope, values.as_slice(), Named::Other)?;
+    enums.push(Outlined { message, name })?;
+    Ok(id)
+}
+
+// The enums that a scope declares.
+fn outline_enums<'a>(
+    alloc: Global,
+    names: &mut BTreeMap<String, Named>,
+    enums: &mut Vec<Outlined<'a>>,
+    scope: &str,
+    messages: &[&'a Message],
+) -> Result<Vec<EnumId>, Unstated> {
+    let mut ids = Vec::new(alloc);
+    for message in messages {
+        let id = outline_enum(alloc, names, enums, scope, message)?;
+        ids.push(id)?;
+    }
+    Ok(ids)
+}
+
+// ---- message types
+
+// The names of a message type's fields and real oneofs.
+fn declare_members(
+    alloc: Global,
+    names: &mut BTreeMap<String, Named>,
+    full: &str,
+    message: &Message,
+) -> Result<(), Unstated> {
+    let fields = children(alloc, message, 2)?;
+    let oneofs = children(alloc, message, 8)?;
+    let synthetic = synthetic_places(alloc, &fields)?;
+    let marks = marks(alloc, &synthetic, oneofs.len())?;
+    let real = real_oneofs(alloc, &oneofs, &synthetic, &marks)?;
+    declare_each(alloc, names, full, &fields, Named::Other)?;
+    declare_each(alloc, names, full, &real, Named::Other)
+}
+
+// The names of a message type and its fields, real oneofs and entry types.
+fn declare_type(
+    alloc: Global,
+    names: &mut BTreeMap<String, Named>,
+    full: &str,
+    id: TypeId,
+    message: &Message,
+) -> Result<(), Unstated> {
+    let name = String::from_str(alloc, full)?;
+    declare(names, name, Named::Type(id))?;
+    declare_members(alloc, names, full, message)?;
+    let inside = children(alloc, message, 3)?;
+    let entries = entries_of(alloc, inside.as_slice())?;
+    declare_each(alloc, names, full, entries.as_slice(), Named::Entry)
+}
+
 impl<'a> Outline<'a> {
-    // A name that none has yet.
-    fn declare(&mut self, name: String, named: Named) -> Result<(), Unstated> {
-        ensure(self.names.insert(name, named)?.is_none())
-    }
-
-    // The names of a scope that aren't those of types.
-    fn declare_all(&mut self, alloc: Global, scope: &str, names: &[&str]) -> Result<(), Unstated> {
-        for name in names {
-            self.declare(full_name(alloc, scope, name)?, Named::Other)?;
-        }
-        Ok(())
-    }
-
-    // The parts of a package, which other files may have too.
-    fn declare_package(&mut self, alloc: Global, package: &str) -> Result<(), Unstated> {
-        let mut scope = String::new(alloc);
-        for word in package.split('.') {
-            scope = full_name(alloc, &scope, word)?;
-            match self.names.insert(scope.clone()?, Named::Package)? {
-                None | Some(Named::Package) => {}
-                Some(_) => return Err(Unstated::Reference),
-            }
-        }
-        Ok(())
-    }
-
-    fn outline_enum(
-        &mut self,
-        alloc: Global,
-        scope: &str,
-        message: &'a Message,
-    ) -> Result<EnumId, Unstated> {
-        let id = EnumId {
-            index: next_place(self.enums.len())?,
-        };
-        let name = full_name(alloc, scope, text(message, 1)?)?;
-        self.declare(name.clone()?, Named::Enum(id))?;
-        self.enums.push(Outlined { message, name })?;
-        let values = names_of(alloc, &children(alloc, message, 2)?)?;
-        self.declare_all(alloc, scope, &values)?;
-        Ok(id)
-    }
-
-    // The enums that a scope declares.
-    fn outline_enums(
-        &mut self,
-        alloc: Global,
-        scope: &str,
-        messages: &[&'a Message],
-    ) -> Result<Vec<EnumId>, Unstated> {
-        let mut ids = Vec::new(alloc);
-        for message in messages {
-            ids.push(self.outline_enum(alloc, scope, message)?)?;
-        }
-        Ok(ids)
-    }
-
-    // The names of a message type's fields and real oneofs.
-    fn declare_members(
-        &mut self,
-        alloc: Global,
-        scope: &str,
-        message: &'a Message,
-    ) -> Result<(), Unstated> {
-        let fields = children(alloc, message, 2)?;
-        let oneofs = children(alloc, message, 8)?;
-        let synthetic = synthetic_places(alloc, &fields)?;
-        let marks = marks(alloc, &synthetic, oneofs.len())?;
-        self.declare_all(alloc, scope, &names_of(alloc, &fields)?)?;
-        let names = real_names(alloc, &oneofs, &synthetic, &marks)?;
-        self.declare_all(alloc, scope, &names)
-    }
-
-    // The names of entry types.
-    fn declare_entries(
-        &mut self,
-        alloc: Global,
-        scope: &str,
-        entries: &[&'a Message],
-    ) -> Result<(), Unstated> {
-        for entry in entries {
-            self.declare(full_name(alloc, scope, text(entry, 1)?)?, Named::Entry)?;
-        }
-        Ok(())
-    }
-
     // A message type, without those inside it.
     fn outline_type(
         &mut self,
@@ -167,11 +147,9 @@ impl<'a> Outline<'a> {
         name: &str,
         message: &'a Message,
     ) -> Result<TypeId, Unstated> {
-        let id = TypeId {
-            index: next_place(self.types.len())?,
-        };
-        self.declare(String::from_str(alloc, name)?, Named::Type(id))?;
-        self.declare_members(alloc, name, message)?;
+        let index = next_place(self.types.len())?;
+        let id = TypeId { index };
+        declare_type(alloc, &mut self.names, name, id, message)?;
         self.types.push(OutlinedType {
             message,
             name: String::from_str(alloc, name)?,
@@ -189,7 +167,7 @@ impl<'a> Outline<'a> {
         }
     }
 
-    // The message types that a scope declares, nested less deep than that.
+    // The message types that a scope declares, nested less deep than that, and the enums in them.
     fn outline_types(
         &mut self,
         alloc: Global,
@@ -202,13 +180,21 @@ impl<'a> Outline<'a> {
             return Ok(ids);
         }
         for message in messages {
-            let name = full_name(alloc, scope, text(message, 1)?)?;
-            let id = self.outline_type(alloc, &name, message)?;
+            let own_name = text(message, 1)?;
+            let full = full_name(alloc, scope, own_name)?;
+            let name = full.as_str();
+            let id = self.outline_type(alloc, name, message)?;
             let inside = children(alloc, message, 3)?;
-            self.declare_entries(alloc, &name, &entries_of(alloc, &inside)?)?;
-            let own = types_of(alloc, &inside)?;
-            let types = self.outline_types(alloc, depth - 1, &name, &own)?;
-            let enums = self.outline_enums(alloc, &name, &children(alloc, message, 4)?)?;
+            let own = types_of(alloc, inside.as_slice())?;
+            let types = self.outline_types(alloc, depth - 1, name, own.as_slice())?;
+            let own_enums = children(alloc, message, 4)?;
+            let enums = outline_enums(
+                alloc,
+                &mut self.names,
+                &mut self.enums,
+                name,
+                own_enums.as_slice(),
+            )?;
             self.place_inside(id, types, enums);
             ids.push(id)?;
         }
@@ -225,9 +211,15 @@ impl<'a> Outline<'a> {
         let mut ids = Vec::new(alloc);
         for message in messages {
             let name = full_name(alloc, scope, text(message, 1)?)?;
-            self.declare(name.clone()?, Named::Other)?;
-            let methods = names_of(alloc, &children(alloc, message, 2)?)?;
-            self.declare_all(alloc, &name, &methods)?;
+            declare(&mut self.names, name.clone()?, Named::Other)?;
+            let methods = children(alloc, message, 2)?;
+            declare_each(
+                alloc,
+                &mut self.names,
+                name.as_str(),
+                methods.as_slice(),
+                Named::Other,
+            )?;
             ids.push(ServiceId {
                 index: next_place(self.services.len())?,
             })?;
@@ -245,12 +237,13 @@ impl<'a> Outline<'a> {
     ) -> Result<(), Unstated> {
         let scope = text(message, 2)?;
         if !scope.is_empty() {
-            self.declare_package(alloc, scope)?;
+            declare_package(alloc, &mut self.names, scope)?;
         }
         let declared = children(alloc, message, 4)?;
         ensure(entries_of(alloc, &declared)?.is_empty())?;
         let types = self.outline_types(alloc, depth, scope, &declared)?;
-        let enums = self.outline_enums(alloc, scope, &children(alloc, message, 5)?)?;
+        let own_enums = children(alloc, message, 5)?;
+        let enums = outline_enums(alloc, &mut self.names, &mut self.enums, scope, &own_enums)?;
         let services = self.outline_services(alloc, scope, &children(alloc, message, 6)?)?;
         self.files.push(OutlinedFile {
             message,
@@ -260,15 +253,6 @@ impl<'a> Outline<'a> {
         })?;
         Ok(())
     }
-}
-
-// What messages are called.
-fn names_of<'a>(alloc: Global, messages: &[&'a Message]) -> Result<Vec<&'a str>, Unstated> {
-    let mut names = Vec::new(alloc);
-    for message in messages {
-        names.push(text(message, 1)?)?;
-    }
-    Ok(names)
 }
 
 /// What the files declare, taken in that order, with message types nested less deep than that.

@@ -9,6 +9,7 @@ ghost use Rattle.pg_dyn.specs.Kept.{message_of};
 ghost use Rattle.pg_dyn.specs.Refusals.{MayRefuse};
 ghost use Rattle.pg_fds.specs.Building.{written_shape};
 ghost use Rattle.pg_fds.specs.Descriptor.{file_set};
+ghost use Rattle.pg_fds.specs.InOrder.{StandInOrder};
 ghost use Rattle.pg_fds.specs.Lent.{lent};
 ghost use Rattle.pg_fds.specs.Reads.{States, StatesFiles, fds_reads, kept_files};
 ghost use Rattle.pg_fds.specs.Refused.{IsOfParts, MayRefuseFiles, MayRefuseSet, NoneIsStated};
@@ -18,6 +19,7 @@ use crate::codes::files_have_types;
 use crate::descriptor::descriptor_schema;
 use crate::error::{FdsError, Unstated};
 use crate::file_states::is_proto3;
+use crate::in_order::in_order;
 use crate::made_files::made_parts;
 use crate::order::order;
 use crate::outline::outline_files;
@@ -102,6 +104,7 @@ fn admitted(alloc: Global, parts: Parts) -> Result<Schema, FdsError>
 #[tactic(auto, using(crate::proofs::ReadLaws::refused_parts))]
 fn kept_schema(alloc: Global, skips: bool, files: &[&Message]) -> Result<Schema, FdsError>
     ensures ok { IfOk result (λ schema. StatesFiles skips (map message_of (lent files.now)) schema) }
+    ensures places { IfOk result (λ schema. StandInOrder schema) }
     ensures refused { IfErr result IsOfParts }
 {
     let order = order(alloc, skips, files)?;
@@ -109,6 +112,7 @@ fn kept_schema(alloc: Global, skips: bool, files: &[&Message]) -> Result<Schema,
     let parts = parts(alloc, skips, files, places)?;
     let schema = admitted(alloc, parts)?;
     states_files(alloc, &schema, skips, files, places)?;
+    in_order(&schema)?;
     Ok(schema)
 }
 
@@ -116,6 +120,7 @@ fn kept_schema(alloc: Global, skips: bool, files: &[&Message]) -> Result<Schema,
 #[tactic(auto, using(crate::proofs::ReadLaws::refused_early))]
 fn files_schema(alloc: Global, skips: bool, files: &[&Message]) -> Result<Schema, FdsError>
     ensures ok { IfOk result (λ schema. StatesFiles skips (map message_of (lent files.now)) schema) }
+    ensures places { IfOk result (λ schema. StandInOrder schema) }
     ensures refused { IfErr result (MayRefuseFiles (map message_of (lent files.now))) }
 {
     let proto3 = are_proto3(files)?;
@@ -133,6 +138,7 @@ fn files_schema(alloc: Global, skips: bool, files: &[&Message]) -> Result<Schema
 #[tactic(auto, using(crate::proofs::ReadLaws::refused_early))]
 fn set_schema(alloc: Global, set: &Message) -> Result<Schema, FdsError>
     ensures ok { IfOk result (λ schema. States (message_of set.now) schema) }
+    ensures places { IfOk result (λ schema. StandInOrder schema) }
     ensures refused { IfErr result (MayRefuseFiles (kept_files (message_of set.now))) }
 {
     let all_files = children(alloc, set, 1)?;
@@ -146,6 +152,7 @@ fn set_schema(alloc: Global, set: &Message) -> Result<Schema, FdsError>
 // The schema that the bytes state.
 fn bytes_schema(alloc: Global, bytes: &[u8]) -> Result<Schema, FdsError>
     ensures ok { IfOk result (λ schema. fds_reads bytes.now schema) }
+    ensures places { IfOk result (λ schema. StandInOrder schema) }
     ensures refused { IfErr result (MayRefuseSet bytes.now) }
 {
     let set = decoded(alloc, bytes)?;
@@ -154,7 +161,8 @@ fn bytes_schema(alloc: Global, bytes: &[u8]) -> Result<Schema, FdsError>
 
 /// The schema that the bytes of a descriptor set state (descriptor.proto; docs/MODEL.md, "Descriptor
 /// sets"). Files may come in any order; those of the schema stand in post-order of imports, begun at the
-/// set's in their order.
+/// set's in their order, and message types, enums and services in order of declaration, file after file: a
+/// message type before those inside it, the enums of those inside it before its own.
 ///
 /// The errors, over the whole set and in this order: `Bytes` where the codec refuses the bytes, with
 /// messages nested at most 100 deep; `NotProto3` where a file isn't proto3; `BadType` where a field has a
@@ -166,6 +174,7 @@ fn bytes_schema(alloc: Global, bytes: &[u8]) -> Result<Schema, FdsError>
 /// come only where the bytes state no schema.
 pub fn read(alloc: Global, bytes: &[u8]) -> Result<Schema, FdsError>
     ensures ok { IfOk result (λ schema. fds_reads bytes.now schema) }
+    ensures places { IfOk result (λ schema. StandInOrder schema) }
     ensures refused { IfErr result (MayRefuseSet bytes.now) }
     ensures none_stated { IfErr result (NoneIsStated bytes.now) }
 {

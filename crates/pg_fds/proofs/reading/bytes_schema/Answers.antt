@@ -5,5 +5,6 @@ use Rattle.pg_fds.proofs.reading.bytes_schema.Goals as goal
 pub returns : goal.returns
 returns c = record {
   ok = bytes_read c.args.bytes.now (message_of c.in_ok-set.set) c.set_schema.result c.in_ok-set.ensures.message c.set_schema.ensures.ok;
+  places = c.set_schema.ensures.places;
   refused = bytes_refused c.args.bytes.now (message_of c.in_ok-set.set) c.set_schema.result c.in_ok-set.ensures.message c.set_schema.ensures.refused;
 }

@@ -7,5 +7,6 @@ use Rattle.pg_fds.proofs.reading.files_schema.Goals as goal
 pub returns : goal.returns
 returns c = record {
   ok = c.kept_schema.ensures.ok;
+  places = c.kept_schema.ensures.places;
   refused = refused_later (map message_of (lent c.args.files.now)) c.kept_schema.result (sym c.in_ok-proto3.ensures ∙ c.if-not-proto3.false) (sym c.in_ok-typed.ensures ∙ c.if-not-typed.false) c.kept_schema.ensures.refused;
 }

@@ -16,5 +16,6 @@ returns c =
     let kept : map message_of (lent files) ≡ kept_files set = files_kept set all files seen (ap (λ xs. map message_of (lent xs)) c.as_slice-files.ensures.value ∙ c.in_ok-kept_files.ensures) in
     record {
       ok = stated set c.in_ok-skips.skips all files c.files_schema.result seen c.in_ok-skips.ensures kept c.files_schema.ensures.ok;
+      places = c.files_schema.ensures.places;
       refused = subst (λ fs. IfErr c.files_schema.result (MayRefuseFiles fs)) kept c.files_schema.ensures.refused;
     }

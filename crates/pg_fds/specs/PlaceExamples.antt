@@ -1,0 +1,42 @@
+-- Places in order of declaration, by small examples.
+use Rattle.std.specs.Prelude.{◌≡◌, ℕ, [], ◌∷◌}
+use Rattle.pg_schema.specs.declared.field.EnumId.{EnumId}
+use Rattle.pg_schema.specs.declared.field.Field.{Field}
+use Rattle.pg_schema.specs.declared.field.TypeId.{TypeId}
+use Rattle.pg_schema.specs.declared.file.File.{File}
+use Rattle.pg_schema.specs.declared.message_type.MessageType.{MessageType}
+use Rattle.pg_schema.specs.declared.parts.Parts.{Parts}
+use Rattle.pg_fds.specs.Examples.{AreParts, IsMessage}
+use Rattle.pg_fds.specs.InOrder.{StandInOrder, enums_below, types_below}
+
+abbrev pub type_id : ℕ → TypeId
+type_id place = record { index = place }
+
+abbrev pub enum_id : ℕ → EnumId
+enum_id place = record { index = place }
+
+-- a message type with another inside it, and one behind them
+pub record AreNested (outer inner last : MessageType) : Type 0 where
+  pub outside : outer.nested_types.items ≡ type_id 1 ∷ []
+  pub inside : inner.nested_types.items ≡ []
+  pub behind : last.nested_types.items ≡ []
+
+abbrev pub TypesInOrder : Type 0
+TypesInOrder = (outer inner last : MessageType) → AreNested outer inner last → types_below 3 (outer ∷ inner ∷ last ∷ []) (type_id 0 ∷ type_id 2 ∷ []) ≡ 0 ∷ 1 ∷ 2 ∷ []
+
+-- an enum in each of the two: that of the inner one comes first
+abbrev pub EnumsInOrder : Type 0
+EnumsInOrder =
+    (outer inner last : MessageType) → AreNested outer inner last → outer.nested_enums.items ≡ enum_id 1 ∷ [] → inner.nested_enums.items ≡ enum_id 0 ∷ [] → last.nested_enums.items ≡ []
+    → enums_below 3 (outer ∷ inner ∷ last ∷ []) (type_id 0 ∷ type_id 2 ∷ []) ≡ 0 ∷ 1 ∷ []
+
+-- a file with one message type
+abbrev pub OneFieldInOrder : Type 0
+OneFieldInOrder =
+    (parts : Parts) (file : File) (t : MessageType) (a : Field) → AreParts parts file t → IsMessage t (a ∷ []) (1 ∷ []) → parts.enums.items ≡ [] → parts.services.items ≡ []
+    → StandInOrder parts
+
+pub record WorkedPlaces : Type 0 where
+  pub types : TypesInOrder
+  pub enums : EnumsInOrder
+  pub one_field : OneFieldInOrder

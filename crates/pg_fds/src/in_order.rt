@@ -1,0 +1,131 @@
+//! Whether message types, enums and services stand in order of declaration. What doesn't is told as a bad
+//! reference. Counts go from one place to the one behind the last.
+
+ghost use Rattle.std.specs.Prelude.{◌≡◌, ◌++◌, ◌∷◌, [], IfOk, OnOk, flat_map};
+ghost use Rattle.pg_schema.specs.Scopes.{declared_services, enum_places, service_places};
+ghost use Rattle.pg_fds.specs.InOrder.{StandInOrder, enums_below, file_enums, file_types, types_below};
+ghost use Rattle.pg_fds.specs.Walks.{places_from};
+
+use crate::error::Unstated;
+use crate::said::ensure;
+use pg_schema::{EnumId, File, Schema, ServiceId, TypeId};
+
+// How deep message types may be nested.
+const MOST_DEEP: usize = 100;
+
+// The place is the next one.
+fn behind(place: u32, next: usize) -> Result<usize, Unstated>
+    ensures { IfOk result (λ end. places_from 0 next ++ place ∷ [] ≡ places_from 0 end) }
+{
+    let at = place as usize;
+    if at != next {
+        return Err(Unstated::Reference);
+    }
+    Ok(at + 1)
+}
+
+fn enums(ids: &[EnumId], next: usize) -> Result<usize, Unstated>
+    ensures { IfOk result (λ end. places_from 0 next ++ enum_places ids.now ≡ places_from 0 end) }
+{
+    let mut end = next;
+    for id in ids {
+        end = behind(id.index, end)?;
+    }
+    Ok(end)
+}
+
+fn services(ids: &[ServiceId], next: usize) -> Result<usize, Unstated>
+    ensures { IfOk result (λ end. places_from 0 next ++ service_places ids.now ≡ places_from 0 end) }
+{
+    let mut end = next;
+    for id in ids {
+        end = behind(id.index, end)?;
+    }
+    Ok(end)
+}
+
+// The message types at these places, nested less deep than that.
+fn types(source: &Schema, depth: usize, ids: &[TypeId], next: usize) -> Result<usize, Unstated>
+    ensures { IfOk result (λ end. places_from 0 next ++ types_below depth source.now.types.items ids.now ≡ places_from 0 end) }
+{
+    let mut end = next;
+    if depth == 0 {
+        return Ok(end);
+    }
+    for id in ids {
+        let Some(declared) = source.message_type(*id) else {
+            return Err(Unstated::Reference);
+        };
+        let first = behind(id.index, end)?;
+        end = types(source, depth - 1, declared.nested_types.as_slice(), first)?;
+    }
+    Ok(end)
+}
+
+// The enums in these.
+fn inner_enums(
+    source: &Schema,
+    depth: usize,
+    ids: &[TypeId],
+    next: usize,
+) -> Result<usize, Unstated>
+    ensures { IfOk result (λ end. places_from 0 next ++ enums_below depth source.now.types.items ids.now ≡ places_from 0 end) }
+{
+    let mut end = next;
+    if depth == 0 {
+        return Ok(end);
+    }
+    for id in ids {
+        let Some(declared) = source.message_type(*id) else {
+            return Err(Unstated::Reference);
+        };
+        let own = inner_enums(source, depth - 1, declared.nested_types.as_slice(), end)?;
+        end = enums(declared.nested_enums.as_slice(), own)?;
+    }
+    Ok(end)
+}
+
+fn all_types(source: &Schema, files: &[File]) -> Result<usize, Unstated>
+    ensures { IfOk result (λ end. flat_map (file_types source.now.types.items) files.now ≡ places_from 0 end) }
+{
+    let mut end = 0;
+    for file in files {
+        end = types(source, MOST_DEEP, file.types.as_slice(), end)?;
+    }
+    Ok(end)
+}
+
+fn all_enums(source: &Schema, files: &[File]) -> Result<usize, Unstated>
+    ensures { IfOk result (λ end. flat_map (file_enums source.now.types.items) files.now ≡ places_from 0 end) }
+{
+    let mut end = 0;
+    for file in files {
+        let own = inner_enums(source, MOST_DEEP, file.types.as_slice(), end)?;
+        end = enums(file.enums.as_slice(), own)?;
+    }
+    Ok(end)
+}
+
+fn all_services(files: &[File]) -> Result<usize, Unstated>
+    ensures { IfOk result (λ end. declared_services files.now ≡ places_from 0 end) }
+{
+    let mut end = 0;
+    for file in files {
+        end = services(file.services.as_slice(), end)?;
+    }
+    Ok(end)
+}
+
+/// All that the schema declares stands in order of declaration.
+pub fn in_order(source: &Schema) -> Result<(), Unstated>
+    ensures { OnOk result (StandInOrder source.now) }
+{
+    let parts = source.parts();
+    let files = parts.files.as_slice();
+    let types = all_types(source, files)?;
+    let enums = all_enums(source, files)?;
+    let services = all_services(files)?;
+    ensure(types == parts.types.len())?;
+    ensure(enums == parts.enums.len())?;
+    ensure(services == parts.services.len())
+}
