@@ -1,12 +1,18 @@
 -- What a file's message says, from the lists that loops go through.
-use Rattle.std.proofs.Common.{◌≡◌, ℕ, suc, ℤ, Bool, true, List, [], ◌∷◌, map, length, refl, ap, sym, subst, ◌∙◌}
-use Rattle.std.specs.List.{list_all}
+use Rattle.std.proofs.Common.{◌≡◌, ℕ, suc, ℤ, Bool, true, false, cond, ◌&&◌, List, [], ◌∷◌, map, length, refl, ap, sym, subst, ◌∙◌, arith}
+use Rattle.std.proofs.lemmas.Slice.Eq.{bytes_eq-Decides}
+use Rattle.std.proofs.lemmas.Str.{IsUtf8-string_bytes}
+use Rattle.std.specs.List.{AllByRecursion, list_all}
+use Rattle.std.specs.Prelude.{codes}
+use Rattle.std.specs.Str.{IsUtf8}
 use denote.Ref.{Bor}
 use Rattle.pg_schema.specs.declared.file.Import.{Import}
+use Rattle.pg_schema.proofs.PairLemmas.{and_right}
 use Rattle.pg_dyn.specs.Kept.{Kept, message_of}
 use Rattle.pg_dyn.specs.Message.{Message}
 use Rattle.pg_fds.specs.Lent.{lent}
-use Rattle.pg_fds.specs.StatesFiles.{import_of, is_place, kept_imports}
+use Rattle.pg_fds.specs.StatesFiles.{import_of, is_descriptor, is_place, kept_imports}
+use Rattle.pg_fds.specs.StatesTypes.{is_marked}
 
 -- what is said of the items of lists, of what these lists are
 pub moved : {I : Type 0} (R : List ℕ → List Message → List I → Type 0) (s t : List ℕ) (a b : List (Bor Kept)) (ms : List Message) (is js : List I)
@@ -29,3 +35,37 @@ pub places_are : (count : ℕ) (paths : List (Bor (List ℕ))) (ts : List (List 
 places_are count paths ts a b ns many texts same numbers h =
     subst (λ n. list_all (is_place n) ns ≡ true) (many ∙ (sym (lent_length paths) ∙ ap length texts))
     (subst (λ x. list_all (is_place count) x ≡ true) (same ∙ numbers) h)
+
+-- ---- paths of imports are texts
+
+descriptor_text : IsUtf8 (codes "google/protobuf/descriptor.proto")
+unfolding lib.Utf8.encode
+descriptor_text = (codes "google/protobuf/descriptor.proto", (refl, refl))
+
+abbrev first_path : List (List ℕ × Bool) → List ℕ
+first_path [] = []
+first_path (i ∷ is) = i.0
+
+abbrev without_first : List (List ℕ × Bool) → List (List ℕ × Bool)
+without_first [] = []
+without_first (i ∷ is) = is
+
+pub kept_texts : (skips : Bool) (public : List ℤ) (place : ℕ) (paths : List (List ℕ)) (is : List Import) → kept_imports skips public place paths ≡ map import_of is → AllByRecursion IsUtf8 paths
+kept_texts skips public place [] is same = tt
+kept_texts skips public place (path ∷ paths) is same = of (skips && is_descriptor path) refl is same (kept_texts skips public (suc place) paths)
+  where
+    of : (b : Bool) → (skips && is_descriptor path) ≡ b → (is : List Import)
+        → cond b (kept_imports skips public (suc place) paths) ((path, is_marked public place) ∷ kept_imports skips public (suc place) paths) ≡ map import_of is
+        → ((is : List Import) → kept_imports skips public (suc place) paths ≡ map import_of is → AllByRecursion IsUtf8 paths) → IsUtf8 path × AllByRecursion IsUtf8 paths
+    of true left is same later =
+        (subst IsUtf8 (sym ((bytes_eq-Decides path (codes "google/protobuf/descriptor.proto")).0 (and_right skips (is_descriptor path) left))) descriptor_text, later is same)
+    of false left [] same later = absurd (omega (arith, ap length same))
+    of false left (i ∷ is) same later =
+        (subst IsUtf8 (sym (ap first_path same)) (IsUtf8-string_bytes i.path), later is (ap without_first same))
+
+-- and the other way round
+pub places_asked : (count : ℕ) (paths : List (Bor (List ℕ))) (ts : List (List ℕ)) (a b ns : List ℤ)
+    → count ≡ length paths → lent paths ≡ ts → a ≡ b → b ≡ ns → list_all (is_place (length ts)) ns ≡ true → list_all (is_place count) a ≡ true
+places_asked count paths ts a b ns many texts same numbers h =
+    subst (λ n. list_all (is_place n) a ≡ true) (sym (many ∙ (sym (lent_length paths) ∙ ap length texts)))
+    (subst (λ x. list_all (is_place (length ts)) x ≡ true) (sym (same ∙ numbers)) h)

@@ -11,6 +11,10 @@ pub mod Zips
 pub mod MadeLaws
 pub mod ElementLaws
 pub mod PresenceLaws
+pub mod MapLaws
+pub mod ViewLaws
+pub mod CalledLaws
+pub mod LeftEntries
 pub mod OneofLaws
 pub mod TypeLaws
 pub mod SetLaws

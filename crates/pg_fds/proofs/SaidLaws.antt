@@ -1,16 +1,22 @@
 -- What messages say by the numbers of their fields, from what they keep.
-use Rattle.std.proofs.Common.{◌≡◌, ℕ, zero, suc, ◌<◌, Bool, true, false, cond, List, [], ◌∷◌, String, map, length, get_or, filter, Option, Some, None, option_map, slice_get, refl, ap, sym, subst, ◌∙◌, arith, unwrap_or}
+use Rattle.std.proofs.Common.{◌≡◌, ℕ, zero, suc, ◌+◌, ◌<◌, ◌≤◌, Bool, true, false, cond, List, [], ◌∷◌, ◌++◌, String, map, length, take, get_or, filter, Option, Some, None, option_map, slice_get, refl, ap, sym, subst, ◌∙◌, arith, add-one, eq-eqb, unwrap_or}
+use Rattle.std.proofs.lemmas.List.Elements.{filter-append}
+use Rattle.std.proofs.lemmas.Option.{none-some}
 use Rattle.std.proofs.lemmas.Str.{IsUtf8-nil, IsUtf8-string_bytes}
 use Rattle.std.specs.List.{AllByRecursion}
 use Rattle.std.specs.Str.{IsUtf8}
 use Rattle.std.specs.String.{string_bytes}
 use denote.Ref.{Bor}
+use Rattle.pg_schema.specs.declared.field.TypeId.{TypeId}
+use Rattle.pg_wire.specs.Records.{WireRecord}
+use Rattle.pg_dyn.specs.declared.message.Content.{Content}
 use Rattle.pg_dyn.specs.declared.message.Content.TheVariants as contents
 use Rattle.pg_dyn.specs.declared.message.Value.{Value}
 use Rattle.pg_dyn.specs.declared.message.Value.TheVariants as values
-use Rattle.pg_dyn.specs.Kept.{Kept, KeptItem, parts_of, message_of, of_number}
-use Rattle.pg_dyn.specs.Message.{Item, Part, is_of}
-use Rattle.pg_dyn.specs.Seen.{content_seen, item_seen, leaf_of}
+use Rattle.pg_dyn.specs.Kept.{Kept, KeptItem, ends, parts_of, message_of, of_number}
+use Rattle.pg_dyn.specs.Message.{Item, Part, is_of, parts}
+use Rattle.pg_dyn.specs.Seen.{IsFilled, content_seen, fields_onto, item_seen, leaf_of}
+use Rattle.pg_dyn.proofs.KeptParts.{parts_of-content_onto}
 use Rattle.pg_dyn.proofs.ReplacingLaws.{parts-message_of, item_of, part_item}
 use Rattle.pg_fds.specs.Building.{shown}
 use Rattle.pg_fds.specs.Lent.{lent}
@@ -109,3 +115,63 @@ all_text (t ∷ texts) = (IsUtf8-string_bytes t, all_text texts)
 pub or_text : (o : Option (List ℕ)) (default : List ℕ) → IsUtf8 (unwrap_or o default) → IsUtf8 (unwrap_or o [])
 or_text None default is = IsUtf8-nil
 or_text (Some text) default is = is
+
+-- ---- contents that are filled
+
+none_mapped : {A B : Type 0} (f : A → B) (xs : List A) → map f xs ≡ [] → xs ≡ []
+none_mapped f [] none = refl
+none_mapped f (x ∷ xs) none = absurd (omega (arith, ap length none))
+
+-- a content has items
+pub filled_items : (n : ℕ) (m : Kept) (content : Content) → of_number n m ≡ content_seen n content → IsFilled content → items_at n (message_of m) ≡ [] → ⊥
+filled_items n m (contents.One v) is filled none = none-some (shown v) (sym (one_item n m v is ∙ ap (λ (xs : List Item). slice_get xs 0) none))
+filled_items n m (contents.Many vs) is filled none = filled (none_mapped shown vs.items (many_items n m vs.items is ∙ none))
+filled_items n m (contents.Map es) is filled none =
+    filled (none_mapped (λ (e : Value × Value). e.1) es.items (none_mapped shown (map (λ (e : Value × Value). e.1) es.items) (entry_items n m es.items is ∙ none)))
+
+-- ---- messages without contents
+
+front_nil : {A : Type 0} (xs ys : List A) → xs ++ ys ≡ [] → xs ≡ []
+front_nil [] ys none = refl
+front_nil (x ∷ xs) ys none = absurd (omega (arith, ap length none))
+
+own_parts : {A : Type 0} (n : ℕ) (f : A → Part KeptItem) → ((x : A) → (f x).number ≡ n) → (xs : List A) → filter (is_of n) (map f xs) ≡ map f xs
+own_parts n f is [] = refl
+own_parts n f is (x ∷ xs) = rw (is x, eq-eqb n n refl, own_parts n f is xs)
+
+own_content : (n : ℕ) (content : Content) → filter (is_of n) (content_seen n content) ≡ content_seen n content
+own_content n (contents.One v) = own_parts n (λ (v : Value). record { number = n; key = None; item = item_seen false v }) (λ x. refl) (v ∷ [])
+own_content n (contents.Many vs) = own_parts n (λ (v : Value). record { number = n; key = None; item = item_seen true v }) (λ x. refl) vs.items
+own_content n (contents.Map es) = own_parts n (entry_part n) (λ x. refl) es.items
+
+none_left : (fs : List (ℕ × Content)) (later : Kept) (ps : List (Part KeptItem)) → parts_of (fields_onto fs later) ≡ ps → parts_of later ≡ []
+    → AllByRecursion (λ (f : ℕ × Content). filter (is_of f.0) ps ≡ []) fs → ps ≡ []
+none_left [] later ps is none all = sym is ∙ none
+none_left (f ∷ fs) later ps is none all =
+    let whole : content_seen f.0 f.1 ++ parts_of (fields_onto fs later) ≡ ps = sym (parts_of-content_onto f.0 f.1 (fields_onto fs later)) ∙ is in
+    let own : filter (is_of f.0) (content_seen f.0 f.1) ++ filter (is_of f.0) (parts_of (fields_onto fs later)) ≡ [] =
+    sym (filter-append (is_of f.0) (content_seen f.0 f.1) (parts_of (fields_onto fs later))) ∙ (ap (filter (is_of f.0)) whole ∙ all.0) in
+    let front : content_seen f.0 f.1 ≡ [] = sym (own_content f.0 f.1) ∙ front_nil (filter (is_of f.0) (content_seen f.0 f.1)) _ own in
+    none_left fs later ps (ap (λ xs. xs ++ parts_of (fields_onto fs later)) (sym front) ∙ whole) none all.1
+
+unseen : (m : Kept) (fs : List (ℕ × Content)) → AllByRecursion (λ (f : ℕ × Content). items_at f.0 (message_of m) ≡ []) fs → AllByRecursion (λ (f : ℕ × Content). filter (is_of f.0) (parts_of m) ≡ []) fs
+unseen m [] all = tt
+unseen m (f ∷ fs) all = (none_mapped (λ (p : Part KeptItem). item_of p.item) (of_number f.0 m) (sym (items_kept f.0 m) ∙ all.0), unseen m fs all.1)
+
+-- a message has no parts where it has no items under the numbers of its fields
+pub no_parts : (m : Kept) (fs : List (ℕ × Content)) (type : TypeId) (us : List WireRecord) → m ≡ fields_onto fs (ends type us)
+    → AllByRecursion (λ (f : ℕ × Content). items_at f.0 (message_of m) ≡ []) fs → parts (message_of m) ≡ []
+no_parts m fs type us is all = parts-message_of m ∙ ap (map part_item) (none_left fs (ends type us) (parts_of m) (ap parts_of (sym is)) refl (unseen m fs all))
+
+all_suc : {A : Type 0} (P : A → Type 0) (xs : List A) (i : ℕ) (x : A) → i < length xs → x ≡ get_or xs i x → AllByRecursion P (take i xs) → P x → AllByRecursion P (take (suc i) xs)
+all_suc P [] i x h is before here = tt
+all_suc P (y ∷ ys) zero x h is before here = (subst P is here, tt)
+all_suc P (y ∷ ys) (suc i) x h is before here = (before.0, all_suc P ys i x (omega (arith, h)) is before.1 here)
+
+pub all_more : {A : Type 0} (P : A → Type 0) (xs : List A) (i : ℕ) (x : A) → i < length xs → x ≡ get_or xs i x → AllByRecursion P (take i xs) → P x → AllByRecursion P (take (i + 1) xs)
+all_more P xs i x h is before here = rw add-one (all_suc P xs i x h is before here)
+
+pub all_taken : {A : Type 0} (P : A → Type 0) (xs : List A) (i : ℕ) → length xs ≤ i → AllByRecursion P (take i xs) → AllByRecursion P xs
+all_taken P [] i past all = tt
+all_taken P (x ∷ xs) zero past all = absurd (omega (arith, past))
+all_taken P (x ∷ xs) (suc i) past all = (all.0, all_taken P xs i (omega (arith, past)) all.1)

@@ -25,6 +25,7 @@ pub mod FilePlaces
 pub mod Made
 pub mod SetNames
 pub mod InOrder
+pub mod Views
 pub mod Reads
 pub mod Refused
 pub mod Again

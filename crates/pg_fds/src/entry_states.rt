@@ -1,7 +1,7 @@
 //! Whether the messages of a set state the entry types of map fields. What they don't state is told as a
 //! bad reference.
 
-ghost use Rattle.std.specs.Prelude.{◌≡◌, [], None, IfOk, OnOk, codes, length, filter, map};
+ghost use Rattle.std.specs.Prelude.{◌≡◌, [], None, IfOk, OnErr, OnOk, codes, length, filter, map};
 ghost use Rattle.std.specs.List.{AllByRecursion, Any};
 ghost use Rattle.pg_schema.specs.declared.field.Field.{Field};
 ghost use Rattle.pg_schema.specs.declared.field.Presence.TheVariants as presences;
@@ -25,7 +25,8 @@ use std::collections::BTreeMap;
 
 /// The singular field is missing.
 pub fn lacks(message: &Message, number: u32) -> Result<(), Unstated>
-    ensures { OnOk result (item_at number (message_of message.now) ≡ None) }
+    ensures ok { OnOk result (item_at number (message_of message.now) ≡ None) }
+    ensures refused { OnErr result (item_at number (message_of message.now) ≡ None → ⊥) }
 {
     match item(message, number) {
         None => Ok(()),
@@ -35,24 +36,31 @@ pub fn lacks(message: &Message, number: u32) -> Result<(), Unstated>
 
 /// The repeated field is missing.
 pub fn lacks_all(message: &Message, number: u32) -> Result<(), Unstated>
-    ensures { OnOk result (items_at number (message_of message.now) ≡ []) }
+    ensures ok { OnOk result (items_at number (message_of message.now) ≡ []) }
+    ensures refused { OnErr result (items_at number (message_of message.now) ≡ [] → ⊥) }
 {
     match message.get(number) {
         None => Ok(()),
-        Some(_) => Err(Unstated::Reference),
+        Some(_content) => Err(Unstated::Reference),
     }
 }
 
 // The message has no content.
 fn is_empty(message: &Message) -> Result<(), Unstated>
-    ensures { OnOk result (parts (message_of message.now) ≡ []) }
+    ensures ok { OnOk result (parts (message_of message.now) ≡ []) }
+    ensures refused { OnErr result (parts (message_of message.now) ≡ [] → ⊥) }
 {
-    ensure(message.contents().is_empty())
+    let contents = message.contents();
+    for content in contents {
+        lacks_all(message, content.0)?;
+    }
+    Ok(())
 }
 
 /// The options are missing, or none is in them.
 pub fn has_no_options(message: &Message, number: u32) -> Result<(), Unstated>
-    ensures { OnOk result (parts (options_at number (message_of message.now)) ≡ []) }
+    ensures ok { OnOk result (parts (options_at number (message_of message.now)) ≡ []) }
+    ensures refused { OnErr result (parts (options_at number (message_of message.now)) ≡ [] → ⊥) }
 {
     match item(message, number) {
         Some(Value::Msg(child)) => is_empty(child),

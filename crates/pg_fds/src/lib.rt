@@ -17,6 +17,7 @@ mod in_order;
 mod laws;
 mod made_fields;
 mod made_files;
+mod made_maps;
 mod made_types;
 mod messages;
 mod names;

@@ -1,47 +1,45 @@
 //! Fields of a schema, made of a set's messages.
 
-ghost use Rattle.std.specs.Prelude.{◌≡◌, ℕ, pos, false, true, ◌||◌, List, ◌∷◌, Some, IfErr, IfOk, OnErr};
+ghost use Rattle.std.specs.Prelude.{◌≡◌, ℕ, ◌<◌, ◌^◌, pos, false, not, true, ◌&&◌, ◌||◌, List, ◌∷◌, filter, length, Option, None, Some, slice_get, IfErr, IfOk, IfSome, OnErr, if◌then◌else◌};
 ghost use Rattle.std.specs.BTreeMap.{get_by_text};
-ghost use Rattle.std.specs.Str.{IsUtf8};
+ghost use Rattle.std.specs.Str.{IsUtf8, bytes_eq};
 ghost use Rattle.std.specs.String.{string_bytes};
 ghost use Rattle.pg_schema.specs.declared.field.Element.{Element as StatedElement};
 ghost use Rattle.pg_schema.specs.declared.field.Element.TheVariants.{Scalar as ScalarElement};
+ghost use Rattle.pg_schema.specs.declared.field.Field.{Field as StatedField};
 ghost use Rattle.pg_schema.specs.declared.field.Presence.{Presence as StatedPresence};
 ghost use Rattle.pg_schema.specs.declared.field.Scalar.{Scalar as StatedScalar};
+ghost use Rattle.pg_schema.specs.DeclaredNames.{entry_name};
 ghost use Rattle.pg_schema.specs.FieldRules.{has_presence, is_message, is_packed};
 ghost use Rattle.pg_schema.specs.Shape.{is_map};
 ghost use Rattle.pg_dyn.specs.Kept.{message_of};
 ghost use Rattle.pg_fds.specs.declared.outline.Named.{Named as Meaning};
 ghost use Rattle.pg_fds.specs.declared.error.Unstated.TheVariants.{Memory};
 ghost use Rattle.pg_fds.specs.Fields.{element_code, label, scalar_code};
-ghost use Rattle.pg_fds.specs.Made.{HasNames, Means, StatesElement, StatesPresence};
+ghost use Rattle.pg_fds.specs.Made.{HasNamedEntry, HasNames, IsAlone, IsMember, Means, StandsAt, StatesElement, StatesFieldAt, StatesKnown, StatesPresence};
 ghost use Rattle.pg_fds.specs.Places.{Declared};
-ghost use Rattle.pg_fds.specs.Said.{maybe_text_at, number_at, text_at};
+ghost use Rattle.pg_fds.specs.Said.{flag_at, maybe_text_at, number_at, text_at};
 ghost use Rattle.pg_fds.specs.States.{json_name_at};
+ghost use Rattle.pg_fds.specs.Views.{field_view};
 
-use crate::codes::{MESSAGE_CODE, REPEATED, scalar_of};
-use crate::entry_states::{has_no_options, lacks, lacks_all};
+use crate::codes::{REPEATED, scalar_of};
 use crate::error::Unstated;
 use crate::fields::element_code;
-use crate::names::{dotted_within, entry_name};
+use crate::made_maps::{is_map, map_parts};
 use crate::outline::Named;
-use crate::said::{
-    children, ensure, flag, maybe_number, maybe_text, number, option, place_in, text,
-};
-use crate::states::{has_json_name, label_of, same_text};
+use crate::said::{count, ensure, flag, maybe_number, maybe_text, number, option, place_in, text};
+use crate::states::label_of;
 use pg_dyn::Message;
 use pg_schema::{Element, Field, FieldOptions, Presence, Scalar, default_json_name};
 use std::alloc::Global;
 use std::collections::BTreeMap;
 
 /// What the fields of a message type are made with: the full names of all files; the type's own full name;
-/// its entry types by name, without those that a field has named; which of its oneofs are synthetic, and
-/// how many fields name each.
+/// which of its oneofs are synthetic, and how many fields name each.
 #[derive(Drop)]
 pub struct Scope<'a> {
     pub names: &'a BTreeMap<String, Named>,
     pub name: &'a str,
-    pub entries: BTreeMap<String, &'a Message>,
     pub synthetic: Vec<bool>,
     pub members: Vec<usize>,
 }
@@ -119,8 +117,8 @@ fn named_element(
     of_its_code(message, element)
 }
 
-// What a field's items are, where it isn't a map.
-fn element(names: &BTreeMap<String, Named>, message: &Message) -> Result<Element, Unstated>
+/// What a field's items are, where it isn't a map.
+pub fn element(names: &BTreeMap<String, Named>, message: &Message) -> Result<Element, Unstated>
     ensures made { IfOk result (λ made. (all : Declared) (e : StatedElement) → HasNames all names.now → StatesElement all (message_of message.now) e → made ≡ e) }
     ensures refused { OnErr result ((all : Declared) (e : StatedElement) → HasNames all names.now → StatesElement all (message_of message.now) e → ⊥) }
 {
@@ -131,108 +129,78 @@ fn element(names: &BTreeMap<String, Named>, message: &Message) -> Result<Element
     }
 }
 
-// The key's or the value's field of an entry type: of that name and number, and nothing else.
-fn check_entry_field(
-    alloc: Global,
-    message: &Message,
-    name: &str,
-    place: i128,
-) -> Result<(), Unstated> {
-    same_text(text(message, 1)?, name)?;
-    ensure(number(message, 3) == place)?;
-    ensure(label_of(message) == 1)?;
-    has_no_options(message, 8)?;
-    lacks(message, 9)?;
-    has_json_name(alloc, message, name)?;
-    ensure(!flag(message, 17))
-}
-
-// What a map's keys are. A type that may not be one is told as that of floats, which may not either.
-fn key(names: &BTreeMap<String, Named>, message: &Message) -> Result<Scalar, Unstated> {
-    match element(names, message)? {
-        Element::Scalar(scalar) => Ok(scalar),
-        _ => Ok(Scalar::Float),
-    }
-}
-
-// The key and the value of an entry type, which has nothing else.
-fn key_and_value(
-    alloc: Global,
-    names: &BTreeMap<String, Named>,
-    entry: &Message,
-) -> Result<(Scalar, Element), Unstated> {
-    lacks_all(entry, 3)?;
-    lacks_all(entry, 4)?;
-    ensure(option(entry, 7, 3).is_none())?;
-    lacks_all(entry, 8)?;
-    lacks_all(entry, 9)?;
-    lacks_all(entry, 10)?;
-    let fields = children(alloc, entry, 2)?;
-    match fields.as_slice() {
-        [first, second] => {
-            check_entry_field(alloc, first, "key", 1)?;
-            check_entry_field(alloc, second, "value", 2)?;
-            Ok((key(names, first)?, element(names, second)?))
+// How many of the marks are false.
+fn unmarked(marks: &[bool]) -> usize
+    ensures { result ≡ length (filter not marks.now) }
+{
+    let mut count = 0;
+    for mark in marks {
+        if !*mark {
+            count += 1;
         }
-        _ => Err(Unstated::Reference),
+    }
+    count
+}
+
+// The place that a number is, which has this mark.
+fn place_marked(marks: &[bool], number: &i128, mark: bool) -> Result<usize, Unstated>
+    ensures ok { IfOk result (λ place. number.now ≡ pos place) }
+    ensures within { IfOk result (λ place. place < length marks.now) }
+    ensures refused { OnErr result ((place : ℕ) → number.now ≡ pos place → slice_get marks.now place ≡ Some mark → ⊥) }
+{
+    let place = place_in(number, marks.len())?;
+    let found = marks[place];
+    if found != mark {
+        return Err(Unstated::Reference);
+    }
+    Ok(place)
+}
+
+// The oneof of a field that isn't `optional`, by its place among the real ones.
+fn real_oneof(synthetic: &[bool], named: Option<i128>) -> Result<Option<u32>, Unstated>
+    ensures made { IfOk result (λ made. (own : Option ℕ) → IsMember synthetic.now named own → made ≡ own) }
+    ensures refused { OnErr result ((own : Option ℕ) → IfSome own (λ place. place < 2 ^ 32) → IsMember synthetic.now named own → ⊥) }
+{
+    let Some(number) = named else {
+        return Ok(None);
+    };
+    let place = place_marked(synthetic, &number, false)?;
+    let real = unmarked(&synthetic[..place]);
+    match u32::try_from(real) {
+        Ok(own) => Ok(Some(own)),
+        Err(_) => Err(Unstated::Reference),
     }
 }
 
-// Whether the field names an entry type.
-fn is_map(scope: &Scope<'_>, message: &Message) -> Result<bool, Unstated> {
-    let Some(name) = maybe_text(message, 6)? else {
-        return Ok(false);
-    };
-    let is_entry = matches!(resolved(scope.names, name)?, Named::Entry);
-    Ok(is_entry && number(message, 5) == MESSAGE_CODE)
-}
-
-// The presence and element of a map field: its entry type is that of its name, in its own message, and
-// named by no other field.
-fn map_parts(
-    alloc: Global,
-    scope: &mut Scope<'_>,
-    message: &Message,
-) -> Result<(Presence, Element), Unstated> {
-    ensure(label_of(message) == REPEATED)?;
-    let own = entry_name(alloc, text(message, 1)?)?;
-    let full = dotted_within(alloc, scope.name, &own)?;
-    ensure(maybe_text(message, 6)? == Some(full.as_str()))?;
-    let Some(entry) = scope.entries.remove(own.as_str()) else {
+// An `optional` field has a synthetic oneof to itself, where so many fields name each.
+fn is_alone(synthetic: &[bool], members: &[usize], named: Option<i128>) -> Result<(), Unstated>
+    ensures refused { OnErr result (IsAlone synthetic.now members.now named → ⊥) }
+{
+    let Some(number) = named else {
         return Err(Unstated::Reference);
     };
-    let (key, value) = key_and_value(alloc, scope.names, entry)?;
-    Ok((Presence::Map { key }, value))
-}
-
-// The place among the real oneofs of one that has this place among all.
-fn real_place(synthetic: &[bool], place: usize) -> Result<u32, Unstated> {
-    let mut real: u32 = 0;
-    for is_synthetic in synthetic.iter().take(place) {
-        if !*is_synthetic {
-            real = real.saturating_add(1);
-        }
+    let place = place_marked(synthetic, &number, true)?;
+    let Some(count) = members.get(place) else {
+        return Err(Unstated::Reference);
+    };
+    if *count != 1 {
+        return Err(Unstated::Reference);
     }
-    Ok(real)
+    Ok(())
 }
 
 // The oneof that a field stands in: none where it is `optional`, whose oneof is its own.
-fn oneof(scope: &Scope<'_>, message: &Message) -> Result<Option<u32>, Unstated> {
+fn oneof(scope: &Scope<'_>, message: &Message) -> Result<Option<u32>, Unstated>
+    ensures made { IfOk result (λ made. (f : StatedField) → flag_at 17 (message_of message.now) ≡ f.states_optional → StandsAt scope.now.synthetic.items scope.now.members.items (message_of message.now) f → made ≡ f.oneof) }
+    ensures refused { OnErr result ((f : StatedField) → flag_at 17 (message_of message.now) ≡ f.states_optional → IfSome f.oneof (λ place. place < 2 ^ 32) → StandsAt scope.now.synthetic.items scope.now.members.items (message_of message.now) f → ⊥) }
+{
+    let named = maybe_number(message, 9);
     let is_optional = flag(message, 17);
-    let Some(named) = maybe_number(message, 9) else {
-        ensure(!is_optional)?;
-        return Ok(None);
-    };
-    let place = place_in(&named, scope.synthetic.len())?;
-    let Some(is_synthetic) = scope.synthetic.get(place) else {
-        return Err(Unstated::Reference);
-    };
-    ensure(*is_synthetic == is_optional)?;
-    if is_optional {
-        ensure(scope.members.get(place) == Some(&1))?;
-        return Ok(None);
+    if !is_optional {
+        return real_oneof(&scope.synthetic, named);
     }
-    Ok(Some(real_place(&scope.synthetic, place)?))
+    is_alone(&scope.synthetic, &scope.members, named)?;
+    Ok(None)
 }
 
 // Whether a singular field of these items is explicit, where it is a member of a oneof or `optional`.
@@ -247,7 +215,8 @@ fn is_explicit(element: Element, member: bool, optional: bool) -> bool
 
 // The presence of a singular field.
 fn singular(element: Element, member: bool, optional: bool) -> Presence
-    ensures { (p : StatedPresence) → is_map p ≡ false → label p ≡ 1 → has_presence p element member optional ≡ true → result ≡ p }
+    ensures plain { is_map result ≡ false }
+    ensures made { (p : StatedPresence) → is_map p ≡ false → label p ≡ 1 → has_presence p element member optional ≡ true → result ≡ p }
 {
     let explicit = is_explicit(element, member, optional);
     if explicit {
@@ -258,7 +227,8 @@ fn singular(element: Element, member: bool, optional: bool) -> Presence
 
 // The presence of a repeated field.
 fn repeated(element: Element, stated: Option<bool>) -> Presence
-    ensures { (p : StatedPresence) → is_map p ≡ false → label p ≡ 3 → is_packed p element stated ≡ true → result ≡ p }
+    ensures plain { is_map result ≡ false }
+    ensures made { (p : StatedPresence) → is_map p ≡ false → label p ≡ 3 → is_packed p element stated ≡ true → result ≡ p }
 {
     let default = element.is_packable();
     let packed = stated.unwrap_or(default);
@@ -273,6 +243,7 @@ fn presence(
     packed: Option<bool>,
 ) -> Result<Presence, Unstated>
     ensures made { IfOk result (λ made. (p : StatedPresence) → StatesPresence (message_of message.now) element member packed p → made ≡ p) }
+    ensures plain { IfOk result (λ made. is_map made ≡ false) }
     ensures refused { OnErr result ((p : StatedPresence) → StatesPresence (message_of message.now) element member packed p → ⊥) }
 {
     let optional = flag(message, 17);
@@ -295,6 +266,7 @@ fn plain_parts(
 ) -> Result<(Presence, Element), Unstated>
     ensures made { IfOk result (λ made. (all : Declared) (e : StatedElement) (p : StatedPresence) → HasNames all names.now → StatesElement all (message_of message.now) e
         → StatesPresence (message_of message.now) e member packed p → (made.0 ≡ p) × (made.1 ≡ e)) }
+    ensures plain { IfOk result (λ made. is_map made.0 ≡ false) }
     ensures refused { OnErr result ((all : Declared) (e : StatedElement) (p : StatedPresence) → HasNames all names.now → StatesElement all (message_of message.now) e
         → StatesPresence (message_of message.now) e member packed p → ⊥) }
 {
@@ -315,27 +287,57 @@ fn json_name(alloc: Global, message: &Message) -> Result<String, Unstated>
     }
 }
 
-/// The field of a message. A number that isn't above 0 is told as 0, which may not stand either.
-pub fn made_field(
+// The presence and element of a field. The entry types are those that no field has named yet.
+fn parts<'a>(
     alloc: Global,
-    scope: &mut Scope<'_>,
+    scope: &Scope<'_>,
+    entries: &mut BTreeMap<String, &'a Message>,
     message: &Message,
-) -> Result<Field, Unstated> {
+    member: bool,
+    packed: Option<bool>,
+) -> Result<(Presence, Element), Unstated>
+    ensures made { IfOk result (λ made. (all : Declared) (f : StatedField) → StatesKnown all scope.now.names.now scope.now.name.now (message_of message.now) f → HasNamedEntry all entries.old f
+        → has_presence f.presence f.element member f.states_optional ≡ true → is_packed f.presence f.element packed ≡ true → (made.0 ≡ f.presence) × (made.1 ≡ f.element)) }
+    ensures left { IfOk result (λ made. (name : List ℕ) → get_by_text entries.new name
+        ≡ (if is_map made.0 && bytes_eq (entry_name (text_at 1 (message_of message.now))) name then None else get_by_text entries.old name)) }
+    ensures refused { IfErr result (λ r. (all : Declared) (f : StatedField) → StatesKnown all scope.now.names.now scope.now.name.now (message_of message.now) f → HasNamedEntry all entries.old f
+        → has_presence f.presence f.element member f.states_optional ≡ true → is_packed f.presence f.element packed ≡ true → r ≡ Memory) }
+{
+    let is_map = is_map(scope.names, message)?;
+    if !is_map {
+        return plain_parts(scope.names, message, member, packed);
+    }
+    ensure(!flag(message, 17))?;
+    map_parts(alloc, scope.names, scope.name, entries, message)
+}
+
+/// The field of a message. A number that isn't above 0 is told as 0, which may not stand either. The entry
+/// types are those that no field has named yet.
+pub fn made_field<'a>(
+    alloc: Global,
+    scope: &Scope<'_>,
+    entries: &mut BTreeMap<String, &'a Message>,
+    message: &Message,
+) -> Result<Field, Unstated>
+    ensures made { IfOk result (λ made. (all : Declared) (f : StatedField) → StatesFieldAt all scope.now.names.now scope.now.name.now scope.now.synthetic.items scope.now.members.items (message_of message.now) f
+        → HasNamedEntry all entries.old f → field_view made ≡ field_view f) }
+    ensures left { IfOk result (λ made. (name : List ℕ) → get_by_text entries.new name
+        ≡ (if is_map made.presence && bytes_eq (entry_name (text_at 1 (message_of message.now))) name then None else get_by_text entries.old name)) }
+    ensures refused { IfErr result (λ r. (all : Declared) (f : StatedField) → StatesFieldAt all scope.now.names.now scope.now.name.now scope.now.synthetic.items scope.now.members.items (message_of message.now) f
+        → HasNamedEntry all entries.old f → r ≡ Memory) }
+{
     let packed = option(message, 8, 2);
     let oneof = oneof(scope, message)?;
-    let (presence, element) = if is_map(scope, message)? {
-        ensure(!flag(message, 17))?;
-        map_parts(alloc, scope, message)?
-    } else {
-        plain_parts(scope.names, message, oneof.is_some(), packed)?
-    };
+    let (presence, element) = parts(alloc, scope, entries, message, oneof.is_some(), packed)?;
+    let name = String::from_str(alloc, text(message, 1)?)?;
+    let json_name = json_name(alloc, message)?;
     Ok(Field {
-        number: u32::try_from(number(message, 3)).unwrap_or(0),
-        name: String::from_str(alloc, text(message, 1)?)?,
+        number: count(message, 3),
+        name,
         presence,
         element,
         oneof,
-        json_name: json_name(alloc, message)?,
+        json_name,
         states_optional: flag(message, 17),
         options: FieldOptions {
             packed,

@@ -1,5 +1,23 @@
 //! Services and files of a schema, made of a set's messages.
 
+ghost use Rattle.std.specs.Prelude.{◌≡◌, ℕ, true, List, IfErr, IfOk, OnErr, length, map};
+ghost use Rattle.std.specs.List.{AllZip, list_all};
+ghost use Rattle.std.specs.String.{string_bytes};
+ghost use Rattle.pg_schema.specs.declared.field.TypeId.{TypeId as StatedId};
+ghost use Rattle.pg_schema.specs.declared.file.Import.{Import as StatedImport};
+ghost use Rattle.pg_schema.specs.declared.service.Method.{Method as StatedMethod};
+ghost use Rattle.pg_schema.specs.declared.service.Service.{Service as StatedService};
+ghost use Rattle.pg_schema.specs.DeclaredNames.{within};
+ghost use Rattle.pg_dyn.specs.Kept.{message_of};
+ghost use Rattle.pg_fds.specs.declared.error.Unstated.TheVariants.{Memory};
+ghost use Rattle.pg_fds.specs.Lent.{lent};
+ghost use Rattle.pg_fds.specs.Made.{HasNames};
+ghost use Rattle.pg_fds.specs.Places.{Declared};
+ghost use Rattle.pg_fds.specs.Said.{maybe_text_at, numbers_at, text_at, texts_at};
+ghost use Rattle.pg_fds.specs.StatesFiles.{StatesCalled, StatesMethod, StatesService, import_of, is_place, kept_imports};
+ghost use Rattle.pg_fds.specs.StatesTypes.{AreMarked};
+ghost use Rattle.pg_fds.specs.Views.{method_view, service_view};
+
 use crate::error::Unstated;
 use crate::file_states::{OPTIONS, is_left_out};
 use crate::made_fields::resolved;
@@ -12,7 +30,7 @@ use pg_schema::{
     File, FileOption, Import, Method, MethodOptions, OptimizeMode, OptionValue, Parts, Service,
     ServiceOptions, TypeId,
 };
-use std::alloc::Global;
+use std::alloc::{AllocError, Global};
 use std::collections::BTreeMap;
 
 // ---- services
@@ -22,33 +40,56 @@ fn called(
     names: &BTreeMap<String, Named>,
     message: &Message,
     number: u32,
-) -> Result<TypeId, Unstated> {
-    let Some(name) = maybe_text(message, number)? else {
+) -> Result<TypeId, Unstated>
+    ensures made { IfOk result (λ made. (all : Declared) (id : StatedId) → HasNames all names.now → StatesCalled all (maybe_text_at number (message_of message.now)) id → made ≡ id) }
+    ensures refused { OnErr result ((all : Declared) (id : StatedId) → HasNames all names.now → StatesCalled all (maybe_text_at number (message_of message.now)) id → ⊥) }
+{
+    let name = maybe_text(message, number)?;
+    let Some(name) = name else {
         return Err(Unstated::Reference);
     };
-    match resolved(names, name)? {
+    let named = resolved(names, name)?;
+    match named {
         Named::Type(id) => Ok(id),
         _ => Err(Unstated::Reference),
     }
+}
+
+fn method(
+    alloc: Global,
+    names: &BTreeMap<String, Named>,
+    message: &Message,
+) -> Result<Method, Unstated>
+    ensures made { IfOk result (λ made. (all : Declared) (d : StatedMethod) → HasNames all names.now → StatesMethod all (message_of message.now) d → method_view made ≡ method_view d) }
+    ensures refused { IfErr result (λ e. (all : Declared) (d : StatedMethod) → HasNames all names.now → StatesMethod all (message_of message.now) d → e ≡ Memory) }
+{
+    let name = String::from_str(alloc, text(message, 1)?)?;
+    let input = called(names, message, 2)?;
+    let output = called(names, message, 3)?;
+    Ok(Method {
+        name,
+        input,
+        output,
+        client_streaming: flag(message, 5),
+        server_streaming: flag(message, 6),
+        options: MethodOptions {
+            deprecated: option(message, 4, 33),
+        },
+    })
 }
 
 fn methods(
     alloc: Global,
     names: &BTreeMap<String, Named>,
     messages: &[&Message],
-) -> Result<Vec<Method>, Unstated> {
+) -> Result<Vec<Method>, Unstated>
+    ensures made { IfOk result (λ made. (all : Declared) (ds : List StatedMethod) → HasNames all names.now → AllZip (StatesMethod all) (map message_of (lent messages.now)) ds → map method_view made.items ≡ map method_view ds) }
+    ensures refused { IfErr result (λ e. (all : Declared) (ds : List StatedMethod) → HasNames all names.now → AllZip (StatesMethod all) (map message_of (lent messages.now)) ds → e ≡ Memory) }
+{
     let mut methods = Vec::new(alloc);
     for message in messages {
-        methods.push(Method {
-            name: String::from_str(alloc, text(message, 1)?)?,
-            input: called(names, message, 2)?,
-            output: called(names, message, 3)?,
-            client_streaming: flag(message, 5),
-            server_streaming: flag(message, 6),
-            options: MethodOptions {
-                deprecated: option(message, 4, 33),
-            },
-        })?;
+        let made = method(alloc, names, message)?;
+        methods.push(made)?;
     }
     Ok(methods)
 }
@@ -57,11 +98,18 @@ fn service(
     alloc: Global,
     names: &BTreeMap<String, Named>,
     outlined: &Outlined<'_>,
-) -> Result<Service, Unstated> {
+) -> Result<Service, Unstated>
+    ensures made { IfOk result (λ made. (all : Declared) (scope : List ℕ) (s : StatedService) → HasNames all names.now → string_bytes outlined.now.name ≡ within scope (text_at 1 (message_of outlined.now.message.now))
+        → StatesService all scope (message_of outlined.now.message.now) s → service_view made ≡ service_view s) }
+    ensures refused { IfErr result (λ e. (all : Declared) (scope : List ℕ) (s : StatedService) → HasNames all names.now → StatesService all scope (message_of outlined.now.message.now) s → e ≡ Memory) }
+{
     let message = outlined.message;
+    let name = outlined.name.clone()?;
+    let inside = children(alloc, message, 2)?;
+    let methods = methods(alloc, names, &inside)?;
     Ok(Service {
-        name: outlined.name.clone()?,
-        methods: methods(alloc, names, &children(alloc, message, 2)?)?,
+        name,
+        methods,
         options: ServiceOptions {
             deprecated: option(message, 3, 33),
         },
@@ -100,10 +148,18 @@ fn options(alloc: Global, message: &Message) -> Result<Vec<FileOption>, Unstated
     Ok(options)
 }
 
-// The imports of a file, without those that are skipped.
-fn imports(alloc: Global, skips: bool, message: &Message) -> Result<Vec<Import>, Unstated> {
-    let paths = texts(alloc, message, 3)?;
-    let public = marks(alloc, &numbers(alloc, message, 10)?, paths.len())?;
+// The imports of these paths, where those at places that are marked are public, without those that are
+// skipped.
+fn kept(
+    alloc: Global,
+    skips: bool,
+    public: &[i128],
+    marks: &[bool],
+    paths: &[&str],
+) -> Result<Vec<Import>, AllocError>
+    requires { AreMarked public.now (length paths.now) marks.now }
+    ensures { IfOk result (λ made. map import_of made.items ≡ kept_imports skips public.now 0 (lent paths.now)) }
+{
     let mut imports = Vec::new(alloc);
     for (place, path) in paths.iter().enumerate() {
         if is_left_out(skips, path) {
@@ -111,9 +167,22 @@ fn imports(alloc: Global, skips: bool, message: &Message) -> Result<Vec<Import>,
         }
         imports.push(Import {
             path: String::from_str(alloc, path)?,
-            is_public: public.get(place) == Some(&true),
+            is_public: marks[place],
         })?;
     }
+    Ok(imports)
+}
+
+// The imports of a file, without those that are skipped.
+fn imports(alloc: Global, skips: bool, message: &Message) -> Result<Vec<Import>, Unstated>
+    ensures made { IfOk result (λ made. map import_of made.items ≡ kept_imports skips (numbers_at 10 (message_of message.now)) 0 (texts_at 3 (message_of message.now))) }
+    ensures refused { IfErr result (λ e. (is : List StatedImport) → kept_imports skips (numbers_at 10 (message_of message.now)) 0 (texts_at 3 (message_of message.now)) ≡ map import_of is
+        → list_all (is_place (length (texts_at 3 (message_of message.now)))) (numbers_at 10 (message_of message.now)) ≡ true → e ≡ Memory) }
+{
+    let paths = texts(alloc, message, 3)?;
+    let public = numbers(alloc, message, 10)?;
+    let marks = marks(alloc, &public, paths.len())?;
+    let imports = kept(alloc, skips, &public, &marks, &paths)?;
     Ok(imports)
 }
 

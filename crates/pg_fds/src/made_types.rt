@@ -7,21 +7,25 @@ ghost use Rattle.std.specs.String.{string_bytes};
 ghost use Rattle.pg_schema.specs.declared.enum_type.EnumType.{EnumType as StatedEnum};
 ghost use Rattle.pg_schema.specs.declared.enum_type.EnumValue.{EnumValue as StatedValue};
 ghost use Rattle.pg_schema.specs.declared.enum_type.ReservedValues.{ReservedValues as StatedRange};
+ghost use Rattle.pg_schema.specs.declared.field.Field.{Field as StatedField};
 ghost use Rattle.pg_schema.specs.declared.message_type.ReservedFields.{ReservedFields as StatedFields};
 ghost use Rattle.pg_schema.specs.DeclaredNames.{within};
 ghost use Rattle.pg_schema.specs.UsedNumbers.{is_reserved_range};
 ghost use Rattle.pg_dyn.specs.Kept.{message_of};
 ghost use Rattle.pg_fds.specs.declared.error.Unstated.TheVariants.{Memory};
 ghost use Rattle.pg_fds.specs.Lent.{lent};
+ghost use Rattle.pg_fds.specs.Made.{HasEntries, StatesFieldAt};
+ghost use Rattle.pg_fds.specs.Places.{Declared};
 ghost use Rattle.pg_fds.specs.Said.{number_at, text_at};
 ghost use Rattle.pg_fds.specs.Small.{AreSmallEnds, IsSmallEnum, IsSmallValue};
 ghost use Rattle.pg_fds.specs.States.{StatesEnum, StatesFieldRange, StatesValue, StatesValueRange};
+ghost use Rattle.pg_fds.specs.Views.{field_view};
 
 use crate::error::Unstated;
 use crate::made_fields::{Scope, made_field};
 use crate::oneof_states::{marks, real_names, synthetic_places};
 use crate::outline::{Named, Outlined, OutlinedType};
-use crate::said::{children, ensure, maybe_number, number, option, place_in, text, texts};
+use crate::said::{children, count, ensure, maybe_number, number, option, place_in, text, texts};
 use crate::type_states::entries_of;
 use pg_dyn::Message;
 use pg_schema::{
@@ -127,13 +131,6 @@ pub fn made_enum(alloc: Global, outlined: &Outlined<'_>) -> Result<EnumType, Uns
 
 // ---- message types
 
-// The number, which is above 0 and one of 32 bits; any other is told as 0, which is no field's.
-fn count(message: &Message, field: u32) -> u32
-    ensures { (n : ℕ) → number_at field (message_of message.now) ≡ pos n → n < 2 ^ 32 → result ≡ n }
-{
-    u32::try_from(number(message, field)).unwrap_or(0)
-}
-
 // The reserved numbers, which end before the second number.
 fn field_range(message: &Message) -> ReservedFields
     ensures { (r : StatedFields) → StatesFieldRange (message_of message.now) r → is_reserved_range r ≡ true → result ≡ r }
@@ -183,17 +180,25 @@ fn entries<'a>(
     Ok(entries)
 }
 
-// The fields of the messages, in their order, each of whose entry types is named by one.
-fn fields(
+// The fields of the messages, in their order. Each of the entry types is named by one.
+fn fields<'a>(
     alloc: Global,
-    scope: &mut Scope<'_>,
+    scope: &Scope<'_>,
+    entries: BTreeMap<String, &'a Message>,
     messages: &[&Message],
-) -> Result<Vec<Field>, Unstated> {
+) -> Result<Vec<Field>, Unstated>
+    ensures made { IfOk result (λ made. (all : Declared) (fs : List StatedField) → HasEntries all entries.entry fs
+        → AllZip (StatesFieldAt all scope.now.names.now scope.now.name.now scope.now.synthetic.items scope.now.members.items) (map message_of (lent messages.now)) fs → map field_view made.items ≡ map field_view fs) }
+    ensures refused { IfErr result (λ e. (all : Declared) (fs : List StatedField) → HasEntries all entries.entry fs
+        → AllZip (StatesFieldAt all scope.now.names.now scope.now.name.now scope.now.synthetic.items scope.now.members.items) (map message_of (lent messages.now)) fs → e ≡ Memory) }
+{
+    let mut left = entries;
     let mut fields = Vec::new(alloc);
     for message in messages {
-        fields.push(made_field(alloc, scope, message)?)?;
+        let made = made_field(alloc, scope, &mut left, message)?;
+        fields.push(made)?;
     }
-    ensure(scope.entries.is_empty())?;
+    ensure(left.is_empty())?;
     Ok(fields)
 }
 
@@ -219,14 +224,14 @@ pub fn made_type(
     let synthetic = marks(alloc, &places, oneofs.len())?;
     let real = copies(alloc, &real_names(alloc, &oneofs, &places, &synthetic)?)?;
     let inside = children(alloc, message, 3)?;
-    let mut scope = Scope {
+    let entries = entries(alloc, &entries_of(alloc, &inside)?)?;
+    let scope = Scope {
         names,
         name: outlined.name.as_str(),
-        entries: entries(alloc, &entries_of(alloc, &inside)?)?,
         synthetic,
         members: member_counts(alloc, &own, oneofs.len())?,
     };
-    let mut fields = fields(alloc, &mut scope, &own)?;
+    let mut fields = fields(alloc, &scope, entries, &own)?;
     let declared = numbers(alloc, &fields)?;
     fields.sort_by_key(|field| field.number)?;
     Ok(MessageType {

@@ -1,7 +1,7 @@
 //! What the messages of a set say, by the numbers of their fields. An item of another kind than is asked for
 //! says what its kind says of that: a number no text, a text no number.
 
-ghost use Rattle.std.specs.Prelude.{◌≡◌, ◌<◌, false, pos, true, IfErr, IfOk, OnErr, OnOk, map, option_map};
+ghost use Rattle.std.specs.Prelude.{◌≡◌, ℕ, ◌<◌, ◌^◌, false, pos, true, IfErr, IfOk, OnErr, OnOk, map, option_map};
 ghost use Rattle.std.specs.List.{AllByRecursion};
 ghost use Rattle.std.specs.Option.{option_copied};
 ghost use Rattle.std.specs.Str.{IsUtf8};
@@ -19,7 +19,8 @@ use std::alloc::{AllocError, Global};
 
 /// What has to hold of a set that states a schema.
 pub fn ensure(holds: bool) -> Result<(), Unstated>
-    ensures { OnOk result (holds ≡ true) }
+    ensures ok { OnOk result (holds ≡ true) }
+    ensures refused { OnErr result (holds ≡ false) }
 {
     if !holds {
         return Err(Unstated::Reference);
@@ -188,6 +189,13 @@ pub fn number(message: &Message, number: u32) -> i128
         Some(found) => found,
         None => 0,
     }
+}
+
+/// The number of a singular field, which is above 0 and one of 32 bits; any other is told as 0.
+pub fn count(message: &Message, field: u32) -> u32
+    ensures { (n : ℕ) → number_at field (message_of message.now) ≡ pos n → n < 2 ^ 32 → result ≡ n }
+{
+    u32::try_from(number(message, field)).unwrap_or(0)
 }
 
 /// The numbers of a repeated field.

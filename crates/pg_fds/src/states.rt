@@ -1,14 +1,16 @@
 //! Whether the messages of a set state enums, fields and the entry types of map fields. What they don't
 //! state is told as a bad reference.
 
-ghost use Rattle.std.specs.Prelude.{◌≡◌, true, IfOk, OnOk, length, map, option_map, slice_get, IsSomeAnd};
+ghost use Rattle.std.specs.Prelude.{◌≡◌, true, IfErr, IfOk, OnErr, OnOk, length, map, option_map, slice_get, IsSomeAnd};
 ghost use Rattle.std.specs.List.{AllZip};
+ghost use Rattle.std.specs.Str.{IsUtf8};
 ghost use Rattle.std.specs.String.{string_bytes};
 ghost use Rattle.pg_schema.specs.DeclaredNames.{within};
 ghost use Rattle.pg_dyn.specs.Kept.{message_of};
+ghost use Rattle.pg_fds.specs.declared.error.Unstated.TheVariants.{Memory};
 ghost use Rattle.pg_fds.specs.Lent.{lent};
 ghost use Rattle.pg_fds.specs.Places.{declared_in};
-ghost use Rattle.pg_fds.specs.Said.{maybe_text_at};
+ghost use Rattle.pg_fds.specs.Said.{maybe_text_at, text_at};
 ghost use Rattle.pg_fds.specs.States.{StatesEnum, StatesEnums, StatesField, StatesFieldRange, StatesValue, StatesValueRange, json_name_at, label_at};
 
 use crate::error::Unstated;
@@ -23,7 +25,8 @@ use std::alloc::Global;
 
 /// The texts are one.
 pub fn same_text(found: &str, stated: &str) -> Result<(), Unstated>
-    ensures { OnOk result (found.now ≡ stated.now) }
+    ensures ok { OnOk result (found.now ≡ stated.now) }
+    ensures refused { OnErr result (found.now ≡ stated.now → ⊥) }
 {
     ensure(found == stated)
 }
@@ -147,7 +150,8 @@ pub fn label_of(message: &Message) -> i128
 
 /// The field has this JSON name, given or default.
 pub fn has_json_name(alloc: Global, message: &Message, stated: &str) -> Result<(), Unstated>
-    ensures { OnOk result (json_name_at (message_of message.now) ≡ stated.now) }
+    ensures ok { OnOk result (json_name_at (message_of message.now) ≡ stated.now) }
+    ensures refused { IfErr result (λ r. IsUtf8 (text_at 1 (message_of message.now)) → json_name_at (message_of message.now) ≡ stated.now → r ≡ Memory) }
 {
     match maybe_text(message, 10)? {
         Some(given) => same_text(given, stated),

@@ -16,8 +16,8 @@ returns c =
     let f = c.args.declared.now in
     let scope = c.as_str-scope.result.now in
     record {
-      name = sym c.in_ok-text.ensures.ok ∙ (c.in_ok-same_text.ensures ∙ c.deref-2.ensures);
-      package_name = sym c.in_ok-text-2.ensures.ok ∙ (c.in_ok-same_text-2.ensures ∙ c.as_str-scope.ensures.value);
+      name = sym c.in_ok-text.ensures.ok ∙ (c.in_ok-same_text.ensures.ok ∙ c.deref-2.ensures);
+      package_name = sym c.in_ok-text-2.ensures.ok ∙ (c.in_ok-same_text-2.ensures.ok ∙ c.as_str-scope.ensures.value);
       imports = imports_are c.args.skips c.deref-3.result.now c.in_ok-public.public.items (numbers_at 10 m) c.deref-5.result.now c.in_ok-paths.paths.items (texts_at 3 m) c.deref-6.result.now f.imports.items
           c.deref-3.ensures.value c.in_ok-public.ensures c.deref-5.ensures.value c.in_ok-paths.ensures.ok c.deref-6.ensures.value c.in_ok-kept_imports.ensures;
       imports_once = c.requires;
@@ -30,5 +30,5 @@ returns c =
       services = moved (StatesServices all) scope (string_bytes f.package) c.deref-11.result.now c.in_ok-children-2.field-0.items (children_at 6 m) c.deref-12.result.now f.services.items
           c.as_str-scope.ensures.value c.deref-11.ensures.value c.in_ok-children-2.ensures c.deref-12.ensures.value c.in_ok-services.ensures;
       options = subst (StatesOptions (options_at 8 m)) c.deref-13.ensures.value c.in_ok-options.ensures;
-      syntax = sym c.in_ok-is_proto3.ensures ∙ c.in_ok-ensure.ensures;
+      syntax = sym c.in_ok-is_proto3.ensures ∙ c.in_ok-ensure.ensures.ok;
     }

@@ -9,7 +9,7 @@ use Rattle.pg_fds.proofs.made_fields.presence.Goals as goal
 
 pub returns-then-label-ne-REPEATED-clause-made : goal.returns-then-label-ne-REPEATED-clause-made
 returns-then-label-ne-REPEATED-clause-made c = λ p states.
-    c.singular.ensures p states.no_map (label_one p (λ three. c.if-label-ne-REPEATED.true (ap (of_z w128) (c.label_of-label.ensures ∙ (states.label ∙ ap pos three)))))
+    c.singular.ensures.made p states.no_map (label_one p (λ three. c.if-label-ne-REPEATED.true (ap (of_z w128) (c.label_of-label.ensures ∙ (states.label ∙ ap pos three)))))
     (subst (λ b. has_presence p c.args.element c.args.member b ≡ true) (sym c.flag-optional.ensures) states.has)
 
 pub returns-then-optional-clause-refused : goal.returns-then-optional-clause-refused
@@ -23,4 +23,4 @@ pub returns-clause-made : goal.returns-clause-made
 returns-clause-made c = λ p states.
     let fits : SFits w128 c.label_of-label.result = search rules in
     let three : c.label_of-label.result ≡ pos 3 = sym (to_z-of_z w128 c.label_of-label.result fits) ∙ ap (to_z w128) c.if-label-ne-REPEATED.false in
-    c.repeated.ensures p states.no_map (ap nat_abs (sym states.label ∙ (sym c.label_of-label.ensures ∙ three))) states.packs
+    c.repeated.ensures.made p states.no_map (ap nat_abs (sym states.label ∙ (sym c.label_of-label.ensures ∙ three))) states.packs

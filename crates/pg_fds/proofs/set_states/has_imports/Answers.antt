@@ -8,6 +8,6 @@ use Rattle.pg_fds.proofs.set_states.has_imports.Goals as goal
 
 pub loop-import-preserved : goal.loop-import-preserved
 loop-import-preserved c = λ texts held.
-    let there : contains_text c.args.names.now (string_bytes c.import-item.result.path) ≡ true = ap (contains_text c.args.names.now) (sym c.as_str.ensures.value) ∙ (sym c.contains.ensures ∙ c.in_ok-ensure.ensures) in
+    let there : contains_text c.args.names.now (string_bytes c.import-item.result.path) ≡ true = ap (contains_text c.args.names.now) (sym c.as_str.ensures.value) ∙ (sym c.contains.ensures ∙ c.in_ok-ensure.ensures.ok) in
     all_step (λ (i : Import). is_among texts (string_bytes i.path)) c.args.imports.now c.loop-import.import-index c.import-item.result c.loop-import-test.true c.import-item.is
     (c.loop-import.invariant texts held) (sym (held (string_bytes c.import-item.result.path)) ∙ there)

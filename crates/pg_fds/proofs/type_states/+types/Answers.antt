@@ -17,10 +17,10 @@ loop-place-preserved t c =
     let inner = map message_of (lent c.as_slice-inner.result.now) in
     let all = declared_in c.args.source.now in
     λ later. c.loop-place.invariant (types_step (c.args.depth - 1) all c.args.scope.now c.args.messages.now ids i m id c.in-Some.declared.now inner
-    c.loop-place-test.true c.in_ok-ensure.ensures c.index-messages-place.is (λ k. same_default ids i first id k) (sym c.in-Some.ensures.exact) c.in_ok-own_type.ensures
+    c.loop-place-test.true c.in_ok-ensure.ensures.ok c.index-messages-place.is (λ k. same_default ids i first id k) (sym c.in-Some.ensures.exact) c.in_ok-own_type.ensures
     (inner_is (message_of m.now) c.as_slice.result.now c.in_ok-all.all.items c.as_slice-inner.result.now c.in_ok-inside.inside.items c.as_slice.ensures.value c.as_slice-inner.ensures.value c.in_ok-all.ensures c.in_ok-inside.ensures)
     (inside_is (c.args.depth - 1) all c.in-Some.declared.now inner c.as_str-name.result.now c.as_slice-inner_ids.result.now c.as_str-name.ensures.value c.as_slice-inner_ids.ensures.value c.in_ok-types.ensures) later)
 
 pub returns : goal.returns
 returns t c =
-    types_all c.args.depth (declared_in c.args.source.now) c.args.scope.now c.args.messages.now c.args.ids.now c.loop-place.place c.if-depth-eq0.false c.in_ok-ensure.ensures c.loop-place-test.false c.loop-place.invariant
+    types_all c.args.depth (declared_in c.args.source.now) c.args.scope.now c.args.messages.now c.args.ids.now c.loop-place.place c.if-depth-eq0.false c.in_ok-ensure.ensures.ok c.loop-place-test.false c.loop-place.invariant

@@ -1,0 +1,195 @@
+//! Map fields of a schema, made of a set's messages: each has an entry type of its own.
+
+ghost use Rattle.std.specs.Prelude.{◌≡◌, ℕ, pos, true, List, None, Some, length, map, IfErr, IfOk, OnErr, OnOk, if◌then◌else◌};
+ghost use Rattle.std.specs.BTreeMap.{get_by_text};
+ghost use Rattle.std.specs.Str.{bytes_eq};
+ghost use Rattle.std.specs.String.{string_bytes};
+ghost use Rattle.pg_schema.specs.declared.field.Element.{Element as StatedElement};
+ghost use Rattle.pg_schema.specs.declared.field.Element.TheVariants.{Scalar as ScalarElement};
+ghost use Rattle.pg_schema.specs.declared.field.Field.{Field as StatedField};
+ghost use Rattle.pg_schema.specs.declared.field.Scalar.{Scalar as StatedScalar};
+ghost use Rattle.pg_schema.specs.DeclaredNames.{entry_name};
+ghost use Rattle.pg_schema.specs.FieldRules.{is_known};
+ghost use Rattle.pg_schema.specs.JsonName.{default_json_name};
+ghost use Rattle.pg_schema.specs.Shape.{is_map};
+ghost use Rattle.pg_dyn.specs.Kept.{message_of};
+ghost use Rattle.pg_fds.specs.declared.error.Unstated.TheVariants.{Memory};
+ghost use Rattle.pg_fds.specs.Lent.{lent};
+ghost use Rattle.pg_fds.specs.Made.{HasNamedEntry, HasNames, StatesElement, StatesKnown, is_entry_type};
+ghost use Rattle.pg_fds.specs.Places.{Declared};
+ghost use Rattle.pg_fds.specs.Said.{maybe_text_at, text_at};
+ghost use Rattle.pg_fds.specs.States.{AreKeyAndValue, StatesEntry, StatesEntryField};
+
+use crate::codes::{MESSAGE_CODE, REPEATED};
+use crate::entry_states::{has_no_options, lacks, lacks_all};
+use crate::error::Unstated;
+use crate::made_fields::{element, resolved};
+use crate::names::{dotted_within, entry_name};
+use crate::outline::Named;
+use crate::said::{children, ensure, flag, maybe_text, number, option, text};
+use crate::states::{has_json_name, label_of, same_text};
+use pg_dyn::Message;
+use pg_schema::{Element, Presence, Scalar};
+use std::alloc::Global;
+use std::collections::BTreeMap;
+
+// The numbers are one.
+fn same_number(found: i128, stated: i128) -> Result<(), Unstated>
+    ensures refused { OnErr result (found ≡ stated → ⊥) }
+{
+    ensure(found == stated)
+}
+
+// ---- entry types
+
+// The key's or the value's field of an entry type: of that name and number, and nothing else.
+fn check_entry_field(
+    alloc: Global,
+    message: &Message,
+    name: &str,
+    place: i128,
+) -> Result<(), Unstated>
+    ensures refused { IfErr result (λ r. (all : Declared) (n : ℕ) (e : StatedElement) → place ≡ pos n → default_json_name name.now ≡ name.now → StatesEntryField all name.now n e (message_of message.now) → r ≡ Memory) }
+{
+    same_text(text(message, 1)?, name)?;
+    same_number(number(message, 3), place)?;
+    same_number(label_of(message), 1)?;
+    has_no_options(message, 8)?;
+    lacks(message, 9)?;
+    has_json_name(alloc, message, name)?;
+    ensure(!flag(message, 17))
+}
+
+// What a map's keys are. A type that may not be one is told as that of floats, which may not either.
+fn key(names: &BTreeMap<String, Named>, message: &Message) -> Result<Scalar, Unstated>
+    ensures made { IfOk result (λ made. (all : Declared) (s : StatedScalar) → HasNames all names.now → StatesElement all (message_of message.now) (ScalarElement s) → made ≡ s) }
+    ensures refused { OnErr result ((all : Declared) (s : StatedScalar) → HasNames all names.now → StatesElement all (message_of message.now) (ScalarElement s) → ⊥) }
+{
+    let element = element(names, message)?;
+    match element {
+        Element::Scalar(scalar) => Ok(scalar),
+        _ => Ok(Scalar::Float),
+    }
+}
+
+// The key and the value, by their fields.
+fn key_and_value(
+    alloc: Global,
+    names: &BTreeMap<String, Named>,
+    fields: &[&Message],
+) -> Result<(Scalar, Element), Unstated>
+    ensures made { IfOk result (λ made. (all : Declared) (k : StatedScalar) (v : StatedElement) → HasNames all names.now → is_known (length all.types) (length all.enums) v ≡ true
+        → AreKeyAndValue all k v (map message_of (lent fields.now)) → (made.0 ≡ k) × (made.1 ≡ v)) }
+    ensures refused { IfErr result (λ r. (all : Declared) (k : StatedScalar) (v : StatedElement) → HasNames all names.now → is_known (length all.types) (length all.enums) v ≡ true
+        → AreKeyAndValue all k v (map message_of (lent fields.now)) → r ≡ Memory) }
+{
+    match fields {
+        [first, second] => {
+            check_entry_field(alloc, first, "key", 1)?;
+            check_entry_field(alloc, second, "value", 2)?;
+            let key = key(names, first)?;
+            let value = element(names, second)?;
+            Ok((key, value))
+        }
+        _ => Err(Unstated::Reference),
+    }
+}
+
+// The key and the value of an entry type, which has nothing else.
+fn entry_parts(
+    alloc: Global,
+    names: &BTreeMap<String, Named>,
+    entry: &Message,
+) -> Result<(Scalar, Element), Unstated>
+    ensures made { IfOk result (λ made. (all : Declared) (f : StatedField) (k : StatedScalar) → HasNames all names.now → is_known (length all.types) (length all.enums) f.element ≡ true
+        → StatesEntry all f k (message_of entry.now) → (made.0 ≡ k) × (made.1 ≡ f.element)) }
+    ensures refused { IfErr result (λ r. (all : Declared) (f : StatedField) (k : StatedScalar) → HasNames all names.now → is_known (length all.types) (length all.enums) f.element ≡ true
+        → StatesEntry all f k (message_of entry.now) → r ≡ Memory) }
+{
+    lacks_all(entry, 3)?;
+    lacks_all(entry, 4)?;
+    ensure(option(entry, 7, 3).is_none())?;
+    lacks_all(entry, 8)?;
+    lacks_all(entry, 9)?;
+    lacks_all(entry, 10)?;
+    let fields = children(alloc, entry, 2)?;
+    key_and_value(alloc, names, &fields)
+}
+
+// The entry type of that name, which is taken out of these.
+fn taken<'a>(
+    entries: &mut BTreeMap<String, &'a Message>,
+    name: &str,
+) -> Result<&'a Message, Unstated>
+    ensures found { IfOk result (λ entry. get_by_text entries.old name.now ≡ Some entry) }
+    ensures left { OnOk result ((other : List ℕ) → get_by_text entries.new other ≡ (if bytes_eq name.now other then None else get_by_text entries.old other)) }
+    ensures refused { OnErr result (get_by_text entries.old name.now ≡ None) }
+{
+    match entries.remove(name) {
+        Some(entry) => Ok(entry),
+        None => Err(Unstated::Reference),
+    }
+}
+
+// ---- map fields
+
+fn is_entry_type(named: Named) -> bool
+    ensures { result ≡ is_entry_type named }
+{
+    match named {
+        Named::Entry => true,
+        Named::Package | Named::Type(_) | Named::Enum(_) | Named::Other => false,
+    }
+}
+
+/// Whether the field names an entry type.
+pub fn is_map(names: &BTreeMap<String, Named>, message: &Message) -> Result<bool, Unstated>
+    ensures made { IfOk result (λ made. (all : Declared) (scope : List ℕ) (f : StatedField) → StatesKnown all names.now scope (message_of message.now) f → made ≡ is_map f.presence) }
+    ensures refused { OnErr result ((all : Declared) (scope : List ℕ) (f : StatedField) → StatesKnown all names.now scope (message_of message.now) f → ⊥) }
+{
+    let name = maybe_text(message, 6)?;
+    let Some(name) = name else {
+        return Ok(false);
+    };
+    let named = resolved(names, name)?;
+    let is_entry = is_entry_type(named);
+    if !is_entry {
+        return Ok(false);
+    }
+    Ok(number(message, 5) == MESSAGE_CODE)
+}
+
+// The field names this type.
+fn names_type(message: &Message, full: &str) -> Result<(), Unstated>
+    ensures refused { OnErr result (maybe_text_at 6 (message_of message.now) ≡ Some full.now → ⊥) }
+{
+    let name = maybe_text(message, 6)?;
+    match name {
+        Some(name) => same_text(name, full),
+        None => Err(Unstated::Reference),
+    }
+}
+
+/// The presence and element of a map field of a message type of that full name: its entry type is that of
+/// its name among these, which no other field has then.
+pub fn map_parts<'a>(
+    alloc: Global,
+    names: &BTreeMap<String, Named>,
+    scope: &str,
+    entries: &mut BTreeMap<String, &'a Message>,
+    message: &Message,
+) -> Result<(Presence, Element), Unstated>
+    ensures made { IfOk result (λ made. (all : Declared) (f : StatedField) → StatesKnown all names.now scope.now (message_of message.now) f → is_map f.presence ≡ true → HasNamedEntry all entries.old f
+        → (made.0 ≡ f.presence) × (made.1 ≡ f.element)) }
+    ensures map { IfOk result (λ made. is_map made.0 ≡ true) }
+    ensures left { OnOk result ((name : List ℕ) → get_by_text entries.new name ≡ (if bytes_eq (entry_name (text_at 1 (message_of message.now))) name then None else get_by_text entries.old name)) }
+    ensures refused { IfErr result (λ r. (all : Declared) (f : StatedField) → StatesKnown all names.now scope.now (message_of message.now) f → is_map f.presence ≡ true → HasNamedEntry all entries.old f → r ≡ Memory) }
+{
+    same_number(label_of(message), REPEATED)?;
+    let own = entry_name(alloc, text(message, 1)?)?;
+    let full = dotted_within(alloc, scope, &own)?;
+    names_type(message, &full)?;
+    let entry = taken(entries, &own)?;
+    let (key, value) = entry_parts(alloc, names, entry)?;
+    Ok((Presence::Map { key }, value))
+}
