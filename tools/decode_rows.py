@@ -2,8 +2,7 @@
 """Makes the rows of crates/dyn_tests/src/tests: byte strings, and what python3-protobuf (its C++ core) reads and writes again.
 
 Run `/usr/bin/python3 tools/decode_rows.py crates/dyn_tests/src/tests`, then `rt fmt` in crates/dyn_tests. The rows are always the
-same. Those of rows.rt, wide_rows.rt and far_rows.rt leave out what is told apart by choice; each such difference has a row in apart_rows.rt,
-with its reason.
+same. Those of apart_rows.rt are what this crate and that runtime tell apart by choice, each with its reason; all others leave it out.
 """
 import random
 import sys
@@ -105,6 +104,27 @@ def far_schema():
     return kind_of(file, "F")
 
 
+KEYS = [LABEL.TYPE_INT32, LABEL.TYPE_INT64, LABEL.TYPE_UINT32, LABEL.TYPE_UINT64, LABEL.TYPE_SINT32, LABEL.TYPE_SINT64]
+KEYS += [LABEL.TYPE_FIXED32, LABEL.TYPE_FIXED64, LABEL.TYPE_SFIXED32, LABEL.TYPE_SFIXED64, LABEL.TYPE_BOOL, LABEL.TYPE_STRING]
+VALUES = [LABEL.TYPE_DOUBLE, LABEL.TYPE_FLOAT] + KEYS + [LABEL.TYPE_BYTES, LABEL.TYPE_ENUM, LABEL.TYPE_MESSAGE]
+
+
+def entry_schema():
+    """`message T`, the type of entry_rows.rt and between_rows.rt: a map to each type of value, with all types of keys in turn."""
+    file = descriptor_pb2.FileDescriptorProto(name="t.proto", syntax="proto3")
+    states = file.enum_type.add(name="E")
+    states.value.add(name="ZERO", number=0)
+    message = file.message_type.add(name="T")
+    add = adding(message)
+    for number, kind in enumerate(VALUES, 1):
+        add("f%d" % number, number, LABEL.TYPE_MESSAGE, LABEL.LABEL_REPEATED, ".T.F%dEntry" % number)
+        name = {LABEL.TYPE_ENUM: ".E", LABEL.TYPE_MESSAGE: ".T"}.get(kind)
+        add_entry(message, "F%dEntry" % number, KEYS[(number - 1) % 12], kind, name)
+    add("f18", 18, LABEL.TYPE_INT32)
+    add("f19", 19, LABEL.TYPE_STRING, LABEL.LABEL_REPEATED)
+    return kind_of(file, "T")
+
+
 def varint(n):
     out = b""
     while n > 127:
@@ -201,6 +221,66 @@ def far_records(r, depth):
     return front + b"".join(r.choice(members * 2 + others)() for _ in range(r.randrange(5, 10)))
 
 
+def item_of(kind, n):
+    """The wire type and body of an item of a type, by a number below 128."""
+    if kind in (LABEL.TYPE_DOUBLE, LABEL.TYPE_FIXED64, LABEL.TYPE_SFIXED64):
+        return 1, bytes([n]) + bytes(7)
+    if kind in (LABEL.TYPE_FLOAT, LABEL.TYPE_FIXED32, LABEL.TYPE_SFIXED32):
+        return 5, bytes([n]) + bytes(3)
+    if kind in (LABEL.TYPE_STRING, LABEL.TYPE_BYTES):
+        return 2, bytes([n])
+    if kind == LABEL.TYPE_MESSAGE:
+        return 2, record(18, 0, varint(n)) + record(19, 2, bytes([n]))
+    return 0, varint(n % 2 if kind == LABEL.TYPE_BOOL else n)
+
+
+def other_wire(kind):
+    """A wire type that no item of the type has, and a body of it."""
+    return (0, varint(6)) if item_of(kind, 1)[0] != 0 else (2, varint(6))
+
+
+def each_entry():
+    """Of each map entries with and without key and value, in both orders, twice, and with records that neither takes between them."""
+    rows = []
+    for number, kind in enumerate(VALUES, 1):
+        key = KEYS[(number - 1) % 12]
+        k = lambda n: record(1, *item_of(key, n))
+        v = lambda n: record(2, *item_of(kind, n))
+        between = [record(3, 0, varint(6)), record(1, *other_wire(key)), record(2, *other_wire(kind))]
+        bodies = [[], [k(3)], [v(5)], [v(5), k(3)], [k(3), v(5), v(0), k(2)], [v(0), k(3), v(5), k(0)], [between[0], k(3), between[1], v(5), between[2]]]
+        rows += [record(number, 2, b"".join(body)) for body in bodies]
+    return rows
+
+
+# Entries of `T`, in hexadecimal: one key twice, with messages that aren't merged, and words that are one key.
+ENTRIES = [
+    "8a 01 06 08 04 12 02 90 01", "8a 01 07 08 04 12 03 90 01 05 8a 01 08 08 04 12 04 9a 01 01 61", "8a 01 07 12 03 90 01 05 08 04 8a 01 02 08 04",
+    "8a 01 06 12 04 f8 01 81 01", "6a 04 08 05 10 01 6a 08 08 85 80 80 80 10 10 00", "5a 07 08 01 15 05 00 00 00 5a 07 08 02 15 06 00 00 00", "1a 03 0a 01 05",
+    "62 03 0a 01 61 62 04 0a 02 61 62 62 02 0a 00 62 03 0a 01 5a",
+]
+
+
+def entries_between(r, depth):
+    """Entries of few keys in any order, with other records between them."""
+    kinds = []
+    # a map by numbers, one by texts and one to messages
+    for number in [3, 12, 17]:
+        key, kind = KEYS[(number - 1) % 12], VALUES[number - 1]
+
+        def one(number=number, key=key, kind=kind):
+            parts = [record(1, *item_of(key, r.randrange(3))), record(2, *item_of(kind, r.randrange(100)))]
+            return record(number, 2, b"".join(r.sample(parts, r.choice([1, 2, 2, 2]))))
+
+        kinds += [one, one]
+    kinds += [
+        lambda: record(18, 0, varint(r.randrange(3))),
+        lambda: record(19, 2, text(r)),
+        lambda: record(30, 0, varint(r.randrange(100))),
+        lambda: record(3, 0, varint(r.randrange(100))),
+    ]
+    return b"".join(r.choice(kinds)() for _ in range(r.randrange(4, 12)))
+
+
 def look(message):
     """Has the runtime make its maps, in all messages inside."""
     for field, value in message.ListFields():
@@ -252,13 +332,65 @@ def made_rows(kind, records, count, seed, longest=60):
 def write_rows(path, rows):
     with open(path, "w", encoding="utf-8") as out:
         print("//! Made by tools/decode_rows.py: bytes, and those that python3-protobuf writes again; none where it refuses them.", file=out)
-        # one test over all of them is too large to be proved
-        for first in range(0, len(rows), 10):
-            part = rows[first : first + 10]
-            print("\npub(super) static ROWS_%d: [(&[u8], Option<&[u8]>); %d] = [" % (first // 10 + 1, len(part)), file=out)
+        # more in one list are too many to be proved at once
+        for first in range(0, len(rows), 20):
+            part = rows[first : first + 20]
+            print("\npub(super) static ROWS_%d: [(&[u8], Option<&[u8]>); %d] = [" % (first // 20 + 1, len(part)), file=out)
             for data, back in part:
                 print("    (%s, %s)," % (literal(data), option(back)), file=out)
             print("];", file=out)
+
+
+NINE = "80" * 9
+
+# Bytes of `M`, in hexadecimal, that are written in an odd way or are no message.
+ODD = [
+    # groups that no end closes, or an end by another number, or one beyond the message that holds them, and ends inside a message
+    "4b", "4b 54", "4b 4b 4c", "13", "0b 14", "0a 01 4b 4c", "0a 01 4c", "0a 01 0c", "22 01 4b 4c", "22 01 4c", "2a 03 4b 10 05", "32 01 4b",
+    # the wire types 6 and 7
+    "16", "17 05", "4e 05", "10 05 4f", "0a 02 4f 05", "22 02 0e 05",
+    # tags, lengths and words that are longer than needed, up to too long
+    "90 00 05", "90 80 80 80 00 05", "90" + NINE + "00 05", "32 81 00 61", "32 81 80 80 80 00 61", "32 81" + NINE + "00 61", "22 84 00 08 85 00 12",
+    "10 85 00", "10 85 80 80 80 80 80 80 80 80 00", "10 85" + NINE + "00", "10" + NINE, "18 82 80 80 00 1a 03 84 80 00", "22 05 08 85 80 80 00",
+    # words of ten bytes with bits above 64
+    "10 85 80 80 80 80 80 80 80 80 7e", "10" + "ff" * 9 + "7f", "10" + NINE + "02", "10 05 10" + NINE + "7e", "1a 0b" + NINE + "7e 02", "18" + "ff" * 9 + "03",
+    "22 0b 08" + NINE + "7e", "22 0b 08" + "ff" * 9 + "41",
+    # fields of the number 0
+    "02 00", "01 00 00 00 00 00 00 00 00", "05 00 00 00 00", "03", "06", "0a 01 00", "0a 02 00 05", "22 01 00", "22 02 00 05", "2a 02 02 00", "10 05 02 01 61",
+    # the greatest number of a field, numbers that none may have, and tags of more than 32 bits
+    "f8 ff ff ff 0f 05", "fa ff ff ff 0f 01 61", "fd ff ff ff 0f 01 02 03 04", "c0 a3 09 05", "fa bf 09 00", "f8 ff ff ff ff 00 05", "0a 06 f8 ff ff ff 0f 05",
+    # bodies that are cut off
+    "3d", "3d 01 02 03", "15 00 00 00", "11 00 00 00 00 00 00 00", "11", "0d 00 00 00", "0a 03 3d 00 00", "10", "10 80", "32", "32 05 61", "0a 05 10 05",
+    "22 03 08 80 80", "22 02 12 01", "22 04 15 00 00 00", "0a 02 10 80 10 05", "2a 03 0a 02 10 05", "32 ff ff ff ff 07", "0a ff ff ff ff ff ff ff ff ff 01",
+    # packed lists that end in an item
+    "1a 01 80", "1a 03 02 80 80", "1a 02 80 80 00", "1a 0b 80" + NINE + "01", "1a 0c" + NINE + "01 80 00", "1a 05 02",
+    # lists, and items of another wire type, where the field takes none of them
+    "12 01 05", "12 00", "12 02 05 06 10 07", "3a 04 01 00 00 00", "32 01 61 3a 04 00 00 00 00", "3d 01 00 00 00 30 05", "08 05", "0d 00 00 00 00", "28 05",
+    "20 05", "25 00 00 00 00", "1d 00 00 00 00", "19 00 00 00 00 00 00 00 00", "22 06 0a 01 05 12 01 61", "22 05 08 05 12 01 61", "22 04 08 05 10 06",
+    # texts with a zero, at the edges of UTF-8, and that are none
+    "32 01 00", "32 03 ef bf bf", "32 04 f4 8f bf bf", "32 02 c0 80", "32 03 ed a0 80", "32 03 e0 80 80", "32 04 f4 90 80 80", "32 02 c3 28", "32 01 c3",
+    "32 01 80", "22 05 12 03 ed a0 80", "32 01 c3 32 02 c3 a4", "32 01 ff 3d 00 00 00 00",
+]
+
+# The same of `W`.
+ODD_WIDE = [
+    # words and packed lists of words, fixed and not, that are cut off
+    "1a 07 00 00 00 00 00 00 00", "1a 09 00 00 00 00 00 00 00 00 00", "1a 0f" + "00" * 15, "22 03 00 00 00", "22 05 00 00 00 00 00", "19 00 00 00 00 00 00 00",
+    "25 00 00 00", "71 00 00 00 00", "12 01 80", "12 02 02 80", "0a 01 80", "0a 02 80 80", "32 01 ff", "32 0b" + "ff" * 10 + "01", "4a 08 11 00 00 00 00 00 00 00",
+    # words of ten bytes with bits above 64
+    "12 0a" + NINE + "02", "12 0a" + NINE + "03", "10" + NINE + "7e", "42 0b 08" + NINE + "02", "42 0d 08" + NINE + "7f 12 00", "28" + NINE + "02",
+    "28" + "ff" * 9 + "7f", "32 0a" + "ff" * 9 + "7f", "60" + "ff" * 9 + "7f", "60" + NINE + "02", "68" + "ff" * 9 + "7f", "68" + NINE + "7e", "0a 0a" + "ff" * 9 + "7f",
+    "4a 0b 08" + "ff" * 9 + "7f",
+    # lists, and items of another wire type, where the field takes none of them
+    "0d 00 00 00 00", "09 00 00 00 00 00 00 00 00", "15 00 00 00 00", "1d 00 00 00 00", "18 05", "21 00 00 00 00 00 00 00 00", "20 05", "2a 01 05", "2d 05 00 00 00",
+    "35 05 00 00 00", "62 01 05", "6a 01 05", "72 08 00 00 00 00 00 00 00 00", "75 00 00 00 00", "50 05", "58 05", "5a 01 61 50 05", "52 00 58 05", "38 05",
+    "3a 02 10 05", "3a 05 12 03 d8 01 05", "3a 0a 12 03 d8 01 05 12 03 d8 01 06", "3a 04 0a 00 15 00", "42 02 0a 00", "42 02 10 05", "4a 02 0a 00", "4a 05 15 00 00 00 00", "4a 06 08 05 12 02 00 00",
+    # a message in a oneof: its bodies are joined, unless a record of another member that its field takes stands between them
+    "52 02 60 05 52 02 08 01", "52 02 60 05 58 05 52 02 08 01", "52 02 60 05 5a 01 61 52 02 08 01", "52 02 60 05 5a 00 52 02 08 01", "52 02 60 05 5a 00",
+    "5a 01 61 52 00", "52 02 60 05 50 05", "52 02 60 05 52 02 60 00",
+    # lists of nothing, beside items
+    "0a 00", "12 00", "1a 00", "22 00", "32 00", "0a 00 08 05 0a 00", "1a 00 19 05 00 00 00 00 00 00 00 1a 00",
+]
 
 
 def nest(levels):
@@ -278,6 +410,17 @@ APART = [
     (b"\x22\x80\x80\x80\x80\x80\x00", b"\x22\x04\x08\x00\x12\x00", "a length may have up to ten bytes here; the runtime takes five"),
     (b"\x90\x80\x80\x80\x10\x05", None, "a tag of 2^32 and more has no field's number; the runtime drops what is above 32 bits"),
     (b"\x48\x81\x00", b"\x48\x81\x00", "an unknown record stays byte for byte; the runtime writes its varint with the fewest bytes"),
+    (b"\x0a\x02\x4b\x4c", None, "a group is no record here, inside a message neither; the runtime keeps it there"),
+    (b"\x22\x02\x4b\x4c", None, "a group is no record here, inside an entry neither; the runtime keeps it until its map is read"),
+    (b"\x13\x10\x05\x14", None, "a group is no record here, of a field's number neither; the runtime keeps it as unknown"),
+    (b"\x10\x05\x0c\x10\x07", None, "an end of a group is no record here; the runtime ends the message at it, whatever follows"),
+    (b"\x04", None, "no field has the number 0; the runtime ends the message at an end of a group of it"),
+    (b"\x80\x00\x10\x05", None, "no field has the number 0, in a longer tag neither; the runtime ends the message at it"),
+    (b"\xf8\xff\xff\xff\x1f\x05", None, "a tag of 2^32 and more has no field's number; the runtime keeps it as one of 32 bits"),
+    (b"\x80\x80\x80\x80\x10\x05", None, "a tag of 2^32 has no field's number; the runtime takes it for the byte 0"),
+    (b"\x48" + b"\xff" * 9 + b"\x7f", b"\x48" + b"\xff" * 9 + b"\x7f", "an unknown record stays byte for byte; the runtime drops bits above 64"),
+    (b"\xc8\x00\x05", b"\xc8\x00\x05", "an unknown record stays byte for byte; the runtime writes its tag with the fewest bytes"),
+    (b"\x4a\x81\x00\x61", b"\x4a\x81\x00\x61", "an unknown record stays byte for byte; the runtime writes its length with the fewest bytes"),
     (b"\x22\x04\x18\x07\x08\x05", b"\x22\x04\x08\x05\x12\x00", "unknown records of an entry go at once; the runtime keeps them until its map is read"),
     (b"\x22\x02\x08\x05\x22\x02\x08\x05", b"\x22\x04\x08\x05\x12\x00", "of equal keys the last entry stays; the runtime keeps both until its map is read"),
     (nest(100), None, "100 levels are too deep here; the runtime takes 100 below the first"),
@@ -296,13 +439,26 @@ def write_apart(path, kind):
         print("];", file=out)
 
 
+def read_rows(kind, words):
+    """Rows of bytes in hexadecimal."""
+    return [(bytes.fromhex(word), again(kind, bytes.fromhex(word))) for word in words]
+
+
 def main():
     # a runtime in Python alone reads otherwise
     assert api_implementation.Type() == "cpp"
     folder = sys.argv[1]
-    write_rows(folder + "/rows.rt", made_rows(schema(), records, 220, 18))
+    rows = made_rows(schema(), records, 220, 18)
+    # all in one file are too many lines to read
+    write_rows(folder + "/rows.rt", rows[:110])
+    write_rows(folder + "/more_rows.rt", rows[110:])
     write_rows(folder + "/wide_rows.rt", made_rows(wide_schema(), wide_records, 60, 19))
     write_rows(folder + "/far_rows.rt", made_rows(far_schema(), far_records, 4, 20, longest=200))
+    write_rows(folder + "/odd_rows.rt", read_rows(schema(), ODD))
+    write_rows(folder + "/odd_wide_rows.rt", read_rows(wide_schema(), ODD_WIDE))
+    kind = entry_schema()
+    write_rows(folder + "/entry_rows.rt", [(data, again(kind, data)) for data in each_entry()] + read_rows(kind, ENTRIES))
+    write_rows(folder + "/between_rows.rt", made_rows(kind, entries_between, 30, 21, longest=120))
     write_apart(folder + "/apart_rows.rt", schema())
 
 

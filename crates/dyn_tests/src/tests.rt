@@ -1,99 +1,38 @@
 //! Messages. The bytes are those of the public encoding guide and of the Python runtime.
 mod apart_rows;
+mod between_rows;
 mod copying;
+mod depths;
+mod entries;
+mod entry_rows;
 mod far_rows;
 mod maps;
 mod memory;
+mod more_rows;
 mod nested;
 mod numbers;
+mod odd_rows;
+mod odd_wide_rows;
 mod outside;
 mod reading;
 mod rows;
 mod runtime;
+mod schemas;
 mod setting;
+mod shaped;
 mod shapes;
 mod wide;
 mod wide_rows;
 mod writing;
 
 use pg_dyn::{Content, DynError, Message, Value, decode, encode, fits};
-use pg_schema::{
-    Element, Field, FieldOptions, File, MessageOptions, MessageType, Parts, PartsError, Presence,
-    Scalar, Schema, TypeId,
-};
-use std::alloc::{AllocError, Global};
+use pg_schema::{Schema, TypeId};
+use std::alloc::Global;
+use std::process::Abort;
 use std::test::Fail;
 
 /// The type of `schema_of`.
 const M: TypeId = TypeId { index: 0 };
-
-fn field(alloc: Global, number: u32, scalar: Scalar) -> Result<Field, AllocError> {
-    Ok(Field {
-        number,
-        name: format!(in alloc; "f{number}")?,
-        presence: Presence::Implicit,
-        element: Element::Scalar(scalar),
-        oneof: None,
-        json_name: format!(in alloc; "f{number}")?,
-        states_optional: false,
-        options: FieldOptions {
-            packed: None,
-            deprecated: None,
-        },
-    })
-}
-
-/// A file without a package that declares the type of `schema_of`.
-fn file(alloc: Global) -> Result<File, AllocError> {
-    Ok(File {
-        name: String::from_str(alloc, "m.proto")?,
-        package: String::new(alloc),
-        imports: Vec::new(alloc),
-        types: vec![in alloc; M]?,
-        enums: Vec::new(alloc),
-        services: Vec::new(alloc),
-        options: Vec::new(alloc),
-    })
-}
-
-/// The schema of one message type with a field for each of these numbers, which rise.
-fn schema_of(alloc: Global, scalars: &[(u32, Scalar)]) -> Result<Schema, Fail> {
-    let mut fields = Vec::new(alloc);
-    for (number, scalar) in scalars {
-        fields.push(field(alloc, *number, *scalar)?)?;
-    }
-    schema_from(alloc, fields, Vec::new(alloc))
-}
-
-/// The schema of one message type with these fields, by rising number, and these oneofs.
-fn schema_from(alloc: Global, fields: Vec<Field>, oneofs: Vec<String>) -> Result<Schema, Fail> {
-    let mut declared = Vec::new(alloc);
-    for field in &fields {
-        declared.push(field.number)?;
-    }
-    let message_type = MessageType {
-        name: String::from_str(alloc, "M")?,
-        fields,
-        declared,
-        oneofs,
-        nested_types: Vec::new(alloc),
-        nested_enums: Vec::new(alloc),
-        reserved_numbers: Vec::new(alloc),
-        reserved_names: Vec::new(alloc),
-        options: MessageOptions { deprecated: None },
-    };
-    let parts = Parts {
-        files: vec![in alloc; file(alloc)?]?,
-        types: vec![in alloc; message_type]?,
-        enums: Vec::new(alloc),
-        services: Vec::new(alloc),
-    };
-    match Schema::from_parts(alloc, parts) {
-        Ok(schema) => Ok(schema),
-        Err((PartsError::Memory, _)) => Err(Fail::from(AllocError)),
-        Err((PartsError::Invariant, _)) => Err(Fail::from("the parts make no schema")),
-    }
-}
 
 /// The message that the bytes are read as, by the type of `schema_of`.
 fn read(alloc: Global, schema: &Schema, bytes: &[u8]) -> Result<Message, DynError> {
@@ -147,5 +86,52 @@ fn int_at(message: &Message, number: u32) -> Option<i128> {
     match message.get(number) {
         Some(Content::One(Value::Int(found))) => Some(*found),
         _ => None,
+    }
+}
+
+/// Asserts that these are the bytes.
+fn is_bytes(rt: &impl Abort, found: &[u8], wanted: &[u8]) {
+    assert_eq!(rt; found, wanted);
+}
+
+/// The message is written as these bytes.
+fn writes<R: Abort + AllocGlobal>(
+    rt: &R,
+    schema: &Schema,
+    message: &Message,
+    wanted: &[u8],
+) -> Result<(), Fail> {
+    is_bytes(rt, &write(rt.alloc(), schema, message)?, wanted);
+    Ok(())
+}
+
+/// The field takes the content.
+fn sets(rt: &impl Abort, schema: &Schema, message: &mut Message, number: u32, content: Content) {
+    assert!(rt;
+        set(schema, message, number, content).is_ok(),
+        "field {number}"
+    );
+}
+
+/// The field refuses the content, with that error.
+fn refuses(
+    rt: &impl Abort,
+    schema: &Schema,
+    message: &mut Message,
+    number: u32,
+    content: Content,
+    wanted: DynError,
+) {
+    match set(schema, message, number, content) {
+        Err((error, _)) => assert_eq!(rt; error, wanted, "field {number}"),
+        Ok(()) => panic!(rt; "field {number} takes the content"),
+    }
+}
+
+/// Asserts that these are the bytes, or memory was refused.
+fn is_or_lacks_memory(rt: &impl Abort, found: Result<Vec<u8>, DynError>, wanted: &[u8]) {
+    match found {
+        Ok(found) => assert_eq!(rt; found.as_slice(), wanted),
+        Err(error) => assert_eq!(rt; error, DynError::Memory),
     }
 }

@@ -14,10 +14,14 @@ use pg_least::{find, search};
 use pg_pairs::Pair;
 use pg_schema::{Schema, TypeId};
 use std::alloc::Global;
+use std::process::Abort;
 use std::test::Fail;
 
-/// Each pair's types, and its bound, in the table's order.
-pub(crate) type Rows = Vec<(u32, u32, Option<u32>)>;
+/// A pair's types, and its bound.
+pub(crate) type Row = (u32, u32, Option<u32>);
+
+/// These in the table's order.
+pub(crate) type Rows = Vec<Row>;
 
 /// The pair of the types at that place of both schemas.
 pub(crate) fn same(index: u32) -> Pair {
@@ -121,4 +125,34 @@ pub(crate) fn searched(
         return Err(Fail::from("the checker says something else"));
     }
     Ok((rows, bytes))
+}
+
+/// A search of the pair's types has just this table and this witness.
+pub(crate) fn finds<R: Abort + AllocGlobal>(
+    rt: &R,
+    old: &[&[Line]],
+    new: &[&[Line]],
+    root: Pair,
+    wanted: &[Row],
+    witness: Option<&[u8]>,
+) -> Result<(), Fail> {
+    let (rows, bytes) = searched(rt.alloc(), old, new, root)?;
+    assert_eq!(rt; rows.as_slice(), wanted);
+    assert_eq!(rt; bytes.as_deref(), witness);
+    Ok(())
+}
+
+/// The same of a witness of that length.
+pub(crate) fn finds_of_length<R: Abort + AllocGlobal>(
+    rt: &R,
+    old: &[&[Line]],
+    new: &[&[Line]],
+    root: Pair,
+    wanted: &[Row],
+    length: usize,
+) -> Result<(), Fail> {
+    let (rows, bytes) = searched(rt.alloc(), old, new, root)?;
+    assert_eq!(rt; rows.as_slice(), wanted);
+    assert_eq!(rt; bytes.map(|bytes| bytes.len()), Some(length));
+    Ok(())
 }

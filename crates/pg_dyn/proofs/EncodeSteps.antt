@@ -1,5 +1,5 @@
 -- The bytes and the lengths of a message, content by content.
-use Rattle.std.proofs.Common.{◌⊎◌, inl, inr, nat_lt, ◌≡◌, ℕ, zero, suc, ◌+◌, ◌<◌, ◌≤◌, List, [], ◌∷◌, ◌++◌, Vec, Global, length, take, drop, get_or, map, flat_map, Bool, true, false, Option, Some, None, Result, Ok, Err, IfOk, refl, ap, ap₂, sym, subst, ◌∙◌, arith, add-one, append_assoc, length-append}
+use Rattle.std.proofs.Common.{◌⊎◌, ⊎_elim, inl, inr, nat_lt, ◌≡◌, ℕ, zero, suc, ◌+◌, ◌-◌, ◌<◌, ◌≤◌, List, [], ◌∷◌, ◌++◌, Vec, Global, length, take, drop, get_or, map, flat_map, Bool, true, false, Option, Some, None, Result, Ok, Err, IfOk, refl, ap, ap₂, sym, subst, ◌∙◌, arith, add-one, append_assoc, length-append}
 use Rattle.std.proofs.lemmas.List.{append-nil}
 use Rattle.std.proofs.Common.{take_all}
 use Rattle.std.proofs.lemmas.Bool.{ltb-true, ltb-false}
@@ -15,6 +15,7 @@ use Rattle.pg_schema.specs.Shape.{Shape, FieldShape, IsField, IsShape, PresenceF
 use Rattle.pg_wire.specs.declared.record.WireType.{WireType}
 use Rattle.pg_wire.specs.declared.record.WireType.TheVariants.{Len}
 use Rattle.pg_wire.specs.Records.{WireRecord, length_before, tag, written}
+use Rattle.pg_dyn.specs.declared.error.DynError.{DynError}
 use Rattle.pg_dyn.specs.declared.message.Content.{Content}
 use Rattle.pg_dyn.specs.declared.message.Content.TheVariants as contents
 use Rattle.pg_dyn.specs.declared.message.UnknownRecord.{UnknownRecord}
@@ -27,15 +28,15 @@ use Rattle.pg_dyn.specs.EncodedFields.{content_bytes, content_records, record_by
 use Rattle.pg_dyn.specs.Encoding.{enc}
 use Rattle.pg_dyn.specs.Kept.{Kept, ends, message_of}
 use Rattle.pg_dyn.specs.ScalarItems.{IsItemOf}
-use Rattle.pg_dyn.specs.Seen.{IsKey, Rises, content_onto, entries_onto, fields_onto, items_onto, leaf_of, record_seen, value_onto}
+use Rattle.pg_dyn.specs.Seen.{IsKey, Rises, fields_onto, leaf_of, record_seen}
 use Rattle.pg_dyn.specs.Writing.{bytes_of, entry_bytes, field_records, item_record}
-use Rattle.pg_dyn.specs.Written.{CanBePacked, LeafFits, capped, content_lengths, content_written, entry_record, field_written, inner_lengths, item_bytes, item_leaf, own_bytes, packed_body, packed_bytes, value_lengths, written_by}
+use Rattle.pg_dyn.specs.Written.{CanBePacked, LeafFits, MayNotWrite, capped, content_written, entry_record, field_written, item_bytes, item_leaf, own_bytes, packed_body, packed_bytes, value_lengths, written_by}
 use Rattle.pg_dyn.proofs.Belonging.{child_type_is, fields-IsType}
 use Rattle.pg_dyn.proofs.EncodedFields.{encodes_by_fields}
 use Rattle.pg_dyn.proofs.Fields.{field_of}
 use Rattle.pg_dyn.proofs.ItemLeaves.{item_is_key}
 use Rattle.pg_dyn.proofs.KeptParts.{fields_keep}
-use Rattle.pg_dyn.proofs.Lists.{each_weaker, flat_map-append', flat_map_same, each_at}
+use Rattle.pg_dyn.proofs.Lists.{each_at, each_at_index, each_weaker, each_within, flat_map-append', flat_map_same}
 use Rattle.pg_dyn.proofs.Splitting.{found_number}
 
 -- a record's bytes are its tag, its length and its body
@@ -45,6 +46,10 @@ record_is n w b = refl
 
 pub record_size : (n : ℕ) (w : WireType) (b : List ℕ) → length (written n w b).bytes ≡ length (tag n w) + length (length_before w b) + length b
 record_size n w b = let whole = ap length (record_is n w b) in omega (arith, whole, length-append (tag n w ++ length_before w b) b, length-append (tag n w) (length_before w b))
+
+-- what is longer may not be written for the same reason
+pub longer : (m n : ℕ) (e : DynError) → m ≤ n → MayNotWrite m e → MayNotWrite n e
+longer m n e within why = ⊎_elim inl (λ told. inr (told.0, omega (arith, told.1, within))) why
 
 pub small_or_big : (n m : ℕ) → (n ≤ m) ⊎ (m < n)
 small_or_big n m = of (nat_lt m n) refl
@@ -114,47 +119,29 @@ module _ {X : Type 0} (b k : X → List ℕ) where
       none_left (z ∷ zs) zero below = absurd (omega arith)
       none_left (z ∷ zs) (suc j) below = none_left zs j (omega arith)
 
+  -- what may not be written of one may not be written of the row
+  pub stopped_on_the_way : (xs ys : List X) (i : ℕ) (x : X) (before out lengths left : List ℕ) (e : DynError) → xs ≡ ys → i < length xs → x ≡ get_or xs i x → IsOnTheWay xs i before out lengths left
+      → ((rest : List ℕ) → left ≡ k x ++ rest → MayNotWrite (length (b x)) e) → (rest : List ℕ) → lengths ≡ flat_map k ys ++ rest → MayNotWrite (length (flat_map b ys)) e
+  stopped_on_the_way xs ys i x before out lengths left e same inside is so_far why rest whole =
+      let left_is = (so_far rest (whole ∙ ap (λ zs. flat_map k zs ++ rest) (sym same))).1 in
+      let ahead : left ≡ k x ++ (flat_map k (drop (i + 1) xs) ++ rest) = left_is ∙ ap (λ ys. ys ++ rest) (row_ahead xs i x inside is) ∙ append_assoc (k x) (flat_map k (drop (i + 1) xs)) rest in
+      let within : length (b x) ≤ length (flat_map b ys) = each_at_index (λ y. length (b y) ≤ length (flat_map b ys)) xs ys i x same inside is (each_within b ys) in
+      longer (length (b x)) (length (flat_map b ys)) e within (why (flat_map k (drop (i + 1) xs) ++ rest) ahead)
+
+-- the first of the lengths, and those behind it
+pub first_is : (ls : List ℕ) (x : ℕ) (later : List ℕ) → ls ≡ x ∷ later → get_or ls 0 0 ≡ x
+first_is ls x later e = ap (λ l. get_or l 0 0) e
+
+pub later_is : (ls : List ℕ) (x : ℕ) (later : List ℕ) → ls ≡ x ∷ later → take (length ls - 1) (drop 1 ls) ≡ later
+later_is ls x later e =
+    let shorter : length (x ∷ later) - 1 ≡ length later = omega arith in
+    ap (λ l. take (length l - 1) (drop 1 l)) e ∙ ap (λ k. take k later) shorter ∙ take_all (length later) later (omega arith)
+
 -- what a call that may fail says, said otherwise
 
 pub if_ok : {A E : Type 0} (P Q : A → Type 0) (r : Result A E) → ((x : A) → P x → Q x) → IfOk r P → IfOk r Q
 if_ok P Q (Ok x) f h = f x h
 if_ok P Q (Err e) f h = tt
-
--- Lengths inside.
-
-module _ (shape : Shape) where
-  value_inner : (n : ℕ) (k : Option Leaf) (l : Bool) (v : Value) (later : Kept) → inner_lengths shape (value_onto n k l v later) ≡ value_lengths shape v ++ inner_lengths shape later
-  value_inner n k l (values.Int x) later = refl
-  value_inner n k l (values.F32 x) later = refl
-  value_inner n k l (values.F64 x) later = refl
-  value_inner n k l (values.Text x) later = refl
-  value_inner n k l (values.Bytes x) later = refl
-  value_inner n k l (values.Msg x) later = refl
-
-  items_inner : (n : ℕ) (vs : List Value) (later : Kept) → inner_lengths shape (items_onto n vs later) ≡ flat_map (value_lengths shape) vs ++ inner_lengths shape later
-  items_inner n [] later = refl
-  items_inner n (v ∷ vs) later =
-      value_inner n None true v (items_onto n vs later) ∙ ap (λ xs. value_lengths shape v ++ xs) (items_inner n vs later) ∙ sym (append_assoc (value_lengths shape v) (flat_map (value_lengths shape) vs) (inner_lengths shape later))
-
-  entries_inner : (n : ℕ) (es : List (Value × Value)) (later : Kept) → inner_lengths shape (entries_onto n es later) ≡ flat_map (λ (e : Value × Value). value_lengths shape e.1) es ++ inner_lengths shape later
-  entries_inner n [] later = refl
-  entries_inner n (e ∷ es) later =
-      value_inner n (Some (leaf_of e.0)) false e.1 (entries_onto n es later) ∙ ap (λ xs. value_lengths shape e.1 ++ xs) (entries_inner n es later)
-      ∙ sym (append_assoc (value_lengths shape e.1) (flat_map (λ (x : Value × Value). value_lengths shape x.1) es) (inner_lengths shape later))
-
-  content_inner : (n : ℕ) (c : Content) (later : Kept) → inner_lengths shape (content_onto n c later) ≡ content_lengths shape c ++ inner_lengths shape later
-  content_inner n (contents.One v) later = value_inner n None false v later
-  content_inner n (contents.Many vs) later = items_inner n vs.items later
-  content_inner n (contents.Map es) later = entries_inner n es.items later
-
-  fields_inner : (ms : List (ℕ × Content)) (later : Kept) → inner_lengths shape (fields_onto ms later) ≡ flat_map (λ (m : ℕ × Content). content_lengths shape m.1) ms ++ inner_lengths shape later
-  fields_inner [] later = refl
-  fields_inner (m ∷ ms) later =
-      content_inner m.0 m.1 (fields_onto ms later) ∙ ap (λ xs. content_lengths shape m.1 ++ xs) (fields_inner ms later)
-      ∙ sym (append_assoc (content_lengths shape m.1) (flat_map (λ (x : ℕ × Content). content_lengths shape x.1) ms) (inner_lengths shape later))
-
-  pub inner_is : (type : TypeId) (ms : List (ℕ × Content)) (us : List WireRecord) (m : Kept) → fields_onto ms (ends type us) ≡ m → flat_map (λ (x : ℕ × Content). content_lengths shape x.1) ms ≡ inner_lengths shape m
-  inner_is type ms us m view = sym (fields_inner ms (ends type us) ∙ append-nil _) ∙ ap (inner_lengths shape) view
 
 -- Items that are no messages.
 
@@ -195,12 +182,6 @@ packed_no_lengths shape e (v ∷ vs) h = ap₂ (λ xs ys. xs ++ ys) (no_lengths 
 pub entries_fit : (shape : Shape) (key : Scalar) (p : Presence) (e : Element) (c : Content) (es : Vec (Value × Value) Global) → p ≡ presences.Map key → c ≡ contents.Map es → ContentFits shape p e c
     → AllByRecursion (λ (x : Value × Value). IsItemOf key x.0 × ItemFits shape e x.1) es.items
 entries_fit shape key p e c es is one h = (subst (λ x. ContentFits shape (presences.Map key) e x) one (subst (λ x. ContentFits shape x e c) is h)).0
-
-pub packed_inner : (shape : Shape) (p : Presence) (e : Element) (c : Content) (vs : Vec Value Global) (before : List ℕ) → p ≡ presences.Repeated true → c ≡ contents.Many vs → CanBePacked p e → ContentFits shape p e c → before ≡ before ++ content_lengths shape c
-packed_inner shape p e c vs before is one can h =
-    let each = subst (λ x. ContentFits shape (presences.Repeated true) e x) one (subst (λ x. ContentFits shape x e c) is h) in
-    let none = packed_no_lengths shape e vs.items (packed_leaves shape e vs.items (subst (λ x. CanBePacked x e) is can) each) in
-    sym (append-nil before) ∙ ap (λ xs. before ++ xs) (sym none) ∙ ap (λ d. before ++ content_lengths shape d) (sym one)
 
 -- only what can be packed is
 pub can_be_packed : (p : Presence) (e : Element) (o : Option ℕ) → PresenceFits p e o → CanBePacked p e

@@ -28,9 +28,9 @@ pub fn copy(alloc: Global, schema: &Schema, message: &Message) -> Result<Message
     schema.parts();
     reads_again();
     let bytes = encode(alloc, schema, message)?;
-    match decode_unlimited(alloc, schema, message.type_id(), &bytes) {
-        Ok(Some(copy)) => Ok(copy),
-        // An encoding is read, so only memory was wanting.
-        Ok(None) | Err(_) => Err(DynError::Memory),
+    match decode_unlimited(alloc, schema, message.type_id(), &bytes)? {
+        Some(copy) => Ok(copy),
+        // An encoding is read again.
+        None => unreachable!(),
     }
 }

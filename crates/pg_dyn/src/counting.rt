@@ -1,6 +1,6 @@
 //! Lengths of encodings, counted before anything is written. A length above the most is counted as one more than it.
 
-ghost use Rattle.std.specs.Prelude.{◌≡◌, ℕ, ◌+◌, ◌^◌, ◌<◌, ◌≤◌, ◌++◌, List, length, flat_map, true, IfOk};
+ghost use Rattle.std.specs.Prelude.{◌≡◌, ℕ, ◌+◌, ◌^◌, ◌<◌, ◌≤◌, ◌++◌, List, length, flat_map, true, IfOk, OnOk};
 ghost use Rattle.std.specs.List.{AllByRecursion};
 ghost use Rattle.pg_schema.specs.Invariant.{IsSchema};
 ghost use Rattle.pg_schema.specs.Parts.{shape_of};
@@ -15,7 +15,7 @@ ghost use Rattle.pg_dyn.specs.ScalarItems.{IsItemOf};
 ghost use Rattle.pg_dyn.specs.Seen.{leaf_of};
 ghost use Rattle.pg_dyn.specs.WordOf.{HasBits};
 ghost use Rattle.pg_dyn.specs.Writing.{item_record};
-ghost use Rattle.pg_dyn.specs.Written.{CanBePacked, LeafFits, capped, content_lengths, content_written, inner_lengths, item_body, own_bytes, packed_body, packed_bytes, value_lengths};
+ghost use Rattle.pg_dyn.specs.Written.{CanBePacked, LeafFits, capped, content_lengths, content_written, inner_lengths, item_body, own_bytes, packed_body, packed_bytes, packed_lengths, value_lengths};
 ghost use Rattle.pg_schema.specs.declared.field.Element.TheVariants as elements;
 
 use crate::accept::element_wire_type;
@@ -133,8 +133,8 @@ fn bodies_len(element: Element, values: &[Value]) -> usize
     }
 }
 
-/// How many bytes the bodies of a packed list take.
-pub(crate) fn packed_len(element: Element, values: &[Value]) -> usize
+// How many bytes the bodies of a packed list take.
+fn packed_len(element: Element, values: &[Value]) -> usize
     requires { AllByRecursion (LeafFits element) values.now }
     ensures { result ≡ capped (length (packed_body element values.now)) }
 {
@@ -145,15 +145,26 @@ pub(crate) fn packed_len(element: Element, values: &[Value]) -> usize
     }
 }
 
-// How many bytes the record of a packed list takes, which an empty one doesn't have.
-fn packed_record_len(number: u32, element: Element, values: &[Value]) -> usize
+// How many bytes the record of a packed list takes, which an empty one doesn't have. The length of its body comes
+// behind the others.
+fn count_packed(
+    number: u32,
+    element: Element,
+    values: &[Value],
+    inner: &mut Vec<usize>,
+) -> Result<usize, AllocError>
     requires number { number < 2 ^ 29 }
     requires fit { AllByRecursion (LeafFits element) values.now }
-    ensures { result ≡ capped (length (packed_bytes number element values.now)) }
+    ensures len { IfOk result (λ len. len ≡ capped (length (packed_bytes number element values.now))) }
+    ensures inner { OnOk result (inner.new.items ≡ inner.old.items ++ packed_lengths element values.now) }
 {
     match values {
-        [] => 0,
-        _ => record_len(number, WireType::Len, packed_len(element, values)),
+        [] => Ok(0),
+        _ => {
+            let len = packed_len(element, values);
+            inner.push(len)?;
+            Ok(record_len(number, WireType::Len, len))
+        }
     }
 }
 
@@ -208,8 +219,8 @@ impl Value {
 }
 
 impl Content {
-    /// How many bytes the records of the content take, of a field of that number. The lengths of the messages in it
-    /// come behind the others.
+    /// How many bytes the records of the content take, of a field of that number. The lengths of the messages in it,
+    /// or of the body of a packed list, come behind the others.
     #[cycle(count)]
     pub(crate) fn count(
         &self,
@@ -223,7 +234,7 @@ impl Content {
         requires packed { CanBePacked field.now.presence field.now.element }
         requires fits { ContentFits (shape_of schema.now) field.now.presence field.now.element self.now }
         ensures len { IfOk result (λ len. len ≡ capped (length (content_written (shape_of schema.now) number field.now.presence field.now.element self.now))) }
-        ensures inner { IfOk result (λ len. inner.new.items ≡ inner.old.items ++ content_lengths (shape_of schema.now) self.now) }
+        ensures inner { IfOk result (λ len. inner.new.items ≡ inner.old.items ++ content_lengths (shape_of schema.now) field.now.presence field.now.element self.now) }
     {
         let wire_type = element_wire_type(field.element);
         match (field.presence, self) {
@@ -232,7 +243,7 @@ impl Content {
                 Ok(record_len(number, wire_type, len))
             }
             (Presence::Repeated { packed: true }, Content::Many(values)) => {
-                Ok(packed_record_len(number, field.element, values))
+                count_packed(number, field.element, values, inner)
             }
             (Presence::Repeated { packed: false }, Content::Many(values)) => {
                 let mut total = 0;
@@ -257,8 +268,8 @@ impl Content {
 }
 
 impl Message {
-    /// How many bytes the encoding of a message that fits takes. The lengths of the messages in it come behind
-    /// the others, in the order in which they are written.
+    /// How many bytes the encoding of a message that fits takes. The lengths of the messages in it and of the bodies
+    /// of its packed lists come behind the others, in the order in which they are written.
     #[cycle(count)]
     pub(crate) fn count(&self, schema: &Schema, inner: &mut Vec<usize>) -> Result<usize, AllocError>
         requires is_schema { IsSchema schema.now }

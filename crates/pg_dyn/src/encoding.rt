@@ -1,4 +1,4 @@
-ghost use Rattle.std.specs.Prelude.{◌≡◌, ◌⊎◌, ℕ, ◌+◌, ◌^◌, ◌<◌, ◌≤◌, ◌++◌, List, length, flat_map, OnOk, IfOk, IfErr};
+ghost use Rattle.std.specs.Prelude.{◌≡◌, ℕ, ◌+◌, ◌^◌, ◌<◌, ◌≤◌, ◌++◌, List, length, flat_map, OnOk, IfOk, IfErr};
 ghost use Rattle.std.specs.List.{AllByRecursion};
 ghost use Rattle.pg_schema.specs.declared.field.Element.TheVariants as elements;
 ghost use Rattle.pg_schema.specs.Invariant.{IsSchema};
@@ -7,7 +7,6 @@ ghost use Rattle.pg_wire.specs.Records.{length_before, tag, wire_code};
 ghost use Rattle.pg_wire.specs.Varint.{varint};
 ghost use Rattle.pg_dyn.specs.Coding.{body, form, scalar_form};
 ghost use Rattle.pg_dyn.specs.ContentFits.{ContentFits, ItemFits};
-ghost use Rattle.pg_dyn.specs.declared.error.DynError.TheVariants as errors;
 ghost use Rattle.pg_dyn.specs.EncodedFields.{record_bytes};
 ghost use Rattle.pg_dyn.specs.Encoding.{cap, enc};
 ghost use Rattle.pg_dyn.specs.Fits.{Fits};
@@ -15,11 +14,11 @@ ghost use Rattle.pg_dyn.specs.Kept.{message_of, type_of};
 ghost use Rattle.pg_dyn.specs.ScalarItems.{IsItemOf};
 ghost use Rattle.pg_dyn.specs.Seen.{leaf_of};
 ghost use Rattle.pg_dyn.specs.Writing.{item_record};
-ghost use Rattle.pg_dyn.specs.Written.{CanBePacked, LeafFits, capped, content_lengths, content_written, inner_lengths, item_body, item_bytes, own_bytes, packed_body, packed_bytes, value_lengths};
+ghost use Rattle.pg_dyn.specs.Written.{CanBePacked, LeafFits, MayNotWrite, capped, content_lengths, content_written, inner_lengths, item_body, item_bytes, own_bytes, packed_body, packed_bytes, packed_lengths, value_lengths};
 
 use crate::accept::element_wire_type;
 use crate::body::{push_body, push_varint, wire_type_of};
-use crate::counting::{MOST, body_len, cap, entry_len, packed_len};
+use crate::counting::{MOST, body_len, cap, entry_len};
 use crate::error::DynError;
 use crate::message::{Content, Message, UnknownRecord, Value};
 use pg_schema::{Element, Field, Presence, Scalar, Schema};
@@ -142,28 +141,38 @@ fn push_bodies(out: &mut Vec<u8>, element: Element, values: &[Value]) -> Result<
     }
 }
 
-// Adds the record of a packed list, where it isn't empty.
-fn push_packed(
+// Adds the record of a packed list, where it isn't empty. The lengths then begin with that of its body; what is left of
+// them is answered.
+fn push_packed<'a>(
     out: &mut Vec<u8>,
     number: u32,
     element: Element,
     values: &[Value],
-) -> Result<(), DynError>
+    lengths: &'a [usize],
+) -> Result<&'a [usize], DynError>
     requires { AllByRecursion (LeafFits element) values.now }
-    ensures ok { OnOk result (out.new.items ≡ out.old.items ++ packed_bytes number element values.now) }
+    ensures ok { IfOk result (λ left. (rest : List ℕ) → lengths.now ≡ packed_lengths element values.now ++ rest
+        → (out.new.items ≡ out.old.items ++ packed_bytes number element values.now) × (left.now ≡ rest)) }
+    ensures err { IfErr result (λ e. (rest : List ℕ) → lengths.now ≡ packed_lengths element values.now ++ rest
+        → MayNotWrite (length (packed_bytes number element values.now)) e) }
 {
     if values.is_empty() {
-        return Ok(());
+        return Ok(lengths);
     }
-    let len = not_too_long(packed_len(element, values))?;
-    push_front(out, number, WireType::Len, len)?;
-    push_bodies(out, element, values)?;
-    Ok(())
+    match lengths {
+        [len, left @ ..] => {
+            push_front(out, number, WireType::Len, not_too_long(*len)?)?;
+            push_bodies(out, element, values)?;
+            Ok(left)
+        }
+        [] => Ok(lengths),
+    }
 }
 
 // A counted length, which is told where it isn't too long.
 fn not_too_long(len: usize) -> Result<usize, DynError>
-    ensures { IfOk result (λ told. (n : ℕ) → len ≡ capped n → told ≡ n) }
+    ensures ok { IfOk result (λ told. (n : ℕ) → len ≡ capped n → told ≡ n) }
+    ensures err { IfErr result (λ e. (n : ℕ) → len ≡ capped n → MayNotWrite n e) }
 {
     if len > MOST {
         return Err(DynError::TooLong);
@@ -200,7 +209,7 @@ impl Value {
 }
 
 impl Value {
-    // Adds the record of the item. The lengths begin with those of the messages in it; what is left of them is
+    // Adds the record of the item. The lengths begin with those that were noted in it; what is left of them is
     // answered.
     #[cycle(write)]
     fn write<'a>(
@@ -215,6 +224,8 @@ impl Value {
         requires fits { ItemFits (shape_of schema.now) element self.now }
         ensures ok { IfOk result (λ left. (rest : List ℕ) → lengths.now ≡ value_lengths (shape_of schema.now) self.now ++ rest
             → (out.new.items ≡ out.old.items ++ item_bytes (shape_of schema.now) number element self.now) × (left.now ≡ rest)) }
+        ensures err { IfErr result (λ e. (rest : List ℕ) → lengths.now ≡ value_lengths (shape_of schema.now) self.now ++ rest
+            → MayNotWrite (length (item_bytes (shape_of schema.now) number element self.now)) e) }
     {
         match (element, self) {
             (Element::Message(_), Value::Msg(child)) => match lengths {
@@ -251,16 +262,17 @@ impl Content {
         requires is_schema { IsSchema schema.now }
         requires packed { CanBePacked field.now.presence field.now.element }
         requires fits { ContentFits (shape_of schema.now) field.now.presence field.now.element self.now }
-        ensures ok { IfOk result (λ left. (rest : List ℕ) → lengths.now ≡ content_lengths (shape_of schema.now) self.now ++ rest
+        ensures ok { IfOk result (λ left. (rest : List ℕ) → lengths.now ≡ content_lengths (shape_of schema.now) field.now.presence field.now.element self.now ++ rest
             → (out.new.items ≡ out.old.items ++ content_written (shape_of schema.now) number field.now.presence field.now.element self.now) × (left.now ≡ rest)) }
+        ensures err { IfErr result (λ e. (rest : List ℕ) → lengths.now ≡ content_lengths (shape_of schema.now) field.now.presence field.now.element self.now ++ rest
+            → MayNotWrite (length (content_written (shape_of schema.now) number field.now.presence field.now.element self.now)) e) }
     {
         match (field.presence, self) {
             (Presence::Implicit | Presence::Explicit, Content::One(value)) => {
                 value.write(out, schema, number, field.element, lengths)
             }
             (Presence::Repeated { packed: true }, Content::Many(values)) => {
-                push_packed(out, number, field.element, values)?;
-                Ok(lengths)
+                push_packed(out, number, field.element, values, lengths)
             }
             (Presence::Repeated { packed: false }, Content::Many(values)) => {
                 let mut left = lengths;
@@ -299,6 +311,8 @@ impl Message {
         requires fits { Fits (shape_of schema.now) self.now }
         ensures ok { IfOk result (λ left. (rest : List ℕ) → lengths.now ≡ inner_lengths (shape_of schema.now) self.now ++ rest
             → (out.new.items ≡ out.old.items ++ own_bytes (shape_of schema.now) self.now) × (left.now ≡ rest)) }
+        ensures err { IfErr result (λ e. (rest : List ℕ) → lengths.now ≡ inner_lengths (shape_of schema.now) self.now ++ rest
+            → MayNotWrite (length (own_bytes (shape_of schema.now) self.now)) e) }
     {
         let mut left = lengths;
         for (number, content) in &self.fields {
@@ -321,7 +335,7 @@ impl Message {
 pub fn encode(alloc: Global, schema: &Schema, message: &Message) -> Result<Vec<u8>, DynError>
     requires { Fits (shape_of schema.now) message.now }
     ensures ok { IfOk result (λ bytes. (bytes.items ≡ enc (shape_of schema.now) (type_of message.now) (message_of message.now)) × (length bytes.items ≤ cap)) }
-    ensures err { IfErr result (λ e. (e ≡ errors.Memory) ⊎ ((e ≡ errors.TooLong) × (cap < length (enc (shape_of schema.now) (type_of message.now) (message_of message.now))))) }
+    ensures err { IfErr result (λ e. MayNotWrite (length (enc (shape_of schema.now) (type_of message.now) (message_of message.now))) e) }
 {
     // What holds of every schema.
     schema.parts();
@@ -330,10 +344,8 @@ pub fn encode(alloc: Global, schema: &Schema, message: &Message) -> Result<Vec<u
     if len > MOST {
         return Err(DynError::TooLong);
     }
-    let mut out = Vec::with_capacity(alloc, len)?;
-    match message.write(&mut out, schema, &lengths) {
-        Ok(_) => Ok(out),
-        // Nothing is too long that was counted.
-        Err(_) => Err(DynError::Memory),
-    }
+    // With room for the longest varint where the last byte stands, so that none makes it grow.
+    let mut out = Vec::with_capacity(alloc, len + 9)?;
+    message.write(&mut out, schema, &lengths)?;
+    Ok(out)
 }

@@ -1,17 +1,15 @@
 //! The bytes of the fields that another type doesn't have.
 
-ghost use Rattle.std.specs.Prelude.{◌≡◌, ◌<◌, ◌++◌, ◌⊎◌, length, OnOk, IfOk, IfErr};
+ghost use Rattle.std.specs.Prelude.{◌≡◌, ◌++◌, length, OnOk, IfOk, IfErr};
 ghost use Rattle.pg_schema.specs.Invariant.{IsSchema};
 ghost use Rattle.pg_schema.specs.Parts.{shape_of};
 ghost use Rattle.pg_schema.specs.Shape.{fields};
 ghost use Rattle.pg_dyn.specs.Comparison.{unshared_bytes};
 ghost use Rattle.pg_dyn.specs.ContentFits.{HoldsContent};
-ghost use Rattle.pg_dyn.specs.Encoding.{cap};
 ghost use Rattle.pg_dyn.specs.Fits.{Fits};
 ghost use Rattle.pg_dyn.specs.Kept.{message_of, type_of};
 ghost use Rattle.pg_dyn.specs.Outside.{outside_written};
-ghost use Rattle.pg_dyn.specs.Written.{field_written};
-ghost use Rattle.pg_dyn.specs.declared.error.DynError.TheVariants as errors;
+ghost use Rattle.pg_dyn.specs.Written.{MayNotWrite, field_written};
 
 use crate::counting::MOST;
 use crate::error::DynError;
@@ -30,7 +28,7 @@ fn push_content(
     requires is_schema { IsSchema schema.now }
     requires holds { HoldsContent (shape_of schema.now) type_id held.now }
     ensures ok { OnOk result (out.new.items ≡ out.old.items ++ field_written (shape_of schema.now) type_id held.now) }
-    ensures err { IfErr result (λ e. (e ≡ errors.Memory) ⊎ ((e ≡ errors.TooLong) × (cap < length (field_written (shape_of schema.now) type_id held.now)))) }
+    ensures err { IfErr result (λ e. MayNotWrite (length (field_written (shape_of schema.now) type_id held.now)) e) }
 {
     let (number, content) = held;
     let Some(field) = schema.field(type_id, *number) else {
@@ -41,11 +39,8 @@ fn push_content(
     if len > MOST {
         return Err(DynError::TooLong);
     }
-    match content.write(out, schema, *number, field, &lengths) {
-        Ok(_) => Ok(()),
-        // Nothing is too long that was counted.
-        Err(_) => Err(DynError::Memory),
-    }
+    content.write(out, schema, *number, field, &lengths)?;
+    Ok(())
 }
 
 // The same, where another type has no field of the number; else nothing.
@@ -59,7 +54,7 @@ fn push_outside(
     requires is_schema { IsSchema schemas.now.own.now }
     requires holds { HoldsContent (shape_of schemas.now.own.now) type_id held.now }
     ensures ok { OnOk result (out.new.items ≡ out.old.items ++ outside_written (shape_of schemas.now.own.now) type_id (fields (shape_of schemas.now.other.now) schemas.now.other_type) held.now) }
-    ensures err { IfErr result (λ e. (e ≡ errors.Memory) ⊎ ((e ≡ errors.TooLong) × (cap < length (outside_written (shape_of schemas.now.own.now) type_id (fields (shape_of schemas.now.other.now) schemas.now.other_type) held.now)))) }
+    ensures err { IfErr result (λ e. MayNotWrite (length (outside_written (shape_of schemas.now.own.now) type_id (fields (shape_of schemas.now.other.now) schemas.now.other_type) held.now)) e) }
 {
     match schemas.other.field(schemas.other_type, held.0) {
         Some(_) => Ok(()),
@@ -88,7 +83,7 @@ pub fn encode_outside(
 ) -> Result<Vec<u8>, DynError>
     requires { Fits (shape_of schema.now) message.now }
     ensures ok { IfOk result (λ bytes. bytes.items ≡ unshared_bytes (shape_of schema.now) (type_of message.now) (fields (shape_of other.now) other_type) (message_of message.now)) }
-    ensures err { IfErr result (λ e. (e ≡ errors.Memory) ⊎ ((e ≡ errors.TooLong) × (cap < length (unshared_bytes (shape_of schema.now) (type_of message.now) (fields (shape_of other.now) other_type) (message_of message.now))))) }
+    ensures err { IfErr result (λ e. MayNotWrite (length (unshared_bytes (shape_of schema.now) (type_of message.now) (fields (shape_of other.now) other_type) (message_of message.now))) e) }
 {
     // What holds of every schema.
     schema.parts();

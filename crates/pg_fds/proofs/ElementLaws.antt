@@ -3,7 +3,7 @@ use Rattle.std.proofs.Common.{◌≡◌, ℕ, zero, suc, ◌+◌, ℤ, pos, Bool
 use Rattle.std.proofs.lemmas.Bool.Decides.{nat_tests}
 use Rattle.std.proofs.lemmas.Option.{none-some, same_Some}
 use Rattle.std.proofs.lemmas.Str.{IsUtf8-append, IsUtf8-nil, IsUtf8-string_bytes}
-use Rattle.std.specs.Prelude.{find}
+use Rattle.std.specs.Prelude.{IsSomeAnd, find}
 use Rattle.std.specs.BTreeMap.{BTreeMap, get_by_text}
 use Rattle.std.specs.Ordering.{int_eq}
 use Rattle.std.specs.Str.{IsUtf8}
@@ -25,6 +25,7 @@ use Rattle.pg_fds.specs.Fields.{dotted, element_code, element_name, scalar_code}
 use Rattle.pg_fds.specs.Made.{HasNames, Means, StatesElement}
 use Rattle.pg_fds.specs.Places.{Declared}
 use Rattle.pg_fds.specs.Said.{maybe_text_at, text_at}
+use Rattle.pg_fds.specs.StatesFiles.{StatesCalled}
 
 -- ---- scalars
 
@@ -145,6 +146,14 @@ element_text all (elements.Enum x) = enum_text (slice_get all.enums x.index)
 
 pub name_text : (all : Declared) (m : Message) (e : Element) → StatesElement all m e → IsUtf8 (text_at 6 m)
 name_text all m e states = subst (λ o. IsUtf8 (unwrap_or o [])) (sym states.type_name) (element_text all e)
+
+-- what names a message type that is there is a text
+called_one : (o : Option MessageType) (name : Option (List ℕ)) → IsSomeAnd (option_map (λ (t : MessageType). string_bytes t.name) o) (λ full. name ≡ Some (dotted full)) → IsUtf8 (unwrap_or name [])
+called_one None name called = absurd called
+called_one (Some t) name called = subst (λ p. IsUtf8 (unwrap_or p [])) (sym called) (dot_text t.name)
+
+pub called_text : (all : Declared) (name : Option (List ℕ)) (id : TypeId) → StatesCalled all name id → IsUtf8 (unwrap_or name [])
+called_text all name id called = called_one (slice_get all.types id.index) name called
 
 -- ---- looking for a scalar
 

@@ -8,7 +8,7 @@ use Rattle.pg_fds.specs.InOrder.{enums_below, inner_enums, inner_types, types_be
 use Rattle.pg_fds.specs.Walks.{places_from}
 use Rattle.pg_fds.proofs.FileLaws.{one_more}
 
-more_from : (start n : ℕ) → places_from start n ++ (start + n) ∷ [] ≡ places_from start (suc n)
+pub more_from : (start n : ℕ) → places_from start n ++ (start + n) ∷ [] ≡ places_from start (suc n)
 more_from start zero = ap (λ k. k ∷ []) (omega arith)
 more_from start (suc n) =
     let same : start + suc n ≡ suc start + n = omega arith in

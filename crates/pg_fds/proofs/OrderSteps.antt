@@ -57,7 +57,7 @@ path_kept skips (p ∷ paths) path kept = of (skips && is_descriptor p) (path_ke
     of true later = later
     of false later = ap (λ ps. p ∷ ps) later
 
-map_more : {A B : Type 0} (f : A → B) (xs : List A) (x : A) → map f (xs ++ x ∷ []) ≡ map f xs ++ f x ∷ []
+pub map_more : {A B : Type 0} (f : A → B) (xs : List A) (x : A) → map f (xs ++ x ∷ []) ≡ map f xs ++ f x ∷ []
 map_more f [] x = refl
 map_more f (y ∷ xs) x = ap (λ zs. f y ∷ zs) (map_more f xs x)
 

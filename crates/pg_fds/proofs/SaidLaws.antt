@@ -116,6 +116,11 @@ pub or_text : (o : Option (List ℕ)) (default : List ℕ) → IsUtf8 (unwrap_or
 or_text None default is = IsUtf8-nil
 or_text (Some text) default is = is
 
+-- what a text that is there says is one, and so is nothing
+pub is_text : {Z : Type 0} (o : Option (List ℕ)) (stated : Option (String Z)) → o ≡ option_map string_bytes stated → IsUtf8 (unwrap_or o [])
+is_text o None named = subst (λ p. IsUtf8 (unwrap_or p [])) (sym named) IsUtf8-nil
+is_text o (Some t) named = subst (λ p. IsUtf8 (unwrap_or p [])) (sym named) (IsUtf8-string_bytes t)
+
 -- ---- contents that are filled
 
 none_mapped : {A B : Type 0} (f : A → B) (xs : List A) → map f xs ≡ [] → xs ≡ []

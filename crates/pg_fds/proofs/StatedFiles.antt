@@ -2,16 +2,18 @@
 use Rattle.std.proofs.Common.{◌≡◌, ℕ, Bool, true, false, not, ◌&&◌, ◌||◌, inl, inr, List, [], ◌∷◌, ◌++◌, map, Option, Some, None, refl, ap, sym, subst, ◌∙◌}
 use Rattle.std.proofs.lemmas.Bool.{false≢true}
 use Rattle.std.proofs.lemmas.Slice.Eq.{bytes_eq-Decides}
+use Rattle.std.proofs.lemmas.Str.{IsUtf8-from_is_utf8, IsUtf8-string_bytes, is_utf8-from_IsUtf8}
 use Rattle.std.specs.Prelude.{IsSomeAnd}
-use Rattle.std.specs.List.{list_all}
-use Rattle.std.specs.Str.{bytes_eq}
+use Rattle.std.specs.List.{AllByRecursion, list_all}
+use Rattle.std.specs.Str.{IsUtf8, bytes_eq, is_utf8}
+use Rattle.std.specs.String.{string_bytes}
 use Rattle.pg_schema.specs.declared.file.File.{File}
 use Rattle.pg_schema.specs.declared.parts.Parts.{Parts}
 use Rattle.pg_schema.specs.Pairs.{are_distinct, differ}
 use Rattle.pg_schema.specs.Shape.{fields}
 use Rattle.pg_schema.specs.Sound.{IsSound}
 use Rattle.pg_schema.specs.TextSets.{is_among}
-use Rattle.pg_schema.proofs.PairLemmas.{among_push, and_both}
+use Rattle.pg_schema.proofs.PairLemmas.{among_push, and_both, and_left, and_right}
 use Rattle.pg_wire.specs.Errors.{fault_of, place_of}
 use Rattle.pg_dyn.specs.declared.error.DynError.{DynError}
 use Rattle.pg_dyn.specs.declared.error.DynError.TheVariants as messages
@@ -25,12 +27,14 @@ use Rattle.pg_fds.specs.declared.error.FdsError.TheVariants as errors
 use Rattle.pg_fds.specs.Building.{written_shape}
 use Rattle.pg_fds.specs.Codes.{file_has_types}
 use Rattle.pg_fds.specs.Descriptor.{file_set}
+use Rattle.pg_fds.specs.FilePlaces.{HasPathTexts}
 use Rattle.pg_fds.specs.Places.{declared_in}
 use Rattle.pg_fds.specs.PostOrder.{HasNoOrder, imports_once}
 use Rattle.pg_fds.specs.Reads.{AreBehind, States, StatesFiles, file_name, importer_of, kept_files, skips}
 use Rattle.pg_fds.specs.Refused.{MayRefuseSet, NoneIsStated, StatesNone}
-use Rattle.pg_fds.specs.Said.{text_at, texts_at}
+use Rattle.pg_fds.specs.Said.{numbers_at, text_at, texts_at}
 use Rattle.pg_fds.specs.StatesFiles.{StatesFile, is_proto3, most_deep}
+use Rattle.pg_fds.proofs.FileStateLaws.{kept_texts}
 use Rattle.pg_fds.proofs.Matched.{all_tested}
 use Rattle.pg_fds.proofs.SetLaws.{paths_are}
 use Rattle.pg_fds.proofs.StatedTypes.{file_typed}
@@ -75,6 +79,39 @@ stated_proto3 skip kept parts states = files_tested is_proto3 skip kept parts st
 
 stated_types : (skip : Bool) (kept : List Message) (parts : Parts) → IsSound parts → StatesFiles skip kept parts → list_all file_has_types kept ≡ true
 stated_types skip kept parts sound states = files_tested file_has_types skip kept parts states (file_typed parts sound.names skip)
+
+-- ---- names and paths are texts
+
+all_checked : (texts : List (List ℕ)) → AllByRecursion IsUtf8 texts → list_all is_utf8 texts ≡ true
+all_checked [] all = refl
+all_checked (t ∷ texts) all = and_both (is_utf8 t) (list_all is_utf8 texts) (is_utf8-from_IsUtf8 t all.0) (all_checked texts all.1)
+
+all_texts : (texts : List (List ℕ)) → list_all is_utf8 texts ≡ true → AllByRecursion IsUtf8 texts
+all_texts [] all = tt
+all_texts (t ∷ texts) all = (IsUtf8-from_is_utf8 t (and_left (is_utf8 t) (list_all is_utf8 texts) all), all_texts texts (and_right (is_utf8 t) (list_all is_utf8 texts) all))
+
+abbrev says_texts : Message → Bool
+says_texts m = is_utf8 (text_at 1 m) && list_all is_utf8 (texts_at 3 m)
+
+texts_in : (ms : List Message) → list_all says_texts ms ≡ true → AllByRecursion HasPathTexts ms
+texts_in [] all = tt
+texts_in (m ∷ ms) all =
+    let here = and_left (says_texts m) (list_all says_texts ms) all in (
+      record {
+        name = IsUtf8-from_is_utf8 (text_at 1 m) (and_left (is_utf8 (text_at 1 m)) (list_all is_utf8 (texts_at 3 m)) here);
+        paths = all_texts (texts_at 3 m) (and_right (is_utf8 (text_at 1 m)) (list_all is_utf8 (texts_at 3 m)) here);
+      },
+      texts_in ms (and_right (says_texts m) (list_all says_texts ms) all),
+    )
+
+-- files that state a schema say texts
+pub stated_texts : (skip : Bool) (kept : List Message) (parts : Parts) → StatesFiles skip kept parts → AllByRecursion HasPathTexts kept
+stated_texts skip kept parts states =
+    texts_in kept
+    (files_tested says_texts skip kept parts states
+    (λ m f stated.
+    and_both (is_utf8 (text_at 1 m)) (list_all is_utf8 (texts_at 3 m)) (ap is_utf8 stated.name ∙ is_utf8-from_IsUtf8 (string_bytes f.name) (IsUtf8-string_bytes f.name))
+    (all_checked (texts_at 3 m) (kept_texts skip (numbers_at 10 m) 0 (texts_at 3 m) f.imports.items stated.imports))))
 
 -- ---- files that have no order
 

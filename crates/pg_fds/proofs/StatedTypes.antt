@@ -1,5 +1,5 @@
 -- A set that states a schema has types and labels that are taken.
-use Rattle.std.proofs.Common.{◌≡◌, ℕ, zero, suc, pos, Bool, true, false, cond, not, ◌&&◌, List, [], ◌∷◌, ◌++◌, map, filter, filter_map, flat_map, length, Option, Some, None, slice_get, refl, ap, sym, subst, ◌∙◌}
+use Rattle.std.proofs.Common.{◌≡◌, ℕ, zero, suc, pos, Bool, true, false, cond, not, ◌&&◌, List, [], ◌∷◌, ◌++◌, map, filter, filter_map, flat_map, Option, Some, None, slice_get, refl, ap, sym, subst, ◌∙◌}
 use Rattle.std.specs.Prelude.{IsSomeAnd}
 use Rattle.std.specs.List.{AllByRecursion, AllZip, Any, list_all, list_any}
 use Rattle.std.specs.Ordering.{int_eq}
@@ -133,7 +133,7 @@ entries_each all entries (f ∷ fs) each = one f.presence refl (entries_each all
     one (presences.Map key) is later =
         subst (λ p. AllByRecursion (λ g. Any (λ m. IsEntryOf m g) entries) (cond (is_map p) (f ∷ maps fs) (maps fs))) (sym is) (of_map all entries f key is each.0, later)
 
-names_of_maps : (fields : List Field) → map entry_called (maps fields) ≡ entry_names fields
+pub names_of_maps : (fields : List Field) → map entry_called (maps fields) ≡ entry_names fields
 names_of_maps [] = refl
 names_of_maps (f ∷ fs) = of (is_map f.presence) (names_of_maps fs)
   where
@@ -190,7 +190,7 @@ all_types_distinct parts h =
     let files = flat_map (file_names parts.enums.items) parts.files.items in
     pairs_front differ types enums (pairs_front differ (types ++ enums) services (pairs_front differ (types ++ enums ++ services) files h))
 
-entries_distinct : (parts : Parts) (i : ℕ) (t : MessageType) → are_distinct (declared_names parts) ≡ true → slice_get parts.types.items i ≡ Some t → are_distinct (entry_names t.fields.items) ≡ true
+pub entries_distinct : (parts : Parts) (i : ℕ) (t : MessageType) → are_distinct (declared_names parts) ≡ true → slice_get parts.types.items i ≡ Some t → are_distinct (entry_names t.fields.items) ≡ true
 entries_distinct parts i t h is =
     let name = string_bytes t.name in
     let fields = field_names t.fields.items in
@@ -201,6 +201,19 @@ entries_distinct parts i t h is =
     let inside : are_distinct (map (within name) (fields ++ oneofs ++ entries ++ values)) ≡ true =
     and_right (list_all (differ name) (map (within name) (fields ++ oneofs ++ entries ++ values))) (are_distinct (map (within name) (fields ++ oneofs ++ entries ++ values))) own in
     pairs_behind differ (fields ++ oneofs) entries (pairs_front differ (fields ++ oneofs ++ entries) values (distinct_before (within name) (fields ++ oneofs ++ entries ++ values) inside))
+
+pub oneofs_distinct : (parts : Parts) (i : ℕ) (t : MessageType) → are_distinct (declared_names parts) ≡ true → slice_get parts.types.items i ≡ Some t → are_distinct (map string_bytes t.oneofs.items) ≡ true
+oneofs_distinct parts i t h is =
+    let name = string_bytes t.name in
+    let fields = field_names t.fields.items in
+    let oneofs = map string_bytes t.oneofs.items in
+    let entries = entry_names t.fields.items in
+    let values = values_at parts.enums.items t.nested_enums.items in
+    let own : are_distinct (type_names parts.enums.items t) ≡ true = type_distinct parts.enums.items parts.types.items i t (all_types_distinct parts h) is in
+    let inside : are_distinct (map (within name) (fields ++ oneofs ++ entries ++ values)) ≡ true =
+    and_right (list_all (differ name) (map (within name) (fields ++ oneofs ++ entries ++ values))) (are_distinct (map (within name) (fields ++ oneofs ++ entries ++ values))) own in
+    pairs_behind differ fields oneofs
+    (pairs_front differ (fields ++ oneofs) entries (pairs_front differ (fields ++ oneofs ++ entries) values (distinct_before (within name) (fields ++ oneofs ++ entries ++ values) inside)))
 
 -- ---- message types
 

@@ -3,12 +3,14 @@ use Rattle.std.proofs.Common.{◌≡◌, ℕ, zero, suc, ◌+◌, ◌<◌, ◌�
 use Rattle.std.specs.List.{AllZip}
 use denote.Ref.{Bor}
 use Rattle.pg_schema.specs.declared.field.Element.{Element}
+use Rattle.pg_schema.specs.declared.field.EnumId.{EnumId}
 use Rattle.pg_schema.specs.declared.field.Presence.{Presence}
 use Rattle.pg_schema.specs.declared.field.TypeId.{TypeId}
+use Rattle.pg_schema.specs.declared.message_type.ReservedFields.{ReservedFields}
 use Rattle.pg_dyn.specs.Kept.{Kept, message_of}
 use Rattle.pg_dyn.specs.Message.{Message}
 use Rattle.pg_fds.specs.Lent.{lent}
-use Rattle.pg_fds.specs.Views.{FieldView, MethodView, ServiceView}
+use Rattle.pg_fds.specs.Views.{FieldView, MethodView, ServiceView, TypeView}
 
 pub same_method : {n n' : List ℕ} {i i' o o' : TypeId} {c c' s s' : Bool} {d d' : Option Bool} → n ≡ n' → i ≡ i' → o ≡ o' → c ≡ c' → s ≡ s' → d ≡ d'
     → ◌≡◌ {A = MethodView} (record { name = n; input = i; output = o; client_streaming = c; server_streaming = s; options = record { deprecated = d } })
@@ -25,6 +27,13 @@ pub same_field : {k k' : ℕ} {n n' : List ℕ} {p p' : Presence} {e e' : Elemen
     (record { number = k; name = n; presence = p; element = e; oneof = o; json_name = j; states_optional = s; options = record { packed = packed; deprecated = d } })
     (record { number = k'; name = n'; presence = p'; element = e'; oneof = o'; json_name = j'; states_optional = s'; options = record { packed = packed'; deprecated = d' } })
 same_field number name presence element oneof json_name optional packed deprecated = cc
+
+pub same_type : {n n' : List ℕ} {fs fs' : List FieldView} {ds ds' : List ℕ} {os os' : List (List ℕ)} {ts ts' : List TypeId} {es es' : List EnumId} {rs rs' : List ReservedFields} {ns ns' : List (List ℕ)} {d d' : Option Bool}
+    → n ≡ n' → fs ≡ fs' → ds ≡ ds' → os ≡ os' → ts ≡ ts' → es ≡ es' → rs ≡ rs' → ns ≡ ns' → d ≡ d'
+    → ◌≡◌ {A = TypeView}
+    (record { name = n; fields = fs; declared = ds; oneofs = os; nested_types = ts; nested_enums = es; reserved_numbers = rs; reserved_names = ns; options = record { deprecated = d } })
+    (record { name = n'; fields = fs'; declared = ds'; oneofs = os'; nested_types = ts'; nested_enums = es'; reserved_numbers = rs'; reserved_names = ns'; options = record { deprecated = d' } })
+same_type name fields declared oneofs types enums ranges names deprecated = cc
 
 map_push : {C V : Type 0} (view : C → V) (cs : List C) (c : C) → map view (cs ++ c ∷ []) ≡ map view cs ++ view c ∷ []
 map_push view [] c = refl

@@ -22,10 +22,10 @@ use Rattle.pg_fds.proofs.Matched.{Has, any_has, rest, rest_length, still}
 use Rattle.pg_fds.proofs.Slots.{made}
 use Rattle.pg_fds.proofs.WrittenFields.{entry_parts, states_entry}
 
-abbrev maps : List Field → List Field
+abbrev pub maps : List Field → List Field
 maps fields = filter (λ (f : Field). is_map f.presence) fields
 
-abbrev found : List Field → ℕ → List Field
+abbrev pub found : List Field → ℕ → List Field
 found fs number = where_found (λ f. f) (find (λ (f : Field). nat_eq f.number number) fs)
 
 -- ---- each field is found by its number
@@ -39,7 +39,7 @@ other_there a b h = grind (arith, nat_tests)
 not_same : (a b : ℕ) → nat_lt a b ≡ true → a ≡ b → ⊥
 not_same a b h e = grind (arith, nat_tests)
 
-abbrev FindsItself : List Field → Field → Type 0
+abbrev pub FindsItself : List Field → Field → Type 0
 FindsItself fs f = find (λ (g : Field). nat_eq g.number f.number) fs ≡ Some f
 
 behind_one : (h : Field) (all fs : List Field) → list_all (nat_lt h.number) (numbers fs) ≡ true → AllByRecursion (FindsItself all) fs → AllByRecursion (FindsItself (h ∷ all)) fs
@@ -49,7 +49,7 @@ behind_one h all (f ∷ fs) rising each = (
   behind_one h all fs (and_right (nat_lt h.number f.number) (list_all (nat_lt h.number) (numbers fs)) rising) each.1,
 )
 
-find_themselves : (fs : List Field) → is_rising (numbers fs) ≡ true → AllByRecursion (FindsItself fs) fs
+pub find_themselves : (fs : List Field) → is_rising (numbers fs) ≡ true → AllByRecursion (FindsItself fs) fs
 find_themselves [] rising = tt
 find_themselves (f ∷ fs) rising = (
   ap (λ b. cond b (Some f) (find (λ (g : Field). nat_eq g.number f.number) fs)) (same_here f.number),
@@ -58,7 +58,7 @@ find_themselves (f ∷ fs) rising = (
 
 -- ---- as many map fields in any order of declaration
 
-abbrev total : (ℕ → ℕ) → List ℕ → ℕ
+abbrev pub total : (ℕ → ℕ) → List ℕ → ℕ
 total count [] = 0
 total count (n ∷ ns) = count n + total count ns
 
@@ -75,7 +75,7 @@ maps_append (x ∷ xs) ys = of (is_map x.presence) (maps_append xs ys)
     of true later = omega (arith, later)
     of false later = later
 
-maps_total : (h : ℕ → List Field) (ns : List ℕ) → length (maps (flat_map h ns)) ≡ total (λ n. length (maps (h n))) ns
+pub maps_total : (h : ℕ → List Field) (ns : List ℕ) → length (maps (flat_map h ns)) ≡ total (λ n. length (maps (h n))) ns
 maps_total h [] = refl
 maps_total h (n ∷ ns) = maps_append (h n) (flat_map h ns) ∙ ap (λ k. length (maps (h n)) + k) (maps_total h ns)
 
@@ -90,7 +90,7 @@ others g ns has (f ∷ gs) rising all = (
 one_more : (g : Field) (gs : List Field) → length (maps (g ∷ [])) + length (maps gs) ≡ length (maps (g ∷ gs))
 one_more g gs = sym (maps_append (g ∷ []) gs)
 
-as_many : (h : ℕ → List Field) (gs : List Field) (ns : List ℕ) → length ns ≡ length gs → is_rising (numbers gs) ≡ true → AllByRecursion (λ (f : Field). Has (λ n. n ≡ f.number) ns) gs
+pub as_many : (h : ℕ → List Field) (gs : List Field) (ns : List ℕ) → length ns ≡ length gs → is_rising (numbers gs) ≡ true → AllByRecursion (λ (f : Field). Has (λ n. n ≡ f.number) ns) gs
     → AllByRecursion (λ (f : Field). h f.number ≡ f ∷ []) gs → total (λ n. length (maps (h n))) ns ≡ length (maps gs)
 as_many h [] [] same rising all finds = refl
 as_many h [] (n ∷ ns) same rising all finds = absurd (omega (arith, same))
@@ -115,14 +115,14 @@ one_of n (k ∷ ns) h = of (nat_eq n k) refl (one_of n ns)
     of true e later = inl (same n k e)
     of false e later = inr (later (sym (ap (λ b. b || list_any (nat_eq n) ns) e) ∙ h))
 
-each_declared : (ns : List ℕ) (fs : List Field) → list_all (λ (f : Field). list_any (nat_eq f.number) ns) fs ≡ true → AllByRecursion (λ (f : Field). Has (λ n. n ≡ f.number) ns) fs
+pub each_declared : (ns : List ℕ) (fs : List Field) → list_all (λ (f : Field). list_any (nat_eq f.number) ns) fs ≡ true → AllByRecursion (λ (f : Field). Has (λ n. n ≡ f.number) ns) fs
 each_declared ns [] h = tt
 each_declared ns (f ∷ fs) h = (
   one_of f.number ns (and_left (list_any (nat_eq f.number) ns) (list_all (λ (g : Field). list_any (nat_eq g.number) ns) fs) h),
   each_declared ns fs (and_right (list_any (nat_eq f.number) ns) (list_all (λ (g : Field). list_any (nat_eq g.number) ns) fs) h),
 )
 
-found_alone : (all fs : List Field) → AllByRecursion (FindsItself all) fs → AllByRecursion (λ (f : Field). found all f.number ≡ f ∷ []) fs
+pub found_alone : (all fs : List Field) → AllByRecursion (FindsItself all) fs → AllByRecursion (λ (f : Field). found all f.number ≡ f ∷ []) fs
 found_alone all [] each = tt
 found_alone all (f ∷ fs) each = (ap (where_found (λ g. g)) each.0, found_alone all fs each.1)
 
@@ -135,7 +135,7 @@ has_in_front P [] ys has = absurd has
 has_in_front P (x ∷ xs) ys (inl here) = inl here
 has_in_front P (x ∷ xs) ys (inr later) = inr (has_in_front P xs ys later)
 
-is_among_declared : (h : ℕ → List Field) (f : Field) (ns : List ℕ) → h f.number ≡ f ∷ [] → Has (λ n. n ≡ f.number) ns → Has (λ g. g ≡ f) (flat_map h ns)
+pub is_among_declared : (h : ℕ → List Field) (f : Field) (ns : List ℕ) → h f.number ≡ f ∷ [] → Has (λ n. n ≡ f.number) ns → Has (λ g. g ≡ f) (flat_map h ns)
 is_among_declared h f [] finds has = absurd has
 is_among_declared h f (n ∷ ns) finds (inl here) =
     has_in_front (λ g. g ≡ f) (h n) (flat_map h ns) (subst (Has (λ g. g ≡ f)) (sym (ap h here ∙ finds)) (inl refl))

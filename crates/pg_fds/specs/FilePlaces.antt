@@ -1,12 +1,15 @@
 -- Files by their places.
 use Rattle.std.specs.Prelude.{◌≡◌, ◌↔◌, ℕ, Bool, true, List, [], map, Some, slice_get, String}
 use Rattle.std.specs.BTreeMap.{BTreeMap, get_by_text}
-use Rattle.std.specs.List.{list_all}
+use Rattle.std.specs.List.{AllByRecursion, list_all}
 use Rattle.std.specs.Option.{unwrap_or}
+use Rattle.std.specs.Str.{IsUtf8}
 use Rattle.pg_schema.specs.Pairs.{are_distinct}
+use Rattle.pg_dyn.specs.Message.{Message}
 use Rattle.pg_fds.specs.declared.order.Importing.{Importing}
 use Rattle.pg_fds.specs.Lent.{lent}
 use Rattle.pg_fds.specs.PostOrder.{Importer, IsPostOrder, imports_once, kept_paths, paths_of}
+use Rattle.pg_fds.specs.Said.{text_at, texts_at}
 
 abbrev pub importer : Importing → Importer
 importer i = record { path = i.name.now; imports = lent i.paths.items }
@@ -35,3 +38,8 @@ pub record AreOrdered (skips : Bool) (files : List Importer) (places : List ℕ)
   pub once : are_distinct (paths_of files) ≡ true
   pub imports : list_all imports_once files ≡ true
   pub order : IsPostOrder skips files (map (name_at (paths_of files)) places)
+
+-- what the file says of its name and its imports are texts
+pub record HasPathTexts (m : Message) : Type 0 where
+  pub name : IsUtf8 (text_at 1 m)
+  pub paths : AllByRecursion IsUtf8 (texts_at 3 m)

@@ -23,9 +23,13 @@ pub mod PostOrder
 pub mod Walks
 pub mod FilePlaces
 pub mod Made
+pub mod MadeMembers
 pub mod SetNames
+pub mod Outlines
+pub mod OutlinedPlaces
 pub mod InOrder
 pub mod Views
+pub mod MadeOptions
 pub mod Reads
 pub mod Refused
 pub mod Again

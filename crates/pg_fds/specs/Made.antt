@@ -1,10 +1,11 @@
 -- What has to be known of a set so that its fields are made: the table of full names, and what a field's message says of its items and
 -- how often they stand.
-use Rattle.std.specs.Prelude.{◌≡◌, ◌⊎◌, ℕ, ◌^◌, ◌<◌, ℤ, pos, ⊤, Bool, false, true, not, List, filter, length, take, Option, None, Some, String, is_some, slice_get, IfSome, IsSomeAnd}
+use Rattle.std.specs.Prelude.{◌≡◌, ◌⊎◌, ℕ, ◌^◌, ◌<◌, ℤ, pos, ⊤, Bool, false, true, not, List, filter, length, map, take, Option, None, Some, String, is_some, slice_get, slice_index, IfSome, IsSomeAnd}
 use Rattle.std.specs.BTreeMap.{BTreeMap, get_by_text}
-use Rattle.std.specs.List.{AllByRecursion}
+use Rattle.std.specs.List.{AllByRecursion, AllZip}
 use Rattle.std.specs.String.{string_bytes}
 use denote.Ref.{Bor}
+use Rattle.pg_schema.specs.declared.enum_type.EnumType.{EnumType}
 use Rattle.pg_schema.specs.declared.field.Element.{Element}
 use Rattle.pg_schema.specs.declared.field.Element.TheVariants as elements
 use Rattle.pg_schema.specs.declared.field.EnumId.{EnumId}
@@ -12,8 +13,14 @@ use Rattle.pg_schema.specs.declared.field.Field.{Field}
 use Rattle.pg_schema.specs.declared.field.TypeId.{TypeId}
 use Rattle.pg_schema.specs.declared.field.Presence.{Presence}
 use Rattle.pg_schema.specs.declared.field.Presence.TheVariants as presences
+use Rattle.pg_schema.specs.declared.file.File.{File}
+use Rattle.pg_schema.specs.declared.message_type.MessageType.{MessageType}
+use Rattle.pg_schema.specs.declared.parts.Parts.{Parts}
+use Rattle.pg_schema.specs.declared.service.Service.{Service}
 use Rattle.pg_schema.specs.DeclaredNames.{entry_name, entry_names, within}
 use Rattle.pg_schema.specs.FieldRules.{has_presence, is_known, is_packed}
+use Rattle.pg_schema.specs.FileRules.{is_file}
+use Rattle.pg_schema.specs.MessageRules.{is_message_type}
 use Rattle.pg_schema.specs.Pairs.{are_distinct}
 use Rattle.pg_schema.specs.Scopes.{enum_name, type_name}
 use Rattle.pg_schema.specs.Shape.{is_map}
@@ -22,10 +29,18 @@ use Rattle.pg_dyn.specs.Kept.{Kept, message_of}
 use Rattle.pg_dyn.specs.Message.{Message}
 use Rattle.pg_fds.specs.declared.outline.Named.{Named}
 use Rattle.pg_fds.specs.declared.outline.Named.TheVariants as nameds
+use Rattle.pg_fds.specs.declared.outline.Outline.{Outline}
+use Rattle.pg_fds.specs.declared.outline.Outlined.{Outlined}
+use Rattle.pg_fds.specs.declared.outline.OutlinedFile.{OutlinedFile}
+use Rattle.pg_fds.specs.declared.outline.OutlinedType.{OutlinedType}
 use Rattle.pg_fds.specs.Fields.{element_code, element_name, label}
-use Rattle.pg_fds.specs.Places.{Declared}
-use Rattle.pg_fds.specs.Said.{flag_at, maybe_number_at, maybe_text_at, number_at}
-use Rattle.pg_fds.specs.States.{StatesEntry, StatesField, label_at}
+use Rattle.pg_fds.specs.Lent.{lent}
+use Rattle.pg_fds.specs.Places.{Declared, declared_in}
+use Rattle.pg_fds.specs.Said.{flag_at, maybe_number_at, maybe_text_at, number_at, text_at}
+use Rattle.pg_fds.specs.Small.{IsSmallEnum}
+use Rattle.pg_fds.specs.States.{StatesEntry, StatesEnum, StatesField, label_at}
+use Rattle.pg_fds.specs.StatesFiles.{StatesFile, StatesService, is_place}
+use Rattle.pg_fds.specs.StatesTypes.{StatesType, is_at}
 
 -- the table has the full name of each message type and enum, with its place
 pub record HasNames {Y : Type 0} (all : Declared) (names : BTreeMap (String Y) Named) : Type 0 where
@@ -117,3 +132,96 @@ pub record HasEntries {Y : Type 0} (all : Declared) (entries : BTreeMap (String 
   pub each : AllByRecursion (HasNamedEntry all entries) fields
   pub no_others : (name : List ℕ) → (get_by_text entries name ≡ None) ⊎ (is_among (entry_names fields) name ≡ true)
   pub once : are_distinct (entry_names fields) ≡ true
+
+-- ---- how many fields name a oneof
+
+abbrev pub is_named : (place : ℕ) → Option ℤ → Bool
+is_named place None = false
+is_named place (Some number) = is_at place number
+
+-- how many of the fields name the oneof at the place
+abbrev pub members_at : (place : ℕ) → List Message → ℕ
+members_at place fields = length (filter (λ m. is_named place (maybe_number_at 9 m)) fields)
+
+-- the number at each of so many places says how many of the fields name the oneof there
+pub record AreCounted (fields : List Message) (count : ℕ) (members : List ℕ) : Type 0 where
+  pub all : length members ≡ count
+  pub each : (place : ℕ) → place < count → slice_index members place ≡ members_at place fields
+
+abbrev pub is_placed : ℕ → Option ℤ → Bool
+is_placed count None = true
+is_placed count (Some number) = is_place count number
+
+-- the field names the oneof at one of so many places, or none
+abbrev pub has_place : ℕ → Message → Bool
+has_place count m = is_placed count (maybe_number_at 9 m)
+
+-- ---- entry types by their names
+
+-- the table has the messages under their names, where each has its own, and no others
+pub record HasNamed {Y : Type 0} (table : BTreeMap (String Y) (Bor Kept)) (messages : List (Bor Kept)) : Type 0 where
+  pub each : are_distinct (map (text_at 1) (map message_of (lent messages))) ≡ true → AllByRecursion (λ (m : Bor Kept). get_by_text table (text_at 1 (message_of m.now)) ≡ Some m) messages
+  pub no_others : (name : List ℕ) → (get_by_text table name ≡ None) ⊎ (is_among (map (text_at 1) (map message_of (lent messages))) name ≡ true)
+
+-- ---- what was outlined of the parts that a set states
+
+-- The message of a message type states it, in that scope. The full name and the places inside it are its own.
+pub record IsOutlinedType (all : Declared) (scope : List ℕ) (o : OutlinedType) (t : MessageType) : Type 0 where
+  pub states : StatesType all scope (message_of o.message.now) t
+  pub name : string_bytes o.name ≡ string_bytes t.name
+  pub types : o.types.items ≡ t.nested_types.items
+  pub enums : o.enums.items ≡ t.nested_enums.items
+
+pub record IsOutlinedEnum (scope : List ℕ) (o : Outlined) (e : EnumType) : Type 0 where
+  pub states : StatesEnum scope (message_of o.message.now) e
+  pub name : string_bytes o.name ≡ string_bytes e.name
+
+pub record IsOutlinedService (all : Declared) (scope : List ℕ) (o : Outlined) (s : Service) : Type 0 where
+  pub states : StatesService all scope (message_of o.message.now) s
+  pub name : string_bytes o.name ≡ string_bytes s.name
+
+pub record IsOutlinedFile (all : Declared) (skips : Bool) (o : OutlinedFile) (f : File) : Type 0 where
+  pub states : StatesFile all skips (message_of o.message.now) f
+  pub types : o.types.items ≡ f.types.items
+  pub enums : o.enums.items ≡ f.enums.items
+  pub services : o.services.items ≡ f.services.items
+
+-- the table has the entry type of the field, of a message type of that full name, where it is a map
+abbrev pub HasEntryName : {Y : Type 0} → BTreeMap (String Y) Named → (scope : List ℕ) → Field → Type 0
+HasEntryName names scope f = is_map f.presence ≡ true → get_by_text names (within scope (entry_name (string_bytes f.name))) ≡ Some nameds.Entry
+
+abbrev pub HasEntryNames : {Y : Type 0} → BTreeMap (String Y) Named → MessageType → Type 0
+HasEntryNames names t = AllByRecursion (HasEntryName names (string_bytes t.name)) t.fields.items
+
+-- what was outlined is of these parts, one by one, and the table has their names
+pub record AreOutlined (skips : Bool) (parts : Parts) (outline : Outline) : Type 0 where
+  pub table : HasNames (declared_in parts) outline.names
+  pub entries : AllByRecursion (HasEntryNames outline.names) parts.types.items
+  pub files : AllZip (IsOutlinedFile (declared_in parts) skips) outline.files.items parts.files.items
+  pub types : AllZip (λ o t. (scope : List ℕ) × IsOutlinedType (declared_in parts) scope o t) outline.types.items parts.types.items
+  pub enums : AllZip (λ o e. (scope : List ℕ) × IsOutlinedEnum scope o e) outline.enums.items parts.enums.items
+  pub services : AllZip (λ o s. (scope : List ℕ) × IsOutlinedService (declared_in parts) scope o s) outline.services.items parts.services.items
+
+-- What has to be known of a message type so that it is made: what was outlined of it is its own, the table has the names, it keeps to the
+-- rules by itself, and the names of its oneofs and those of its entry types stand once.
+pub record StatesMadeType {Y : Type 0} (all : Declared) (names : BTreeMap (String Y) Named) (scope : List ℕ) (o : OutlinedType) (t : MessageType) : Type 0 where
+  pub table : HasNames all names
+  pub entries : HasEntryNames names t
+  pub outlined : IsOutlinedType all scope o t
+  pub rules : is_message_type (length all.types) (length all.enums) t ≡ true
+  pub oneofs_once : are_distinct (map string_bytes t.oneofs.items) ≡ true
+  pub entries_once : are_distinct (entry_names t.fields.items) ≡ true
+
+-- ---- what has to be known of each outlined thing so that it is made
+
+abbrev pub IsMadeType : {Y : Type 0} → Declared → BTreeMap (String Y) Named → OutlinedType → MessageType → Type 0
+IsMadeType all names o t = (scope : List ℕ) × StatesMadeType all names scope o t
+
+abbrev pub IsMadeEnum : Outlined → EnumType → Type 0
+IsMadeEnum o e = (scope : List ℕ) × IsOutlinedEnum scope o e × IsSmallEnum e
+
+abbrev pub IsMadeService : Declared → Outlined → Service → Type 0
+IsMadeService all o s = (scope : List ℕ) × IsOutlinedService all scope o s
+
+abbrev pub IsMadeFile : Declared → (skips : Bool) → OutlinedFile → File → Type 0
+IsMadeFile all skips o f = IsOutlinedFile all skips o f × (is_file f ≡ true)

@@ -1,9 +1,10 @@
--- The full names that messages of a set declare, and the table of those that were declared (proto3 language specification, "Package",
--- "Message definition").
-use Rattle.std.specs.Prelude.{◌≡◌, ℕ, true, List, ◌++◌, map, Option, Some, None, String}
+-- The full names that the messages of a set declare, in the order in which they are told of (descriptor.proto; proto3 language guide,
+-- "Enumerations": the values of an enum are siblings of its name), and the table of names that were declared.
+use Rattle.std.specs.Prelude.{◌≡◌, ◌⊎◌, ℕ, zero, suc, Bool, true, List, [], ◌∷◌, ◌++◌, map, flat_map, filter, Option, Some, None, slice_get, String}
 use Rattle.std.specs.BTreeMap.{BTreeMap, get_by_text}
 use Rattle.std.specs.List.{AllByRecursion, list_all}
 use Rattle.std.specs.Str.{IsUtf8}
+use Rattle.std.specs.String.{string_bytes}
 use Rattle.pg_schema.specs.DeclaredNames.{within}
 use Rattle.pg_schema.specs.PackageNames.{is_free_of, is_front}
 use Rattle.pg_schema.specs.Pairs.{are_distinct}
@@ -13,7 +14,8 @@ use Rattle.pg_fds.specs.declared.error.Unstated.{Unstated}
 use Rattle.pg_fds.specs.declared.error.Unstated.TheVariants as errors
 use Rattle.pg_fds.specs.declared.outline.Named.{Named}
 use Rattle.pg_fds.specs.declared.outline.Named.TheVariants as nameds
-use Rattle.pg_fds.specs.Said.{text_at}
+use Rattle.pg_fds.specs.Said.{children_at, text_at}
+use Rattle.pg_fds.specs.StatesTypes.{is_entry, is_no_entry, real_oneofs, synthetic_places}
 
 -- the full name of what a message is called in a scope
 abbrev pub full_name : (scope : List ℕ) → Message → List ℕ
@@ -21,6 +23,46 @@ full_name scope m = within scope (text_at 1 m)
 
 abbrev pub full_names : (scope : List ℕ) → List Message → List (List ℕ)
 full_names scope ms = map (full_name scope) ms
+
+-- its own and those of its values
+abbrev pub enum_names : (scope : List ℕ) → Message → List (List ℕ)
+enum_names scope m = full_name scope m ∷ full_names scope (children_at 2 m)
+
+abbrev pub enums_names : (scope : List ℕ) → List Message → List (List ℕ)
+enums_names scope ms = flat_map (enum_names scope) ms
+
+-- those of the fields and real oneofs of a message type of that full name
+abbrev pub member_names : (full : List ℕ) → Message → List (List ℕ)
+member_names full m = full_names full (children_at 2 m) ++ full_names full (real_oneofs (synthetic_places (children_at 2 m)) 0 (children_at 8 m))
+
+-- and of its entry types, without those of what it has inside
+abbrev pub own_names : (full : List ℕ) → Message → List (List ℕ)
+own_names full m = full ∷ member_names full m ++ full_names full (filter is_entry (children_at 3 m))
+
+-- with those of the types inside it and of its enums
+abbrev pub type_names : (inside : List ℕ → List Message → List (List ℕ)) → (scope : List ℕ) → Message → List (List ℕ)
+type_names inside scope m =
+    own_names (full_name scope m) m ++ inside (full_name scope m) (filter is_no_entry (children_at 3 m)) ++ enums_names (full_name scope m) (children_at 4 m)
+
+-- those of message types nested less deep than that
+abbrev pub types_names : (depth : ℕ) → (scope : List ℕ) → List Message → List (List ℕ)
+types_names zero scope ms = []
+types_names (suc depth) scope ms = flat_map (type_names (types_names depth) scope) ms
+
+-- its own and those of its methods
+abbrev pub service_names : (scope : List ℕ) → Message → List (List ℕ)
+service_names scope m = full_name scope m ∷ full_names (full_name scope m) (children_at 2 m)
+
+abbrev pub services_names : (scope : List ℕ) → List Message → List (List ℕ)
+services_names scope ms = flat_map (service_names scope) ms
+
+-- those of a file, with message types nested less deep than that
+abbrev pub file_names : (depth : ℕ) → Message → List (List ℕ)
+file_names depth m =
+    types_names depth (text_at 2 m) (children_at 4 m) ++ enums_names (text_at 2 m) (children_at 5 m) ++ services_names (text_at 2 m) (children_at 6 m)
+
+abbrev pub files_names : (depth : ℕ) → List Message → List (List ℕ)
+files_names depth ms = flat_map (file_names depth) ms
 
 -- ---- the table
 

@@ -1,13 +1,14 @@
 //! Whether the messages of a set state the entry types of map fields. What they don't state is told as a
 //! bad reference.
 
-ghost use Rattle.std.specs.Prelude.{◌≡◌, [], None, IfOk, OnErr, OnOk, codes, length, filter, map};
+ghost use Rattle.std.specs.Prelude.{◌≡◌, [], None, IfErr, IfOk, OnErr, OnOk, codes, length, filter, map};
 ghost use Rattle.std.specs.List.{AllByRecursion, Any};
 ghost use Rattle.pg_schema.specs.declared.field.Field.{Field};
 ghost use Rattle.pg_schema.specs.declared.field.Presence.TheVariants as presences;
 ghost use Rattle.pg_schema.specs.Shape.{is_map};
 ghost use Rattle.pg_dyn.specs.Kept.{message_of};
 ghost use Rattle.pg_dyn.specs.Message.{parts};
+ghost use Rattle.pg_fds.specs.declared.error.Unstated.TheVariants.{Memory};
 ghost use Rattle.pg_fds.specs.Lent.{lent};
 ghost use Rattle.pg_fds.specs.Places.{declared_in};
 ghost use Rattle.pg_fds.specs.Said.{item_at, items_at, options_at};
@@ -76,7 +77,8 @@ fn entry_field(
     place: u32,
     element: Element,
 ) -> Result<(), Unstated>
-    ensures { OnOk result (StatesEntryField (declared_in source.now) name.now place element (message_of message.now)) }
+    ensures ok { OnOk result (StatesEntryField (declared_in source.now) name.now place element (message_of message.now)) }
+    ensures refused { IfErr result (λ r. StatesEntryField (declared_in source.now) name.now place element (message_of message.now) → r ≡ Memory) }
 {
     let type_name = element_name(alloc, source, element)?;
     let json_name = default_json_name(alloc, name)?;
@@ -98,7 +100,8 @@ fn key_and_value(
     key: Scalar,
     value: Element,
 ) -> Result<(), Unstated>
-    ensures { OnOk result (AreKeyAndValue (declared_in source.now) key value (map message_of (lent messages.now))) }
+    ensures ok { OnOk result (AreKeyAndValue (declared_in source.now) key value (map message_of (lent messages.now))) }
+    ensures refused { IfErr result (λ r. AreKeyAndValue (declared_in source.now) key value (map message_of (lent messages.now)) → r ≡ Memory) }
 {
     match messages {
         [first, second] => {
@@ -116,7 +119,8 @@ fn entry(
     field: &Field,
     key: Scalar,
 ) -> Result<(), Unstated>
-    ensures { OnOk result (StatesEntry (declared_in source.now) field.now key (message_of message.now)) }
+    ensures ok { OnOk result (StatesEntry (declared_in source.now) field.now key (message_of message.now)) }
+    ensures refused { IfErr result (λ r. StatesEntry (declared_in source.now) field.now key (message_of message.now) → r ≡ Memory) }
 {
     let name = entry_name(alloc, &field.name)?;
     same_text(text(message, 1)?, &name)?;

@@ -1,15 +1,16 @@
 //! Whether the messages of a set state files. What they don't state is told as a bad reference.
 
-ghost use Rattle.std.specs.Prelude.{◌≡◌, ◌&&◌, true, IfOk, OnOk, find, length, map, nat_eq};
+ghost use Rattle.std.specs.Prelude.{◌≡◌, ◌&&◌, true, IfOk, OnErr, OnOk, find, length, map, nat_eq};
 ghost use Rattle.std.specs.List.{AllByRecursion};
 ghost use Rattle.std.specs.Option.{option_copied};
+ghost use Rattle.std.specs.Str.{IsUtf8};
 ghost use Rattle.pg_schema.specs.declared.options.FileOption.{FileOption};
 ghost use Rattle.pg_schema.specs.Pairs.{are_distinct};
 ghost use Rattle.pg_dyn.specs.Kept.{message_of};
 ghost use Rattle.pg_fds.specs.Building.{shown};
 ghost use Rattle.pg_fds.specs.Lent.{lent};
 ghost use Rattle.pg_fds.specs.Places.{declared_in};
-ghost use Rattle.pg_fds.specs.Said.{item_at, options_at, texts_at};
+ghost use Rattle.pg_fds.specs.Said.{item_at, options_at, text_at, texts_at};
 ghost use Rattle.pg_fds.specs.StatesFiles.{StatesFile, StatesOptions, import_of, is_descriptor, is_proto3, is_skipped, kept_imports, most_deep, option_item, stated_option};
 ghost use Rattle.pg_fds.specs.StatesTypes.{AreMarked};
 
@@ -42,7 +43,8 @@ pub fn is_descriptor(path: &str) -> bool
 
 /// Whether the file is proto3.
 pub fn is_proto3(message: &Message) -> Result<bool, Unstated>
-    ensures { IfOk result (λ proto3. proto3 ≡ is_proto3 (message_of message.now)) }
+    ensures ok { IfOk result (λ proto3. proto3 ≡ is_proto3 (message_of message.now)) }
+    ensures refused { OnErr result (IsUtf8 (text_at 12 (message_of message.now)) → ⊥) }
 {
     Ok(text(message, 12)? == "proto3")
 }
@@ -60,7 +62,8 @@ pub fn is_skipped(message: &Message) -> Result<bool, Unstated>
 // ---- options
 
 fn option_value(value: &Value, stated: &OptionValue) -> Result<(), Unstated>
-    ensures { OnOk result (shown value.now ≡ option_item stated.now) }
+    ensures ok { OnOk result (shown value.now ≡ option_item stated.now) }
+    ensures refused { OnErr result (shown value.now ≡ option_item stated.now → ⊥) }
 {
     match (value, stated) {
         (Value::Int(found), OptionValue::Flag(flag)) => {
@@ -70,6 +73,7 @@ fn option_value(value: &Value, stated: &OptionValue) -> Result<(), Unstated>
             ensure(*found == i128::from(mode_code(*mode)))
         }
         (Value::Text(found), OptionValue::Text(text)) => same_text(found, text),
+        (Value::Bytes(found), OptionValue::Text(text)) => ensure(found.as_slice() == text.as_bytes()),
         _ => Err(Unstated::Reference),
     }
 }
@@ -87,7 +91,8 @@ fn stated(options: &[FileOption], number: u32) -> Option<&FileOption>
 }
 
 fn has_option(message: &Message, options: &[FileOption], number: u32) -> Result<(), Unstated>
-    ensures { OnOk result (item_at number (message_of message.now) ≡ stated_option options.now number) }
+    ensures ok { OnOk result (item_at number (message_of message.now) ≡ stated_option options.now number) }
+    ensures refused { OnErr result (item_at number (message_of message.now) ≡ stated_option options.now number → ⊥) }
 {
     match (item(message, number), stated(options, number)) {
         (None, None) => Ok(()),
@@ -98,7 +103,8 @@ fn has_option(message: &Message, options: &[FileOption], number: u32) -> Result<
 
 // The message says the options.
 fn has_options(message: &Message, options: &[FileOption]) -> Result<(), Unstated>
-    ensures { OnOk result (StatesOptions (message_of message.now) options.now) }
+    ensures ok { OnOk result (StatesOptions (message_of message.now) options.now) }
+    ensures refused { OnErr result (StatesOptions (message_of message.now) options.now → ⊥) }
 {
     for number in OPTIONS {
         has_option(message, options, number)?;

@@ -18,6 +18,7 @@ mod laws;
 mod made_fields;
 mod made_files;
 mod made_maps;
+mod made_parts;
 mod made_types;
 mod messages;
 mod names;

@@ -1,33 +1,43 @@
 //! Services and files of a schema, made of a set's messages.
 
-ghost use Rattle.std.specs.Prelude.{◌≡◌, ℕ, true, List, IfErr, IfOk, OnErr, length, map};
+ghost use Rattle.std.specs.Prelude.{◌≡◌, ◌∷◌, [], ℕ, true, List, IfErr, IfOk, OnErr, length, map, option_map};
 ghost use Rattle.std.specs.List.{AllZip, list_all};
+ghost use Rattle.std.specs.Option.{option_copied, unwrap_or};
 ghost use Rattle.std.specs.String.{string_bytes};
 ghost use Rattle.pg_schema.specs.declared.field.TypeId.{TypeId as StatedId};
+ghost use Rattle.pg_schema.specs.declared.file.File.{File as StatedFile};
 ghost use Rattle.pg_schema.specs.declared.file.Import.{Import as StatedImport};
+ghost use Rattle.pg_schema.specs.declared.options.FileOption.{FileOption as StatedOption};
+ghost use Rattle.pg_schema.specs.declared.options.OptionValue.{OptionValue as StatedValue};
 ghost use Rattle.pg_schema.specs.declared.service.Method.{Method as StatedMethod};
 ghost use Rattle.pg_schema.specs.declared.service.Service.{Service as StatedService};
 ghost use Rattle.pg_schema.specs.DeclaredNames.{within};
+ghost use Rattle.pg_schema.specs.FileRules.{is_file, is_file_option, is_of_kind, option_numbers};
+ghost use Rattle.pg_schema.specs.Pairs.{is_rising};
 ghost use Rattle.pg_dyn.specs.Kept.{message_of};
+ghost use Rattle.pg_dyn.specs.Message.{ends};
 ghost use Rattle.pg_fds.specs.declared.error.Unstated.TheVariants.{Memory};
+ghost use Rattle.pg_fds.specs.Building.{shown};
 ghost use Rattle.pg_fds.specs.Lent.{lent};
-ghost use Rattle.pg_fds.specs.Made.{HasNames};
+ghost use Rattle.pg_fds.specs.Made.{HasNames, IsOutlinedFile};
+ghost use Rattle.pg_fds.specs.MadeOptions.{StatesThese, mode_of, numbered, views_under};
 ghost use Rattle.pg_fds.specs.Places.{Declared};
-ghost use Rattle.pg_fds.specs.Said.{maybe_text_at, numbers_at, text_at, texts_at};
-ghost use Rattle.pg_fds.specs.StatesFiles.{StatesCalled, StatesMethod, StatesService, import_of, is_place, kept_imports};
+ghost use Rattle.pg_fds.specs.Said.{maybe_text_at, numbers_at, options_at, text_at, texts_at};
+ghost use Rattle.pg_fds.specs.StatesFiles.{StatesCalled, StatesMethod, StatesOptions, StatesService, import_of, is_place, kept_imports, option_item};
 ghost use Rattle.pg_fds.specs.StatesTypes.{AreMarked};
-ghost use Rattle.pg_fds.specs.Views.{method_view, service_view};
+ghost use Rattle.pg_fds.specs.Views.{file_view, method_view, option_view, service_view, value_of};
 
 use crate::error::Unstated;
 use crate::file_states::{OPTIONS, is_left_out};
 use crate::made_fields::resolved;
-use crate::made_types::{made_enum, made_type};
 use crate::oneof_states::marks;
-use crate::outline::{Named, Outline, Outlined, OutlinedFile};
-use crate::said::{children, flag, item, maybe_text, numbers, option, text, texts};
+use crate::outline::{Named, Outlined, OutlinedFile};
+use crate::said::{
+    child_in, children, flag, item, maybe_text, number_in, numbers, option, text, text_in, texts,
+};
 use pg_dyn::{Message, Value};
 use pg_schema::{
-    File, FileOption, Import, Method, MethodOptions, OptimizeMode, OptionValue, Parts, Service,
+    File, FileOption, Import, Method, MethodOptions, OptimizeMode, OptionValue, Service,
     ServiceOptions, TypeId,
 };
 use std::alloc::{AllocError, Global};
@@ -94,7 +104,7 @@ fn methods(
     Ok(methods)
 }
 
-fn service(
+pub fn service(
     alloc: Global,
     names: &BTreeMap<String, Named>,
     outlined: &Outlined<'_>,
@@ -118,34 +128,91 @@ fn service(
 
 // ---- files
 
-// The value of the file option of that number. A mode that isn't one is told as a flag, which is of no
-// mode's kind.
-fn option_value(alloc: Global, number: u32, value: &Value) -> Result<OptionValue, Unstated> {
-    match (value, number) {
-        (Value::Int(1), 9) => Ok(OptionValue::Mode(OptimizeMode::Speed)),
-        (Value::Int(2), 9) => Ok(OptionValue::Mode(OptimizeMode::CodeSize)),
-        (Value::Int(3), 9) => Ok(OptionValue::Mode(OptimizeMode::LiteRuntime)),
-        (Value::Int(found), _) => Ok(OptionValue::Flag(*found != 0)),
-        (Value::Text(found), _) => Ok(OptionValue::Text(found.clone()?)),
-        _ => Err(Unstated::Reference),
+// The word of `optimize_for` with that number.
+fn mode(found: i128) -> Option<OptimizeMode>
+    ensures { result ≡ mode_of found }
+{
+    if found == 1 {
+        return Some(OptimizeMode::Speed);
+    }
+    if found == 2 {
+        return Some(OptimizeMode::CodeSize);
+    }
+    if found == 3 {
+        return Some(OptimizeMode::LiteRuntime);
+    }
+    None
+}
+
+// The value of the option of that number whose item is a number. A mode that isn't one is told as a flag, which
+// is of no mode's kind.
+fn numbered(number: u32, found: i128) -> OptionValue
+    ensures { result ≡ numbered number found }
+{
+    if number == 9 {
+        let mode = mode(found);
+        if let Some(mode) = mode {
+            return OptionValue::Mode(mode);
+        }
+    }
+    OptionValue::Flag(found != 0)
+}
+
+// The value of the option of that number.
+fn option_value(alloc: Global, number: u32, value: &Value) -> Result<OptionValue, Unstated>
+    ensures made { IfOk result (λ made. (v : StatedValue) → shown value.now ≡ option_item v → is_of_kind number v ≡ true → value_of made ≡ value_of v) }
+    ensures refused { IfErr result (λ e. (v : StatedValue) → shown value.now ≡ option_item v → e ≡ Memory) }
+{
+    if let Value::Int(_) = value {
+        return Ok(numbered(number, number_in(value)));
+    }
+    let found = text_in(value)?;
+    let own = String::from_str(alloc, found)?;
+    Ok(OptionValue::Text(own))
+}
+
+// The options of these numbers, in their order.
+fn options_under(
+    alloc: Global,
+    message: &Message,
+    numbers: &[u32],
+) -> Result<Vec<FileOption>, Unstated>
+    ensures made { IfOk result (λ made. (os : List StatedOption) → StatesThese (message_of message.now) os numbers.now → list_all is_file_option os ≡ true → map option_view made.items ≡ views_under os numbers.now) }
+    ensures refused { IfErr result (λ e. (os : List StatedOption) → StatesThese (message_of message.now) os numbers.now → e ≡ Memory) }
+{
+    let mut options = Vec::new(alloc);
+    for number in numbers {
+        let number = *number;
+        let found = item(message, number);
+        if let Some(value) = found {
+            let value = option_value(alloc, number, value)?;
+            options.push(FileOption { number, value })?;
+        }
+    }
+    Ok(options)
+}
+
+// The message of a file's options, where there is one.
+fn own_options(message: &Message) -> Option<&Message>
+    ensures { unwrap_or (option_map message_of (option_copied result)) (ends []) ≡ options_at 8 (message_of message.now) }
+{
+    let found = item(message, 8);
+    match found {
+        Some(value) => child_in(value),
+        None => None,
     }
 }
 
 // The options of a file, by rising number.
-fn options(alloc: Global, message: &Message) -> Result<Vec<FileOption>, Unstated> {
-    let mut options = Vec::new(alloc);
-    let Some(Value::Msg(child)) = item(message, 8) else {
-        return Ok(options);
-    };
-    for number in OPTIONS {
-        if let Some(value) = item(child, number) {
-            options.push(FileOption {
-                number,
-                value: option_value(alloc, number, value)?,
-            })?;
-        }
+fn options(alloc: Global, message: &Message) -> Result<Vec<FileOption>, Unstated>
+    ensures made { IfOk result (λ made. (os : List StatedOption) → StatesOptions (options_at 8 (message_of message.now)) os → is_rising (0 ∷ option_numbers os) ≡ true → list_all is_file_option os ≡ true → map option_view made.items ≡ map option_view os) }
+    ensures refused { IfErr result (λ e. (os : List StatedOption) → StatesOptions (options_at 8 (message_of message.now)) os → e ≡ Memory) }
+{
+    let own = own_options(message);
+    match own {
+        Some(child) => options_under(alloc, child, &OPTIONS),
+        None => Ok(Vec::new(alloc)),
     }
-    Ok(options)
 }
 
 // The imports of these paths, where those at places that are marked are public, without those that are
@@ -186,53 +253,28 @@ fn imports(alloc: Global, skips: bool, message: &Message) -> Result<Vec<Import>,
     Ok(imports)
 }
 
-fn file(alloc: Global, skips: bool, outlined: &OutlinedFile<'_>) -> Result<File, Unstated> {
+/// The file of a message. Refused, memory aside, only where none is stated.
+pub fn file(alloc: Global, skips: bool, outlined: &OutlinedFile<'_>) -> Result<File, Unstated>
+    ensures made { IfOk result (λ made. (all : Declared) (f : StatedFile) → IsOutlinedFile all skips outlined.now f → is_file f ≡ true → file_view made ≡ file_view f) }
+    ensures refused { IfErr result (λ e. (all : Declared) (f : StatedFile) → IsOutlinedFile all skips outlined.now f → is_file f ≡ true → e ≡ Memory) }
+{
     let message = outlined.message;
+    let own_name = text(message, 1)?;
+    let name = String::from_str(alloc, own_name)?;
+    let own_package = text(message, 2)?;
+    let package = String::from_str(alloc, own_package)?;
+    let imports = imports(alloc, skips, message)?;
+    let options = options(alloc, message)?;
+    let types = outlined.types.clone()?;
+    let enums = outlined.enums.clone()?;
+    let services = outlined.services.clone()?;
     Ok(File {
-        name: String::from_str(alloc, text(message, 1)?)?,
-        package: String::from_str(alloc, text(message, 2)?)?,
-        imports: imports(alloc, skips, message)?,
-        types: outlined.types.clone()?,
-        enums: outlined.enums.clone()?,
-        services: outlined.services.clone()?,
-        options: options(alloc, message)?,
-    })
-}
-
-// ---- all of them
-
-fn all_files(
-    alloc: Global,
-    skips: bool,
-    outlined: &[OutlinedFile<'_>],
-) -> Result<Vec<File>, Unstated> {
-    let mut files = Vec::new(alloc);
-    for one in outlined {
-        files.push(file(alloc, skips, one)?)?;
-    }
-    Ok(files)
-}
-
-/// The parts that the outlined files declare.
-pub fn made_parts(alloc: Global, skips: bool, outline: &Outline<'_>) -> Result<Parts, Unstated> {
-    let names = &outline.names;
-    let files = all_files(alloc, skips, &outline.files)?;
-    let mut types = Vec::new(alloc);
-    for outlined in &outline.types {
-        types.push(made_type(alloc, names, outlined)?)?;
-    }
-    let mut enums = Vec::new(alloc);
-    for outlined in &outline.enums {
-        enums.push(made_enum(alloc, outlined)?)?;
-    }
-    let mut services = Vec::new(alloc);
-    for outlined in &outline.services {
-        services.push(service(alloc, names, outlined)?)?;
-    }
-    Ok(Parts {
-        files,
+        name,
+        package,
+        imports,
         types,
         enums,
         services,
+        options,
     })
 }

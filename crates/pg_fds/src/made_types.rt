@@ -1,25 +1,31 @@
 //! Message types and enums of a schema, made of a set's messages.
 
-ghost use Rattle.std.specs.Prelude.{◌≡◌, ℕ, ◌<◌, ◌^◌, pos, true, List, FitsSigned, IfErr, IfOk, OnErr, map};
+ghost use Rattle.std.specs.Prelude.{◌≡◌, ℕ, ◌<◌, ◌^◌, pos, false, true, List, FitsSigned, IfErr, IfOk, IfSome, IsPermutation, OnErr, length, map, option_map};
 ghost use Rattle.std.specs.Int.{w32};
 ghost use Rattle.std.specs.List.{AllByRecursion, AllZip, list_all};
+ghost use Rattle.std.specs.List.Sorted.{IsNonDecreasingBy};
+ghost use Rattle.std.specs.Str.{IsUtf8};
 ghost use Rattle.std.specs.String.{string_bytes};
 ghost use Rattle.pg_schema.specs.declared.enum_type.EnumType.{EnumType as StatedEnum};
 ghost use Rattle.pg_schema.specs.declared.enum_type.EnumValue.{EnumValue as StatedValue};
 ghost use Rattle.pg_schema.specs.declared.enum_type.ReservedValues.{ReservedValues as StatedRange};
 ghost use Rattle.pg_schema.specs.declared.field.Field.{Field as StatedField};
+ghost use Rattle.pg_schema.specs.declared.message_type.MessageType.{MessageType as StatedType};
 ghost use Rattle.pg_schema.specs.declared.message_type.ReservedFields.{ReservedFields as StatedFields};
 ghost use Rattle.pg_schema.specs.DeclaredNames.{within};
 ghost use Rattle.pg_schema.specs.UsedNumbers.{is_reserved_range};
 ghost use Rattle.pg_dyn.specs.Kept.{message_of};
 ghost use Rattle.pg_fds.specs.declared.error.Unstated.TheVariants.{Memory};
 ghost use Rattle.pg_fds.specs.Lent.{lent};
-ghost use Rattle.pg_fds.specs.Made.{HasEntries, StatesFieldAt};
+ghost use Rattle.pg_fds.specs.Made.{AreCounted, HasEntries, HasNamed, StatesFieldAt, StatesMadeType, has_place};
+ghost use Rattle.pg_fds.specs.MadeMembers.{HasMembers};
+ghost use Rattle.pg_fds.specs.Messages.{declared_fields as fields_of};
 ghost use Rattle.pg_fds.specs.Places.{Declared};
-ghost use Rattle.pg_fds.specs.Said.{number_at, text_at};
+ghost use Rattle.pg_fds.specs.Said.{children_at, maybe_number_at, number_at, text_at};
 ghost use Rattle.pg_fds.specs.Small.{AreSmallEnds, IsSmallEnum, IsSmallValue};
 ghost use Rattle.pg_fds.specs.States.{StatesEnum, StatesFieldRange, StatesValue, StatesValueRange};
-ghost use Rattle.pg_fds.specs.Views.{field_view};
+ghost use Rattle.pg_fds.specs.StatesTypes.{AreMarked, real_oneofs, synthetic_places as stated_places};
+ghost use Rattle.pg_fds.specs.Views.{field_view, type_view};
 
 use crate::error::Unstated;
 use crate::made_fields::{Scope, made_field};
@@ -153,16 +159,28 @@ fn field_ranges(alloc: Global, messages: &[&Message]) -> Result<Vec<ReservedFiel
     Ok(ranges)
 }
 
-// How many of the fields name each of so many oneofs.
-fn member_counts(alloc: Global, fields: &[&Message], count: usize) -> Result<Vec<usize>, Unstated> {
+// The place of the oneof, among so many, that a field names, if it names one.
+fn named_place(field: &Message, count: usize) -> Result<Option<usize>, Unstated>
+    ensures ok { IfOk result (λ place. maybe_number_at 9 (message_of field.now) ≡ option_map pos place) }
+    ensures within { IfOk result (λ found. IfSome found (λ place. place < count)) }
+    ensures refused { OnErr result (has_place count (message_of field.now) ≡ false) }
+{
+    match maybe_number(field, 9) {
+        None => Ok(None),
+        Some(named) => Ok(Some(place_in(&named, count)?)),
+    }
+}
+
+// How many of the fields name each of so many oneofs, where each names one of them or none.
+fn member_counts(alloc: Global, fields: &[&Message], count: usize) -> Result<Vec<usize>, Unstated>
+    ensures counted { IfOk result (λ counts. AreCounted (map message_of (lent fields.now)) count counts.items) }
+    ensures refused { IfErr result (λ e. list_all (has_place count) (map message_of (lent fields.now)) ≡ true → e ≡ Memory) }
+{
     let mut counts: Vec<usize> = vec![in alloc; 0; count]?;
     for field in fields {
-        let Some(named) = maybe_number(field, 9) else {
-            continue;
-        };
-        match counts.get_mut(place_in(&named, count)?) {
-            Some(slot) => *slot = slot.saturating_add(1),
-            None => return Err(Unstated::Reference),
+        let named = named_place(field, count)?;
+        if let Some(place) = named {
+            counts[place] = counts[place].saturating_add(1);
         }
     }
     Ok(counts)
@@ -172,10 +190,14 @@ fn member_counts(alloc: Global, fields: &[&Message], count: usize) -> Result<Vec
 fn entries<'a>(
     alloc: Global,
     messages: &[&'a Message],
-) -> Result<BTreeMap<String, &'a Message>, Unstated> {
+) -> Result<BTreeMap<String, &'a Message>, Unstated>
+    ensures named { IfOk result (λ table. HasNamed table messages.now) }
+    ensures refused { IfErr result (λ e. AllByRecursion IsUtf8 (map (text_at 1) (map message_of (lent messages.now))) → e ≡ Memory) }
+{
     let mut entries = BTreeMap::new(alloc);
     for message in messages {
-        entries.insert(String::from_str(alloc, text(message, 1)?)?, *message)?;
+        let name = String::from_str(alloc, text(message, 1)?)?;
+        entries.insert(name, *message)?;
     }
     Ok(entries)
 }
@@ -203,7 +225,9 @@ fn fields<'a>(
 }
 
 // The numbers of the fields, in their order.
-fn numbers(alloc: Global, fields: &[Field]) -> Result<Vec<u32>, Unstated> {
+fn numbers(alloc: Global, fields: &[Field]) -> Result<Vec<u32>, AllocError>
+    ensures { IfOk result (λ found. found.items ≡ map (λ (f : StatedField). f.number) fields.now) }
+{
     let mut numbers = Vec::new(alloc);
     for field in fields {
         numbers.push(field.number)?;
@@ -211,38 +235,152 @@ fn numbers(alloc: Global, fields: &[Field]) -> Result<Vec<u32>, Unstated> {
     Ok(numbers)
 }
 
-/// The message type of a message.
-pub fn made_type(
+// The fields by rising number.
+fn by_number(mut fields: Vec<Field>) -> Result<Vec<Field>, AllocError>
+    ensures same { IfOk result (λ sorted. IsPermutation fields.items sorted.items) }
+    ensures rising { IfOk result (λ sorted. IsNonDecreasingBy (λ (f : StatedField). f.number) sorted.items) }
+{
+    fields.sort_by_key(|field| field.number)?;
+    Ok(fields)
+}
+
+// The fields of a message type in order of declaration, made of these messages, where it is known which of its
+// oneofs are synthetic.
+fn declared_fields(
     alloc: Global,
     names: &BTreeMap<String, Named>,
     outlined: &OutlinedType<'_>,
-) -> Result<MessageType, Unstated> {
-    let message = outlined.message;
-    let own = children(alloc, message, 2)?;
-    let oneofs = children(alloc, message, 8)?;
-    let places = synthetic_places(alloc, &own)?;
-    let synthetic = marks(alloc, &places, oneofs.len())?;
-    let real = copies(alloc, &real_names(alloc, &oneofs, &places, &synthetic)?)?;
-    let inside = children(alloc, message, 3)?;
-    let entries = entries(alloc, &entries_of(alloc, &inside)?)?;
+    own: &[&Message],
+    synthetic: Vec<bool>,
+) -> Result<Vec<Field>, Unstated>
+    requires own { map message_of (lent own.now) ≡ children_at 2 (message_of outlined.now.message.now) }
+    requires marked { AreMarked (stated_places (map message_of (lent own.now))) (length (children_at 8 (message_of outlined.now.message.now))) synthetic.items }
+    ensures made { IfOk result (λ made. (all : Declared) (scope : List ℕ) (t : StatedType) → StatesMadeType all names.now scope outlined.now t → map field_view made.items ≡ map field_view (fields_of t)) }
+    ensures refused { IfErr result (λ e. (all : Declared) (scope : List ℕ) (t : StatedType) → StatesMadeType all names.now scope outlined.now t → e ≡ Memory) }
+{
+    let inside = children(alloc, outlined.message, 3)?;
+    let messages = entries_of(alloc, &inside)?;
+    let entries = entries(alloc, &messages)?;
+    let members = member_counts(alloc, own, synthetic.len())?;
     let scope = Scope {
         names,
         name: outlined.name.as_str(),
         synthetic,
-        members: member_counts(alloc, &own, oneofs.len())?,
+        members,
     };
-    let mut fields = fields(alloc, &scope, entries, &own)?;
-    let declared = numbers(alloc, &fields)?;
-    fields.sort_by_key(|field| field.number)?;
-    Ok(MessageType {
-        name: outlined.name.clone()?,
+    fields(alloc, &scope, entries, own)
+}
+
+// Own copies of the names of the oneofs that aren't synthetic.
+fn oneof_names(
+    alloc: Global,
+    oneofs: &[&Message],
+    places: &[i128],
+    synthetic: &[bool],
+) -> Result<Vec<String>, Unstated>
+    requires { AreMarked places.now (length oneofs.now) synthetic.now }
+    ensures made { IfOk result (λ made. map string_bytes made.items ≡ map (text_at 1) (real_oneofs places.now 0 (map message_of (lent oneofs.now)))) }
+    ensures refused { IfErr result (λ e. AllByRecursion IsUtf8 (map (text_at 1) (real_oneofs places.now 0 (map message_of (lent oneofs.now)))) → e ≡ Memory) }
+{
+    let names = real_names(alloc, oneofs, places, synthetic)?;
+    Ok(copies(alloc, &names)?)
+}
+
+// The fields of a message type by rising number, their numbers in order of declaration, and its oneofs.
+#[derive(Drop)]
+struct Members {
+    fields: Vec<Field>,
+    declared: Vec<u32>,
+    oneofs: Vec<String>,
+}
+
+// The members of a message type, of its messages of fields and oneofs, where the synthetic ones are marked.
+fn marked_members(
+    alloc: Global,
+    names: &BTreeMap<String, Named>,
+    outlined: &OutlinedType<'_>,
+    own: &[&Message],
+    inside: &[&Message],
+    places: &[i128],
+    synthetic: Vec<bool>,
+) -> Result<Members, Unstated>
+    requires own { map message_of (lent own.now) ≡ children_at 2 (message_of outlined.now.message.now) }
+    requires inside { map message_of (lent inside.now) ≡ children_at 8 (message_of outlined.now.message.now) }
+    requires places { places.now ≡ stated_places (map message_of (lent own.now)) }
+    requires marked { AreMarked places.now (length inside.now) synthetic.items }
+    ensures made { IfOk result (λ made. (all : Declared) (scope : List ℕ) (t : StatedType) → StatesMadeType all names.now scope outlined.now t → HasMembers made t) }
+    ensures refused { IfErr result (λ e. (all : Declared) (scope : List ℕ) (t : StatedType) → StatesMadeType all names.now scope outlined.now t → e ≡ Memory) }
+{
+    let oneofs = oneof_names(alloc, inside, places, &synthetic)?;
+    let made = declared_fields(alloc, names, outlined, own, synthetic)?;
+    let declared = numbers(alloc, &made)?;
+    let fields = by_number(made)?;
+    Ok(Members {
         fields,
         declared,
-        oneofs: real,
-        nested_types: outlined.types.clone()?,
-        nested_enums: outlined.enums.clone()?,
-        reserved_numbers: field_ranges(alloc, &children(alloc, message, 9)?)?,
-        reserved_names: copies(alloc, &texts(alloc, message, 10)?)?,
+        oneofs,
+    })
+}
+
+// The members of a message type, of its messages of fields and oneofs.
+fn members_of(
+    alloc: Global,
+    names: &BTreeMap<String, Named>,
+    outlined: &OutlinedType<'_>,
+    own: &[&Message],
+    inside: &[&Message],
+) -> Result<Members, Unstated>
+    requires own { map message_of (lent own.now) ≡ children_at 2 (message_of outlined.now.message.now) }
+    requires inside { map message_of (lent inside.now) ≡ children_at 8 (message_of outlined.now.message.now) }
+    ensures made { IfOk result (λ made. (all : Declared) (scope : List ℕ) (t : StatedType) → StatesMadeType all names.now scope outlined.now t → HasMembers made t) }
+    ensures refused { IfErr result (λ e. (all : Declared) (scope : List ℕ) (t : StatedType) → StatesMadeType all names.now scope outlined.now t → e ≡ Memory) }
+{
+    let places = synthetic_places(alloc, own)?;
+    let synthetic = marks(alloc, &places, inside.len())?;
+    marked_members(alloc, names, outlined, own, inside, &places, synthetic)
+}
+
+// What a message type has for members.
+fn made_members(
+    alloc: Global,
+    names: &BTreeMap<String, Named>,
+    outlined: &OutlinedType<'_>,
+) -> Result<Members, Unstated>
+    ensures made { IfOk result (λ made. (all : Declared) (scope : List ℕ) (t : StatedType) → StatesMadeType all names.now scope outlined.now t → HasMembers made t) }
+    ensures refused { IfErr result (λ e. (all : Declared) (scope : List ℕ) (t : StatedType) → StatesMadeType all names.now scope outlined.now t → e ≡ Memory) }
+{
+    let own = children(alloc, outlined.message, 2)?;
+    let inside = children(alloc, outlined.message, 8)?;
+    members_of(alloc, names, outlined, &own, &inside)
+}
+
+/// The message type of a message. Refused, memory aside, only where none is stated.
+pub fn made_type(
+    alloc: Global,
+    names: &BTreeMap<String, Named>,
+    outlined: &OutlinedType<'_>,
+) -> Result<MessageType, Unstated>
+    ensures made { IfOk result (λ made. (all : Declared) (scope : List ℕ) (t : StatedType) → StatesMadeType all names.now scope outlined.now t → type_view made ≡ type_view t) }
+    ensures refused { IfErr result (λ e. (all : Declared) (scope : List ℕ) (t : StatedType) → StatesMadeType all names.now scope outlined.now t → e ≡ Memory) }
+{
+    let message = outlined.message;
+    let members = made_members(alloc, names, outlined)?;
+    let ranges = children(alloc, message, 9)?;
+    let reserved_numbers = field_ranges(alloc, &ranges)?;
+    let reserved = texts(alloc, message, 10)?;
+    let reserved_names = copies(alloc, &reserved)?;
+    let name = outlined.name.clone()?;
+    let nested_types = outlined.types.clone()?;
+    let nested_enums = outlined.enums.clone()?;
+    Ok(MessageType {
+        name,
+        fields: members.fields,
+        declared: members.declared,
+        oneofs: members.oneofs,
+        nested_types,
+        nested_enums,
+        reserved_numbers,
+        reserved_names,
         options: MessageOptions {
             deprecated: option(message, 7, 3),
         },

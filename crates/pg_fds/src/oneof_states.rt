@@ -1,7 +1,8 @@
 //! Whether the messages of a set state oneofs. What they don't state is told as a bad reference.
 
-ghost use Rattle.std.specs.Prelude.{◌≡◌, Some, true, IfErr, IfOk, OnOk, length, filter, map};
-ghost use Rattle.std.specs.List.{AllZip, list_all};
+ghost use Rattle.std.specs.Prelude.{◌≡◌, Some, true, IfErr, IfOk, OnErr, OnOk, length, filter, map};
+ghost use Rattle.std.specs.List.{AllByRecursion, AllZip, list_all};
+ghost use Rattle.std.specs.Str.{IsUtf8};
 ghost use Rattle.std.specs.String.{string_bytes};
 ghost use Rattle.pg_dyn.specs.Kept.{message_of};
 ghost use Rattle.pg_fds.specs.declared.error.Unstated.TheVariants.{Memory};
@@ -69,7 +70,8 @@ pub fn real_names<'a>(
     marks: &[bool],
 ) -> Result<Vec<&'a str>, Unstated>
     requires { AreMarked numbers.now (length oneofs.now) marks.now }
-    ensures { IfOk result (λ names. lent names.items ≡ map (text_at 1) (real_oneofs numbers.now 0 (map message_of (lent oneofs.now)))) }
+    ensures ok { IfOk result (λ names. lent names.items ≡ map (text_at 1) (real_oneofs numbers.now 0 (map message_of (lent oneofs.now)))) }
+    ensures refused { IfErr result (λ r. AllByRecursion IsUtf8 (map (text_at 1) (real_oneofs numbers.now 0 (map message_of (lent oneofs.now)))) → r ≡ Memory) }
 {
     let mut names = Vec::new(alloc);
     for (place, oneof) in oneofs.iter().enumerate() {
@@ -90,7 +92,8 @@ fn names_oneof(
     own: u32,
 ) -> Result<(), Unstated>
     requires { AreMarked numbers.now (length oneofs.now) marks.now }
-    ensures { OnOk result (NamesOneof (map message_of (lent oneofs.now)) numbers.now (map string_bytes names.now) (Some named.now) (Some own)) }
+    ensures ok { OnOk result (NamesOneof (map message_of (lent oneofs.now)) numbers.now (map string_bytes names.now) (Some named.now) (Some own)) }
+    ensures refused { OnErr result (NamesOneof (map message_of (lent oneofs.now)) numbers.now (map string_bytes names.now) (Some named.now) (Some own) → ⊥) }
 {
     let place = place_in(named, oneofs.len())?;
     let own = own as usize;
@@ -113,7 +116,8 @@ fn stands_in(
     declared: &Field,
 ) -> Result<(), Unstated>
     requires { AreMarked numbers.now (length oneofs.now) marks.now }
-    ensures { OnOk result (StandsIn (map message_of (lent oneofs.now)) numbers.now (map string_bytes names.now) (message_of message.now) declared.now) }
+    ensures ok { OnOk result (StandsIn (map message_of (lent oneofs.now)) numbers.now (map string_bytes names.now) (message_of message.now) declared.now) }
+    ensures refused { OnErr result (StandsIn (map message_of (lent oneofs.now)) numbers.now (map string_bytes names.now) (message_of message.now) declared.now → ⊥) }
 {
     if declared.states_optional {
         return Ok(());
@@ -134,7 +138,8 @@ fn members(
     declared: &[&Field],
 ) -> Result<(), Unstated>
     requires { AreMarked numbers.now (length oneofs.now) marks.now }
-    ensures { OnOk result (AllZip (StandsIn (map message_of (lent oneofs.now)) numbers.now (map string_bytes names.now)) (map message_of (lent messages.now)) (lent declared.now)) }
+    ensures ok { OnOk result (AllZip (StandsIn (map message_of (lent oneofs.now)) numbers.now (map string_bytes names.now)) (map message_of (lent messages.now)) (lent declared.now)) }
+    ensures refused { OnErr result (AllZip (StandsIn (map message_of (lent oneofs.now)) numbers.now (map string_bytes names.now)) (map message_of (lent messages.now)) (lent declared.now) → ⊥) }
 {
     ensure(messages.len() == declared.len())?;
     for (place, message) in messages.iter().enumerate() {
@@ -155,7 +160,8 @@ fn marked_oneofs(
 ) -> Result<(), Unstated>
     requires synthetic { numbers.now ≡ synthetic_places (map message_of (lent messages.now)) }
     requires marked { AreMarked numbers.now (length oneofs.now) marks.now }
-    ensures { OnOk result (StatesOneofs (map message_of (lent oneofs.now)) (map message_of (lent messages.now)) message_type.now (lent declared.now)) }
+    ensures ok { OnOk result (StatesOneofs (map message_of (lent oneofs.now)) (map message_of (lent messages.now)) message_type.now (lent declared.now)) }
+    ensures refused { IfErr result (λ r. StatesOneofs (map message_of (lent oneofs.now)) (map message_of (lent messages.now)) message_type.now (lent declared.now) → r ≡ Memory) }
 {
     let stated = message_type.oneofs.as_slice();
     let names = real_names(alloc, oneofs, numbers, marks)?;
@@ -179,7 +185,8 @@ pub fn oneofs(
     message_type: &MessageType,
     declared: &[&Field],
 ) -> Result<(), Unstated>
-    ensures { OnOk result (StatesOneofs (map message_of (lent oneofs.now)) (map message_of (lent messages.now)) message_type.now (lent declared.now)) }
+    ensures ok { OnOk result (StatesOneofs (map message_of (lent oneofs.now)) (map message_of (lent messages.now)) message_type.now (lent declared.now)) }
+    ensures refused { IfErr result (λ r. StatesOneofs (map message_of (lent oneofs.now)) (map message_of (lent messages.now)) message_type.now (lent declared.now) → r ≡ Memory) }
 {
     let numbers = synthetic_places(alloc, messages)?;
     let marks = marks(alloc, &numbers, oneofs.len())?;

@@ -1,13 +1,13 @@
 //! The order of a set's files: each behind those that it imports.
 
 ghost use Rattle.std.specs.Prelude.{◌≡◌, ◌⊎◌, false, true, ℕ, List, IfErr, IfOk, OnOk, map};
-ghost use Rattle.std.specs.List.{list_all};
+ghost use Rattle.std.specs.List.{AllByRecursion, list_all};
 ghost use Rattle.pg_schema.specs.Pairs.{are_distinct};
 ghost use Rattle.pg_schema.specs.TextSets.{is_among};
 ghost use Rattle.pg_dyn.specs.Kept.{message_of};
 ghost use Rattle.pg_fds.specs.declared.error.Unstated.TheVariants as errors;
 ghost use Rattle.pg_fds.specs.Lent.{lent};
-ghost use Rattle.pg_fds.specs.FilePlaces.{AreOrdered, ImportsAt, IsIndex, StandAt, importer, importers};
+ghost use Rattle.pg_fds.specs.FilePlaces.{AreOrdered, HasPathTexts, ImportsAt, IsIndex, StandAt, importer, importers};
 ghost use Rattle.pg_fds.specs.PostOrder.{HasNoOrder, imports_once, kept_paths, paths_of};
 ghost use Rattle.pg_fds.specs.Reads.{importer_of};
 ghost use Rattle.pg_fds.specs.Walks.{lists_of};
@@ -114,29 +114,33 @@ fn order_of(alloc: Global, skips: bool, files: &[Importing<'_>]) -> Result<Vec<u
 
 // What a file says of its name and its imports.
 fn importing_file(alloc: Global, file: &Message) -> Result<Importing<'_>, Unstated>
-    ensures { IfOk result (λ i. importer i ≡ importer_of (message_of file.now)) }
+    ensures ok { IfOk result (λ i. importer i ≡ importer_of (message_of file.now)) }
+    ensures refused { IfErr result (λ e. HasPathTexts (message_of file.now) → e ≡ errors.Memory) }
 {
-    Ok(Importing {
-        name: text(file, 1)?,
-        paths: texts(alloc, file, 3)?,
-    })
+    let name = text(file, 1)?;
+    let paths = texts(alloc, file, 3)?;
+    Ok(Importing { name, paths })
 }
 
 // The same of all files.
 fn importing_files<'a>(alloc: Global, files: &[&'a Message]) -> Result<Vec<Importing<'a>>, Unstated>
-    ensures { IfOk result (λ found. importers found.items ≡ map importer_of (map message_of (lent files.now))) }
+    ensures ok { IfOk result (λ found. importers found.items ≡ map importer_of (map message_of (lent files.now))) }
+    ensures refused { IfErr result (λ e. AllByRecursion HasPathTexts (map message_of (lent files.now)) → e ≡ errors.Memory) }
 {
     let mut found = Vec::new(alloc);
     for file in files {
-        found.push(importing_file(alloc, file)?)?;
+        let importing = importing_file(alloc, file)?;
+        found.push(importing)?;
     }
     Ok(found)
 }
 
 /// The places of the files in post-order of imports, begun at the files in their order: each stands behind
-/// those that it imports.
+/// those that it imports. Refused, memory aside, only where they have no order, or what one says of its name and
+/// its imports is no text.
 pub fn order(alloc: Global, skips: bool, files: &[&Message]) -> Result<Vec<usize>, Unstated>
-    ensures { IfOk result (λ order. AreOrdered skips (map importer_of (map message_of (lent files.now))) order.items) }
+    ensures ok { IfOk result (λ order. AreOrdered skips (map importer_of (map message_of (lent files.now))) order.items) }
+    ensures refused { IfErr result (λ e. AllByRecursion HasPathTexts (map message_of (lent files.now)) → (e ≡ errors.Memory) ⊎ HasNoOrder skips (map importer_of (map message_of (lent files.now)))) }
 {
     let found = importing_files(alloc, files)?;
     order_of(alloc, skips, &found)

@@ -20,7 +20,7 @@ use crate::descriptor::descriptor_schema;
 use crate::error::{FdsError, Unstated};
 use crate::file_states::is_proto3;
 use crate::in_order::in_order;
-use crate::made_files::made_parts;
+use crate::made_parts::made_parts;
 use crate::order::order;
 use crate::outline::outline_files;
 use crate::places::SET;

@@ -81,8 +81,8 @@ pub fn items(alloc: Global, message: &Message, number: u32) -> Result<Vec<&Value
 
 // ---- what an item is
 
-// The message that an item is.
-fn child_in(value: &Value) -> Option<&Message>
+/// The message that an item is.
+pub fn child_in(value: &Value) -> Option<&Message>
     ensures { option_map message_of (option_copied result) ≡ child_in (shown value.now) }
 {
     match value {
@@ -91,8 +91,8 @@ fn child_in(value: &Value) -> Option<&Message>
     }
 }
 
-// The text that an item is, unless its bytes are none.
-fn text_in(value: &Value) -> Result<&str, Unstated>
+/// The text that an item is, unless its bytes are none.
+pub fn text_in(value: &Value) -> Result<&str, Unstated>
     ensures ok { IfOk result (λ text. text.now ≡ text_of (shown value.now)) }
     ensures refused { OnErr result (IsUtf8 (text_of (shown value.now)) → ⊥) }
 {
@@ -106,7 +106,8 @@ fn text_in(value: &Value) -> Result<&str, Unstated>
     }
 }
 
-fn number_in(value: &Value) -> i128
+/// The number that an item is, 0 where it is none.
+pub fn number_in(value: &Value) -> i128
     ensures { result ≡ number_of (shown value.now) }
 {
     match value {

@@ -1,9 +1,10 @@
 //! Whether the messages of a set state services. What they don't state is told as a bad reference.
 
-ghost use Rattle.std.specs.Prelude.{◌≡◌, OnOk, map, option_map, slice_get, IsSomeAnd};
+ghost use Rattle.std.specs.Prelude.{◌≡◌, IfErr, OnOk, map, option_map, slice_get, IsSomeAnd};
 ghost use Rattle.std.specs.List.{AllZip};
 ghost use Rattle.std.specs.String.{string_bytes};
 ghost use Rattle.pg_dyn.specs.Kept.{message_of};
+ghost use Rattle.pg_fds.specs.declared.error.Unstated.TheVariants.{Memory};
 ghost use Rattle.pg_fds.specs.Lent.{lent};
 ghost use Rattle.pg_fds.specs.Places.{declared_in};
 ghost use Rattle.pg_fds.specs.Said.{maybe_text_at};
@@ -25,7 +26,8 @@ fn called(
     number: u32,
     id: TypeId,
 ) -> Result<(), Unstated>
-    ensures { OnOk result (StatesCalled (declared_in source.now) (maybe_text_at number (message_of message.now)) id) }
+    ensures ok { OnOk result (StatesCalled (declared_in source.now) (maybe_text_at number (message_of message.now)) id) }
+    ensures refused { IfErr result (λ r. StatesCalled (declared_in source.now) (maybe_text_at number (message_of message.now)) id → r ≡ Memory) }
 {
     let Some(declared) = source.message_type(id) else {
         return Err(Unstated::Reference);
@@ -44,7 +46,8 @@ fn method(
     message: &Message,
     declared: &Method,
 ) -> Result<(), Unstated>
-    ensures { OnOk result (StatesMethod (declared_in source.now) (message_of message.now) declared.now) }
+    ensures ok { OnOk result (StatesMethod (declared_in source.now) (message_of message.now) declared.now) }
+    ensures refused { IfErr result (λ r. StatesMethod (declared_in source.now) (message_of message.now) declared.now → r ≡ Memory) }
 {
     same_text(text(message, 1)?, &declared.name)?;
     called(alloc, source, message, 2, declared.input)?;
@@ -60,7 +63,8 @@ fn methods(
     messages: &[&Message],
     declared: &[Method],
 ) -> Result<(), Unstated>
-    ensures { OnOk result (AllZip (StatesMethod (declared_in source.now)) (map message_of (lent messages.now)) declared.now) }
+    ensures ok { OnOk result (AllZip (StatesMethod (declared_in source.now)) (map message_of (lent messages.now)) declared.now) }
+    ensures refused { IfErr result (λ r. AllZip (StatesMethod (declared_in source.now)) (map message_of (lent messages.now)) declared.now → r ≡ Memory) }
 {
     ensure(messages.len() == declared.len())?;
     for (place, message) in messages.iter().enumerate() {
@@ -76,7 +80,8 @@ fn service(
     message: &Message,
     declared: &Service,
 ) -> Result<(), Unstated>
-    ensures { OnOk result (StatesService (declared_in source.now) scope.now (message_of message.now) declared.now) }
+    ensures ok { OnOk result (StatesService (declared_in source.now) scope.now (message_of message.now) declared.now) }
+    ensures refused { IfErr result (λ r. StatesService (declared_in source.now) scope.now (message_of message.now) declared.now → r ≡ Memory) }
 {
     is_within(alloc, scope, text(message, 1)?, &declared.name)?;
     methods(
@@ -95,7 +100,8 @@ fn service_at(
     message: &Message,
     id: ServiceId,
 ) -> Result<(), Unstated>
-    ensures { OnOk result (IsSomeAnd (slice_get source.now.services.items id.index) (StatesService (declared_in source.now) scope.now (message_of message.now))) }
+    ensures ok { OnOk result (IsSomeAnd (slice_get source.now.services.items id.index) (StatesService (declared_in source.now) scope.now (message_of message.now))) }
+    ensures refused { IfErr result (λ r. IsSomeAnd (slice_get source.now.services.items id.index) (StatesService (declared_in source.now) scope.now (message_of message.now)) → r ≡ Memory) }
 {
     let parts = source.parts();
     match parts.services.get(id.index as usize) {
@@ -112,7 +118,8 @@ pub fn services(
     messages: &[&Message],
     ids: &[ServiceId],
 ) -> Result<(), Unstated>
-    ensures { OnOk result (StatesServices (declared_in source.now) scope.now (map message_of (lent messages.now)) ids.now) }
+    ensures ok { OnOk result (StatesServices (declared_in source.now) scope.now (map message_of (lent messages.now)) ids.now) }
+    ensures refused { IfErr result (λ r. StatesServices (declared_in source.now) scope.now (map message_of (lent messages.now)) ids.now → r ≡ Memory) }
 {
     ensure(messages.len() == ids.len())?;
     for (place, message) in messages.iter().enumerate() {

@@ -33,7 +33,8 @@ pub fn same_text(found: &str, stated: &str) -> Result<(), Unstated>
 
 /// The texts are the same, one by one.
 pub fn same_texts(found: &[&str], stated: &[String]) -> Result<(), Unstated>
-    ensures { OnOk result (lent found.now ≡ map string_bytes stated.now) }
+    ensures ok { OnOk result (lent found.now ≡ map string_bytes stated.now) }
+    ensures refused { OnErr result (lent found.now ≡ map string_bytes stated.now → ⊥) }
 {
     ensure(found.len() == stated.len())?;
     for (place, text) in found.iter().enumerate() {
@@ -44,7 +45,8 @@ pub fn same_texts(found: &[&str], stated: &[String]) -> Result<(), Unstated>
 
 /// The full name is that of a name which the scope declares.
 pub fn is_within(alloc: Global, scope: &str, own: &str, full: &str) -> Result<(), Unstated>
-    ensures { OnOk result (full.now ≡ within scope.now own.now) }
+    ensures ok { OnOk result (full.now ≡ within scope.now own.now) }
+    ensures refused { IfErr result (λ r. full.now ≡ within scope.now own.now → r ≡ Memory) }
 {
     let stated = dotted_within(alloc, scope, own)?;
     let declared = dotted(alloc, full)?;
@@ -54,7 +56,8 @@ pub fn is_within(alloc: Global, scope: &str, own: &str, full: &str) -> Result<()
 // ---- enums
 
 fn value(message: &Message, declared: &EnumValue) -> Result<(), Unstated>
-    ensures { OnOk result (StatesValue (message_of message.now) declared.now) }
+    ensures ok { OnOk result (StatesValue (message_of message.now) declared.now) }
+    ensures refused { OnErr result (StatesValue (message_of message.now) declared.now → ⊥) }
 {
     same_text(text(message, 1)?, &declared.name)?;
     ensure(number(message, 2) == i128::from(declared.number))?;
@@ -62,7 +65,8 @@ fn value(message: &Message, declared: &EnumValue) -> Result<(), Unstated>
 }
 
 fn values(messages: &[&Message], declared: &[EnumValue]) -> Result<(), Unstated>
-    ensures { OnOk result (AllZip StatesValue (map message_of (lent messages.now)) declared.now) }
+    ensures ok { OnOk result (AllZip StatesValue (map message_of (lent messages.now)) declared.now) }
+    ensures refused { OnErr result (AllZip StatesValue (map message_of (lent messages.now)) declared.now → ⊥) }
 {
     ensure(messages.len() == declared.len())?;
     for (place, message) in messages.iter().enumerate() {
@@ -72,14 +76,16 @@ fn values(messages: &[&Message], declared: &[EnumValue]) -> Result<(), Unstated>
 }
 
 fn value_range(message: &Message, declared: ReservedValues) -> Result<(), Unstated>
-    ensures { OnOk result (StatesValueRange (message_of message.now) declared) }
+    ensures ok { OnOk result (StatesValueRange (message_of message.now) declared) }
+    ensures refused { OnErr result (StatesValueRange (message_of message.now) declared → ⊥) }
 {
     ensure(number(message, 1) == i128::from(declared.first))?;
     ensure(number(message, 2) == i128::from(declared.last))
 }
 
 fn value_ranges(messages: &[&Message], declared: &[ReservedValues]) -> Result<(), Unstated>
-    ensures { OnOk result (AllZip StatesValueRange (map message_of (lent messages.now)) declared.now) }
+    ensures ok { OnOk result (AllZip StatesValueRange (map message_of (lent messages.now)) declared.now) }
+    ensures refused { OnErr result (AllZip StatesValueRange (map message_of (lent messages.now)) declared.now → ⊥) }
 {
     ensure(messages.len() == declared.len())?;
     for (place, message) in messages.iter().enumerate() {
@@ -94,7 +100,8 @@ fn enum_type(
     message: &Message,
     declared: &EnumType,
 ) -> Result<(), Unstated>
-    ensures { OnOk result (StatesEnum scope.now (message_of message.now) declared.now) }
+    ensures ok { OnOk result (StatesEnum scope.now (message_of message.now) declared.now) }
+    ensures refused { IfErr result (λ r. StatesEnum scope.now (message_of message.now) declared.now → r ≡ Memory) }
 {
     is_within(alloc, scope, text(message, 1)?, &declared.name)?;
     values(&children(alloc, message, 2)?, &declared.values)?;
@@ -111,7 +118,8 @@ fn enum_at(
     message: &Message,
     id: EnumId,
 ) -> Result<(), Unstated>
-    ensures { OnOk result (IsSomeAnd (slice_get source.now.enums.items id.index) (StatesEnum scope.now (message_of message.now))) }
+    ensures ok { OnOk result (IsSomeAnd (slice_get source.now.enums.items id.index) (StatesEnum scope.now (message_of message.now))) }
+    ensures refused { IfErr result (λ r. IsSomeAnd (slice_get source.now.enums.items id.index) (StatesEnum scope.now (message_of message.now)) → r ≡ Memory) }
 {
     match source.enum_type(id) {
         Some(declared) => enum_type(alloc, scope, message, declared),
@@ -127,7 +135,8 @@ pub fn enums(
     messages: &[&Message],
     ids: &[EnumId],
 ) -> Result<(), Unstated>
-    ensures { OnOk result (StatesEnums (declared_in source.now) scope.now (map message_of (lent messages.now)) ids.now) }
+    ensures ok { OnOk result (StatesEnums (declared_in source.now) scope.now (map message_of (lent messages.now)) ids.now) }
+    ensures refused { IfErr result (λ r. StatesEnums (declared_in source.now) scope.now (map message_of (lent messages.now)) ids.now → r ≡ Memory) }
 {
     ensure(messages.len() == ids.len())?;
     for (place, message) in messages.iter().enumerate() {
@@ -164,7 +173,8 @@ pub fn has_json_name(alloc: Global, message: &Message, stated: &str) -> Result<(
 
 /// The field names this type, or none.
 pub fn has_type_name(message: &Message, stated: &Option<String>) -> Result<(), Unstated>
-    ensures { OnOk result (maybe_text_at 6 (message_of message.now) ≡ option_map string_bytes stated.now) }
+    ensures ok { OnOk result (maybe_text_at 6 (message_of message.now) ≡ option_map string_bytes stated.now) }
+    ensures refused { OnErr result (maybe_text_at 6 (message_of message.now) ≡ option_map string_bytes stated.now → ⊥) }
 {
     match (maybe_text(message, 6)?, stated) {
         (Some(found), Some(name)) => same_text(found, name),
@@ -180,7 +190,8 @@ fn field(
     message: &Message,
     declared: &Field,
 ) -> Result<(), Unstated>
-    ensures { OnOk result (StatesField (declared_in source.now) scope.now (message_of message.now) declared.now) }
+    ensures ok { OnOk result (StatesField (declared_in source.now) scope.now (message_of message.now) declared.now) }
+    ensures refused { IfErr result (λ r. StatesField (declared_in source.now) scope.now (message_of message.now) declared.now → r ≡ Memory) }
 {
     let code = type_code(declared.presence, declared.element);
     let type_name = named_type(alloc, source, scope, declared)?;
@@ -203,7 +214,8 @@ pub fn fields(
     messages: &[&Message],
     declared: &[&Field],
 ) -> Result<(), Unstated>
-    ensures { OnOk result (AllZip (StatesField (declared_in source.now) scope.now) (map message_of (lent messages.now)) (lent declared.now)) }
+    ensures ok { OnOk result (AllZip (StatesField (declared_in source.now) scope.now) (map message_of (lent messages.now)) (lent declared.now)) }
+    ensures refused { IfErr result (λ r. AllZip (StatesField (declared_in source.now) scope.now) (map message_of (lent messages.now)) (lent declared.now) → r ≡ Memory) }
 {
     ensure(messages.len() == declared.len())?;
     for (place, message) in messages.iter().enumerate() {
@@ -213,7 +225,8 @@ pub fn fields(
 }
 
 fn field_range(message: &Message, declared: ReservedFields) -> Result<(), Unstated>
-    ensures { OnOk result (StatesFieldRange (message_of message.now) declared) }
+    ensures ok { OnOk result (StatesFieldRange (message_of message.now) declared) }
+    ensures refused { OnErr result (StatesFieldRange (message_of message.now) declared → ⊥) }
 {
     ensure(number(message, 1) == i128::from(declared.first))?;
     ensure(number(message, 2) == i128::from(declared.last) + 1)
@@ -221,7 +234,8 @@ fn field_range(message: &Message, declared: ReservedFields) -> Result<(), Unstat
 
 /// The messages state the reserved field numbers.
 pub fn field_ranges(messages: &[&Message], declared: &[ReservedFields]) -> Result<(), Unstated>
-    ensures { OnOk result (AllZip StatesFieldRange (map message_of (lent messages.now)) declared.now) }
+    ensures ok { OnOk result (AllZip StatesFieldRange (map message_of (lent messages.now)) declared.now) }
+    ensures refused { OnErr result (AllZip StatesFieldRange (map message_of (lent messages.now)) declared.now → ⊥) }
 {
     ensure(messages.len() == declared.len())?;
     for (place, message) in messages.iter().enumerate() {

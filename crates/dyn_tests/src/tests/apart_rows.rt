@@ -1,7 +1,7 @@
 //! Made by tools/decode_rows.py: bytes that python3-protobuf takes otherwise, on purpose. Each has what this crate writes again,
 //! what that runtime does, none where it refuses the bytes, and why.
 
-pub(super) static ROWS: [(&[u8], Option<&[u8]>, Option<&[u8]>, &str); 10] = [
+pub(super) static ROWS: [(&[u8], Option<&[u8]>, Option<&[u8]>, &str); 21] = [
     (
         b"\x4b\x4c",
         None,
@@ -43,6 +43,72 @@ pub(super) static ROWS: [(&[u8], Option<&[u8]>, Option<&[u8]>, &str); 10] = [
         Some(b"\x48\x81\x00"),
         Some(b"\x48\x01"),
         "an unknown record stays byte for byte; the runtime writes its varint with the fewest bytes",
+    ),
+    (
+        b"\x0a\x02\x4b\x4c",
+        None,
+        Some(b"\x0a\x02\x4b\x4c"),
+        "a group is no record here, inside a message neither; the runtime keeps it there",
+    ),
+    (
+        b"\x22\x02\x4b\x4c",
+        None,
+        Some(b"\x22\x06\x08\x00\x12\x00\x4b\x4c"),
+        "a group is no record here, inside an entry neither; the runtime keeps it until its map is read",
+    ),
+    (
+        b"\x13\x10\x05\x14",
+        None,
+        Some(b"\x13\x10\x05\x14"),
+        "a group is no record here, of a field's number neither; the runtime keeps it as unknown",
+    ),
+    (
+        b"\x10\x05\x0c\x10\x07",
+        None,
+        Some(b"\x10\x05"),
+        "an end of a group is no record here; the runtime ends the message at it, whatever follows",
+    ),
+    (
+        b"\x04",
+        None,
+        Some(b""),
+        "no field has the number 0; the runtime ends the message at an end of a group of it",
+    ),
+    (
+        b"\x80\x00\x10\x05",
+        None,
+        Some(b""),
+        "no field has the number 0, in a longer tag neither; the runtime ends the message at it",
+    ),
+    (
+        b"\xf8\xff\xff\xff\x1f\x05",
+        None,
+        Some(b"\xf8\xff\xff\xff\x0f\x05"),
+        "a tag of 2^32 and more has no field's number; the runtime keeps it as one of 32 bits",
+    ),
+    (
+        b"\x80\x80\x80\x80\x10\x05",
+        None,
+        Some(b""),
+        "a tag of 2^32 has no field's number; the runtime takes it for the byte 0",
+    ),
+    (
+        b"\x48\xff\xff\xff\xff\xff\xff\xff\xff\xff\x7f",
+        Some(b"\x48\xff\xff\xff\xff\xff\xff\xff\xff\xff\x7f"),
+        Some(b"\x48\xff\xff\xff\xff\xff\xff\xff\xff\xff\x01"),
+        "an unknown record stays byte for byte; the runtime drops bits above 64",
+    ),
+    (
+        b"\xc8\x00\x05",
+        Some(b"\xc8\x00\x05"),
+        Some(b"\x48\x05"),
+        "an unknown record stays byte for byte; the runtime writes its tag with the fewest bytes",
+    ),
+    (
+        b"\x4a\x81\x00\x61",
+        Some(b"\x4a\x81\x00\x61"),
+        Some(b"\x4a\x01\x61"),
+        "an unknown record stays byte for byte; the runtime writes its length with the fewest bytes",
     ),
     (
         b"\x22\x04\x18\x07\x08\x05",

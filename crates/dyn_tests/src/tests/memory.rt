@@ -1,46 +1,68 @@
 //! Each allocation refused in turn: `rt try --test --fail-alloc N`.
-use super::nested::again;
+use super::copying::copied;
+use super::nested::{again, read_within};
 use super::runtime::type_of_rows;
-use super::{M, read, schema_of, set, whole, write};
+use super::schemas::schema_of;
+use super::{M, is_or_lacks_memory, read, set, whole, write};
 use pg_dyn::{Content, DynError, Message, Value};
-use pg_schema::Scalar;
+use pg_schema::{Scalar, Schema};
 use std::alloc::{AllocError, Global};
+use std::process::Abort;
 use std::test::Fail;
+
+/// A text in field 1 and bytes in field 2.
+fn of_texts(alloc: Global) -> Result<Schema, Fail> {
+    schema_of(alloc, &[(1, Scalar::String), (2, Scalar::Bytes)])
+}
+
+fn one_item(alloc: Global, item: &[u8]) -> Result<Content, AllocError> {
+    Ok(Content::One(bytes(alloc, item)?))
+}
+
+/// Whether the content is one item of bytes, these.
+fn is_item(content: &Content, item: &[u8]) -> bool {
+    matches!(content, Content::One(Value::Bytes(bytes)) if bytes.as_slice() == item)
+}
 
 // Where memory is refused, the message is as it was, and the content comes back as it was handed in.
 #[test]
 fn a_refused_set(rt: HostRuntime) -> Result<(), Fail> {
-    let alloc = rt.alloc();
-    let schema = schema_of(alloc, &[(1, Scalar::String), (2, Scalar::Bytes)])?;
-    let mut message = Message::empty(alloc, M);
-    let bytes = Content::One(Value::Bytes(Vec::from_slice(alloc, b"a")?));
-    let Err((error, back)) = set(&schema, &mut message, 1, bytes) else {
-        assert!(rt; matches!(message.get(1), Some(Content::One(Value::Text(_)))));
-        return Ok(());
-    };
-    assert_eq!(rt; error, DynError::Memory);
-    assert!(rt;
-        matches!(&back, Content::One(Value::Bytes(bytes)) if bytes.as_slice() == b"a".as_slice())
-    );
-    assert!(rt; message.get(1).is_none());
+    let schema = of_texts(rt.alloc())?;
+    let mut message = Message::empty(rt.alloc(), M);
+    match set(&schema, &mut message, 1, one_item(rt.alloc(), b"a")?) {
+        Ok(()) => assert!(rt; matches!(message.get(1), Some(Content::One(Value::Text(_))))),
+        Err((error, back)) => {
+            assert!(rt; error == DynError::Memory && is_item(&back, b"a"));
+            assert!(rt; message.get(1).is_none());
+        }
+    }
     Ok(())
+}
+
+/// The bytes of a message of these contents, by that schema.
+fn written(
+    alloc: Global,
+    schema: &Schema,
+    contents: Vec<(u32, Content)>,
+) -> Result<Vec<u8>, DynError> {
+    let message = whole(alloc, schema, contents)?;
+    write(alloc, schema, &message)
 }
 
 // The calls that make something of their own answer it, or that memory was refused.
 #[test]
 fn refused_calls(rt: HostRuntime) -> Result<(), Fail> {
-    let alloc = rt.alloc();
-    let schema = schema_of(alloc, &[(1, Scalar::String), (2, Scalar::Bytes)])?;
-    let one = (2, Content::One(Value::Bytes(Vec::from_slice(alloc, b"b")?)));
-    let contents = vec![in alloc; one]?;
-    match whole(alloc, &schema, contents) {
-        Ok(message) => match write(alloc, &schema, &message) {
-            Ok(bytes) => assert_eq!(rt; bytes.as_slice(), b"\x12\x01b".as_slice()),
-            Err(error) => assert_eq!(rt; error, DynError::Memory),
-        },
-        Err(error) => assert_eq!(rt; error, DynError::Memory),
-    }
-    match read(alloc, &schema, b"\x0a\x01a\x12\x01b\x18\x05") {
+    let schema = of_texts(rt.alloc())?;
+    let contents = vec![in rt.alloc(); (2, one_item(rt.alloc(), b"b")?)]?;
+    let found = written(rt.alloc(), &schema, contents);
+    is_or_lacks_memory(&rt, found, b"\x12\x01b");
+    Ok(())
+}
+
+#[test]
+fn refused_unknown_records(rt: HostRuntime) -> Result<(), Fail> {
+    let schema = of_texts(rt.alloc())?;
+    match read(rt.alloc(), &schema, b"\x0a\x01a\x12\x01b\x18\x05") {
         Ok(message) => assert_eq!(rt; message.unknown().len(), 1),
         Err(error) => assert_eq!(rt; error, DynError::Memory),
     }
@@ -56,32 +78,74 @@ fn bytes(alloc: Global, byte: &[u8]) -> Result<Value, AllocError> {
     Ok(Value::Bytes(Vec::from_slice(alloc, byte)?))
 }
 
+/// A map by falling keys, of texts that come as bytes.
+fn falling(alloc: Global) -> Result<Content, AllocError> {
+    let mut entries = Vec::new(alloc);
+    entries.push((Value::Int(2), bytes(alloc, b"b")?))?;
+    entries.push((Value::Int(1), bytes(alloc, b"a")?))?;
+    Ok(Content::Map(entries))
+}
+
+/// Two messages.
+fn children(alloc: Global) -> Result<Content, AllocError> {
+    let mut children = Vec::new(alloc);
+    children.push(child(alloc)?)?;
+    children.push(child(alloc)?)?;
+    Ok(Content::Many(children))
+}
+
+/// Numbers and messages in lists, a map, and the second member of the oneof.
+fn later_shapes(
+    alloc: Global,
+    mut contents: Vec<(u32, Content)>,
+) -> Result<Vec<(u32, Content)>, AllocError> {
+    let numbers = vec![in alloc; Value::Int(1), Value::Int(-1)]?;
+    contents.push((3, Content::Many(numbers)))?;
+    contents.push((4, falling(alloc)?))?;
+    contents.push((5, children(alloc)?))?;
+    contents.push((7, Content::One(Value::Int(7))))?;
+    Ok(contents)
+}
+
 // Contents of the type of rows: a member of the oneof, messages inside, lists, a map by falling keys, and the other
 // member. The texts come as bytes.
 fn all_shapes(alloc: Global) -> Result<Vec<(u32, Content)>, AllocError> {
-    let entries = vec![in alloc;
-        (Value::Int(2), bytes(alloc, b"b")?),
-        (Value::Int(1), bytes(alloc, b"a")?),
-    ]?;
-    Ok(vec![in alloc;
-        (6, Content::One(bytes(alloc, b"c")?)),
-        (1, Content::One(child(alloc)?)),
-        (
-            3,
-            Content::Many(vec![in alloc; Value::Int(1), Value::Int(-1)]?)
-        ),
-        (4, Content::Map(entries)),
-        (
-            5,
-            Content::Many(vec![in alloc; child(alloc)?, child(alloc)?]?)
-        ),
-        (7, Content::One(Value::Int(7))),
-    ]?)
+    let mut contents = Vec::new(alloc);
+    contents.push((6, one_item(alloc, b"c")?))?;
+    contents.push((1, Content::One(child(alloc)?)))?;
+    later_shapes(alloc, contents)
 }
 
 // What is written of these, the first member of the oneof taken out.
-const ALL_SHAPES: [u8; 29] =
+pub(super) const ALL_SHAPES: [u8; 29] =
     *b"\x0a\x00\x1a\x02\x02\x01\x22\x05\x08\x01\x12\x01a\x22\x05\x08\x02\x12\x01b\x2a\x00\x2a\x00\x3d\x07\x00\x00\x00";
+
+/// The same contents with the second member of the oneof alone.
+pub(super) fn all_of_one_oneof(alloc: Global) -> Result<Vec<(u32, Content)>, AllocError> {
+    let mut contents = Vec::new(alloc);
+    for (number, content) in all_shapes(alloc)? {
+        if number != 6 {
+            contents.push((number, content))?;
+        }
+    }
+    Ok(contents)
+}
+
+/// Sets the content; where it is refused, the message is as before, and the content can be set again.
+fn sets_or_lacks_memory(
+    rt: &impl Abort,
+    schema: &Schema,
+    message: &mut Message,
+    number: u32,
+    content: Content,
+) {
+    let before = message.contents().len();
+    if let Err((error, back)) = set(schema, message, number, content) {
+        assert_eq!(rt; error, DynError::Memory);
+        assert!(rt; message.get(number).is_none() && message.contents().len() == before);
+        assert!(rt; set(schema, message, number, back).is_ok());
+    }
+}
 
 // A refused content of any shape comes back as it was, so that it can be set again, and the message is as before.
 #[test]
@@ -90,17 +154,9 @@ fn refused_sets(rt: HostRuntime) -> Result<(), Fail> {
     let schema = type_of_rows(alloc)?;
     let mut message = Message::empty(alloc, M);
     for (number, content) in all_shapes(alloc)? {
-        let before = message.contents().len();
-        if let Err((error, back)) = set(&schema, &mut message, number, content) {
-            assert_eq!(rt; error, DynError::Memory);
-            assert!(rt; message.get(number).is_none() && message.contents().len() == before);
-            assert!(rt; set(&schema, &mut message, number, back).is_ok());
-        }
+        sets_or_lacks_memory(&rt, &schema, &mut message, number, content);
     }
-    match write(alloc, &schema, &message) {
-        Ok(written) => assert_eq!(rt; written.as_slice(), ALL_SHAPES.as_slice()),
-        Err(error) => assert_eq!(rt; error, DynError::Memory),
-    }
+    is_or_lacks_memory(&rt, write(alloc, &schema, &message), &ALL_SHAPES);
     Ok(())
 }
 
@@ -109,19 +165,8 @@ fn refused_sets(rt: HostRuntime) -> Result<(), Fail> {
 fn refused_wholes(rt: HostRuntime) -> Result<(), Fail> {
     let alloc = rt.alloc();
     let schema = type_of_rows(alloc)?;
-    let mut contents = Vec::new(alloc);
-    for (number, content) in all_shapes(alloc)? {
-        if number != 6 {
-            contents.push((number, content))?;
-        }
-    }
-    match whole(alloc, &schema, contents) {
-        Ok(message) => match write(alloc, &schema, &message) {
-            Ok(written) => assert_eq!(rt; written.as_slice(), ALL_SHAPES.as_slice()),
-            Err(error) => assert_eq!(rt; error, DynError::Memory),
-        },
-        Err(error) => assert_eq!(rt; error, DynError::Memory),
-    }
+    let contents = all_of_one_oneof(alloc)?;
+    is_or_lacks_memory(&rt, written(alloc, &schema, contents), &ALL_SHAPES);
     Ok(())
 }
 
@@ -129,15 +174,28 @@ fn refused_wholes(rt: HostRuntime) -> Result<(), Fail> {
 // its own, is merged, or memory was refused.
 #[test]
 fn refused_reads(rt: HostRuntime) -> Result<(), Fail> {
-    let alloc = rt.alloc();
-    let schema = type_of_rows(alloc)?;
+    let schema = type_of_rows(rt.alloc())?;
     let parts =
         b"\x0a\x17\x1a\x02\x02\x01\x22\x05\x08\x02\x12\x01b\x22\x05\x08\x01\x12\x01a\x32\x01c\x2a\x00\x0a\x0d\x3d\x07\x00\x00\x00\x2a\x02\x10\x05\x0a\x00\x48\x01\x48\x02";
     let merged =
         b"\x0a\x21\x0a\x00\x1a\x02\x02\x01\x22\x05\x08\x01\x12\x01a\x22\x05\x08\x02\x12\x01b\x2a\x00\x2a\x02\x10\x05\x3d\x07\x00\x00\x00\x48\x01\x48\x02";
-    match again(alloc, &schema, parts) {
-        Ok(written) => assert_eq!(rt; written.as_slice(), merged.as_slice()),
-        Err(error) => assert_eq!(rt; error, DynError::Memory),
-    }
+    is_or_lacks_memory(&rt, again(rt.alloc(), &schema, parts), merged);
+    Ok(())
+}
+
+/// What is written of the copy of a message that is read.
+fn copied_again(alloc: Global, schema: &Schema, bytes: &[u8]) -> Result<Vec<u8>, DynError> {
+    let message = read_within(alloc, schema, bytes, 100)?;
+    let copied = copied(alloc, schema, &message)?;
+    write(alloc, schema, &copied)
+}
+
+// A copy of all shapes, with messages inside and unknown records, is written as the message is, or memory was refused.
+#[test]
+fn refused_copies(rt: HostRuntime) -> Result<(), Fail> {
+    let schema = type_of_rows(rt.alloc())?;
+    let bytes =
+        b"\x0a\x21\x0a\x00\x1a\x02\x02\x01\x22\x05\x08\x01\x12\x01a\x22\x05\x08\x02\x12\x01b\x2a\x00\x2a\x02\x10\x05\x3d\x07\x00\x00\x00\x48\x01\x32\x01c\x48\x02\x4a\x01d";
+    is_or_lacks_memory(&rt, copied_again(rt.alloc(), &schema, bytes), bytes);
     Ok(())
 }

@@ -1,6 +1,10 @@
 //! What another type doesn't have of a message, and reading without a limit of depth, on `message M { int32 f1 = 1; int32 f2
-//! = 2; int32 f3 = 3; }` and other types of these fields. The bytes are those of the public encoding guide.
-use super::{M, int_at, read, schema_of};
+//! = 2; int32 f3 = 3; }` and other types of these fields. The bytes are by the rules of the public encoding
+//! guide.
+use super::copying::copied;
+use super::nested::{TOO_DEEP, nested};
+use super::schemas::schema_of;
+use super::{M, int_at, is_bytes, read, write};
 use pg_dyn::{DynError, Message, decode_unlimited, encode_outside, fits};
 use pg_schema::{Scalar, Schema};
 use std::alloc::{AllocError, Global};
@@ -28,22 +32,23 @@ fn outside(
     encode_outside(alloc, schema, message, other, M)
 }
 
+// The bytes of what the second type doesn't have.
+static OUTSIDE: [(&[u32], &[u8]); 4] = [
+    (&[2], b"\x08\x05\x18\x07"),
+    (&[1, 2, 3], b""),
+    (&[1, 2], b"\x18\x07"),
+    (&[4], b"\x08\x05\x10\x06\x18\x07"),
+];
+
 #[test]
 fn fields_that_another_type_does_not_have(rt: HostRuntime) -> Result<(), Fail> {
     let alloc = rt.alloc();
     let schema = ints(alloc, &[1, 2, 3])?;
-    let Ok(message) = read(alloc, &schema, b"\x08\x05\x10\x06\x18\x07") else {
-        panic!(rt; "the bytes are a message");
-    };
-    let other = ints(alloc, &[2])?;
-    let Ok(lacking) = outside(alloc, &schema, &message, &other) else {
-        panic!(rt; "the message fits");
-    };
-    assert_eq!(rt; lacking.as_slice(), b"\x08\x05\x18\x07".as_slice());
-    let Ok(none) = outside(alloc, &schema, &message, &schema) else {
-        panic!(rt; "the message fits");
-    };
-    assert!(rt; none.is_empty());
+    let message = read(alloc, &schema, b"\x08\x05\x10\x06\x18\x07")?;
+    for (numbers, wanted) in &OUTSIDE {
+        let other = ints(alloc, numbers)?;
+        is_bytes(&rt, &outside(alloc, &schema, &message, &other)?, wanted);
+    }
     Ok(())
 }
 
@@ -64,5 +69,17 @@ fn reading_without_a_limit(rt: HostRuntime) -> Result<(), Fail> {
     };
     assert_eq!(rt; int_at(&message, 1), Some(5));
     assert!(rt; unlimited(alloc, &schema, b"\x08")?.is_none());
+    Ok(())
+}
+
+#[test]
+fn reading_a_hundred_and_one_messages(rt: HostRuntime) -> Result<(), Fail> {
+    let alloc = rt.alloc();
+    let schema = nested(alloc, Scalar::Int32)?;
+    let Some(message) = unlimited(alloc, &schema, TOO_DEEP)? else {
+        panic!(rt; "the bytes are a message");
+    };
+    let copied = copied(alloc, &schema, &message)?;
+    is_bytes(&rt, &write(alloc, &schema, &copied)?, TOO_DEEP);
     Ok(())
 }

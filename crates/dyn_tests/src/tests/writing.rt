@@ -2,54 +2,32 @@
 //! (`SerializeToString(deterministic=True)`) of `message M { repeated int32 f1 = 1; repeated int32 f2 = 2
 //! [packed = false]; map<string, int32> f3 = 3; M f4 = 4; repeated M f5 = 5; oneof k { int32 f6 = 6; bytes f7
 //! = 7; } repeated string f9 = 9; map<int32, M> f10 = 10; }`.
-use super::{M, field, schema_from, whole, write};
+use super::schemas::{BYTES, CHILD, INT, LIST, PACKED, Shape, TEXT, schema_by};
+use super::{M, whole, writes};
 use pg_dyn::{Content, DynError, Message, Value, fits};
-use pg_schema::{Element, Field, Presence, Scalar, Schema};
+use pg_schema::{Presence, Scalar, Schema};
 use std::alloc::{AllocError, Global};
+use std::process::Abort;
 use std::test::Fail;
 
-/// A field of the number, presence and element.
-fn shaped(
-    alloc: Global,
-    number: u32,
-    presence: Presence,
-    element: Element,
-) -> Result<Field, AllocError> {
-    let mut made = field(alloc, number, Scalar::Int32)?;
-    made.presence = presence;
-    made.element = element;
-    Ok(made)
-}
-
-/// The schema of `M`.
-fn schema(alloc: Global) -> Result<Schema, Fail> {
-    let int = Element::Scalar(Scalar::Int32);
-    let child = Element::Message(M);
-    let texts = Element::Scalar(Scalar::String);
-    let map = |key: Scalar| Presence::Map { key };
-    let mut unpacked = shaped(alloc, 2, Presence::Repeated { packed: false }, int)?;
-    unpacked.options.packed = Some(false);
-    let mut sixth = shaped(alloc, 6, Presence::Explicit, int)?;
-    sixth.oneof = Some(0);
-    let mut seventh = shaped(alloc, 7, Presence::Explicit, Element::Scalar(Scalar::Bytes))?;
-    seventh.oneof = Some(0);
-    let fields = vec![in alloc;
-        shaped(alloc, 1, Presence::Repeated { packed: true }, int)?,
-        unpacked,
-        shaped(alloc, 3, map(Scalar::String), int)?,
-        shaped(alloc, 4, Presence::Explicit, child)?,
-        shaped(alloc, 5, Presence::Repeated { packed: false }, child)?,
-        sixth,
-        seventh,
-        shaped(alloc, 9, Presence::Repeated { packed: false }, texts)?,
-        shaped(alloc, 10, map(Scalar::Int32), child)?,
-    ]?;
-    schema_from(
-        alloc,
-        fields,
-        vec![in alloc; String::from_str(alloc, "k")?]?,
-    )
-}
+static FIELDS: [Shape; 9] = [
+    (1, PACKED, INT, None),
+    (2, LIST, INT, None),
+    (
+        3,
+        Presence::Map {
+            key: Scalar::String,
+        },
+        INT,
+        None,
+    ),
+    (4, Presence::Explicit, CHILD, None),
+    (5, LIST, CHILD, None),
+    (6, Presence::Explicit, INT, Some(0)),
+    (7, Presence::Explicit, BYTES, Some(0)),
+    (9, LIST, TEXT, None),
+    (10, Presence::Map { key: Scalar::Int32 }, CHILD, None),
+];
 
 /// The message with that content alone, where the schema takes it.
 fn one(alloc: Global, schema: &Schema, number: u32, content: Content) -> Result<Message, DynError> {
@@ -94,89 +72,93 @@ fn text(alloc: Global, text: &str) -> Result<Value, AllocError> {
 #[test]
 fn lists(rt: HostRuntime) -> Result<(), Fail> {
     let alloc = rt.alloc();
-    let schema = schema(alloc)?;
+    let schema = schema_by(alloc, &FIELDS)?;
     let packed = pair(alloc, &schema, 1, Value::Int(300), Value::Int(-1))?;
-    assert_eq!(rt;
-        write(alloc, &schema, &packed)?.as_slice(),
-        b"\x0a\x0c\xac\x02\xff\xff\xff\xff\xff\xff\xff\xff\xff\x01".as_slice()
-    );
+    writes(
+        &rt,
+        &schema,
+        &packed,
+        b"\x0a\x0c\xac\x02\xff\xff\xff\xff\xff\xff\xff\xff\xff\x01",
+    )?;
     let single = pair(alloc, &schema, 2, Value::Int(1), Value::Int(300))?;
-    assert_eq!(rt;
-        write(alloc, &schema, &single)?.as_slice(),
-        b"\x10\x01\x10\xac\x02".as_slice()
-    );
+    writes(&rt, &schema, &single, b"\x10\x01\x10\xac\x02")?;
     let texts = pair(alloc, &schema, 9, text(alloc, "")?, text(alloc, "ab")?)?;
-    assert_eq!(rt;
-        write(alloc, &schema, &texts)?.as_slice(),
-        b"\x4a\x00\x4a\x02ab".as_slice()
-    );
+    writes(&rt, &schema, &texts, b"\x4a\x00\x4a\x02ab")?;
     Ok(())
+}
+
+/// A message inside, without content.
+fn nothing(alloc: Global) -> Result<Value, AllocError> {
+    inside(alloc, Message::empty(alloc, M))
+}
+
+#[test]
+fn members_and_empty_children(rt: HostRuntime) -> Result<(), Fail> {
+    let alloc = rt.alloc();
+    let schema = schema_by(alloc, &FIELDS)?;
+    let zero = item(alloc, &schema, 6, Value::Int(0))?;
+    writes(&rt, &schema, &zero, b"\x30\x00")?;
+    let empty = item(alloc, &schema, 4, nothing(alloc)?)?;
+    writes(&rt, &schema, &empty, b"\x22\x00")
+}
+
+/// A message inside that has a message inside, with a number.
+fn holder(alloc: Global, schema: &Schema) -> Result<Value, Fail> {
+    let seven = inside(alloc, item(alloc, schema, 6, Value::Int(7))?)?;
+    Ok(inside(alloc, item(alloc, schema, 4, seven)?)?)
 }
 
 #[test]
 fn members_and_children(rt: HostRuntime) -> Result<(), Fail> {
     let alloc = rt.alloc();
-    let schema = schema(alloc)?;
-    let zero = item(alloc, &schema, 6, Value::Int(0))?;
-    assert_eq!(rt;
-        write(alloc, &schema, &zero)?.as_slice(),
-        b"\x30\x00".as_slice()
-    );
-    let no_content = inside(alloc, Message::empty(alloc, M))?;
-    let empty = item(alloc, &schema, 4, no_content)?;
-    assert_eq!(rt;
-        write(alloc, &schema, &empty)?.as_slice(),
-        b"\x22\x00".as_slice()
-    );
-    let seven = inside(alloc, item(alloc, &schema, 6, Value::Int(7))?)?;
-    let holder = inside(alloc, item(alloc, &schema, 4, seven)?)?;
-    let no_content = inside(alloc, Message::empty(alloc, M))?;
-    let children = pair(alloc, &schema, 5, no_content, holder)?;
-    assert_eq!(rt;
-        write(alloc, &schema, &children)?.as_slice(),
-        b"\x2a\x00\x2a\x04\x22\x02\x30\x07".as_slice()
-    );
-    Ok(())
+    let schema = schema_by(alloc, &FIELDS)?;
+    let holder = holder(alloc, &schema)?;
+    let children = pair(alloc, &schema, 5, nothing(alloc)?, holder)?;
+    writes(&rt, &schema, &children, b"\x2a\x00\x2a\x04\x22\x02\x30\x07")
 }
 
-/// A schema whose `M` has other shapes: a number in field 1, a list in field 6, numbers in fields 4 and 8.
-fn other_schema(alloc: Global) -> Result<Schema, Fail> {
-    let int = Element::Scalar(Scalar::Int32);
-    let fields = vec![in alloc;
-        field(alloc, 1, Scalar::Int32)?,
-        field(alloc, 4, Scalar::Int32)?,
-        shaped(alloc, 6, Presence::Repeated { packed: true }, int)?,
-        field(alloc, 8, Scalar::Int32)?,
-    ]?;
-    schema_from(alloc, fields, Vec::new(alloc))
+/// Other shapes of `M`: a number in field 1, a list in field 6, numbers in fields 4 and 8.
+static OTHER_FIELDS: [Shape; 4] = [
+    (1, Presence::Implicit, INT, None),
+    (4, Presence::Implicit, INT, None),
+    (6, PACKED, INT, None),
+    (8, Presence::Implicit, INT, None),
+];
+
+/// The message is one of the first schema, and none of the second.
+fn fits_alone(rt: &impl Abort, first: &Schema, second: &Schema, message: &Message) {
+    assert!(rt; fits(first, message));
+    assert!(rt; !fits(second, message));
 }
 
 #[test]
 fn shapes_that_do_not_fit(rt: HostRuntime) -> Result<(), Fail> {
     let alloc = rt.alloc();
-    let schema = schema(alloc)?;
-    let other = other_schema(alloc)?;
+    let schema = schema_by(alloc, &FIELDS)?;
+    let other = schema_by(alloc, &OTHER_FIELDS)?;
     for number in [1, 4, 8] {
-        let message = item(alloc, &other, number, Value::Int(1))?;
-        assert!(rt; fits(&other, &message));
-        assert!(rt; !fits(&schema, &message));
+        fits_alone(
+            &rt,
+            &other,
+            &schema,
+            &item(alloc, &other, number, Value::Int(1))?,
+        );
     }
     let list = pair(alloc, &other, 6, Value::Int(1), Value::Int(1))?;
-    assert!(rt; fits(&other, &list));
-    assert!(rt; !fits(&schema, &list));
+    fits_alone(&rt, &other, &schema, &list);
     Ok(())
 }
+
+static ENTRIES: &[u8] =
+    b"\x52\x0d\x08\xff\xff\xff\xff\xff\xff\xff\xff\xff\x01\x12\x00\x52\x04\x08\x02\x12\x00";
 
 #[test]
 fn maps(rt: HostRuntime) -> Result<(), Fail> {
     let alloc = rt.alloc();
-    let schema = schema(alloc)?;
+    let schema = schema_by(alloc, &FIELDS)?;
     for (first, second) in [(-1, 2), (2, -1)] {
         let message = entries(alloc, &schema, first, second)?;
-        assert_eq!(rt;
-            write(alloc, &schema, &message)?.as_slice(),
-            b"\x52\x0d\x08\xff\xff\xff\xff\xff\xff\xff\xff\xff\x01\x12\x00\x52\x04\x08\x02\x12\x00".as_slice()
-        );
+        writes(&rt, &schema, &message, ENTRIES)?;
     }
     assert_eq!(rt;
         entries(alloc, &schema, 2, 2).err(),

@@ -6,7 +6,7 @@ use crate::tests::ways::step;
 use pg_cert::Certificate;
 use pg_least::{find, search, way};
 use pg_schema::{Element, Scalar, Schema, TypeId};
-use std::alloc::{AllocError, Global};
+use std::alloc::Global;
 use std::process::Abort;
 use std::test::Fail;
 
@@ -40,16 +40,12 @@ fn answers(
     if !old.has(root.old) {
         return Err(Fail::from("the old schema has no type"));
     }
-    match find(alloc, old, new, root) {
-        Ok(found) => {
-            assert!(rt; says(&found.certificate, rows, bytes));
-            assert_eq!(rt; found.witness.is_some(), bytes.is_some());
-        }
-        Err(AllocError) => {}
+    if let Ok(found) = find(alloc, old, new, root) {
+        assert!(rt; says(&found.certificate, rows, bytes));
+        assert_eq!(rt; found.witness.is_some(), bytes.is_some());
     }
-    match search(alloc, old, new, root) {
-        Ok(certificate) => assert!(rt; says(&certificate, rows, bytes)),
-        Err(AllocError) => {}
+    if let Ok(certificate) = search(alloc, old, new, root) {
+        assert!(rt; says(&certificate, rows, bytes));
     }
     Ok(())
 }

@@ -22,11 +22,12 @@ use Rattle.pg_dyn.specs.ScalarItems.{IsItemOf}
 use Rattle.pg_schema.specs.declared.field.Element.TheVariants as elements
 use Rattle.pg_dyn.specs.Seen.{leaf_of, record_seen}
 use Rattle.pg_dyn.specs.Writing.{item_record}
-use Rattle.pg_dyn.specs.Written.{capped, content_lengths, content_written, entry_body, entry_record, field_written, item_body, item_bytes, value_lengths}
-use Rattle.pg_dyn.proofs.EncodeSteps.{counted_all, counted_more, entries_fit, field_is, inner_is, listed_all, listed_more, own_is, packed_inner, packs}
+use Rattle.pg_dyn.specs.Written.{capped, content_lengths, content_written, entry_body, entry_record, field_lengths, field_written, item_body, item_bytes, value_lengths}
+use Rattle.pg_dyn.proofs.EncodeSteps.{counted_all, counted_more, entries_fit, field_is, listed_all, listed_more, own_is, packs}
 use Rattle.pg_dyn.proofs.FitsByContents.{contents_from_fits}
 use Rattle.pg_dyn.proofs.FitsChecks.{same_field}
 use Rattle.pg_dyn.proofs.FitsSteps.{some_not_none}
+use Rattle.pg_dyn.proofs.NotedLengths.{inner_is}
 use Rattle.pg_dyn.proofs.Splitting.{found_number}
 use Rattle.pg_dyn.proofs.message.+count.Goals as goal
 use Rattle.pg_dyn.proofs.Lists.{each_at_index}
@@ -94,7 +95,7 @@ Content::count-returns-in_ok-len-in-Implicit-One-clause-len t c =
 pub Content::count-returns-after-loop-entry_key-clause-inner : goal.Content::count-returns-after-loop-entry_key-clause-inner
 Content::count-returns-after-loop-entry_key-clause-inner t c =
     listed_all (λ (e : Value × Value). value_lengths (shape_of c.args.schema.now) e.1) c.deref-entry_key-items.result.now c.in-Map-Map.entries.items c.loop-entry_key.entry_key-index c.args.inner.now.items c.loop-entry_key.inner.items c.deref-entry_key-items.ensures.value c.loop-entry_key-test.false c.loop-entry_key.invariant.inner
-    ∙ ap (λ (d : Content). c.args.inner.now.items ++ content_lengths (shape_of c.args.schema.now) d) (sym c.in-Map-Map.is-1)
+    ∙ ap (λ (d : Content). c.args.inner.now.items ++ content_lengths (shape_of c.args.schema.now) c.args.field.now.presence c.args.field.now.element d) (sym c.in-Map-Map.is-1)
 
 pub Message::count-returns-in_default-clause-len : goal.Message::count-returns-in_default-clause-len
 Message::count-returns-in_default-clause-len t c =
@@ -133,10 +134,6 @@ Message::count-count-requires t c =
       ),
     )
 
-pub Content::count-returns-in-Repeated-true-Many-clause-inner : goal.Content::count-returns-in-Repeated-true-Many-clause-inner
-Content::count-returns-in-Repeated-true-Many-clause-inner t c =
-    packed_inner (shape_of c.args.schema.now) c.args.field.now.presence c.args.field.now.element c.args.self.now c.in-Repeated-true-Many.values c.args.inner.now.items (cc) c.in-Repeated-true-Many.is-1 c.requires.packed c.requires.fits
-
 pub Message::count-returns-clause-len : goal.Message::count-returns-clause-len
 Message::count-returns-clause-len t c =
     let a = c.self.inside in
@@ -150,5 +147,6 @@ Message::count-returns-clause-len t c =
 pub Message::count-returns-clause-inner : goal.Message::count-returns-clause-inner
 Message::count-returns-clause-inner t c =
     let a = c.self.inside in
-    listed_all (λ (m : ℕ × Content). content_lengths (shape_of c.args.schema.now) m.1) c.deref-number-items.result.now a.fields.items c.loop-number.number-index c.args.inner.now.items c.loop-number.inner.items c.deref-number-items.ensures.value c.loop-number-test.false c.loop-number.invariant.inner
-    ∙ ap (λ (xs : List ℕ). c.args.inner.now.items ++ xs) (inner_is (shape_of c.args.schema.now) a.type_id a.fields.items (map record_seen a.unknown.items) c.args.self.now c.self.view_is)
+    let by = contents_from_fits (shape_of c.args.schema.now) a.type_id a.fields.items (map record_seen a.unknown.items) c.args.self.now c.self.view_is c.requires.is_schema.shape c.self.invariant.filled c.self.invariant.keys c.requires.fits in
+    listed_all (field_lengths (shape_of c.args.schema.now) a.type_id) c.deref-number-items.result.now a.fields.items c.loop-number.number-index c.args.inner.now.items c.loop-number.inner.items c.deref-number-items.ensures.value c.loop-number-test.false c.loop-number.invariant.inner
+    ∙ ap (λ (xs : List ℕ). c.args.inner.now.items ++ xs) (inner_is (shape_of c.args.schema.now) a.type_id c.requires.is_schema.shape a.fields.items (map record_seen a.unknown.items) c.args.self.now c.self.view_is c.self.invariant.rises by.each)

@@ -1,9 +1,8 @@
--- The items, entries and contents before the index are counted, and the messages in them listed. Each call goes to a part of the message.
-use Rattle.std.proofs.Common.{◌≡◌, ◌++◌, ℕ, length, take, flat_map}
+-- The items, entries and contents before the index are counted, and the lengths that are noted in them listed. Each call goes to a part of the message.
+use Rattle.std.proofs.Common.{◌≡◌, ◌++◌, length, take, flat_map}
 use Rattle.pg_schema.specs.Parts.{shape_of}
-use Rattle.pg_dyn.specs.declared.message.Content.{Content}
 use Rattle.pg_dyn.specs.declared.message.Value.{Value}
-use Rattle.pg_dyn.specs.Written.{capped, content_lengths, entry_record, field_written, item_bytes, value_lengths}
+use Rattle.pg_dyn.specs.Written.{capped, entry_record, field_lengths, field_written, item_bytes, value_lengths}
 use Rattle.pg_dyn.proofs.message.+count.Given as goal
 
 abbrev pub decreases-Content::count : goal.decreases-Content::count
@@ -30,5 +29,5 @@ invariant-Content::count-loop-entry_key l = record {
 abbrev pub invariant-Message::count-loop-number : goal.invariant-Message::count-loop-number
 invariant-Message::count-loop-number l = record {
   total : l.total ≡ capped (length (flat_map (field_written (shape_of l.schema) l.self-inside.type_id) (take l.number-index l.number-items)));
-  inner : l.inner.items ≡ l.fn.inner.items ++ flat_map (λ (m : ℕ × Content). content_lengths (shape_of l.schema) m.1) (take l.number-index l.number-items);
+  inner : l.inner.items ≡ l.fn.inner.items ++ flat_map (field_lengths (shape_of l.schema) l.self-inside.type_id) (take l.number-index l.number-items);
 }

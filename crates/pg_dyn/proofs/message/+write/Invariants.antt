@@ -1,10 +1,8 @@
 -- The items, entries and contents before the index are written, and the lengths of those from it on are left. Each call goes to a part of
 -- the message.
-use Rattle.std.proofs.Common.{ℕ}
 use Rattle.pg_schema.specs.Parts.{shape_of}
-use Rattle.pg_dyn.specs.declared.message.Content.{Content}
 use Rattle.pg_dyn.specs.declared.message.Value.{Value}
-use Rattle.pg_dyn.specs.Written.{content_lengths, entry_record, field_written, item_bytes, value_lengths}
+use Rattle.pg_dyn.specs.Written.{entry_record, field_lengths, field_written, item_bytes, value_lengths}
 use Rattle.pg_dyn.proofs.EncodeSteps.{IsOnTheWay}
 use Rattle.pg_dyn.proofs.message.+write.Given as goal
 
@@ -27,4 +25,4 @@ invariant-Content::write-loop-entry_key l =
 
 abbrev pub invariant-Message::write-loop-number : goal.invariant-Message::write-loop-number
 invariant-Message::write-loop-number l =
-    IsOnTheWay (field_written (shape_of l.schema) l.self-inside.type_id) (λ (m : ℕ × Content). content_lengths (shape_of l.schema) m.1) l.number-items l.number-index l.fn.out.items l.out.items l.fn.lengths l.left
+    IsOnTheWay (field_written (shape_of l.schema) l.self-inside.type_id) (field_lengths (shape_of l.schema) l.self-inside.type_id) l.number-items l.number-index l.fn.out.items l.out.items l.fn.lengths l.left

@@ -26,9 +26,9 @@ returns c =
       types = moved (StatesTypes most_deep all) scope (string_bytes f.package) c.deref-7.result.now c.in_ok-inside.inside.items (children_at 4 m) c.deref-8.result.now f.types.items
           c.as_str-scope.ensures.value c.deref-7.ensures.value c.in_ok-inside.ensures c.deref-8.ensures.value c.in_ok-types.ensures;
       enums = moved (StatesEnums all) scope (string_bytes f.package) c.deref-9.result.now c.in_ok-children.field-0.items (children_at 5 m) c.deref-10.result.now f.enums.items
-          c.as_str-scope.ensures.value c.deref-9.ensures.value c.in_ok-children.ensures c.deref-10.ensures.value c.in_ok-enums.ensures;
+          c.as_str-scope.ensures.value c.deref-9.ensures.value c.in_ok-children.ensures c.deref-10.ensures.value c.in_ok-enums.ensures.ok;
       services = moved (StatesServices all) scope (string_bytes f.package) c.deref-11.result.now c.in_ok-children-2.field-0.items (children_at 6 m) c.deref-12.result.now f.services.items
-          c.as_str-scope.ensures.value c.deref-11.ensures.value c.in_ok-children-2.ensures c.deref-12.ensures.value c.in_ok-services.ensures;
+          c.as_str-scope.ensures.value c.deref-11.ensures.value c.in_ok-children-2.ensures c.deref-12.ensures.value c.in_ok-services.ensures.ok;
       options = subst (StatesOptions (options_at 8 m)) c.deref-13.ensures.value c.in_ok-options.ensures;
-      syntax = sym c.in_ok-is_proto3.ensures ∙ c.in_ok-ensure.ensures.ok;
+      syntax = sym c.in_ok-is_proto3.ensures.ok ∙ c.in_ok-ensure.ensures.ok;
     }

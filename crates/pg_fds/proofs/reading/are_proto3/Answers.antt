@@ -5,4 +5,4 @@ use Rattle.pg_fds.proofs.reading.are_proto3.Goals as goal
 
 pub returns-then-not-proto3 : goal.returns-then-not-proto3
 returns-then-not-proto3 c =
-    sym (all_lost is_proto3 c.args.files.now c.loop-file.file-index c.file-item.result c.loop-file-test.true c.file-item.is (sym c.in_ok-proto3.ensures ∙ c.if-not-proto3.true))
+    sym (all_lost is_proto3 c.args.files.now c.loop-file.file-index c.file-item.result c.loop-file-test.true c.file-item.is (sym c.in_ok-proto3.ensures.ok ∙ c.if-not-proto3.true))

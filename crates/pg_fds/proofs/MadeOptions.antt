@@ -1,0 +1,308 @@
+-- Options of files, as they are made.
+use Rattle.std.proofs.Common.{◌≡◌, ℕ, zero, suc, ◌+◌, ◌<◌, ℤ, pos, Bool, true, false, cond, ◌&&◌, ◌||◌, nat_eq, nat_lt, List, [], ◌∷◌, ◌++◌, find, length, map, take, get_or, Option, Some, None, option_map, refl, ap, sym, subst, ◌∙◌, arith, add-one}
+use Rattle.std.proofs.lemmas.Bool.{false≢true}
+use Rattle.std.proofs.lemmas.Bool.Decides.{nat_tests}
+use Rattle.std.proofs.lemmas.Option.{none-some, same_Some}
+use Rattle.std.proofs.lemmas.Str.{IsUtf8-nil, IsUtf8-string_bytes}
+use Rattle.std.specs.List.{list_all, list_any}
+use Rattle.std.specs.Str.{IsUtf8}
+use Rattle.pg_schema.specs.declared.options.FileOption.{FileOption}
+use Rattle.pg_schema.specs.declared.options.OptimizeMode.{OptimizeMode}
+use Rattle.pg_schema.specs.declared.options.OptimizeMode.TheVariants as modes
+use Rattle.pg_schema.specs.declared.options.OptionValue.{OptionValue}
+use Rattle.pg_schema.specs.declared.options.OptionValue.TheVariants as values
+use Rattle.pg_schema.specs.FileRules.{flag_options, is_file_option, is_of_kind, option_numbers, text_options}
+use Rattle.pg_schema.specs.Pairs.{is_rising}
+use Rattle.pg_schema.proofs.PairLemmas.{and_left, and_right}
+use Rattle.pg_dyn.specs.declared.message.Value.{Value}
+use Rattle.pg_dyn.specs.declared.message.Value.TheVariants as held
+use Rattle.pg_dyn.specs.Message.{Bytes, F32, F64, Int, Item, Message, Msg, Plain, ends}
+use Rattle.pg_fds.specs.Building.{shown}
+use Rattle.pg_fds.specs.MadeOptions.{StatesThese, mode_of, mode_or_flag, numbered, views_under}
+use Rattle.pg_fds.specs.Messages.{where_found}
+use Rattle.std.specs.Option.{unwrap_or}
+use Rattle.pg_fds.specs.Said.{child_in, child_of, item_at, number_of, options_at, text_of}
+use Rattle.pg_fds.specs.Set.{mode_code}
+use Rattle.pg_fds.specs.StatesFiles.{StatesOptions, flag_number, option_item, option_places, stated_option}
+use Rattle.pg_fds.specs.Views.{OptionView, Text, ValueOf, option_view, value_of}
+
+-- ---- one value
+
+mode_known : (mode : OptimizeMode) → mode_of (pos (mode_code mode)) ≡ Some mode
+mode_known modes.Speed = refl
+mode_known modes.CodeSize = refl
+mode_known modes.LiteRuntime = refl
+
+flag_known : (flag : Bool) → mode_or_flag (flag_number flag) None ≡ values.Flag flag
+flag_known true = refl
+flag_known false = refl
+
+flag_kind : (number : ℕ) → list_any (nat_eq number) flag_options ≡ true → nat_eq number 9 ≡ false
+flag_kind number h = of (nat_eq number 9) refl
+  where
+    same : (a b : ℕ) → nat_eq a b ≡ true → a ≡ b
+    same a b e = grind (arith, nat_tests)
+
+    of : (b : Bool) → nat_eq number 9 ≡ b → b ≡ false
+    of true e = sym h ∙ ap (λ n. list_any (nat_eq n) flag_options) (same number 9 e)
+    of false e = refl
+
+abbrev pub is_int : Item → Bool
+is_int (Plain (Int n)) = true
+is_int (Plain (F32 n)) = false
+is_int (Plain (F64 n)) = false
+is_int (Plain (Bytes n)) = false
+is_int (Msg m) = false
+
+-- that of an item that is a number
+pub number_value : (number : ℕ) (item : Item) (found : ℤ) (v : OptionValue) → is_int item ≡ true → found ≡ number_of item → item ≡ option_item v → is_of_kind number v ≡ true → value_of (numbered number found) ≡ value_of v
+number_value number item found (values.Flag flag) int same says kind =
+    let is : found ≡ flag_number flag = same ∙ ap number_of says in
+    ap value_of
+    (ap (λ b. cond b (mode_or_flag found (mode_of found)) (mode_or_flag found None)) (flag_kind number kind) ∙ (ap (λ n. mode_or_flag n None) is ∙ flag_known flag))
+number_value number item found (values.Mode mode) int same says kind =
+    let is : found ≡ pos (mode_code mode) = same ∙ ap number_of says in
+    ap value_of
+    (ap (λ b. cond b (mode_or_flag found (mode_of found)) (mode_or_flag found None)) kind ∙ ap (mode_or_flag found) (ap mode_of is ∙ mode_known mode))
+number_value number item found (values.Text text) int same says kind = absurd (false≢true (sym (ap is_int says) ∙ int))
+
+not_int : (value : Value) → ((n : ℤ) → value ≡ held.Int n → ⊥) → is_int (shown value) ≡ false
+not_int (held.Int n) other = absurd (other n refl)
+not_int (held.F32 n) other = refl
+not_int (held.F64 n) other = refl
+not_int (held.Text n) other = refl
+not_int (held.Bytes n) other = refl
+not_int (held.Msg n) other = refl
+
+-- that of any other item, which is a text
+pub text_value : (value : Value) (v : OptionValue) (text : List ℕ) → ((n : ℤ) → value ≡ held.Int n → ⊥) → shown value ≡ option_item v → text ≡ text_of (shown value) → Text text ≡ value_of v
+text_value value (values.Flag flag) text other says is = absurd (false≢true (sym (not_int value other) ∙ ap is_int says))
+text_value value (values.Mode mode) text other says is = absurd (false≢true (sym (not_int value other) ∙ ap is_int says))
+text_value value (values.Text t) text other says is = ap Text (is ∙ ap text_of says)
+
+-- what an option's item says is a text
+pub item_text : (item : Item) (v : OptionValue) → item ≡ option_item v → IsUtf8 (text_of item)
+item_text item v says = subst (λ i. IsUtf8 (text_of i)) (sym says) (of v)
+  where
+    of : (w : OptionValue) → IsUtf8 (text_of (option_item w))
+    of (values.Flag flag) = IsUtf8-nil
+    of (values.Mode mode) = IsUtf8-nil
+    of (values.Text text) = IsUtf8-string_bytes text
+
+-- ---- one option after the other
+
+under_suc : (os : List FileOption) (ns : List ℕ) (i n : ℕ) → i < length ns → n ≡ get_or ns i n
+    → views_under os (take (suc i) ns) ≡ views_under os (take i ns) ++ where_found option_view (find (λ (o : FileOption). nat_eq o.number n) os)
+under_suc os [] i n h is = absurd (omega (arith, h))
+under_suc os (k ∷ ns) zero n h is = subst (λ j. views_under os (k ∷ []) ≡ where_found option_view (find (λ (o : FileOption). nat_eq o.number j) os)) (sym is) (end (where_found option_view (find (λ (o : FileOption). nat_eq o.number k) os)))
+  where
+    end : (vs : List OptionView) → vs ++ [] ≡ vs
+    end [] = refl
+    end (v ∷ vs) = ap (λ ws. v ∷ ws) (end vs)
+under_suc os (k ∷ ns) (suc i) n h is =
+    ap (λ vs. where_found option_view (find (λ (o : FileOption). nat_eq o.number k) os) ++ vs) (under_suc os ns i n (omega (arith, h)) is)
+    ∙ sym (joined (where_found option_view (find (λ (o : FileOption). nat_eq o.number k) os)) (views_under os (take i ns)) (where_found option_view (find (λ (o : FileOption). nat_eq o.number n) os)))
+  where
+    joined : (xs ys zs : List OptionView) → (xs ++ ys) ++ zs ≡ xs ++ (ys ++ zs)
+    joined [] ys zs = refl
+    joined (x ∷ xs) ys zs = ap (λ ws. x ∷ ws) (joined xs ys zs)
+
+states_at : (m : Message) (os : List FileOption) (ns : List ℕ) (i n : ℕ) → i < length ns → n ≡ get_or ns i n → StatesThese m os ns → item_at n m ≡ stated_option os n
+states_at m os [] i n h is all = absurd (omega (arith, h))
+states_at m os (k ∷ ns) zero n h is all = subst (λ j. item_at j m ≡ stated_option os j) (sym is) all.0
+states_at m os (k ∷ ns) (suc i) n h is all = states_at m os ns i n (omega (arith, h)) is all.1
+
+pushed : (made : List FileOption) (o : FileOption) → map option_view (made ++ o ∷ []) ≡ map option_view made ++ option_view o ∷ []
+pushed [] o = refl
+pushed (x ∷ made) o = ap (λ vs. option_view x ∷ vs) (pushed made o)
+
+-- the option of a number, where one is found
+found_one : (os : List FileOption) (n : ℕ) (o : FileOption) → find (λ (x : FileOption). nat_eq x.number n) os ≡ Some o → list_all is_file_option os ≡ true → (o.number ≡ n) × (is_file_option o ≡ true)
+found_one [] n o is all = absurd (none-some o is)
+found_one (x ∷ os) n o is all = of (nat_eq x.number n) refl is (found_one os n o)
+  where
+    same : (a b : ℕ) → nat_eq a b ≡ true → a ≡ b
+    same a b e = grind (arith, nat_tests)
+
+    of : (b : Bool) → nat_eq x.number n ≡ b → cond b (Some x) (find (λ (y : FileOption). nat_eq y.number n) os) ≡ Some o
+        → (find (λ (y : FileOption). nat_eq y.number n) os ≡ Some o → list_all is_file_option os ≡ true → (o.number ≡ n) × (is_file_option o ≡ true)) → (o.number ≡ n) × (is_file_option o ≡ true)
+    of true e is later =
+        let it : x ≡ o = same_Some x o is in
+        (ap (λ (y : FileOption). y.number) (sym it) ∙ same x.number n e, ap is_file_option (sym it) ∙ and_left (is_file_option x) (list_all is_file_option os) all)
+    of false e is later = later is (and_right (is_file_option x) (list_all is_file_option os) all)
+
+same_option : {n n' : ℕ} {v v' : ValueOf} → n ≡ n' → v ≡ v' → ◌≡◌ {A = OptionView} (record { number = n; value = v }) (record { number = n'; value = v' })
+same_option number value = cc
+
+pub option_more : (m : Message) (os : List FileOption) (ns : List ℕ) (i n : ℕ) (made : List FileOption) (value : Value) (v : OptionValue) → i < length ns → n ≡ get_or ns i n → StatesThese m os ns → list_all is_file_option os ≡ true
+    → Some (shown value) ≡ item_at n m → ((w : OptionValue) → shown value ≡ option_item w → is_of_kind n w ≡ true → value_of v ≡ value_of w) → map option_view made ≡ views_under os (take i ns)
+    → map option_view (made ++ record { number = n; value = v } ∷ []) ≡ views_under os (take (i + 1) ns)
+option_more m os ns i n made value v h is states kinds found one before =
+    rw add-one (pushed made (record { number = n; value = v }) ∙ (ap (λ vs. vs ++ record { number = n; value = value_of v } ∷ []) before
+    ∙ (ap (λ vs. views_under os (take i ns) ++ vs) (of (find (λ (o : FileOption). nat_eq o.number n) os) refl (found ∙ states_at m os ns i n h is states)) ∙ sym (under_suc os ns i n h is))))
+  where
+    of : (o : Option FileOption) → find (λ (x : FileOption). nat_eq x.number n) os ≡ o → Some (shown value) ≡ option_map (λ (x : FileOption). option_item x.value) o
+        → record { number = n; value = value_of v } ∷ [] ≡ where_found option_view o
+    of None there says = absurd (none-some (shown value) (sym says))
+    of (Some o) there says =
+        let known = found_one os n o there kinds in
+        let item : shown value ≡ option_item o.value = same_Some (shown value) (option_item o.value) says in
+        let kind : is_of_kind n o.value ≡ true = subst (λ k. is_of_kind k o.value ≡ true) known.0 known.1 in
+        ap (λ w. w ∷ []) (same_option (sym known.0) (one o.value item kind))
+
+pub option_none : (m : Message) (os : List FileOption) (ns : List ℕ) (i n : ℕ) (made : List FileOption) → i < length ns → n ≡ get_or ns i n → StatesThese m os ns → None ≡ item_at n m
+    → map option_view made ≡ views_under os (take i ns) → map option_view made ≡ views_under os (take (i + 1) ns)
+option_none m os ns i n made h is states found before =
+    rw add-one (before ∙ (sym (end (views_under os (take i ns))) ∙ (ap (λ vs. views_under os (take i ns) ++ vs) (of (find (λ (o : FileOption). nat_eq o.number n) os) (found ∙ states_at m os ns i n h is states)) ∙ sym (under_suc os ns i n h is))))
+  where
+    end : (vs : List OptionView) → vs ++ [] ≡ vs
+    end [] = refl
+    end (v ∷ vs) = ap (λ ws. v ∷ ws) (end vs)
+
+    of : (o : Option FileOption) → None ≡ option_map (λ (x : FileOption). option_item x.value) o → [] ≡ where_found option_view o
+    of None says = refl
+    of (Some o) says = absurd (none-some (option_item o.value) says)
+
+-- the option whose value is refused
+pub option_at : (m : Message) (os : List FileOption) (ns : List ℕ) (i n : ℕ) (item : Item) (E : Type 0) → i < length ns → n ≡ get_or ns i n → StatesThese m os ns → Some item ≡ item_at n m
+    → ((w : OptionValue) → item ≡ option_item w → E) → E
+option_at m os ns i n item E h is states found one = of (find (λ (o : FileOption). nat_eq o.number n) os) (found ∙ states_at m os ns i n h is states)
+  where
+    of : (o : Option FileOption) → Some item ≡ option_map (λ (x : FileOption). option_item x.value) o → E
+    of None says = absurd (none-some item (sym says))
+    of (Some o) says = one o.value (same_Some item (option_item o.value) says)
+
+-- ---- all of them
+
+below : (a b : ℕ) → nat_lt a b ≡ true → a < b
+below a b h = grind (arith, nat_tests)
+
+same_number : (a b : ℕ) → nat_eq a b ≡ true → a ≡ b
+same_number a b e = grind (arith, nat_tests)
+
+other_number : (a b : ℕ) → a < b → nat_eq b a ≡ false
+other_number a b h = grind (arith, nat_tests)
+
+not_found : (os : List FileOption) (p : ℕ) → list_all (nat_lt p) (option_numbers os) ≡ true → find (λ (o : FileOption). nat_eq o.number p) os ≡ None
+not_found [] p h = refl
+not_found (o ∷ os) p h =
+    ap (λ b. cond b (Some o) (find (λ (x : FileOption). nat_eq x.number p) os)) (other_number p o.number (below p o.number (and_left (nat_lt p o.number) (list_all (nat_lt p) (option_numbers os)) h)))
+    ∙ not_found os p (and_right (nat_lt p o.number) (list_all (nat_lt p) (option_numbers os)) h)
+
+-- behind the first option are none of its number
+behind_first : (o : FileOption) (os : List FileOption) (ps : List ℕ) → list_all (nat_lt o.number) ps ≡ true → views_under (o ∷ os) ps ≡ views_under os ps
+behind_first o os [] h = refl
+behind_first o os (p ∷ ps) h =
+    ap (λ b. where_found option_view (cond b (Some o) (find (λ (x : FileOption). nat_eq x.number p) os)) ++ views_under (o ∷ os) ps) (unlike o.number p (below o.number p (and_left (nat_lt o.number p) (list_all (nat_lt o.number) ps) h)))
+    ∙ ap (λ vs. where_found option_view (find (λ (x : FileOption). nat_eq x.number p) os) ++ vs) (behind_first o os ps (and_right (nat_lt o.number p) (list_all (nat_lt o.number) ps) h))
+  where
+    unlike : (a b : ℕ) → a < b → nat_eq a b ≡ false
+    unlike a b h = grind (arith, nat_tests)
+
+none_under : (ps : List ℕ) → views_under [] ps ≡ []
+none_under [] = refl
+none_under (p ∷ ps) = none_under ps
+
+abbrev are_in : List ℕ → List FileOption → Bool
+are_in ps os = list_all (λ (o : FileOption). list_any (nat_eq o.number) ps) os
+
+above_all : (p : ℕ) (ps : List ℕ) (n : ℕ) → list_all (nat_lt p) ps ≡ true → list_any (nat_eq n) ps ≡ true → nat_lt p n ≡ true
+above_all p [] n h k = absurd (false≢true k)
+above_all p (q ∷ ps) n h k = of (nat_eq n q) refl k (above_all p ps n (and_right (nat_lt p q) (list_all (nat_lt p) ps) h))
+  where
+    of : (b : Bool) → nat_eq n q ≡ b → (b || list_any (nat_eq n) ps) ≡ true → (list_any (nat_eq n) ps ≡ true → nat_lt p n ≡ true) → nat_lt p n ≡ true
+    of true e k later = ap (nat_lt p) (same_number n q e) ∙ and_left (nat_lt p q) (list_all (nat_lt p) ps) h
+    of false e k later = later k
+
+-- numbers above the first stand among the others
+in_others : (p : ℕ) (ps : List ℕ) (os : List FileOption) → list_all (nat_lt p) (option_numbers os) ≡ true → are_in (p ∷ ps) os ≡ true → are_in ps os ≡ true
+in_others p ps [] above h = refl
+in_others p ps (o ∷ os) above h =
+    both (ap (λ b. b || list_any (nat_eq o.number) ps) (other_number p o.number (below p o.number (and_left (nat_lt p o.number) (list_all (nat_lt p) (option_numbers os)) above))))
+    (in_others p ps os (and_right (nat_lt p o.number) (list_all (nat_lt p) (option_numbers os)) above) (and_right (list_any (nat_eq o.number) (p ∷ ps)) (are_in (p ∷ ps) os) h))
+  where
+    both : list_any (nat_eq o.number) (p ∷ ps) ≡ list_any (nat_eq o.number) ps → are_in ps os ≡ true → are_in ps (o ∷ os) ≡ true
+    both same later = ap (λ b. b && are_in ps os) (sym same ∙ and_left (list_any (nat_eq o.number) (p ∷ ps)) (are_in (p ∷ ps) os) h) ∙ later
+
+later_above : (p n : ℕ) (ns : List ℕ) → nat_lt p n ≡ true → list_all (nat_lt n) ns ≡ true → list_all (nat_lt p) ns ≡ true
+later_above p n [] h k = refl
+later_above p n (m ∷ ns) h k =
+    ap (λ b. b && list_all (nat_lt p) ns) (over p n m h (and_left (nat_lt n m) (list_all (nat_lt n) ns) k)) ∙ later_above p n ns h (and_right (nat_lt n m) (list_all (nat_lt n) ns) k)
+  where
+    over : (a b c : ℕ) → nat_lt a b ≡ true → nat_lt b c ≡ true → nat_lt a c ≡ true
+    over a b c h k = grind (arith, nat_tests)
+
+under_all : (ps : List ℕ) (os : List FileOption) → is_rising ps ≡ true → is_rising (option_numbers os) ≡ true → are_in ps os ≡ true → views_under os ps ≡ map option_view os
+under_all ps [] rises rising among = none_under ps
+under_all [] (o ∷ os) rises rising among = absurd (false≢true among)
+under_all (p ∷ ps) (o ∷ os) rises rising among =
+    of (nat_eq o.number p) refl (and_left (list_any (nat_eq o.number) (p ∷ ps)) (are_in (p ∷ ps) os) among) (λ ns up h. under_all ps ns (and_right (list_all (nat_lt p) ps) (is_rising ps) rises) up h)
+  where
+    above : list_all (nat_lt o.number) (option_numbers os) ≡ true
+    above = and_left (list_all (nat_lt o.number) (option_numbers os)) (is_rising (option_numbers os)) rising
+
+    of : (b : Bool) → nat_eq o.number p ≡ b → (b || list_any (nat_eq o.number) ps) ≡ true
+        → ((ns : List FileOption) → is_rising (option_numbers ns) ≡ true → are_in ps ns ≡ true → views_under ns ps ≡ map option_view ns)
+        → where_found option_view (cond b (Some o) (find (λ (x : FileOption). nat_eq x.number p) os)) ++ views_under (o ∷ os) ps ≡ option_view o ∷ map option_view os
+    of true e k later =
+        let same : o.number ≡ p = same_number o.number p e in
+        let over : list_all (nat_lt o.number) ps ≡ true = subst (λ n. list_all (nat_lt n) ps ≡ true) (sym same) (and_left (list_all (nat_lt p) ps) (is_rising ps) rises) in
+        ap (λ vs. option_view o ∷ vs)
+        (behind_first o os ps over
+        ∙ later os (and_right (list_all (nat_lt o.number) (option_numbers os)) (is_rising (option_numbers os)) rising)
+        (in_others p ps os (subst (λ n. list_all (nat_lt n) (option_numbers os) ≡ true) same above) (and_right (list_any (nat_eq o.number) (p ∷ ps)) (are_in (p ∷ ps) os) among)))
+    of false e k later =
+        let over : nat_lt p o.number ≡ true = above_all p ps o.number (and_left (list_all (nat_lt p) ps) (is_rising ps) rises) k in
+        ap (λ f. where_found option_view f ++ views_under (o ∷ os) ps) (not_found os p (later_above p o.number (option_numbers os) over above))
+        ∙ later (o ∷ os) rising
+        (ap (λ b. b && are_in ps os) k ∙ in_others p ps os (later_above p o.number (option_numbers os) over above) (and_right (list_any (nat_eq o.number) (p ∷ ps)) (are_in (p ∷ ps) os) among))
+
+kind_place : (o : FileOption) → is_file_option o ≡ true → list_any (nat_eq o.number) option_places ≡ true
+kind_place o kind = of o.value kind
+  where
+    flag_place : (n : ℕ) → list_any (nat_eq n) flag_options ≡ true → list_any (nat_eq n) option_places ≡ true
+    flag_place n h = grind (arith, nat_tests)
+
+    mode_place : (n : ℕ) → nat_eq n 9 ≡ true → list_any (nat_eq n) option_places ≡ true
+    mode_place n h = ap (λ k. list_any (nat_eq k) option_places) (same_number n 9 h)
+
+    text_place : (n : ℕ) → list_any (nat_eq n) text_options ≡ true → list_any (nat_eq n) option_places ≡ true
+    text_place n h = grind (arith, nat_tests)
+
+    of : (v : OptionValue) → is_of_kind o.number v ≡ true → list_any (nat_eq o.number) option_places ≡ true
+    of (values.Flag flag) k = flag_place o.number k
+    of (values.Mode mode) k = mode_place o.number k
+    of (values.Text text) k = text_place o.number k
+
+kinds_places : (os : List FileOption) → list_all is_file_option os ≡ true → are_in option_places os ≡ true
+kinds_places [] h = refl
+kinds_places (o ∷ os) h =
+    ap (λ b. b && are_in option_places os) (kind_place o (and_left (is_file_option o) (list_all is_file_option os) h)) ∙ kinds_places os (and_right (is_file_option o) (list_all is_file_option os) h)
+
+-- the options of all numbers are all options
+pub all_under : (os : List FileOption) → is_rising (0 ∷ option_numbers os) ≡ true → list_all is_file_option os ≡ true → views_under os option_places ≡ map option_view os
+all_under os rising kinds = under_all option_places os refl (and_right (list_all (nat_lt 0) (option_numbers os)) (is_rising (option_numbers os)) rising) (kinds_places os kinds)
+
+-- a message that says nothing states none
+pub none_stated : (m : Message) (os : List FileOption) → m ≡ ends [] → StatesOptions m os → is_rising (0 ∷ option_numbers os) ≡ true → list_all is_file_option os ≡ true → [] ≡ map option_view os
+none_stated m os is states rising kinds = nothing option_places (subst (λ x. StatesThese x os option_places) is states) ∙ all_under os rising kinds
+  where
+    nothing : (ps : List ℕ) → StatesThese (ends []) os ps → [] ≡ views_under os ps
+    nothing [] all = refl
+    nothing (p ∷ ps) all = of (find (λ (o : FileOption). nat_eq o.number p) os) all.0 (nothing ps all.1)
+      where
+        of : (o : Option FileOption) → None ≡ option_map (λ (x : FileOption). option_item x.value) o → [] ≡ views_under os ps → [] ≡ where_found option_view o ++ views_under os ps
+        of None says later = later
+        of (Some o) says later = absurd (none-some (option_item o.value) says)
+
+-- the message of options is none where there is no item
+pub options_missing : (m : Message) → item_at 8 m ≡ None → options_at 8 m ≡ ends []
+options_missing m none = ap (λ o. unwrap_or (option_map child_of o) (ends [])) none
+
+-- and what the item is where there is one
+pub options_found : (m : Message) (item : Item) (found : Option Message) → item_at 8 m ≡ Some item → found ≡ child_in item → unwrap_or found (ends []) ≡ options_at 8 m
+options_found m item found there is = ap (λ o. unwrap_or o (ends [])) is ∙ (of item ∙ sym (ap (λ o. unwrap_or (option_map child_of o) (ends [])) there))
+  where
+    of : (x : Item) → unwrap_or (child_in x) (ends []) ≡ child_of x
+    of (Plain leaf) = refl
+    of (Msg child) = refl

@@ -1,0 +1,118 @@
+-- What the message types and enums of a set are called, in the order of their places, and that the table of full names has those places.
+use Rattle.std.specs.Prelude.{◌≡◌, ℕ, ◌+◌, ◌≤◌, ◌^◌, zero, suc, true, List, [], ◌∷◌, ◌++◌, map, flat_map, filter, filter_map, length, Some, slice_get, String}
+use Rattle.std.specs.BTreeMap.{BTreeMap, get_by_text}
+use Rattle.std.specs.List.{AllByRecursion, list_all}
+use Rattle.std.specs.Str.{IsUtf8}
+use Rattle.std.specs.String.{string_bytes}
+use Rattle.pg_schema.specs.PackageNames.{is_free_of}
+use Rattle.pg_schema.specs.Pairs.{are_distinct}
+use Rattle.pg_schema.specs.TextSets.{is_among}
+use Rattle.pg_dyn.specs.Kept.{message_of}
+use Rattle.pg_dyn.specs.Message.{Message}
+use Rattle.pg_fds.specs.declared.outline.Named.{Named}
+use Rattle.pg_fds.specs.declared.outline.Named.TheVariants as nameds
+use Rattle.pg_fds.specs.declared.outline.Outlined.{Outlined}
+use Rattle.pg_fds.specs.declared.outline.OutlinedType.{OutlinedType}
+use Rattle.pg_fds.specs.Said.{children_at, text_at}
+use Rattle.pg_fds.specs.SetNames.{files_names, full_name}
+use Rattle.pg_fds.specs.StatesFiles.{is_place}
+use Rattle.pg_fds.specs.StatesTypes.{is_entry, is_no_entry, synthetic_places}
+
+-- a full name, and the message of what has it
+abbrev pub Row : Type 0
+Row = List ℕ × Message
+
+abbrev pub row : Outlined → Row
+row o = (string_bytes o.name, message_of o.message.now)
+
+abbrev pub type_row : OutlinedType → Row
+type_row o = (string_bytes o.name, message_of o.message.now)
+
+abbrev pub row_in : (scope : List ℕ) → Message → Row
+row_in scope m = (full_name scope m, m)
+
+abbrev pub rows_in : (scope : List ℕ) → List Message → List Row
+rows_in scope ms = map (row_in scope) ms
+
+-- a message type's, and then those of the types inside it
+abbrev pub rows_of_type : (inside : List ℕ → List Message → List Row) → (scope : List ℕ) → Message → List Row
+rows_of_type inside scope m = row_in scope m ∷ inside (full_name scope m) (filter is_no_entry (children_at 3 m))
+
+-- message types, nested less deep than that
+abbrev pub type_rows : (depth : ℕ) → (scope : List ℕ) → List Message → List Row
+type_rows zero scope ms = []
+type_rows (suc depth) scope ms = flat_map (rows_of_type (type_rows depth) scope) ms
+
+-- the enums of the types inside a message type, and then its own
+abbrev pub rows_of_enums : (inside : List ℕ → List Message → List Row) → (scope : List ℕ) → Message → List Row
+rows_of_enums inside scope m = inside (full_name scope m) (filter is_no_entry (children_at 3 m)) ++ rows_in (full_name scope m) (children_at 4 m)
+
+-- the enums in message types, nested less deep than that
+abbrev pub enum_rows : (depth : ℕ) → (scope : List ℕ) → List Message → List Row
+enum_rows zero scope ms = []
+enum_rows (suc depth) scope ms = flat_map (rows_of_enums (enum_rows depth) scope) ms
+
+-- ---- files
+
+abbrev pub file_types : (depth : ℕ) → Message → List Row
+file_types depth m = type_rows depth (text_at 2 m) (children_at 4 m)
+
+abbrev pub file_enums : (depth : ℕ) → Message → List Row
+file_enums depth m = enum_rows depth (text_at 2 m) (children_at 4 m) ++ rows_in (text_at 2 m) (children_at 5 m)
+
+abbrev pub file_services : Message → List Row
+file_services m = rows_in (text_at 2 m) (children_at 6 m)
+
+-- the files at these places
+abbrev pub files_at : List Message → List ℕ → List Message
+files_at files places = filter_map (slice_get files) places
+
+-- ---- the table
+
+-- the table has the message type's name with its place, and those of its entry types
+pub record IsTypeNamed {Y : Type 0} (table : BTreeMap (String Y) Named) (place : ℕ) (r : Row) : Type 0 where
+  pub own : get_by_text table r.0 ≡ Some (nameds.Type (record { index = place }))
+  pub entries : AllByRecursion (λ e. get_by_text table (full_name r.0 e) ≡ Some nameds.Entry) (filter is_entry (children_at 3 r.1))
+
+abbrev pub AreTypesNamed : {Y : Type 0} → BTreeMap (String Y) Named → List Row → Type 0
+AreTypesNamed table rows = (place : ℕ) (r : Row) → slice_get rows place ≡ Some r → IsTypeNamed table place r
+
+abbrev pub AreEnumsNamed : {Y : Type 0} → BTreeMap (String Y) Named → List Row → Type 0
+AreEnumsNamed table rows = (place : ℕ) (r : Row) → slice_get rows place ≡ Some r → get_by_text table r.0 ≡ Some (nameds.Enum (record { index = place }))
+
+-- ---- oneofs
+
+-- the `optional` fields of a message type name oneofs of it
+abbrev pub NamesOneofs : Message → Type 0
+NamesOneofs m = list_all (is_place (length (children_at 8 m))) (synthetic_places (children_at 2 m)) ≡ true
+
+-- so do those of message types nested less deep than that
+abbrev pub NameOneofs : (depth : ℕ) → List Message → Type 0
+NameOneofs zero ms = Unit {0}
+NameOneofs (suc depth) ms = AllByRecursion (λ m. NamesOneofs m × NameOneofs depth (filter is_no_entry (children_at 3 m))) ms
+
+-- ---- what may be declared
+
+-- So may all that a file declares, as far as its names aren't looked at, where so many message types, enums and services stand in front: its
+-- package is one of these and a text, none of its own message types is an entry type, and the numbers of places fit 32 bits.
+pub record MayPlace (depth types enums services : ℕ) (packages : List (List ℕ)) (m : Message) : Type 0 where
+  pub package_name : is_among packages (text_at 2 m) ≡ true
+  pub text : IsUtf8 (text_at 2 m)
+  pub no_entries : filter is_entry (children_at 4 m) ≡ []
+  pub oneofs : NameOneofs depth (children_at 4 m)
+  pub few_types : types + length (file_types depth m) ≤ 2 ^ 32
+  pub few_enums : enums + length (file_enums depth m) ≤ 2 ^ 32
+  pub few_services : services + length (file_services m) ≤ 2 ^ 32
+
+-- So may all that the files declare, taken in this order: packages and full names are texts, each name stands once and is no part of a
+-- package, no entry type stands outside of message types, `optional` fields name oneofs that are there, and places fit 32 bits.
+pub record MayDeclare (depth : ℕ) (files : List Message) : Type 0 where
+  pub packages : AllByRecursion (λ m. IsUtf8 (text_at 2 m)) files
+  pub no_entries : AllByRecursion (λ m. filter is_entry (children_at 4 m) ≡ []) files
+  pub oneofs : AllByRecursion (λ m. NameOneofs depth (children_at 4 m)) files
+  pub few_types : length (flat_map (file_types depth) files) ≤ 2 ^ 32
+  pub few_enums : length (flat_map (file_enums depth) files) ≤ 2 ^ 32
+  pub few_services : length (flat_map file_services files) ≤ 2 ^ 32
+  pub texts : AllByRecursion IsUtf8 (files_names depth files)
+  pub once : are_distinct (files_names depth files) ≡ true
+  pub apart : list_all (is_free_of (files_names depth files)) (map (text_at 2) files) ≡ true
