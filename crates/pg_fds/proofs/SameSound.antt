@@ -57,8 +57,8 @@ entry_same f g same = ap (λ (v : FieldView). if is_map v.presence then entry_na
 field_same : (oneofs types enums : ℕ) (f g : Field) → field_view f ≡ field_view g → is_field oneofs types enums f ≡ is_field oneofs types enums g
 field_same oneofs types enums f g same =
     ap (λ (v : FieldView).
-        is_field_number v.number && is_word v.name && has_presence v.presence v.element (is_some v.oneof) v.states_optional
-        && is_packed v.presence v.element v.options.packed && is_known types enums v.element && is_oneof oneofs v.oneof) same
+    is_field_number v.number && is_word v.name && has_presence v.presence v.element (is_some v.oneof) v.states_optional
+    && is_packed v.presence v.element v.options.packed && is_known types enums v.element && is_oneof oneofs v.oneof) same
 
 members_same : (places : ℕ) (fs gs : List Field) → map field_view fs ≡ map field_view gs → have_members places fs ≡ have_members places gs
 members_same zero fs gs same = refl

@@ -73,7 +73,9 @@ fn option_value(value: &Value, stated: &OptionValue) -> Result<(), Unstated>
             ensure(*found == i128::from(mode_code(*mode)))
         }
         (Value::Text(found), OptionValue::Text(text)) => same_text(found, text),
-        (Value::Bytes(found), OptionValue::Text(text)) => ensure(found.as_slice() == text.as_bytes()),
+        (Value::Bytes(found), OptionValue::Text(text)) => ensure(
+            found.as_slice() == text.as_bytes(),
+        ),
         _ => Err(Unstated::Reference),
     }
 }

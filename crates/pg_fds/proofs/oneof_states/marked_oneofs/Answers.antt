@@ -29,5 +29,5 @@ returns-in_err-names-clause-refused c =
     let p = err_from_is_err_and c.from_residual.result c.from_residual.ensures.1 in
     rw (p.1, p.2) (λ states.
     let are : map string_bytes c.args.message_type.now.oneofs.items ≡ map (text_at 1) (real_oneofs c.args.numbers.now 0 oneofs) =
-        sym (ap (λ ns. map (text_at 1) (real_oneofs ns 0 oneofs)) c.requires.synthetic ∙ states.names) in
+    sym (ap (λ ns. map (text_at 1) (real_oneofs ns 0 oneofs)) c.requires.synthetic ∙ states.names) in
     c.in_err-names.ensures.refused (subst (AllByRecursion IsUtf8) are (all_text c.args.message_type.now.oneofs.items)))
