@@ -64,6 +64,7 @@ pub mod OutlinedNames
 pub mod OutlinedFiles
 pub mod OutlinedPlaces
 pub mod StatedPlaces
+pub mod NameCounts
 pub mod InOrderLaws
 pub mod ReadLaws
 pub mod ReadExamples
