@@ -65,6 +65,7 @@ pub mod OutlinedFiles
 pub mod OutlinedPlaces
 pub mod StatedPlaces
 pub mod NameCounts
+pub mod StatedCounts
 pub mod InOrderLaws
 pub mod ReadLaws
 pub mod ReadExamples
