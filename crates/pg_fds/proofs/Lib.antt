@@ -65,7 +65,9 @@ pub mod OutlinedFiles
 pub mod OutlinedPlaces
 pub mod StatedPlaces
 pub mod NameCounts
+pub mod PlaceNames
 pub mod StatedCounts
+pub mod StatedEnumNames
 pub mod InOrderLaws
 pub mod ReadLaws
 pub mod ReadExamples
