@@ -68,6 +68,7 @@ pub mod NameCounts
 pub mod PlaceNames
 pub mod StatedCounts
 pub mod StatedEnumNames
+pub mod StatedTypeNames
 pub mod InOrderLaws
 pub mod ReadLaws
 pub mod ReadExamples

@@ -179,7 +179,7 @@ called_in all entries f (presences.Map key) is map has =
     (any.0, any.1, any.2, any.3, any.4.name)
 
 -- each map field has an entry type of its name
-each_called : (all : Declared) (entries : List Message) (fields : List Field) → AllByRecursion (HasEntry all entries) fields → AllByRecursion (λ f. Any (λ m. IsCalled m f) entries) (maps fields)
+pub each_called : (all : Declared) (entries : List Message) (fields : List Field) → AllByRecursion (HasEntry all entries) fields → AllByRecursion (λ f. Any (λ m. IsCalled m f) entries) (maps fields)
 each_called all entries [] each = tt
 each_called all entries (f ∷ fs) each = of (is_map f.presence) refl (each_called all entries fs each.1)
   where
