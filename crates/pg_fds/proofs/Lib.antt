@@ -69,6 +69,7 @@ pub mod PlaceNames
 pub mod StatedCounts
 pub mod StatedEnumNames
 pub mod StatedTypeNames
+pub mod DeclaredTexts
 pub mod InOrderLaws
 pub mod ReadLaws
 pub mod ReadExamples
