@@ -70,6 +70,7 @@ pub mod StatedCounts
 pub mod StatedEnumNames
 pub mod StatedTypeNames
 pub mod DeclaredTexts
+pub mod StatedNames
 pub mod InOrderLaws
 pub mod ReadLaws
 pub mod ReadExamples
