@@ -16,6 +16,9 @@ pub mod MapLaws
 pub mod ViewLaws
 pub mod Alike
 pub mod SameSound
+pub mod HoldsAlike
+pub mod SameStated
+pub mod SameFiles
 pub mod CalledLaws
 pub mod LeftEntries
 pub mod OneofLaws
