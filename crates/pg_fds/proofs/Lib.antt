@@ -58,6 +58,7 @@ pub mod Visited
 pub mod Ordering
 pub mod OrderSteps
 pub mod OneOrder
+pub mod FilesInOrder
 pub mod MadeOptions
 pub mod Outlining
 pub mod NameTable

@@ -1,6 +1,7 @@
 -- From places of files to their paths.
 use Rattle.std.proofs.Common.{◌≡◌, ◌↔◌, ℕ, zero, suc, ◌<◌, ◌⊎◌, inl, inr, Bool, true, false, cond, not, nat_eq, ◌||◌, List, [], ◌∷◌, ◌++◌, length, map, String, Option, Some, None, slice_get, unwrap_or, refl, ap, ap₂, sym, subst, ◌∙◌, arith}
 use Rattle.std.proofs.lemmas.Bool.{false≢true}
+use Rattle.std.proofs.lemmas.List.{length-map}
 use Rattle.std.proofs.lemmas.Option.{none-some, same_Some}
 use Rattle.std.proofs.lemmas.Slice.Eq.{bytes_eq-Decides}
 use Rattle.std.specs.BTreeMap.{BTreeMap, get_by_text}
@@ -172,7 +173,7 @@ one_place (y ∷ paths) zero (suc j) x once is_i is_j = absurd (differs_at y pat
 one_place (y ∷ paths) (suc i) zero x once is_i is_j = absurd (differs_at y paths i x (and_left (list_all (differ y) paths) (are_distinct paths) once) is_i (same_Some y x is_j))
 one_place (y ∷ paths) (suc i) (suc j) x once is_i is_j = ap suc (one_place paths i j x (and_right (list_all (differ y) paths) (are_distinct paths) once) is_i is_j)
 
-same_place : (paths : List Text) (i j : ℕ) → are_distinct paths ≡ true → i < length paths → j < length paths → name_at paths i ≡ name_at paths j → i ≡ j
+pub same_place : (paths : List Text) (i j : ℕ) → are_distinct paths ≡ true → i < length paths → j < length paths → name_at paths i ≡ name_at paths j → i ≡ j
 same_place paths i j once h k same =
     let a = there paths i h in
     let b = there paths j k in
@@ -291,6 +292,11 @@ module _ (skips : Bool) (files : List Importer) (all : List (List ℕ)) (once : 
       all_names : (paths : List Text) → map (name_at paths) (places_from 0 (length paths)) ≡ paths
       all_names [] = refl
       all_names (x ∷ paths) = ap (λ ns. x ∷ ns) (shifted x paths 0 (length paths) ∙ all_names paths)
+
+  -- and over the places of files
+  pub of_files : (count : ℕ) (listed : List ℕ) → Walks all [] (places_from 0 count) listed → AllByRecursion (λ place. place < length files) listed
+  of_files count listed walk =
+      subst (λ n. AllByRecursion (λ place. place < n) listed) (length-map files (λ (i : Importer). i.path)) (named_walk [] (places_from 0 count) listed walk tt).1
 
 -- an import that isn't there: there is no post-order
 pub none_missing : (skips : Bool) (files : List Importer) (place : ℕ) (i : Importer) → are_distinct (paths_of files) ≡ true → slice_get files place ≡ Some i

@@ -1,5 +1,5 @@
 -- Files by their places.
-use Rattle.std.specs.Prelude.{◌≡◌, ◌↔◌, ℕ, Bool, true, List, [], map, Some, slice_get, String}
+use Rattle.std.specs.Prelude.{◌≡◌, ◌↔◌, ℕ, ◌<◌, Bool, true, List, [], map, length, Some, slice_get, String}
 use Rattle.std.specs.BTreeMap.{BTreeMap, get_by_text}
 use Rattle.std.specs.List.{AllByRecursion, list_all}
 use Rattle.std.specs.Option.{unwrap_or}
@@ -38,6 +38,7 @@ pub record AreOrdered (skips : Bool) (files : List Importer) (places : List ℕ)
   pub once : are_distinct (paths_of files) ≡ true
   pub imports : list_all imports_once files ≡ true
   pub order : IsPostOrder skips files (map (name_at (paths_of files)) places)
+  pub within : AllByRecursion (λ place. place < length files) places
 
 -- what the file says of its name and its imports are texts
 pub record HasPathTexts (m : Message) : Type 0 where

@@ -4,7 +4,7 @@ use Rattle.pg_fds.specs.declared.error.Unstated.TheVariants as errors
 use Rattle.pg_fds.specs.FilePlaces.{AreOrdered, ImportsAt, importers}
 use Rattle.pg_fds.specs.PostOrder.{HasNoOrder, paths_of}
 use Rattle.pg_fds.specs.Walks.{Falls, lists_of}
-use Rattle.pg_fds.proofs.Ordering.{as_many, in_order, no_ranks, within_count}
+use Rattle.pg_fds.proofs.Ordering.{as_many, in_order, no_ranks, of_files, within_count}
 use Rattle.pg_fds.proofs.Walking.{lists_long}
 use Rattle.pg_fds.proofs.order.order_of.Goals as goal
 
@@ -26,6 +26,7 @@ returns-clause-ok c =
       once = c.in_ok-imported.ensures.once;
       imports = c.in_ok-imported.ensures.imports_once;
       order = in_order c.args.skips files (lists_of imported) c.in_ok-imported.ensures.once at (length imported) order.items many walk;
+      within = of_files c.args.skips files (lists_of imported) c.in_ok-imported.ensures.once at (length imported) order.items walk;
     }) c.post_order.ensures.ok
 
 pub returns-clause-refused : goal.returns-clause-refused
