@@ -75,9 +75,12 @@ module _ (all : Declared) where
     entries = filter is_entry (children_at 3 m)
 
     -- how often each name stands in those of the message type
-    counted : (n : List ℕ)
-        → count n (schema.type_names all.enums t)
+    abbrev IsCounted : List ℕ → Type 0
+    IsCounted n =
+        count n (schema.type_names all.enums t)
         ≡ cond (bytes_eq n name) 1 0 + count n (map (field_called name) fields) + count n (map (within name) oneofs) + count n (map (entry_called name) (maps fields)) + count n (map (within name) values)
+
+    counted : (n : List ℕ) → IsCounted n
     counted n =
         let own = map (within name) (field_names fields) in
         let ones = map (within name) oneofs in
@@ -100,19 +103,13 @@ module _ (all : Declared) where
     fields_once : are_distinct (map (field_called name) fields) ≡ true
     fields_once = each_once (map (field_called name) fields) (λ n. few n (counted n) (at_most_once n (schema.type_names all.enums t) right.once))
       where
-        few : (n : List ℕ)
-            → count n (schema.type_names all.enums t)
-            ≡ cond (bytes_eq n name) 1 0 + count n (map (field_called name) fields) + count n (map (within name) oneofs) + count n (map (entry_called name) (maps fields)) + count n (map (within name) values)
-            → count n (schema.type_names all.enums t) ≤ 1 → count n (map (field_called name) fields) ≤ 1
+        few : (n : List ℕ) → IsCounted n → count n (schema.type_names all.enums t) ≤ 1 → count n (map (field_called name) fields) ≤ 1
         few n is most = omega (arith, is, most)
 
     entries_once : are_distinct (map (entry_called name) (maps fields)) ≡ true
     entries_once = each_once (map (entry_called name) (maps fields)) (λ n. few n (counted n) (at_most_once n (schema.type_names all.enums t) right.once))
       where
-        few : (n : List ℕ)
-            → count n (schema.type_names all.enums t)
-            ≡ cond (bytes_eq n name) 1 0 + count n (map (field_called name) fields) + count n (map (within name) oneofs) + count n (map (entry_called name) (maps fields)) + count n (map (within name) values)
-            → count n (schema.type_names all.enums t) ≤ 1 → count n (map (entry_called name) (maps fields)) ≤ 1
+        few : (n : List ℕ) → IsCounted n → count n (schema.type_names all.enums t) ≤ 1 → count n (map (entry_called name) (maps fields)) ≤ 1
         few n is most = omega (arith, is, most)
 
     fields_counted : (n : List ℕ) → count n (full_names name (children_at 2 m)) ≡ count n (map (field_called name) fields)
