@@ -8,7 +8,7 @@ use Rattle.pg_dyn.specs.Kept.{Kept, message_of}
 use Rattle.pg_dyn.specs.Message.{Message}
 use Rattle.pg_fds.specs.Lent.{lent}
 
-apart : (a b : ℕ) → a ≡ b → nat_eq a b ≡ false → ⊥
+pub apart : (a b : ℕ) → a ≡ b → nat_eq a b ≡ false → ⊥
 apart a b same e = grind (arith, nat_tests)
 
 pub zip_length : {C : Type 0} (R : Message → C → Type 0) (ms : List (Bor Kept)) (cs : List C) → AllZip R (map message_of (lent ms)) cs → length ms ≡ length cs

@@ -1,8 +1,10 @@
 //! Whether message types, enums and services stand in order of declaration. What doesn't is told as a bad
 //! reference. Counts go from one place to the one behind the last.
 
-ghost use Rattle.std.specs.Prelude.{◌≡◌, ◌++◌, ◌∷◌, [], IfOk, OnOk, flat_map};
-ghost use Rattle.pg_schema.specs.Scopes.{declared_services, enum_places, service_places};
+ghost use Rattle.std.specs.Prelude.{◌≡◌, ◌++◌, ◌∷◌, [], ℕ, List, true, IfOk, OnErr, OnOk, flat_map};
+ghost use Rattle.std.specs.List.{list_all};
+ghost use Rattle.pg_schema.specs.Scopes.{are_types_in, declared_services, enum_places, is_file_scope, service_places};
+ghost use Rattle.pg_schema.specs.Sound.{IsSound};
 ghost use Rattle.pg_fds.specs.InOrder.{StandInOrder, enums_below, file_enums, file_types, types_below};
 ghost use Rattle.pg_fds.specs.Walks.{places_from};
 
@@ -15,7 +17,8 @@ const MOST_DEEP: usize = 100;
 
 // The place is the next one.
 fn behind(place: u32, next: usize) -> Result<usize, Unstated>
-    ensures { IfOk result (λ end. places_from 0 next ++ place ∷ [] ≡ places_from 0 end) }
+    ensures ok { IfOk result (λ end. places_from 0 next ++ place ∷ [] ≡ places_from 0 end) }
+    ensures refused { OnErr result ((later : List ℕ) (n : ℕ) → places_from 0 next ++ place ∷ later ≡ places_from 0 n → ⊥) }
 {
     let at = place as usize;
     if at != next {
@@ -25,7 +28,8 @@ fn behind(place: u32, next: usize) -> Result<usize, Unstated>
 }
 
 fn enums(ids: &[EnumId], next: usize) -> Result<usize, Unstated>
-    ensures { IfOk result (λ end. places_from 0 next ++ enum_places ids.now ≡ places_from 0 end) }
+    ensures ok { IfOk result (λ end. places_from 0 next ++ enum_places ids.now ≡ places_from 0 end) }
+    ensures refused { OnErr result ((later : List ℕ) (n : ℕ) → places_from 0 next ++ (enum_places ids.now ++ later) ≡ places_from 0 n → ⊥) }
 {
     let mut end = next;
     for id in ids {
@@ -35,7 +39,8 @@ fn enums(ids: &[EnumId], next: usize) -> Result<usize, Unstated>
 }
 
 fn services(ids: &[ServiceId], next: usize) -> Result<usize, Unstated>
-    ensures { IfOk result (λ end. places_from 0 next ++ service_places ids.now ≡ places_from 0 end) }
+    ensures ok { IfOk result (λ end. places_from 0 next ++ service_places ids.now ≡ places_from 0 end) }
+    ensures refused { OnErr result ((later : List ℕ) (n : ℕ) → places_from 0 next ++ (service_places ids.now ++ later) ≡ places_from 0 n → ⊥) }
 {
     let mut end = next;
     for id in ids {
@@ -46,7 +51,9 @@ fn services(ids: &[ServiceId], next: usize) -> Result<usize, Unstated>
 
 // The message types at these places, nested less deep than that.
 fn types(source: &Schema, depth: usize, ids: &[TypeId], next: usize) -> Result<usize, Unstated>
-    ensures { IfOk result (λ end. places_from 0 next ++ types_below depth source.now.types.items ids.now ≡ places_from 0 end) }
+    ensures ok { IfOk result (λ end. places_from 0 next ++ types_below depth source.now.types.items ids.now ≡ places_from 0 end) }
+    ensures refused { OnErr result (IsSound source.now → (scope later : List ℕ) (n : ℕ) → are_types_in source.now.types.items scope ids.now ≡ true
+        → places_from 0 next ++ (types_below depth source.now.types.items ids.now ++ later) ≡ places_from 0 n → ⊥) }
 {
     let mut end = next;
     if depth == 0 {
@@ -69,7 +76,9 @@ fn inner_enums(
     ids: &[TypeId],
     next: usize,
 ) -> Result<usize, Unstated>
-    ensures { IfOk result (λ end. places_from 0 next ++ enums_below depth source.now.types.items ids.now ≡ places_from 0 end) }
+    ensures ok { IfOk result (λ end. places_from 0 next ++ enums_below depth source.now.types.items ids.now ≡ places_from 0 end) }
+    ensures refused { OnErr result (IsSound source.now → (scope later : List ℕ) (n : ℕ) → are_types_in source.now.types.items scope ids.now ≡ true
+        → places_from 0 next ++ (enums_below depth source.now.types.items ids.now ++ later) ≡ places_from 0 n → ⊥) }
 {
     let mut end = next;
     if depth == 0 {
@@ -86,7 +95,9 @@ fn inner_enums(
 }
 
 fn all_types(source: &Schema, files: &[File]) -> Result<usize, Unstated>
-    ensures { IfOk result (λ end. flat_map (file_types source.now.types.items) files.now ≡ places_from 0 end) }
+    ensures ok { IfOk result (λ end. flat_map (file_types source.now.types.items) files.now ≡ places_from 0 end) }
+    ensures refused { OnErr result (IsSound source.now → (n : ℕ) → list_all (is_file_scope source.now.types.items source.now.enums.items source.now.services.items) files.now ≡ true
+        → flat_map (file_types source.now.types.items) files.now ≡ places_from 0 n → ⊥) }
 {
     let mut end = 0;
     for file in files {
@@ -96,7 +107,9 @@ fn all_types(source: &Schema, files: &[File]) -> Result<usize, Unstated>
 }
 
 fn all_enums(source: &Schema, files: &[File]) -> Result<usize, Unstated>
-    ensures { IfOk result (λ end. flat_map (file_enums source.now.types.items) files.now ≡ places_from 0 end) }
+    ensures ok { IfOk result (λ end. flat_map (file_enums source.now.types.items) files.now ≡ places_from 0 end) }
+    ensures refused { OnErr result (IsSound source.now → (n : ℕ) → list_all (is_file_scope source.now.types.items source.now.enums.items source.now.services.items) files.now ≡ true
+        → flat_map (file_enums source.now.types.items) files.now ≡ places_from 0 n → ⊥) }
 {
     let mut end = 0;
     for file in files {
@@ -107,7 +120,8 @@ fn all_enums(source: &Schema, files: &[File]) -> Result<usize, Unstated>
 }
 
 fn all_services(files: &[File]) -> Result<usize, Unstated>
-    ensures { IfOk result (λ end. declared_services files.now ≡ places_from 0 end) }
+    ensures ok { IfOk result (λ end. declared_services files.now ≡ places_from 0 end) }
+    ensures refused { OnErr result ((n : ℕ) → declared_services files.now ≡ places_from 0 n → ⊥) }
 {
     let mut end = 0;
     for file in files {
@@ -116,9 +130,10 @@ fn all_services(files: &[File]) -> Result<usize, Unstated>
     Ok(end)
 }
 
-/// All that the schema declares stands in order of declaration.
+/// All that the schema declares stands in order of declaration. Refused only where it doesn't.
 pub fn in_order(source: &Schema) -> Result<(), Unstated>
-    ensures { OnOk result (StandInOrder source.now) }
+    ensures ok { OnOk result (StandInOrder source.now) }
+    ensures refused { OnErr result (StandInOrder source.now → ⊥) }
 {
     let parts = source.parts();
     let files = parts.files.as_slice();
