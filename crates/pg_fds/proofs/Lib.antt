@@ -75,6 +75,8 @@ pub mod StatedEnumNames
 pub mod StatedTypeNames
 pub mod DeclaredTexts
 pub mod StatedNames
+pub mod RowPlaces
+pub mod StatedRows
 pub mod InOrderLaws
 pub mod ReadLaws
 pub mod ReadExamples
