@@ -77,6 +77,7 @@ pub mod DeclaredTexts
 pub mod StatedNames
 pub mod RowPlaces
 pub mod StatedRows
+pub mod StatedFileRows
 pub mod InOrderLaws
 pub mod ReadLaws
 pub mod ReadExamples
