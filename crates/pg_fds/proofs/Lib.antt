@@ -78,6 +78,7 @@ pub mod StatedNames
 pub mod RowPlaces
 pub mod StatedRows
 pub mod StatedFileRows
+pub mod RowNames
 pub mod InOrderLaws
 pub mod ReadLaws
 pub mod ReadExamples
