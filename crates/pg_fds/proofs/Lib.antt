@@ -79,6 +79,7 @@ pub mod RowPlaces
 pub mod StatedRows
 pub mod StatedFileRows
 pub mod RowNames
+pub mod StatedOutline
 pub mod InOrderLaws
 pub mod ReadLaws
 pub mod ReadExamples
