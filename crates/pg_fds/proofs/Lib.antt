@@ -35,6 +35,7 @@ pub mod NamedEntries
 pub mod Counted
 pub mod FewOneofs
 pub mod EntryTexts
+pub mod EntryStateLaws
 pub mod MadeMessage
 pub mod DeclaredFields
 pub mod StatedTypes

@@ -18,18 +18,13 @@ use Rattle.pg_fds.specs.Lent.{lent}
 use Rattle.pg_fds.specs.Said.{text_at}
 use Rattle.pg_fds.specs.StatesFiles.{is_place}
 use Rattle.pg_fds.specs.StatesTypes.{AreMarked, NamesOneof, is_at, is_marked, real_oneofs}
-use Rattle.pg_fds.proofs.Zips.{seen_length}
+use Rattle.pg_fds.proofs.Zips.{seen_got, seen_length}
 
 -- the item at a place, as a look-up finds it
 got : {A B : Type 0} (f : A → B) (xs : List A) (i : ℕ) (x : A) → i < length xs → x ≡ get_or xs i x → slice_get (map f xs) i ≡ Some (f x)
 got f [] i x h is = absurd (omega (arith, h))
 got f (y ∷ xs) zero x h is = ap (λ z. Some (f z)) (sym is)
 got f (y ∷ xs) (suc i) x h is = got f xs i x (omega (arith, h)) is
-
-seen_got : (ms : List (Bor Kept)) (i : ℕ) (m : Bor Kept) → i < length ms → m ≡ get_or ms i m → slice_get (map message_of (lent ms)) i ≡ Some (message_of m.now)
-seen_got [] i m h is = absurd (omega (arith, h))
-seen_got (x ∷ ms) zero m h is = ap (λ (b : Bor Kept). Some (message_of b.now)) (sym is)
-seen_got (x ∷ ms) (suc i) m h is = seen_got ms i m (omega (arith, h)) is
 
 pub named_one : {Y : Type 0} (oneofs : List (Bor Kept)) (numbers : List ℤ) (names : List (String Y)) (number : ℤ) (own place : ℕ) (m : Bor Kept) (name : String Y)
     → number ≡ pos place → is_marked numbers place ≡ false → place < length oneofs → m ≡ get_or oneofs place m → own < length names → name ≡ get_or names own name

@@ -1,5 +1,5 @@
 -- Lists that go side by side, from the places that a loop has still to see.
-use Rattle.std.proofs.Common.{◌≡◌, ℕ, zero, suc, ◌+◌, ◌<◌, ◌≤◌, List, [], ◌∷◌, length, map, drop, get_or, refl, ap, sym, subst, arith, add-one, drop-cons}
+use Rattle.std.proofs.Common.{◌≡◌, ℕ, zero, suc, ◌+◌, ◌<◌, ◌≤◌, List, [], ◌∷◌, length, map, drop, get_or, Some, slice_get, refl, ap, sym, subst, arith, add-one, drop-cons}
 use Rattle.std.specs.List.{AllZip, Any}
 use denote.Ref.{Bor}
 use Rattle.pg_dyn.specs.Kept.{Kept, message_of}
@@ -44,6 +44,12 @@ lent_end R ms cs i same h =
 pub seen_length : (ms : List (Bor Kept)) → length (map message_of (lent ms)) ≡ length ms
 seen_length [] = refl
 seen_length (m ∷ ms) = ap suc (seen_length ms)
+
+-- what stands at a place says what the message there says
+pub seen_got : (ms : List (Bor Kept)) (i : ℕ) (m : Bor Kept) → i < length ms → m ≡ get_or ms i m → slice_get (map message_of (lent ms)) i ≡ Some (message_of m.now)
+seen_got [] i m h is = absurd (omega (arith, h))
+seen_got (x ∷ ms) zero m h is = ap (λ (b : Bor Kept). Some (message_of b.now)) (sym is)
+seen_got (x ∷ ms) (suc i) m h is = seen_got ms i m (omega (arith, h)) is
 
 seen_at : (ms : List (Bor Kept)) (i : ℕ) (m : Bor Kept) → i < length ms → m ≡ get_or ms i m → get_or (map message_of (lent ms)) i (message_of m.now) ≡ message_of m.now
 seen_at [] i m h is = absurd (omega (arith, h))

@@ -1,17 +1,23 @@
 //! Whether the messages of a set state the entry types of map fields. What they don't state is told as a
 //! bad reference.
 
-ghost use Rattle.std.specs.Prelude.{◌≡◌, [], None, IfErr, IfOk, OnErr, OnOk, codes, length, filter, map};
+ghost use Rattle.std.specs.Prelude.{◌≡◌, [], true, None, Some, IfErr, IfOk, OnErr, OnOk, codes, length, filter, map};
+ghost use Rattle.std.specs.BTreeMap.{get_by_text};
 ghost use Rattle.std.specs.List.{AllByRecursion, Any};
+ghost use Rattle.std.specs.Str.{IsUtf8};
+ghost use Rattle.std.specs.String.{string_bytes};
 ghost use Rattle.pg_schema.specs.declared.field.Field.{Field};
 ghost use Rattle.pg_schema.specs.declared.field.Presence.TheVariants as presences;
+ghost use Rattle.pg_schema.specs.DeclaredNames.{entry_name};
+ghost use Rattle.pg_schema.specs.Pairs.{are_distinct};
 ghost use Rattle.pg_schema.specs.Shape.{is_map};
 ghost use Rattle.pg_dyn.specs.Kept.{message_of};
 ghost use Rattle.pg_dyn.specs.Message.{parts};
 ghost use Rattle.pg_fds.specs.declared.error.Unstated.TheVariants.{Memory};
+ghost use Rattle.pg_fds.specs.FilePlaces.{IsIndex};
 ghost use Rattle.pg_fds.specs.Lent.{lent};
 ghost use Rattle.pg_fds.specs.Places.{declared_in};
-ghost use Rattle.pg_fds.specs.Said.{item_at, items_at, options_at};
+ghost use Rattle.pg_fds.specs.Said.{item_at, items_at, options_at, text_at};
 ghost use Rattle.pg_fds.specs.States.{AreKeyAndValue, HasEntry, StatesEntries, StatesEntry, StatesEntryField};
 
 use crate::error::Unstated;
@@ -135,10 +141,14 @@ fn entry(
 }
 
 // The places of entry types by their names.
-fn places(alloc: Global, entries: &[&Message]) -> Result<BTreeMap<String, usize>, Unstated> {
+fn places(alloc: Global, entries: &[&Message]) -> Result<BTreeMap<String, usize>, Unstated>
+    ensures index { IfOk result (λ places. are_distinct (map (text_at 1) (map message_of (lent entries.now))) ≡ true → IsIndex (map (text_at 1) (map message_of (lent entries.now))) places) }
+    ensures refused { IfErr result (λ r. AllByRecursion IsUtf8 (map (text_at 1) (map message_of (lent entries.now))) → r ≡ Memory) }
+{
     let mut places = BTreeMap::new(alloc);
     for (place, message) in entries.iter().enumerate() {
-        places.insert(String::from_str(alloc, text(message, 1)?)?, place)?;
+        let name = String::from_str(alloc, text(message, 1)?)?;
+        places.insert(name, place)?;
     }
     Ok(places)
 }
@@ -148,7 +158,10 @@ fn place_of(
     alloc: Global,
     places: &BTreeMap<String, usize>,
     field: &Field,
-) -> Result<usize, Unstated> {
+) -> Result<usize, Unstated>
+    ensures found { IfOk result (λ place. get_by_text places.now (entry_name (string_bytes field.now.name)) ≡ Some place) }
+    ensures refused { IfErr result (λ r. (get_by_text places.now (entry_name (string_bytes field.now.name)) ≡ None → ⊥) → r ≡ Memory) }
+{
     let name = entry_name(alloc, &field.name)?;
     match places.get(name.as_str()) {
         Some(place) => Ok(*place),
@@ -165,7 +178,9 @@ fn names_entry(
     field: &Field,
     key: Scalar,
 ) -> Result<(), Unstated>
-    ensures { OnOk result (Any (StatesEntry (declared_in source.now) field.now key) (map message_of (lent entries.now))) }
+    ensures ok { OnOk result (Any (StatesEntry (declared_in source.now) field.now key) (map message_of (lent entries.now))) }
+    ensures refused { IfErr result (λ r. IsIndex (map (text_at 1) (map message_of (lent entries.now))) places.now
+        → Any (StatesEntry (declared_in source.now) field.now key) (map message_of (lent entries.now)) → r ≡ Memory) }
 {
     let place = place_of(alloc, places, field)?;
     if place >= entries.len() {
@@ -182,7 +197,9 @@ fn has_entry(
     places: &BTreeMap<String, usize>,
     field: &Field,
 ) -> Result<(), Unstated>
-    ensures { OnOk result (HasEntry (declared_in source.now) (map message_of (lent entries.now)) field.now) }
+    ensures ok { OnOk result (HasEntry (declared_in source.now) (map message_of (lent entries.now)) field.now) }
+    ensures refused { IfErr result (λ r. IsIndex (map (text_at 1) (map message_of (lent entries.now))) places.now
+        → HasEntry (declared_in source.now) (map message_of (lent entries.now)) field.now → r ≡ Memory) }
 {
     match field.presence {
         Presence::Map { key } => names_entry(alloc, source, entries, places, field, key),
@@ -203,14 +220,17 @@ fn map_count(fields: &[Field]) -> usize
     count
 }
 
-/// The messages state the entry types of the fields.
+/// The messages state the entry types of the fields. Where names of these are texts and stand once, it is
+/// refused, memory aside, only where they don't.
 pub fn entries(
     alloc: Global,
     source: &Schema,
     messages: &[&Message],
     fields: &[Field],
 ) -> Result<(), Unstated>
-    ensures { OnOk result (StatesEntries (declared_in source.now) (map message_of (lent messages.now)) fields.now) }
+    ensures ok { OnOk result (StatesEntries (declared_in source.now) (map message_of (lent messages.now)) fields.now) }
+    ensures refused { IfErr result (λ r. AllByRecursion IsUtf8 (map (text_at 1) (map message_of (lent messages.now)))
+        → are_distinct (map (text_at 1) (map message_of (lent messages.now))) ≡ true → StatesEntries (declared_in source.now) (map message_of (lent messages.now)) fields.now → r ≡ Memory) }
 {
     ensure(messages.len() == map_count(fields))?;
     let places = places(alloc, messages)?;
