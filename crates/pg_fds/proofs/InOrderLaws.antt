@@ -15,7 +15,7 @@ use Rattle.pg_fds.specs.InOrder.{enums_below, file_enums, inner_enums, inner_typ
 use Rattle.pg_fds.specs.StatesFiles.{most_deep}
 use Rattle.pg_fds.specs.Walks.{places_from}
 use Rattle.pg_fds.proofs.FileLaws.{one_more, test_in}
-use Rattle.pg_fds.proofs.StatedPlaces.{first_place, later_places}
+use Rattle.pg_fds.proofs.NextPlaces.{first_place, later_places}
 
 pub more_from : (start n : ℕ) → places_from start n ++ (start + n) ∷ [] ≡ places_from start (suc n)
 more_from start zero = ap (λ k. k ∷ []) (omega arith)

@@ -68,7 +68,7 @@ pub mod NamedRows
 pub mod OutlinedNames
 pub mod OutlinedFiles
 pub mod OutlinedPlaces
-pub mod StatedPlaces
+pub mod NextPlaces
 pub mod NameCounts
 pub mod PlaceNames
 pub mod StatedCounts
