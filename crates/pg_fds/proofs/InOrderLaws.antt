@@ -166,7 +166,7 @@ is_placed types scope ids i id h is scoped none =
     let named : is_named_in scope (type_name types id) ≡ true = test_in (λ x. is_named_in scope (type_name types x)) ids i id scoped h is in
     false≢true (ap (λ o. is_named_in scope (option_map (λ (t : MessageType). string_bytes t.name) o)) (sym none) ∙ named)
 
-tested_got : {A : Type 0} (test : A → Bool) (xs : List A) (i : ℕ) (x : A) → list_all test xs ≡ true → slice_get xs i ≡ Some x → test x ≡ true
+pub tested_got : {A : Type 0} (test : A → Bool) (xs : List A) (i : ℕ) (x : A) → list_all test xs ≡ true → slice_get xs i ≡ Some x → test x ≡ true
 tested_got test [] i x all is = absurd (none-some x is)
 tested_got test (y ∷ ys) zero x all is = subst (λ z. test z ≡ true) (same_Some y x is) (and_left (test y) (list_all test ys) all)
 tested_got test (y ∷ ys) (suc i) x all is = tested_got test ys i x (and_right (test y) (list_all test ys) all) is

@@ -83,5 +83,6 @@ pub mod RowNames
 pub mod StatedOutline
 pub mod InOrderLaws
 pub mod ReadLaws
+pub mod TypeStateLaws
 pub mod ReadExamples
 pub mod PlaceExamples

@@ -187,6 +187,11 @@ each_called all entries (f ∷ fs) each = of (is_map f.presence) refl (each_call
     of true is later = (called_in all entries f f.presence refl is each.0, later)
     of false is later = later
 
+-- where the names of those of the fields stand once, so do those of the messages
+pub entries_once : (all : Declared) (entries : List Message) (fields : List Field) → are_distinct (entry_names fields) ≡ true → StatesEntries all entries fields → are_distinct (map (text_at 1) entries) ≡ true
+entries_once all entries fields once states =
+    named_once IsCalled (text_at 1) entry_called (λ m f is. is) entries (maps fields) states.as_many (ap are_distinct (names_of_maps fields) ∙ once) (each_called all entries fields states.each)
+
 among_itself : (names : List (List ℕ)) (n : List ℕ) → is_among (n ∷ names) n ≡ true
 among_itself names n = ap (λ b. b || is_among names n) ((bytes_eq-Decides n n).1 refl)
 

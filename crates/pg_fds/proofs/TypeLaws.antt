@@ -13,7 +13,8 @@ use Rattle.pg_fds.specs.Lent.{lent}
 use Rattle.pg_fds.specs.Places.{Declared}
 use Rattle.pg_fds.specs.Said.{children_at}
 use Rattle.pg_fds.specs.StatesTypes.{StatesType, StatesTypes, StatesWhole, is_no_entry}
-use Rattle.pg_fds.proofs.Zips.{zip_end, zip_on}
+use Rattle.pg_fds.proofs.ZipPlaces.{zip_length, zip_or}
+use Rattle.pg_fds.proofs.Zips.{seen_length, zip_end, zip_on}
 
 pub whole_at : (all : Declared) (Inside : List ℕ → List Message → List TypeId → Type 0) (scope : List ℕ) (m : Message) (id : TypeId) (t : MessageType) (ms : List Message)
     → slice_get all.types id.index ≡ Some t → StatesType all scope m t → ms ≡ filter is_no_entry (children_at 3 m) → Inside (string_bytes t.name) ms t.nested_types.items
@@ -63,3 +64,24 @@ pub types_all : (depth : ℕ) (all : Declared) (scope : List ℕ) (ms : List (Bo
 types_all depth all scope ms ids i deep same past whole =
     types_deep depth all scope (map message_of (lent ms)) ids deep
     (whole (zip_end (λ x (d : TypeId). IsSomeAnd (slice_get all.types d.index) (StatesWhole all (StatesTypes (depth - 1) all) scope x)) ms ids i (as_long (length ms) (length ids) same) past))
+
+-- ---- what is asked of each
+
+pub types_even : (depth : ℕ) (all : Declared) (scope : List ℕ) (ms : List (Bor Kept)) (ids : List TypeId) → StatesTypes depth all scope (map message_of (lent ms)) ids → length ms ≡ length ids
+types_even zero all scope ms ids none = sym (seen_length ms) ∙ (ap length none.0 ∙ sym (ap length none.1))
+types_even (suc depth) all scope ms ids zip = zip_length (λ m (id : TypeId). IsSomeAnd (slice_get all.types id.index) (StatesWhole all (StatesTypes depth all) scope m)) ms ids zip
+
+-- the one at a place is there, and is stated
+pub type_stated : (depth : ℕ) (all : Declared) (scope : List ℕ) (ms : List (Bor Kept)) (ids : List TypeId) (i : ℕ) (m : Bor Kept) (first : TypeId) → depth ≢ 0 → i < length ms → m ≡ get_or ms i m
+    → StatesTypes depth all scope (map message_of (lent ms)) ids → IsSomeAnd (slice_get all.types (get_or ids i first).index) (StatesWhole all (StatesTypes (depth - 1) all) scope (message_of m.now))
+type_stated zero all scope ms ids i m first deep h is states = absurd (deep refl)
+type_stated (suc depth) all scope ms ids i m first deep h is states =
+    let down : depth ≡ suc depth - 1 = omega arith in
+    subst (λ d. IsSomeAnd (slice_get all.types (get_or ids i first).index) (StatesWhole all (StatesTypes d all) scope (message_of m.now))) down
+    (zip_or (λ x (id : TypeId). IsSomeAnd (slice_get all.types id.index) (StatesWhole all (StatesTypes depth all) scope x)) ms ids i m first h is states)
+
+-- those inside, as they are looked through
+pub inside_asked : (depth : ℕ) (all : Declared) (t : MessageType) (inner ms : List Message) (name : List ℕ) (ids : List TypeId) → name ≡ string_bytes t.name → inner ≡ ms → ids ≡ t.nested_types.items
+    → StatesTypes depth all (string_bytes t.name) ms t.nested_types.items → StatesTypes depth all name inner ids
+inside_asked depth all t inner ms name ids called seen placed h =
+    subst (λ n. StatesTypes depth all n inner ids) (sym called) (subst (λ xs. StatesTypes depth all (string_bytes t.name) xs ids) (sym seen) (subst (StatesTypes depth all (string_bytes t.name) ms) (sym placed) h))

@@ -1,8 +1,10 @@
 //! Whether the messages of a set state message types. What they don't state is told as a bad reference.
 
-ghost use Rattle.std.specs.Prelude.{◌≡◌, [], IfOk, OnOk, Some, filter, map, slice_get, IsSomeAnd};
+ghost use Rattle.std.specs.Prelude.{◌≡◌, [], IfErr, IfOk, OnOk, Some, filter, map, slice_get, IsSomeAnd};
 ghost use Rattle.pg_dyn.specs.Kept.{message_of};
 ghost use Rattle.pg_schema.specs.Parts.{type_at};
+ghost use Rattle.pg_schema.specs.Sound.{IsSound};
+ghost use Rattle.pg_fds.specs.declared.error.Unstated.TheVariants.{Memory};
 ghost use Rattle.pg_fds.specs.Lent.{lent};
 ghost use Rattle.pg_fds.specs.Messages.{declared_fields};
 ghost use Rattle.pg_fds.specs.Places.{declared_in};
@@ -84,7 +86,9 @@ fn own_type(
     declared: &MessageType,
 ) -> Result<(), Unstated>
     requires { type_at source.now id ≡ Some declared.now }
-    ensures { OnOk result (StatesType (declared_in source.now) scope.now (message_of message.now) declared.now) }
+    ensures ok { OnOk result (StatesType (declared_in source.now) scope.now (message_of message.now) declared.now) }
+    ensures refused { IfErr result (λ r. IsSound source.now
+        → StatesType (declared_in source.now) scope.now (message_of message.now) declared.now → r ≡ Memory) }
 {
     let own = children(alloc, message, 2)?;
     let declared_fields = declared_fields(alloc, source, id, declared)?;
@@ -109,7 +113,8 @@ fn own_type(
     Ok(())
 }
 
-/// The messages state the message types at these places, nested less deep than that.
+/// The messages state the message types at these places, nested less deep than that. Refused, memory aside,
+/// only where they don't.
 pub fn types(
     alloc: Global,
     source: &Schema,
@@ -118,7 +123,9 @@ pub fn types(
     messages: &[&Message],
     ids: &[TypeId],
 ) -> Result<(), Unstated>
-    ensures { OnOk result (StatesTypes depth (declared_in source.now) scope.now (map message_of (lent messages.now)) ids.now) }
+    ensures ok { OnOk result (StatesTypes depth (declared_in source.now) scope.now (map message_of (lent messages.now)) ids.now) }
+    ensures refused { IfErr result (λ r. IsSound source.now
+        → StatesTypes depth (declared_in source.now) scope.now (map message_of (lent messages.now)) ids.now → r ≡ Memory) }
 {
     ensure(messages.len() == ids.len())?;
     if depth == 0 {

@@ -24,7 +24,7 @@ returns c =
       public_places = places_are c.len.result c.in_ok-paths.paths.items (texts_at 3 m) c.deref.result.now c.in_ok-public.public.items (numbers_at 10 m)
           (omega (arith, c.len.ensures, c.in_ok-paths.paths.ok.0)) c.in_ok-paths.ensures.ok c.deref.ensures.value c.in_ok-public.ensures c.in_ok-marks.ensures.places;
       types = moved (StatesTypes most_deep all) scope (string_bytes f.package) c.deref-7.result.now c.in_ok-inside.inside.items (children_at 4 m) c.deref-8.result.now f.types.items
-          c.as_str-scope.ensures.value c.deref-7.ensures.value c.in_ok-inside.ensures c.deref-8.ensures.value c.in_ok-types.ensures;
+          c.as_str-scope.ensures.value c.deref-7.ensures.value c.in_ok-inside.ensures c.deref-8.ensures.value c.in_ok-types.ensures.ok;
       enums = moved (StatesEnums all) scope (string_bytes f.package) c.deref-9.result.now c.in_ok-children.field-0.items (children_at 5 m) c.deref-10.result.now f.enums.items
           c.as_str-scope.ensures.value c.deref-9.ensures.value c.in_ok-children.ensures c.deref-10.ensures.value c.in_ok-enums.ensures.ok;
       services = moved (StatesServices all) scope (string_bytes f.package) c.deref-11.result.now c.in_ok-children-2.field-0.items (children_at 6 m) c.deref-12.result.now f.services.items
