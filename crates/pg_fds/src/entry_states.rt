@@ -142,7 +142,8 @@ fn entry(
 
 // The places of entry types by their names.
 fn places(alloc: Global, entries: &[&Message]) -> Result<BTreeMap<String, usize>, Unstated>
-    ensures index { IfOk result (λ places. are_distinct (map (text_at 1) (map message_of (lent entries.now))) ≡ true → IsIndex (map (text_at 1) (map message_of (lent entries.now))) places) }
+    ensures index { IfOk result (λ places. are_distinct (map (text_at 1) (map message_of (lent entries.now))) ≡ true
+        → IsIndex (map (text_at 1) (map message_of (lent entries.now))) places) }
     ensures refused { IfErr result (λ r. AllByRecursion IsUtf8 (map (text_at 1) (map message_of (lent entries.now))) → r ≡ Memory) }
 {
     let mut places = BTreeMap::new(alloc);
@@ -230,7 +231,8 @@ pub fn entries(
 ) -> Result<(), Unstated>
     ensures ok { OnOk result (StatesEntries (declared_in source.now) (map message_of (lent messages.now)) fields.now) }
     ensures refused { IfErr result (λ r. AllByRecursion IsUtf8 (map (text_at 1) (map message_of (lent messages.now)))
-        → are_distinct (map (text_at 1) (map message_of (lent messages.now))) ≡ true → StatesEntries (declared_in source.now) (map message_of (lent messages.now)) fields.now → r ≡ Memory) }
+        → are_distinct (map (text_at 1) (map message_of (lent messages.now))) ≡ true
+        → StatesEntries (declared_in source.now) (map message_of (lent messages.now)) fields.now → r ≡ Memory) }
 {
     ensure(messages.len() == map_count(fields))?;
     let places = places(alloc, messages)?;

@@ -29,7 +29,8 @@ fn behind(place: u32, next: usize) -> Result<usize, Unstated>
 
 fn enums(ids: &[EnumId], next: usize) -> Result<usize, Unstated>
     ensures ok { IfOk result (λ end. places_from 0 next ++ enum_places ids.now ≡ places_from 0 end) }
-    ensures refused { OnErr result ((later : List ℕ) (n : ℕ) → places_from 0 next ++ (enum_places ids.now ++ later) ≡ places_from 0 n → ⊥) }
+    ensures refused { OnErr result ((later : List ℕ) (n : ℕ)
+        → places_from 0 next ++ (enum_places ids.now ++ later) ≡ places_from 0 n → ⊥) }
 {
     let mut end = next;
     for id in ids {
@@ -40,7 +41,8 @@ fn enums(ids: &[EnumId], next: usize) -> Result<usize, Unstated>
 
 fn services(ids: &[ServiceId], next: usize) -> Result<usize, Unstated>
     ensures ok { IfOk result (λ end. places_from 0 next ++ service_places ids.now ≡ places_from 0 end) }
-    ensures refused { OnErr result ((later : List ℕ) (n : ℕ) → places_from 0 next ++ (service_places ids.now ++ later) ≡ places_from 0 n → ⊥) }
+    ensures refused { OnErr result ((later : List ℕ) (n : ℕ)
+        → places_from 0 next ++ (service_places ids.now ++ later) ≡ places_from 0 n → ⊥) }
 {
     let mut end = next;
     for id in ids {
@@ -52,7 +54,8 @@ fn services(ids: &[ServiceId], next: usize) -> Result<usize, Unstated>
 // The message types at these places, nested less deep than that.
 fn types(source: &Schema, depth: usize, ids: &[TypeId], next: usize) -> Result<usize, Unstated>
     ensures ok { IfOk result (λ end. places_from 0 next ++ types_below depth source.now.types.items ids.now ≡ places_from 0 end) }
-    ensures refused { OnErr result (IsSound source.now → (scope later : List ℕ) (n : ℕ) → are_types_in source.now.types.items scope ids.now ≡ true
+    ensures refused { OnErr result (IsSound source.now → (scope later : List ℕ) (n : ℕ)
+        → are_types_in source.now.types.items scope ids.now ≡ true
         → places_from 0 next ++ (types_below depth source.now.types.items ids.now ++ later) ≡ places_from 0 n → ⊥) }
 {
     let mut end = next;
@@ -77,7 +80,8 @@ fn inner_enums(
     next: usize,
 ) -> Result<usize, Unstated>
     ensures ok { IfOk result (λ end. places_from 0 next ++ enums_below depth source.now.types.items ids.now ≡ places_from 0 end) }
-    ensures refused { OnErr result (IsSound source.now → (scope later : List ℕ) (n : ℕ) → are_types_in source.now.types.items scope ids.now ≡ true
+    ensures refused { OnErr result (IsSound source.now → (scope later : List ℕ) (n : ℕ)
+        → are_types_in source.now.types.items scope ids.now ≡ true
         → places_from 0 next ++ (enums_below depth source.now.types.items ids.now ++ later) ≡ places_from 0 n → ⊥) }
 {
     let mut end = next;
@@ -96,7 +100,8 @@ fn inner_enums(
 
 fn all_types(source: &Schema, files: &[File]) -> Result<usize, Unstated>
     ensures ok { IfOk result (λ end. flat_map (file_types source.now.types.items) files.now ≡ places_from 0 end) }
-    ensures refused { OnErr result (IsSound source.now → (n : ℕ) → list_all (is_file_scope source.now.types.items source.now.enums.items source.now.services.items) files.now ≡ true
+    ensures refused { OnErr result (IsSound source.now → (n : ℕ)
+        → list_all (is_file_scope source.now.types.items source.now.enums.items source.now.services.items) files.now ≡ true
         → flat_map (file_types source.now.types.items) files.now ≡ places_from 0 n → ⊥) }
 {
     let mut end = 0;
@@ -108,7 +113,8 @@ fn all_types(source: &Schema, files: &[File]) -> Result<usize, Unstated>
 
 fn all_enums(source: &Schema, files: &[File]) -> Result<usize, Unstated>
     ensures ok { IfOk result (λ end. flat_map (file_enums source.now.types.items) files.now ≡ places_from 0 end) }
-    ensures refused { OnErr result (IsSound source.now → (n : ℕ) → list_all (is_file_scope source.now.types.items source.now.enums.items source.now.services.items) files.now ≡ true
+    ensures refused { OnErr result (IsSound source.now → (n : ℕ)
+        → list_all (is_file_scope source.now.types.items source.now.enums.items source.now.services.items) files.now ≡ true
         → flat_map (file_enums source.now.types.items) files.now ≡ places_from 0 n → ⊥) }
 {
     let mut end = 0;
