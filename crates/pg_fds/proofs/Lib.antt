@@ -84,5 +84,6 @@ pub mod StatedOutline
 pub mod InOrderLaws
 pub mod ReadLaws
 pub mod TypeStateLaws
+pub mod SetStateLaws
 pub mod ReadExamples
 pub mod PlaceExamples

@@ -295,6 +295,13 @@ none_stated m os is states rising kinds = nothing option_places (subst (λ x. St
         of None says later = later
         of (Some o) says later = absurd (none-some (option_item o.value) says)
 
+pub no_options : (m : Message) (os : List FileOption) → m ≡ ends [] → StatesOptions m os → is_rising (0 ∷ option_numbers os) ≡ true → list_all is_file_option os ≡ true → os ≡ []
+no_options m os is states rising kinds = empty os (none_stated m os is states rising kinds)
+  where
+    empty : (os : List FileOption) → [] ≡ map option_view os → os ≡ []
+    empty [] none = refl
+    empty (o ∷ os) none = absurd (omega (arith, ap length none))
+
 -- the message of options is none where there is no item
 pub options_missing : (m : Message) → item_at 8 m ≡ None → options_at 8 m ≡ ends []
 options_missing m none = ap (λ o. unwrap_or (option_map child_of o) (ends [])) none

@@ -1,12 +1,16 @@
 //! Whether the messages of a set state files. What they don't state is told as a bad reference.
 
-ghost use Rattle.std.specs.Prelude.{◌≡◌, ◌&&◌, true, IfOk, OnErr, OnOk, find, length, map, nat_eq};
-ghost use Rattle.std.specs.List.{AllByRecursion};
-ghost use Rattle.std.specs.Option.{option_copied};
+ghost use Rattle.std.specs.Prelude.{◌≡◌, ◌&&◌, ◌∷◌, [], true, IfErr, IfOk, OnErr, OnOk, find, length, map, nat_eq, option_map};
+ghost use Rattle.std.specs.List.{AllByRecursion, list_all};
+ghost use Rattle.std.specs.Option.{option_copied, unwrap_or};
 ghost use Rattle.std.specs.Str.{IsUtf8};
 ghost use Rattle.pg_schema.specs.declared.options.FileOption.{FileOption};
-ghost use Rattle.pg_schema.specs.Pairs.{are_distinct};
+ghost use Rattle.pg_schema.specs.FileRules.{is_file, is_file_option, option_numbers};
+ghost use Rattle.pg_schema.specs.Pairs.{are_distinct, is_rising};
+ghost use Rattle.pg_schema.specs.Sound.{IsSound};
 ghost use Rattle.pg_dyn.specs.Kept.{message_of};
+ghost use Rattle.pg_dyn.specs.Message.{ends};
+ghost use Rattle.pg_fds.specs.declared.error.Unstated.TheVariants.{Memory};
 ghost use Rattle.pg_fds.specs.Building.{shown};
 ghost use Rattle.pg_fds.specs.Lent.{lent};
 ghost use Rattle.pg_fds.specs.Places.{declared_in};
@@ -17,7 +21,7 @@ ghost use Rattle.pg_fds.specs.StatesTypes.{AreMarked};
 use crate::error::Unstated;
 use crate::files::mode_code;
 use crate::oneof_states::marks;
-use crate::said::{children, ensure, item, numbers, text, texts};
+use crate::said::{child_in, children, ensure, item, numbers, text, texts};
 use crate::service_states::services;
 use crate::states::{enums, same_text};
 use crate::type_states::types;
@@ -49,14 +53,20 @@ pub fn is_proto3(message: &Message) -> Result<bool, Unstated>
     Ok(text(message, 12)? == "proto3")
 }
 
-/// Whether the file is skipped: descriptor.proto, where it isn't proto3.
+/// Whether the file is skipped: descriptor.proto, where it isn't proto3. Refused only where its name is no
+/// text.
 pub fn is_skipped(message: &Message) -> Result<bool, Unstated>
-    ensures { IfOk result (λ skipped. skipped ≡ is_skipped (message_of message.now)) }
+    ensures ok { IfOk result (λ skipped. skipped ≡ is_skipped (message_of message.now)) }
+    ensures refused { OnErr result (IsUtf8 (text_at 1 (message_of message.now)) → ⊥) }
 {
     if !is_descriptor(text(message, 1)?) {
         return Ok(false);
     }
-    Ok(!is_proto3(message)?)
+    // A syntax that is no text is none of proto3.
+    match is_proto3(message) {
+        Ok(proto3) => Ok(!proto3),
+        Err(_) => Ok(true),
+    }
 }
 
 // ---- options
@@ -114,13 +124,27 @@ fn has_options(message: &Message, options: &[FileOption]) -> Result<(), Unstated
     Ok(())
 }
 
+/// The message of a file's options, where there is one.
+pub fn own_options(message: &Message) -> Option<&Message>
+    ensures { unwrap_or (option_map message_of (option_copied result)) (ends []) ≡ options_at 8 (message_of message.now) }
+{
+    let found = item(message, 8);
+    match found {
+        Some(value) => child_in(value),
+        None => None,
+    }
+}
+
 // The options that the file's message says.
 fn options(message: &Message, options: &[FileOption]) -> Result<(), Unstated>
-    ensures { OnOk result (StatesOptions (options_at 8 (message_of message.now)) options.now) }
+    ensures ok { OnOk result (StatesOptions (options_at 8 (message_of message.now)) options.now) }
+    ensures refused { OnErr result (is_rising (0 ∷ option_numbers options.now) ≡ true
+        → list_all is_file_option options.now ≡ true
+        → StatesOptions (options_at 8 (message_of message.now)) options.now → ⊥) }
 {
-    match item(message, 8) {
-        Some(Value::Msg(child)) => has_options(child, options),
-        _ => ensure(options.is_empty()),
+    match own_options(message) {
+        Some(child) => has_options(child, options),
+        None => ensure(options.is_empty()),
     }
 }
 
@@ -145,7 +169,8 @@ fn kept_imports(
     imports: &[Import],
 ) -> Result<(), Unstated>
     requires { AreMarked public.now (length paths.now) marks.now }
-    ensures { OnOk result (kept_imports skips public.now 0 (lent paths.now) ≡ map import_of imports.now) }
+    ensures ok { OnOk result (kept_imports skips public.now 0 (lent paths.now) ≡ map import_of imports.now) }
+    ensures refused { OnErr result (kept_imports skips public.now 0 (lent paths.now) ≡ map import_of imports.now → ⊥) }
 {
     let mut next = 0;
     for (place, path) in paths.iter().enumerate() {
@@ -164,7 +189,8 @@ fn kept_imports(
 
 // ---- files
 
-/// The message, which imports no path twice, states the file.
+/// The message, which imports no path twice, states the file. Of a file of a sound schema, that keeps to the
+/// rules, it is refused, memory aside, only where it doesn't.
 pub fn file(
     alloc: Global,
     source: &Schema,
@@ -173,7 +199,9 @@ pub fn file(
     declared: &File,
 ) -> Result<(), Unstated>
     requires { are_distinct (texts_at 3 (message_of message.now)) ≡ true }
-    ensures { OnOk result (StatesFile (declared_in source.now) skips (message_of message.now) declared.now) }
+    ensures ok { OnOk result (StatesFile (declared_in source.now) skips (message_of message.now) declared.now) }
+    ensures refused { IfErr result (λ r. IsSound source.now → is_file declared.now ≡ true
+        → StatesFile (declared_in source.now) skips (message_of message.now) declared.now → r ≡ Memory) }
 {
     let paths = texts(alloc, message, 3)?;
     let public = numbers(alloc, message, 10)?;

@@ -1,8 +1,7 @@
 //! Services and files of a schema, made of a set's messages.
 
-ghost use Rattle.std.specs.Prelude.{◌≡◌, ◌∷◌, [], ℕ, true, List, IfErr, IfOk, OnErr, length, map, option_map};
+ghost use Rattle.std.specs.Prelude.{◌≡◌, ◌∷◌, [], ℕ, true, List, IfErr, IfOk, OnErr, length, map};
 ghost use Rattle.std.specs.List.{AllZip, list_all};
-ghost use Rattle.std.specs.Option.{option_copied, unwrap_or};
 ghost use Rattle.std.specs.String.{string_bytes};
 ghost use Rattle.pg_schema.specs.declared.field.TypeId.{TypeId as StatedId};
 ghost use Rattle.pg_schema.specs.declared.file.File.{File as StatedFile};
@@ -15,7 +14,6 @@ ghost use Rattle.pg_schema.specs.DeclaredNames.{within};
 ghost use Rattle.pg_schema.specs.FileRules.{is_file, is_file_option, is_of_kind, option_numbers};
 ghost use Rattle.pg_schema.specs.Pairs.{is_rising};
 ghost use Rattle.pg_dyn.specs.Kept.{message_of};
-ghost use Rattle.pg_dyn.specs.Message.{ends};
 ghost use Rattle.pg_fds.specs.declared.error.Unstated.TheVariants.{Memory};
 ghost use Rattle.pg_fds.specs.Building.{shown};
 ghost use Rattle.pg_fds.specs.Lent.{lent};
@@ -28,12 +26,12 @@ ghost use Rattle.pg_fds.specs.StatesTypes.{AreMarked};
 ghost use Rattle.pg_fds.specs.Views.{file_view, method_view, option_view, service_view, value_of};
 
 use crate::error::Unstated;
-use crate::file_states::{OPTIONS, is_left_out};
+use crate::file_states::{OPTIONS, is_left_out, own_options};
 use crate::made_fields::resolved;
 use crate::oneof_states::marks;
 use crate::outline::{Named, Outlined, OutlinedFile};
 use crate::said::{
-    child_in, children, flag, item, maybe_text, number_in, numbers, option, text, text_in, texts,
+    children, flag, item, maybe_text, number_in, numbers, option, text, text_in, texts,
 };
 use pg_dyn::{Message, Value};
 use pg_schema::{
@@ -190,17 +188,6 @@ fn options_under(
         }
     }
     Ok(options)
-}
-
-// The message of a file's options, where there is one.
-fn own_options(message: &Message) -> Option<&Message>
-    ensures { unwrap_or (option_map message_of (option_copied result)) (ends []) ≡ options_at 8 (message_of message.now) }
-{
-    let found = item(message, 8);
-    match found {
-        Some(value) => child_in(value),
-        None => None,
-    }
 }
 
 // The options of a file, by rising number.

@@ -1,15 +1,21 @@
 //! Whether the files of a set state a schema. What it doesn't state is told as a bad reference.
 
-ghost use Rattle.std.specs.Prelude.{◌≡◌, [], true, not, IfOk, OnOk, ℕ, List, filter, map};
-ghost use Rattle.std.specs.List.{AllByRecursion, Any, list_all, list_any};
+ghost use Rattle.std.specs.Prelude.{◌≡◌, ◌<◌, [], true, not, IfErr, IfOk, OnErr, OnOk, IsSomeAnd, ℕ, List, filter, length, map, slice_get};
+ghost use Rattle.std.specs.List.{AllByRecursion, AllZip, Any, list_all, list_any};
+ghost use Rattle.std.specs.Str.{IsUtf8};
 ghost use Rattle.pg_schema.specs.declared.file.File.{File};
+ghost use Rattle.pg_schema.specs.FileRules.{is_file};
+ghost use Rattle.pg_schema.specs.Sound.{IsSound};
 ghost use Rattle.pg_schema.specs.TextSets.{IsSetOf};
 ghost use Rattle.pg_dyn.specs.Kept.{message_of};
+ghost use Rattle.pg_fds.specs.declared.error.Unstated.TheVariants.{Memory};
 ghost use Rattle.pg_fds.specs.FilePlaces.{AreOrdered, name_at};
 ghost use Rattle.pg_fds.specs.Lent.{lent};
+ghost use Rattle.pg_fds.specs.Outlines.{files_at};
 ghost use Rattle.pg_fds.specs.Places.{declared_in};
 ghost use Rattle.pg_fds.specs.PostOrder.{imports_once, paths_of};
 ghost use Rattle.pg_fds.specs.Reads.{AreBehind, StatesFiles, file_name, importer_of, imports_among};
+ghost use Rattle.pg_fds.specs.Said.{text_at};
 ghost use Rattle.pg_fds.specs.StatesFiles.{StatesFile, is_skipped};
 
 use crate::error::Unstated;
@@ -20,9 +26,10 @@ use pg_schema::{File, Import, Schema};
 use std::alloc::Global;
 use std::collections::BTreeSet;
 
-/// Whether one of the files is skipped.
+/// Whether one of the files is skipped. Refused only where the name of one is no text.
 pub fn skips(files: &[&Message]) -> Result<bool, Unstated>
-    ensures { IfOk result (λ skips. skips ≡ list_any is_skipped (map message_of (lent files.now))) }
+    ensures ok { IfOk result (λ skips. skips ≡ list_any is_skipped (map message_of (lent files.now))) }
+    ensures refused { OnErr result (AllByRecursion IsUtf8 (map (text_at 1) (map message_of (lent files.now))) → ⊥) }
 {
     for file in files {
         let skipped = is_skipped(file)?;
@@ -33,9 +40,11 @@ pub fn skips(files: &[&Message]) -> Result<bool, Unstated>
     Ok(false)
 }
 
-/// The files that aren't skipped, in their order.
+/// The files that aren't skipped, in their order. Refused, memory aside, only where the name of one is no
+/// text.
 pub fn kept<'a>(alloc: Global, files: &[&'a Message]) -> Result<Vec<&'a Message>, Unstated>
-    ensures { IfOk result (λ kept. map message_of (lent kept.items) ≡ filter (λ m. not (is_skipped m)) (map message_of (lent files.now))) }
+    ensures ok { IfOk result (λ kept. map message_of (lent kept.items) ≡ filter (λ m. not (is_skipped m)) (map message_of (lent files.now))) }
+    ensures refused { IfErr result (λ r. AllByRecursion IsUtf8 (map (text_at 1) (map message_of (lent files.now))) → r ≡ Memory) }
 {
     let mut kept = Vec::new(alloc);
     for file in files {
@@ -48,7 +57,8 @@ pub fn kept<'a>(alloc: Global, files: &[&'a Message]) -> Result<Vec<&'a Message>
 
 // What is imported is among the names.
 fn has_imports(names: &BTreeSet<String>, imports: &[Import]) -> Result<(), Unstated>
-    ensures { OnOk result ((texts : List (List ℕ)) → IsSetOf texts names.now → imports_among texts imports.now ≡ true) }
+    ensures ok { OnOk result ((texts : List (List ℕ)) → IsSetOf texts names.now → imports_among texts imports.now ≡ true) }
+    ensures refused { OnErr result ((texts : List (List ℕ)) → IsSetOf texts names.now → imports_among texts imports.now ≡ true → ⊥) }
 {
     for import in imports {
         ensure(names.contains(import.path.as_str()))?;
@@ -58,7 +68,8 @@ fn has_imports(names: &BTreeSet<String>, imports: &[Import]) -> Result<(), Unsta
 
 // Each file has a name of its own, and stands behind those that it imports.
 fn are_behind(alloc: Global, files: &[File]) -> Result<(), Unstated>
-    ensures { OnOk result (AreBehind [] files.now) }
+    ensures ok { OnOk result (AreBehind [] files.now) }
+    ensures refused { IfErr result (λ r. AreBehind [] files.now → r ≡ Memory) }
 {
     let mut names = BTreeSet::new(alloc);
     for file in files {
@@ -84,6 +95,9 @@ fn states_file(
     requires { list_all imports_once (map importer_of (map message_of (lent messages.now))) ≡ true }
     ensures states { OnOk result (Any (λ m. StatesFile (declared_in source.now) skips m declared.now) (map message_of (lent messages.now))) }
     ensures named { OnOk result (name_at (paths_of (map importer_of (map message_of (lent messages.now)))) place ≡ file_name declared.now) }
+    ensures refused { IfErr result (λ r. IsSound source.now → is_file declared.now ≡ true
+        → IsSomeAnd (slice_get (map message_of (lent messages.now)) place) (λ m. StatesFile (declared_in source.now) skips m declared.now)
+        → r ≡ Memory) }
 {
     if place >= messages.len() {
         return Err(Unstated::Reference);
@@ -104,6 +118,10 @@ fn states_each(
     requires { list_all imports_once (map importer_of (map message_of (lent messages.now))) ≡ true }
     ensures named { OnOk result (map (name_at (paths_of (map importer_of (map message_of (lent messages.now))))) places.now ≡ map file_name files.now) }
     ensures states { OnOk result (AllByRecursion (λ (f : File). Any (λ m. StatesFile (declared_in source.now) skips m f) (map message_of (lent messages.now))) files.now) }
+    ensures refused { IfErr result (λ r. IsSound source.now → list_all is_file files.now ≡ true
+        → AllByRecursion (λ place. place < length messages.now) places.now
+        → AllZip (StatesFile (declared_in source.now) skips) (files_at (map message_of (lent messages.now)) places.now) files.now
+        → r ≡ Memory) }
 {
     ensure(places.len() == files.len())?;
     for (next, declared) in files.iter().enumerate() {
@@ -113,7 +131,8 @@ fn states_each(
 }
 
 /// The files that aren't skipped state the schema, whose files are those at these places, which are in
-/// post-order of imports.
+/// post-order of imports. Where they are all there, it is refused, memory aside, only where these don't state
+/// it, one by one.
 pub fn states_files(
     alloc: Global,
     source: &Schema,
@@ -122,7 +141,11 @@ pub fn states_files(
     places: &[usize],
 ) -> Result<(), Unstated>
     requires { AreOrdered skips (map importer_of (map message_of (lent messages.now))) places.now }
-    ensures { OnOk result (StatesFiles skips (map message_of (lent messages.now)) source.now) }
+    ensures ok { OnOk result (StatesFiles skips (map message_of (lent messages.now)) source.now) }
+    ensures refused { IfErr result (λ r. AllByRecursion (λ place. place < length messages.now) places.now
+        → AllZip (StatesFile (declared_in source.now) skips) (files_at (map message_of (lent messages.now)) places.now)
+        source.now.files.items
+        → StatesFiles skips (map message_of (lent messages.now)) source.now → r ≡ Memory) }
 {
     let files = source.parts().files.as_slice();
     if messages.len() != files.len() {

@@ -7,4 +7,5 @@ abbrev pub invariant-loop-place : goal.invariant-loop-place
 invariant-loop-place l = record {
   few : l.next ≤ length l.imports;
   rest : kept_imports l.skips l.public l.place (lent (drop l.place l.paths)) ≡ map import_of (drop l.next l.imports) → kept_imports l.skips l.public 0 (lent l.paths) ≡ map import_of l.imports;
+  asked : kept_imports l.skips l.public 0 (lent l.paths) ≡ map import_of l.imports → kept_imports l.skips l.public l.place (lent (drop l.place l.paths)) ≡ map import_of (drop l.next l.imports);
 }

@@ -7,4 +7,5 @@ abbrev pub invariant-loop-file : goal.invariant-loop-file
 invariant-loop-file l = record {
   held : IsSetOf (map file_name (take l.file-index l.files)) l.names;
   rest : AreBehind (map file_name (take l.file-index l.files)) (drop l.file-index l.files) → AreBehind [] l.files;
+  asked : AreBehind [] l.files → AreBehind (map file_name (take l.file-index l.files)) (drop l.file-index l.files);
 }

@@ -3,7 +3,7 @@ use Rattle.std.specs.Option.{option_copied}
 use Rattle.pg_dyn.specs.Kept.{message_of}
 use Rattle.pg_fds.specs.Building.{shown}
 use Rattle.pg_fds.proofs.MadeOptions.{options_found, options_missing}
-use Rattle.pg_fds.proofs.made_files.own_options.Goals as goal
+use Rattle.pg_fds.proofs.file_states.own_options.Goals as goal
 
 pub returns-in-Some : goal.returns-in-Some
 returns-in-Some c =
