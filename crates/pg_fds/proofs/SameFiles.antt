@@ -12,6 +12,7 @@ use Rattle.pg_schema.specs.declared.options.OptionValue.{OptionValue}
 use Rattle.pg_schema.specs.declared.options.OptionValue.TheVariants as option_values
 use Rattle.pg_schema.specs.declared.parts.Parts.{Parts}
 use Rattle.pg_schema.specs.Scopes.{enum_places, service_places}
+use Rattle.pg_schema.specs.Sound.{IsSound}
 use Rattle.pg_schema.specs.TextSets.{is_among}
 use Rattle.pg_dyn.specs.Message.{Bytes, Int, Item, Message, Plain}
 use Rattle.pg_fds.specs.InOrder.{StandInOrder, enums_below, file_enums, file_types, inner_enums, inner_types, types_below}
@@ -27,6 +28,7 @@ use Rattle.pg_fds.specs.Views.{FileView, Flag, ImportView, Mode, OptionView, Par
 use Rattle.pg_fds.specs.Walks.{places_from}
 use Rattle.pg_fds.proofs.Alike.{flat_agree, head_same, no_items, same_all, same_at, same_flat, same_length, same_map, same_option, tail_same}
 use Rattle.pg_fds.proofs.HoldsAlike.{each_alike, found_alike}
+use Rattle.pg_fds.proofs.SameSound.{same_sound}
 use Rattle.pg_fds.proofs.SameStated.{enums_stated, services_stated, types_stated}
 
 -- ---- options of files
@@ -196,3 +198,7 @@ module _ (a b : Parts) (same : parts_view a ≡ parts_view b) where
         sym (same_flat file_view (λ f. service_places f.services.items) (λ f. service_places f.services.items) (λ f g is. ap (λ (v : FileView). service_places v.services) is) a.files.items b.files.items files)
         ∙ (stand.services ∙ ap (places_from 0) (same_length service_view a.services.items b.services.items services));
   }
+
+  -- and are sound
+  pub sound_same : IsSound a → IsSound b
+  sound_same sound = same_sound a b files types enums services sound
