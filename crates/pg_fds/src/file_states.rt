@@ -45,7 +45,7 @@ pub fn is_descriptor(path: &str) -> bool
     path == "google/protobuf/descriptor.proto"
 }
 
-/// Whether the file is proto3.
+/// Whether the file is proto3. Refused only where its syntax is no text.
 pub fn is_proto3(message: &Message) -> Result<bool, Unstated>
     ensures ok { IfOk result (λ proto3. proto3 ≡ is_proto3 (message_of message.now)) }
     ensures refused { OnErr result (IsUtf8 (text_at 12 (message_of message.now)) → ⊥) }
@@ -62,7 +62,7 @@ pub fn is_skipped(message: &Message) -> Result<bool, Unstated>
     if !is_descriptor(text(message, 1)?) {
         return Ok(false);
     }
-    // A syntax that is no text is none of proto3.
+    // A syntax that is no text isn't that of proto3.
     match is_proto3(message) {
         Ok(proto3) => Ok(!proto3),
         Err(_) => Ok(true),
@@ -189,8 +189,8 @@ fn kept_imports(
 
 // ---- files
 
-/// The message, which imports no path twice, states the file. Of a file of a sound schema, that keeps to the
-/// rules, it is refused, memory aside, only where it doesn't.
+/// The message, which imports no path twice, states the file. Where the schema is sound and the file keeps to
+/// the rules, it is refused, memory aside, only where it doesn't.
 pub fn file(
     alloc: Global,
     source: &Schema,

@@ -113,8 +113,8 @@ fn own_type(
     Ok(())
 }
 
-/// The messages state the message types at these places, nested less deep than that. Refused, memory aside,
-/// only where they don't.
+/// The messages state the message types at these places, nested less deep than that. Where the schema is sound,
+/// it is refused, memory aside, only where they don't.
 pub fn types(
     alloc: Global,
     source: &Schema,
