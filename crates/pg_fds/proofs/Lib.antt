@@ -53,6 +53,7 @@ pub mod Levels
 pub mod WrittenLevels
 pub mod WrittenOrder
 pub mod WrittenSets
+pub mod ReadAgain
 pub mod Marks
 pub mod Walking
 pub mod Visited

@@ -33,5 +33,6 @@ pub mod MadeOptions
 pub mod Reads
 pub mod Refused
 pub mod Again
+pub mod ReadAgain
 pub mod ReadExamples
 pub mod PlaceExamples

@@ -2,6 +2,7 @@
 //! these messages.
 #![tactic(auto)]
 
+mod again;
 mod building;
 mod codes;
 mod declare;
@@ -40,6 +41,7 @@ mod types;
 mod walk;
 mod writing;
 
+pub use again::read_again;
 pub use descriptor::descriptor_schema;
 pub use error::FdsError;
 pub use laws::{worked_pieces, worked_places, worked_reads, worked_sets};

@@ -1,0 +1,123 @@
+-- A schema that is written is read as the same schema.
+use Rattle.std.proofs.Common.{◌≡◌, ℕ, zero, suc, ◌+◌, ◌⊎◌, inl, inr, true, List, [], ◌∷◌, Option, Some, None, Result, Ok, Err, IfErr, IfOk, slice_get, refl, subst, sym, ◌∙◌, arith}
+use Rattle.std.proofs.lemmas.Bool.{false≢true}
+use Rattle.std.proofs.lemmas.Result.{IfOk-weaker}
+use Rattle.std.specs.List.{AllByRecursion, list_all}
+use Rattle.pg_schema.specs.declared.field.TypeId.{TypeId}
+use Rattle.pg_schema.specs.declared.file.File.{File}
+use Rattle.pg_schema.specs.declared.message_type.MessageType.{MessageType}
+use Rattle.pg_schema.specs.declared.parts.Parts.{Parts}
+use Rattle.pg_schema.specs.Sound.{IsSound}
+use Rattle.pg_schema.proofs.PairLemmas.{and_both, and_left, and_right}
+use Rattle.pg_dyn.specs.declared.error.DynError.{DynError}
+use Rattle.pg_dyn.specs.declared.error.DynError.TheVariants as faults
+use Rattle.pg_fds.specs.declared.error.FdsError.{FdsError}
+use Rattle.pg_fds.specs.declared.error.FdsError.TheVariants as errors
+use Rattle.pg_fds.specs.Again.{IsNotTooDeep, IsReadable, are_shallow, holds_inside, nest_within}
+use Rattle.pg_fds.specs.ReadAgain.{IsReadAgain, IsTooLong, MayRefuseAgain}
+use Rattle.pg_fds.specs.Reads.{CanBeRead, fds_reads}
+use Rattle.pg_fds.specs.Refused.{MayRefuseSet, NoneIsStated}
+use Rattle.pg_fds.specs.Set.{fds}
+use Rattle.pg_fds.specs.Small.{IsSmallEnum}
+use Rattle.pg_fds.specs.StatesFiles.{most_deep}
+use Rattle.pg_fds.specs.Views.{parts_view}
+
+-- ---- what is nested less deep may be nested deeper
+
+module _ (types : List MessageType) where
+  abbrev Deeper : (n m : ℕ) → Type 0
+  Deeper n m = (ids : List TypeId) → nest_within n types ids ≡ true → nest_within m types ids ≡ true
+
+  inside_deeper : (n m : ℕ) → Deeper n m → (o : Option MessageType) → holds_inside (nest_within n types) o ≡ true → holds_inside (nest_within m types) o ≡ true
+  inside_deeper n m deeper None h = refl
+  inside_deeper n m deeper (Some t) h = deeper t.nested_types.items h
+
+  each_deeper : (n m : ℕ) → Deeper n m → Deeper (suc n) (suc m)
+  each_deeper n m deeper [] h = refl
+  each_deeper n m deeper (id ∷ ids) h =
+      let here = holds_inside (nest_within n types) (slice_get types id.index) in
+      and_both (holds_inside (nest_within m types) (slice_get types id.index)) (nest_within (suc m) types ids)
+      (inside_deeper n m deeper (slice_get types id.index) (and_left here (nest_within (suc n) types ids) h))
+      (each_deeper n m deeper ids (and_right here (nest_within (suc n) types ids) h))
+
+  one_deeper : (n : ℕ) → Deeper n (suc n)
+  one_deeper zero [] h = refl
+  one_deeper zero (id ∷ ids) h = absurd (false≢true h)
+  one_deeper (suc n) ids h = each_deeper n (suc n) (one_deeper n) ids h
+
+  much_deeper : (more n : ℕ) → Deeper n (more + n)
+  much_deeper zero n ids h = subst (λ k. nest_within k types ids ≡ true) (none_more n) h
+    where
+      none_more : (a : ℕ) → a ≡ 0 + a
+      none_more a = omega arith
+  much_deeper (suc more) n ids h = subst (λ k. nest_within k types ids ≡ true) (one_more more n) (one_deeper (more + n) ids (much_deeper more n ids h))
+    where
+      one_more : (a b : ℕ) → suc (a + b) ≡ suc a + b
+      one_more a b = omega arith
+
+  files_deeper : (files : List File) → list_all (λ (f : File). nest_within 64 types f.types.items) files ≡ true → list_all (λ (f : File). nest_within most_deep types f.types.items) files ≡ true
+  files_deeper [] h = refl
+  files_deeper (f ∷ files) h =
+      let later = list_all (λ (g : File). nest_within 64 types g.types.items) files in
+      and_both (nest_within most_deep types f.types.items) (list_all (λ (g : File). nest_within most_deep types g.types.items) files)
+      (much_deeper 36 64 f.types.items (and_left (nest_within 64 types f.types.items) later h)) (files_deeper files (and_right (nest_within 64 types f.types.items) later h))
+
+-- ---- what is asked of a schema that is read again
+
+module _ (parts : Parts) (again : IsReadAgain parts) where
+  pub readable : IsReadable parts
+  readable = record { imports_once = again.imports_once; behind = again.behind; shallow = files_deeper parts.types.items parts.files.items again.shallow }
+
+  pub can_be_read : IsSound parts → AllByRecursion IsSmallEnum parts.enums.items → CanBeRead parts
+  can_be_read sound small =
+      record { sound = sound; places = again.places; numbers = small; few_enums = again.few_enums; few_services = again.few_services }
+
+-- ---- bytes that state it are refused for want of memory alone
+
+module _ (parts : Parts) (bytes : List ℕ) (able : CanBeRead parts) (states : fds_reads bytes parts) (level : IsNotTooDeep bytes) where
+  by_codec : (e : DynError) → MayRefuseSet bytes (errors.Bytes e) → NoneIsStated bytes (errors.Bytes e) → ⊥
+  by_codec faults.Memory may none = may.0 refl
+  by_codec (faults.TooDeep at) may none = level at may.1
+  by_codec faults.NoSuchField may none = none parts able.sound states
+  by_codec faults.WrongKind may none = none parts able.sound states
+  by_codec faults.OutOfRange may none = none parts able.sound states
+  by_codec (faults.NotUtf8 at) may none = none parts able.sound states
+  by_codec faults.OneofTwice may none = none parts able.sound states
+  by_codec faults.DuplicateKey may none = none parts able.sound states
+  by_codec faults.TooLong may none = none parts able.sound states
+  by_codec (faults.Wire e) may none = none parts able.sound states
+
+  pub memory_alone : (e : FdsError) → MayRefuseSet bytes e → NoneIsStated bytes e → e ≡ errors.Memory
+  memory_alone errors.Memory may none = refl
+  memory_alone (errors.Bytes e) may none = absurd (by_codec e may none)
+  memory_alone errors.NotProto3 may none = absurd (none parts able.sound states)
+  memory_alone errors.BadType may none = absurd (none parts able.sound states)
+  memory_alone errors.BadReference may none = absurd (none parts able states)
+  memory_alone (errors.Rule e) may none = absurd (none parts able states)
+
+module _ (parts : Parts) (bytes slice : List ℕ) (lent : slice ≡ bytes) (r : Result Parts FdsError) (sound : IsSound parts) (small : AllByRecursion IsSmallEnum parts.enums.items) (states : IsReadable parts → fds_reads bytes parts) where
+  states_lent : (again : IsReadAgain parts) → fds_reads slice parts
+  states_lent again = subst (λ bs. fds_reads bs parts) (sym lent) (states (readable parts again))
+
+  pub read_same : IfOk r (λ made. (ps : Parts) → CanBeRead ps → fds_reads slice ps → parts_view made ≡ parts_view ps) → IfOk r (λ made. IsReadAgain parts → parts_view made ≡ parts_view parts)
+  read_same h =
+      IfOk-weaker r (λ made. (ps : Parts) → CanBeRead ps → fds_reads slice ps → parts_view made ≡ parts_view ps) (λ made. IsReadAgain parts → parts_view made ≡ parts_view parts)
+      (λ made same again. same parts (can_be_read parts again sound small) (states_lent again)) h
+
+  pub read_refused : (are_shallow parts ≡ true → IsNotTooDeep bytes) → IfErr r (MayRefuseSet slice) → IfErr r (NoneIsStated slice) → IfErr r (λ e. IsReadAgain parts → (e ≡ errors.Memory) ⊎ IsTooLong parts e)
+  read_refused level may none = all r may none
+    where
+      all : (o : Result Parts FdsError) → IfErr o (MayRefuseSet slice) → IfErr o (NoneIsStated slice) → IfErr o (λ e. IsReadAgain parts → (e ≡ errors.Memory) ⊎ IsTooLong parts e)
+      all (Ok made) may none = tt
+      all (Err e) may none =
+          λ again. inl (memory_alone parts slice (can_be_read parts again sound small) (states_lent again) (subst IsNotTooDeep (sym lent) (level again.shallow)) e may none)
+
+-- ---- what is told of any schema
+
+pub write_told : (parts : Parts) (e : FdsError) → (e ≡ errors.Memory) ⊎ IsTooLong parts e → MayRefuseAgain parts e
+write_told parts e (inl memory) = inr (λ bytes is. subst (λ x. MayRefuseSet bytes x × NoneIsStated bytes x) (sym memory) (tt, tt))
+write_told parts e (inr long) = inl long
+
+pub read_told : (parts : Parts) (bytes slice : List ℕ) → slice ≡ bytes → fds parts bytes → (r : Result Parts FdsError) → IfErr r (MayRefuseSet slice) → IfErr r (NoneIsStated slice) → IfErr r (MayRefuseAgain parts)
+read_told parts bytes slice lent written (Ok made) may none = tt
+read_told parts bytes slice lent written (Err e) may none = inr (λ bs is. subst (λ x. MayRefuseSet x e × NoneIsStated x e) (lent ∙ written ∙ sym is) (may, none))
