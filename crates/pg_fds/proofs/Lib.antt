@@ -40,6 +40,7 @@ pub mod MadeMessage
 pub mod DeclaredFields
 pub mod StatedTypes
 pub mod StatedFiles
+pub mod NoneStated
 pub mod Slots
 pub mod WrittenNames
 pub mod WrittenEnums
@@ -61,6 +62,7 @@ pub mod Ordering
 pub mod OrderSteps
 pub mod OneOrder
 pub mod FilesInOrder
+pub mod FoundParts
 pub mod MadeOptions
 pub mod Outlining
 pub mod NameTable

@@ -1,26 +1,32 @@
 -- What a set that was read says of its files, and why it may be refused.
-use Rattle.std.proofs.Common.{◌≡◌, ℕ, Bool, true, List, map, filter, not, Some, Result, IfOk, IfErr, ◌⊎◌, inl, inr, ap, sym, subst, ◌∙◌}
-use Rattle.std.proofs.lemmas.Result.{IfErr-weaker, IfOk-weaker}
-use Rattle.std.specs.Prelude.{IsSomeAnd}
-use Rattle.std.specs.List.{list_all, list_any}
+use Rattle.std.proofs.Common.{◌≡◌, ℕ, Bool, true, List, map, filter, not, Some, Result, Ok, Err, IfOk, IfErr, ◌⊎◌, inl, inr, refl, ap, sym, subst, ◌∙◌}
+use Rattle.std.proofs.lemmas.Result.{IfErr-weaker, IfOk-weaker, err_from_is_err_and}
+use Rattle.std.specs.Prelude.{IsErrAnd, IsSomeAnd}
+use Rattle.std.specs.List.{AllByRecursion, list_all, list_any}
+use Rattle.std.specs.Str.{IsUtf8}
 use denote.Ref.{Bor}
 use Rattle.pg_schema.specs.declared.parts.Parts.{Parts}
+use Rattle.pg_schema.specs.Sound.{IsSound}
 use Rattle.pg_check.specs.declared.error.CheckError.{CheckError}
 use Rattle.pg_check.specs.declared.error.CheckError.TheVariants as rules
-use Rattle.pg_check.specs.PartErrors.{IsRefusedOf}
+use Rattle.pg_check.specs.PartErrors.{IsRefusedOf, bad, first, lacking}
 use Rattle.pg_dyn.specs.Decoding.{dec}
 use Rattle.pg_dyn.specs.Kept.{Kept, message_of}
 use Rattle.pg_dyn.specs.Message.{Message}
 use Rattle.pg_fds.specs.declared.error.FdsError.{FdsError}
 use Rattle.pg_fds.specs.declared.error.FdsError.TheVariants as errors
+use Rattle.pg_fds.specs.declared.error.Unstated.{Unstated}
+use Rattle.pg_fds.specs.declared.error.Unstated.TheVariants as unstated
 use Rattle.pg_fds.specs.Building.{written_shape}
 use Rattle.pg_fds.specs.Codes.{file_has_types}
 use Rattle.pg_fds.specs.Descriptor.{file_set}
 use Rattle.pg_fds.specs.Lent.{lent}
-use Rattle.pg_fds.specs.Reads.{States, StatesFiles, fds_reads, kept_files}
-use Rattle.pg_fds.specs.Refused.{BreaksRule, IsOfParts, MayRefuseFiles, MayRefuseSet}
-use Rattle.pg_fds.specs.Said.{children_at}
+use Rattle.pg_fds.specs.Reads.{CanBeRead, States, StatesFiles, fds_reads, kept_files, skips}
+use Rattle.pg_fds.specs.Refused.{BreaksRule, IsOfBytes, IsOfParts, MayRefuseFiles, MayRefuseSet, StatesNoneInOrder}
+use Rattle.pg_fds.specs.Said.{children_at, text_at}
 use Rattle.pg_fds.specs.StatesFiles.{is_proto3, is_skipped}
+use Rattle.pg_fds.proofs.FileStateLaws.{all_named}
+use Rattle.pg_fds.proofs.StatedFiles.{stated_texts}
 
 -- the files that aren't skipped are those of the set
 pub files_kept : (set : Message) (all files : List (Bor Kept)) → map message_of (lent all) ≡ children_at 1 set
@@ -34,6 +40,19 @@ pub set_states : (set : Message) (skip : Bool) (all files : List (Bor Kept)) →
 set_states set skip all files seen skipped kept parts states =
     subst (λ b. StatesFiles b (kept_files set) parts) (skipped ∙ ap (list_any is_skipped) seen)
     (subst (λ ms. StatesFiles skip ms parts) kept states)
+
+-- and the other way round
+files_state : (set : Message) (skip : Bool) (all files : List (Bor Kept)) → map message_of (lent all) ≡ children_at 1 set
+    → skip ≡ list_any is_skipped (map message_of (lent all)) → map message_of (lent files) ≡ kept_files set
+    → (parts : Parts) → States set parts → StatesFiles skip (map message_of (lent files)) parts
+files_state set skip all files seen skipped kept parts states =
+    subst (λ ms. StatesFiles skip ms parts) (sym kept) (subst (λ b. StatesFiles b (kept_files set) parts) (sym (skipped ∙ ap (list_any is_skipped) seen)) states)
+
+-- the names of all files are texts, those of files that are skipped too
+pub set_named : (set : Message) (all : List (Bor Kept)) → map message_of (lent all) ≡ children_at 1 set → (parts : Parts) → States set parts
+    → AllByRecursion IsUtf8 (map (text_at 1) (map message_of (lent all)))
+set_named set all seen parts states =
+    subst (λ ms. AllByRecursion IsUtf8 (map (text_at 1) ms)) (sym seen) (all_named (children_at 1 set) (stated_texts (skips set) (kept_files set) parts states))
 
 pub stated : (set : Message) (skip : Bool) (all files : List (Bor Kept)) (r : Result Parts FdsError) → map message_of (lent all) ≡ children_at 1 set
     → skip ≡ list_any is_skipped (map message_of (lent all)) → map message_of (lent files) ≡ kept_files set
@@ -56,13 +75,31 @@ pub refused_later : (files : List Message) (r : Result Parts FdsError) → list_
 refused_later files r proto3 typed h = IfErr-weaker r IsOfParts (MayRefuseFiles files) (refused_of_parts files proto3 typed) h
 
 -- want of memory and a bad reference
-pub refused_early : (files : List Message) (e : FdsError) → (e ≡ errors.Memory) ⊎ (e ≡ errors.BadReference) → MayRefuseFiles files e
-refused_early files e (inl memory) = subst (MayRefuseFiles files) (sym memory) tt
-refused_early files e (inr reference) = subst (MayRefuseFiles files) (sym reference) tt
+abbrev IsTold : Unstated → FdsError → Type 0
+IsTold u e = ((u ≡ unstated.Memory) × (e ≡ errors.Memory)) ⊎ ((u ≡ unstated.Reference) × (e ≡ errors.BadReference))
 
-pub refused_parts : (e : FdsError) → (e ≡ errors.Memory) ⊎ (e ≡ errors.BadReference) → IsOfParts e
-refused_parts e (inl memory) = subst IsOfParts (sym memory) tt
-refused_parts e (inr reference) = subst IsOfParts (sym reference) tt
+-- want of memory stays that
+memory_told : (u : Unstated) (e : FdsError) → IsTold u e → u ≡ unstated.Memory → e ≡ errors.Memory
+memory_told u e (inl memory) is = memory.1
+memory_told u e (inr reference) is = absurd (apart (sym is ∙ reference.0))
+  where
+    apart : ◌≡◌ {A = Unstated} unstated.Memory unstated.Reference → ⊥
+    apart same = cc
+
+-- where such a schema is stated, the refusal is want of memory
+abbrev WantsMemory : {T : Type 0} → (Parts → Type 0) → Result T FdsError → Type 0
+WantsMemory Stated r = IfErr r (λ e. (parts : Parts) → CanBeRead parts → Stated parts → e ≡ errors.Memory)
+
+pub none_told : {T : Type 0} (r : Result T FdsError) (Stated : Parts → Type 0) (u : Unstated) → IsErrAnd r (IsTold u) → ((parts : Parts) → CanBeRead parts → Stated parts → u ≡ unstated.Memory) → WantsMemory Stated r
+none_told r Stated u told none =
+    let (e, is, h) = err_from_is_err_and r told in
+    subst (WantsMemory Stated) (sym is) (λ parts can states. memory_told u e h (none parts can states))
+
+-- sound parts are refused for want of memory alone
+pub sound_refused : (parts : Parts) (e : CheckError) → IsRefusedOf parts e → IsSound parts → e ≡ rules.Memory
+sound_refused parts e lacking sound = refl
+sound_refused parts e (first f is unsound) sound = absurd (unsound sound)
+sound_refused parts e (bad place none unsound) sound = absurd (unsound sound)
 
 pub rule_broken : (parts : Parts) (e : CheckError) → IsRefusedOf parts e → (e ≡ rules.Memory → ⊥) → BreaksRule e
 rule_broken parts e refused other = ((parts, refused), other)
@@ -83,3 +120,22 @@ bytes_refused bytes set r is h = IfErr-weaker r (MayRefuseFiles (kept_files set)
 pub bytes_read : (bytes : List ℕ) (set : Message) (r : Result Parts FdsError) → dec written_shape file_set bytes ≡ Some set → IfOk r (λ parts. States set parts) → IfOk r (λ parts. fds_reads bytes parts)
 bytes_read bytes set r is h =
     IfOk-weaker r (λ parts. States set parts) (λ parts. fds_reads bytes parts) (λ parts states. subst (λ d. IsSomeAnd d (λ s. States s parts)) (sym is) states) h
+
+pub set_none : (set : Message) (skip : Bool) (all files : List (Bor Kept)) (r : Result Parts FdsError) → map message_of (lent all) ≡ children_at 1 set
+    → skip ≡ list_any is_skipped (map message_of (lent all)) → map message_of (lent files) ≡ kept_files set
+    → WantsMemory (StatesFiles skip (map message_of (lent files))) r → WantsMemory (States set) r
+set_none set skip all files r seen skipped kept h =
+    IfErr-weaker r (λ e. (parts : Parts) → CanBeRead parts → StatesFiles skip (map message_of (lent files)) parts → e ≡ errors.Memory) (λ e. (parts : Parts) → CanBeRead parts → States set parts → e ≡ errors.Memory)
+    (λ e none parts can states. none parts can (files_state set skip all files seen skipped kept parts states)) h
+
+-- where the bytes state a schema that can be read, what is refused of their message is want of memory
+pub bytes_none : (bytes : List ℕ) (set : Message) (r : Result Parts FdsError) → dec written_shape file_set bytes ≡ Some set
+    → IfErr r (λ e. (parts : Parts) → CanBeRead parts → States set parts → e ≡ errors.Memory) → IfErr r (λ e. (IsOfBytes e → ⊥) → StatesNoneInOrder bytes)
+bytes_none bytes set r is h =
+    IfErr-weaker r (λ e. (parts : Parts) → CanBeRead parts → States set parts → e ≡ errors.Memory) (λ e. (IsOfBytes e → ⊥) → StatesNoneInOrder bytes)
+    (λ e none other parts can reads. other (subst IsOfBytes (sym (none parts can (subst (λ d. IsSomeAnd d (λ s. States s parts)) is reads))) tt)) h
+
+-- both hold of a refusal
+pub refused_both : {T E : Type 0} (r : Result T E) (P Q : E → Type 0) → IfErr r P → IfErr r Q → IfErr r (λ e. P e × Q e)
+refused_both (Ok x) P Q p q = tt
+refused_both (Err e) P Q p q = (p, q)

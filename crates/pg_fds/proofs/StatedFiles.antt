@@ -1,40 +1,26 @@
--- What a set that states a schema says in each of its files, and what is refused only where none is stated.
-use Rattle.std.proofs.Common.{◌≡◌, ℕ, Bool, true, false, not, ◌&&◌, ◌||◌, inl, inr, List, [], ◌∷◌, ◌++◌, map, Option, Some, None, refl, ap, sym, subst, ◌∙◌}
+-- What a set that states a schema says in each of its files.
+use Rattle.std.proofs.Common.{◌≡◌, ℕ, Bool, true, false, not, ◌&&◌, ◌||◌, inl, inr, List, [], ◌∷◌, ◌++◌, map, refl, ap, sym, ◌∙◌}
 use Rattle.std.proofs.lemmas.Bool.{false≢true}
 use Rattle.std.proofs.lemmas.Slice.Eq.{bytes_eq-Decides}
 use Rattle.std.proofs.lemmas.Str.{IsUtf8-from_is_utf8, IsUtf8-string_bytes, is_utf8-from_IsUtf8}
-use Rattle.std.specs.Prelude.{IsSomeAnd}
 use Rattle.std.specs.List.{AllByRecursion, list_all}
 use Rattle.std.specs.Str.{IsUtf8, bytes_eq, is_utf8}
 use Rattle.std.specs.String.{string_bytes}
 use Rattle.pg_schema.specs.declared.file.File.{File}
 use Rattle.pg_schema.specs.declared.parts.Parts.{Parts}
 use Rattle.pg_schema.specs.Pairs.{are_distinct, differ}
-use Rattle.pg_schema.specs.Shape.{fields}
 use Rattle.pg_schema.specs.Sound.{IsSound}
 use Rattle.pg_schema.specs.TextSets.{is_among}
 use Rattle.pg_schema.proofs.PairLemmas.{among_push, and_both, and_left, and_right}
-use Rattle.pg_wire.specs.Errors.{fault_of, place_of}
-use Rattle.pg_dyn.specs.declared.error.DynError.{DynError}
-use Rattle.pg_dyn.specs.declared.error.DynError.TheVariants as messages
-use Rattle.pg_dyn.specs.Decoding.{dec}
-use Rattle.pg_dyn.specs.Faults.{Code, FaultIn, NotUtf8, Wire}
-use Rattle.pg_dyn.specs.Laws.{FaultsAreReal}
 use Rattle.pg_dyn.specs.Message.{Message}
-use Rattle.pg_dyn.specs.Refusals.{MayRefuse}
-use Rattle.pg_fds.specs.declared.error.FdsError.{FdsError}
-use Rattle.pg_fds.specs.declared.error.FdsError.TheVariants as errors
-use Rattle.pg_fds.specs.Building.{written_shape}
 use Rattle.pg_fds.specs.Codes.{file_has_types}
-use Rattle.pg_fds.specs.Descriptor.{file_set}
 use Rattle.pg_fds.specs.FilePlaces.{HasPathTexts}
 use Rattle.pg_fds.specs.Places.{declared_in}
 use Rattle.pg_fds.specs.PostOrder.{HasNoOrder, imports_once}
-use Rattle.pg_fds.specs.Reads.{AreBehind, States, StatesFiles, file_name, importer_of, kept_files, skips}
-use Rattle.pg_fds.specs.Refused.{MayRefuseSet, NoneIsStated, StatesNone}
+use Rattle.pg_fds.specs.Reads.{AreBehind, StatesFiles, file_name, importer_of}
 use Rattle.pg_fds.specs.Said.{numbers_at, text_at, texts_at}
-use Rattle.pg_fds.specs.StatesFiles.{StatesFile, is_proto3, most_deep}
-use Rattle.pg_fds.proofs.FileStateLaws.{kept_texts}
+use Rattle.pg_fds.specs.StatesFiles.{StatesFile, is_proto3}
+use Rattle.pg_fds.proofs.FileStateLaws.{kept_texts, syntax_text}
 use Rattle.pg_fds.proofs.Matched.{all_tested}
 use Rattle.pg_fds.proofs.SetLaws.{paths_are}
 use Rattle.pg_fds.proofs.StatedTypes.{file_typed}
@@ -74,10 +60,10 @@ files_tested test skip kept parts states passes =
     all_tested (λ m f. StatesFile (declared_in parts) skip m f) (text_at 1) file_name (λ m f stated. stated.name) test passes kept parts.files.items states.as_many
     (files_distinct [] parts.files.items states.behind) states.files
 
-stated_proto3 : (skip : Bool) (kept : List Message) (parts : Parts) → StatesFiles skip kept parts → list_all is_proto3 kept ≡ true
+pub stated_proto3 : (skip : Bool) (kept : List Message) (parts : Parts) → StatesFiles skip kept parts → list_all is_proto3 kept ≡ true
 stated_proto3 skip kept parts states = files_tested is_proto3 skip kept parts states (λ m f stated. stated.syntax)
 
-stated_types : (skip : Bool) (kept : List Message) (parts : Parts) → IsSound parts → StatesFiles skip kept parts → list_all file_has_types kept ≡ true
+pub stated_types : (skip : Bool) (kept : List Message) (parts : Parts) → IsSound parts → StatesFiles skip kept parts → list_all file_has_types kept ≡ true
 stated_types skip kept parts sound states = files_tested file_has_types skip kept parts states (file_typed parts sound.names skip)
 
 -- ---- names and paths are texts
@@ -126,38 +112,10 @@ none_ordered skip kept (inr (inl twice)) parts states =
     false≢true (sym twice ∙ (sym (imports_tested kept) ∙ files_tested (λ m. are_distinct (texts_at 3 m)) skip kept parts states (λ m f stated. stated.imports_once)))
 none_ordered skip kept (inr (inr none)) parts states = none (map file_name parts.files.items) states.order
 
--- ---- refusals
-
-both_said : {A : Type 0} (o : Option A) (P Q : A → Type 0) → ((x : A) → P x → Q x → ⊥) → IsSomeAnd o P → IsSomeAnd o Q → ⊥
-both_said None P Q apart h k = h
-both_said (Some x) P Q apart h k = apart x h k
-
-unread : (real : FaultsAreReal) (bytes : List ℕ) (code : Code) (place : ℕ) → FaultIn written_shape (fields written_shape file_set) bytes code place → StatesNone bytes
-unread real bytes code place fault parts sound reads = subst (λ o. IsSomeAnd o (λ set. States set parts)) (real written_shape file_set bytes code place fault) reads
-
-bytes_unread : (real : FaultsAreReal) (bytes : List ℕ) (e : DynError) → MayRefuse written_shape file_set most_deep bytes e → NoneIsStated bytes (errors.Bytes e)
-bytes_unread real bytes messages.Memory fault = tt
-bytes_unread real bytes messages.NoSuchField fault = absurd fault
-bytes_unread real bytes messages.WrongKind fault = absurd fault
-bytes_unread real bytes messages.OutOfRange fault = absurd fault
-bytes_unread real bytes (messages.NotUtf8 None) fault = absurd fault
-bytes_unread real bytes (messages.NotUtf8 (Some at)) fault = unread real bytes NotUtf8 at fault
-bytes_unread real bytes messages.OneofTwice fault = absurd fault
-bytes_unread real bytes messages.DuplicateKey fault = absurd fault
-bytes_unread real bytes messages.TooLong fault = absurd fault
-bytes_unread real bytes (messages.TooDeep at) fault = tt
-bytes_unread real bytes (messages.Wire e) fault = unread real bytes (Wire (fault_of e)) (place_of e) fault
-
-pub none_stated : (real : FaultsAreReal) (bytes : List ℕ) (e : FdsError) → MayRefuseSet bytes e → NoneIsStated bytes e
-none_stated real bytes errors.Memory may = tt
-none_stated real bytes (errors.Bytes e) may = bytes_unread real bytes e may.1
-none_stated real bytes errors.NotProto3 may =
-    λ parts sound reads.
-    both_said (dec written_shape file_set bytes) (λ set. list_all is_proto3 (kept_files set) ≡ false) (λ set. States set parts)
-    (λ set other states. false≢true (sym other ∙ stated_proto3 (skips set) (kept_files set) parts states)) may reads
-none_stated real bytes errors.BadType may =
-    λ parts sound reads.
-    both_said (dec written_shape file_set bytes) (λ set. (list_all is_proto3 (kept_files set) ≡ true) × (list_all file_has_types (kept_files set) ≡ false)) (λ set. States set parts)
-    (λ set other states. false≢true (sym other.1 ∙ stated_types (skips set) (kept_files set) parts sound states)) may reads
-none_stated real bytes errors.BadReference may = tt
-none_stated real bytes (errors.Rule e) may = tt
+-- the syntax of files that state a schema
+pub stated_syntax : (skip : Bool) (kept : List Message) (parts : Parts) → StatesFiles skip kept parts → AllByRecursion (λ m. IsUtf8 (text_at 12 m)) kept
+stated_syntax skip kept parts states = each kept (stated_proto3 skip kept parts states)
+  where
+    each : (ms : List Message) → list_all is_proto3 ms ≡ true → AllByRecursion (λ m. IsUtf8 (text_at 12 m)) ms
+    each [] all = tt
+    each (m ∷ ms) all = (syntax_text m (and_left (is_proto3 m) (list_all is_proto3 ms) all), each ms (and_right (is_proto3 m) (list_all is_proto3 ms) all))

@@ -1,19 +1,22 @@
 -- Sets that are read: what schema the bytes of a set state.
-use Rattle.std.specs.Prelude.{◌≡◌, ℕ, ⊤, Bool, true, false, not, List, [], ◌∷◌, ◌++◌, map, length, filter, IsSomeAnd}
+use Rattle.std.specs.Prelude.{◌≡◌, ℕ, ◌≤◌, ◌^◌, ⊤, Bool, true, false, not, List, [], ◌∷◌, ◌++◌, map, length, filter, IsSomeAnd}
 use Rattle.std.specs.List.{AllByRecursion, Any, list_all, list_any}
 use Rattle.std.specs.String.{string_bytes}
 use Rattle.pg_schema.specs.declared.file.File.{File}
 use Rattle.pg_schema.specs.declared.file.Import.{Import}
 use Rattle.pg_schema.specs.declared.parts.Parts.{Parts}
 use Rattle.pg_schema.specs.Pairs.{are_distinct}
+use Rattle.pg_schema.specs.Sound.{IsSound}
 use Rattle.pg_schema.specs.TextSets.{is_among}
 use Rattle.pg_dyn.specs.Decoding.{dec}
 use Rattle.pg_dyn.specs.Message.{Message}
 use Rattle.pg_fds.specs.Building.{written_shape}
 use Rattle.pg_fds.specs.Descriptor.{file_set}
+use Rattle.pg_fds.specs.InOrder.{StandInOrder}
 use Rattle.pg_fds.specs.Places.{declared_in}
 use Rattle.pg_fds.specs.PostOrder.{Importer, IsPostOrder}
 use Rattle.pg_fds.specs.Said.{children_at, text_at, texts_at}
+use Rattle.pg_fds.specs.Small.{IsSmallEnum}
 use Rattle.pg_fds.specs.StatesFiles.{StatesFile, is_skipped}
 
 -- whether the set has a file that is skipped
@@ -56,3 +59,12 @@ States set parts = StatesFiles (skips set) (kept_files set) parts
 -- the bytes are a set that states the schema
 abbrev pub fds_reads : List ℕ → Parts → Type 0
 fds_reads bytes parts = IsSomeAnd (dec written_shape file_set bytes) (λ set. States set parts)
+
+-- A schema of which it is said when it isn't read: it keeps to the rules and stands in order, an int32 holds the numbers of its enums, and
+-- 32 bits hold the places of its enums and services.
+pub record CanBeRead (parts : Parts) : Type 0 where
+  pub sound : IsSound parts
+  pub places : StandInOrder parts
+  pub numbers : AllByRecursion IsSmallEnum parts.enums.items
+  pub few_enums : length parts.enums.items ≤ 2 ^ 32
+  pub few_services : length parts.services.items ≤ 2 ^ 32

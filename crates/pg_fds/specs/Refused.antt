@@ -15,7 +15,7 @@ use Rattle.pg_fds.specs.declared.error.FdsError.TheVariants as errors
 use Rattle.pg_fds.specs.Building.{written_shape}
 use Rattle.pg_fds.specs.Codes.{file_has_types}
 use Rattle.pg_fds.specs.Descriptor.{file_set}
-use Rattle.pg_fds.specs.Reads.{fds_reads, kept_files}
+use Rattle.pg_fds.specs.Reads.{CanBeRead, fds_reads, kept_files}
 use Rattle.pg_fds.specs.StatesFiles.{is_proto3, most_deep}
 
 -- parts of a schema are refused for it, and it isn't want of memory
@@ -50,8 +50,12 @@ MayRefuseSet bytes (errors.Rule e) = MayRefuseRead bytes (errors.Rule e)
 abbrev pub StatesNone : List ℕ → Type 0
 StatesNone bytes = (parts : Parts) → IsSound parts → fds_reads bytes parts → ⊥
 
--- Faults of the bytes, files that aren't proto3 and types are told only where no schema is stated. Want of memory and messages nested too
--- deep aren't said to be; of bad references and broken rules that isn't said here.
+-- none is that stands in order, and whose numbers are those of a schema that is held
+abbrev pub StatesNoneInOrder : List ℕ → Type 0
+StatesNoneInOrder bytes = (parts : Parts) → CanBeRead parts → fds_reads bytes parts → ⊥
+
+-- Faults of the bytes, files that aren't proto3 and types are told only where no schema is stated, bad references and broken rules only
+-- where none is that stands in order. Want of memory and messages nested too deep aren't said to be.
 abbrev pub NoneIsStated : List ℕ → FdsError → Type 0
 NoneIsStated bytes errors.Memory = ⊤
 NoneIsStated bytes (errors.Bytes messages.Memory) = ⊤
@@ -59,8 +63,17 @@ NoneIsStated bytes (errors.Bytes (messages.TooDeep at)) = ⊤
 NoneIsStated bytes (errors.Bytes e) = StatesNone bytes
 NoneIsStated bytes errors.NotProto3 = StatesNone bytes
 NoneIsStated bytes errors.BadType = StatesNone bytes
-NoneIsStated bytes errors.BadReference = ⊤
-NoneIsStated bytes (errors.Rule e) = ⊤
+NoneIsStated bytes errors.BadReference = StatesNoneInOrder bytes
+NoneIsStated bytes (errors.Rule e) = StatesNoneInOrder bytes
+
+-- memory, or what the codec refuses
+abbrev pub IsOfBytes : FdsError → Type 0
+IsOfBytes errors.Memory = ⊤
+IsOfBytes (errors.Bytes e) = ⊤
+IsOfBytes errors.NotProto3 = ⊥
+IsOfBytes errors.BadType = ⊥
+IsOfBytes errors.BadReference = ⊥
+IsOfBytes (errors.Rule e) = ⊥
 
 -- memory, or what is told once files and types are looked at
 abbrev pub IsOfParts : FdsError → Type 0

@@ -85,8 +85,9 @@ impl From<AllocError> for Unstated {
 impl From<Unstated> for FdsError {
     ghost use Rattle.std.specs.Prelude.{◌≡◌, ◌⊎◌};
     ghost use Rattle.pg_fds.specs.declared.error.FdsError.TheVariants.{BadReference, Memory};
+    ghost use Rattle.pg_fds.specs.declared.error.Unstated.TheVariants as unstated;
 
-    ghost from_gives = { λ _ e. (e ≡ Memory) ⊎ (e ≡ BadReference) };
+    ghost from_gives = { λ u e. ((u ≡ unstated.Memory) × (e ≡ Memory)) ⊎ ((u ≡ unstated.Reference) × (e ≡ BadReference)) };
 
     fn from(error: Unstated) -> FdsError {
         match error {

@@ -1,19 +1,24 @@
 //! Descriptor sets, read.
 
-ghost use Rattle.std.specs.Prelude.{ℕ, ◌≡◌, List, Some, IfErr, IfOk, map};
+ghost use Rattle.std.specs.Prelude.{ℕ, ◌≡◌, Bool, List, Some, IfErr, IfOk, OnErr, OnOk, map};
 ghost use Rattle.std.specs.List.{list_all};
-ghost use Rattle.pg_schema.specs.declared.parts.Parts.{Parts};
+ghost use Rattle.pg_schema.specs.declared.parts.Parts.{Parts as StatedParts};
+ghost use Rattle.pg_schema.specs.Sound.{IsSound};
 ghost use Rattle.pg_check.specs.PartErrors.{IsRefusedOf};
 ghost use Rattle.pg_dyn.specs.Decoding.{dec};
 ghost use Rattle.pg_dyn.specs.Kept.{message_of};
 ghost use Rattle.pg_dyn.specs.Refusals.{MayRefuse};
+ghost use Rattle.pg_fds.specs.declared.error.FdsError.TheVariants as errors;
+ghost use Rattle.pg_fds.specs.declared.error.Unstated.TheVariants as unstated;
 ghost use Rattle.pg_fds.specs.Building.{written_shape};
 ghost use Rattle.pg_fds.specs.Descriptor.{file_set};
+ghost use Rattle.pg_fds.specs.FilePlaces.{AreOrdered};
 ghost use Rattle.pg_fds.specs.InOrder.{StandInOrder};
 ghost use Rattle.pg_fds.specs.Lent.{lent};
-ghost use Rattle.pg_fds.specs.Reads.{States, StatesFiles, fds_reads, kept_files};
-ghost use Rattle.pg_fds.specs.Refused.{IsOfParts, MayRefuseFiles, MayRefuseSet, NoneIsStated};
+ghost use Rattle.pg_fds.specs.Reads.{CanBeRead, States, StatesFiles, fds_reads, importer_of, kept_files};
+ghost use Rattle.pg_fds.specs.Refused.{IsOfBytes, IsOfParts, MayRefuseFiles, MayRefuseSet, NoneIsStated, StatesNoneInOrder};
 ghost use Rattle.pg_fds.specs.StatesFiles.{is_proto3, most_deep};
+ghost use Rattle.pg_fds.specs.Views.{parts_view};
 
 use crate::codes::files_have_types;
 use crate::descriptor::descriptor_schema;
@@ -36,7 +41,8 @@ const MOST_DEEP: usize = 100;
 
 // What is told of bytes that the codec refuses so.
 fn undecoded(error: DynError) -> FdsError
-    ensures { (bytes : List ℕ) → MayRefuse written_shape file_set most_deep bytes error → MayRefuseSet bytes result }
+    ensures refused { (bytes : List ℕ) → MayRefuse written_shape file_set most_deep bytes error → MayRefuseSet bytes result }
+    ensures of_bytes { IsOfBytes result }
 {
     match error {
         DynError::Memory => FdsError::Memory,
@@ -48,6 +54,7 @@ fn undecoded(error: DynError) -> FdsError
 fn decoded(alloc: Global, bytes: &[u8]) -> Result<Message, FdsError>
     ensures message { IfOk result (λ set. dec written_shape file_set bytes.now ≡ Some (message_of set)) }
     ensures refused { IfErr result (MayRefuseSet bytes.now) }
+    ensures of_bytes { IfErr result IsOfBytes }
 {
     let table = descriptor_schema(alloc)?;
     match decode(alloc, &table, SET, bytes, MOST_DEEP) {
@@ -56,9 +63,11 @@ fn decoded(alloc: Global, bytes: &[u8]) -> Result<Message, FdsError>
     }
 }
 
-// Whether the files are all proto3.
+// Whether the files are all proto3. Refused only where they state no schema.
 fn are_proto3(files: &[&Message]) -> Result<bool, Unstated>
-    ensures { IfOk result (λ all. all ≡ list_all is_proto3 (map message_of (lent files.now))) }
+    ensures ok { IfOk result (λ all. all ≡ list_all is_proto3 (map message_of (lent files.now))) }
+    ensures none { OnErr result ((skips : Bool) (parts : StatedParts)
+        → StatesFiles skips (map message_of (lent files.now)) parts → ⊥) }
 {
     for file in files {
         let proto3 = is_proto3(file)?;
@@ -69,20 +78,23 @@ fn are_proto3(files: &[&Message]) -> Result<bool, Unstated>
     Ok(true)
 }
 
-// The parts that the files declare, in that order.
-fn parts(
-    alloc: Global,
-    skips: bool,
-    files: &[&Message],
-    order: &[usize],
-) -> Result<Parts, Unstated> {
+// The parts that the files declare, in that order: they say what those say that the files state. Refused,
+// memory aside, only where they state none.
+fn parts(alloc: Global, skips: bool, files: &[&Message], order: &[usize]) -> Result<Parts, Unstated>
+    requires { AreOrdered skips (map importer_of (map message_of (lent files.now))) order.now }
+    ensures made { IfOk result (λ made. (parts : StatedParts) → CanBeRead parts
+        → StatesFiles skips (map message_of (lent files.now)) parts → parts_view made ≡ parts_view parts) }
+    ensures none { IfErr result (λ e. (parts : StatedParts) → CanBeRead parts
+        → StatesFiles skips (map message_of (lent files.now)) parts → e ≡ unstated.Memory) }
+{
     let outline = outline_files(alloc, MOST_DEEP, files, order)?;
     made_parts(alloc, skips, &outline)
 }
 
 // What is told of parts that are refused so.
 fn told(error: CheckError) -> FdsError
-    ensures { (parts : Parts) → IsRefusedOf parts error → IsOfParts result }
+    ensures of_parts { (parts : StatedParts) → IsRefusedOf parts error → IsOfParts result }
+    ensures unsound { (parts : StatedParts) → IsRefusedOf parts error → IsSound parts → result ≡ errors.Memory }
 {
     match error {
         CheckError::Memory => FdsError::Memory,
@@ -92,7 +104,9 @@ fn told(error: CheckError) -> FdsError
 
 // The schema of the parts, where they keep to the rules.
 fn admitted(alloc: Global, parts: Parts) -> Result<Schema, FdsError>
-    ensures { IfErr result IsOfParts }
+    ensures ok { IfOk result (λ schema. schema ≡ parts) }
+    ensures refused { IfErr result IsOfParts }
+    ensures unsound { IfErr result (λ e. IsSound parts → e ≡ errors.Memory) }
 {
     match admit(alloc, parts) {
         Ok(schema) => Ok(schema),
@@ -100,28 +114,47 @@ fn admitted(alloc: Global, parts: Parts) -> Result<Schema, FdsError>
     }
 }
 
+// The files state the schema, whose parts stand in order. Refused, memory aside, only where they don't.
+fn compared(
+    alloc: Global,
+    schema: &Schema,
+    skips: bool,
+    files: &[&Message],
+    order: &[usize],
+) -> Result<(), Unstated>
+    requires { AreOrdered skips (map importer_of (map message_of (lent files.now))) order.now }
+    ensures ok { OnOk result (StatesFiles skips (map message_of (lent files.now)) schema.now) }
+    ensures places { OnOk result (StandInOrder schema.now) }
+    ensures none { IfErr result (λ e. IsSound schema.now
+        → StatesFiles skips (map message_of (lent files.now)) schema.now → StandInOrder schema.now → e ≡ unstated.Memory) }
+{
+    states_files(alloc, schema, skips, files, order)?;
+    in_order(schema)
+}
+
 // The schema that the files state, which are proto3 and have types that are taken.
-#[tactic(auto, using(crate::proofs::ReadLaws::refused_parts))]
 fn kept_schema(alloc: Global, skips: bool, files: &[&Message]) -> Result<Schema, FdsError>
     ensures ok { IfOk result (λ schema. StatesFiles skips (map message_of (lent files.now)) schema) }
     ensures places { IfOk result (λ schema. StandInOrder schema) }
     ensures refused { IfErr result IsOfParts }
+    ensures none { IfErr result (λ e. (parts : StatedParts) → CanBeRead parts
+        → StatesFiles skips (map message_of (lent files.now)) parts → e ≡ errors.Memory) }
 {
     let order = order(alloc, skips, files)?;
     let places = order.as_slice();
     let parts = parts(alloc, skips, files, places)?;
     let schema = admitted(alloc, parts)?;
-    states_files(alloc, &schema, skips, files, places)?;
-    in_order(&schema)?;
+    compared(alloc, &schema, skips, files, places)?;
     Ok(schema)
 }
 
 // The schema that the files state.
-#[tactic(auto, using(crate::proofs::ReadLaws::refused_early))]
 fn files_schema(alloc: Global, skips: bool, files: &[&Message]) -> Result<Schema, FdsError>
     ensures ok { IfOk result (λ schema. StatesFiles skips (map message_of (lent files.now)) schema) }
     ensures places { IfOk result (λ schema. StandInOrder schema) }
     ensures refused { IfErr result (MayRefuseFiles (map message_of (lent files.now))) }
+    ensures none { IfErr result (λ e. (parts : StatedParts) → CanBeRead parts
+        → StatesFiles skips (map message_of (lent files.now)) parts → e ≡ errors.Memory) }
 {
     let proto3 = are_proto3(files)?;
     if !proto3 {
@@ -135,11 +168,12 @@ fn files_schema(alloc: Global, skips: bool, files: &[&Message]) -> Result<Schema
 }
 
 // The schema that a set's message states.
-#[tactic(auto, using(crate::proofs::ReadLaws::refused_early))]
 fn set_schema(alloc: Global, set: &Message) -> Result<Schema, FdsError>
     ensures ok { IfOk result (λ schema. States (message_of set.now) schema) }
     ensures places { IfOk result (λ schema. StandInOrder schema) }
     ensures refused { IfErr result (MayRefuseFiles (kept_files (message_of set.now))) }
+    ensures none { IfErr result (λ e. (parts : StatedParts) → CanBeRead parts → States (message_of set.now) parts
+        → e ≡ errors.Memory) }
 {
     let all_files = children(alloc, set, 1)?;
     let all = all_files.as_slice();
@@ -154,6 +188,7 @@ fn bytes_schema(alloc: Global, bytes: &[u8]) -> Result<Schema, FdsError>
     ensures ok { IfOk result (λ schema. fds_reads bytes.now schema) }
     ensures places { IfOk result (λ schema. StandInOrder schema) }
     ensures refused { IfErr result (MayRefuseSet bytes.now) }
+    ensures none { IfErr result (λ e. (IsOfBytes e → ⊥) → StatesNoneInOrder bytes.now) }
 {
     let set = decoded(alloc, bytes)?;
     set_schema(alloc, &set)
@@ -171,7 +206,8 @@ fn bytes_schema(alloc: Global, bytes: &[u8]) -> Result<Schema, FdsError>
 /// entry type hasn't its form; `Rule` with the error of the first rule that what is declared breaks. A
 /// file `google/protobuf/descriptor.proto` that isn't proto3 is left out, as are imports of it.
 /// `Memory` may come in place of any. `Bytes`, but of messages nested too deep, `NotProto3` and `BadType`
-/// come only where the bytes state no schema.
+/// come only where the bytes state no schema, `BadReference` and `Rule` only where they state none that stands
+/// in order.
 pub fn read(alloc: Global, bytes: &[u8]) -> Result<Schema, FdsError>
     ensures ok { IfOk result (λ schema. fds_reads bytes.now schema) }
     ensures places { IfOk result (λ schema. StandInOrder schema) }

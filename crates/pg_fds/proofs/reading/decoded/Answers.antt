@@ -17,5 +17,6 @@ pub returns : goal.returns
 unfolding written_shape
 returns c = record {
   message = tt;
-  refused = c.undecoded.ensures c.args.bytes.now (subst (λ s. MayRefuse s file_set 100 c.args.bytes.now c.in-Err.error) c.in_ok-table.ensures c.in-Err.ensures.refused);
+  refused = c.undecoded.ensures.refused c.args.bytes.now (subst (λ s. MayRefuse s file_set 100 c.args.bytes.now c.in-Err.error) c.in_ok-table.ensures c.in-Err.ensures.refused);
+  of_bytes = c.undecoded.ensures.of_bytes;
 }

@@ -1,12 +1,25 @@
 use Rattle.std.proofs.Common.{map, sym, ◌∙◌}
+use Rattle.std.proofs.lemmas.Bool.{false≢true}
 use Rattle.pg_dyn.specs.Kept.{message_of}
 use Rattle.pg_fds.specs.Lent.{lent}
 use Rattle.pg_fds.proofs.ReadLaws.{refused_later}
+use Rattle.pg_fds.proofs.StatedFiles.{stated_proto3, stated_types}
 use Rattle.pg_fds.proofs.reading.files_schema.Goals as goal
+
+pub returns-then-not-proto3-clause-none : goal.returns-then-not-proto3-clause-none
+returns-then-not-proto3-clause-none c =
+    λ parts can states.
+    absurd (false≢true (sym c.if-not-proto3.true ∙ (c.in_ok-proto3.ensures.ok ∙ stated_proto3 c.args.skips (map message_of (lent c.args.files.now)) parts states)))
+
+pub returns-then-not-typed-clause-none : goal.returns-then-not-typed-clause-none
+returns-then-not-typed-clause-none c =
+    λ parts can states.
+    absurd (false≢true (sym c.if-not-typed.true ∙ (c.in_ok-typed.ensures ∙ stated_types c.args.skips (map message_of (lent c.args.files.now)) parts can.sound states)))
 
 pub returns : goal.returns
 returns c = record {
   ok = c.kept_schema.ensures.ok;
   places = c.kept_schema.ensures.places;
-  refused = refused_later (map message_of (lent c.args.files.now)) c.kept_schema.result (sym c.in_ok-proto3.ensures ∙ c.if-not-proto3.false) (sym c.in_ok-typed.ensures ∙ c.if-not-typed.false) c.kept_schema.ensures.refused;
+  refused = refused_later (map message_of (lent c.args.files.now)) c.kept_schema.result (sym c.in_ok-proto3.ensures.ok ∙ c.if-not-proto3.false) (sym c.in_ok-typed.ensures ∙ c.if-not-typed.false) c.kept_schema.ensures.refused;
+  none = c.kept_schema.ensures.none;
 }

@@ -1,14 +1,17 @@
 use Rattle.std.proofs.lemmas.Result.{IfErr-weaker}
-use Rattle.pg_fds.specs.Refused.{MayRefuseSet, NoneIsStated}
-use Rattle.pg_fds.proofs.StatedFiles.{none_stated}
+use Rattle.pg_fds.specs.Refused.{IsOfBytes, MayRefuseSet, NoneIsStated, StatesNoneInOrder}
+use Rattle.pg_fds.proofs.NoneStated.{none_stated}
+use Rattle.pg_fds.proofs.ReadLaws.{refused_both}
 use Rattle.pg_fds.proofs.reading.read.Goals as goal
 
 pub returns : goal.returns
 returns c =
     let bytes = c.args.bytes.now in
+    let r = c.bytes_schema.result in
     record {
       ok = c.bytes_schema.ensures.ok;
       places = c.bytes_schema.ensures.places;
       refused = c.bytes_schema.ensures.refused;
-      none_stated = IfErr-weaker c.bytes_schema.result (MayRefuseSet bytes) (NoneIsStated bytes) (none_stated c.faults_are_real.ensures bytes) c.bytes_schema.ensures.refused;
+      none_stated = IfErr-weaker r (λ e. MayRefuseSet bytes e × ((IsOfBytes e → ⊥) → StatesNoneInOrder bytes)) (NoneIsStated bytes) (λ e both. none_stated c.faults_are_real.ensures bytes e both.0 both.1)
+          (refused_both r (MayRefuseSet bytes) (λ e. (IsOfBytes e → ⊥) → StatesNoneInOrder bytes) c.bytes_schema.ensures.refused c.bytes_schema.ensures.none);
     }

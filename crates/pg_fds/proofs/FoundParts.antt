@@ -1,0 +1,54 @@
+-- Of files that state a schema, parts are made that say the same.
+use Rattle.std.proofs.Common.{◌≡◌, ◌⊎◌, inl, inr, ℕ, ◌<◌, Bool, List, map, length}
+use Rattle.std.specs.List.{AllByRecursion, AllZip, flat_map}
+use denote.Ref.{Bor}
+use Rattle.pg_schema.specs.declared.parts.Parts.{Parts}
+use Rattle.pg_dyn.specs.Kept.{Kept, message_of}
+use Rattle.pg_dyn.specs.Message.{Message}
+use Rattle.pg_fds.specs.declared.error.Unstated.{Unstated}
+use Rattle.pg_fds.specs.declared.error.Unstated.TheVariants as unstated
+use Rattle.pg_fds.specs.declared.outline.Outline.{Outline}
+use Rattle.pg_fds.specs.FilePlaces.{AreOrdered, HasPathTexts}
+use Rattle.pg_fds.specs.Lent.{lent}
+use Rattle.pg_fds.specs.Made.{AreOutlined}
+use Rattle.pg_fds.specs.OutlinedPlaces.{no_counts, placed_file, placed_files, placed_type, types_of_files}
+use Rattle.pg_fds.specs.Outlines.{AreEnumsNamed, AreTypesNamed, MayDeclare, file_enums, file_services, file_types, files_at, row, type_row}
+use Rattle.pg_fds.specs.Places.{declared_in}
+use Rattle.pg_fds.specs.PostOrder.{HasNoOrder}
+use Rattle.pg_fds.specs.Reads.{CanBeRead, StatesFiles, importer_of}
+use Rattle.pg_fds.specs.StatesFiles.{StatesFile, most_deep}
+use Rattle.pg_fds.proofs.FilesInOrder.{files_zip, lent_within}
+use Rattle.pg_fds.proofs.StatedFiles.{none_ordered, stated_texts}
+use Rattle.pg_fds.proofs.StatedNames.{may_declare}
+use Rattle.pg_fds.proofs.StatedOutline.{are_outlined}
+
+-- they have an order
+pub order_told : (skips : Bool) (kept : List Message) (e : Unstated) → (AllByRecursion HasPathTexts kept → (e ≡ unstated.Memory) ⊎ HasNoOrder skips (map importer_of kept)) → (parts : Parts) → StatesFiles skips kept parts
+    → e ≡ unstated.Memory
+order_told skips kept e refused parts states =
+    elim (refused (stated_texts skips kept parts states)) [
+      | inl memory ↦ memory
+      | inr none ↦ absurd (none_ordered skips kept none parts states)
+    ]
+
+module _ (skips : Bool) (files : List (Bor Kept)) (order : List ℕ) (ordered : AreOrdered skips (map importer_of (map message_of (lent files))) order) (parts : Parts) (can : CanBeRead parts)
+    (states : StatesFiles skips (map message_of (lent files)) parts) where
+  abbrev found : List Message
+  found = files_at (map message_of (lent files)) order
+
+  zip : AllZip (StatesFile (declared_in parts) skips) found parts.files.items
+  zip = files_zip skips (map message_of (lent files)) parts order states ordered
+
+  pub within : AllByRecursion (λ place. place < length files) order
+  within = lent_within skips files order ordered
+
+  -- all that they declare may be declared
+  pub declare : MayDeclare most_deep found
+  declare = may_declare skips found parts can.sound can.places can.few_enums can.few_services zip
+
+  -- what is outlined is theirs
+  pub outlined : (outline : Outline) → map type_row outline.types.items ≡ flat_map (file_types most_deep) found → map row outline.enums.items ≡ flat_map (file_enums most_deep) found
+      → map row outline.services.items ≡ flat_map file_services found → map placed_file outline.files.items ≡ placed_files most_deep no_counts found → map placed_type outline.types.items ≡ types_of_files most_deep no_counts found
+      → AreTypesNamed outline.names (map type_row outline.types.items) → AreEnumsNamed outline.names (map row outline.enums.items) → AreOutlined skips parts outline
+  outlined outline types enums services placed_files_are placed_types_are types_named enums_named =
+      are_outlined skips found parts can.places zip outline types enums services placed_files_are placed_types_are types_named enums_named
