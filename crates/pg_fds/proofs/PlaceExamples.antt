@@ -1,10 +1,16 @@
 -- Places in order of declaration, by small examples: each by computation.
-use Rattle.std.proofs.Common.{◌≡◌, ℕ, List, [], ◌∷◌, ◌++◌, length, ap, ap₂, sym, ◌∙◌}
-use Rattle.std.specs.List.{flat_map}
+use Rattle.std.proofs.Common.{◌≡◌, ℕ, ◌≤◌, ◌^◌, ◌&&◌, true, List, [], ◌∷◌, ◌++◌, length, map, refl, ap, ap₂, sym, subst, ◌∙◌, arith}
+use Rattle.std.specs.List.{flat_map, list_all}
+use Rattle.std.specs.String.{string_bytes}
+use Rattle.pg_schema.specs.declared.file.File.{File}
+use Rattle.pg_schema.specs.declared.file.Import.{Import}
 use Rattle.pg_schema.specs.declared.message_type.MessageType.{MessageType}
+use Rattle.pg_schema.specs.Pairs.{are_distinct}
 use Rattle.pg_schema.specs.Scopes.{declared_services, enum_places, service_places}
+use Rattle.pg_fds.specs.Again.{imports_apart, nest_within}
 use Rattle.pg_fds.specs.InOrder.{enums_below, file_enums, file_types, types_below}
-use Rattle.pg_fds.specs.PlaceExamples.{EnumsInOrder, OneFieldInOrder, TypesInOrder, WorkedPlaces}
+use Rattle.pg_fds.specs.PlaceExamples.{EnumsInOrder, OneFieldAgain, OneFieldInOrder, TypesInOrder, WorkedPlaces}
+use Rattle.pg_fds.specs.Reads.{AreBehind, imports_among}
 use Rattle.pg_fds.specs.Walks.{places_from}
 
 types_in_order : TypesInOrder
@@ -30,5 +36,16 @@ one_field_in_order parts file t a is m no_enums no_services = record {
   services = ap declared_services is.files ∙ (ap (λ ids. service_places ids ++ []) is.file_fits.services ∙ sym (ap (λ ss. places_from 0 (length ss)) no_services));
 }
 
+one_field_again : OneFieldAgain
+one_field_again parts file t a is m no_enums no_services = record {
+  imports_once = ap (list_all imports_apart) is.files ∙ ap (λ (imports : List Import). are_distinct (map (λ (i : Import). string_bytes i.path) imports) && true) is.file_fits.imports;
+  behind = subst (AreBehind []) (sym is.files) (ap (imports_among []) is.file_fits.imports, refl, tt);
+  shallow = ap₂ (λ (ts : List MessageType) (fs : List File). list_all (λ (f : File). nest_within 64 ts f.types.items) fs) is.types is.files
+      ∙ (ap (λ ids. nest_within 64 (t ∷ []) ids && true) is.file_fits.types ∙ ap (λ ids. (nest_within 63 (t ∷ []) ids && true) && true) m.no_types);
+  places = one_field_in_order parts file t a is m no_enums no_services;
+  few_enums = subst (λ es. length es ≤ 2 ^ 32) (sym no_enums) (omega arith);
+  few_services = subst (λ ss. length ss ≤ 2 ^ 32) (sym no_services) (omega arith);
+}
+
 pub worked_places : WorkedPlaces
-worked_places = record { types = types_in_order; enums = enums_in_order; one_field = one_field_in_order }
+worked_places = record { types = types_in_order; enums = enums_in_order; one_field = one_field_in_order; again = one_field_again }

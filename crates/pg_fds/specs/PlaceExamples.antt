@@ -8,6 +8,7 @@ use Rattle.pg_schema.specs.declared.message_type.MessageType.{MessageType}
 use Rattle.pg_schema.specs.declared.parts.Parts.{Parts}
 use Rattle.pg_fds.specs.Examples.{AreParts, IsMessage}
 use Rattle.pg_fds.specs.InOrder.{StandInOrder, enums_below, types_below}
+use Rattle.pg_fds.specs.ReadAgain.{IsReadAgain}
 
 abbrev pub type_id : ℕ → TypeId
 type_id place = record { index = place }
@@ -36,7 +37,14 @@ OneFieldInOrder =
     (parts : Parts) (file : File) (t : MessageType) (a : Field) → AreParts parts file t → IsMessage t (a ∷ []) (1 ∷ []) → parts.enums.items ≡ [] → parts.services.items ≡ []
     → StandInOrder parts
 
+-- whose set is read as the same schema
+abbrev pub OneFieldAgain : Type 0
+OneFieldAgain =
+    (parts : Parts) (file : File) (t : MessageType) (a : Field) → AreParts parts file t → IsMessage t (a ∷ []) (1 ∷ []) → parts.enums.items ≡ [] → parts.services.items ≡ []
+    → IsReadAgain parts
+
 pub record WorkedPlaces : Type 0 where
   pub types : TypesInOrder
   pub enums : EnumsInOrder
   pub one_field : OneFieldInOrder
+  pub again : OneFieldAgain

@@ -21,7 +21,7 @@ pub fn worked_reads()
 {}
 
 /// Places in order of declaration, by small examples: those of nested message types and their enums, and of
-/// a file with one message type.
+/// a file with one message type, whose set is read as the same schema.
 pub fn worked_places()
     ensures { WorkedPlaces }
 {}
