@@ -1,5 +1,6 @@
 //! The written schema beside what protoc writes.
 
+mod again;
 mod read;
 mod sets;
 mod written;

@@ -25,6 +25,7 @@ use Rattle.pg_fds.specs.Reads.{CanBeRead, States, StatesFiles, fds_reads, kept_f
 use Rattle.pg_fds.specs.Refused.{BreaksRule, IsOfBytes, IsOfParts, MayRefuseFiles, MayRefuseSet, StatesNoneInOrder}
 use Rattle.pg_fds.specs.Said.{children_at, text_at}
 use Rattle.pg_fds.specs.StatesFiles.{is_proto3, is_skipped}
+use Rattle.pg_fds.specs.Views.{parts_view}
 use Rattle.pg_fds.proofs.FileStateLaws.{all_named}
 use Rattle.pg_fds.proofs.StatedFiles.{stated_texts}
 
@@ -127,6 +128,24 @@ pub set_none : (set : Message) (skip : Bool) (all files : List (Bor Kept)) (r : 
 set_none set skip all files r seen skipped kept h =
     IfErr-weaker r (λ e. (parts : Parts) → CanBeRead parts → StatesFiles skip (map message_of (lent files)) parts → e ≡ errors.Memory) (λ e. (parts : Parts) → CanBeRead parts → States set parts → e ≡ errors.Memory)
     (λ e none parts can states. none parts can (files_state set skip all files seen skipped kept parts states)) h
+
+-- a schema says what those say that are stated
+abbrev IsStated : (Parts → Type 0) → Result Parts FdsError → Type 0
+IsStated Stated r = IfOk r (λ made. (parts : Parts) → CanBeRead parts → Stated parts → parts_view made ≡ parts_view parts)
+
+pub set_same : (set : Message) (skip : Bool) (all files : List (Bor Kept)) (r : Result Parts FdsError) → map message_of (lent all) ≡ children_at 1 set
+    → skip ≡ list_any is_skipped (map message_of (lent all)) → map message_of (lent files) ≡ kept_files set
+    → IsStated (StatesFiles skip (map message_of (lent files))) r → IsStated (States set) r
+set_same set skip all files r seen skipped kept h =
+    IfOk-weaker r (λ made. (parts : Parts) → CanBeRead parts → StatesFiles skip (map message_of (lent files)) parts → parts_view made ≡ parts_view parts)
+    (λ made. (parts : Parts) → CanBeRead parts → States set parts → parts_view made ≡ parts_view parts)
+    (λ made same parts can states. same parts can (files_state set skip all files seen skipped kept parts states)) h
+
+pub bytes_same : (bytes : List ℕ) (set : Message) (r : Result Parts FdsError) → dec written_shape file_set bytes ≡ Some set → IsStated (States set) r → IsStated (fds_reads bytes) r
+bytes_same bytes set r is h =
+    IfOk-weaker r (λ made. (parts : Parts) → CanBeRead parts → States set parts → parts_view made ≡ parts_view parts)
+    (λ made. (parts : Parts) → CanBeRead parts → fds_reads bytes parts → parts_view made ≡ parts_view parts)
+    (λ made same parts can reads. same parts can (subst (λ d. IsSomeAnd d (λ s. States s parts)) is reads)) h
 
 -- where the bytes state a schema that can be read, what is refused of their message is want of memory
 pub bytes_none : (bytes : List ℕ) (set : Message) (r : Result Parts FdsError) → dec written_shape file_set bytes ≡ Some set

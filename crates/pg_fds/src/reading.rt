@@ -137,6 +137,8 @@ fn kept_schema(alloc: Global, skips: bool, files: &[&Message]) -> Result<Schema,
     ensures ok { IfOk result (λ schema. StatesFiles skips (map message_of (lent files.now)) schema) }
     ensures places { IfOk result (λ schema. StandInOrder schema) }
     ensures refused { IfErr result IsOfParts }
+    ensures same { IfOk result (λ schema. (parts : StatedParts) → CanBeRead parts
+        → StatesFiles skips (map message_of (lent files.now)) parts → parts_view schema ≡ parts_view parts) }
     ensures none { IfErr result (λ e. (parts : StatedParts) → CanBeRead parts
         → StatesFiles skips (map message_of (lent files.now)) parts → e ≡ errors.Memory) }
 {
@@ -153,6 +155,8 @@ fn files_schema(alloc: Global, skips: bool, files: &[&Message]) -> Result<Schema
     ensures ok { IfOk result (λ schema. StatesFiles skips (map message_of (lent files.now)) schema) }
     ensures places { IfOk result (λ schema. StandInOrder schema) }
     ensures refused { IfErr result (MayRefuseFiles (map message_of (lent files.now))) }
+    ensures same { IfOk result (λ schema. (parts : StatedParts) → CanBeRead parts
+        → StatesFiles skips (map message_of (lent files.now)) parts → parts_view schema ≡ parts_view parts) }
     ensures none { IfErr result (λ e. (parts : StatedParts) → CanBeRead parts
         → StatesFiles skips (map message_of (lent files.now)) parts → e ≡ errors.Memory) }
 {
@@ -172,6 +176,8 @@ fn set_schema(alloc: Global, set: &Message) -> Result<Schema, FdsError>
     ensures ok { IfOk result (λ schema. States (message_of set.now) schema) }
     ensures places { IfOk result (λ schema. StandInOrder schema) }
     ensures refused { IfErr result (MayRefuseFiles (kept_files (message_of set.now))) }
+    ensures same { IfOk result (λ schema. (parts : StatedParts) → CanBeRead parts → States (message_of set.now) parts
+        → parts_view schema ≡ parts_view parts) }
     ensures none { IfErr result (λ e. (parts : StatedParts) → CanBeRead parts → States (message_of set.now) parts
         → e ≡ errors.Memory) }
 {
@@ -188,6 +194,8 @@ fn bytes_schema(alloc: Global, bytes: &[u8]) -> Result<Schema, FdsError>
     ensures ok { IfOk result (λ schema. fds_reads bytes.now schema) }
     ensures places { IfOk result (λ schema. StandInOrder schema) }
     ensures refused { IfErr result (MayRefuseSet bytes.now) }
+    ensures same { IfOk result (λ schema. (parts : StatedParts) → CanBeRead parts → fds_reads bytes.now parts
+        → parts_view schema ≡ parts_view parts) }
     ensures none { IfErr result (λ e. (IsOfBytes e → ⊥) → StatesNoneInOrder bytes.now) }
 {
     let set = decoded(alloc, bytes)?;
@@ -207,11 +215,13 @@ fn bytes_schema(alloc: Global, bytes: &[u8]) -> Result<Schema, FdsError>
 /// file `google/protobuf/descriptor.proto` that isn't proto3 is left out, as are imports of it.
 /// `Memory` may come in place of any. `Bytes`, but of messages nested too deep, `NotProto3` and `BadType`
 /// come only where the bytes state no schema, `BadReference` and `Rule` only where they state none that stands
-/// in order.
+/// in order. Where they state such a one, the schema that is answered says the same.
 pub fn read(alloc: Global, bytes: &[u8]) -> Result<Schema, FdsError>
     ensures ok { IfOk result (λ schema. fds_reads bytes.now schema) }
     ensures places { IfOk result (λ schema. StandInOrder schema) }
     ensures refused { IfErr result (MayRefuseSet bytes.now) }
+    ensures same { IfOk result (λ schema. (parts : StatedParts) → CanBeRead parts → fds_reads bytes.now parts
+        → parts_view schema ≡ parts_view parts) }
     ensures none_stated { IfErr result (NoneIsStated bytes.now) }
 {
     // Bytes that have a fault have no reading.

@@ -1,5 +1,5 @@
 use Rattle.pg_dyn.specs.Kept.{message_of}
-use Rattle.pg_fds.proofs.ReadLaws.{bytes_none, bytes_read, bytes_refused}
+use Rattle.pg_fds.proofs.ReadLaws.{bytes_none, bytes_read, bytes_refused, bytes_same}
 use Rattle.pg_fds.proofs.reading.bytes_schema.Goals as goal
 
 pub returns : goal.returns
@@ -7,5 +7,6 @@ returns c = record {
   ok = bytes_read c.args.bytes.now (message_of c.in_ok-set.set) c.set_schema.result c.in_ok-set.ensures.message c.set_schema.ensures.ok;
   places = c.set_schema.ensures.places;
   refused = bytes_refused c.args.bytes.now (message_of c.in_ok-set.set) c.set_schema.result c.in_ok-set.ensures.message c.set_schema.ensures.refused;
+  same = bytes_same c.args.bytes.now (message_of c.in_ok-set.set) c.set_schema.result c.in_ok-set.ensures.message c.set_schema.ensures.same;
   none = bytes_none c.args.bytes.now (message_of c.in_ok-set.set) c.set_schema.result c.in_ok-set.ensures.message c.set_schema.ensures.none;
 }

@@ -21,5 +21,6 @@ returns c = record {
   ok = c.kept_schema.ensures.ok;
   places = c.kept_schema.ensures.places;
   refused = refused_later (map message_of (lent c.args.files.now)) c.kept_schema.result (sym c.in_ok-proto3.ensures.ok ∙ c.if-not-proto3.false) (sym c.in_ok-typed.ensures ∙ c.if-not-typed.false) c.kept_schema.ensures.refused;
+  same = c.kept_schema.ensures.same;
   none = c.kept_schema.ensures.none;
 }

@@ -34,3 +34,6 @@ returns-in_err-compared-clause-none c =
     (λ parts can states.
     let same : parts_view parts ≡ parts_view schema = sym (ap parts_view c.in_ok-schema.ensures.ok ∙ c.in_ok-parts.ensures.made parts can states) in
     c.in_err-compared.ensures.none (sound_same parts schema same can.sound) (states_same parts schema same c.args.skips files states) (order_same parts schema same can.places))
+
+pub returns-clause-same : goal.returns-clause-same
+returns-clause-same c = λ parts can states. ap parts_view c.in_ok-schema.ensures.ok ∙ c.in_ok-parts.ensures.made parts can states

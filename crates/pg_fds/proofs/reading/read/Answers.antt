@@ -12,6 +12,7 @@ returns c =
       ok = c.bytes_schema.ensures.ok;
       places = c.bytes_schema.ensures.places;
       refused = c.bytes_schema.ensures.refused;
+      same = c.bytes_schema.ensures.same;
       none_stated = IfErr-weaker r (λ e. MayRefuseSet bytes e × ((IsOfBytes e → ⊥) → StatesNoneInOrder bytes)) (NoneIsStated bytes) (λ e both. none_stated c.faults_are_real.ensures bytes e both.0 both.1)
           (refused_both r (MayRefuseSet bytes) (λ e. (IsOfBytes e → ⊥) → StatesNoneInOrder bytes) c.bytes_schema.ensures.refused c.bytes_schema.ensures.none);
     }

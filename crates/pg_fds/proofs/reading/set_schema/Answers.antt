@@ -4,7 +4,7 @@ use Rattle.pg_fds.specs.Lent.{lent}
 use Rattle.pg_fds.specs.Reads.{States, kept_files}
 use Rattle.pg_fds.specs.Refused.{MayRefuseFiles}
 use Rattle.pg_fds.specs.Said.{children_at}
-use Rattle.pg_fds.proofs.ReadLaws.{files_kept, none_told, set_named, set_none, stated}
+use Rattle.pg_fds.proofs.ReadLaws.{files_kept, none_told, set_named, set_none, set_same, stated}
 use Rattle.pg_fds.proofs.reading.set_schema.Goals as goal
 
 pub returns-in_err-skips-clause-none : goal.returns-in_err-skips-clause-none
@@ -34,5 +34,6 @@ returns c =
       ok = stated set c.in_ok-skips.skips all files c.files_schema.result seen c.in_ok-skips.ensures.ok kept c.files_schema.ensures.ok;
       places = c.files_schema.ensures.places;
       refused = subst (λ fs. IfErr c.files_schema.result (MayRefuseFiles fs)) kept c.files_schema.ensures.refused;
+      same = set_same set c.in_ok-skips.skips all files c.files_schema.result seen c.in_ok-skips.ensures.ok kept c.files_schema.ensures.same;
       none = set_none set c.in_ok-skips.skips all files c.files_schema.result seen c.in_ok-skips.ensures.ok kept c.files_schema.ensures.none;
     }
