@@ -1,6 +1,7 @@
 //! The written schema beside what protoc writes.
 
 mod again;
+mod enum_places;
 mod read;
 mod sets;
 mod written;

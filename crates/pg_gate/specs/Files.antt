@@ -10,7 +10,7 @@ use Rattle.pg_check.specs.declared.error.CheckError.{CheckError}
 use Rattle.pg_check.specs.declared.error.CheckError.TheVariants as checks
 use Rattle.pg_dyn.specs.declared.error.DynError.TheVariants as messages
 use Rattle.pg_fds.specs.Reads.{fds_reads}
-use Rattle.pg_fds.specs.Refused.{MayRefuseSet}
+use Rattle.pg_fds.specs.Refused.{MayRefuseSet, NoneIsStated}
 use Rattle.pg_fds.specs.Set.{fds}
 use Rattle.pg_fds.specs.Written.{HasNoSet}
 use Rattle.pg_fds.specs.declared.error.FdsError.{FdsError}
@@ -104,10 +104,11 @@ pub record IsNotGiven (lack : Text → Bool) (folder path : Text) (error : LinkE
   pub is_told : error ≡ links.Memory → ⊥
   pub not_read : IsReadFault lack folder None path error
 
--- bytes are refused as a set for this reason, which isn't want of memory
+-- bytes are refused as a set for this reason, which isn't want of memory, and state no schema where it is one that says so
 pub record IsNoSet (bytes : Text) (error : FdsError) : Type 0 where
   pub is_told : error ≡ sets.Memory → ⊥
   pub refuses : MayRefuseSet bytes error
+  pub none_stated : NoneIsStated bytes error
 
 -- such bytes are those that the source may give
 pub record IsRefusedSet (give : Text → Text → Bool) (folder path : Text) (error : FdsError) : Type 0 where
