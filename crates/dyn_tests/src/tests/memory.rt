@@ -1,4 +1,4 @@
-//! Each allocation refused in turn: `rt try --test --fail-alloc N`.
+//! What each call answers where memory is refused. `tools/try_memory.sh` refuses each growth in turn.
 use super::copying::copied;
 use super::nested::{again, read_within};
 use super::runtime::type_of_rows;
