@@ -447,7 +447,7 @@ fn has_keys<R: Abort + AllocGlobal>(
     Ok(())
 }
 
-// Each allocation refused in turn, by `rt try --test --fail-alloc N`: a refused map comes back in its order.
+// Each growth refused in turn, by `tools/try_memory.sh`: a refused map comes back in its order.
 #[test]
 fn refused_memory(rt: HostRuntime) -> Result<(), Fail> {
     let schema = schema(rt.alloc())?;
