@@ -9,6 +9,7 @@ use Rattle.pg_check.specs.Sources.{linked_sources}
 use Rattle.pg_check.specs.declared.error.CheckError.{CheckError}
 use Rattle.pg_check.specs.declared.error.CheckError.TheVariants as checks
 use Rattle.pg_dyn.specs.declared.error.DynError.TheVariants as messages
+use Rattle.pg_fds.specs.InOrder.{StandInOrder}
 use Rattle.pg_fds.specs.Reads.{fds_reads}
 use Rattle.pg_fds.specs.Refused.{MayRefuseSet, NoneIsStated}
 use Rattle.pg_fds.specs.Set.{fds}
@@ -30,6 +31,7 @@ use Rattle.pg_gate.specs.declared.error.GateError.{GateError}
 use Rattle.pg_gate.specs.declared.error.GateError.TheVariants as gates
 use Rattle.pg_gate.specs.declared.error.Side.{Side}
 use Rattle.pg_schema.specs.declared.parts.Parts.{Parts}
+use Rattle.pg_schema.specs.Sound.{IsSound}
 
 abbrev pub paths_of : List (Bor Text) → List Text
 paths_of = map (λ path. path.now)
@@ -93,11 +95,17 @@ IsErrorOf fault side (gates.Bytes error) = ⊥
 
 -- ---- descriptor sets
 
+-- the bytes of a set state the schema, which keeps to the rules and stands in order of declaration
+pub record IsStated (bytes : Text) (schema : Parts) : Type 0 where
+  pub states : fds_reads bytes schema
+  pub sound : IsSound schema
+  pub places : StandInOrder schema
+
 -- The schema of the descriptor set at the path below the folder: bytes state it, which the source may give.
 pub record IsRead (give : Text → Text → Bool) (folder path : Text) (schema : Parts) : Type 0 where
   pub bytes : Text
   pub given : IsTrue (give (path_below folder path) bytes)
-  pub states : fds_reads bytes schema
+  pub stated : IsStated bytes schema
 
 -- the source may lack the set's file, or it failed
 pub record IsNotGiven (lack : Text → Bool) (folder path : Text) (error : LinkError) : Type 0 where

@@ -1,8 +1,7 @@
 //! Sides that are descriptor sets.
 ghost use Rattle.std.specs.Prelude.{◌≡◌, ◌+◌, IfErr, IfOk, IsTrue, option_map};
-ghost use Rattle.pg_fds.specs.Reads.{fds_reads};
 ghost use Rattle.pg_link.specs.Below.{path_below};
-ghost use Rattle.pg_gate.specs.Files.{IsErrorOf, IsFaultOfBytes, IsFaultOfRead, IsGivenFault, IsRead, paths_of, source_failures};
+ghost use Rattle.pg_gate.specs.Files.{IsErrorOf, IsFaultOfBytes, IsFaultOfRead, IsGivenFault, IsRead, IsStated, paths_of, source_failures};
 ghost use Rattle.pg_gate.specs.Files as spec;
 
 use crate::error::{Fault, GateError, Side};
@@ -52,9 +51,9 @@ fn bytes_of<S: Sources>(
     }
 }
 
-/// The schema that the bytes state.
+/// The schema that the bytes state, which keeps to the rules and stands in order of declaration.
 fn stated(alloc: Global, side: Side, bytes: &[u8]) -> Result<Schema, GateError>
-    ensures stated { IfOk result (fds_reads bytes.now) }
+    ensures stated { IfOk result (IsStated bytes.now) }
     ensures refused { IfErr result (IsErrorOf (IsFaultOfBytes bytes.now) side) }
 {
     match read(alloc, bytes) {
