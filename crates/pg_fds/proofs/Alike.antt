@@ -1,7 +1,6 @@
 -- Lists whose items are alike, one by one: what looks at no more of an item makes the same of both.
-use Rattle.std.proofs.Common.{◌≡◌, ℕ, zero, suc, Bool, true, ◌&&◌, ◌||◌, List, [], ◌∷◌, ◌++◌, map, flat_map, length, Option, Some, None, option_map, slice_get, refl, ap, ap₂, sym, ◌∙◌}
-use Rattle.std.specs.List.{list_all, list_any}
-use Rattle.pg_schema.specs.Pairs.{all_pairs}
+use Rattle.std.proofs.Common.{◌≡◌, ℕ, zero, suc, Bool, ◌&&◌, List, [], ◌∷◌, ◌++◌, map, flat_map, length, Option, Some, None, option_map, slice_get, refl, ap, ap₂, sym}
+use Rattle.std.specs.List.{list_all}
 
 pub head_same : {V : Type 0} (a b : V) (more others : List V) → ◌≡◌ {A = List V} (a ∷ more) (b ∷ others) → a ≡ b
 head_same a b more others same = cc
@@ -46,13 +45,6 @@ module _ {A V : Type 0} (view : A → V) where
   same_all f g one (x ∷ xs) [] same = no_items (view x) (map view xs) (sym same)
   same_all f g one (x ∷ xs) (y ∷ ys) same =
       ap₂ ◌&&◌ (one x y (head_same (view x) (view y) (map view xs) (map view ys) same)) (same_all f g one xs ys (tail_same (view x) (view y) (map view xs) (map view ys) same))
-
-  pub same_any : (f g : A → Bool) → ((x y : A) → view x ≡ view y → f x ≡ g y) → (xs ys : List A) → map view xs ≡ map view ys → list_any f xs ≡ list_any g ys
-  same_any f g one [] [] same = refl
-  same_any f g one [] (y ∷ ys) same = no_items (view y) (map view ys) same
-  same_any f g one (x ∷ xs) [] same = no_items (view x) (map view xs) (sym same)
-  same_any f g one (x ∷ xs) (y ∷ ys) same =
-      ap₂ ◌||◌ (one x y (head_same (view x) (view y) (map view xs) (map view ys) same)) (same_any f g one xs ys (tail_same (view x) (view y) (map view xs) (map view ys) same))
 
 -- what is made of a thing that may be there
 pub same_option : {A V B : Type 0} (view : A → V) (f g : A → B) → ((x y : A) → view x ≡ view y → f x ≡ g y) → (o p : Option A) → option_map view o ≡ option_map view p → option_map f o ≡ option_map g p

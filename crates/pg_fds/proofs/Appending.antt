@@ -1,11 +1,10 @@
 -- A content behind the parts of a message.
-use Rattle.std.proofs.Common.{◌≡◌, ◌≢◌, ℕ, ◌<◌, ◌≤◌, List, [], ◌∷◌, ◌++◌, map, nat_lt, Bool, true, false, Some, None, refl, ap, ap₂, sym, subst, ◌∙◌, arith}
+use Rattle.std.proofs.Common.{◌≡◌, ℕ, ◌<◌, ◌≤◌, List, [], ◌∷◌, ◌++◌, map, nat_lt, Bool, true, false, Some, None, refl, ap, ap₂, sym, subst, ◌∙◌, arith}
 use Rattle.std.proofs.lemmas.Bool.Decides.{nat_tests}
 use Rattle.std.proofs.lemmas.List.{append-nil, map-append}
 use Rattle.std.proofs.lemmas.Option.{same_Some}
 use Rattle.std.specs.List.{AllByRecursion}
 use Rattle.pg_schema.specs.declared.field.Element.{Element}
-use Rattle.pg_schema.specs.declared.field.Element.TheVariants as elements
 use Rattle.pg_schema.specs.declared.field.Presence.TheVariants.{Repeated}
 use Rattle.pg_schema.specs.declared.field.TypeId.{TypeId}
 use Rattle.pg_schema.specs.Shape.{Shape, FieldShape, fields, field_at}
@@ -26,7 +25,7 @@ use Rattle.pg_dyn.proofs.Lists.{filter_all, filter_none}
 use Rattle.pg_dyn.proofs.ReplacingLaws.{no_rivals, parts_of-kept_onto, unknown_of-kept_onto, type_of-kept_onto, parts-message_of, unknown-message_of, item_of, part_item}
 use Rattle.pg_fds.specs.Descriptor.{descriptor_shape, one, many}
 use Rattle.pg_fds.specs.Building.{items_of, items_in, items_within, shown, greatest, last_number, IsChild, AreChildren, IsOf, HasOne, HasMany, written_shape}
-use Rattle.pg_fds.specs.Items.{Items, item, child, children, options, texts}
+use Rattle.pg_fds.specs.Items.{item, child, children, texts}
 
 -- ---- behind all parts
 
@@ -201,23 +200,6 @@ put_list_gives given type number e vs content old new list same is h field set f
     let all = set_many descriptor_shape type number e vs content old new is.of_type field h (seen_list number vs content list) (subst (λ s. IsSetTo s number content old new) same set) in
     (all.0, record { of_type = all.1 ∙ is.of_type; no_unknown = all.2 ∙ is.no_unknown; fits = subst (λ s. Fits s new) same fits }, all.3)
 
--- ---- children as items
-
-child_fits : (type : TypeId) (v : Value) → IsChild type v → ItemFits written_shape (elements.Message type) v
-child_fits type (values.Msg child) is = (is.fits, is.of_type)
-child_fits type (values.Int n) is = absurd is
-child_fits type (values.F32 n) is = absurd is
-child_fits type (values.F64 n) is = absurd is
-child_fits type (values.Text n) is = absurd is
-child_fits type (values.Bytes n) is = absurd is
-
-pub children_fit : (type : TypeId) (vs : List Value) → AreChildren type vs → AllByRecursion (ItemFits written_shape (elements.Message type)) vs
-children_fit type [] are = tt
-children_fit type (v ∷ vs) are = (child_fits type v are.0, children_fit type vs are.1)
-
-pub child_item : (type : TypeId) (number : ℕ) (v : Value) → IsChild type v → item number (shown v) ∷ [] ≡ child number (items_in v)
-child_item type number v is = ap (λ i. item number i ∷ []) (child_shown type v is)
-
 -- ---- texts and options
 
 pub texts_shown : (number : ℕ) (items : List Item) (list : List (List ℕ)) → items ≡ map (λ bytes. model.Plain (model.Bytes bytes)) list → map (item number) items ≡ texts number list
@@ -226,10 +208,6 @@ texts_shown number items list is = ap (map (item number)) is ∙ each list
     each : (xs : List (List ℕ)) → map (item number) (map (λ bytes. model.Plain (model.Bytes bytes)) xs) ≡ texts number xs
     each [] = refl
     each (x ∷ xs) = ap (λ is. item number (model.Plain (model.Bytes x)) ∷ is) (each xs)
-
-pub options_filled : (number : ℕ) (ps : Items) → ps ≢ [] → options number ps ≡ child number ps
-options_filled number [] h = absurd (h refl)
-options_filled number (p ∷ ps) h = refl
 
 pub empty_is : (type : TypeId) → type.index < 18 → IsOf type (ends type [])
 unfolding written_shape

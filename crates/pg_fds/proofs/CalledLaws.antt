@@ -1,5 +1,5 @@
 -- The message types that methods name.
-use Rattle.std.proofs.Common.{◌≡◌, ℕ, List, [], ◌∷◌, String, Option, None, Some, refl, ap, sym, subst, ◌∙◌, unwrap_or}
+use Rattle.std.proofs.Common.{◌≡◌, ℕ, List, [], ◌∷◌, String, Option, None, Some, refl, sym, subst, ◌∙◌, unwrap_or}
 use Rattle.std.proofs.lemmas.Option.{none-some, same_Some}
 use Rattle.std.specs.Prelude.{IsSomeAnd}
 use Rattle.std.specs.BTreeMap.{BTreeMap, get_by_text}

@@ -48,12 +48,6 @@ rest_in os i o h is = rw (add-one, drop-cons os i o) (ap (λ x. x ∷ drop (suc 
 rising_here : (last : ℕ) (os : List FileOption) (i : ℕ) (o : FileOption) → i < length os → o ≡ get_or os i o → is_rising (last ∷ option_numbers (drop i os)) ≡ true → is_rising (last ∷ o.number ∷ option_numbers (drop (i + 1) os)) ≡ true
 rising_here last os i o h is rising = subst (λ xs. is_rising (last ∷ option_numbers xs) ≡ true) (rest_in os i o h is) rising
 
-pub next_above : (last : ℕ) (os : List FileOption) (i : ℕ) (o : FileOption) → i < length os → o ≡ get_or os i o → is_rising (last ∷ option_numbers (drop i os)) ≡ true → last < o.number
-next_above last os i o h is rising =
-    let ns = option_numbers (drop (i + 1) os) in
-    let both = rising_here last os i o h is rising in
-    below last o.number (and_left (nat_lt last o.number) (list_all (nat_lt last) ns) (and_left (list_all (nat_lt last) (o.number ∷ ns)) (is_rising (o.number ∷ ns)) both))
-
 pub rising_next : (last now : ℕ) (os : List FileOption) (i : ℕ) (o : FileOption) → i < length os → o ≡ get_or os i o → now ≤ o.number → is_rising (last ∷ option_numbers (drop i os)) ≡ true → is_rising (now ∷ option_numbers (drop (i + 1) os)) ≡ true
 rising_next last now os i o h is le rising =
     let ns = option_numbers (drop (i + 1) os) in

@@ -1,5 +1,5 @@
 -- Entry types that no field has named yet.
-use Rattle.std.proofs.Common.{◌≡◌, ℕ, zero, suc, ◌+◌, ◌<◌, ◌≤◌, Bool, true, false, cond, not, ◌&&◌, ◌||◌, ◌⊎◌, inl, inr, List, [], ◌∷◌, ◌++◌, String, length, map, take, drop, get_or, Option, None, Some, refl, ap, sym, subst, ◌∙◌, arith, add-one}
+use Rattle.std.proofs.Common.{◌≡◌, ℕ, zero, suc, ◌+◌, ◌<◌, ◌≤◌, Bool, true, false, cond, not, ◌&&◌, ◌||◌, ◌⊎◌, inl, inr, List, [], ◌∷◌, ◌++◌, String, length, map, take, drop, get_or, None, Some, refl, ap, sym, subst, ◌∙◌, arith, add-one}
 use Rattle.std.proofs.lemmas.Bool.{false≢true}
 use Rattle.std.proofs.lemmas.Map.Text.{is_eq-slice_cmp}
 use Rattle.std.proofs.lemmas.Option.{none-some}
@@ -7,7 +7,7 @@ use Rattle.std.proofs.lemmas.Slice.Eq.{bytes_eq-Decides}
 use Rattle.std.specs.Prelude.{IsSomeAnd}
 use Rattle.std.specs.BTreeMap.{BTreeMap, get_by_text, is_at}
 use Rattle.std.specs.Cmp.Lexicographic.{slice_cmp}
-use Rattle.std.specs.List.{AllByRecursion, AllZip, list_all, list_any}
+use Rattle.std.specs.List.{AllByRecursion, AllZip, list_all}
 use Rattle.std.specs.Map.{lookup}
 use Rattle.std.specs.Ordering.{nat_cmp}
 use Rattle.std.specs.Str.{bytes_eq}
@@ -29,7 +29,6 @@ use Rattle.pg_fds.specs.Places.{Declared}
 use Rattle.pg_fds.specs.Said.{text_at}
 use Rattle.pg_fds.specs.States.{StatesEntry}
 use Rattle.pg_fds.specs.Views.{FieldView, field_view}
-use Rattle.pg_fds.proofs.Matched.{differ_apart}
 
 abbrev pub called : Field → List ℕ
 called f = entry_name (string_bytes f.name)

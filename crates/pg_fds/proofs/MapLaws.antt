@@ -30,7 +30,7 @@ use Rattle.pg_fds.specs.declared.outline.Named.{Named}
 use Rattle.pg_fds.specs.declared.outline.Named.TheVariants as nameds
 use Rattle.pg_fds.specs.Fields.{element_code, element_name, label, named_type, type_code}
 use Rattle.pg_fds.specs.Lent.{lent}
-use Rattle.pg_fds.specs.Made.{HasNamedEntry, HasNames, Means, StatesElement, StatesKnown, StatesPresence, is_entry_type}
+use Rattle.pg_fds.specs.Made.{HasNamedEntry, Means, StatesElement, StatesKnown, StatesPresence, is_entry_type}
 use Rattle.pg_fds.specs.Places.{Declared}
 use Rattle.pg_fds.specs.Said.{maybe_text_at, number_at, text_at}
 use Rattle.pg_fds.specs.States.{AreKeyAndValue, StatesEntry, StatesEntryField, StatesField}
@@ -120,14 +120,6 @@ module _ {Y : Type 0} (all : Declared) (names : BTreeMap (String Y) Named) (scop
       of : (b : Bool) → is_map f.presence ≡ b → IsUtf8 (text_at 6 m)
       of true map = subst (λ o. IsUtf8 (unwrap_or o [])) (sym (map_name map)) (dot_before (within scope (entry_name (string_bytes f.name))) (text_named names (within scope (entry_name (string_bytes f.name))) nameds.Entry (is.entry map)))
       of false plain = name_text all m f.element (plain_element plain)
-
-  -- no map is without a name
-  pub unnamed_plain : maybe_text_at 6 m ≡ None → false ≡ is_map f.presence
-  unnamed_plain none = of (is_map f.presence) refl
-    where
-      of : (b : Bool) → is_map f.presence ≡ b → false ≡ b
-      of true map = absurd (none-some (46 ∷ within scope (entry_name (string_bytes f.name))) (sym none ∙ map_name map))
-      of false plain = refl
 
 -- ---- entry types
 

@@ -16,7 +16,6 @@ use Rattle.pg_schema.specs.Pairs.{are_distinct, differ}
 use Rattle.pg_schema.specs.TextSets.{is_among}
 use Rattle.pg_schema.proofs.PairLemmas.{and_left, and_right}
 use Rattle.pg_fds.specs.declared.error.Unstated.{Unstated}
-use Rattle.pg_fds.specs.declared.error.Unstated.TheVariants as errors
 use Rattle.pg_fds.specs.declared.outline.Named.{Named}
 use Rattle.pg_fds.specs.declared.outline.Named.TheVariants as nameds
 use Rattle.pg_fds.specs.SetNames.{AreFree, Declares, IsPackageOrNone, WantsMemory}
@@ -44,9 +43,6 @@ wants_first packages a b table e wants = λ later free. wants (b ++ later) (subs
 
 pub wants_later : {Y : Type 0} (packages : Names) (a b : Names) (old mid : Table Y) (e : Unstated) → Declares packages a old mid → WantsMemory packages b mid e → WantsMemory packages (a ++ b) old e
 wants_later packages a b old mid e first wants = λ later free. wants later (first.free (b ++ later) (subst (AreFree packages old) (append_assoc a b later) free))
-
-pub memory_wanted : {Y : Type 0} (packages : Names) (names : Names) (table : Table Y) (e : Unstated) → e ≡ errors.Memory → WantsMemory packages names table e
-memory_wanted packages names table e is = λ later free. is
 
 -- ---- one name
 
@@ -153,11 +149,6 @@ module _ {Y : Type 0} (name : List ℕ) (old new : Table Y) (step : (other : Lis
       ];
     };
   }
-
--- a name that is there, and no part of a package, is none
-pub part_there : {Y : Type 0} (name : List ℕ) (its : Named) (table : Table Y) (e : Unstated) → get_by_text table name ≡ Some its → (its ≡ nameds.Package → ⊥) → (packages : Names) (whole : List ℕ) → is_among packages whole ≡ true → is_front name whole ≡ true
-    → WantsMemory packages [] table e
-part_there name its table e there other packages whole among front = λ later free. absurd (other (subst IsPackageOrNone there (free.parts whole name among front)))
 
 -- a text is a part of itself, and so is what stands before a dot of it
 pub whole_front : (text : List ℕ) → is_front text text ≡ true

@@ -20,6 +20,7 @@ use Rattle.pg_fds.specs.Reads.{States, kept_files, skips}
 use Rattle.pg_fds.specs.Refused.{IsOfBytes, MayRefuseSet, NoneIsStated, StatesNone, StatesNoneInOrder}
 use Rattle.pg_fds.specs.StatesFiles.{is_proto3, most_deep}
 use Rattle.pg_fds.proofs.StatedFiles.{stated_proto3, stated_types}
+use Rattle.pg_fds.proofs.TurnedSets.{none_at_all}
 
 both_said : {A : Type 0} (o : Option A) (P Q : A → Type 0) → ((x : A) → P x → Q x → ⊥) → IsSomeAnd o P → IsSomeAnd o Q → ⊥
 both_said None P Q apart h k = h
@@ -52,5 +53,5 @@ none_stated real bytes errors.BadType may found =
     λ parts sound reads.
     both_said (dec written_shape file_set bytes) (λ set. (list_all is_proto3 (kept_files set) ≡ true) × (list_all file_has_types (kept_files set) ≡ false)) (λ set. States set parts)
     (λ set other states. false≢true (sym other.1 ∙ stated_types (skips set) (kept_files set) parts sound states)) may reads
-none_stated real bytes errors.BadReference may found = found (λ h. h)
-none_stated real bytes (errors.Rule e) may found = found (λ h. h)
+none_stated real bytes errors.BadReference may found = λ parts held. none_at_all parts held (dec written_shape file_set bytes) (found (λ h. h))
+none_stated real bytes (errors.Rule e) may found = λ parts held. none_at_all parts held (dec written_shape file_set bytes) (found (λ h. h))

@@ -7,7 +7,6 @@ use Rattle.std.specs.Str.{bytes_eq}
 use denote.Ref.{Bor}
 use Rattle.pg_dyn.specs.Kept.{Kept, message_of}
 use Rattle.pg_dyn.specs.Message.{Message}
-use Rattle.pg_fds.specs.FilePlaces.{AreOrdered, name_at}
 use Rattle.pg_fds.specs.Lent.{lent}
 use Rattle.pg_fds.specs.PostOrder.{Importer, IsPostOrder, Visits, all_visited, imports_at, listed_last, passed_over, paths_of}
 
@@ -54,11 +53,6 @@ module _ (leads : Text → Option (List Text)) where
 
 pub one_post_order : (skips : Bool) (files : List Importer) (first second : List Text) → IsPostOrder skips files first → IsPostOrder skips files second → first ≡ second
 one_post_order skips files first second a b = one_list (imports_at skips files) [] (paths_of files) first a second b
-
--- two orders of the same files name the same files at each place
-pub one_order : (skips : Bool) (files : List Importer) (first second : List ℕ) → AreOrdered skips files first → AreOrdered skips files second
-    → map (name_at (paths_of files)) first ≡ map (name_at (paths_of files)) second
-one_order skips files first second a b = one_post_order skips files (map (name_at (paths_of files)) first) (map (name_at (paths_of files)) second) a.order b.order
 
 -- ---- what holds of all messages
 

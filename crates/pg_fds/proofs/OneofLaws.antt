@@ -1,5 +1,5 @@
 -- Places that are marked, and the oneofs there.
-use Rattle.std.proofs.Common.{◌≡◌, ◌≢◌, ℕ, zero, suc, ◌+◌, ◌<◌, ℤ, pos, Bool, true, false, ◌&&◌, ◌||◌, nat_eq, nat_lt, List, [], ◌∷◌, String, map, length, take, get_or, Option, None, Some, slice_get, refl, ap, sym, subst, ◌∙◌, arith, add-one}
+use Rattle.std.proofs.Common.{◌≡◌, ◌≢◌, ℕ, zero, suc, ◌+◌, ◌<◌, ℤ, pos, Bool, true, false, ◌||◌, nat_eq, nat_lt, List, [], ◌∷◌, String, map, length, take, get_or, Option, None, Some, slice_get, refl, ap, sym, subst, ◌∙◌, arith, add-one}
 use Rattle.std.proofs.Math.ListN.{set, length-set}
 use Rattle.std.proofs.lemmas.Bool.Decides.{nat_tests}
 use Rattle.std.proofs.lemmas.Grind.{get_or-set_at}
@@ -7,8 +7,7 @@ use Rattle.std.proofs.lemmas.List.{get_or-set_other}
 use Rattle.std.proofs.lemmas.Option.{none-some}
 use Rattle.std.proofs.lemmas.Str.{IsUtf8-string_bytes}
 use Rattle.std.proofs.lemmas.Bool.{false≢true}
-use Rattle.std.specs.Prelude.{IsSomeAnd, if◌then◌else◌}
-use Rattle.std.specs.List.{AllByRecursion, list_all}
+use Rattle.std.specs.Prelude.{IsSomeAnd}
 use Rattle.std.specs.Str.{IsUtf8}
 use Rattle.std.specs.String.{string_bytes}
 use denote.Ref.{Bor}
@@ -17,7 +16,7 @@ use Rattle.pg_dyn.specs.Message.{Message}
 use Rattle.pg_fds.specs.Lent.{lent}
 use Rattle.pg_fds.specs.Said.{text_at}
 use Rattle.pg_fds.specs.StatesFiles.{is_place}
-use Rattle.pg_fds.specs.StatesTypes.{AreMarked, NamesOneof, is_at, is_marked, real_oneofs}
+use Rattle.pg_fds.specs.StatesTypes.{AreMarked, NamesOneof, is_at, is_marked}
 use Rattle.pg_fds.proofs.Zips.{seen_got, seen_length}
 
 -- the item at a place, as a look-up finds it
@@ -143,14 +142,3 @@ marks_step numbers i place count marks h is below marked = record {
         get_or-set_at marks place p true false same room ∙ sym (more p true e ∙ or_true (is_marked (take i numbers) p))
     one p within false e =
         get_or-set_other marks place p true false (other_place place p e) ∙ (marked.each p within ∙ sym (more p false e ∙ or_no (is_marked (take i numbers) p)))
-
--- ---- numbers of places
-
-pub none_place : (test : ℤ → Bool) (numbers : List ℤ) (i : ℕ) (n : ℤ) → i < length numbers → n ≡ get_or numbers i n → test n ≡ false → list_all test numbers ≡ false
-none_place test [] i n h is fails = absurd (omega (arith, h))
-none_place test (x ∷ xs) zero n h is fails = ap (λ b. b && list_all test xs) (ap test (sym is) ∙ fails)
-none_place test (x ∷ xs) (suc i) n h is fails = ap (λ b. test x && b) (none_place test xs i n (omega (arith, h)) is fails) ∙ and_no (test x)
-  where
-    and_no : (b : Bool) → (b && false) ≡ false
-    and_no true = refl
-    and_no false = refl

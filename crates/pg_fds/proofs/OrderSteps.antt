@@ -1,5 +1,5 @@
 -- Files and paths, as loops come to them.
-use Rattle.std.proofs.Common.{◌≡◌, ℕ, zero, suc, ◌+◌, ◌<◌, ◌≤◌, Bool, true, false, cond, not, ◌&&◌, List, [], ◌∷◌, ◌++◌, length, map, take, drop, get_or, Vec, Global, Result, Err, IfErr, Some, slice_get, refl, ap, ap₂, sym, subst, ◌∙◌, arith, add-one}
+use Rattle.std.proofs.Common.{◌≡◌, ℕ, zero, suc, ◌+◌, ◌<◌, ◌≤◌, Bool, true, false, cond, not, ◌&&◌, List, [], ◌∷◌, ◌++◌, length, map, take, drop, get_or, Result, Err, IfErr, Some, slice_get, refl, ap, ap₂, sym, subst, ◌∙◌, arith, add-one}
 use Rattle.std.specs.List.{list_all}
 use denote.Ref.{Bor}
 use Rattle.pg_schema.specs.Pairs.{are_distinct}
@@ -10,7 +10,6 @@ use Rattle.pg_fds.specs.Lent.{lent}
 use Rattle.pg_fds.specs.FilePlaces.{StandAt, importer, importers}
 use Rattle.pg_fds.specs.PostOrder.{Importer, imports_once, kept_paths, paths_of}
 use Rattle.pg_fds.specs.StatesFiles.{is_descriptor}
-use Rattle.pg_fds.specs.Walks.{lists_of}
 
 suc_of : {A B : Type 0} (f : A → B) (xs : List A) (i : ℕ) (x : A) → i < length xs → x ≡ get_or xs i x → map f (take (suc i) xs) ≡ map f (take i xs) ++ f x ∷ []
 suc_of f [] i x h is = absurd (omega (arith, h))
@@ -119,19 +118,6 @@ pub once_more : (files : List Importing) (i : ℕ) (f : Importing) → i < lengt
     → list_all imports_once (importers (take (i + 1) files)) ≡ true
 once_more files i f h is before here = subst (λ xs. list_all imports_once xs ≡ true) (sym (one_step importer files i f h is)) (all_more imports_once (importers (take i files)) (importer f) before here)
 
--- one file more
-pub imports_more : (skips : Bool) (paths : List (List ℕ)) (files : List Importing) (i : ℕ) (f : Importing) (old new : List (Vec ℕ Global)) (own : Vec ℕ Global) → i < length files → f ≡ get_or files i f
-    → new ≡ old ++ own ∷ [] → StandAt paths own.items (kept_paths skips (lent f.paths.items))
-    → map (map (slice_get paths)) (lists_of old) ≡ map (λ (x : Importer). map (λ t. Some t) (kept_paths skips x.imports)) (importers (take i files))
-    → map (map (slice_get paths)) (lists_of new) ≡ map (λ (x : Importer). map (λ t. Some t) (kept_paths skips x.imports)) (importers (take (i + 1) files))
-imports_more skips paths files i f old new own h is grown here before =
-    ap (λ vs. map (map (slice_get paths)) (lists_of vs)) grown
-    ∙ (ap (map (map (slice_get paths))) (map_more (λ (v : Vec ℕ Global). v.items) old own)
-    ∙ (map_more (map (slice_get paths)) (lists_of old) own.items
-    ∙ (ap₂ (λ xs x. xs ++ x ∷ []) before here
-    ∙ (sym (map_more (λ (x : Importer). map (λ t. Some t) (kept_paths skips x.imports)) (importers (take i files)) (importer f))
-    ∙ ap (map (λ (x : Importer). map (λ t. Some t) (kept_paths skips x.imports))) (sym (one_step importer files i f h is))))))
-
 pub paths_step : (files : List Importing) (i : ℕ) (f : Importing) → i < length files → f ≡ get_or files i f → paths_of (importers (take (i + 1) files)) ≡ paths_of (importers (take i files)) ++ f.name.now ∷ []
 paths_step files i f h is = ap paths_of (one_step importer files i f h is) ∙ map_more (λ (x : Importer). x.path) (importers (take i files)) (importer f)
 
@@ -148,10 +134,6 @@ pub paths_long : (files : List Importing) (i : ℕ) → i ≤ length files → i
 paths_long files zero h = refl
 paths_long [] (suc i) h = absurd (omega (arith, h))
 paths_long (f ∷ files) (suc i) h = ap suc (paths_long files i (omega (arith, h)))
-
-pub paths_count : (files : List Importing) → length files ≡ length (paths_of (importers files))
-paths_count [] = refl
-paths_count (f ∷ files) = ap suc (paths_count files)
 
 -- an error that is handed on
 pub handed_on : {T E : Type 0} (r : Result T E) (Q : E → Type 0) (x y : E) → r ≡ Err y → y ≡ x → Q x → IfErr r Q

@@ -27,10 +27,6 @@ front_at [] x i h = absurd (omega (arith, h))
 front_at (y ∷ xs) x zero h = refl
 front_at (y ∷ xs) x (suc i) h = front_at xs x i (omega (arith, h))
 
-long_more : {A : Type 0} (xs : List A) (x : A) → length (xs ++ x ∷ []) ≡ suc (length xs)
-long_more [] x = refl
-long_more (y ∷ xs) x = ap suc (long_more xs x)
-
 -- what stands at a place stood there before, or is the last
 either_at : {A : Type 0} (xs : List A) (x : A) (i : ℕ) (y : A) → slice_get (xs ++ x ∷ []) i ≡ Some y → (slice_get xs i ≡ Some y) ⊎ ((i ≡ length xs) × (x ≡ y))
 either_at [] x zero y is = inr (refl, same_Some x y is)

@@ -184,10 +184,6 @@ pub none_found : {A B : Type 0} (f : A → B) (xs : List A) (ys : List B) → le
 none_found f [] ys none is = sym is
 none_found f (x ∷ xs) ys none is = absurd (omega (arith, none))
 
-pub some_found : {A B : Type 0} (f : A → B) (xs : List A) (ys : List B) → (length xs ≡ 0 → ⊥) → map f xs ≡ ys → ys ≡ [] → ⊥
-some_found f [] ys some is none = some refl
-some_found f (x ∷ xs) ys some is none = cc (is ∙ none)
-
 pub own_package : (at : List ℕ) → is_among (at ∷ []) at ≡ true
 own_package at = ap (λ b. b || false) ((bytes_eq-Decides at at).1 refl)
 

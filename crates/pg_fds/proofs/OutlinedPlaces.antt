@@ -1,7 +1,7 @@
 -- The places that message types and files keep, as loops come to them.
-use Rattle.std.proofs.Common.{◌≡◌, ℕ, zero, suc, ◌+◌, ◌-◌, ◌<◌, List, [], ◌∷◌, ◌++◌, map, length, take, get_or, refl, ap, ap₂, sym, ◌∙◌, arith, append_assoc, append-nil, length-append}
+use Rattle.std.proofs.Common.{◌≡◌, ℕ, zero, suc, ◌+◌, ◌-◌, ◌<◌, List, [], ◌∷◌, ◌++◌, map, length, take, get_or, refl, ap, ap₂, sym, ◌∙◌, arith, append_assoc, append-nil}
 use Rattle.std.proofs.Math.ListN.{set}
-use Rattle.std.proofs.lemmas.List.{length-map, map-set}
+use Rattle.std.proofs.lemmas.List.{map-set}
 use denote.Ref.{Bor}
 use Rattle.pg_dyn.specs.Kept.{Kept, message_of}
 use Rattle.pg_dyn.specs.Message.{Message}
@@ -72,10 +72,6 @@ placed_inside old place found grown types enums front behind r there made is at 
     let row : record { named = type_row found; types = types; enums = enums } ≡ record { named = r.named; types = types; enums = enums } =
     ap (λ (p : PlacedType). record { named = p.named; types = types; enums = enums }) same in
     map-set placed_type old place grown ∙ (ap₂ (λ xs n. set xs n (placed_type grown)) is (sym at) ∙ (set_middle front r (placed_type grown) behind ∙ ap (λ p. front ++ p ∷ behind) (made ∙ row)))
-
--- such a place is there
-pub is_inside : (old : List OutlinedType) (place : ℕ) (front behind : List PlacedType) (r : PlacedType) → map placed_type old ≡ front ++ r ∷ behind → length front ≡ place → place < length old
-is_inside old place front behind r is at = omega (arith, at, ap length is, length-append front (r ∷ behind), length-map old placed_type)
 
 -- a message type, with what is inside it
 pub placed_on : (depth : ℕ) (scope at : List ℕ) (m : Message) (within : List Message) (mid a b new : List PlacedType) (counts : Counts) (types enums : List ℕ) (count own : ℕ) → at ≡ full_name scope m → within ≡ inner_types m

@@ -2,25 +2,26 @@
 use Rattle.std.proofs.Common.{◌≡◌, ℕ, zero, suc, ◌+◌, ◌⊎◌, inl, inr, true, List, [], ◌∷◌, Option, Some, None, Result, Ok, Err, IfErr, IfOk, slice_get, refl, subst, sym, ◌∙◌, arith}
 use Rattle.std.proofs.lemmas.Bool.{false≢true}
 use Rattle.std.proofs.lemmas.Result.{IfOk-weaker}
-use Rattle.std.specs.List.{AllByRecursion, list_all}
+use Rattle.std.specs.List.{list_all}
 use Rattle.pg_schema.specs.declared.field.TypeId.{TypeId}
 use Rattle.pg_schema.specs.declared.file.File.{File}
 use Rattle.pg_schema.specs.declared.message_type.MessageType.{MessageType}
 use Rattle.pg_schema.specs.declared.parts.Parts.{Parts}
-use Rattle.pg_schema.specs.Sound.{IsSound}
 use Rattle.pg_schema.proofs.PairLemmas.{and_both, and_left, and_right}
 use Rattle.pg_dyn.specs.declared.error.DynError.{DynError}
 use Rattle.pg_dyn.specs.declared.error.DynError.TheVariants as faults
 use Rattle.pg_fds.specs.declared.error.FdsError.{FdsError}
 use Rattle.pg_fds.specs.declared.error.FdsError.TheVariants as errors
 use Rattle.pg_fds.specs.Again.{IsNotTooDeep, IsReadable, are_shallow, holds_inside, nest_within}
+use Rattle.pg_fds.specs.InOrder.{StandInOrder}
 use Rattle.pg_fds.specs.ReadAgain.{IsReadAgain, IsTooLong, MayRefuseAgain}
-use Rattle.pg_fds.specs.Reads.{CanBeRead, fds_reads}
+use Rattle.pg_fds.specs.Reads.{IsHeld, fds_reads}
 use Rattle.pg_fds.specs.Refused.{MayRefuseSet, NoneIsStated}
 use Rattle.pg_fds.specs.Set.{fds}
-use Rattle.pg_fds.specs.Small.{IsSmallEnum}
+use Rattle.pg_fds.specs.SetOrder.{in_set_order}
 use Rattle.pg_fds.specs.StatesFiles.{most_deep}
 use Rattle.pg_fds.specs.Views.{parts_view}
+use Rattle.pg_fds.proofs.TurnedSame.{in_order_same}
 
 -- ---- what is nested less deep may be nested deeper
 
@@ -68,41 +69,47 @@ module _ (parts : Parts) (again : IsReadAgain parts) where
   pub readable : IsReadable parts
   readable = record { imports_once = again.imports_once; behind = again.behind; shallow = files_deeper parts.types.items parts.files.items again.shallow }
 
-  pub can_be_read : IsSound parts → AllByRecursion IsSmallEnum parts.enums.items → CanBeRead parts
-  can_be_read sound small =
-      record { sound = sound; places = again.places; numbers = small; few_enums = again.few_enums; few_services = again.few_services }
-
 -- ---- bytes that state it are refused for want of memory alone
 
-module _ (parts : Parts) (bytes : List ℕ) (able : CanBeRead parts) (states : fds_reads bytes parts) (level : IsNotTooDeep bytes) where
+module _ (parts : Parts) (bytes : List ℕ) (held : IsHeld parts) (states : fds_reads bytes parts) (level : IsNotTooDeep bytes) where
   by_codec : (e : DynError) → MayRefuseSet bytes (errors.Bytes e) → NoneIsStated bytes (errors.Bytes e) → ⊥
   by_codec faults.Memory may none = may.0 refl
   by_codec (faults.TooDeep at) may none = level at may.1
-  by_codec faults.NoSuchField may none = none parts able.sound states
-  by_codec faults.WrongKind may none = none parts able.sound states
-  by_codec faults.OutOfRange may none = none parts able.sound states
-  by_codec (faults.NotUtf8 at) may none = none parts able.sound states
-  by_codec faults.OneofTwice may none = none parts able.sound states
-  by_codec faults.DuplicateKey may none = none parts able.sound states
-  by_codec faults.TooLong may none = none parts able.sound states
-  by_codec (faults.Wire e) may none = none parts able.sound states
+  by_codec faults.NoSuchField may none = none parts held.sound states
+  by_codec faults.WrongKind may none = none parts held.sound states
+  by_codec faults.OutOfRange may none = none parts held.sound states
+  by_codec (faults.NotUtf8 at) may none = none parts held.sound states
+  by_codec faults.OneofTwice may none = none parts held.sound states
+  by_codec faults.DuplicateKey may none = none parts held.sound states
+  by_codec faults.TooLong may none = none parts held.sound states
+  by_codec (faults.Wire e) may none = none parts held.sound states
 
   pub memory_alone : (e : FdsError) → MayRefuseSet bytes e → NoneIsStated bytes e → e ≡ errors.Memory
   memory_alone errors.Memory may none = refl
   memory_alone (errors.Bytes e) may none = absurd (by_codec e may none)
-  memory_alone errors.NotProto3 may none = absurd (none parts able.sound states)
-  memory_alone errors.BadType may none = absurd (none parts able.sound states)
-  memory_alone errors.BadReference may none = absurd (none parts able states)
-  memory_alone (errors.Rule e) may none = absurd (none parts able states)
+  memory_alone errors.NotProto3 may none = absurd (none parts held.sound states)
+  memory_alone errors.BadType may none = absurd (none parts held.sound states)
+  memory_alone errors.BadReference may none = absurd (none parts held states)
+  memory_alone (errors.Rule e) may none = absurd (none parts held states)
 
-module _ (parts : Parts) (bytes slice : List ℕ) (lent : slice ≡ bytes) (r : Result Parts FdsError) (sound : IsSound parts) (small : AllByRecursion IsSmallEnum parts.enums.items) (states : IsReadable parts → fds_reads bytes parts) where
+module _ (parts : Parts) (bytes slice : List ℕ) (lent : slice ≡ bytes) (r : Result Parts FdsError) (held : IsHeld parts) (states : IsReadable parts → fds_reads bytes parts) where
   states_lent : (again : IsReadAgain parts) → fds_reads slice parts
   states_lent again = subst (λ bs. fds_reads bs parts) (sym lent) (states (readable parts again))
 
-  pub read_same : IfOk r (λ made. (ps : Parts) → CanBeRead ps → fds_reads slice ps → parts_view made ≡ parts_view ps) → IfOk r (λ made. IsReadAgain parts → parts_view made ≡ parts_view parts)
+  abbrev SaysTheSame : Type 0
+  SaysTheSame = IfOk r (λ made. (ps : Parts) → IsHeld ps → fds_reads slice ps → parts_view made ≡ parts_view (in_set_order ps))
+
+  pub read_same : SaysTheSame → IfOk r (λ made. IsReadAgain parts → parts_view made ≡ parts_view (in_set_order parts))
   read_same h =
-      IfOk-weaker r (λ made. (ps : Parts) → CanBeRead ps → fds_reads slice ps → parts_view made ≡ parts_view ps) (λ made. IsReadAgain parts → parts_view made ≡ parts_view parts)
-      (λ made same again. same parts (can_be_read parts again sound small) (states_lent again)) h
+      IfOk-weaker r (λ made. (ps : Parts) → IsHeld ps → fds_reads slice ps → parts_view made ≡ parts_view (in_set_order ps))
+      (λ made. IsReadAgain parts → parts_view made ≡ parts_view (in_set_order parts))
+      (λ made same again. same parts held (states_lent again)) h
+
+  pub read_exact : SaysTheSame → IfOk r (λ made. IsReadAgain parts → StandInOrder parts → parts_view made ≡ parts_view parts)
+  read_exact h =
+      IfOk-weaker r (λ made. IsReadAgain parts → parts_view made ≡ parts_view (in_set_order parts))
+      (λ made. IsReadAgain parts → StandInOrder parts → parts_view made ≡ parts_view parts)
+      (λ made same again places. same again ∙ in_order_same parts held.sound places) (read_same h)
 
   pub read_refused : (are_shallow parts ≡ true → IsNotTooDeep bytes) → IfErr r (MayRefuseSet slice) → IfErr r (NoneIsStated slice) → IfErr r (λ e. IsReadAgain parts → (e ≡ errors.Memory) ⊎ IsTooLong parts e)
   read_refused level may none = all r may none
@@ -110,7 +117,7 @@ module _ (parts : Parts) (bytes slice : List ℕ) (lent : slice ≡ bytes) (r : 
       all : (o : Result Parts FdsError) → IfErr o (MayRefuseSet slice) → IfErr o (NoneIsStated slice) → IfErr o (λ e. IsReadAgain parts → (e ≡ errors.Memory) ⊎ IsTooLong parts e)
       all (Ok made) may none = tt
       all (Err e) may none =
-          λ again. inl (memory_alone parts slice (can_be_read parts again sound small) (states_lent again) (subst IsNotTooDeep (sym lent) (level again.shallow)) e may none)
+          λ again. inl (memory_alone parts slice held (states_lent again) (subst IsNotTooDeep (sym lent) (level again.shallow)) e may none)
 
 -- ---- what is told of any schema
 

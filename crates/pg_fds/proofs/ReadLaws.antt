@@ -1,5 +1,5 @@
 -- What a set that was read says of its files, and why it may be refused.
-use Rattle.std.proofs.Common.{◌≡◌, ℕ, Bool, true, List, map, filter, not, Some, Result, Ok, Err, IfOk, IfErr, ◌⊎◌, inl, inr, refl, ap, sym, subst, ◌∙◌}
+use Rattle.std.proofs.Common.{◌≡◌, ℕ, Bool, true, List, [], ◌∷◌, map, filter, not, Some, Result, Ok, Err, IfOk, IfErr, ◌⊎◌, inl, inr, refl, ap, sym, subst, ◌∙◌}
 use Rattle.std.proofs.lemmas.Result.{IfErr-weaker, IfOk-weaker, err_from_is_err_and}
 use Rattle.std.specs.Prelude.{IsErrAnd, IsSomeAnd}
 use Rattle.std.specs.List.{AllByRecursion, list_all, list_any}
@@ -11,7 +11,8 @@ use Rattle.pg_check.specs.declared.error.CheckError.{CheckError}
 use Rattle.pg_check.specs.declared.error.CheckError.TheVariants as rules
 use Rattle.pg_check.specs.PartErrors.{IsRefusedOf, bad, first, lacking}
 use Rattle.pg_dyn.specs.Decoding.{dec}
-use Rattle.pg_dyn.specs.Kept.{Kept, message_of}
+use Rattle.pg_dyn.specs.Fits.{Fits}
+use Rattle.pg_dyn.specs.Kept.{Kept, message_of, type_of}
 use Rattle.pg_dyn.specs.Message.{Message}
 use Rattle.pg_fds.specs.declared.error.FdsError.{FdsError}
 use Rattle.pg_fds.specs.declared.error.FdsError.TheVariants as errors
@@ -21,12 +22,14 @@ use Rattle.pg_fds.specs.Building.{written_shape}
 use Rattle.pg_fds.specs.Codes.{file_has_types}
 use Rattle.pg_fds.specs.Descriptor.{file_set}
 use Rattle.pg_fds.specs.Lent.{lent}
-use Rattle.pg_fds.specs.Reads.{CanBeRead, States, StatesFiles, fds_reads, kept_files, skips}
-use Rattle.pg_fds.specs.Refused.{BreaksRule, IsOfBytes, IsOfParts, MayRefuseFiles, MayRefuseSet, StatesNoneInOrder}
+use Rattle.pg_fds.specs.Reads.{CanBeMade, CanBeRead, States, StatesFiles, fds_reads, kept_files, skips}
+use Rattle.pg_fds.specs.Refused.{BreaksRule, HasTexts, IsOfBytes, IsOfParts, MayRefuseFiles, MayRefuseSet, StatesNoneInOrder}
 use Rattle.pg_fds.specs.Said.{children_at, text_at}
 use Rattle.pg_fds.specs.StatesFiles.{is_proto3, is_skipped}
 use Rattle.pg_fds.specs.Views.{parts_view}
 use Rattle.pg_fds.proofs.FileStateLaws.{all_named}
+use Rattle.pg_fds.proofs.FitTexts.{filtered_texts, kept_texts}
+use Rattle.pg_fds.proofs.SoundNumbers.{kept_numbers_small}
 use Rattle.pg_fds.proofs.StatedFiles.{stated_texts}
 
 -- the files that aren't skipped are those of the set
@@ -68,12 +71,14 @@ refused_of_parts files proto3 typed errors.Memory h = tt
 refused_of_parts files proto3 typed (errors.Bytes e) h = h
 refused_of_parts files proto3 typed errors.NotProto3 h = absurd h
 refused_of_parts files proto3 typed errors.BadType h = absurd h
-refused_of_parts files proto3 typed errors.BadReference h = tt
+refused_of_parts files proto3 typed errors.BadReference h = (proto3, typed)
 refused_of_parts files proto3 typed (errors.Rule e) h = (proto3, typed, h)
 
 -- what is told once files and types were looked at
-pub refused_later : (files : List Message) (r : Result Parts FdsError) → list_all is_proto3 files ≡ true → list_all file_has_types files ≡ true → IfErr r IsOfParts → IfErr r (MayRefuseFiles files)
-refused_later files r proto3 typed h = IfErr-weaker r IsOfParts (MayRefuseFiles files) (refused_of_parts files proto3 typed) h
+pub refused_later : (files : List Message) (r : Result Parts FdsError) → list_all is_proto3 files ≡ true → list_all file_has_types files ≡ true → IfErr r IsOfParts
+    → IfErr r (λ e. AllByRecursion HasTexts files → MayRefuseFiles files e)
+refused_later files r proto3 typed h =
+    IfErr-weaker r IsOfParts (λ e. AllByRecursion HasTexts files → MayRefuseFiles files e) (λ e of_parts texts. refused_of_parts files proto3 typed e of_parts) h
 
 -- want of memory and a bad reference
 abbrev IsTold : Unstated → FdsError → Type 0
@@ -89,12 +94,22 @@ memory_told u e (inr reference) is = absurd (apart (sym is ∙ reference.0))
 
 -- where such a schema is stated, the refusal is want of memory
 abbrev WantsMemory : {T : Type 0} → (Parts → Type 0) → Result T FdsError → Type 0
-WantsMemory Stated r = IfErr r (λ e. (parts : Parts) → CanBeRead parts → Stated parts → e ≡ errors.Memory)
+WantsMemory Stated r = IfErr r (λ e. (parts : Parts) → CanBeMade parts → Stated parts → e ≡ errors.Memory)
 
-pub none_told : {T : Type 0} (r : Result T FdsError) (Stated : Parts → Type 0) (u : Unstated) → IsErrAnd r (IsTold u) → ((parts : Parts) → CanBeRead parts → Stated parts → u ≡ unstated.Memory) → WantsMemory Stated r
+pub none_told : {T : Type 0} (r : Result T FdsError) (Stated : Parts → Type 0) (u : Unstated) → IsErrAnd r (IsTold u) → ((parts : Parts) → CanBeMade parts → Stated parts → u ≡ unstated.Memory) → WantsMemory Stated r
 none_told r Stated u told none =
     let (e, is, h) = err_from_is_err_and r told in
     subst (WantsMemory Stated) (sym is) (λ parts can states. memory_told u e h (none parts can states))
+
+-- what is told of the files where the names and syntaxes of those messages are texts
+abbrev IsRefused : {T : Type 0} → (ms files : List Message) → Result T FdsError → Type 0
+IsRefused ms files r = IfErr r (λ e. AllByRecursion HasTexts ms → MayRefuseFiles files e)
+
+-- where they are, the refusal is want of memory
+pub refused_for_memory : {T : Type 0} (ms files : List Message) (r : Result T FdsError) (u : Unstated) → IsErrAnd r (IsTold u) → (AllByRecursion HasTexts ms → u ≡ unstated.Memory) → IsRefused ms files r
+refused_for_memory ms files r u told memory =
+    let (e, is, h) = err_from_is_err_and r told in
+    subst (IsRefused ms files) (sym is) (λ texts. subst (MayRefuseFiles files) (sym (memory_told u e h (memory texts))) tt)
 
 -- sound parts are refused for want of memory alone
 pub sound_refused : (parts : Parts) (e : CheckError) → IsRefusedOf parts e → IsSound parts → e ≡ rules.Memory
@@ -115,44 +130,71 @@ refused_set bytes set is errors.BadType h = subst (λ r. IsSomeAnd r (λ s. MayR
 refused_set bytes set is errors.BadReference h = subst (λ r. IsSomeAnd r (λ s. MayRefuseFiles (kept_files s) errors.BadReference)) (sym is) h
 refused_set bytes set is (errors.Rule e) h = subst (λ r. IsSomeAnd r (λ s. MayRefuseFiles (kept_files s) (errors.Rule e))) (sym is) h
 
-pub bytes_refused : (bytes : List ℕ) (set : Message) (r : Result Parts FdsError) → dec written_shape file_set bytes ≡ Some set → IfErr r (MayRefuseFiles (kept_files set)) → IfErr r (MayRefuseSet bytes)
-bytes_refused bytes set r is h = IfErr-weaker r (MayRefuseFiles (kept_files set)) (MayRefuseSet bytes) (refused_set bytes set is) h
-
 pub bytes_read : (bytes : List ℕ) (set : Message) (r : Result Parts FdsError) → dec written_shape file_set bytes ≡ Some set → IfOk r (λ parts. States set parts) → IfOk r (λ parts. fds_reads bytes parts)
 bytes_read bytes set r is h =
     IfOk-weaker r (λ parts. States set parts) (λ parts. fds_reads bytes parts) (λ parts states. subst (λ d. IsSomeAnd d (λ s. States s parts)) (sym is) states) h
+
+-- the names of all files are texts
+pub texts_named : (set : Message) (all : List (Bor Kept)) → map message_of (lent all) ≡ children_at 1 set → AllByRecursion HasTexts (children_at 1 set)
+    → AllByRecursion IsUtf8 (map (text_at 1) (map message_of (lent all)))
+texts_named set all seen texts = subst (λ ms. AllByRecursion IsUtf8 (map (text_at 1) ms)) (sym seen) (names (children_at 1 set) texts)
+  where
+    names : (ms : List Message) → AllByRecursion HasTexts ms → AllByRecursion IsUtf8 (map (text_at 1) ms)
+    names [] texts = tt
+    names (m ∷ ms) texts = (texts.0.name, names ms texts.1)
+
+-- what is told of the files that aren't left out
+pub set_refused : (set : Message) (files : List (Bor Kept)) (r : Result Parts FdsError) → map message_of (lent files) ≡ kept_files set
+    → IsRefused (map message_of (lent files)) (map message_of (lent files)) r → IsRefused (children_at 1 set) (kept_files set) r
+set_refused set files r kept h =
+    IfErr-weaker r (λ e. AllByRecursion HasTexts (kept_files set) → MayRefuseFiles (kept_files set) e) (λ e. AllByRecursion HasTexts (children_at 1 set) → MayRefuseFiles (kept_files set) e)
+    (λ e may texts. may (filtered_texts (λ m. not (is_skipped m)) (children_at 1 set) texts)) (subst (λ ms. IsRefused ms ms r) kept h)
 
 pub set_none : (set : Message) (skip : Bool) (all files : List (Bor Kept)) (r : Result Parts FdsError) → map message_of (lent all) ≡ children_at 1 set
     → skip ≡ list_any is_skipped (map message_of (lent all)) → map message_of (lent files) ≡ kept_files set
     → WantsMemory (StatesFiles skip (map message_of (lent files))) r → WantsMemory (States set) r
 set_none set skip all files r seen skipped kept h =
-    IfErr-weaker r (λ e. (parts : Parts) → CanBeRead parts → StatesFiles skip (map message_of (lent files)) parts → e ≡ errors.Memory) (λ e. (parts : Parts) → CanBeRead parts → States set parts → e ≡ errors.Memory)
+    IfErr-weaker r (λ e. (parts : Parts) → CanBeMade parts → StatesFiles skip (map message_of (lent files)) parts → e ≡ errors.Memory) (λ e. (parts : Parts) → CanBeMade parts → States set parts → e ≡ errors.Memory)
     (λ e none parts can states. none parts can (files_state set skip all files seen skipped kept parts states)) h
 
 -- a schema says what those say that are stated
 abbrev IsStated : (Parts → Type 0) → Result Parts FdsError → Type 0
-IsStated Stated r = IfOk r (λ made. (parts : Parts) → CanBeRead parts → Stated parts → parts_view made ≡ parts_view parts)
+IsStated Stated r = IfOk r (λ made. (parts : Parts) → CanBeMade parts → Stated parts → parts_view made ≡ parts_view parts)
 
 pub set_same : (set : Message) (skip : Bool) (all files : List (Bor Kept)) (r : Result Parts FdsError) → map message_of (lent all) ≡ children_at 1 set
     → skip ≡ list_any is_skipped (map message_of (lent all)) → map message_of (lent files) ≡ kept_files set
     → IsStated (StatesFiles skip (map message_of (lent files))) r → IsStated (States set) r
 set_same set skip all files r seen skipped kept h =
-    IfOk-weaker r (λ made. (parts : Parts) → CanBeRead parts → StatesFiles skip (map message_of (lent files)) parts → parts_view made ≡ parts_view parts)
-    (λ made. (parts : Parts) → CanBeRead parts → States set parts → parts_view made ≡ parts_view parts)
+    IfOk-weaker r (λ made. (parts : Parts) → CanBeMade parts → StatesFiles skip (map message_of (lent files)) parts → parts_view made ≡ parts_view parts)
+    (λ made. (parts : Parts) → CanBeMade parts → States set parts → parts_view made ≡ parts_view parts)
     (λ made same parts can states. same parts can (files_state set skip all files seen skipped kept parts states)) h
 
-pub bytes_same : (bytes : List ℕ) (set : Message) (r : Result Parts FdsError) → dec written_shape file_set bytes ≡ Some set → IsStated (States set) r → IsStated (fds_reads bytes) r
-bytes_same bytes set r is h =
-    IfOk-weaker r (λ made. (parts : Parts) → CanBeRead parts → States set parts → parts_view made ≡ parts_view parts)
-    (λ made. (parts : Parts) → CanBeRead parts → fds_reads bytes parts → parts_view made ≡ parts_view parts)
-    (λ made same parts can reads. same parts can (subst (λ d. IsSomeAnd d (λ s. States s parts)) is reads)) h
+-- each schema that can be read and that a decoded message states can be made
+can_be_made : (set : Kept) → Fits written_shape set × (type_of set ≡ file_set) → (parts : Parts) → CanBeRead parts → States (message_of set) parts → CanBeMade parts
+can_be_made set fits parts able states = record { able = able; numbers = kept_numbers_small set fits parts able.sound states }
 
--- where the bytes state a schema that can be read, what is refused of their message is want of memory
-pub bytes_none : (bytes : List ℕ) (set : Message) (r : Result Parts FdsError) → dec written_shape file_set bytes ≡ Some set
-    → IfErr r (λ e. (parts : Parts) → CanBeRead parts → States set parts → e ≡ errors.Memory) → IfErr r (λ e. (IsOfBytes e → ⊥) → StatesNoneInOrder bytes)
-bytes_none bytes set r is h =
-    IfErr-weaker r (λ e. (parts : Parts) → CanBeRead parts → States set parts → e ≡ errors.Memory) (λ e. (IsOfBytes e → ⊥) → StatesNoneInOrder bytes)
-    (λ e none other parts can reads. other (subst IsOfBytes (sym (none parts can (subst (λ d. IsSomeAnd d (λ s. States s parts)) is reads))) tt)) h
+module _ (bytes : List ℕ) (set : Kept) (r : Result Parts FdsError) (is : dec written_shape file_set bytes ≡ Some (message_of set)) (fits : Fits written_shape set × (type_of set ≡ file_set)) where
+  stated_there : (parts : Parts) → fds_reads bytes parts → States (message_of set) parts
+  stated_there parts reads = subst (λ d. IsSomeAnd d (λ s. States s parts)) is reads
+
+  pub bytes_refused : IsRefused (children_at 1 (message_of set)) (kept_files (message_of set)) r → IfErr r (MayRefuseSet bytes)
+  bytes_refused h =
+      IfErr-weaker r (λ e. AllByRecursion HasTexts (children_at 1 (message_of set)) → MayRefuseFiles (kept_files (message_of set)) e) (MayRefuseSet bytes)
+      (λ e may. refused_set bytes (message_of set) is e (may (kept_texts set fits))) h
+
+  pub bytes_same : IsStated (States (message_of set)) r → IfOk r (λ made. (parts : Parts) → CanBeRead parts → fds_reads bytes parts → parts_view made ≡ parts_view parts)
+  bytes_same h =
+      IfOk-weaker r (λ made. (parts : Parts) → CanBeMade parts → States (message_of set) parts → parts_view made ≡ parts_view parts)
+      (λ made. (parts : Parts) → CanBeRead parts → fds_reads bytes parts → parts_view made ≡ parts_view parts)
+      (λ made same parts able reads. let states = stated_there parts reads in same parts (can_be_made set fits parts able states) states) h
+
+  -- where the bytes state a schema that can be read, what is refused of their message is want of memory
+  pub bytes_none : WantsMemory (States (message_of set)) r → IfErr r (λ e. (IsOfBytes e → ⊥) → StatesNoneInOrder bytes)
+  bytes_none h =
+      IfErr-weaker r (λ e. (parts : Parts) → CanBeMade parts → States (message_of set) parts → e ≡ errors.Memory) (λ e. (IsOfBytes e → ⊥) → StatesNoneInOrder bytes)
+      (λ e none other parts able reads.
+      let states = stated_there parts reads in
+      other (subst IsOfBytes (sym (none parts (can_be_made set fits parts able states) states)) tt)) h
 
 -- both hold of a refusal
 pub refused_both : {T E : Type 0} (r : Result T E) (P Q : E → Type 0) → IfErr r P → IfErr r Q → IfErr r (λ e. P e × Q e)

@@ -11,7 +11,7 @@ use Rattle.pg_schema.specs.declared.file.File.{File}
 use Rattle.pg_schema.specs.declared.message_type.MessageType.{MessageType}
 use Rattle.pg_schema.specs.declared.parts.Parts.{Parts}
 use Rattle.pg_schema.specs.DeclaredNames as schema
-use Rattle.pg_schema.specs.DeclaredNames.{declared_names, values_at, within}
+use Rattle.pg_schema.specs.DeclaredNames.{declared_names}
 use Rattle.pg_schema.specs.MessageRules.{is_message_type}
 use Rattle.pg_schema.specs.PackageNames.{are_free_of, is_free_of, is_front}
 use Rattle.pg_schema.specs.Scopes.{declared_services, enum_places}

@@ -67,11 +67,3 @@ step_made names done made all fields i f h is optional grown before =
   where
     of : (b : Bool) → b ≡ true → synthetic_oneofs (onto done names) (f.now ∷ lent (drop (i + 1) fields)) ≡ synthetic_name (onto done names) (string_bytes f.now.name) ∷ synthetic_oneofs (synthetic_name (onto done names) (string_bytes f.now.name) ∷ onto done names) (lent (drop (i + 1) fields))
     of b e = rw optional refl
-
-pub step_left : (ns : List (List ℕ)) (done all : List (List ℕ)) (fields : List (Bor Field)) (i : ℕ) (f : Bor Field) → i < length fields → f ≡ get_or fields i f → f.now.states_optional ≡ false
-    → done ++ synthetic_oneofs ns (lent (drop i fields)) ≡ all → done ++ synthetic_oneofs ns (lent (drop (i + 1) fields)) ≡ all
-step_left ns done all fields i f h is plain before =
-    ap (λ ms. done ++ ms) (sym (ap (λ fs. synthetic_oneofs ns (lent fs)) (rest_at fields i f h is) ∙ skipped)) ∙ before
-  where
-    skipped : synthetic_oneofs ns (f.now ∷ lent (drop (i + 1) fields)) ≡ synthetic_oneofs ns (lent (drop (i + 1) fields))
-    skipped = rw plain refl

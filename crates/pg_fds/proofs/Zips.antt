@@ -28,19 +28,6 @@ zip_end R ms cs i same h =
     subst (λ xs. AllZip R (map message_of (lent xs)) (drop i cs)) (sym (none_left ms i h))
     (subst (λ ys. AllZip R [] ys) (sym (none_left cs i (omega (arith, h, same)))) tt)
 
--- the same of two lists of references
-pub lent_on : {C : Type 0} (R : Message → C → Type 0) (ms : List (Bor Kept)) (cs : List (Bor C)) (i : ℕ) (m : Bor Kept) (c : Bor C) → i < length ms → i < length cs → m ≡ get_or ms i m → c ≡ get_or cs i c
-    → R (message_of m.now) c.now → AllZip R (map message_of (lent (drop (i + 1) ms))) (lent (drop (i + 1) cs)) → AllZip R (map message_of (lent (drop i ms))) (lent (drop i cs))
-lent_on R ms cs i m c h k is same here later =
-    subst (λ xs. AllZip R (map message_of (lent xs)) (lent (drop i cs))) (sym (rest ms i m h is))
-    (subst (λ ys. AllZip R (message_of m.now ∷ map message_of (lent (drop (i + 1) ms))) (lent ys)) (sym (rest cs i c k same)) (here, later))
-
-pub lent_end : {C : Type 0} (R : Message → C → Type 0) (ms : List (Bor Kept)) (cs : List (Bor C)) (i : ℕ) → length ms ≡ length cs → length ms ≤ i
-    → AllZip R (map message_of (lent (drop i ms))) (lent (drop i cs))
-lent_end R ms cs i same h =
-    subst (λ xs. AllZip R (map message_of (lent xs)) (lent (drop i cs))) (sym (none_left ms i h))
-    (subst (λ ys. AllZip R [] (lent ys)) (sym (none_left cs i (omega (arith, h, same)))) tt)
-
 pub seen_length : (ms : List (Bor Kept)) → length (map message_of (lent ms)) ≡ length ms
 seen_length [] = refl
 seen_length (m ∷ ms) = ap suc (seen_length ms)

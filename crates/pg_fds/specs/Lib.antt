@@ -9,7 +9,6 @@ pub mod Lent
 pub mod Entries
 pub mod Messages
 pub mod Set
-pub mod Rows
 pub mod Examples
 pub mod Pieces
 pub mod Writable
@@ -29,6 +28,9 @@ pub mod Outlines
 pub mod OutlinedPlaces
 pub mod InOrder
 pub mod Views
+pub mod DescriptorParts
+pub mod DescriptorLaw
+pub mod Rows
 pub mod MadeOptions
 pub mod Reads
 pub mod Refused
@@ -36,3 +38,5 @@ pub mod Again
 pub mod ReadAgain
 pub mod ReadExamples
 pub mod PlaceExamples
+pub mod SetOrder
+pub mod SetOrderLaws

@@ -1,26 +1,22 @@
 -- Schemas that are written and read again (this profile's choice).
-use Rattle.std.specs.Prelude.{◌≡◌, ℕ, ◌≤◌, ◌^◌, ◌⊎◌, true, List, [], length}
+use Rattle.std.specs.Prelude.{◌≡◌, ℕ, ◌⊎◌, true, List, []}
 use Rattle.std.specs.List.{list_all}
 use Rattle.pg_schema.specs.declared.parts.Parts.{Parts}
 use Rattle.pg_dyn.specs.declared.error.DynError.TheVariants as faults
 use Rattle.pg_fds.specs.declared.error.FdsError.{FdsError}
 use Rattle.pg_fds.specs.declared.error.FdsError.TheVariants as errors
 use Rattle.pg_fds.specs.Again.{are_shallow, imports_apart}
-use Rattle.pg_fds.specs.InOrder.{StandInOrder}
 use Rattle.pg_fds.specs.Reads.{AreBehind}
 use Rattle.pg_fds.specs.Refused.{MayRefuseSet, NoneIsStated}
 use Rattle.pg_fds.specs.Set.{fds}
 use Rattle.pg_fds.specs.Written.{HasNoSet}
 
--- A schema whose set is read as the same schema: each file imports no path twice and stands behind those that it imports, message types are
--- nested at most 64 deep, message types, enums and services stand in order of declaration, and there are at most 2^32 enums and services.
+-- A schema whose set is read as the same schema, but for the order of message types, enums and services: each file imports no path twice and
+-- stands behind those that it imports, and message types are nested at most 64 deep.
 pub record IsReadAgain (parts : Parts) : Type 0 where
   pub imports_once : list_all imports_apart parts.files.items ≡ true
   pub behind : AreBehind [] parts.files.items
   pub shallow : are_shallow parts ≡ true
-  pub places : StandInOrder parts
-  pub few_enums : length parts.enums.items ≤ 2 ^ 32
-  pub few_services : length parts.services.items ≤ 2 ^ 32
 
 -- the schema has no set
 abbrev pub IsTooLong : Parts → FdsError → Type 0

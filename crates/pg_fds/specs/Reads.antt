@@ -60,11 +60,20 @@ States set parts = StatesFiles (skips set) (kept_files set) parts
 abbrev pub fds_reads : List ℕ → Parts → Type 0
 fds_reads bytes parts = IsSomeAnd (dec written_shape file_set bytes) (λ set. States set parts)
 
--- A schema of which it is said when it isn't read: it keeps to the rules and stands in order, an int32 holds the numbers of its enums, and
--- 32 bits hold the places of its enums and services.
+-- A schema as memory holds it: it keeps to the rules, and 32 bits hold the places of its enums and services.
+pub record IsHeld (parts : Parts) : Type 0 where
+  pub sound : IsSound parts
+  pub few_enums : length parts.enums.items ≤ 2 ^ 32
+  pub few_services : length parts.services.items ≤ 2 ^ 32
+
+-- such a one that stands in order, as each that is read
 pub record CanBeRead (parts : Parts) : Type 0 where
   pub sound : IsSound parts
   pub places : StandInOrder parts
-  pub numbers : AllByRecursion IsSmallEnum parts.enums.items
   pub few_enums : length parts.enums.items ≤ 2 ^ 32
   pub few_services : length parts.services.items ≤ 2 ^ 32
+
+-- and an int32 holds the numbers of its enums, as it does wherever a message of the written schema states it
+pub record CanBeMade (parts : Parts) : Type 0 where
+  pub able : CanBeRead parts
+  pub numbers : AllByRecursion IsSmallEnum parts.enums.items

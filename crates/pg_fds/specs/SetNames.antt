@@ -1,10 +1,9 @@
 -- The full names that the messages of a set declare, in the order in which they are told of (descriptor.proto; proto3 language guide,
 -- "Enumerations": the values of an enum are siblings of its name), and the table of names that were declared.
-use Rattle.std.specs.Prelude.{◌≡◌, ◌⊎◌, ℕ, zero, suc, Bool, true, List, [], ◌∷◌, ◌++◌, map, flat_map, filter, Option, Some, None, slice_get, String}
+use Rattle.std.specs.Prelude.{◌≡◌, ℕ, zero, suc, true, List, [], ◌∷◌, ◌++◌, map, flat_map, filter, Option, Some, None, String}
 use Rattle.std.specs.BTreeMap.{BTreeMap, get_by_text}
 use Rattle.std.specs.List.{AllByRecursion, list_all}
 use Rattle.std.specs.Str.{IsUtf8}
-use Rattle.std.specs.String.{string_bytes}
 use Rattle.pg_schema.specs.DeclaredNames.{within}
 use Rattle.pg_schema.specs.PackageNames.{is_free_of, is_front}
 use Rattle.pg_schema.specs.Pairs.{are_distinct}

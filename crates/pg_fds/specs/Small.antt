@@ -1,13 +1,16 @@
--- Numbers that an int32 holds.
+-- Numbers that an int32 holds, and places that 32 bits hold.
 use Rattle.std.specs.Prelude.{◌+◌, ◌<◌, ◌^◌, length, FitsSigned, IfSome}
 use Rattle.std.specs.Int.{w32}
 use Rattle.std.specs.List.{AllByRecursion}
 use Rattle.pg_schema.specs.declared.enum_type.EnumType.{EnumType}
 use Rattle.pg_schema.specs.declared.enum_type.EnumValue.{EnumValue}
 use Rattle.pg_schema.specs.declared.enum_type.ReservedValues.{ReservedValues}
+use Rattle.pg_schema.specs.declared.field.EnumId.{EnumId}
 use Rattle.pg_schema.specs.declared.field.Field.{Field}
+use Rattle.pg_schema.specs.declared.file.File.{File}
 use Rattle.pg_schema.specs.declared.message_type.MessageType.{MessageType}
 use Rattle.pg_schema.specs.declared.message_type.ReservedFields.{ReservedFields}
+use Rattle.pg_schema.specs.declared.service.ServiceId.{ServiceId}
 
 -- the field's own, and the place of its oneof
 pub record HasSmallNumbers (f : Field) : Type 0 where
@@ -35,3 +38,18 @@ AreSmallEnds r = FitsSigned w32 r.first × FitsSigned w32 r.last
 pub record IsSmallEnum (e : EnumType) : Type 0 where
   pub values : AllByRecursion IsSmallValue e.values.items
   pub ranges : AllByRecursion AreSmallEnds e.reserved_numbers.items
+
+abbrev pub IsLowEnum : EnumId → Type 0
+IsLowEnum id = id.index < 2 ^ 32
+
+abbrev pub IsLowService : ServiceId → Type 0
+IsLowService id = id.index < 2 ^ 32
+
+-- the places of the enums and services that the file itself declares
+pub record HasLowPlaces (f : File) : Type 0 where
+  pub enums : AllByRecursion IsLowEnum f.enums.items
+  pub services : AllByRecursion IsLowService f.services.items
+
+-- those of the enums in the message type itself
+abbrev pub HasLowEnums : MessageType → Type 0
+HasLowEnums t = AllByRecursion IsLowEnum t.nested_enums.items

@@ -1,68 +1,97 @@
 //! Schemas that are written and read again.
 
-ghost use Rattle.std.specs.Prelude.{ℕ, ◌≡◌, ◌⊎◌, List, IfErr, IfOk};
+ghost use Rattle.std.specs.Prelude.{ℕ, ◌≡◌, ◌<◌, ◌^◌, ◌⊎◌, List, IfErr, IfOk};
 ghost use Rattle.std.specs.List.{AllByRecursion};
+ghost use Rattle.pg_schema.specs.Sound.{IsSound};
 ghost use Rattle.pg_fds.specs.declared.error.FdsError.TheVariants as errors;
 ghost use Rattle.pg_fds.specs.InOrder.{StandInOrder};
 ghost use Rattle.pg_fds.specs.ReadAgain.{IsReadAgain, IsTooLong, MayRefuseAgain};
-ghost use Rattle.pg_fds.specs.Reads.{fds_reads};
+ghost use Rattle.pg_fds.specs.Reads.{IsHeld, fds_reads};
 ghost use Rattle.pg_fds.specs.Set.{fds};
-ghost use Rattle.pg_fds.specs.Small.{AreSmallEnds, IsSmallEnum, IsSmallValue};
+ghost use Rattle.pg_fds.specs.SetOrder.{in_set_order};
+ghost use Rattle.pg_fds.specs.Small.{HasLowEnums, HasLowPlaces, IsLowEnum, IsLowService};
 ghost use Rattle.pg_fds.specs.Views.{parts_view};
 
 use crate::error::FdsError;
 use crate::reading::read;
 use crate::writing::write;
-use pg_schema::{EnumType, EnumValue, ReservedValues, Schema};
+use pg_schema::{EnumId, File, MessageType, Schema, ServiceId};
 use std::alloc::Global;
 
-// An int32 holds the number of each value: each is looked at, as the proof asks for it.
-fn see_values(values: &[EnumValue])
-    ensures { AllByRecursion IsSmallValue values.now }
+// 32 bits hold a place: each is looked at, as the proof asks for it.
+fn see_place(place: u32)
+    ensures { place < 2 ^ 32 }
 {
-    for value in values {
-        let _number = value.number;
+    let _seen = place;
+}
+
+// 32 bits hold the place of each enum.
+fn see_enums(ids: &[EnumId])
+    ensures { AllByRecursion IsLowEnum ids.now }
+{
+    for id in ids {
+        see_place(id.index);
     }
 }
 
-// An int32 holds both ends of each range.
-fn see_ranges(ranges: &[ReservedValues])
-    ensures { AllByRecursion AreSmallEnds ranges.now }
+// 32 bits hold the place of each service.
+fn see_services(ids: &[ServiceId])
+    ensures { AllByRecursion IsLowService ids.now }
 {
-    for range in ranges {
-        let _first = range.first;
-        let _last = range.last;
+    for id in ids {
+        see_place(id.index);
     }
 }
 
-// An int32 holds the numbers of each enum.
-fn see_numbers(enums: &[EnumType])
-    ensures { AllByRecursion IsSmallEnum enums.now }
+// 32 bits hold the places of what each file declares.
+fn see_files(files: &[File])
+    ensures { AllByRecursion HasLowPlaces files.now }
 {
-    for declared in enums {
-        see_values(&declared.values);
-        see_ranges(&declared.reserved_numbers);
+    for file in files {
+        see_enums(&file.enums);
+        see_services(&file.services);
     }
+}
+
+// 32 bits hold the places of the enums in each message type.
+fn see_types(types: &[MessageType])
+    ensures { AllByRecursion HasLowEnums types.now }
+{
+    for declared in types {
+        see_enums(&declared.nested_enums);
+    }
+}
+
+// So there are at most 2^32 enums and services.
+#[tactic(auto, using(crate::proofs::FewPlaces::is_held))]
+fn see_places(schema: &Schema)
+    ensures { IsHeld schema.now }
+{
+    // What holds of every schema.
+    let parts = schema.parts();
+    see_files(&parts.files);
+    see_types(&parts.types);
 }
 
 /// The schema that `read` makes of what `write` writes. Where each file imports no path twice and stands
-/// behind those that it imports, message types are nested at most 64 deep, message types, enums and services
-/// stand in order of declaration, and there are at most 2^32 enums and services, it says the same as the one
-/// that is written, and the errors are `Memory`, and `Bytes` of `TooLong`, only where the schema has no set.
+/// behind those that it imports, and message types are nested at most 64 deep, it says the same as the one that
+/// is written, renumbered where message types, enums and services don't stand in order of declaration, and the
+/// errors are `Memory`, and `Bytes` of `TooLong`, only where the schema has no set.
 ///
 /// Of any other it is a schema that the same set states, with all in order of declaration, and the errors are
 /// those of `write` and of `read`.
 #[tactic(auto, using(crate::proofs::ReadAgain::write_told))]
 pub fn read_again(alloc: Global, schema: &Schema) -> Result<Schema, FdsError>
     ensures stated { IfOk result (λ made. (bytes : List ℕ) → fds schema.now bytes → fds_reads bytes made) }
+    ensures sound { IfOk result IsSound }
     ensures places { IfOk result (λ made. StandInOrder made) }
-    ensures same { IfOk result (λ made. IsReadAgain schema.now → parts_view made ≡ parts_view schema.now) }
+    ensures same { IfOk result (λ made. IsReadAgain schema.now → parts_view made ≡ parts_view (in_set_order schema.now)) }
+    ensures exact { IfOk result (λ made. IsReadAgain schema.now → StandInOrder schema.now
+        → parts_view made ≡ parts_view schema.now) }
     ensures refused { IfErr result (λ e. IsReadAgain schema.now → (e ≡ errors.Memory) ⊎ IsTooLong schema.now e) }
     ensures told { IfErr result (MayRefuseAgain schema.now) }
 {
-    // What holds of every schema, and of the numbers of its enums.
-    let parts = schema.parts();
-    see_numbers(&parts.enums);
+    see_places(schema);
     let bytes = write(alloc, schema)?;
     read(alloc, bytes.as_slice())
 }

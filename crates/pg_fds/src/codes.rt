@@ -10,7 +10,7 @@ ghost use Rattle.pg_fds.specs.Lent.{lent};
 ghost use Rattle.pg_fds.specs.Said.{number_at};
 
 use crate::fields::scalar_code;
-use crate::said::{children, number};
+use crate::said::{MOST_DEEP, children, number};
 use crate::states::label_of;
 use pg_dyn::Message;
 use pg_schema::Scalar;
@@ -21,9 +21,6 @@ pub const MESSAGE_CODE: i128 = 11;
 
 /// LABEL_REPEATED.
 pub const REPEATED: i128 = 3;
-
-// How deep message types may be nested.
-const MOST_DEEP: usize = 100;
 
 // The scalars by rising code.
 const SCALARS: [Scalar; 15] = [

@@ -74,8 +74,10 @@ pub fn declare_each(
     named: Named,
 ) -> Result<(), Unstated>
     ensures has { OnOk result (AllByRecursion (λ m. get_by_text names.new (full_name scope.now m) ≡ Some named) (map message_of (lent messages.now))) }
-    ensures declares { OnOk result ((packages : List (List ℕ)) → Declares packages (full_names scope.now (map message_of (lent messages.now))) names.old names.new) }
-    ensures refused { IfErr result (λ e. (packages : List (List ℕ)) → WantsMemory packages (full_names scope.now (map message_of (lent messages.now))) names.old e) }
+    ensures declares { OnOk result ((packages : List (List ℕ))
+        → Declares packages (full_names scope.now (map message_of (lent messages.now))) names.old names.new) }
+    ensures refused { IfErr result (λ e. (packages : List (List ℕ))
+        → WantsMemory packages (full_names scope.now (map message_of (lent messages.now))) names.old e) }
 {
     for message in messages {
         declare_own(alloc, names, scope, message, named)?;
@@ -104,8 +106,10 @@ pub fn real_oneofs<'a>(
 
 // Puts a part of a package in the table, which may have it as that.
 fn declare_part(names: &mut BTreeMap<String, Named>, part: String) -> Result<(), Unstated>
-    ensures declares { OnOk result ((packages : List (List ℕ)) (whole : List ℕ) → is_among packages whole ≡ true → is_front (string_bytes part) whole ≡ true → Declares packages [] names.old names.new) }
-    ensures refused { IfErr result (λ e. (packages : List (List ℕ)) (whole : List ℕ) → is_among packages whole ≡ true → is_front (string_bytes part) whole ≡ true → WantsMemory packages [] names.old e) }
+    ensures declares { OnOk result ((packages : List (List ℕ)) (whole : List ℕ) → is_among packages whole ≡ true
+        → is_front (string_bytes part) whole ≡ true → Declares packages [] names.old names.new) }
+    ensures refused { IfErr result (λ e. (packages : List (List ℕ)) (whole : List ℕ) → is_among packages whole ≡ true
+        → is_front (string_bytes part) whole ≡ true → WantsMemory packages [] names.old e) }
 {
     match names.insert(part, Named::Package)? {
         None => Ok(()),

@@ -1,13 +1,15 @@
 //! The written schema of descriptor.proto.
 
-ghost use Rattle.std.specs.Prelude.{◌≡◌, ◌++◌, ◌∷◌, [], IfOk, OnOk, map};
+ghost use Rattle.std.specs.Prelude.{◌≡◌, IfOk, map};
 ghost use Rattle.pg_schema.specs.Parts.{shape_of};
 ghost use Rattle.pg_fds.specs.Descriptor.{descriptor_shape};
-ghost use Rattle.pg_fds.specs.Rows.{field_row, shapes};
+ghost use Rattle.pg_fds.specs.DescriptorParts.{descriptor_enums, descriptor_file, descriptor_parts, descriptor_types};
+ghost use Rattle.pg_fds.specs.Views.{enum_view, file_view, parts_view, type_view};
 
-use crate::types::{enum_type, push_type};
+use crate::types::{EnumRow, FieldRow, TypeRow, ValueRow, enum_types, message_types, type_ids};
 use pg_schema::{
-    Element, EnumId, EnumType, File, MessageType, Parts, Presence, Scalar, Schema, TypeId,
+    Element, EnumId, EnumType, File, MessageType, Parts, PartsError, Presence, Scalar, Schema,
+    TypeId,
 };
 use std::alloc::{AllocError, Global};
 
@@ -61,12 +63,9 @@ const SERVICE_OPTIONS: Element = Element::Message(TypeId { index: 16 });
 
 const METHOD_OPTIONS: Element = Element::Message(TypeId { index: 17 });
 
-// Number, name, presence and element of a field.
-type Row = (u32, &'static str, Presence, Element);
+const OF_SET: [FieldRow<'static>; 1] = [(1, "file", MANY, FILE)];
 
-const OF_SET: [Row; 1] = [(1, "file", MANY, FILE)];
-
-const OF_FILE: [Row; 9] = [
+const OF_FILE: [FieldRow<'static>; 9] = [
     (1, "name", ONE, TEXT),
     (2, "package", ONE, TEXT),
     (3, "dependency", MANY, TEXT),
@@ -78,7 +77,7 @@ const OF_FILE: [Row; 9] = [
     (12, "syntax", ONE, TEXT),
 ];
 
-const OF_MESSAGE: [Row; 8] = [
+const OF_MESSAGE: [FieldRow<'static>; 8] = [
     (1, "name", ONE, TEXT),
     (2, "field", MANY, FIELD),
     (3, "nested_type", MANY, MESSAGE),
@@ -89,9 +88,9 @@ const OF_MESSAGE: [Row; 8] = [
     (10, "reserved_name", MANY, TEXT),
 ];
 
-const OF_RANGE: [Row; 2] = [(1, "start", ONE, NUMBER), (2, "end", ONE, NUMBER)];
+const OF_RANGE: [FieldRow<'static>; 2] = [(1, "start", ONE, NUMBER), (2, "end", ONE, NUMBER)];
 
-const OF_FIELD: [Row; 9] = [
+const OF_FIELD: [FieldRow<'static>; 9] = [
     (1, "name", ONE, TEXT),
     (3, "number", ONE, NUMBER),
     (4, "label", ONE, LABEL),
@@ -103,9 +102,9 @@ const OF_FIELD: [Row; 9] = [
     (17, "proto3_optional", ONE, FLAG),
 ];
 
-const OF_ONEOF: [Row; 1] = [(1, "name", ONE, TEXT)];
+const OF_ONEOF: [FieldRow<'static>; 1] = [(1, "name", ONE, TEXT)];
 
-const OF_ENUM: [Row; 5] = [
+const OF_ENUM: [FieldRow<'static>; 5] = [
     (1, "name", ONE, TEXT),
     (2, "value", MANY, VALUE),
     (3, "options", ONE, ENUM_OPTIONS),
@@ -113,19 +112,19 @@ const OF_ENUM: [Row; 5] = [
     (5, "reserved_name", MANY, TEXT),
 ];
 
-const OF_VALUE: [Row; 3] = [
+const OF_VALUE: [FieldRow<'static>; 3] = [
     (1, "name", ONE, TEXT),
     (2, "number", ONE, NUMBER),
     (3, "options", ONE, VALUE_OPTIONS),
 ];
 
-const OF_SERVICE: [Row; 3] = [
+const OF_SERVICE: [FieldRow<'static>; 3] = [
     (1, "name", ONE, TEXT),
     (2, "method", MANY, METHOD),
     (3, "options", ONE, SERVICE_OPTIONS),
 ];
 
-const OF_METHOD: [Row; 6] = [
+const OF_METHOD: [FieldRow<'static>; 6] = [
     (1, "name", ONE, TEXT),
     (2, "input_type", ONE, TEXT),
     (3, "output_type", ONE, TEXT),
@@ -134,7 +133,7 @@ const OF_METHOD: [Row; 6] = [
     (6, "server_streaming", ONE, FLAG),
 ];
 
-const OF_FILE_OPTIONS: [Row; 13] = [
+const OF_FILE_OPTIONS: [FieldRow<'static>; 13] = [
     (1, "java_package", ONE, TEXT),
     (8, "java_outer_classname", ONE, TEXT),
     (9, "optimize_for", ONE, MODE),
@@ -150,214 +149,213 @@ const OF_FILE_OPTIONS: [Row; 13] = [
     (45, "ruby_package", ONE, TEXT),
 ];
 
-const OF_MESSAGE_OPTIONS: [Row; 2] = [(3, "deprecated", ONE, FLAG), (7, "map_entry", ONE, FLAG)];
+const OF_MESSAGE_OPTIONS: [FieldRow<'static>; 2] = [
+    (3, "deprecated", ONE, FLAG),
+    (7, "map_entry", ONE, FLAG),
+];
 
-const OF_FIELD_OPTIONS: [Row; 2] = [(2, "packed", ONE, FLAG), (3, "deprecated", ONE, FLAG)];
+const OF_FIELD_OPTIONS: [FieldRow<'static>; 2] = [
+    (2, "packed", ONE, FLAG),
+    (3, "deprecated", ONE, FLAG),
+];
 
-const OF_ENUM_OPTIONS: [Row; 2] = [(2, "allow_alias", ONE, FLAG), (3, "deprecated", ONE, FLAG)];
+const OF_ENUM_OPTIONS: [FieldRow<'static>; 2] = [
+    (2, "allow_alias", ONE, FLAG),
+    (3, "deprecated", ONE, FLAG),
+];
 
-const OF_VALUE_OPTIONS: [Row; 1] = [(1, "deprecated", ONE, FLAG)];
+const OF_VALUE_OPTIONS: [FieldRow<'static>; 1] = [(1, "deprecated", ONE, FLAG)];
 
-const OF_SERVICE_OPTIONS: [Row; 1] = [(33, "deprecated", ONE, FLAG)];
+const OF_SERVICE_OPTIONS: [FieldRow<'static>; 1] = [(33, "deprecated", ONE, FLAG)];
 
-// Puts a message type that declares no other behind these. Refused only where memory is.
-fn push(
-    alloc: Global,
-    types: &mut Vec<MessageType>,
-    name: &str,
-    rows: &[(u32, &str, Presence, Element)],
-) -> Result<(), AllocError>
-    ensures { OnOk result (shapes types.new.items ≡ shapes types.old.items ++ map (λ row. field_row row.0 row.2 row.3) rows.now ∷ []) }
-{
-    push_type(alloc, types, name, rows, None, (0, 0))
-}
-
-// The message types. Refused only where memory is.
-fn types(alloc: Global) -> Result<Vec<MessageType>, AllocError>
-    ensures { IfOk result (λ types. shapes types.items ≡ descriptor_shape) }
-{
-    let mut types = Vec::new(alloc);
-    let list = &mut types;
-    push(alloc, list, "google.protobuf.FileDescriptorSet", &OF_SET)?;
-    push(alloc, list, "google.protobuf.FileDescriptorProto", &OF_FILE)?;
-    push_type(
-        alloc,
-        list,
+const TYPES: [TypeRow<'static>; 18] = [
+    ("google.protobuf.FileDescriptorSet", &OF_SET, &[], &[]),
+    ("google.protobuf.FileDescriptorProto", &OF_FILE, &[], &[]),
+    (
         "google.protobuf.DescriptorProto",
         &OF_MESSAGE,
-        Some(3),
-        (0, 0),
-    )?;
-    push(
-        alloc,
-        list,
+        &[TypeId { index: 3 }],
+        &[],
+    ),
+    (
         "google.protobuf.DescriptorProto.ReservedRange",
         &OF_RANGE,
-    )?;
-    push_type(
-        alloc,
-        list,
+        &[],
+        &[],
+    ),
+    (
         "google.protobuf.FieldDescriptorProto",
         &OF_FIELD,
-        None,
-        (0, 2),
-    )?;
-    push(
-        alloc,
-        list,
-        "google.protobuf.OneofDescriptorProto",
-        &OF_ONEOF,
-    )?;
-    push_type(
-        alloc,
-        list,
+        &[],
+        &[EnumId { index: 0 }, EnumId { index: 1 }],
+    ),
+    ("google.protobuf.OneofDescriptorProto", &OF_ONEOF, &[], &[]),
+    (
         "google.protobuf.EnumDescriptorProto",
         &OF_ENUM,
-        Some(7),
-        (0, 0),
-    )?;
-    push(
-        alloc,
-        list,
+        &[TypeId { index: 7 }],
+        &[],
+    ),
+    (
         "google.protobuf.EnumDescriptorProto.EnumReservedRange",
         &OF_RANGE,
-    )?;
-    push(
-        alloc,
-        list,
+        &[],
+        &[],
+    ),
+    (
         "google.protobuf.EnumValueDescriptorProto",
         &OF_VALUE,
-    )?;
-    push(
-        alloc,
-        list,
+        &[],
+        &[],
+    ),
+    (
         "google.protobuf.ServiceDescriptorProto",
         &OF_SERVICE,
-    )?;
-    push(
-        alloc,
-        list,
+        &[],
+        &[],
+    ),
+    (
         "google.protobuf.MethodDescriptorProto",
         &OF_METHOD,
-    )?;
-    push_type(
-        alloc,
-        list,
+        &[],
+        &[],
+    ),
+    (
         "google.protobuf.FileOptions",
         &OF_FILE_OPTIONS,
-        None,
-        (2, 3),
-    )?;
-    push(
-        alloc,
-        list,
+        &[],
+        &[EnumId { index: 2 }],
+    ),
+    (
         "google.protobuf.MessageOptions",
         &OF_MESSAGE_OPTIONS,
-    )?;
-    push(
-        alloc,
-        list,
-        "google.protobuf.FieldOptions",
-        &OF_FIELD_OPTIONS,
-    )?;
-    push(alloc, list, "google.protobuf.EnumOptions", &OF_ENUM_OPTIONS)?;
-    push(
-        alloc,
-        list,
+        &[],
+        &[],
+    ),
+    ("google.protobuf.FieldOptions", &OF_FIELD_OPTIONS, &[], &[]),
+    ("google.protobuf.EnumOptions", &OF_ENUM_OPTIONS, &[], &[]),
+    (
         "google.protobuf.EnumValueOptions",
         &OF_VALUE_OPTIONS,
-    )?;
-    push(
-        alloc,
-        list,
+        &[],
+        &[],
+    ),
+    (
         "google.protobuf.ServiceOptions",
         &OF_SERVICE_OPTIONS,
-    )?;
-    push(
-        alloc,
-        list,
+        &[],
+        &[],
+    ),
+    (
         "google.protobuf.MethodOptions",
         &OF_SERVICE_OPTIONS,
-    )?;
-    Ok(types)
+        &[],
+        &[],
+    ),
+];
+
+// The message types that stand in no other.
+const OUTERMOST: [u32; 16] = [0, 1, 2, 4, 5, 6, 8, 9, 10, 11, 12, 13, 14, 15, 16, 17];
+
+// The values of 0 aren't descriptor.proto's: each enum of a schema has one.
+const LABELS: [ValueRow<'static>; 4] = [
+    (0, "LABEL_NONE"),
+    (1, "LABEL_OPTIONAL"),
+    (2, "LABEL_REQUIRED"),
+    (3, "LABEL_REPEATED"),
+];
+
+const KINDS: [ValueRow<'static>; 19] = [
+    (0, "TYPE_NONE"),
+    (1, "TYPE_DOUBLE"),
+    (2, "TYPE_FLOAT"),
+    (3, "TYPE_INT64"),
+    (4, "TYPE_UINT64"),
+    (5, "TYPE_INT32"),
+    (6, "TYPE_FIXED64"),
+    (7, "TYPE_FIXED32"),
+    (8, "TYPE_BOOL"),
+    (9, "TYPE_STRING"),
+    (10, "TYPE_GROUP"),
+    (11, "TYPE_MESSAGE"),
+    (12, "TYPE_BYTES"),
+    (13, "TYPE_UINT32"),
+    (14, "TYPE_ENUM"),
+    (15, "TYPE_SFIXED32"),
+    (16, "TYPE_SFIXED64"),
+    (17, "TYPE_SINT32"),
+    (18, "TYPE_SINT64"),
+];
+
+const MODES: [ValueRow<'static>; 4] = [
+    (0, "MODE_NONE"),
+    (1, "SPEED"),
+    (2, "CODE_SIZE"),
+    (3, "LITE_RUNTIME"),
+];
+
+const ENUMS: [EnumRow<'static>; 3] = [
+    ("google.protobuf.FieldDescriptorProto.Label", &LABELS),
+    ("google.protobuf.FieldDescriptorProto.Type", &KINDS),
+    ("google.protobuf.FileOptions.OptimizeMode", &MODES),
+];
+
+// The message types. Refused only where memory is.
+#[tactic(auto, unfolding(crate::proofs::DescriptorOpened::opened))]
+fn types(alloc: Global) -> Result<Vec<MessageType>, AllocError>
+    ensures { IfOk result (λ types. map type_view types.items ≡ descriptor_types) }
+{
+    message_types(alloc, &TYPES)
 }
-
-// The names of values by number. Those of 0 aren't descriptor.proto's: each enum of a schema has one.
-const LABELS: [&str; 4] = [
-    "LABEL_NONE",
-    "LABEL_OPTIONAL",
-    "LABEL_REQUIRED",
-    "LABEL_REPEATED",
-];
-
-const KINDS: [&str; 19] = [
-    "TYPE_NONE",
-    "TYPE_DOUBLE",
-    "TYPE_FLOAT",
-    "TYPE_INT64",
-    "TYPE_UINT64",
-    "TYPE_INT32",
-    "TYPE_FIXED64",
-    "TYPE_FIXED32",
-    "TYPE_BOOL",
-    "TYPE_STRING",
-    "TYPE_GROUP",
-    "TYPE_MESSAGE",
-    "TYPE_BYTES",
-    "TYPE_UINT32",
-    "TYPE_ENUM",
-    "TYPE_SFIXED32",
-    "TYPE_SFIXED64",
-    "TYPE_SINT32",
-    "TYPE_SINT64",
-];
-
-const MODES: [&str; 4] = ["MODE_NONE", "SPEED", "CODE_SIZE", "LITE_RUNTIME"];
 
 // The enums. Refused only where memory is.
-fn enums(alloc: Global) -> Result<Vec<EnumType>, AllocError> {
-    let label = enum_type(alloc, "google.protobuf.FieldDescriptorProto.Label", &LABELS)?;
-    let kind = enum_type(alloc, "google.protobuf.FieldDescriptorProto.Type", &KINDS)?;
-    let mode = enum_type(alloc, "google.protobuf.FileOptions.OptimizeMode", &MODES)?;
-    Ok(vec![in alloc; label, kind, mode]?)
+#[tactic(auto, unfolding(crate::proofs::DescriptorOpened::opened))]
+fn enums(alloc: Global) -> Result<Vec<EnumType>, AllocError>
+    ensures { IfOk result (λ enums. map enum_view enums.items ≡ descriptor_enums) }
+{
+    enum_types(alloc, &ENUMS)
 }
 
-// The file, with the places of the message types that stand in no other. Refused only where memory
-// is.
-fn file(alloc: Global) -> Result<File, AllocError> {
-    let mut types = Vec::new(alloc);
-    for index in 0..18 {
-        if index != 3 && index != 7 {
-            types.push(TypeId { index })?;
-        }
-    }
+// The file. Refused only where memory is.
+#[tactic(auto, unfolding(crate::proofs::DescriptorOpened::opened))]
+fn file(alloc: Global) -> Result<File, AllocError>
+    ensures { IfOk result (λ file. file_view file ≡ descriptor_file) }
+{
     Ok(File {
         name: String::from_str(alloc, "google/protobuf/descriptor.proto")?,
         package: String::from_str(alloc, "google.protobuf")?,
         imports: Vec::new(alloc),
-        types,
+        types: type_ids(alloc, &OUTERMOST)?,
         enums: Vec::new(alloc),
         services: Vec::new(alloc),
         options: Vec::new(alloc),
     })
 }
 
-/// The written schema of descriptor.proto: the messages of a descriptor set, with the fields that a
-/// set of a proto3 schema has here. Its types have the shape of the definition.
-///
-/// Refused only where memory is. That no rule of schemas refuses it is tested, not proved: nothing
-/// of it depends on anything that is passed.
-pub fn descriptor_schema(alloc: Global) -> Result<Schema, AllocError>
-    ensures { IfOk result (λ schema. shape_of schema ≡ descriptor_shape) }
+// All parts. Refused only where memory is.
+fn parts(alloc: Global) -> Result<Parts, AllocError>
+    ensures { IfOk result (λ parts. parts_view parts ≡ descriptor_parts) }
 {
-    let parts = Parts {
+    Ok(Parts {
         files: vec![in alloc; file(alloc)?]?,
         types: types(alloc)?,
         enums: enums(alloc)?,
         services: Vec::new(alloc),
-    };
+    })
+}
+
+/// The written schema of descriptor.proto: the messages of a descriptor set, with the fields that a
+/// set of a proto3 schema has here. It has the parts of the definition, and so its shape.
+///
+/// Refused only where memory is: the parts keep to the rules of schemas.
+pub fn descriptor_schema(alloc: Global) -> Result<Schema, AllocError>
+    ensures parts { IfOk result (λ schema. parts_view schema ≡ descriptor_parts) }
+    ensures shape { IfOk result (λ schema. shape_of schema ≡ descriptor_shape) }
+{
+    let parts = parts(alloc)?;
     match Schema::from_parts(alloc, parts) {
         Ok(schema) => Ok(schema),
-        Err(_) => Err(AllocError),
+        Err((PartsError::Memory, _)) => Err(AllocError),
+        Err((PartsError::Invariant, _)) => unreachable!(),
     }
 }

@@ -56,7 +56,8 @@ fn key_and_value(
     value: Element,
 ) -> Result<Vec<Value>, AllocError>
     requires { shape_of table.now ≡ written_shape }
-    ensures items { IfOk result (λ made. items_within made.items ≡ entry_field (declared_in source.now) (codes "key") 1 (elements.Scalar key) ∷ entry_field (declared_in source.now) (codes "value") 2 value ∷ []) }
+    ensures items { IfOk result (λ made. items_within made.items
+        ≡ entry_field (declared_in source.now) (codes "key") 1 (elements.Scalar key) ∷ entry_field (declared_in source.now) (codes "value") 2 value ∷ []) }
     ensures kept { IfOk result (λ made. AreChildren FIELD made.items) }
 {
     let element = Element::Scalar(key);

@@ -1,13 +1,12 @@
 //! Whether the messages of a set state the entry types of map fields. What they don't state is told as a
 //! bad reference.
 
-ghost use Rattle.std.specs.Prelude.{◌≡◌, [], true, None, Some, IfErr, IfOk, OnErr, OnOk, codes, length, filter, map};
+ghost use Rattle.std.specs.Prelude.{◌≡◌, [], true, None, Some, IfErr, IfOk, OnErr, OnOk, length, filter, map};
 ghost use Rattle.std.specs.BTreeMap.{get_by_text};
 ghost use Rattle.std.specs.List.{AllByRecursion, Any};
 ghost use Rattle.std.specs.Str.{IsUtf8};
 ghost use Rattle.std.specs.String.{string_bytes};
 ghost use Rattle.pg_schema.specs.declared.field.Field.{Field};
-ghost use Rattle.pg_schema.specs.declared.field.Presence.TheVariants as presences;
 ghost use Rattle.pg_schema.specs.DeclaredNames.{entry_name};
 ghost use Rattle.pg_schema.specs.Pairs.{are_distinct};
 ghost use Rattle.pg_schema.specs.Shape.{is_map};

@@ -1,7 +1,7 @@
 //! Messages of enums, `EnumDescriptorProto` of descriptor.proto. Each call is refused only where memory
 //! is.
 
-ghost use Rattle.std.specs.Prelude.{◌≡◌, IfOk, OnOk, map};
+ghost use Rattle.std.specs.Prelude.{◌≡◌, IfOk, map};
 ghost use Rattle.pg_schema.specs.Parts.{shape_of};
 ghost use Rattle.pg_fds.specs.Building.{AreChildren, IsOf, items_of, items_within, written_shape};
 ghost use Rattle.pg_fds.specs.Messages.{enum_items, enums_items, value_items, value_range};

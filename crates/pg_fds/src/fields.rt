@@ -1,10 +1,10 @@
 //! Messages of fields, `FieldDescriptorProto` of descriptor.proto. Each call is refused only where memory
 //! is.
 
-ghost use Rattle.std.specs.Prelude.{◌≡◌, ◌+◌, ◌<◌, ◌≤◌, ◌^◌, IfOk, IfSome, OnOk, map, option_map};
+ghost use Rattle.std.specs.Prelude.{◌≡◌, ◌<◌, ◌≤◌, ◌^◌, IfOk, map, option_map};
 ghost use Rattle.std.specs.String.{string_bytes};
 ghost use Rattle.pg_schema.specs.Parts.{shape_of};
-ghost use Rattle.pg_fds.specs.Building.{AreChildren, IsOf, items_of, items_within, written_shape};
+ghost use Rattle.pg_fds.specs.Building.{IsOf, items_of, written_shape};
 ghost use Rattle.pg_fds.specs.Fields.{element_code, element_name, field_items, label, named_type, oneof_place, scalar_code, type_code};
 ghost use Rattle.pg_fds.specs.Places.{declared_in};
 ghost use Rattle.pg_fds.specs.Small.{HasSmallNumbers};

@@ -1,7 +1,7 @@
 //! Whether the messages of a set state files. What they don't state is told as a bad reference.
 
 ghost use Rattle.std.specs.Prelude.{◌≡◌, ◌&&◌, ◌∷◌, [], true, IfErr, IfOk, OnErr, OnOk, find, length, map, nat_eq, option_map};
-ghost use Rattle.std.specs.List.{AllByRecursion, list_all};
+ghost use Rattle.std.specs.List.{list_all};
 ghost use Rattle.std.specs.Option.{option_copied, unwrap_or};
 ghost use Rattle.std.specs.Str.{IsUtf8};
 ghost use Rattle.pg_schema.specs.declared.options.FileOption.{FileOption};
@@ -15,13 +15,13 @@ ghost use Rattle.pg_fds.specs.Building.{shown};
 ghost use Rattle.pg_fds.specs.Lent.{lent};
 ghost use Rattle.pg_fds.specs.Places.{declared_in};
 ghost use Rattle.pg_fds.specs.Said.{item_at, options_at, text_at, texts_at};
-ghost use Rattle.pg_fds.specs.StatesFiles.{StatesFile, StatesOptions, import_of, is_descriptor, is_proto3, is_skipped, kept_imports, most_deep, option_item, stated_option};
+ghost use Rattle.pg_fds.specs.StatesFiles.{StatesFile, StatesOptions, import_of, is_descriptor, is_proto3, is_skipped, kept_imports, option_item, stated_option};
 ghost use Rattle.pg_fds.specs.StatesTypes.{AreMarked};
 
 use crate::error::Unstated;
 use crate::files::mode_code;
 use crate::oneof_states::marks;
-use crate::said::{child_in, children, ensure, item, numbers, text, texts};
+use crate::said::{MOST_DEEP, child_in, children, ensure, item, numbers, text, texts};
 use crate::service_states::services;
 use crate::states::{enums, same_text};
 use crate::type_states::types;
@@ -34,9 +34,6 @@ use std::alloc::Global;
 // swift_prefix, php_class_prefix, php_namespace, ruby_package.
 /// The options of files that are taken.
 pub const OPTIONS: [u32; 13] = [1, 8, 9, 10, 11, 23, 31, 36, 37, 39, 40, 41, 45];
-
-// How deep message types may be nested.
-const MOST_DEEP: usize = 100;
 
 /// Whether the path is that of descriptor.proto.
 pub fn is_descriptor(path: &str) -> bool

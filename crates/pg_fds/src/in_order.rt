@@ -9,11 +9,8 @@ ghost use Rattle.pg_fds.specs.InOrder.{StandInOrder, enums_below, file_enums, fi
 ghost use Rattle.pg_fds.specs.Walks.{places_from};
 
 use crate::error::Unstated;
-use crate::said::ensure;
+use crate::said::{MOST_DEEP, ensure};
 use pg_schema::{EnumId, File, Schema, ServiceId, TypeId};
-
-// How deep message types may be nested.
-const MOST_DEEP: usize = 100;
 
 // The place is the next one.
 fn behind(place: u32, next: usize) -> Result<usize, Unstated>

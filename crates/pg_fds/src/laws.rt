@@ -1,9 +1,23 @@
 //! Laws about the definitions. Each is the contract of a function that does nothing.
 
+ghost use Rattle.pg_fds.specs.DescriptorLaw.{DescriptorIsSound};
 ghost use Rattle.pg_fds.specs.Examples.{WorkedSets};
 ghost use Rattle.pg_fds.specs.Pieces.{WorkedPieces};
 ghost use Rattle.pg_fds.specs.PlaceExamples.{WorkedPlaces};
 ghost use Rattle.pg_fds.specs.ReadExamples.{OneFieldRead};
+ghost use Rattle.pg_fds.specs.SetOrderLaws.{SetOrderLaws};
+
+/// What is written down of descriptor.proto keeps to the rules of a schema.
+pub fn descriptor_rules()
+    ensures { DescriptorIsSound }
+{}
+
+/// Bytes that state a schema state it renumbered in the order of the set too, which keeps to the rules and stands in
+/// that order; each message type, enum and service has its new place. One that stands in order says the same as
+/// before.
+pub fn renumbered_sets()
+    ensures { SetOrderLaws }
+{}
 
 /// The bytes of the sets of two small files.
 pub fn worked_sets()

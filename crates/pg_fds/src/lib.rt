@@ -44,6 +44,8 @@ mod writing;
 pub use again::read_again;
 pub use descriptor::descriptor_schema;
 pub use error::FdsError;
-pub use laws::{worked_pieces, worked_places, worked_reads, worked_sets};
+pub use laws::{
+    descriptor_rules, renumbered_sets, worked_pieces, worked_places, worked_reads, worked_sets,
+};
 pub use reading::read;
 pub use writing::write;

@@ -109,8 +109,10 @@ fn named_element(
     message: &Message,
     name: &str,
 ) -> Result<Element, Unstated>
-    ensures made { IfOk result (λ made. (all : Declared) (e : StatedElement) → HasNames all names.now → StatesElement all (message_of message.now) e → maybe_text_at 6 (message_of message.now) ≡ Some name.now → made ≡ e) }
-    ensures refused { OnErr result ((all : Declared) (e : StatedElement) → HasNames all names.now → StatesElement all (message_of message.now) e → maybe_text_at 6 (message_of message.now) ≡ Some name.now → ⊥) }
+    ensures made { IfOk result (λ made. (all : Declared) (e : StatedElement) → HasNames all names.now
+        → StatesElement all (message_of message.now) e → maybe_text_at 6 (message_of message.now) ≡ Some name.now → made ≡ e) }
+    ensures refused { OnErr result ((all : Declared) (e : StatedElement) → HasNames all names.now → StatesElement all (message_of message.now) e
+        → maybe_text_at 6 (message_of message.now) ≡ Some name.now → ⊥) }
 {
     let named = resolved(names, name)?;
     let element = meant(named)?;
@@ -119,7 +121,8 @@ fn named_element(
 
 /// What a field's items are, where it isn't a map.
 pub fn element(names: &BTreeMap<String, Named>, message: &Message) -> Result<Element, Unstated>
-    ensures made { IfOk result (λ made. (all : Declared) (e : StatedElement) → HasNames all names.now → StatesElement all (message_of message.now) e → made ≡ e) }
+    ensures made { IfOk result (λ made. (all : Declared) (e : StatedElement) → HasNames all names.now
+        → StatesElement all (message_of message.now) e → made ≡ e) }
     ensures refused { OnErr result ((all : Declared) (e : StatedElement) → HasNames all names.now → StatesElement all (message_of message.now) e → ⊥) }
 {
     let name = maybe_text(message, 6)?;
@@ -191,8 +194,10 @@ fn is_alone(synthetic: &[bool], members: &[usize], named: Option<i128>) -> Resul
 
 // The oneof that a field stands in: none where it is `optional`, whose oneof is its own.
 fn oneof(scope: &Scope<'_>, message: &Message) -> Result<Option<u32>, Unstated>
-    ensures made { IfOk result (λ made. (f : StatedField) → flag_at 17 (message_of message.now) ≡ f.states_optional → StandsAt scope.now.synthetic.items scope.now.members.items (message_of message.now) f → made ≡ f.oneof) }
-    ensures refused { OnErr result ((f : StatedField) → flag_at 17 (message_of message.now) ≡ f.states_optional → IfSome f.oneof (λ place. place < 2 ^ 32) → StandsAt scope.now.synthetic.items scope.now.members.items (message_of message.now) f → ⊥) }
+    ensures made { IfOk result (λ made. (f : StatedField) → flag_at 17 (message_of message.now) ≡ f.states_optional
+        → StandsAt scope.now.synthetic.items scope.now.members.items (message_of message.now) f → made ≡ f.oneof) }
+    ensures refused { OnErr result ((f : StatedField) → flag_at 17 (message_of message.now) ≡ f.states_optional
+        → IfSome f.oneof (λ place. place < 2 ^ 32) → StandsAt scope.now.synthetic.items scope.now.members.items (message_of message.now) f → ⊥) }
 {
     let named = maybe_number(message, 9);
     let is_optional = flag(message, 17);
@@ -264,10 +269,12 @@ fn plain_parts(
     member: bool,
     packed: Option<bool>,
 ) -> Result<(Presence, Element), Unstated>
-    ensures made { IfOk result (λ made. (all : Declared) (e : StatedElement) (p : StatedPresence) → HasNames all names.now → StatesElement all (message_of message.now) e
+    ensures made { IfOk result (λ made. (all : Declared) (e : StatedElement) (p : StatedPresence) → HasNames all names.now
+        → StatesElement all (message_of message.now) e
         → StatesPresence (message_of message.now) e member packed p → (made.0 ≡ p) × (made.1 ≡ e)) }
     ensures plain { IfOk result (λ made. is_map made.0 ≡ false) }
-    ensures refused { OnErr result ((all : Declared) (e : StatedElement) (p : StatedPresence) → HasNames all names.now → StatesElement all (message_of message.now) e
+    ensures refused { OnErr result ((all : Declared) (e : StatedElement) (p : StatedPresence) → HasNames all names.now
+        → StatesElement all (message_of message.now) e
         → StatesPresence (message_of message.now) e member packed p → ⊥) }
 {
     let element = element(names, message)?;
@@ -296,11 +303,14 @@ fn parts<'a>(
     member: bool,
     packed: Option<bool>,
 ) -> Result<(Presence, Element), Unstated>
-    ensures made { IfOk result (λ made. (all : Declared) (f : StatedField) → StatesKnown all scope.now.names.now scope.now.name.now (message_of message.now) f → HasNamedEntry all entries.old f
-        → has_presence f.presence f.element member f.states_optional ≡ true → is_packed f.presence f.element packed ≡ true → (made.0 ≡ f.presence) × (made.1 ≡ f.element)) }
+    ensures made { IfOk result (λ made. (all : Declared) (f : StatedField)
+        → StatesKnown all scope.now.names.now scope.now.name.now (message_of message.now) f → HasNamedEntry all entries.old f
+        → has_presence f.presence f.element member f.states_optional ≡ true → is_packed f.presence f.element packed ≡ true
+        → (made.0 ≡ f.presence) × (made.1 ≡ f.element)) }
     ensures left { IfOk result (λ made. (name : List ℕ) → get_by_text entries.new name
         ≡ (if is_map made.0 && bytes_eq (entry_name (text_at 1 (message_of message.now))) name then None else get_by_text entries.old name)) }
-    ensures refused { IfErr result (λ r. (all : Declared) (f : StatedField) → StatesKnown all scope.now.names.now scope.now.name.now (message_of message.now) f → HasNamedEntry all entries.old f
+    ensures refused { IfErr result (λ r. (all : Declared) (f : StatedField)
+        → StatesKnown all scope.now.names.now scope.now.name.now (message_of message.now) f → HasNamedEntry all entries.old f
         → has_presence f.presence f.element member f.states_optional ≡ true → is_packed f.presence f.element packed ≡ true → r ≡ Memory) }
 {
     let is_map = is_map(scope.names, message)?;
@@ -319,11 +329,13 @@ pub fn made_field<'a>(
     entries: &mut BTreeMap<String, &'a Message>,
     message: &Message,
 ) -> Result<Field, Unstated>
-    ensures made { IfOk result (λ made. (all : Declared) (f : StatedField) → StatesFieldAt all scope.now.names.now scope.now.name.now scope.now.synthetic.items scope.now.members.items (message_of message.now) f
+    ensures made { IfOk result (λ made. (all : Declared) (f : StatedField)
+        → StatesFieldAt all scope.now.names.now scope.now.name.now scope.now.synthetic.items scope.now.members.items (message_of message.now) f
         → HasNamedEntry all entries.old f → field_view made ≡ field_view f) }
     ensures left { IfOk result (λ made. (name : List ℕ) → get_by_text entries.new name
         ≡ (if is_map made.presence && bytes_eq (entry_name (text_at 1 (message_of message.now))) name then None else get_by_text entries.old name)) }
-    ensures refused { IfErr result (λ r. (all : Declared) (f : StatedField) → StatesFieldAt all scope.now.names.now scope.now.name.now scope.now.synthetic.items scope.now.members.items (message_of message.now) f
+    ensures refused { IfErr result (λ r. (all : Declared) (f : StatedField)
+        → StatesFieldAt all scope.now.names.now scope.now.name.now scope.now.synthetic.items scope.now.members.items (message_of message.now) f
         → HasNamedEntry all entries.old f → r ≡ Memory) }
 {
     let packed = option(message, 8, 2);

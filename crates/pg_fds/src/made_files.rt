@@ -1,6 +1,6 @@
 //! Services and files of a schema, made of a set's messages.
 
-ghost use Rattle.std.specs.Prelude.{◌≡◌, ◌∷◌, [], ℕ, true, List, IfErr, IfOk, OnErr, length, map};
+ghost use Rattle.std.specs.Prelude.{◌≡◌, ◌∷◌, ℕ, true, List, IfErr, IfOk, OnErr, length, map};
 ghost use Rattle.std.specs.List.{AllZip, list_all};
 ghost use Rattle.std.specs.String.{string_bytes};
 ghost use Rattle.pg_schema.specs.declared.field.TypeId.{TypeId as StatedId};
@@ -49,8 +49,10 @@ fn called(
     message: &Message,
     number: u32,
 ) -> Result<TypeId, Unstated>
-    ensures made { IfOk result (λ made. (all : Declared) (id : StatedId) → HasNames all names.now → StatesCalled all (maybe_text_at number (message_of message.now)) id → made ≡ id) }
-    ensures refused { OnErr result ((all : Declared) (id : StatedId) → HasNames all names.now → StatesCalled all (maybe_text_at number (message_of message.now)) id → ⊥) }
+    ensures made { IfOk result (λ made. (all : Declared) (id : StatedId) → HasNames all names.now
+        → StatesCalled all (maybe_text_at number (message_of message.now)) id → made ≡ id) }
+    ensures refused { OnErr result ((all : Declared) (id : StatedId) → HasNames all names.now
+        → StatesCalled all (maybe_text_at number (message_of message.now)) id → ⊥) }
 {
     let name = maybe_text(message, number)?;
     let Some(name) = name else {
@@ -68,8 +70,10 @@ fn method(
     names: &BTreeMap<String, Named>,
     message: &Message,
 ) -> Result<Method, Unstated>
-    ensures made { IfOk result (λ made. (all : Declared) (d : StatedMethod) → HasNames all names.now → StatesMethod all (message_of message.now) d → method_view made ≡ method_view d) }
-    ensures refused { IfErr result (λ e. (all : Declared) (d : StatedMethod) → HasNames all names.now → StatesMethod all (message_of message.now) d → e ≡ Memory) }
+    ensures made { IfOk result (λ made. (all : Declared) (d : StatedMethod) → HasNames all names.now → StatesMethod all (message_of message.now) d
+        → method_view made ≡ method_view d) }
+    ensures refused { IfErr result (λ e. (all : Declared) (d : StatedMethod) → HasNames all names.now → StatesMethod all (message_of message.now) d
+        → e ≡ Memory) }
 {
     let name = String::from_str(alloc, text(message, 1)?)?;
     let input = called(names, message, 2)?;
@@ -91,8 +95,10 @@ fn methods(
     names: &BTreeMap<String, Named>,
     messages: &[&Message],
 ) -> Result<Vec<Method>, Unstated>
-    ensures made { IfOk result (λ made. (all : Declared) (ds : List StatedMethod) → HasNames all names.now → AllZip (StatesMethod all) (map message_of (lent messages.now)) ds → map method_view made.items ≡ map method_view ds) }
-    ensures refused { IfErr result (λ e. (all : Declared) (ds : List StatedMethod) → HasNames all names.now → AllZip (StatesMethod all) (map message_of (lent messages.now)) ds → e ≡ Memory) }
+    ensures made { IfOk result (λ made. (all : Declared) (ds : List StatedMethod) → HasNames all names.now
+        → AllZip (StatesMethod all) (map message_of (lent messages.now)) ds → map method_view made.items ≡ map method_view ds) }
+    ensures refused { IfErr result (λ e. (all : Declared) (ds : List StatedMethod) → HasNames all names.now
+        → AllZip (StatesMethod all) (map message_of (lent messages.now)) ds → e ≡ Memory) }
 {
     let mut methods = Vec::new(alloc);
     for message in messages {
@@ -107,9 +113,11 @@ pub fn service(
     names: &BTreeMap<String, Named>,
     outlined: &Outlined<'_>,
 ) -> Result<Service, Unstated>
-    ensures made { IfOk result (λ made. (all : Declared) (scope : List ℕ) (s : StatedService) → HasNames all names.now → string_bytes outlined.now.name ≡ within scope (text_at 1 (message_of outlined.now.message.now))
+    ensures made { IfOk result (λ made. (all : Declared) (scope : List ℕ) (s : StatedService) → HasNames all names.now
+        → string_bytes outlined.now.name ≡ within scope (text_at 1 (message_of outlined.now.message.now))
         → StatesService all scope (message_of outlined.now.message.now) s → service_view made ≡ service_view s) }
-    ensures refused { IfErr result (λ e. (all : Declared) (scope : List ℕ) (s : StatedService) → HasNames all names.now → StatesService all scope (message_of outlined.now.message.now) s → e ≡ Memory) }
+    ensures refused { IfErr result (λ e. (all : Declared) (scope : List ℕ) (s : StatedService) → HasNames all names.now
+        → StatesService all scope (message_of outlined.now.message.now) s → e ≡ Memory) }
 {
     let message = outlined.message;
     let name = outlined.name.clone()?;
@@ -175,7 +183,8 @@ fn options_under(
     message: &Message,
     numbers: &[u32],
 ) -> Result<Vec<FileOption>, Unstated>
-    ensures made { IfOk result (λ made. (os : List StatedOption) → StatesThese (message_of message.now) os numbers.now → list_all is_file_option os ≡ true → map option_view made.items ≡ views_under os numbers.now) }
+    ensures made { IfOk result (λ made. (os : List StatedOption) → StatesThese (message_of message.now) os numbers.now
+        → list_all is_file_option os ≡ true → map option_view made.items ≡ views_under os numbers.now) }
     ensures refused { IfErr result (λ e. (os : List StatedOption) → StatesThese (message_of message.now) os numbers.now → e ≡ Memory) }
 {
     let mut options = Vec::new(alloc);
@@ -192,7 +201,8 @@ fn options_under(
 
 // The options of a file, by rising number.
 fn options(alloc: Global, message: &Message) -> Result<Vec<FileOption>, Unstated>
-    ensures made { IfOk result (λ made. (os : List StatedOption) → StatesOptions (options_at 8 (message_of message.now)) os → is_rising (0 ∷ option_numbers os) ≡ true → list_all is_file_option os ≡ true → map option_view made.items ≡ map option_view os) }
+    ensures made { IfOk result (λ made. (os : List StatedOption) → StatesOptions (options_at 8 (message_of message.now)) os
+        → is_rising (0 ∷ option_numbers os) ≡ true → list_all is_file_option os ≡ true → map option_view made.items ≡ map option_view os) }
     ensures refused { IfErr result (λ e. (os : List StatedOption) → StatesOptions (options_at 8 (message_of message.now)) os → e ≡ Memory) }
 {
     let own = own_options(message);
@@ -229,8 +239,10 @@ fn kept(
 
 // The imports of a file, without those that are skipped.
 fn imports(alloc: Global, skips: bool, message: &Message) -> Result<Vec<Import>, Unstated>
-    ensures made { IfOk result (λ made. map import_of made.items ≡ kept_imports skips (numbers_at 10 (message_of message.now)) 0 (texts_at 3 (message_of message.now))) }
-    ensures refused { IfErr result (λ e. (is : List StatedImport) → kept_imports skips (numbers_at 10 (message_of message.now)) 0 (texts_at 3 (message_of message.now)) ≡ map import_of is
+    ensures made { IfOk result (λ made. map import_of made.items
+        ≡ kept_imports skips (numbers_at 10 (message_of message.now)) 0 (texts_at 3 (message_of message.now))) }
+    ensures refused { IfErr result (λ e. (is : List StatedImport)
+        → kept_imports skips (numbers_at 10 (message_of message.now)) 0 (texts_at 3 (message_of message.now)) ≡ map import_of is
         → list_all (is_place (length (texts_at 3 (message_of message.now)))) (numbers_at 10 (message_of message.now)) ≡ true → e ≡ Memory) }
 {
     let paths = texts(alloc, message, 3)?;
@@ -242,7 +254,8 @@ fn imports(alloc: Global, skips: bool, message: &Message) -> Result<Vec<Import>,
 
 /// The file of a message. Refused, memory aside, only where none is stated.
 pub fn file(alloc: Global, skips: bool, outlined: &OutlinedFile<'_>) -> Result<File, Unstated>
-    ensures made { IfOk result (λ made. (all : Declared) (f : StatedFile) → IsOutlinedFile all skips outlined.now f → is_file f ≡ true → file_view made ≡ file_view f) }
+    ensures made { IfOk result (λ made. (all : Declared) (f : StatedFile) → IsOutlinedFile all skips outlined.now f → is_file f ≡ true
+        → file_view made ≡ file_view f) }
     ensures refused { IfErr result (λ e. (all : Declared) (f : StatedFile) → IsOutlinedFile all skips outlined.now f → is_file f ≡ true → e ≡ Memory) }
 {
     let message = outlined.message;

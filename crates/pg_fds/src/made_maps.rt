@@ -3,7 +3,6 @@
 ghost use Rattle.std.specs.Prelude.{◌≡◌, ℕ, pos, true, List, None, Some, length, map, IfErr, IfOk, OnErr, OnOk, if◌then◌else◌};
 ghost use Rattle.std.specs.BTreeMap.{get_by_text};
 ghost use Rattle.std.specs.Str.{bytes_eq};
-ghost use Rattle.std.specs.String.{string_bytes};
 ghost use Rattle.pg_schema.specs.declared.field.Element.{Element as StatedElement};
 ghost use Rattle.pg_schema.specs.declared.field.Element.TheVariants.{Scalar as ScalarElement};
 ghost use Rattle.pg_schema.specs.declared.field.Field.{Field as StatedField};
@@ -49,7 +48,8 @@ fn check_entry_field(
     name: &str,
     place: i128,
 ) -> Result<(), Unstated>
-    ensures refused { IfErr result (λ r. (all : Declared) (n : ℕ) (e : StatedElement) → place ≡ pos n → default_json_name name.now ≡ name.now → StatesEntryField all name.now n e (message_of message.now) → r ≡ Memory) }
+    ensures refused { IfErr result (λ r. (all : Declared) (n : ℕ) (e : StatedElement) → place ≡ pos n → default_json_name name.now ≡ name.now
+        → StatesEntryField all name.now n e (message_of message.now) → r ≡ Memory) }
 {
     same_text(text(message, 1)?, name)?;
     same_number(number(message, 3), place)?;
@@ -62,8 +62,10 @@ fn check_entry_field(
 
 // What a map's keys are. A type that may not be one is told as that of floats, which may not either.
 fn key(names: &BTreeMap<String, Named>, message: &Message) -> Result<Scalar, Unstated>
-    ensures made { IfOk result (λ made. (all : Declared) (s : StatedScalar) → HasNames all names.now → StatesElement all (message_of message.now) (ScalarElement s) → made ≡ s) }
-    ensures refused { OnErr result ((all : Declared) (s : StatedScalar) → HasNames all names.now → StatesElement all (message_of message.now) (ScalarElement s) → ⊥) }
+    ensures made { IfOk result (λ made. (all : Declared) (s : StatedScalar) → HasNames all names.now
+        → StatesElement all (message_of message.now) (ScalarElement s) → made ≡ s) }
+    ensures refused { OnErr result ((all : Declared) (s : StatedScalar) → HasNames all names.now
+        → StatesElement all (message_of message.now) (ScalarElement s) → ⊥) }
 {
     let element = element(names, message)?;
     match element {
@@ -78,9 +80,11 @@ fn key_and_value(
     names: &BTreeMap<String, Named>,
     fields: &[&Message],
 ) -> Result<(Scalar, Element), Unstated>
-    ensures made { IfOk result (λ made. (all : Declared) (k : StatedScalar) (v : StatedElement) → HasNames all names.now → is_known (length all.types) (length all.enums) v ≡ true
+    ensures made { IfOk result (λ made. (all : Declared) (k : StatedScalar) (v : StatedElement) → HasNames all names.now
+        → is_known (length all.types) (length all.enums) v ≡ true
         → AreKeyAndValue all k v (map message_of (lent fields.now)) → (made.0 ≡ k) × (made.1 ≡ v)) }
-    ensures refused { IfErr result (λ r. (all : Declared) (k : StatedScalar) (v : StatedElement) → HasNames all names.now → is_known (length all.types) (length all.enums) v ≡ true
+    ensures refused { IfErr result (λ r. (all : Declared) (k : StatedScalar) (v : StatedElement) → HasNames all names.now
+        → is_known (length all.types) (length all.enums) v ≡ true
         → AreKeyAndValue all k v (map message_of (lent fields.now)) → r ≡ Memory) }
 {
     match fields {
@@ -101,9 +105,11 @@ fn entry_parts(
     names: &BTreeMap<String, Named>,
     entry: &Message,
 ) -> Result<(Scalar, Element), Unstated>
-    ensures made { IfOk result (λ made. (all : Declared) (f : StatedField) (k : StatedScalar) → HasNames all names.now → is_known (length all.types) (length all.enums) f.element ≡ true
+    ensures made { IfOk result (λ made. (all : Declared) (f : StatedField) (k : StatedScalar) → HasNames all names.now
+        → is_known (length all.types) (length all.enums) f.element ≡ true
         → StatesEntry all f k (message_of entry.now) → (made.0 ≡ k) × (made.1 ≡ f.element)) }
-    ensures refused { IfErr result (λ r. (all : Declared) (f : StatedField) (k : StatedScalar) → HasNames all names.now → is_known (length all.types) (length all.enums) f.element ≡ true
+    ensures refused { IfErr result (λ r. (all : Declared) (f : StatedField) (k : StatedScalar) → HasNames all names.now
+        → is_known (length all.types) (length all.enums) f.element ≡ true
         → StatesEntry all f k (message_of entry.now) → r ≡ Memory) }
 {
     lacks_all(entry, 3)?;
@@ -144,7 +150,8 @@ fn is_entry_type(named: Named) -> bool
 
 /// Whether the field names an entry type.
 pub fn is_map(names: &BTreeMap<String, Named>, message: &Message) -> Result<bool, Unstated>
-    ensures made { IfOk result (λ made. (all : Declared) (scope : List ℕ) (f : StatedField) → StatesKnown all names.now scope (message_of message.now) f → made ≡ is_map f.presence) }
+    ensures made { IfOk result (λ made. (all : Declared) (scope : List ℕ) (f : StatedField)
+        → StatesKnown all names.now scope (message_of message.now) f → made ≡ is_map f.presence) }
     ensures refused { OnErr result ((all : Declared) (scope : List ℕ) (f : StatedField) → StatesKnown all names.now scope (message_of message.now) f → ⊥) }
 {
     let name = maybe_text(message, 6)?;
@@ -179,11 +186,14 @@ pub fn map_parts<'a>(
     entries: &mut BTreeMap<String, &'a Message>,
     message: &Message,
 ) -> Result<(Presence, Element), Unstated>
-    ensures made { IfOk result (λ made. (all : Declared) (f : StatedField) → StatesKnown all names.now scope.now (message_of message.now) f → is_map f.presence ≡ true → HasNamedEntry all entries.old f
+    ensures made { IfOk result (λ made. (all : Declared) (f : StatedField) → StatesKnown all names.now scope.now (message_of message.now) f
+        → is_map f.presence ≡ true → HasNamedEntry all entries.old f
         → (made.0 ≡ f.presence) × (made.1 ≡ f.element)) }
     ensures map { IfOk result (λ made. is_map made.0 ≡ true) }
-    ensures left { OnOk result ((name : List ℕ) → get_by_text entries.new name ≡ (if bytes_eq (entry_name (text_at 1 (message_of message.now))) name then None else get_by_text entries.old name)) }
-    ensures refused { IfErr result (λ r. (all : Declared) (f : StatedField) → StatesKnown all names.now scope.now (message_of message.now) f → is_map f.presence ≡ true → HasNamedEntry all entries.old f → r ≡ Memory) }
+    ensures left { OnOk result ((name : List ℕ) → get_by_text entries.new name
+        ≡ (if bytes_eq (entry_name (text_at 1 (message_of message.now))) name then None else get_by_text entries.old name)) }
+    ensures refused { IfErr result (λ r. (all : Declared) (f : StatedField) → StatesKnown all names.now scope.now (message_of message.now) f
+        → is_map f.presence ≡ true → HasNamedEntry all entries.old f → r ≡ Memory) }
 {
     same_number(label_of(message), REPEATED)?;
     let own = entry_name(alloc, text(message, 1)?)?;

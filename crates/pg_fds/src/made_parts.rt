@@ -28,7 +28,8 @@ fn all_files(
     skips: bool,
     outlined: &[OutlinedFile<'_>],
 ) -> Result<Vec<File>, Unstated>
-    ensures made { IfOk result (λ made. (all : Declared) (cs : List StatedFile) → AllZip (IsMadeFile all skips) outlined.now cs → map file_view made.items ≡ map file_view cs) }
+    ensures made { IfOk result (λ made. (all : Declared) (cs : List StatedFile) → AllZip (IsMadeFile all skips) outlined.now cs
+        → map file_view made.items ≡ map file_view cs) }
     ensures refused { IfErr result (λ e. (all : Declared) (cs : List StatedFile) → AllZip (IsMadeFile all skips) outlined.now cs → e ≡ Memory) }
 {
     let mut files = Vec::new(alloc);
@@ -45,7 +46,8 @@ fn all_types(
     names: &BTreeMap<String, Named>,
     outlined: &[OutlinedType<'_>],
 ) -> Result<Vec<MessageType>, Unstated>
-    ensures made { IfOk result (λ made. (all : Declared) (cs : List StatedType) → AllZip (IsMadeType all names.now) outlined.now cs → map type_view made.items ≡ map type_view cs) }
+    ensures made { IfOk result (λ made. (all : Declared) (cs : List StatedType) → AllZip (IsMadeType all names.now) outlined.now cs
+        → map type_view made.items ≡ map type_view cs) }
     ensures refused { IfErr result (λ e. (all : Declared) (cs : List StatedType) → AllZip (IsMadeType all names.now) outlined.now cs → e ≡ Memory) }
 {
     let mut types = Vec::new(alloc);
@@ -75,8 +77,10 @@ fn all_services(
     names: &BTreeMap<String, Named>,
     outlined: &[Outlined<'_>],
 ) -> Result<Vec<Service>, Unstated>
-    ensures made { IfOk result (λ made. (all : Declared) (cs : List StatedService) → HasNames all names.now → AllZip (IsMadeService all) outlined.now cs → map service_view made.items ≡ map service_view cs) }
-    ensures refused { IfErr result (λ e. (all : Declared) (cs : List StatedService) → HasNames all names.now → AllZip (IsMadeService all) outlined.now cs → e ≡ Memory) }
+    ensures made { IfOk result (λ made. (all : Declared) (cs : List StatedService) → HasNames all names.now
+        → AllZip (IsMadeService all) outlined.now cs → map service_view made.items ≡ map service_view cs) }
+    ensures refused { IfErr result (λ e. (all : Declared) (cs : List StatedService) → HasNames all names.now
+        → AllZip (IsMadeService all) outlined.now cs → e ≡ Memory) }
 {
     let mut services = Vec::new(alloc);
     for one in outlined {
@@ -89,8 +93,10 @@ fn all_services(
 /// The parts that the outlined files declare. Refused, memory aside, only where none are stated that keep to the
 /// rules, of numbers that an int32 holds.
 pub fn made_parts(alloc: Global, skips: bool, outline: &Outline<'_>) -> Result<Parts, Unstated>
-    ensures made { IfOk result (λ made. (parts : StatedParts) → IsSound parts → AllByRecursion IsSmallEnum parts.enums.items → AreOutlined skips parts outline.now → parts_view made ≡ parts_view parts) }
-    ensures refused { IfErr result (λ e. (parts : StatedParts) → IsSound parts → AllByRecursion IsSmallEnum parts.enums.items → AreOutlined skips parts outline.now → e ≡ Memory) }
+    ensures made { IfOk result (λ made. (parts : StatedParts) → IsSound parts → AllByRecursion IsSmallEnum parts.enums.items
+        → AreOutlined skips parts outline.now → parts_view made ≡ parts_view parts) }
+    ensures refused { IfErr result (λ e. (parts : StatedParts) → IsSound parts → AllByRecursion IsSmallEnum parts.enums.items
+        → AreOutlined skips parts outline.now → e ≡ Memory) }
 {
     let names = &outline.names;
     let files = all_files(alloc, skips, &outline.files)?;

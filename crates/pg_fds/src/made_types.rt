@@ -1,6 +1,6 @@
 //! Message types and enums of a schema, made of a set's messages.
 
-ghost use Rattle.std.specs.Prelude.{◌≡◌, ℕ, ◌<◌, ◌^◌, pos, false, true, List, FitsSigned, IfErr, IfOk, IfSome, IsPermutation, OnErr, length, map, option_map};
+ghost use Rattle.std.specs.Prelude.{◌≡◌, ℕ, ◌<◌, pos, false, true, List, FitsSigned, IfErr, IfOk, IfSome, IsPermutation, OnErr, length, map, option_map};
 ghost use Rattle.std.specs.Int.{w32};
 ghost use Rattle.std.specs.List.{AllByRecursion, AllZip, list_all};
 ghost use Rattle.std.specs.List.Sorted.{IsNonDecreasingBy};
@@ -80,7 +80,8 @@ fn value(alloc: Global, message: &Message) -> Result<EnumValue, Unstated>
 
 fn values(alloc: Global, messages: &[&Message]) -> Result<Vec<EnumValue>, Unstated>
     ensures states { IfOk result (λ made. AllZip StatesValue (map message_of (lent messages.now)) made.items) }
-    ensures refused { IfErr result (λ e. (vs : List StatedValue) → AllZip StatesValue (map message_of (lent messages.now)) vs → AllByRecursion IsSmallValue vs → e ≡ Memory) }
+    ensures refused { IfErr result (λ e. (vs : List StatedValue) → AllZip StatesValue (map message_of (lent messages.now)) vs
+        → AllByRecursion IsSmallValue vs → e ≡ Memory) }
 {
     let mut values = Vec::new(alloc);
     for message in messages {
@@ -102,7 +103,8 @@ fn value_range(message: &Message) -> Result<ReservedValues, Unstated>
 
 fn value_ranges(alloc: Global, messages: &[&Message]) -> Result<Vec<ReservedValues>, Unstated>
     ensures states { IfOk result (λ made. AllZip StatesValueRange (map message_of (lent messages.now)) made.items) }
-    ensures refused { IfErr result (λ e. (rs : List StatedRange) → AllZip StatesValueRange (map message_of (lent messages.now)) rs → AllByRecursion AreSmallEnds rs → e ≡ Memory) }
+    ensures refused { IfErr result (λ e. (rs : List StatedRange) → AllZip StatesValueRange (map message_of (lent messages.now)) rs
+        → AllByRecursion AreSmallEnds rs → e ≡ Memory) }
 {
     let mut ranges = Vec::new(alloc);
     for message in messages {
@@ -115,8 +117,10 @@ fn value_ranges(alloc: Global, messages: &[&Message]) -> Result<Vec<ReservedValu
 /// The enum of a message, which states it. Refused, memory aside, only where none is stated, of numbers
 /// that an int32 holds.
 pub fn made_enum(alloc: Global, outlined: &Outlined<'_>) -> Result<EnumType, Unstated>
-    ensures states { IfOk result (λ made. (scope : List ℕ) → string_bytes outlined.now.name ≡ within scope (text_at 1 (message_of outlined.now.message.now)) → StatesEnum scope (message_of outlined.now.message.now) made) }
-    ensures refused { IfErr result (λ e. (scope : List ℕ) (stated : StatedEnum) → StatesEnum scope (message_of outlined.now.message.now) stated → IsSmallEnum stated → e ≡ Memory) }
+    ensures states { IfOk result (λ made. (scope : List ℕ) → string_bytes outlined.now.name
+        ≡ within scope (text_at 1 (message_of outlined.now.message.now)) → StatesEnum scope (message_of outlined.now.message.now) made) }
+    ensures refused { IfErr result (λ e. (scope : List ℕ) (stated : StatedEnum) → StatesEnum scope (message_of outlined.now.message.now) stated
+        → IsSmallEnum stated → e ≡ Memory) }
 {
     let message = outlined.message;
     let name = outlined.name.clone()?;
@@ -149,7 +153,8 @@ fn field_range(message: &Message) -> ReservedFields
 }
 
 fn field_ranges(alloc: Global, messages: &[&Message]) -> Result<Vec<ReservedFields>, AllocError>
-    ensures { IfOk result (λ made. (rs : List StatedFields) → AllZip StatesFieldRange (map message_of (lent messages.now)) rs → list_all is_reserved_range rs ≡ true → made.items ≡ rs) }
+    ensures { IfOk result (λ made. (rs : List StatedFields) → AllZip StatesFieldRange (map message_of (lent messages.now)) rs
+        → list_all is_reserved_range rs ≡ true → made.items ≡ rs) }
 {
     let mut ranges = Vec::new(alloc);
     for message in messages {
@@ -210,9 +215,11 @@ fn fields<'a>(
     messages: &[&Message],
 ) -> Result<Vec<Field>, Unstated>
     ensures made { IfOk result (λ made. (all : Declared) (fs : List StatedField) → HasEntries all entries.entry fs
-        → AllZip (StatesFieldAt all scope.now.names.now scope.now.name.now scope.now.synthetic.items scope.now.members.items) (map message_of (lent messages.now)) fs → map field_view made.items ≡ map field_view fs) }
+        → AllZip (StatesFieldAt all scope.now.names.now scope.now.name.now scope.now.synthetic.items scope.now.members.items) (map message_of (lent messages.now)) fs
+        → map field_view made.items ≡ map field_view fs) }
     ensures refused { IfErr result (λ e. (all : Declared) (fs : List StatedField) → HasEntries all entries.entry fs
-        → AllZip (StatesFieldAt all scope.now.names.now scope.now.name.now scope.now.synthetic.items scope.now.members.items) (map message_of (lent messages.now)) fs → e ≡ Memory) }
+        → AllZip (StatesFieldAt all scope.now.names.now scope.now.name.now scope.now.synthetic.items scope.now.members.items) (map message_of (lent messages.now)) fs
+        → e ≡ Memory) }
 {
     let mut left = entries;
     let mut fields = Vec::new(alloc);
@@ -255,7 +262,8 @@ fn declared_fields(
 ) -> Result<Vec<Field>, Unstated>
     requires own { map message_of (lent own.now) ≡ children_at 2 (message_of outlined.now.message.now) }
     requires marked { AreMarked (stated_places (map message_of (lent own.now))) (length (children_at 8 (message_of outlined.now.message.now))) synthetic.items }
-    ensures made { IfOk result (λ made. (all : Declared) (scope : List ℕ) (t : StatedType) → StatesMadeType all names.now scope outlined.now t → map field_view made.items ≡ map field_view (fields_of t)) }
+    ensures made { IfOk result (λ made. (all : Declared) (scope : List ℕ) (t : StatedType) → StatesMadeType all names.now scope outlined.now t
+        → map field_view made.items ≡ map field_view (fields_of t)) }
     ensures refused { IfErr result (λ e. (all : Declared) (scope : List ℕ) (t : StatedType) → StatesMadeType all names.now scope outlined.now t → e ≡ Memory) }
 {
     let inside = children(alloc, outlined.message, 3)?;
@@ -308,7 +316,8 @@ fn marked_members(
     requires inside { map message_of (lent inside.now) ≡ children_at 8 (message_of outlined.now.message.now) }
     requires places { places.now ≡ stated_places (map message_of (lent own.now)) }
     requires marked { AreMarked places.now (length inside.now) synthetic.items }
-    ensures made { IfOk result (λ made. (all : Declared) (scope : List ℕ) (t : StatedType) → StatesMadeType all names.now scope outlined.now t → HasMembers made t) }
+    ensures made { IfOk result (λ made. (all : Declared) (scope : List ℕ) (t : StatedType) → StatesMadeType all names.now scope outlined.now t
+        → HasMembers made t) }
     ensures refused { IfErr result (λ e. (all : Declared) (scope : List ℕ) (t : StatedType) → StatesMadeType all names.now scope outlined.now t → e ≡ Memory) }
 {
     let oneofs = oneof_names(alloc, inside, places, &synthetic)?;
@@ -332,7 +341,8 @@ fn members_of(
 ) -> Result<Members, Unstated>
     requires own { map message_of (lent own.now) ≡ children_at 2 (message_of outlined.now.message.now) }
     requires inside { map message_of (lent inside.now) ≡ children_at 8 (message_of outlined.now.message.now) }
-    ensures made { IfOk result (λ made. (all : Declared) (scope : List ℕ) (t : StatedType) → StatesMadeType all names.now scope outlined.now t → HasMembers made t) }
+    ensures made { IfOk result (λ made. (all : Declared) (scope : List ℕ) (t : StatedType) → StatesMadeType all names.now scope outlined.now t
+        → HasMembers made t) }
     ensures refused { IfErr result (λ e. (all : Declared) (scope : List ℕ) (t : StatedType) → StatesMadeType all names.now scope outlined.now t → e ≡ Memory) }
 {
     let places = synthetic_places(alloc, own)?;
@@ -346,7 +356,8 @@ fn made_members(
     names: &BTreeMap<String, Named>,
     outlined: &OutlinedType<'_>,
 ) -> Result<Members, Unstated>
-    ensures made { IfOk result (λ made. (all : Declared) (scope : List ℕ) (t : StatedType) → StatesMadeType all names.now scope outlined.now t → HasMembers made t) }
+    ensures made { IfOk result (λ made. (all : Declared) (scope : List ℕ) (t : StatedType) → StatesMadeType all names.now scope outlined.now t
+        → HasMembers made t) }
     ensures refused { IfErr result (λ e. (all : Declared) (scope : List ℕ) (t : StatedType) → StatesMadeType all names.now scope outlined.now t → e ≡ Memory) }
 {
     let own = children(alloc, outlined.message, 2)?;
@@ -360,7 +371,8 @@ pub fn made_type(
     names: &BTreeMap<String, Named>,
     outlined: &OutlinedType<'_>,
 ) -> Result<MessageType, Unstated>
-    ensures made { IfOk result (λ made. (all : Declared) (scope : List ℕ) (t : StatedType) → StatesMadeType all names.now scope outlined.now t → type_view made ≡ type_view t) }
+    ensures made { IfOk result (λ made. (all : Declared) (scope : List ℕ) (t : StatedType) → StatesMadeType all names.now scope outlined.now t
+        → type_view made ≡ type_view t) }
     ensures refused { IfErr result (λ e. (all : Declared) (scope : List ℕ) (t : StatedType) → StatesMadeType all names.now scope outlined.now t → e ≡ Memory) }
 {
     let message = outlined.message;

@@ -139,7 +139,8 @@ fn members(
 ) -> Result<(), Unstated>
     requires { AreMarked numbers.now (length oneofs.now) marks.now }
     ensures ok { OnOk result (AllZip (StandsIn (map message_of (lent oneofs.now)) numbers.now (map string_bytes names.now)) (map message_of (lent messages.now)) (lent declared.now)) }
-    ensures refused { OnErr result (AllZip (StandsIn (map message_of (lent oneofs.now)) numbers.now (map string_bytes names.now)) (map message_of (lent messages.now)) (lent declared.now) → ⊥) }
+    ensures refused { OnErr result (AllZip (StandsIn (map message_of (lent oneofs.now)) numbers.now (map string_bytes names.now)) (map message_of (lent messages.now)) (lent declared.now)
+        → ⊥) }
 {
     ensure(messages.len() == declared.len())?;
     for (place, message) in messages.iter().enumerate() {
@@ -161,7 +162,8 @@ fn marked_oneofs(
     requires synthetic { numbers.now ≡ synthetic_places (map message_of (lent messages.now)) }
     requires marked { AreMarked numbers.now (length oneofs.now) marks.now }
     ensures ok { OnOk result (StatesOneofs (map message_of (lent oneofs.now)) (map message_of (lent messages.now)) message_type.now (lent declared.now)) }
-    ensures refused { IfErr result (λ r. StatesOneofs (map message_of (lent oneofs.now)) (map message_of (lent messages.now)) message_type.now (lent declared.now) → r ≡ Memory) }
+    ensures refused { IfErr result (λ r. StatesOneofs (map message_of (lent oneofs.now)) (map message_of (lent messages.now)) message_type.now (lent declared.now)
+        → r ≡ Memory) }
 {
     let stated = message_type.oneofs.as_slice();
     let names = real_names(alloc, oneofs, numbers, marks)?;
@@ -186,7 +188,8 @@ pub fn oneofs(
     declared: &[&Field],
 ) -> Result<(), Unstated>
     ensures ok { OnOk result (StatesOneofs (map message_of (lent oneofs.now)) (map message_of (lent messages.now)) message_type.now (lent declared.now)) }
-    ensures refused { IfErr result (λ r. StatesOneofs (map message_of (lent oneofs.now)) (map message_of (lent messages.now)) message_type.now (lent declared.now) → r ≡ Memory) }
+    ensures refused { IfErr result (λ r. StatesOneofs (map message_of (lent oneofs.now)) (map message_of (lent messages.now)) message_type.now (lent declared.now)
+        → r ≡ Memory) }
 {
     let numbers = synthetic_places(alloc, messages)?;
     let marks = marks(alloc, &numbers, oneofs.len())?;

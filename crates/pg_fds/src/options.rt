@@ -1,8 +1,8 @@
 //! Messages of options. There is one where an option is stated.
 
-ghost use Rattle.std.specs.Prelude.{◌≡◌, ◌<◌, ◌++◌, IfOk, OnOk};
+ghost use Rattle.std.specs.Prelude.{◌≡◌, ◌<◌, ◌++◌, IfOk};
 ghost use Rattle.pg_schema.specs.Parts.{shape_of};
-ghost use Rattle.pg_fds.specs.Building.{AreOptions, HasOne, IsOf, items_of, stated_items, written_shape};
+ghost use Rattle.pg_fds.specs.Building.{AreOptions, HasOne, stated_items, written_shape};
 ghost use Rattle.pg_fds.specs.Descriptor as descriptor;
 ghost use Rattle.pg_fds.specs.Items as rows;
 

@@ -67,7 +67,8 @@ fn imported(
     paths: &[&str],
 ) -> Result<Vec<usize>, Unstated>
     ensures ok { IfOk result (λ own. (all : List (List ℕ)) → IsIndex all places.now → StandAt all own.items (kept_paths skips (lent paths.now))) }
-    ensures refused { IfErr result (λ e. (e ≡ errors.Memory) ⊎ ((all : List (List ℕ)) → IsIndex all places.now → list_all (is_among all) (kept_paths skips (lent paths.now)) ≡ false)) }
+    ensures refused { IfErr result (λ e. (e ≡ errors.Memory) ⊎ ((all : List (List ℕ)) → IsIndex all places.now
+        → list_all (is_among all) (kept_paths skips (lent paths.now)) ≡ false)) }
 {
     let mut imported = Vec::new(alloc);
     for path in paths {
@@ -140,7 +141,8 @@ fn importing_files<'a>(alloc: Global, files: &[&'a Message]) -> Result<Vec<Impor
 /// its imports is no text.
 pub fn order(alloc: Global, skips: bool, files: &[&Message]) -> Result<Vec<usize>, Unstated>
     ensures ok { IfOk result (λ order. AreOrdered skips (map importer_of (map message_of (lent files.now))) order.items) }
-    ensures refused { IfErr result (λ e. AllByRecursion HasPathTexts (map message_of (lent files.now)) → (e ≡ errors.Memory) ⊎ HasNoOrder skips (map importer_of (map message_of (lent files.now)))) }
+    ensures refused { IfErr result (λ e. AllByRecursion HasPathTexts (map message_of (lent files.now))
+        → (e ≡ errors.Memory) ⊎ HasNoOrder skips (map importer_of (map message_of (lent files.now)))) }
 {
     let found = importing_files(alloc, files)?;
     order_of(alloc, skips, &found)

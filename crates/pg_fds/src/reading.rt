@@ -1,12 +1,13 @@
 //! Descriptor sets, read.
 
 ghost use Rattle.std.specs.Prelude.{ℕ, ◌≡◌, Bool, List, Some, IfErr, IfOk, OnErr, OnOk, map};
-ghost use Rattle.std.specs.List.{list_all};
+ghost use Rattle.std.specs.List.{AllByRecursion, list_all};
 ghost use Rattle.pg_schema.specs.declared.parts.Parts.{Parts as StatedParts};
 ghost use Rattle.pg_schema.specs.Sound.{IsSound};
 ghost use Rattle.pg_check.specs.PartErrors.{IsRefusedOf};
 ghost use Rattle.pg_dyn.specs.Decoding.{dec};
-ghost use Rattle.pg_dyn.specs.Kept.{message_of};
+ghost use Rattle.pg_dyn.specs.Fits.{Fits};
+ghost use Rattle.pg_dyn.specs.Kept.{message_of, type_of};
 ghost use Rattle.pg_dyn.specs.Refusals.{MayRefuse};
 ghost use Rattle.pg_fds.specs.declared.error.FdsError.TheVariants as errors;
 ghost use Rattle.pg_fds.specs.declared.error.Unstated.TheVariants as unstated;
@@ -15,8 +16,10 @@ ghost use Rattle.pg_fds.specs.Descriptor.{file_set};
 ghost use Rattle.pg_fds.specs.FilePlaces.{AreOrdered};
 ghost use Rattle.pg_fds.specs.InOrder.{StandInOrder};
 ghost use Rattle.pg_fds.specs.Lent.{lent};
-ghost use Rattle.pg_fds.specs.Reads.{CanBeRead, States, StatesFiles, fds_reads, importer_of, kept_files};
-ghost use Rattle.pg_fds.specs.Refused.{IsOfBytes, IsOfParts, MayRefuseFiles, MayRefuseSet, NoneIsStated, StatesNoneInOrder};
+ghost use Rattle.pg_fds.specs.Reads.{CanBeMade, CanBeRead, IsHeld, States, StatesFiles, fds_reads, importer_of, kept_files};
+ghost use Rattle.pg_fds.specs.Refused.{HasTexts, IsOfBytes, IsOfParts, MayRefuseFiles, MayRefuseSet, NoneIsStated, StatesNoneInOrder};
+ghost use Rattle.pg_fds.specs.Said.{children_at};
+ghost use Rattle.pg_fds.specs.SetOrder.{in_set_order};
 ghost use Rattle.pg_fds.specs.StatesFiles.{is_proto3, most_deep};
 ghost use Rattle.pg_fds.specs.Views.{parts_view};
 
@@ -29,15 +32,12 @@ use crate::made_parts::made_parts;
 use crate::order::order;
 use crate::outline::outline_files;
 use crate::places::SET;
-use crate::said::children;
+use crate::said::{MOST_DEEP, children};
 use crate::set_states::{kept, skips, states_files};
 use pg_check::{CheckError, admit};
 use pg_dyn::{DynError, Message, decode, faults_are_real};
 use pg_schema::{Parts, Schema};
 use std::alloc::Global;
-
-// How deep messages may be nested.
-const MOST_DEEP: usize = 100;
 
 // What is told of bytes that the codec refuses so.
 fn undecoded(error: DynError) -> FdsError
@@ -53,6 +53,7 @@ fn undecoded(error: DynError) -> FdsError
 // The message of a set.
 fn decoded(alloc: Global, bytes: &[u8]) -> Result<Message, FdsError>
     ensures message { IfOk result (λ set. dec written_shape file_set bytes.now ≡ Some (message_of set)) }
+    ensures fits { IfOk result (λ set. Fits written_shape set × (type_of set ≡ file_set)) }
     ensures refused { IfErr result (MayRefuseSet bytes.now) }
     ensures of_bytes { IfErr result IsOfBytes }
 {
@@ -63,11 +64,13 @@ fn decoded(alloc: Global, bytes: &[u8]) -> Result<Message, FdsError>
     }
 }
 
-// Whether the files are all proto3. Refused only where they state no schema.
+// Whether the files are all proto3. Refused only where the syntax of one is no text, so where they state no
+// schema.
 fn are_proto3(files: &[&Message]) -> Result<bool, Unstated>
     ensures ok { IfOk result (λ all. all ≡ list_all is_proto3 (map message_of (lent files.now))) }
     ensures none { OnErr result ((skips : Bool) (parts : StatedParts)
         → StatesFiles skips (map message_of (lent files.now)) parts → ⊥) }
+    ensures refused { OnErr result (AllByRecursion HasTexts (map message_of (lent files.now)) → ⊥) }
 {
     for file in files {
         let proto3 = is_proto3(file)?;
@@ -82,9 +85,9 @@ fn are_proto3(files: &[&Message]) -> Result<bool, Unstated>
 // memory aside, only where they state none.
 fn parts(alloc: Global, skips: bool, files: &[&Message], order: &[usize]) -> Result<Parts, Unstated>
     requires { AreOrdered skips (map importer_of (map message_of (lent files.now))) order.now }
-    ensures made { IfOk result (λ made. (parts : StatedParts) → CanBeRead parts
+    ensures made { IfOk result (λ made. (parts : StatedParts) → CanBeMade parts
         → StatesFiles skips (map message_of (lent files.now)) parts → parts_view made ≡ parts_view parts) }
-    ensures none { IfErr result (λ e. (parts : StatedParts) → CanBeRead parts
+    ensures none { IfErr result (λ e. (parts : StatedParts) → CanBeMade parts
         → StatesFiles skips (map message_of (lent files.now)) parts → e ≡ unstated.Memory) }
 {
     let outline = outline_files(alloc, MOST_DEEP, files, order)?;
@@ -105,6 +108,7 @@ fn told(error: CheckError) -> FdsError
 // The schema of the parts, where they keep to the rules.
 fn admitted(alloc: Global, parts: Parts) -> Result<Schema, FdsError>
     ensures ok { IfOk result (λ schema. schema ≡ parts) }
+    ensures sound { IfOk result IsSound }
     ensures refused { IfErr result IsOfParts }
     ensures unsound { IfErr result (λ e. IsSound parts → e ≡ errors.Memory) }
 {
@@ -135,11 +139,12 @@ fn compared(
 // The schema that the files state, which are proto3 and have types that are taken.
 fn kept_schema(alloc: Global, skips: bool, files: &[&Message]) -> Result<Schema, FdsError>
     ensures ok { IfOk result (λ schema. StatesFiles skips (map message_of (lent files.now)) schema) }
+    ensures sound { IfOk result IsSound }
     ensures places { IfOk result (λ schema. StandInOrder schema) }
     ensures refused { IfErr result IsOfParts }
-    ensures same { IfOk result (λ schema. (parts : StatedParts) → CanBeRead parts
+    ensures same { IfOk result (λ schema. (parts : StatedParts) → CanBeMade parts
         → StatesFiles skips (map message_of (lent files.now)) parts → parts_view schema ≡ parts_view parts) }
-    ensures none { IfErr result (λ e. (parts : StatedParts) → CanBeRead parts
+    ensures none { IfErr result (λ e. (parts : StatedParts) → CanBeMade parts
         → StatesFiles skips (map message_of (lent files.now)) parts → e ≡ errors.Memory) }
 {
     let order = order(alloc, skips, files)?;
@@ -153,11 +158,13 @@ fn kept_schema(alloc: Global, skips: bool, files: &[&Message]) -> Result<Schema,
 // The schema that the files state.
 fn files_schema(alloc: Global, skips: bool, files: &[&Message]) -> Result<Schema, FdsError>
     ensures ok { IfOk result (λ schema. StatesFiles skips (map message_of (lent files.now)) schema) }
+    ensures sound { IfOk result IsSound }
     ensures places { IfOk result (λ schema. StandInOrder schema) }
-    ensures refused { IfErr result (MayRefuseFiles (map message_of (lent files.now))) }
-    ensures same { IfOk result (λ schema. (parts : StatedParts) → CanBeRead parts
+    ensures refused { IfErr result (λ e. AllByRecursion HasTexts (map message_of (lent files.now))
+        → MayRefuseFiles (map message_of (lent files.now)) e) }
+    ensures same { IfOk result (λ schema. (parts : StatedParts) → CanBeMade parts
         → StatesFiles skips (map message_of (lent files.now)) parts → parts_view schema ≡ parts_view parts) }
-    ensures none { IfErr result (λ e. (parts : StatedParts) → CanBeRead parts
+    ensures none { IfErr result (λ e. (parts : StatedParts) → CanBeMade parts
         → StatesFiles skips (map message_of (lent files.now)) parts → e ≡ errors.Memory) }
 {
     let proto3 = are_proto3(files)?;
@@ -174,11 +181,13 @@ fn files_schema(alloc: Global, skips: bool, files: &[&Message]) -> Result<Schema
 // The schema that a set's message states.
 fn set_schema(alloc: Global, set: &Message) -> Result<Schema, FdsError>
     ensures ok { IfOk result (λ schema. States (message_of set.now) schema) }
+    ensures sound { IfOk result IsSound }
     ensures places { IfOk result (λ schema. StandInOrder schema) }
-    ensures refused { IfErr result (MayRefuseFiles (kept_files (message_of set.now))) }
-    ensures same { IfOk result (λ schema. (parts : StatedParts) → CanBeRead parts → States (message_of set.now) parts
+    ensures refused { IfErr result (λ e. AllByRecursion HasTexts (children_at 1 (message_of set.now))
+        → MayRefuseFiles (kept_files (message_of set.now)) e) }
+    ensures same { IfOk result (λ schema. (parts : StatedParts) → CanBeMade parts → States (message_of set.now) parts
         → parts_view schema ≡ parts_view parts) }
-    ensures none { IfErr result (λ e. (parts : StatedParts) → CanBeRead parts → States (message_of set.now) parts
+    ensures none { IfErr result (λ e. (parts : StatedParts) → CanBeMade parts → States (message_of set.now) parts
         → e ≡ errors.Memory) }
 {
     let all_files = children(alloc, set, 1)?;
@@ -192,6 +201,7 @@ fn set_schema(alloc: Global, set: &Message) -> Result<Schema, FdsError>
 // The schema that the bytes state.
 fn bytes_schema(alloc: Global, bytes: &[u8]) -> Result<Schema, FdsError>
     ensures ok { IfOk result (λ schema. fds_reads bytes.now schema) }
+    ensures sound { IfOk result IsSound }
     ensures places { IfOk result (λ schema. StandInOrder schema) }
     ensures refused { IfErr result (MayRefuseSet bytes.now) }
     ensures same { IfOk result (λ schema. (parts : StatedParts) → CanBeRead parts → fds_reads bytes.now parts
@@ -214,13 +224,17 @@ fn bytes_schema(alloc: Global, bytes: &[u8]) -> Result<Schema, FdsError>
 /// entry type hasn't its form; `Rule` with the error of the first rule that what is declared breaks. A
 /// file `google/protobuf/descriptor.proto` that isn't proto3 is left out, as are imports of it.
 /// `Memory` may come in place of any. `Bytes`, but of messages nested too deep, `NotProto3` and `BadType`
-/// come only where the bytes state no schema, `BadReference` and `Rule` only where they state none that stands
-/// in order. Where they state such a one, the schema that is answered says the same.
+/// come only where the bytes state no schema, `BadReference` and `Rule` only where they state none whose places
+/// 32 bits hold. Where they state such a one, the schema that is answered says what it says, renumbered in the
+/// order above.
 pub fn read(alloc: Global, bytes: &[u8]) -> Result<Schema, FdsError>
     ensures ok { IfOk result (λ schema. fds_reads bytes.now schema) }
+    ensures sound { IfOk result IsSound }
     ensures places { IfOk result (λ schema. StandInOrder schema) }
     ensures refused { IfErr result (MayRefuseSet bytes.now) }
-    ensures same { IfOk result (λ schema. (parts : StatedParts) → CanBeRead parts → fds_reads bytes.now parts
+    ensures same { IfOk result (λ schema. (parts : StatedParts) → IsHeld parts → fds_reads bytes.now parts
+        → parts_view schema ≡ parts_view (in_set_order parts)) }
+    ensures exact { IfOk result (λ schema. (parts : StatedParts) → CanBeRead parts → fds_reads bytes.now parts
         → parts_view schema ≡ parts_view parts) }
     ensures none_stated { IfErr result (NoneIsStated bytes.now) }
 {

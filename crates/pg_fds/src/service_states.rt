@@ -1,8 +1,7 @@
 //! Whether the messages of a set state services. What they don't state is told as a bad reference.
 
-ghost use Rattle.std.specs.Prelude.{◌≡◌, IfErr, OnOk, map, option_map, slice_get, IsSomeAnd};
+ghost use Rattle.std.specs.Prelude.{◌≡◌, IfErr, OnOk, map, slice_get, IsSomeAnd};
 ghost use Rattle.std.specs.List.{AllZip};
-ghost use Rattle.std.specs.String.{string_bytes};
 ghost use Rattle.pg_dyn.specs.Kept.{message_of};
 ghost use Rattle.pg_fds.specs.declared.error.Unstated.TheVariants.{Memory};
 ghost use Rattle.pg_fds.specs.Lent.{lent};
@@ -101,7 +100,8 @@ fn service_at(
     id: ServiceId,
 ) -> Result<(), Unstated>
     ensures ok { OnOk result (IsSomeAnd (slice_get source.now.services.items id.index) (StatesService (declared_in source.now) scope.now (message_of message.now))) }
-    ensures refused { IfErr result (λ r. IsSomeAnd (slice_get source.now.services.items id.index) (StatesService (declared_in source.now) scope.now (message_of message.now)) → r ≡ Memory) }
+    ensures refused { IfErr result (λ r. IsSomeAnd (slice_get source.now.services.items id.index) (StatesService (declared_in source.now) scope.now (message_of message.now))
+        → r ≡ Memory) }
 {
     let parts = source.parts();
     match parts.services.get(id.index as usize) {

@@ -1,7 +1,7 @@
 //! Messages of services, `ServiceDescriptorProto` of descriptor.proto. Each call is refused only where
 //! memory is.
 
-ghost use Rattle.std.specs.Prelude.{◌≡◌, IfOk, OnOk, map, option_map, slice_get};
+ghost use Rattle.std.specs.Prelude.{◌≡◌, IfOk, map, slice_get};
 ghost use Rattle.std.specs.Option.{option_copied};
 ghost use Rattle.pg_schema.specs.Parts.{shape_of};
 ghost use Rattle.pg_fds.specs.Building.{AreChildren, IsOf, items_of, items_within, written_shape};

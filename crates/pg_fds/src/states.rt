@@ -1,7 +1,7 @@
 //! Whether the messages of a set state enums, fields and the entry types of map fields. What they don't
 //! state is told as a bad reference.
 
-ghost use Rattle.std.specs.Prelude.{◌≡◌, true, IfErr, IfOk, OnErr, OnOk, length, map, option_map, slice_get, IsSomeAnd};
+ghost use Rattle.std.specs.Prelude.{◌≡◌, IfErr, OnErr, OnOk, map, option_map, slice_get, IsSomeAnd};
 ghost use Rattle.std.specs.List.{AllZip};
 ghost use Rattle.std.specs.Str.{IsUtf8};
 ghost use Rattle.std.specs.String.{string_bytes};
@@ -215,7 +215,8 @@ pub fn fields(
     declared: &[&Field],
 ) -> Result<(), Unstated>
     ensures ok { OnOk result (AllZip (StatesField (declared_in source.now) scope.now) (map message_of (lent messages.now)) (lent declared.now)) }
-    ensures refused { IfErr result (λ r. AllZip (StatesField (declared_in source.now) scope.now) (map message_of (lent messages.now)) (lent declared.now) → r ≡ Memory) }
+    ensures refused { IfErr result (λ r. AllZip (StatesField (declared_in source.now) scope.now) (map message_of (lent messages.now)) (lent declared.now)
+        → r ≡ Memory) }
 {
     ensure(messages.len() == declared.len())?;
     for (place, message) in messages.iter().enumerate() {

@@ -1,7 +1,6 @@
 //! Names of synthetic oneofs. Each call is refused only where memory is.
 
 ghost use Rattle.std.specs.Prelude.{◌≡◌, ◌++◌, ◌∷◌, [], ℕ, List, IfOk, OnOk, length, map};
-ghost use Rattle.std.specs.BTreeSet.{contains_text};
 ghost use Rattle.std.specs.String.{string_bytes};
 ghost use Rattle.pg_schema.specs.TextSets.{IsSetOf};
 ghost use Rattle.pg_fds.specs.Lent.{lent};

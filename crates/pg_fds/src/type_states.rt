@@ -1,6 +1,6 @@
 //! Whether the messages of a set state message types. What they don't state is told as a bad reference.
 
-ghost use Rattle.std.specs.Prelude.{◌≡◌, [], IfErr, IfOk, OnOk, Some, filter, map, slice_get, IsSomeAnd};
+ghost use Rattle.std.specs.Prelude.{◌≡◌, IfErr, IfOk, OnOk, Some, filter, map};
 ghost use Rattle.pg_dyn.specs.Kept.{message_of};
 ghost use Rattle.pg_schema.specs.Parts.{type_at};
 ghost use Rattle.pg_schema.specs.Sound.{IsSound};
@@ -8,7 +8,7 @@ ghost use Rattle.pg_fds.specs.declared.error.Unstated.TheVariants.{Memory};
 ghost use Rattle.pg_fds.specs.Lent.{lent};
 ghost use Rattle.pg_fds.specs.Messages.{declared_fields};
 ghost use Rattle.pg_fds.specs.Places.{declared_in};
-ghost use Rattle.pg_fds.specs.StatesTypes.{StatesType, StatesTypes, StatesWhole, is_entry, is_no_entry};
+ghost use Rattle.pg_fds.specs.StatesTypes.{StatesType, StatesTypes, is_entry, is_no_entry};
 
 use crate::entry_states::entries;
 use crate::error::Unstated;

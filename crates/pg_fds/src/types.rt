@@ -1,8 +1,10 @@
-//! Fields, message types and enums of a schema that is written down.
+//! Message types and enums of a schema that is written down in rows.
 
-ghost use Rattle.std.specs.Prelude.{◌≡◌, ◌++◌, ◌∷◌, [], IfOk, OnOk, map};
-ghost use Rattle.pg_schema.specs.Parts.{field_shape};
-ghost use Rattle.pg_fds.specs.Rows.{field_row, shapes};
+ghost use Rattle.std.specs.Prelude.{◌≡◌, IfOk, map};
+ghost use Rattle.pg_schema.specs.declared.field.Field.{Field};
+ghost use Rattle.pg_fds.specs.Descriptor.{type_id};
+ghost use Rattle.pg_fds.specs.Rows.{enum_in, field_in, type_in, value_in};
+ghost use Rattle.pg_fds.specs.Views.{enum_view, field_view, type_view, value_view};
 
 use pg_schema::{
     Element, EnumId, EnumOptions, EnumType, EnumValue, EnumValueOptions, Field, FieldOptions,
@@ -10,17 +12,24 @@ use pg_schema::{
 };
 use std::alloc::{AllocError, Global};
 
-// The field of that number, name, presence and element. Refused only where memory is.
-fn field(
-    alloc: Global,
-    number: u32,
-    name: &str,
-    presence: Presence,
-    element: Element,
-) -> Result<Field, AllocError>
-    ensures { IfOk result (λ f. field_shape f ≡ field_row number presence element) }
+/// Number, name, presence and element of a field.
+pub type FieldRow<'a> = (u32, &'a str, Presence, Element);
+
+/// The full name of a message type, its fields, and the message types and enums that are declared in it.
+pub type TypeRow<'a> = (&'a str, &'a [FieldRow<'a>], &'a [TypeId], &'a [EnumId]);
+
+/// Number and name of an enum's value.
+pub type ValueRow<'a> = (i32, &'a str);
+
+/// The full name of an enum, and its values.
+pub type EnumRow<'a> = (&'a str, &'a [ValueRow<'a>]);
+
+// The field of a row. Refused only where memory is.
+fn field(alloc: Global, row: &FieldRow<'_>) -> Result<Field, AllocError>
+    ensures { IfOk result (λ f. field_view f ≡ field_in row.now) }
 {
-    let is_singular = presence == Presence::Explicit;
+    let (number, name, presence, element) = *row;
+    let is_singular = matches!(presence, Presence::Implicit | Presence::Explicit);
     let packed = if is_singular || !element.is_packable() {
         None
     } else {
@@ -41,19 +50,21 @@ fn field(
     })
 }
 
-// The fields of these rows: number, name, presence and element. Refused only where memory is.
-fn fields(alloc: Global, rows: &[(u32, &str, Presence, Element)]) -> Result<Vec<Field>, AllocError>
-    ensures { IfOk result (λ fs. map field_shape fs.items ≡ map (λ row. field_row row.0 row.2 row.3) rows.now) }
+// The fields of rows. Refused only where memory is.
+fn fields(alloc: Global, rows: &[FieldRow<'_>]) -> Result<Vec<Field>, AllocError>
+    ensures { IfOk result (λ fields. map field_view fields.items ≡ map field_in rows.now) }
 {
     let mut fields = Vec::new(alloc);
     for row in rows {
-        fields.push(field(alloc, row.0, row.1, row.2, row.3)?)?;
+        fields.push(field(alloc, row)?)?;
     }
     Ok(fields)
 }
 
 // The numbers of fields, in order. Refused only where memory is.
-fn numbers(alloc: Global, fields: &[Field]) -> Result<Vec<u32>, AllocError> {
+fn numbers(alloc: Global, fields: &[Field]) -> Result<Vec<u32>, AllocError>
+    ensures { IfOk result (λ numbers. numbers.items ≡ map (λ (f : Field). f.number) fields.now) }
+{
     let mut numbers = Vec::new(alloc);
     for field in fields {
         numbers.push(field.number)?;
@@ -61,65 +72,58 @@ fn numbers(alloc: Global, fields: &[Field]) -> Result<Vec<u32>, AllocError> {
     Ok(numbers)
 }
 
-// The places of enums from the first to before the last. Refused only where memory is.
-fn enum_ids(alloc: Global, first: u32, behind: u32) -> Result<Vec<EnumId>, AllocError> {
-    let mut ids = Vec::new(alloc);
-    for index in first..behind {
-        ids.push(EnumId { index })?;
-    }
-    Ok(ids)
-}
-
-/// Puts a message type of these rows behind the others: number, name, presence and element of each
-/// field. The message type at the place `inner` is declared in it, and the enums from the first of
-/// two places to before the second.
-///
-/// Refused only where memory is; the list may then have changed.
-pub fn push_type(
-    alloc: Global,
-    types: &mut Vec<MessageType>,
-    name: &str,
-    rows: &[(u32, &str, Presence, Element)],
-    inner: Option<u32>,
-    enums: (u32, u32),
-) -> Result<(), AllocError>
-    ensures { OnOk result (shapes types.new.items ≡ shapes types.old.items ++ map (λ row. field_row row.0 row.2 row.3) rows.now ∷ []) }
+// The message type of a row, whose fields are declared in its order. Refused only where memory is.
+fn message_type(alloc: Global, row: &TypeRow<'_>) -> Result<MessageType, AllocError>
+    ensures { IfOk result (λ t. type_view t ≡ type_in row.now) }
 {
+    let (name, rows, types, enums) = *row;
     let fields = fields(alloc, rows)?;
-    let mut nested_types = Vec::new(alloc);
-    if let Some(index) = inner {
-        nested_types.push(TypeId { index })?;
-    }
-    types.push(MessageType {
+    Ok(MessageType {
         name: String::from_str(alloc, name)?,
         declared: numbers(alloc, &fields)?,
         fields,
         oneofs: Vec::new(alloc),
-        nested_types,
-        nested_enums: enum_ids(alloc, enums.0, enums.1)?,
+        nested_types: Vec::from_slice(alloc, types)?,
+        nested_enums: Vec::from_slice(alloc, enums)?,
         reserved_numbers: Vec::new(alloc),
         reserved_names: Vec::new(alloc),
         options: MessageOptions { deprecated: None },
-    })?;
-    Ok(())
+    })
 }
 
-/// The enum of that full name whose values have these names and numbers. Refused only where memory
-/// is.
-pub fn enum_type(alloc: Global, name: &str, names: &[&str]) -> Result<EnumType, AllocError> {
+/// The message types of these rows. Refused only where memory is.
+pub fn message_types(alloc: Global, rows: &[TypeRow<'_>]) -> Result<Vec<MessageType>, AllocError>
+    ensures { IfOk result (λ types. map type_view types.items ≡ map type_in rows.now) }
+{
+    let mut types = Vec::new(alloc);
+    for row in rows {
+        types.push(message_type(alloc, row)?)?;
+    }
+    Ok(types)
+}
+
+// The values of rows. Refused only where memory is.
+fn values(alloc: Global, rows: &[ValueRow<'_>]) -> Result<Vec<EnumValue>, AllocError>
+    ensures { IfOk result (λ values. map value_view values.items ≡ map value_in rows.now) }
+{
     let mut values = Vec::new(alloc);
-    let mut number = 0;
-    for name in names {
+    for row in rows {
         values.push(EnumValue {
-            name: String::from_str(alloc, name)?,
-            number,
+            name: String::from_str(alloc, row.1)?,
+            number: row.0,
             options: EnumValueOptions { deprecated: None },
         })?;
-        number = number.saturating_add(1);
     }
+    Ok(values)
+}
+
+// The enum of a row. Refused only where memory is.
+fn enum_type(alloc: Global, row: &EnumRow<'_>) -> Result<EnumType, AllocError>
+    ensures { IfOk result (λ e. enum_view e ≡ enum_in row.now) }
+{
     Ok(EnumType {
-        name: String::from_str(alloc, name)?,
-        values,
+        name: String::from_str(alloc, row.0)?,
+        values: values(alloc, row.1)?,
         reserved_numbers: Vec::new(alloc),
         reserved_names: Vec::new(alloc),
         options: EnumOptions {
@@ -127,4 +131,26 @@ pub fn enum_type(alloc: Global, name: &str, names: &[&str]) -> Result<EnumType, 
             deprecated: None,
         },
     })
+}
+
+/// The enums of these rows. Refused only where memory is.
+pub fn enum_types(alloc: Global, rows: &[EnumRow<'_>]) -> Result<Vec<EnumType>, AllocError>
+    ensures { IfOk result (λ enums. map enum_view enums.items ≡ map enum_in rows.now) }
+{
+    let mut enums = Vec::new(alloc);
+    for row in rows {
+        enums.push(enum_type(alloc, row)?)?;
+    }
+    Ok(enums)
+}
+
+/// The message types at these places. Refused only where memory is.
+pub fn type_ids(alloc: Global, places: &[u32]) -> Result<Vec<TypeId>, AllocError>
+    ensures { IfOk result (λ ids. ids.items ≡ map type_id places.now) }
+{
+    let mut ids = Vec::new(alloc);
+    for place in places {
+        ids.push(TypeId { index: *place })?;
+    }
+    Ok(ids)
 }

@@ -1,6 +1,6 @@
 //! A walk over the imports of files.
 
-ghost use Rattle.std.specs.Prelude.{◌≡◌, ◌⊎◌, ◌<◌, ◌++◌, ◌∷◌, [], ℕ, List, Some, IfErr, IfOk, OnOk, length, slice_get};
+ghost use Rattle.std.specs.Prelude.{◌≡◌, ◌⊎◌, ◌<◌, ◌++◌, ◌∷◌, [], ℕ, Some, IfErr, IfOk, OnOk, length, slice_get};
 ghost use Rattle.pg_fds.specs.declared.error.Unstated.TheVariants as errors;
 ghost use Rattle.pg_fds.specs.declared.walk.Seen.TheVariants as seen;
 ghost use Rattle.pg_fds.specs.Walks.{AreWithin, Ends, Enters, Falls, IsStep, IsWalk, Walks, lists_of, places_from};

@@ -2,16 +2,16 @@
 
 use pg_fds::{FdsError, read, read_again, write};
 use pg_schema::{
-    EnumId, EnumOptions, EnumType, EnumValue, EnumValueOptions, File, MessageOptions, MessageType,
-    Parts, PartsError, Schema, TypeId,
+    Element, EnumId, EnumOptions, EnumType, EnumValue, EnumValueOptions, Field, FieldOptions, File,
+    MessageOptions, MessageType, Parts, PartsError, Presence, Schema, TypeId,
 };
 use std::alloc::{AllocError, Global};
 use std::test::Fail;
 
-// `syntax = "proto3"; enum E { A = 0; } message M { enum F { B = 0; } }`, by
+// `syntax = "proto3"; enum E { A = 0; } message M { enum F { B = 0; } F f = 1; E e = 2; }`, by
 // `protoc --descriptor_set_out=m.pb m.proto`.
 const TWO_ENUMS: &[u8] =
-    b"\x0a.\x0a\x07m.proto\x22\x0f\x0a\x01M\x22\x0a\x0a\x01F\x12\x05\x0a\x01B\x10\x00*\x0a\x0a\x01E\x12\x05\x0a\x01A\x10\x00b\x06proto3";
+    b"\x0aT\x0a\x07m.proto\x225\x0a\x01M\x12\x12\x0a\x01f\x18\x01 \x01(\x0e2\x04.M.FR\x01f\x12\x10\x0a\x01e\x18\x02 \x01(\x0e2\x02.ER\x01e\x22\x0a\x0a\x01F\x12\x05\x0a\x01B\x10\x00*\x0a\x0a\x01E\x12\x05\x0a\x01A\x10\x00b\x06proto3";
 
 fn enum_of(alloc: Global, name: &str, value: &str) -> Result<EnumType, AllocError> {
     let value = EnumValue {
@@ -31,11 +31,29 @@ fn enum_of(alloc: Global, name: &str, value: &str) -> Result<EnumType, AllocErro
     })
 }
 
+fn field(alloc: Global, number: u32, name: &str, of: EnumId) -> Result<Field, AllocError> {
+    Ok(Field {
+        number,
+        name: String::from_str(alloc, name)?,
+        presence: Presence::Implicit,
+        element: Element::Enum(of),
+        oneof: None,
+        json_name: String::from_str(alloc, name)?,
+        states_optional: false,
+        options: FieldOptions {
+            packed: None,
+            deprecated: None,
+        },
+    })
+}
+
 fn message_type(alloc: Global) -> Result<MessageType, AllocError> {
+    let f = field(alloc, 1, "f", EnumId { index: 1 })?;
+    let e = field(alloc, 2, "e", EnumId { index: 0 })?;
     Ok(MessageType {
         name: String::from_str(alloc, "M")?,
-        fields: Vec::new(alloc),
-        declared: Vec::new(alloc),
+        fields: vec![in alloc; f, e]?,
+        declared: vec![in alloc; 1, 2]?,
         oneofs: Vec::new(alloc),
         nested_types: Vec::new(alloc),
         nested_enums: vec![in alloc; EnumId { index: 1 }]?,
@@ -105,5 +123,8 @@ fn enums_of_a_text(rt: HostRuntime) -> Result<(), Fail> {
         Some("M.F")
     );
     assert_eq!(rt; names.as_slice().last().map(|e| e.name.as_str()), Some("E"));
+    // And the fields name them at their new places.
+    let field = made.field(TypeId { index: 0 }, 1);
+    assert!(rt; field.map(|f| f.element) == Some(Element::Enum(EnumId { index: 0 })));
     Ok(())
 }

@@ -1,22 +1,28 @@
 use Rattle.std.proofs.Common.{◌≡◌, ◌<◌, length, Some, sym, subst, rules}
 use Rattle.pg_dyn.specs.Decoding.{dec}
-use Rattle.pg_dyn.specs.Kept.{message_of}
+use Rattle.pg_dyn.specs.Fits.{Fits}
+use Rattle.pg_dyn.specs.Kept.{message_of, type_of}
 use Rattle.pg_dyn.specs.Refusals.{MayRefuse}
 use Rattle.pg_fds.specs.Building.{written_shape}
 use Rattle.pg_fds.specs.Descriptor.{file_set}
 use Rattle.pg_fds.proofs.reading.decoded.Goals as goal
 
 pub decode-requires : goal.decode-requires
-decode-requires c = record { type_id = subst (λ s. 0 < length s) (sym c.in_ok-table.ensures) (search rules) }
+decode-requires c = record { type_id = subst (λ s. 0 < length s) (sym c.in_ok-table.ensures.shape) (search rules) }
 
 pub returns-in-Ok-clause-message : goal.returns-in-Ok-clause-message
 unfolding written_shape
-returns-in-Ok-clause-message c = subst (λ s. dec s file_set c.args.bytes.now ≡ Some (message_of c.in-Ok.set)) c.in_ok-table.ensures c.in-Ok.ensures.message
+returns-in-Ok-clause-message c = subst (λ s. dec s file_set c.args.bytes.now ≡ Some (message_of c.in-Ok.set)) c.in_ok-table.ensures.shape c.in-Ok.ensures.message
+
+pub returns-in-Ok-clause-fits : goal.returns-in-Ok-clause-fits
+unfolding written_shape
+returns-in-Ok-clause-fits c = subst (λ s. Fits s c.in-Ok.set × (type_of c.in-Ok.set ≡ file_set)) c.in_ok-table.ensures.shape c.in-Ok.ensures.fits
 
 pub returns : goal.returns
 unfolding written_shape
 returns c = record {
   message = tt;
-  refused = c.undecoded.ensures.refused c.args.bytes.now (subst (λ s. MayRefuse s file_set 100 c.args.bytes.now c.in-Err.error) c.in_ok-table.ensures c.in-Err.ensures.refused);
+  fits = tt;
+  refused = c.undecoded.ensures.refused c.args.bytes.now (subst (λ s. MayRefuse s file_set 100 c.args.bytes.now c.in-Err.error) c.in_ok-table.ensures.shape c.in-Err.ensures.refused);
   of_bytes = c.undecoded.ensures.of_bytes;
 }

@@ -1,7 +1,7 @@
 use Rattle.std.proofs.Common.{◌≡◌, take, map}
-use Rattle.pg_schema.specs.Parts.{field_shape}
-use Rattle.pg_fds.specs.Rows.{field_row}
+use Rattle.pg_fds.specs.Rows.{field_in}
+use Rattle.pg_fds.specs.Views.{field_view}
 use Rattle.pg_fds.proofs.types.fields.Given as goal
 
 abbrev pub invariant-loop-row : goal.invariant-loop-row
-invariant-loop-row l = map field_shape l.fields.items ≡ map (λ row. field_row row.0 row.2 row.3) (take l.row-index l.rows)
+invariant-loop-row l = map field_view l.fields.items ≡ map field_in (take l.row-index l.rows)
