@@ -38,7 +38,13 @@ try_test() {
 }
 
 failed=0
+tried=0
 for name in $("$built" --list | sed 's/: test$//' | grep -- "${2:-memory}"); do
     try_test "$name"
+    tried=$((tried + 1))
 done
+if [ "$tried" -eq 0 ]; then
+    echo "no test of $crate has this word in its name" >&2
+    exit 1
+fi
 [ "$failed" -eq 0 ]

@@ -1,4 +1,4 @@
--- A schema that a set states is stated also in the order of the set, where it is one of which it is said when it isn't read.
+-- A schema that a set states is stated also in the order of the set, where 32 bits hold its places.
 use Rattle.std.proofs.Common.{◌≡◌, Bool, ◌≤◌, ◌^◌, List, Option, Some, None, Result, IfOk, subst, sym}
 use Rattle.std.proofs.lemmas.Result.{IfOk-weaker}
 use Rattle.std.specs.Prelude.{IsSomeAnd}

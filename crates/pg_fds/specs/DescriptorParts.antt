@@ -1,7 +1,7 @@
--- The parts of descriptor.proto as it is written down here: the file, its message types with the fields that a set of this profile has,
--- and its enums, with all names (descriptor.proto of protobuf, `FileDescriptorSet` and below). Each enum has a value of number 0 besides,
--- since a schema's enum has one. That other fields and options are left out is this profile's choice,
--- as are the order in which fields and enums are declared, that of their numbers, and that a field of a message type isn't `optional`.
+-- The parts of descriptor.proto as it is written down here: the file, those of its message types, with those of their fields, and of its
+-- enums that a set of this profile has, with all names (descriptor.proto of protobuf, `FileDescriptorSet` and below). Each enum has a value
+-- of number 0 besides, since a schema's enum has one. What is left out is this profile's choice, as are that fields are declared by rising
+-- number, in which order enums are, and that a field of a message type isn't marked `optional`.
 use Rattle.std.specs.Prelude.{ℕ, ℤ, pos, false, not, ◌&&◌, ◌||◌, List, [], ◌∷◌, map, codes, Some, None, if◌then◌else◌}
 use Rattle.pg_schema.specs.declared.field.Element.{Element}
 use Rattle.pg_schema.specs.declared.field.EnumId.{EnumId}

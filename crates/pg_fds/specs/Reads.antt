@@ -66,7 +66,7 @@ pub record IsHeld (parts : Parts) : Type 0 where
   pub few_enums : length parts.enums.items ≤ 2 ^ 32
   pub few_services : length parts.services.items ≤ 2 ^ 32
 
--- such a one that stands in order, as each that is read
+-- the same, standing in order, as each schema does that is read
 pub record CanBeRead (parts : Parts) : Type 0 where
   pub sound : IsSound parts
   pub places : StandInOrder parts

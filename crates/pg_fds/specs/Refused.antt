@@ -39,7 +39,7 @@ abbrev pub MayRefuseRead : List ℕ → FdsError → Type 0
 MayRefuseRead bytes e = IsSomeAnd (dec written_shape file_set bytes) (λ set. MayRefuseFiles (kept_files set) e)
 
 -- What the codec refuses is a fault of the bytes, with messages nested at most 100 deep, and never want of memory. Otherwise the bytes are
--- a message, and of its files it holds.
+-- a message, and what is said above holds of its files.
 abbrev pub MayRefuseSet : List ℕ → FdsError → Type 0
 MayRefuseSet bytes errors.Memory = ⊤
 MayRefuseSet bytes (errors.Bytes e) = (e ≢ messages.Memory) × MayRefuse written_shape file_set most_deep bytes e

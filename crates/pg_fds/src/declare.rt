@@ -32,7 +32,7 @@ pub fn full_name(alloc: Global, scope: &str, name: &str) -> Result<String, Alloc
     Ok(full)
 }
 
-/// Puts a name in the table, which hasn't it.
+/// Puts a name in the table. Refused, memory aside, only where it may not be declared.
 pub fn declare(
     names: &mut BTreeMap<String, Named>,
     name: String,

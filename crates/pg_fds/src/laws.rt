@@ -12,9 +12,9 @@ pub fn descriptor_rules()
     ensures { DescriptorIsSound }
 {}
 
-/// Bytes that state a schema state it renumbered in the order of the set too, which keeps to the rules and stands in
-/// that order; each message type, enum and service has its new place. One that stands in order says the same as
-/// before.
+/// Bytes that state a schema, one that keeps to the rules and whose places 32 bits hold, state it also renumbered in
+/// the order of a set. Renumbered, it keeps to the rules and stands in order, with each message type, enum and service
+/// at its new place. One that stands in order says the same as before.
 pub fn renumbered_sets()
     ensures { SetOrderLaws }
 {}

@@ -55,7 +55,7 @@ fn behind_dot(dotted: &str) -> Result<&str, Unstated>
     }
 }
 
-/// What a full name with a dot in front is that of.
+/// What a full name with a dot in front is that of. Refused only where it is that of nothing.
 pub fn resolved(names: &BTreeMap<String, Named>, dotted: &str) -> Result<Named, Unstated>
     ensures ok { IfOk result (λ named. (rest : List ℕ) → dotted.now ≡ 46 ∷ rest → get_by_text names.now rest ≡ Some named) }
     ensures refused { OnErr result ((rest : List ℕ) (named : Meaning) → dotted.now ≡ 46 ∷ rest → get_by_text names.now rest ≡ Some named → ⊥) }
@@ -119,7 +119,7 @@ fn named_element(
     of_its_code(message, element)
 }
 
-/// What a field's items are, where it isn't a map.
+/// What a field's items are, where it isn't a map. Refused only where it states none.
 pub fn element(names: &BTreeMap<String, Named>, message: &Message) -> Result<Element, Unstated>
     ensures made { IfOk result (λ made. (all : Declared) (e : StatedElement) → HasNames all names.now
         → StatesElement all (message_of message.now) e → made ≡ e) }

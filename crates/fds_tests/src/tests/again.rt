@@ -35,9 +35,9 @@ fn same_again(rt: HostRuntime) -> Result<(), Fail> {
     Ok(())
 }
 
-// Each allocation refused in turn: `rt try --test --fail-alloc N`.
+// Each growth refused in turn, by `tools/try_memory.sh`.
 #[test]
-fn refused_again(rt: HostRuntime) -> Result<(), Fail> {
+fn again_without_memory(rt: HostRuntime) -> Result<(), Fail> {
     let alloc = rt.alloc();
     match written_twice(alloc, ONE_FIELD) {
         Ok(bytes) => assert_eq!(rt; bytes.as_slice(), ONE_FIELD),

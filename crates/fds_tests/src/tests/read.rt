@@ -98,9 +98,9 @@ fn fronts(rt: HostRuntime) -> Result<(), Fail> {
     Ok(())
 }
 
-// Each allocation refused in turn: `rt try --test --fail-alloc N`.
+// Each growth refused in turn, by `tools/try_memory.sh`.
 #[test]
-fn refused_read(rt: HostRuntime) -> Result<(), Fail> {
+fn read_without_memory(rt: HostRuntime) -> Result<(), Fail> {
     let alloc = rt.alloc();
     match schema_of(alloc, ONE_FIELD) {
         Ok(schema) => assert_eq!(rt; schema.parts().types.len(), 1),

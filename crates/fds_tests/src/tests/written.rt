@@ -88,9 +88,9 @@ fn one_field(rt: HostRuntime) -> Result<(), Fail> {
     Ok(())
 }
 
-// Each allocation refused in turn: `rt try --test --fail-alloc N`.
+// Each growth refused in turn, by `tools/try_memory.sh`.
 #[test]
-fn refused_write(rt: HostRuntime) -> Result<(), Fail> {
+fn write_without_memory(rt: HostRuntime) -> Result<(), Fail> {
     let alloc = rt.alloc();
     let a = int_field(alloc, 1, "a", Presence::Implicit, false)?;
     let parts = parts_of(alloc, vec![in alloc; a]?, vec![in alloc; 1]?)?;
