@@ -1,11 +1,11 @@
 #!/usr/bin/env python3
-"""Writes a proto3 text of about 4 MB, of 3,700 message types with 32 fields each, with comments.
+"""Writes a proto3 text of about 4 MB, of 3,700 message types with 32 fields each, with comments; or of so many types.
 
-usage: sets.py FILE
+usage: sets.py FILE [TYPES]
 """
 import sys
 
-TYPES = 3700
+TYPES = int(sys.argv[2]) if len(sys.argv) > 2 else 3700
 SCALARS = ["int32", "string", "bool", "uint64", "bytes", "double", "sint64", "fixed32"]
 
 
