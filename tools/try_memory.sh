@@ -27,7 +27,7 @@ try_test() {
             break
         fi
         # A test that hands want of memory on says so and nothing else; the names of tests and files may hold the word too.
-        if [ "$status" -ne 0 ] && ! grep -Eqx 'error: (AllocError|AllocFailed \{ \.\. \})' "$room/faults"; then
+        if [ "$status" -ne 0 ] && ! grep -Eqx 'error: (AllocError|AllocFailed \{ \.\. \}|Memory)' "$room/faults"; then
             echo "growth $turn: status $status"
             tail -n 3 "$room/said" "$room/faults"
             wrong=$((wrong + 1))
