@@ -155,7 +155,7 @@ some_left zero (x ∷ xs) y ys is = omega arith
 some_left (suc n) [] y ys is = absurd cc
 some_left (suc n) (x ∷ xs) y ys is = omega (arith, some_left n xs y ys is)
 
-longer : (scope name : List ℕ) → is_in scope name ≡ true → length scope < length name
+pub longer : (scope name : List ℕ) → is_in scope name ≡ true → length scope < length name
 longer [] [] is = absurd (false≢true is)
 longer [] (b ∷ name) is = omega arith
 longer (byte ∷ bytes) name is =
@@ -170,7 +170,7 @@ named_longer : (scope : List ℕ) (o : Option MessageType) → is_named_in scope
 named_longer scope None is = absurd (false≢true is)
 named_longer scope (Some t) is = longer scope (string_bytes t.name) is
 
-all_at : {A : Type 0} (test : A → Bool) (xs : List A) (k : ℕ) (x : A) → list_all test xs ≡ true → slice_get xs k ≡ Some x → test x ≡ true
+pub all_at : {A : Type 0} (test : A → Bool) (xs : List A) (k : ℕ) (x : A) → list_all test xs ≡ true → slice_get xs k ≡ Some x → test x ≡ true
 all_at test [] k x all there = absurd (none-some x there)
 all_at test (y ∷ xs) zero x all there = ap test (sym (same_Some y x there)) ∙ and_left (test y) (list_all test xs) all
 all_at test (y ∷ xs) (suc k) x all there = all_at test xs k x (and_right (test y) (list_all test xs) all) there

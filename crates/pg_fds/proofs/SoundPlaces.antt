@@ -1,41 +1,19 @@
 -- In a sound schema each message type, enum and service stands once in its place, each message type in one that files lead to.
-use Rattle.std.proofs.Common.{◌≡◌, ◌⊎◌, inl, inr, ℕ, zero, suc, ◌<◌, Bool, true, ◌&&◌, List, [], ◌∷◌, flat_map, take, drop, length, Option, Some, None, option_map, slice_get, refl, ap, sym, subst, ◌∙◌, arith}
-use Rattle.std.proofs.lemmas.Bool.{and_parts, false≢true}
+use Rattle.std.proofs.Common.{◌≡◌, ◌⊎◌, inl, inr, ℕ, zero, suc, ◌<◌, Bool, true, ◌&&◌, List, [], ◌∷◌, flat_map, length, Option, Some, None, option_map, slice_get, refl, subst, arith}
+use Rattle.std.proofs.lemmas.Bool.{and_parts}
 use Rattle.std.proofs.lemmas.Option.{none-some, same_Some, slice_get_within}
-use Rattle.std.specs.List.{AllByRecursion, list_all}
-use Rattle.std.specs.Str.{bytes_eq}
+use Rattle.std.specs.List.{AllByRecursion}
 use Rattle.std.specs.String.{string_bytes}
 use Rattle.pg_schema.specs.declared.field.TypeId.{TypeId}
 use Rattle.pg_schema.specs.declared.file.File.{File}
 use Rattle.pg_schema.specs.declared.message_type.MessageType.{MessageType}
 use Rattle.pg_schema.specs.declared.parts.Parts.{Parts}
-use Rattle.pg_schema.specs.Scopes.{are_each_once, are_enums_in, are_types_in, declared_enums, declared_services, declared_types, enum_places, is_dot_and_word, is_in, is_named_in, is_type_scope, type_name, type_places}
+use Rattle.pg_schema.specs.Scopes.{are_each_once, are_enums_in, are_types_in, declared_enums, declared_services, declared_types, enum_places, is_named_in, is_type_scope, type_name, type_places}
 use Rattle.pg_schema.specs.Sound.{IsSound}
+use Rattle.pg_fds.proofs.ListedPlaces.{all_at, longer}
 use Rattle.pg_fds.proofs.PlacesOnce.{IsAmong, among, among_either, each_place, lists}
 
 -- ---- names grow inwards
-
-some_left : (n : ℕ) (xs : List ℕ) (y : ℕ) (ys : List ℕ) → drop n xs ≡ y ∷ ys → n < length xs
-some_left zero [] y ys is = absurd cc
-some_left zero (x ∷ xs) y ys is = omega arith
-some_left (suc n) [] y ys is = absurd cc
-some_left (suc n) (x ∷ xs) y ys is = omega (arith, some_left n xs y ys is)
-
-longer : (scope name : List ℕ) → is_in scope name ≡ true → length scope < length name
-longer [] [] is = absurd (false≢true is)
-longer [] (b ∷ name) is = omega arith
-longer (byte ∷ bytes) name is =
-    let size = length (byte ∷ bytes) in
-    of (drop size name) refl (and_parts (bytes_eq (take size name) (byte ∷ bytes)) (is_dot_and_word (drop size name)) is).1
-  where
-    of : (rest : List ℕ) → drop (length (byte ∷ bytes)) name ≡ rest → is_dot_and_word rest ≡ true → length (byte ∷ bytes) < length name
-    of [] here word = absurd (false≢true word)
-    of (y ∷ ys) here word = some_left (length (byte ∷ bytes)) name y ys here
-
-all_at : {A : Type 0} (test : A → Bool) (xs : List A) (k : ℕ) (x : A) → list_all test xs ≡ true → slice_get xs k ≡ Some x → test x ≡ true
-all_at test [] k x all there = absurd (none-some x there)
-all_at test (y ∷ xs) zero x all there = ap test (sym (same_Some y x there)) ∙ (and_parts (test y) (list_all test xs) all).0
-all_at test (y ∷ xs) (suc k) x all there = all_at test xs k x (and_parts (test y) (list_all test xs) all).1 there
 
 pub each_at : {A : Type 0} (P : A → Type 0) (xs : List A) (k : ℕ) (x : A) → AllByRecursion P xs → slice_get xs k ≡ Some x → P x
 each_at P [] k x all there = absurd (none-some x there)
