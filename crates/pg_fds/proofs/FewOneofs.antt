@@ -4,8 +4,9 @@ use Rattle.std.proofs.lemmas.Bool.{false≢true}
 use Rattle.std.proofs.lemmas.Bool.Decides.{nat_tests}
 use Rattle.std.specs.List.{list_all, list_any}
 use Rattle.pg_schema.specs.declared.field.Field.{Field}
+use Rattle.pg_schema.specs.declared.message_type.MessageType.{MessageType}
 use Rattle.pg_schema.specs.FieldRules.{is_oneof}
-use Rattle.pg_schema.specs.MessageRules.{have_members, is_field, is_member, is_place, numbers}
+use Rattle.pg_schema.specs.MessageRules.{has_fields, has_oneofs, have_members, is_field, is_member, is_message_type, is_place, numbers}
 use Rattle.pg_schema.specs.Pairs.{is_rising}
 use Rattle.pg_schema.proofs.PairLemmas.{and_both, and_left, and_right}
 
@@ -99,3 +100,19 @@ oneof_small oneofs types enums fs h rising has (Some place) is =
     let less = few_oneofs oneofs fs has in
     let at = below place oneofs is in
     omega (arith, few, less, at)
+
+same_number : (a b : ℕ) → nat_eq a b ≡ true → a ≡ b
+same_number a b h = grind (arith, nat_tests)
+
+below_twice : (oneofs declared fields : ℕ) → fields < 2 ^ 29 → oneofs ≤ fields → declared ≡ fields → oneofs + declared < 2 ^ 31
+below_twice oneofs declared fields few less same = omega (arith, few, less, same)
+
+-- and an int32 the places of a message type's oneofs, of which each field may have one of its own
+pub few_places : (types enums : ℕ) (t : MessageType) → is_message_type types enums t ≡ true → length t.oneofs.items + length t.declared.items < 2 ^ 31
+few_places types enums t h =
+    let own : has_fields types enums t ≡ true = and_left _ _ (and_left _ _ (and_left _ _ h)) in
+    let held : has_oneofs t ≡ true = and_right _ _ (and_left _ _ (and_left _ _ h)) in
+    below_twice (length t.oneofs.items) (length t.declared.items) (length t.fields.items)
+    (few_fields (length t.oneofs.items) types enums t.fields.items (and_left _ _ (and_left _ _ own)) (and_right _ _ (and_left _ _ own)))
+    (few_oneofs (length t.oneofs.items) t.fields.items (and_right _ _ held))
+    (same_number (length t.declared.items) (length t.fields.items) (and_left _ _ (and_right _ _ own)))

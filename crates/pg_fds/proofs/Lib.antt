@@ -55,6 +55,7 @@ pub mod WrittenEntries
 pub mod WrittenOneofs
 pub mod WrittenTypes
 pub mod WrittenFiles
+pub mod LongSets
 pub mod WrittenDepth
 pub mod Levels
 pub mod WrittenLevels

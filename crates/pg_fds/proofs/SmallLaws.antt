@@ -1,4 +1,4 @@
--- Of a schema whose places an int32 counts, an int32 holds all numbers.
+-- An int32 holds all numbers of a schema; those of a file where it counts the imports.
 use Rattle.std.proofs.Common.{◌≡◌, ℕ, ◌+◌, ◌≤◌, ◌<◌, ◌^◌, true, nat_lt, nat_le, List, [], ◌∷◌, length, Option, Some, None, IfSome, ap, sym, ◌∙◌, arith}
 use Rattle.std.proofs.lemmas.Bool.Decides.{nat_tests}
 use Rattle.std.specs.List.{AllByRecursion, list_all}
@@ -22,8 +22,9 @@ use Rattle.pg_fds.specs.Descriptor.{descriptor_shape, file_set}
 use Rattle.pg_fds.specs.Set.{set_message}
 use Rattle.pg_fds.specs.Written.{set_items}
 use Rattle.pg_fds.proofs.Appending.{made_of}
+use Rattle.pg_fds.proofs.FewOneofs.{few_places}
 use Rattle.pg_fds.specs.Small.{HasSmallNumbers, IsSmallRange, IsSmallType}
-use Rattle.pg_fds.specs.Writable.{IsWritable, are_counted, has_counted_imports, has_counted_places}
+use Rattle.pg_fds.specs.Writable.{IsWritable, has_counted_imports}
 
 below : (a b : ℕ) → nat_lt a b ≡ true → a < b
 below a b h = grind (arith, nat_tests)
@@ -55,9 +56,9 @@ ranges_small : (rs : List ReservedFields) → list_all is_reserved_range rs ≡ 
 ranges_small [] h = tt
 ranges_small (r ∷ rs) h = (range_small r (and_left _ _ h), ranges_small rs (and_right (is_reserved_range r) _ h))
 
-type_small : (types enums : ℕ) (t : MessageType) → is_message_type types enums t ≡ true → has_counted_places t ≡ true → IsSmallType t
-type_small types enums t h counted =
-    let places = below (length t.oneofs.items + length t.declared.items) (2 ^ 31) counted in
+type_small : (types enums : ℕ) (t : MessageType) → is_message_type types enums t ≡ true → IsSmallType t
+type_small types enums t h =
+    let places : length t.oneofs.items + length t.declared.items < 2 ^ 31 = few_places types enums t h in
     let few : length t.oneofs.items < 2 ^ 31 = omega (arith, places) in
     record {
       fields = fields_small (length t.oneofs.items) types enums t.fields.items few (and_left _ _ (and_left _ _ (and_left _ _ (and_left _ _ (and_left _ _ h)))));
@@ -65,10 +66,9 @@ type_small types enums t h counted =
       places = places;
     }
 
-types_small : (types enums : ℕ) (ts : List MessageType) → list_all (is_message_type types enums) ts ≡ true → list_all has_counted_places ts ≡ true → AllByRecursion IsSmallType ts
-types_small types enums [] h counted = tt
-types_small types enums (t ∷ ts) h counted =
-    (type_small types enums t (and_left _ _ h) (and_left _ _ counted), types_small types enums ts (and_right (is_message_type types enums t) _ h) (and_right (has_counted_places t) _ counted))
+types_small : (types enums : ℕ) (ts : List MessageType) → list_all (is_message_type types enums) ts ≡ true → AllByRecursion IsSmallType ts
+types_small types enums [] h = tt
+types_small types enums (t ∷ ts) h = (type_small types enums t (and_left _ _ h), types_small types enums ts (and_right (is_message_type types enums t) _ h))
 
 files_writable : (fs : List File) → list_all is_file fs ≡ true → list_all has_counted_imports fs ≡ true → AllByRecursion IsWritable fs
 files_writable [] h counted = tt
@@ -82,11 +82,11 @@ files_writable (f ∷ fs) h counted =
       files_writable fs (and_right (is_file f) _ h) (and_right (has_counted_imports f) _ counted),
     )
 
-pub all_small : (parts : Parts) → IsSchema parts → are_counted parts ≡ true → AllByRecursion IsSmallType parts.types.items
-all_small parts is counted = types_small (length parts.types.items) (length parts.enums.items) parts.types.items is.sound.message_types (and_left _ _ counted)
+pub all_small : (parts : Parts) → IsSchema parts → AllByRecursion IsSmallType parts.types.items
+all_small parts is = types_small (length parts.types.items) (length parts.enums.items) parts.types.items is.sound.message_types
 
-pub all_writable : (parts : Parts) → IsSchema parts → are_counted parts ≡ true → AllByRecursion IsWritable parts.files.items
-all_writable parts is counted = files_writable parts.files.items is.sound.files (and_right (list_all has_counted_places parts.types.items) _ counted)
+pub all_writable : (parts : Parts) → IsSchema parts → list_all has_counted_imports parts.files.items ≡ true → AllByRecursion IsWritable parts.files.items
+all_writable parts is counted = files_writable parts.files.items is.sound.files counted
 
 pub set_bytes : (given : Shape) (parts : Parts) (m : Kept) → given ≡ descriptor_shape → IsOf file_set m → items_of m ≡ set_items parts → enc given (type_of m) (message_of m) ≡ enc descriptor_shape file_set (set_message parts)
 set_bytes given parts m same is items =

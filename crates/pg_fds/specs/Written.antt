@@ -1,17 +1,16 @@
 -- Sets that are written.
-use Rattle.std.specs.Prelude.{◌≡◌, ◌<◌, ◌⊎◌, false, length, map}
+use Rattle.std.specs.Prelude.{◌<◌, length, map}
 use Rattle.pg_schema.specs.declared.parts.Parts.{Parts}
 use Rattle.pg_dyn.specs.Encoding.{cap, enc}
 use Rattle.pg_fds.specs.Descriptor.{descriptor_shape, file_set}
 use Rattle.pg_fds.specs.Items.{Items, children}
 use Rattle.pg_fds.specs.Places.{declared_in}
 use Rattle.pg_fds.specs.Set.{file_items, set_message}
-use Rattle.pg_fds.specs.Writable.{are_counted}
 
 -- the parts of the set's message
 abbrev pub set_items : Parts → Items
 set_items parts = children 1 (map (file_items (declared_in parts)) parts.files.items)
 
--- The set has more bytes than an encoding may have, or an int32 doesn't name a place in it.
+-- the set has more bytes than an encoding may have
 abbrev pub HasNoSet : Parts → Type 0
-HasNoSet parts = (cap < length (enc descriptor_shape file_set (set_message parts))) ⊎ (are_counted parts ≡ false)
+HasNoSet parts = cap < length (enc descriptor_shape file_set (set_message parts))

@@ -11,7 +11,7 @@ ghost use Rattle.pg_fds.specs.Building.{IsOf, items_of, written_shape};
 ghost use Rattle.pg_fds.specs.Reads.{fds_reads};
 ghost use Rattle.pg_fds.specs.Set.{fds};
 ghost use Rattle.pg_fds.specs.Written.{HasNoSet, set_items};
-ghost use Rattle.pg_fds.specs.Writable.{are_counted, has_counted_imports, has_counted_places};
+ghost use Rattle.pg_fds.specs.Writable.{has_counted_imports};
 
 use crate::building::{empty, put_children};
 use crate::descriptor::descriptor_schema;
@@ -19,23 +19,12 @@ use crate::error::FdsError;
 use crate::files::files;
 use crate::places::{FILE, SET};
 use pg_dyn::{DynError, Message, encode, encoding_spells, reads_again, writing_splits};
-use pg_schema::{File, MessageType, Parts, Schema};
+use pg_schema::{File, Parts, Schema};
+use pg_wire::lengths_grow;
 use std::alloc::{AllocError, Global};
 
 // What an int32 counts.
 const MOST: usize = 2147483647;
-
-// The places of each message type's oneofs, real and synthetic, are those of an int32.
-fn have_counted_places(types: &[MessageType]) -> bool
-    ensures { result ≡ list_all has_counted_places types.now }
-{
-    for message_type in types {
-        if message_type.oneofs.len() + message_type.declared.len() > MOST {
-            return false;
-        }
-    }
-    true
-}
 
 // The places of each file's imports are those of an int32.
 fn have_counted_imports(files: &[File]) -> bool
@@ -49,17 +38,21 @@ fn have_counted_imports(files: &[File]) -> bool
     true
 }
 
-// The places of oneofs and imports are those of an int32.
+// The places of imports are those of an int32. Where they aren't, the set is too long: an import takes two bytes at
+// least.
+#[tactic(auto, using(crate::proofs::LongSets::set_too_long))]
 fn are_counted(parts: &Parts) -> bool
-    ensures { result ≡ are_counted parts.now }
+    ensures counted { result ≡ list_all has_counted_imports parts.now.files.items }
+    ensures too_long { result ≡ false → HasNoSet parts.now }
 {
-    have_counted_places(&parts.types) && have_counted_imports(&parts.files)
+    lengths_grow();
+    have_counted_imports(&parts.files)
 }
 
 // The message of the set.
 fn set(alloc: Global, table: &Schema, source: &Schema) -> Result<Message, AllocError>
     requires table { shape_of table.now ≡ written_shape }
-    requires counted { are_counted source.now ≡ true }
+    requires counted { list_all has_counted_imports source.now.files.items ≡ true }
     ensures items { IfOk result (λ m. items_of m ≡ set_items source.now) }
     ensures kept { IfOk result (IsOf SET) }
 {
@@ -78,8 +71,7 @@ fn set(alloc: Global, table: &Schema, source: &Schema) -> Result<Message, AllocE
 /// most 64 deep, no message of the set stands deeper than `read` takes.
 ///
 /// The errors are `Memory`, and `Bytes` of `TooLong`: only where the set would have more than
-/// 2,147,483,647 bytes, or a message type more oneofs, real and synthetic, or a file more imports than
-/// the places of an int32 name.
+/// 2,147,483,647 bytes.
 pub fn write(alloc: Global, schema: &Schema) -> Result<Vec<u8>, FdsError>
     ensures ok { IfOk result (λ bytes. fds schema.now bytes.items) }
     ensures short { IfOk result (λ bytes. length bytes.items ≤ cap) }

@@ -6,7 +6,7 @@ use Rattle.pg_fds.proofs.SmallLaws.{all_small, all_writable}
 use Rattle.pg_fds.proofs.writing.set.Goals as goal
 
 pub files-requires-clause-types : goal.files-requires-clause-types
-files-requires-clause-types c = all_small c.args.source.now c.parts-parts.ensures.checked c.requires.counted
+files-requires-clause-types c = all_small c.args.source.now c.parts-parts.ensures.checked
 
 pub files-requires-clause-files : goal.files-requires-clause-files
 files-requires-clause-files c =

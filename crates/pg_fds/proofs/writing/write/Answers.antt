@@ -41,5 +41,5 @@ pub returns-in-Err-TooLong-clause-err : goal.returns-in-Err-TooLong-clause-err
 returns-in-Err-TooLong-clause-err c =
     elim c.in-Err-TooLong.ensures.err [
       | inl memory ↦ absurd (cc)
-      | inr long ↦ inr (refl, inl (subst (λ bytes. cap < length bytes) (set_bytes (shape_of c.in_ok-table.table) c.args.schema.now c.in_ok-message.message c.in_ok-table.ensures.shape c.in_ok-message.ensures.kept c.in_ok-message.ensures.items) long.1))
+      | inr long ↦ inr (refl, subst (λ bytes. cap < length bytes) (set_bytes (shape_of c.in_ok-table.table) c.args.schema.now c.in_ok-message.message c.in_ok-table.ensures.shape c.in_ok-message.ensures.kept c.in_ok-message.ensures.items) long.1)
     ]
