@@ -115,3 +115,4 @@ pub mod PlacesOnce
 pub mod SoundPlaces
 pub mod SoundNumbers
 pub mod FewPlaces
+pub mod TextFiles
