@@ -1,5 +1,5 @@
 -- Files of texts: each imports no path twice, and stands behind those that it imports.
-use Rattle.std.proofs.Common.{◌≡◌, ◌∙◌, ℕ, Bool, true, false, not, ◌||◌, List, [], ◌∷◌, ◌++◌, map, flat_map, length, reverse, Option, Some, None, refl, sym, ap, ap₂, subst, true≢false}
+use Rattle.std.proofs.Common.{◌≡◌, ◌∙◌, ℕ, Bool, true, false, not, ◌||◌, List, [], ◌∷◌, ◌++◌, map, flat_map, length, reverse, Option, Some, None, refl, sym, ap, ap₂, subst}
 use Rattle.std.specs.Bool.{⊤}
 use Rattle.std.specs.List.{AllByRecursion, list_all, list_any}
 use Rattle.std.specs.Str.{bytes_eq}
@@ -26,19 +26,16 @@ use Rattle.pg_syntax.specs.declared.tree.Statement.TheVariants as statements
 use Rattle.pg_fds.specs.Again.{imports_apart}
 use Rattle.pg_fds.specs.PostOrder.{Importer, imports_once, paths_of}
 use Rattle.pg_fds.specs.Reads.{AreBehind, file_name}
+use Rattle.pg_fds.proofs.TextNames.{neither}
 use Rattle.pg_fds.proofs.WrittenOrder.{file_importer, import_path}
 
 -- ---- paths
 
-none_of : (a b : Bool) → (a || b) ≡ false → (not a ≡ true) × (b ≡ false)
-none_of true b none = absurd (true≢false none)
-none_of false b none = (refl, none)
-
 none_alike : (path : List ℕ) (paths : List (List ℕ)) → list_any (bytes_eq path) paths ≡ false → list_all (differ path) paths ≡ true
 none_alike path [] none = refl
 none_alike path (p ∷ paths) none =
-    let apart = none_of (bytes_eq path p) (list_any (bytes_eq path) paths) none in
-    and_both (differ path p) (list_all (differ path) paths) apart.0 (none_alike path paths apart.1)
+    let apart = neither (bytes_eq path p) (list_any (bytes_eq path) paths) none in
+    and_both (differ path p) (list_all (differ path) paths) (ap not apart.0) (none_alike path paths apart.1)
 
 distinct : (paths : List (List ℕ)) → Differ paths → are_distinct paths ≡ true
 distinct [] apart = refl
