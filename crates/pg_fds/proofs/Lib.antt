@@ -116,3 +116,11 @@ pub mod PlacesOnce
 pub mod SoundPlaces
 pub mod SoundNumbers
 pub mod FewPlaces
+pub mod TextNames
+pub mod TextFiles
+pub mod TextTrees
+pub mod TextPlaces
+pub mod TextWalks
+pub mod TextTypes
+pub mod TextServices
+pub mod TextOrder

@@ -1,0 +1,81 @@
+-- The services of texts stand in order of declaration, file after file.
+use Rattle.std.proofs.Common.{◌≡◌, ◌∙◌, ℕ, suc, ◌+◌, ◌^◌, ◌<◌, ◌≤◌, cond, nat_lt, List, [], ◌∷◌, ◌++◌, flat_map, length, refl, sym, ap, ap₂, subst, arith}
+use Rattle.std.specs.List.{AllByRecursion}
+use Rattle.std.proofs.lemmas.Bool.Decides.{nat_tests}
+use Rattle.std.proofs.lemmas.Grind.{flat_map-append}
+use Rattle.std.proofs.lemmas.List.{append-nil, length-map}
+use Rattle.pg_schema.specs.declared.file.File.{File}
+use Rattle.pg_schema.specs.declared.parts.Parts.{Parts}
+use Rattle.pg_schema.specs.Scopes.{declared_services, service_places}
+use Rattle.pg_schema.specs.Sound.{IsSound}
+use Rattle.pg_check.specs.MadeNumbers.{index_of}
+use Rattle.pg_check.specs.MadeParts.{ArePartsOf, Declared, EachIs, FileShape, IsFileOf, Source, file_services, file_shape, nothing, with_file, with_files}
+use Rattle.pg_check.specs.MadeServices.{MadeService, service, service_ids}
+use Rattle.pg_fds.specs.Walks.{places_from}
+use Rattle.pg_fds.proofs.PlacesOnce.{at_most}
+use Rattle.pg_fds.proofs.SoundPlaces.{services_once}
+use Rattle.pg_fds.proofs.TextPlaces.{index_is}
+
+-- ---- places of services
+
+-- those of so many services that stand behind others
+abbrev numbered : ℕ → List MadeService → List ℕ
+numbered before ss = service_places (service_ids before ss)
+
+numbered_joined : (before : ℕ) (xs ys : List MadeService) → numbered before (xs ++ ys) ≡ numbered before xs ++ numbered (before + length xs) ys
+numbered_joined before [] ys = let none : before ≡ before + 0 = omega arith in ap (λ n. numbered n ys) none
+numbered_joined before (x ∷ xs) ys =
+    let next : (before + 1) + length xs ≡ before + length (x ∷ xs) = omega arith in
+    ap (λ ns. index_of before ∷ ns) (numbered_joined (before + 1) xs ys ∙ ap (λ n. numbered (before + 1) xs ++ numbered n ys) next)
+
+low : (n : ℕ) → cond (nat_lt n (2 ^ 32)) n 0 < 2 ^ 32
+low n = grind (arith, nat_tests)
+
+all_low : (before : ℕ) (ss : List MadeService) → AllByRecursion (λ place. place < 2 ^ 32) (numbered before ss)
+all_low before [] = tt
+all_low before (s ∷ ss) = (low before, all_low (before + 1) ss)
+
+in_order : (before : ℕ) (ss : List MadeService) → before + length ss ≤ 2 ^ 32 → numbered before ss ≡ places_from before (length ss)
+in_order before [] few = refl
+in_order before (s ∷ ss) few =
+    let next : before + 1 ≡ suc before = omega arith in
+    ap₂ (λ n ns. n ∷ ns) (index_is before (omega (arith, few))) (ap (λ n. numbered n ss) next ∙ in_order (suc before) ss (omega (arith, few)))
+
+-- ---- file after file
+
+abbrev shape_places : FileShape → List ℕ
+shape_places w = service_places w.services
+
+-- what is declared so far stands in order
+abbrev AreNumbered : Declared → Type 0
+AreNumbered d = flat_map shape_places d.files ≡ numbered 0 d.services
+
+file_numbered : (d : Declared) (s : Source) → AreNumbered d → AreNumbered (with_file d s)
+file_numbered d s so_far =
+    let own : FileShape = file_shape (length d.types) (length d.enums) (length d.services) s in
+    let zero_more : length d.services ≡ 0 + length d.services = omega arith in
+    flat_map-append shape_places d.files (own ∷ [])
+    ∙ (ap₂ (λ xs ys. xs ++ ys) so_far (append-nil (shape_places own) ∙ ap (λ n. numbered n (file_services s)) zero_more)
+    ∙ sym (numbered_joined 0 d.services (file_services s)))
+
+all_numbered : (d : Declared) (ss : List Source) → AreNumbered d → AreNumbered (with_files d ss)
+all_numbered d [] so_far = so_far
+all_numbered d (s ∷ ss) so_far = all_numbered (with_file d s) ss (file_numbered d s so_far)
+
+files_places : (ws : List FileShape) (fs : List File) → EachIs IsFileOf ws fs → declared_services fs ≡ flat_map shape_places ws
+files_places [] [] each = refl
+files_places [] (f ∷ fs) each = absurd each
+files_places (w ∷ ws) [] each = absurd each
+files_places (w ∷ ws) (f ∷ fs) each = ap₂ (λ xs ys. xs ++ ys) (ap service_places each.0.services) (files_places ws fs each.1)
+
+-- services of texts stand in order
+pub services_in_order : (sources : List Source) (parts : Parts) → ArePartsOf sources parts → IsSound parts → declared_services parts.files.items ≡ places_from 0 (length parts.services.items)
+services_in_order sources parts are sound =
+    let all = (with_files nothing sources).services in
+    let places : declared_services parts.files.items ≡ numbered 0 all =
+    files_places (with_files nothing sources).files parts.files.items are.files ∙ all_numbered nothing sources refl in
+    let many : length parts.services.items ≡ length all = sym (length-map parts.services.items service) ∙ ap length are.services in
+    let few : length parts.services.items ≤ 2 ^ 32 =
+    at_most (length parts.services.items) (declared_services parts.files.items) (services_once parts sound) (2 ^ 32)
+    (subst (AllByRecursion (λ place. place < 2 ^ 32)) (sym places) (all_low 0 all)) in
+    places ∙ (in_order 0 all (omega (arith, few, many)) ∙ ap (places_from 0) (sym many))
