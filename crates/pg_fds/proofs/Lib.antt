@@ -115,3 +115,5 @@ pub mod PlacesOnce
 pub mod SoundPlaces
 pub mod SoundNumbers
 pub mod FewPlaces
+pub mod TextLevels
+pub mod TextDepth
