@@ -124,3 +124,5 @@ pub mod TextWalks
 pub mod TextTypes
 pub mod TextServices
 pub mod TextOrder
+pub mod TextLevels
+pub mod TextDepth

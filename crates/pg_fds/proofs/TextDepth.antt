@@ -1,0 +1,199 @@
+-- Message types of linked files are nested at most 64 deep, as deep as the grammar lets messages be nested in their texts.
+use Rattle.std.proofs.Common.{◌≡◌, ◌∙◌, ℕ, zero, suc, ◌+◌, ◌^◌, ◌<◌, ◌≤◌, Bool, true, false, cond, List, [], ◌∷◌, ◌++◌, filter, length, map, Option, Some, slice_get, sym, ap, subst, refl, arith, append_assoc, length-append}
+use Rattle.std.specs.List.{list_all, AllByRecursion}
+use Rattle.std.specs.Str.{bytes_eq}
+use Rattle.std.proofs.lemmas.Bool.Decides.{nat_tests}
+use Rattle.std.proofs.lemmas.List.{append-nil, length-map}
+use Rattle.std.proofs.lemmas.List.Elements.{recursion_from_All}
+use Rattle.std.proofs.lemmas.Slice.Eq.{bytes_eq-Decides}
+use Rattle.pg_schema.specs.declared.field.TypeId.{TypeId}
+use Rattle.pg_schema.specs.declared.file.File.{File}
+use Rattle.pg_schema.specs.declared.message_type.MessageType.{MessageType}
+use Rattle.pg_schema.specs.declared.parts.Parts.{Parts}
+use Rattle.pg_schema.proofs.PairLemmas.{and_both}
+use Rattle.pg_dyn.proofs.Lists.{each-append}
+use Rattle.pg_link.specs.declared.target.Target.{Target}
+use Rattle.pg_link.specs.Linked.{IsLinkedUp, LinkedFiles}
+use Rattle.pg_link.specs.Walk.{Entry, IsParsed}
+use Rattle.pg_check.specs.Declares.{Declares}
+use Rattle.pg_check.specs.Groups.{Placed, placed_from, type_id, types_in}
+use Rattle.pg_check.specs.MadeNumbers.{index_of}
+use Rattle.pg_check.specs.MadeParts.{Declared, EachIs, FileShape, IsFileOf, IsTypeOf, Source, TypeTree, file_shape, nothing, placed_enums, placed_messages, type_tree, type_trees, with_file, with_files}
+use Rattle.pg_check.specs.Outline.{Message, file_messages, message_scope, package_of}
+use Rattle.pg_check.specs.Sources.{linked_source, linked_sources}
+use Rattle.pg_check.proofs.Eachs.{each-length}
+use Rattle.pg_check.proofs.SoundParts.{linked_sound}
+use Rattle.pg_check.proofs.WordTrees.{file_good}
+use Rattle.pg_fds.specs.Again.{are_shallow, holds_inside, nest_within}
+use Rattle.pg_fds.proofs.TextLevels.{AreLevelled, file_levelled, words_in}
+
+-- ---- the message types of a file
+
+module _ (types : List MessageType) where
+  -- from a place on the message types are those of the trees
+  abbrev AreFrom : ℕ → List TypeTree → Type 0
+  AreFrom place [] = Unit {0}
+  AreFrom place (w ∷ ws) = ((t : MessageType) × (slice_get types place ≡ Some t) × IsTypeOf w t) × AreFrom (place + 1) ws
+
+  front_from : (place : ℕ) (vs ws : List TypeTree) → AreFrom place (vs ++ ws) → AreFrom place vs
+  front_from place [] ws h = tt
+  front_from place (v ∷ vs) ws h = (h.0, front_from (place + 1) vs ws h.1)
+
+  back_from : (place : ℕ) (vs ws : List TypeTree) → AreFrom place (vs ++ ws) → AreFrom (place + length vs) ws
+  back_from place [] ws h = subst (λ n. AreFrom n ws) (none_more place) h
+    where
+      none_more : (n : ℕ) → n ≡ n + 0
+      none_more n = omega arith
+  back_from place (v ∷ vs) ws h = subst (λ n. AreFrom n ws) (one_more place (length vs)) (back_from (place + 1) vs ws h.1)
+    where
+      one_more : (n k : ℕ) → (n + 1) + k ≡ n + suc k
+      one_more n k = omega arith
+
+  all_from : (before after : List MessageType) (ws : List TypeTree) → types ≡ before ++ after → EachIs IsTypeOf ws after → AreFrom (length before) ws
+  all_from before [] [] is h = tt
+  all_from before (t ∷ ts) [] is h = absurd h
+  all_from before [] (w ∷ ws) is h = absurd h
+  all_from before (t ∷ ts) (w ∷ ws) is h = (
+    (t, ap (λ us. slice_get us (length before)) is ∙ found before, h.0),
+    subst (λ n. AreFrom n ws) (length-append before (t ∷ [])) (all_from (before ++ t ∷ []) ts ws (is ∙ sym (append_assoc before (t ∷ []) ts)) h.1),
+  )
+    where
+      found : (us : List MessageType) → slice_get (us ++ t ∷ ts) (length us) ≡ Some t
+      found [] = refl
+      found (u ∷ us) = found us
+
+-- Messages, behind so many, whose full names have at most so many words: the more words a scope has, the fewer levels stand in it.
+module _ (types : List MessageType) (targets : ℕ → Option Target) (before : ℕ) (enums : List Placed) (ms : List Message) (top : ℕ) where
+  abbrev places : ℕ → List Message → List Placed
+  places place rest = placed_from place (map message_scope rest)
+
+  abbrev tree_of : Message → TypeTree
+  tree_of m = type_tree targets (places before ms) enums m
+
+  same_scope : (a b : List ℕ) → bytes_eq a b ≡ true → words_in a ≡ words_in b
+  same_scope a b h = ap words_in ((bytes_eq-Decides a b).0 h)
+
+  -- the places of a scope's message types, where the first of some messages is one of them or not
+  abbrev ids : Bool → (place : ℕ) → Message → List Placed → List TypeId
+  ids is_one place m found = map type_id (map (λ (p : Placed). p.index) (cond is_one (record { scope = m.scope; index = index_of place } ∷ found) found))
+
+  abbrev found : List ℕ → List Placed → List Placed
+  found scope list = filter (λ (p : Placed). bytes_eq scope p.scope) list
+
+  none_there : (scope : List ℕ) → top ≤ words_in scope → (place : ℕ) (rest : List Message) → AreLevelled top rest
+      → types_in scope (places place rest) ≡ []
+  none_there scope high place [] levelled = refl
+  none_there scope high place (m ∷ rest) levelled = by (bytes_eq scope m.scope) refl (none_there scope high (place + 1) rest levelled.1)
+    where
+      by : (c : Bool) → bytes_eq scope m.scope ≡ c → types_in scope (places (place + 1) rest) ≡ []
+          → ids c place m (found scope (places (place + 1) rest)) ≡ []
+      by true is others =
+          let same : words_in scope ≡ words_in m.scope = same_scope scope m.scope is in
+          absurd (omega (arith, same, high, levelled.0.below, levelled.0.shallow))
+      by false is others = others
+
+  small : (n : ℕ) → n < 2 ^ 32 → index_of n ≡ n
+  small n less = grind (arith, nat_tests)
+
+  abbrev Fits : ℕ → Type 0
+  Fits n = (scope : List ℕ) → top ≤ words_in scope + n → nest_within n types (types_in scope (places before ms)) ≡ true
+
+  each_inside : (n : ℕ) → Fits n → (scope : List ℕ) → top ≤ words_in scope + suc n → (place : ℕ) (rest : List Message) → AreLevelled top rest
+      → place + length rest ≤ 2 ^ 32 → AreFrom types place (map tree_of rest) → nest_within (suc n) types (types_in scope (places place rest)) ≡ true
+  each_inside n inside scope high place [] levelled few are = refl
+  each_inside n inside scope high place (m ∷ rest) levelled few are =
+      by (bytes_eq scope m.scope) refl (each_inside n inside scope high (place + 1) rest levelled.1 (omega (arith, few)) are.1)
+    where
+      here : bytes_eq scope m.scope ≡ true → holds_inside (nest_within n types) (slice_get types (index_of place)) ≡ true
+      here is =
+          let same : words_in scope ≡ words_in m.scope = same_scope scope m.scope is in
+          ap (λ k. holds_inside (nest_within n types) (slice_get types k)) (small place (omega (arith, few)))
+          ∙ (ap (holds_inside (nest_within n types)) are.0.1
+          ∙ (ap (nest_within n types) are.0.2.nested_types ∙ inside m.full (omega (arith, same, high, levelled.0.below))))
+
+      by : (c : Bool) → bytes_eq scope m.scope ≡ c → nest_within (suc n) types (types_in scope (places (place + 1) rest)) ≡ true
+          → nest_within (suc n) types (ids c place m (found scope (places (place + 1) rest))) ≡ true
+      by true is others =
+          and_both (holds_inside (nest_within n types) (slice_get types (index_of place)))
+          (nest_within (suc n) types (types_in scope (places (place + 1) rest))) (here is) others
+      by false is others = others
+
+  nested : AreLevelled top ms → before + length ms ≤ 2 ^ 32 → AreFrom types before (map tree_of ms) → (n : ℕ) → Fits n
+  nested levelled few are zero scope high = ap (nest_within 0 types) (none_there scope (omega (arith, high)) before ms levelled)
+  nested levelled few are (suc n) scope high = each_inside n (nested levelled few are n) scope high before ms levelled few are
+
+-- ---- file after file
+
+abbrev IsLevelledFile : Source → Type 0
+IsLevelledFile s = AreLevelled (words_in (package_of s.tree) + 64) (file_messages s.tree)
+
+-- the types that were there, and those of more files
+record Behind (d : Declared) (trees : List TypeTree) : Type 0 where
+  more : List TypeTree
+  is : trees ≡ d.types ++ more
+
+behind : (d : Declared) (ss : List Source) → Behind d (with_files d ss).types
+behind d [] = record { more = []; is = sym (append-nil d.types) }
+behind d (s ∷ ss) =
+    let later = behind (with_file d s) ss in
+    let trees = type_trees (length d.types) (length d.enums) s in
+    record { more = trees ++ later.more; is = later.is ∙ append_assoc d.types trees later.more }
+
+module _ (types : List MessageType) where
+  abbrev IsShallowFile : FileShape → Type 0
+  IsShallowFile w = nest_within 64 types w.types ≡ true
+
+  files_shallow : (d : Declared) (ss : List Source) → AllByRecursion IsLevelledFile ss → AreFrom types 0 (with_files d ss).types
+      → length (with_files d ss).types ≤ 2 ^ 32 → AllByRecursion IsShallowFile d.files → AllByRecursion IsShallowFile (with_files d ss).files
+  files_shallow d [] levelled are few shallow = shallow
+  files_shallow d (s ∷ ss) levelled are few shallow =
+      let ms = file_messages s.tree in
+      let scope = package_of s.tree in
+      let enums = placed_enums (length d.enums) s.tree in
+      let trees = type_trees (length d.types) (length d.enums) s in
+      let shape = file_shape (length d.types) (length d.enums) (length d.services) s in
+      let later = behind (with_file d s) ss in
+      let both : AreFrom types 0 (d.types ++ trees) = front_from types 0 (d.types ++ trees) later.more (subst (AreFrom types 0) later.is are) in
+      let here : AreFrom types (length d.types) trees =
+      subst (λ n. AreFrom types n trees) (from_none (length d.types)) (back_from types 0 d.types trees both) in
+      let all : length (with_files (with_file d s) ss).types ≡ length (d.types ++ trees) + length later.more =
+      ap length later.is ∙ length-append (d.types ++ trees) later.more in
+      let first : length (d.types ++ trees) ≡ length d.types + length trees = length-append d.types trees in
+      let own : length trees ≡ length ms = length-map ms (type_tree s.targets (placed_messages (length d.types) s.tree) enums) in
+      let inside : IsShallowFile shape =
+      nested types s.targets (length d.types) enums ms (words_in scope + 64) levelled.0 (omega (arith, few, all, first, own)) here 64 scope (omega arith) in
+      files_shallow (with_file d s) ss levelled.1 are few (each-append IsShallowFile d.files (shape ∷ []) shallow (inside, tt))
+    where
+      from_none : (n : ℕ) → 0 + n ≡ n
+      from_none n = omega arith
+
+  shapes_shallow : (ws : List FileShape) (fs : List File) → EachIs IsFileOf ws fs → AllByRecursion IsShallowFile ws
+      → list_all (λ (f : File). nest_within 64 types f.types.items) fs ≡ true
+  shapes_shallow [] [] h shallow = refl
+  shapes_shallow [] (f ∷ fs) h shallow = absurd h
+  shapes_shallow (w ∷ ws) [] h shallow = absurd h
+  shapes_shallow (w ∷ ws) (f ∷ fs) h shallow =
+      and_both (nest_within 64 types f.types.items) (list_all (λ (g : File). nest_within 64 types g.types.items) fs)
+      (ap (nest_within 64 types) h.0.types ∙ shallow.0) (shapes_shallow ws fs h.1 shallow.1)
+
+-- ---- linked files
+
+abbrev HasTree : Entry → Type 0
+HasTree e = IsParsed e.1.bytes.items e.1.tree
+
+sources_levelled : (all files : List Entry) → AllByRecursion HasTree files → AllByRecursion IsLevelledFile (map (linked_source all) files)
+sources_levelled all [] h = tt
+sources_levelled all (e ∷ es) h = (file_levelled 64 e.1.tree (file_good e.1.bytes.items e.1.tree h.0) h.0.derives, sources_levelled all es h.1)
+
+pub texts_are_shallow : (linked : LinkedFiles) (parts : Parts) → IsLinkedUp linked → Declares (linked_sources linked.files) parts → are_shallow parts ≡ true
+texts_are_shallow linked parts up h =
+    let sources = linked_sources linked.files in
+    let d = with_files nothing sources in
+    let types = parts.types.items in
+    let levelled : AllByRecursion IsLevelledFile sources =
+    sources_levelled linked.files linked.files (recursion_from_All HasTree linked.files up.parsed) in
+    let made = h.has_parts.types in
+    let as_many : length d.types ≡ length types = each-length IsTypeOf d.types types made in
+    let few : length types ≤ 4096 = (linked_sound linked parts up h).few_types in
+    shapes_shallow types d.files parts.files.items h.has_parts.files
+    (files_shallow types nothing sources levelled (all_from types [] types d.types refl made) (omega (arith, as_many, few)) tt)

@@ -1,0 +1,185 @@
+-- Messages of a text stand at most 64 levels below its package: the full name of each has one word more than that of its scope.
+use Rattle.std.proofs.Common.{◌≡◌, ◌∙◌, inl, inr, ◌⊎◌, ℕ, zero, suc, ◌+◌, ◌≤◌, Bool, true, false, cond, ◌==◌, List, [], ◌∷◌, ◌++◌, flat_map, codes, Option, Some, None, string_bytes, sym, refl, arith}
+use Rattle.std.specs.List.{list_all, AllByRecursion}
+use Rattle.std.proofs.lemmas.Bool.{false≢true}
+use Rattle.std.proofs.lemmas.Bool.Decides.{nat_tests}
+use Rattle.pg_schema.specs.DeclaredNames.{within}
+use Rattle.pg_schema.specs.Words.{is_word, is_word_byte}
+use Rattle.pg_schema.proofs.PairLemmas.{and_left, and_right}
+use Rattle.pg_dyn.proofs.Lists.{each-append}
+use Rattle.pg_check.specs.Outline.{Message, all_messages, file_messages, full_name, messages_in, package_of, row_messages, statement_messages, statements_behind}
+use Rattle.pg_check.proofs.WordTrees.{IsGood}
+use Rattle.pg_check.proofs.WordedFiles.{word_bytes}
+use Rattle.pg_syntax.specs.declared.tree as tree
+use Rattle.pg_syntax.specs.declared.tree.Part.{Part, Row_of-Part, end_of-Part, more_of-Part}
+use Rattle.pg_syntax.specs.declared.tree.Part.TheVariants as parts
+use Rattle.pg_syntax.specs.declared.tree.Statement.TheVariants as statements
+use Rattle.pg_syntax.specs.Grammar.{Grammar, Derives, Row}
+use Rattle.pg_syntax.specs.Tree.{Tree, Empty, At, Both}
+use Rattle.pg_syntax.specs.Views as view
+use Rattle.pg_syntax.specs.Proto3 as grammar
+use Rattle.pg_lex.specs.declared.token.Span.{Span}
+
+-- ---- words of full names
+
+-- one where the byte is a dot
+abbrev dot : ℕ → ℕ
+dot b = cond (b == 46) 1 0
+
+abbrev dots : List ℕ → ℕ
+dots [] = 0
+dots (b ∷ bs) = dot b + dots bs
+
+-- how many words stand in a full name; none where it is empty
+abbrev pub words_in : List ℕ → ℕ
+words_in [] = 0
+words_in (b ∷ bs) = 1 + dots (b ∷ bs)
+
+dots_joined : (xs ys : List ℕ) → dots (xs ++ ys) ≡ dots xs + dots ys
+dots_joined [] ys = omega arith
+dots_joined (x ∷ xs) ys = let rest : dots (xs ++ ys) ≡ dots xs + dots ys = dots_joined xs ys in omega (arith, rest)
+
+no_dot : (b : ℕ) → is_word_byte b ≡ true → dot b ≡ 0
+no_dot b h = grind (arith, nat_tests)
+
+no_dots : (bs : List ℕ) → list_all is_word_byte bs ≡ true → dots bs ≡ 0
+no_dots [] h = refl
+no_dots (b ∷ bs) h =
+    let first : dot b ≡ 0 = no_dot b (and_left (is_word_byte b) (list_all is_word_byte bs) h) in
+    let others : dots bs ≡ 0 = no_dots bs (and_right (is_word_byte b) (list_all is_word_byte bs) h) in
+    omega (arith, first, others)
+
+one_word : (w : List ℕ) → is_word w ≡ true → words_in w ≡ 1
+one_word [] h = absurd (false≢true h)
+one_word (b ∷ bs) h = let none : dots (b ∷ bs) ≡ 0 = no_dots (b ∷ bs) (word_bytes (b ∷ bs) h) in omega (arith, none)
+
+-- a word within a scope has one more than the scope
+word_within : (scope w : List ℕ) → is_word w ≡ true → words_in (within scope w) ≡ words_in scope + 1
+word_within [] w h = let one = one_word w h in omega (arith, one)
+word_within (b ∷ bs) w h =
+    let none : dots w ≡ 0 = no_dots w (word_bytes w h) in
+    let both : dots ((b ∷ bs) ++ 46 ∷ w) ≡ dots (b ∷ bs) + dots (46 ∷ w) = dots_joined (b ∷ bs) (46 ∷ w) in
+    omega (arith, none, both)
+
+-- ---- message types
+
+-- the full name has one word more than the scope, and at most so many
+pub record IsLevelled (top : ℕ) (m : Message) : Type 0 where
+  pub below : words_in m.full ≡ words_in m.scope + 1
+  pub shallow : words_in m.full ≤ top
+
+abbrev pub AreLevelled : ℕ → List Message → Type 0
+AreLevelled top ms = AllByRecursion (IsLevelled top) ms
+
+-- what begins with the word `message`
+abbrev message_tree : Span → Tree → Tree
+message_tree span rest = At span (Both (view.word (codes "message")) rest)
+
+-- of two choices the first, where the symbols look as it asks
+first_chosen : {A B : Type 0} (looks : Bool) → looks ≡ true → A ⊎ (B × (looks ≡ false)) → A
+first_chosen looks so (inl h) = h
+first_chosen looks so (inr h) = absurd (false≢true (sym h.1 ∙ so))
+
+-- of two choices the second, where the first is none
+second_chosen : {A B C : Type 0} → (A → ⊥) → A ⊎ (B × C) → B
+second_chosen none (inl h) = absurd (none h)
+second_chosen none (inr h) = h.0
+
+-- among parts of messages it is a message
+nested_derives : (g : Grammar) (span : Span) (rest : Tree) → Derives (grammar.part_in g) (message_tree span rest) → Derives g (message_tree span rest)
+unfolding grammar.part_in grammar.empty
+nested_derives g span rest h = first_chosen true refl (second_chosen (λ k. k) h)
+
+-- among statements it is a message
+stated_derives : (depth : ℕ) (span : Span) (rest : Tree) → Derives (grammar.statement depth) (message_tree span rest)
+    → Derives (grammar.message depth) (message_tree span rest)
+unfolding grammar.statement grammar.empty grammar.import_line grammar.option
+stated_derives depth span rest h =
+    first_chosen true refl (second_chosen (λ k. false≢true k.0) (second_chosen (λ k. false≢true k.0) (second_chosen (λ k. k) h)))
+
+-- a message's parts have one level less
+pub record HasLeft (depth : ℕ) (parts : Tree) : Type 0 where
+  pub left : ℕ
+  pub is : depth ≡ left + 1
+  pub derives : Row (Derives (grammar.part_in (grammar.message left))) parts
+
+has_left : (depth : ℕ) (span : Span) (name open_mark parts close_mark : Tree)
+    → Derives (grammar.message depth) (message_tree span (Both name (Both open_mark (Both parts close_mark)))) → HasLeft depth parts
+unfolding grammar.message
+has_left zero span name open_mark parts close_mark h = absurd h
+has_left (suc left) span name open_mark parts close_mark h = record { left = left; is = omega arith; derives = h.1.1.1.0 }
+
+-- with so many words in the scope and so many levels left
+mutual
+  part_levelled : (depth top : ℕ) (scope : List ℕ) (p : Part) → words_in scope + depth ≤ top → IsGood (view.part p)
+      → Derives (grammar.part_in (grammar.message depth)) (view.part p) → AreLevelled top (messages_in scope p)
+  part_levelled depth top scope (parts.Empty span) fits h d = tt
+  part_levelled depth top scope (parts.Message' name shape row span) fits h d =
+      let below : words_in (full_name scope name) ≡ words_in scope + 1 = word_within scope (string_bytes name.text) h.1.0 in
+      let inner : HasLeft depth (view.part_row row) = has_left depth span _ _ _ _ (nested_derives (grammar.message depth) span _ d) in (
+        record { below = below; shallow = omega (arith, below, fits, inner.is) },
+        row_levelled inner.left top (full_name scope name) row (omega (arith, below, fits, inner.is)) h.1.1.1.0 inner.derives,
+      )
+  part_levelled depth top scope (parts.Enum e) fits h d = tt
+  part_levelled depth top scope (parts.Oneof o) fits h d = tt
+  part_levelled depth top scope (parts.Option o) fits h d = tt
+  part_levelled depth top scope (parts.Reserved r) fits h d = tt
+  part_levelled depth top scope (parts.Map m) fits h d = tt
+  part_levelled depth top scope (parts.Field f) fits h d = tt
+
+  row_levelled : {m : _} (depth top : ℕ) (scope : List ℕ) (row : Row_of-Part m) → words_in scope + depth ≤ top → IsGood (view.part_row row)
+      → Row (Derives (grammar.part_in (grammar.message depth))) (view.part_row row) → AreLevelled top (row_messages scope row)
+  row_levelled depth top scope end_of-Part fits h d = tt
+  row_levelled depth top scope (more_of-Part p rest) fits h d =
+      each-append (IsLevelled top) (messages_in scope p) (row_messages scope rest)
+      (part_levelled depth top scope p fits h.0 d.0) (row_levelled depth top scope rest fits h.1 d.1)
+
+body_levelled : (depth top : ℕ) (scope : List ℕ) (ps : List Part) → words_in scope + depth ≤ top → IsGood (view.rows view.part ps)
+    → Row (Derives (grammar.part_in (grammar.message depth))) (view.rows view.part ps) → AreLevelled top (flat_map (messages_in scope) ps)
+body_levelled depth top scope [] fits h d = tt
+body_levelled depth top scope (p ∷ ps) fits h d =
+    each-append (IsLevelled top) (messages_in scope p) (flat_map (messages_in scope) ps)
+    (part_levelled depth top scope p fits h.0 d.0) (body_levelled depth top scope ps fits h.1 d.1)
+
+-- ---- files
+
+statement_levelled : (depth top : ℕ) (scope : List ℕ) (s : tree.Statement.Statement) → words_in scope + depth ≤ top → IsGood (view.statement s)
+    → Derives (grammar.statement depth) (view.statement s) → AreLevelled top (statement_messages scope s)
+statement_levelled depth top scope (statements.Empty span) fits h d = tt
+statement_levelled depth top scope (statements.Import i) fits h d = tt
+statement_levelled depth top scope (statements.Option o) fits h d = tt
+statement_levelled depth top scope (statements.Message m) fits h d =
+    let below : words_in (full_name scope m.name) ≡ words_in scope + 1 = word_within scope (string_bytes m.name.text) h.1.0 in
+    let inner : HasLeft depth (view.rows view.part m.parts.items) = has_left depth m.span _ _ _ _ (stated_derives depth m.span _ d) in (
+      record { below = below; shallow = omega (arith, below, fits, inner.is) },
+      body_levelled inner.left top (full_name scope m.name) m.parts.items (omega (arith, below, fits, inner.is)) h.1.1.1.0 inner.derives,
+    )
+statement_levelled depth top scope (statements.Enum e) fits h d = tt
+statement_levelled depth top scope (statements.Service s) fits h d = tt
+
+statements_levelled : (depth top : ℕ) (scope : List ℕ) (ss : List tree.Statement.Statement) → words_in scope + depth ≤ top
+    → IsGood (view.rows view.statement ss) → Row (Derives (grammar.statement depth)) (view.rows view.statement ss) → AreLevelled top (all_messages scope ss)
+statements_levelled depth top scope [] fits h d = tt
+statements_levelled depth top scope (s ∷ ss) fits h d =
+    each-append (IsLevelled top) (statement_messages scope s) (all_messages scope ss)
+    (statement_levelled depth top scope s fits h.0 d.0) (statements_levelled depth top scope ss fits h.1 d.1)
+
+behind_levelled : (depth top : ℕ) (scope : List ℕ) (p : Option tree.Packaged.Packaged) → words_in scope + depth ≤ top
+    → IsGood (view.perhaps view.packaged p) → (view.perhaps view.packaged p ≡ Empty) ⊎ Derives (grammar.packaged depth) (view.perhaps view.packaged p)
+    → AreLevelled top (all_messages scope (statements_behind p))
+unfolding grammar.packaged
+behind_levelled depth top scope None fits h d = tt
+behind_levelled depth top scope (Some p) fits h (inl none) = absurd (cc (none))
+behind_levelled depth top scope (Some p) fits h (inr d) = statements_levelled depth top scope p.statements.items fits h.1 d.1
+
+-- the messages of a file whose grammar allows so many levels
+pub file_levelled : (depth : ℕ) (file : tree.FileTree.FileTree) → IsGood (view.file file) → Derives (grammar.file depth) (view.file file)
+    → AreLevelled (words_in (package_of file) + depth) (file_messages file)
+unfolding grammar.file
+file_levelled depth file h d =
+    let scope = package_of file in
+    let top = words_in scope + depth in
+    let behind = statements_behind file.packaged in
+    each-append (IsLevelled top) (all_messages scope file.statements.items) (all_messages scope behind)
+    (statements_levelled depth top scope file.statements.items (omega arith) h.1.1.0 d.1.1.0)
+    (behind_levelled depth top scope file.packaged (omega arith) h.1.1.1 d.1.1.1)
