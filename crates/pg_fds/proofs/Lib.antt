@@ -123,6 +123,6 @@ pub mod TextPlaces
 pub mod TextWalks
 pub mod TextTypes
 pub mod TextServices
-pub mod TextOrder
 pub mod TextLevels
 pub mod TextDepth
+pub mod TextOrder

@@ -6,6 +6,7 @@ ghost use Rattle.pg_fds.specs.Pieces.{WorkedPieces};
 ghost use Rattle.pg_fds.specs.PlaceExamples.{WorkedPlaces};
 ghost use Rattle.pg_fds.specs.ReadExamples.{OneFieldRead};
 ghost use Rattle.pg_fds.specs.SetOrderLaws.{SetOrderLaws};
+ghost use Rattle.pg_fds.specs.TextSets.{TextsAreReadAgain};
 
 /// What is written down of descriptor.proto keeps to the rules of a schema.
 pub fn descriptor_rules()
@@ -17,6 +18,13 @@ pub fn descriptor_rules()
 /// at its new place. One that stands in order says the same as before.
 pub fn renumbered_sets()
     ensures { SetOrderLaws }
+{}
+
+/// A schema that linked files declare is one whose set is read as the same schema: each file imports no path twice and
+/// stands behind those that it imports, and message types are nested at most 64 deep. Message types and services stand
+/// where a set has them, so of the parts enums alone may change their places.
+pub fn texts_are_read_again()
+    ensures { TextsAreReadAgain }
 {}
 
 /// The bytes of the sets of two small files.
