@@ -6,6 +6,9 @@ ghost use Rattle.pg_fds.specs.Pieces.{WorkedPieces};
 ghost use Rattle.pg_fds.specs.PlaceExamples.{WorkedPlaces};
 ghost use Rattle.pg_fds.specs.ReadExamples.{OneFieldRead};
 ghost use Rattle.pg_fds.specs.SetOrderLaws.{SetOrderLaws};
+ghost use Rattle.pg_fds.specs.TextOrder.{TextsStandInOrder};
+
+use pg_check::linked_parts;
 
 /// What is written down of descriptor.proto keeps to the rules of a schema.
 pub fn descriptor_rules()
@@ -18,6 +21,15 @@ pub fn descriptor_rules()
 pub fn renumbered_sets()
     ensures { SetOrderLaws }
 {}
+
+/// Message types and services of a schema of texts stand where a set has them, so that only enums are renumbered
+/// when its set is read again.
+pub fn texts_stand_in_order()
+    ensures { TextsStandInOrder }
+{
+    // Linked files that keep to the rules make a schema.
+    linked_parts();
+}
 
 /// The bytes of the sets of two small files.
 pub fn worked_sets()
