@@ -1,6 +1,6 @@
 -- Schemas of texts, in the order of a set: descriptor.proto lists message types and services as texts declare them, and enums apart from
 -- message types (that places count from 0 is this profile's choice).
-use Rattle.std.specs.Prelude.{◌≡◌, flat_map, length}
+use Rattle.std.specs.Prelude.{◌≡◌, ℕ, ◌<◌, flat_map, length}
 use Rattle.pg_schema.specs.declared.parts.Parts.{Parts}
 use Rattle.pg_schema.specs.Scopes.{declared_services}
 use Rattle.pg_link.specs.Linked.{IsLinkedUp, LinkedFiles}
@@ -8,12 +8,16 @@ use Rattle.pg_check.specs.Declares.{Declares}
 use Rattle.pg_check.specs.Sources.{linked_sources}
 use Rattle.pg_fds.specs.InOrder.{file_types}
 use Rattle.pg_fds.specs.ReadAgain.{IsReadAgain}
+use Rattle.pg_fds.specs.SetOrder.{place_among, set_orders}
 use Rattle.pg_fds.specs.Walks.{places_from}
 
--- message types and services stand where a set has them, so that only enums are renumbered
+-- Message types and services stand in order of declaration. So where the schema is renumbered as a set lists it, they keep their places, and
+-- only enums move.
 pub record StandButForEnums (parts : Parts) : Type 0 where
   pub types : flat_map (file_types parts.types.items) parts.files.items ≡ places_from 0 (length parts.types.items)
   pub services : declared_services parts.files.items ≡ places_from 0 (length parts.services.items)
+  pub types_stay : (place : ℕ) → place < length parts.types.items → place_among (set_orders parts).types place ≡ place
+  pub services_stay : (place : ℕ) → place < length parts.services.items → place_among (set_orders parts).services place ≡ place
 
 -- so they stand in a schema of texts
 abbrev pub TextsStandInOrder : Type 0
