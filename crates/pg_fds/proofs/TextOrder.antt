@@ -1,35 +1,37 @@
--- The set of a schema of texts is read again, and its message types and services stand where the set has them.
+-- Of a schema of texts the message types and the services stand where a set has them.
+use Rattle.std.proofs.Common.{◌≡◌, ℕ, ◌<◌, true, nat_lt, List, length, arith}
+use Rattle.std.proofs.lemmas.Bool.Decides.{nat_tests}
 use Rattle.pg_schema.specs.declared.parts.Parts.{Parts}
-use Rattle.pg_link.specs.Linked.{IsLinkedUp, LinkedFiles}
-use Rattle.pg_check.specs.Declares.{Declares}
-use Rattle.pg_check.specs.Sources.{linked_sources}
-use Rattle.pg_check.proofs.SoundParts.{linked_sound}
+use Rattle.pg_schema.specs.Sound.{IsSound}
+use Rattle.pg_check.specs.MadeParts.{ArePartsOf, Source}
 use Rattle.pg_fds.specs.ReadAgain.{IsReadAgain}
+use Rattle.pg_fds.specs.SetOrder.{place_among, set_orders}
 use Rattle.pg_fds.specs.StatesFiles.{most_deep}
-use Rattle.pg_fds.specs.TextSets.{IsReadAgainByTypes, TextsAreReadAgain}
+use Rattle.pg_fds.specs.TextOrder.{StandButForEnums}
+use Rattle.pg_fds.specs.Walks.{places_from}
 use Rattle.pg_fds.proofs.ReadAgain.{readable}
-use Rattle.pg_fds.proofs.TextDepth.{texts_are_shallow}
-use Rattle.pg_fds.proofs.TextFiles.{texts_import_once, texts_stand_behind}
 use Rattle.pg_fds.proofs.TextServices.{services_in_order}
 use Rattle.pg_fds.proofs.TextTypes.{types_in_order}
+use Rattle.pg_fds.proofs.TurnedSame.{unmoved_place}
 
-module _ (linked : LinkedFiles) (parts : Parts) (up : IsLinkedUp linked) (h : Declares (linked_sources linked.files) parts) where
-  again : IsReadAgain parts
-  again = record {
-    imports_once = texts_import_once linked parts up h;
-    behind = texts_stand_behind linked parts up h;
-    shallow = texts_are_shallow linked parts up h;
+-- of places in order each is its own
+stays : (order : List ℕ) (count : ℕ) → order ≡ places_from 0 count → (place : ℕ) → place < count → place_among order place ≡ place
+stays order count in_order place less = unmoved_place order count place in_order (under place count less)
+  where
+    under : (a b : ℕ) → a < b → nat_lt a b ≡ true
+    under a b less = grind (arith, nat_tests)
+
+module _ (sources : List Source) (parts : Parts) (are : ArePartsOf sources parts) (sound : IsSound parts) (again : IsReadAgain parts) where
+  types_listed : (set_orders parts).types ≡ places_from 0 (length parts.types.items)
+  types_listed = types_in_order most_deep sources parts are sound (readable parts again).shallow
+
+  services_listed : (set_orders parts).services ≡ places_from 0 (length parts.services.items)
+  services_listed = services_in_order sources parts are sound
+
+  pub stand_but_for_enums : StandButForEnums parts
+  stand_but_for_enums = record {
+    types = types_listed;
+    services = services_listed;
+    types_stay = stays (set_orders parts).types (length parts.types.items) types_listed;
+    services_stay = stays (set_orders parts).services (length parts.services.items) services_listed;
   }
-
-  by_types : IsReadAgainByTypes parts
-  by_types =
-      let sound = linked_sound linked parts up h in
-      record {
-        again = again;
-        types = types_in_order most_deep (linked_sources linked.files) parts h.has_parts sound (readable parts again).shallow;
-        services = services_in_order (linked_sources linked.files) parts h.has_parts sound;
-      }
-
--- each schema that linked files declare is read again
-pub texts_read_again : TextsAreReadAgain
-texts_read_again linked parts up h = by_types linked parts up h

@@ -65,7 +65,7 @@ own_place start (suc n) (suc k) less =
     on : (s j : ℕ) → s + suc j ≡ suc s + j
     on s j = omega arith
 
-unmoved_place : (order : List ℕ) (n place : ℕ) → order ≡ places_from 0 n → nat_lt place n ≡ true → place_among order place ≡ place
+pub unmoved_place : (order : List ℕ) (n place : ℕ) → order ≡ places_from 0 n → nat_lt place n ≡ true → place_among order place ≡ place
 unmoved_place order n place is less = ap (λ ks. place_among ks place) is ∙ (ap (place_among (places_from 0 n)) (from place) ∙ own_place 0 n place (under place less))
   where
     from : (k : ℕ) → k ≡ 0 + k

@@ -40,4 +40,4 @@ pub mod ReadExamples
 pub mod PlaceExamples
 pub mod SetOrder
 pub mod SetOrderLaws
-pub mod TextSets
+pub mod TextOrder

@@ -6,7 +6,9 @@ ghost use Rattle.pg_fds.specs.Pieces.{WorkedPieces};
 ghost use Rattle.pg_fds.specs.PlaceExamples.{WorkedPlaces};
 ghost use Rattle.pg_fds.specs.ReadExamples.{OneFieldRead};
 ghost use Rattle.pg_fds.specs.SetOrderLaws.{SetOrderLaws};
-ghost use Rattle.pg_fds.specs.TextSets.{TextsAreReadAgain};
+ghost use Rattle.pg_fds.specs.TextOrder.{TextsAreReadAgain};
+
+use pg_check::linked_parts;
 
 /// What is written down of descriptor.proto keeps to the rules of a schema.
 pub fn descriptor_rules()
@@ -22,10 +24,13 @@ pub fn renumbered_sets()
 
 /// A schema that linked files declare is one whose set is read as the same schema: each file imports no path twice and
 /// stands behind those that it imports, and message types are nested at most 64 deep. Message types and services stand
-/// where a set has them, so of the parts enums alone may change their places.
+/// where a set has them, so that only enums are renumbered.
 pub fn texts_are_read_again()
     ensures { TextsAreReadAgain }
-{}
+{
+    // Linked files that keep to the rules make a schema.
+    linked_parts();
+}
 
 /// The bytes of the sets of two small files.
 pub fn worked_sets()
