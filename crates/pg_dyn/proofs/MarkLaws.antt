@@ -23,6 +23,7 @@ use Rattle.pg_dyn.specs.Seen.{content_seen}
 use Rattle.pg_dyn.specs.Steps.{parts_held}
 use Rattle.pg_dyn.proofs.Drafted.{settle_each, settle_one}
 use Rattle.pg_dyn.proofs.Gaps.{each_filled}
+use Rattle.pg_dyn.proofs.Lifted.{type_of-with_parts, type_of-without_rivals}
 use Rattle.pg_dyn.proofs.Lists.{each-append, each-flat_map, each-map, each_filtered, each_weaker, filter_all}
 use Rattle.pg_dyn.proofs.ReplacingLaws.{content_number, kept_whole, parts_of-kept_onto, parts_shown, shown, type_of-kept_onto, type_shown}
 use Rattle.pg_dyn.proofs.WithoutRivals.{rival_found, rival_nowhere}
@@ -37,7 +38,7 @@ module _ (P : ℕ → Type 0) where
   each_own n ps own at = each_weaker (λ (p : Part KeptItem). p.number ≡ n) (λ (p : Part KeptItem). P p.number) (λ p e. subst P (sym e) at) ps own
 
   -- of contents as they stand
-  pub each_part : (type : TypeId) (fs : List (ℕ × Content)) (us : List WireRecord) (m : Kept) → shown type (settle_each (filled_fields fs)) us ≡ m → AllByRecursion (λ (f : ℕ × Content). P f.0) fs → EachNumber (parts_of m)
+  each_part : (type : TypeId) (fs : List (ℕ × Content)) (us : List WireRecord) (m : Kept) → shown type (settle_each (filled_fields fs)) us ≡ m → AllByRecursion (λ (f : ℕ × Content). P f.0) fs → EachNumber (parts_of m)
   each_part type fs us m view h =
       let ms = settle_each (filled_fields fs) in
       subst EachNumber (sym (parts_shown type ms us) ∙ ap parts_of view)
@@ -98,7 +99,7 @@ module _ (shape : Shape) where
   of_type held type m new is same h = subst (λ (w : Kept). AllHave held (type_of w) w) (sym is) (subst (λ (t : TypeId). AllHave held t m) (sym same) h)
 
   -- no other contents than those of the message
-  pub marked_kept : (held : List Bool) (old new : Kept) (r : WireRecord) → new ≡ with_unknown r old → AllHave held (type_of old) old → AllHave held (type_of new) new
+  marked_kept : (held : List Bool) (old new : Kept) (r : WireRecord) → new ≡ with_unknown r old → AllHave held (type_of old) old → AllHave held (type_of new) new
   marked_kept held old new r is h =
       let us = unknown_of old ++ r ∷ [] in
       of_type held (type_of old) (with_unknown r old) new is (type_of-kept_onto (parts_of old) (ends (type_of old) us)) (each_from (Has held (type_of old)) (type_of old) (parts_of old) us h)
@@ -107,23 +108,19 @@ module _ (shape : Shape) where
     own_mark : is_marked held f.oneof ≡ true → Has held (type_of old) f.number
     own_mark h = ap (λ (x : Option FieldShape). is_marked held (option_and_then (λ (g : FieldShape). g.oneof) x)) found ∙ h
 
-    with_type : (ps : List (Part KeptItem)) (m : Kept) → type_of (with_parts f.number ps m) ≡ type_of m
-    with_type ps m = type_of-kept_onto (filter (λ (p : Part KeptItem). nat_lt p.number f.number) (parts_of m) ++ (ps ++ filter (λ (p : Part KeptItem). nat_lt f.number p.number) (parts_of m))) (ends (type_of m) (unknown_of m))
-
     -- a content of the field comes in the place of the field's own
-    pub marked_with : (ps : List (Part KeptItem)) (new : Kept) → AllByRecursion (λ (p : Part KeptItem). p.number ≡ f.number) ps → new ≡ with_parts f.number ps old → is_marked held f.oneof ≡ true → AllHave held (type_of old) old → AllHave held (type_of new) new
+    marked_with : (ps : List (Part KeptItem)) (new : Kept) → AllByRecursion (λ (p : Part KeptItem). p.number ≡ f.number) ps → new ≡ with_parts f.number ps old → is_marked held f.oneof ≡ true → AllHave held (type_of old) old → AllHave held (type_of new) new
     marked_with ps new own is mark h =
-        of_type held (type_of old) (with_parts f.number ps old) new is (with_type ps old)
+        of_type held (type_of old) (with_parts f.number ps old) new is (type_of-with_parts f.number ps old)
         (each_with (Has held (type_of old)) f.number ps old (each_own (Has held (type_of old)) f.number ps own (own_mark mark)) h)
 
     -- the same, and those of the other members of its oneof go
-    pub marked_content : (ps : List (Part KeptItem)) (new : Kept) → AllByRecursion (λ (p : Part KeptItem). p.number ≡ f.number) ps → new ≡ with_content (fields shape (type_of old)) f ps old → is_marked held f.oneof ≡ true → AllHave held (type_of old) old
+    marked_content : (ps : List (Part KeptItem)) (new : Kept) → AllByRecursion (λ (p : Part KeptItem). p.number ≡ f.number) ps → new ≡ with_content (fields shape (type_of old)) f ps old → is_marked held f.oneof ≡ true → AllHave held (type_of old) old
         → AllHave held (type_of new) new
     marked_content ps new own is mark h =
         let fs = fields shape (type_of old) in
         let left = without_rivals fs f old in
-        let left_type : type_of left ≡ type_of old = type_of-kept_onto (filter (λ (p : Part KeptItem). not (is_rival_number fs f p.number)) (parts_of old)) (ends (type_of old) (unknown_of old)) in
-        of_type held (type_of old) (with_content fs f ps old) new is (with_type ps left ∙ left_type)
+        of_type held (type_of old) (with_content fs f ps old) new is (type_of-with_parts f.number ps left ∙ type_of-without_rivals fs f old)
         (each_with (Has held (type_of old)) f.number ps left (each_own (Has held (type_of old)) f.number ps own (own_mark mark)) (each_without (Has held (type_of old)) fs f old h))
 
 -- Before contents are gone over, the marks are those from before, or all are made.
@@ -138,11 +135,11 @@ prepared shape before now type cs fs us m is view was either = λ whole.
     (either whole)
 
 -- a map is in no oneof
-no_oneof : (p : Presence) (e : Element) (o : Option ℕ) (key : Scalar) → p ≡ presences.Map key → PresenceFits p e o → o ≡ None
-no_oneof (presences.Map k) e o key is h = h.0
-no_oneof presences.Implicit e o key is h = absurd (cc)
-no_oneof presences.Explicit e o key is h = absurd (cc)
-no_oneof (presences.Repeated packed) e o key is h = absurd (cc)
+map_in_none : (p : Presence) (e : Element) (o : Option ℕ) (key : Scalar) → p ≡ presences.Map key → PresenceFits p e o → o ≡ None
+map_in_none (presences.Map k) e o key is h = h.0
+map_in_none presences.Implicit e o key is h = absurd (cc)
+map_in_none presences.Explicit e o key is h = absurd (cc)
+map_in_none (presences.Repeated packed) e o key is h = absurd (cc)
 
 parts_own : (n : ℕ) (o : Option Content) → AllByRecursion (λ (p : Part KeptItem). p.number ≡ n) (parts_held n o)
 parts_own n None = tt
@@ -151,7 +148,7 @@ parts_own n (Some content) = content_number n content
 pub entry_marked : (shape : Shape) (types : ℕ) (f : FieldShape) (marks : Marks) (key : Scalar) (k v : Value) (old new : Kept) → IsField types f → f.presence ≡ presences.Map key → field_at (fields shape (type_of old)) f.number ≡ Some f
     → AreMarked shape marks old → WithEntry shape f k v old new → AreMarked shape marks new
 entry_marked shape types f marks key k v old new is_field of_map found marked entry = λ whole.
-    marked_with shape marks.held.items f old found (content_seen f.number entry.made) new (content_number f.number entry.made) entry.new_is (ap (is_marked marks.held.items) (no_oneof f.presence f.element f.oneof key of_map is_field.presence_fits)) (marked whole)
+    marked_with shape marks.held.items f old found (content_seen f.number entry.made) new (content_number f.number entry.made) entry.new_is (ap (is_marked marks.held.items) (map_in_none f.presence f.element f.oneof key of_map is_field.presence_fits)) (marked whole)
 
 pub set_marked : (shape : Shape) (f : FieldShape) (before now : Marks) (old left new : Kept) (o : Option Content) → field_at (fields shape (type_of old)) f.number ≡ Some f → AreMarked shape before old
     → (now.is_whole ≡ true → before.is_whole ≡ true) → (now.is_whole ≡ true → is_marked now.held.items f.oneof ≡ true) → Keeps before.held.items now.held.items

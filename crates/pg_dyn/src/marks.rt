@@ -1,4 +1,4 @@
-//! Which oneofs have members among the contents of a message that is read, so that of one that has none nothing is gone over.
+//! Which oneofs may have members among the contents of a message that is read: where one has none, none is looked for.
 
 ghost use Rattle.std.specs.Prelude.{◌≡◌, ◌⊎◌, ◌<◌, length, true, false, get_or, IsTrue, OnOk};
 ghost use Rattle.std.specs.List.{AllByRecursion};
@@ -14,7 +14,7 @@ use std::alloc::{AllocError, Global};
 /// How often contents are gone over for the other members of a oneof before the oneofs are marked.
 const MOST_PASSES: u32 = 16;
 
-/// Marks of oneofs, kept once the contents of the message were gone over often.
+/// Marks of the oneofs of a message that is read, made once its contents were gone over often.
 #[derive(Drop)]
 pub(crate) struct Marks {
     /// By the oneof's place, whether a content may be a member of it.
@@ -80,7 +80,7 @@ fn has_mark(held: &[bool], oneof: u32) -> bool
 impl Marks {
     ghost use Rattle.std.specs.Prelude.{Some};
 
-    /// Of a message whose contents were not gone over yet.
+    /// No marks, for a message whose contents weren't gone over yet.
     pub(crate) fn none(alloc: Global) -> Marks
         ensures { result.is_whole ≡ false }
     {
