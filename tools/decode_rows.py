@@ -104,6 +104,19 @@ def far_schema():
     return kind_of(file, "F")
 
 
+def pair_schema():
+    """`message P`, the type of pair_rows.rt: 40 oneofs of two numbers each, and a number that is in none."""
+    file = descriptor_pb2.FileDescriptorProto(name="p.proto", syntax="proto3")
+    message = file.message_type.add(name="P")
+    add = adding(message)
+    for place in range(40):
+        message.oneof_decl.add(name="k%d" % place)
+        for number in (2 * place + 1, 2 * place + 2):
+            add("f%d" % number, number, LABEL.TYPE_INT32).oneof_index = place
+    add("f81", 81, LABEL.TYPE_INT32)
+    return kind_of(file, "P")
+
+
 KEYS = [LABEL.TYPE_INT32, LABEL.TYPE_INT64, LABEL.TYPE_UINT32, LABEL.TYPE_UINT64, LABEL.TYPE_SINT32, LABEL.TYPE_SINT64]
 KEYS += [LABEL.TYPE_FIXED32, LABEL.TYPE_FIXED64, LABEL.TYPE_SFIXED32, LABEL.TYPE_SFIXED64, LABEL.TYPE_BOOL, LABEL.TYPE_STRING]
 VALUES = [LABEL.TYPE_DOUBLE, LABEL.TYPE_FLOAT] + KEYS + [LABEL.TYPE_BYTES, LABEL.TYPE_ENUM, LABEL.TYPE_MESSAGE]
@@ -219,6 +232,15 @@ def far_records(r, depth):
     others = [lambda: record(r.randrange(2, 18), 0, varint(r.randrange(3))), lambda: record(36, 0, varint(r.randrange(1000)))]
     front = b"".join(record(number, 0, varint(number)) for number in range(2, 36) if number != 18)
     return front + b"".join(r.choice(members * 2 + others)() for _ in range(r.randrange(5, 10)))
+
+
+def pair_records(r, depth):
+    """Records of a member of most of the oneofs, in any order, and then of members by turns, with some others between them."""
+    places = r.sample(range(40), r.randrange(30, 41))
+    front = b"".join(record(2 * place + r.randrange(1, 3), 0, varint(place)) for place in places)
+    others = [lambda: record(81, 0, varint(r.randrange(3))), lambda: record(82, 0, varint(r.randrange(1000)))]
+    later = [lambda: record(r.randrange(1, 81), 0, varint(r.randrange(100)))] * 8 + others
+    return front + b"".join(r.choice(later)() for _ in range(r.randrange(10, 25)))
 
 
 def item_of(kind, n):
@@ -454,6 +476,7 @@ def main():
     write_rows(folder + "/more_rows.rt", rows[110:])
     write_rows(folder + "/wide_rows.rt", made_rows(wide_schema(), wide_records, 60, 19))
     write_rows(folder + "/far_rows.rt", made_rows(far_schema(), far_records, 4, 20, longest=200))
+    write_rows(folder + "/pair_rows.rt", made_rows(pair_schema(), pair_records, 8, 22, longest=250))
     write_rows(folder + "/odd_rows.rt", read_rows(schema(), ODD))
     write_rows(folder + "/odd_wide_rows.rt", read_rows(wide_schema(), ODD_WIDE))
     kind = entry_schema()

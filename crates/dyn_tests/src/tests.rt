@@ -14,6 +14,7 @@ mod numbers;
 mod odd_rows;
 mod odd_wide_rows;
 mod outside;
+mod pair_rows;
 mod reading;
 mod rows;
 mod runtime;

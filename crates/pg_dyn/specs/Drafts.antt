@@ -1,5 +1,6 @@
--- What the program keeps of a message while it is read: a content that was taken out leaves an empty list in its place, and the entries
--- of a map may stand as they were read (Protocol Buffers language guide, "Maps": of equal keys the last one counts).
+-- What the program keeps of a message while it is read: a content that was taken out leaves an empty list in its place, or a zero while a
+-- record is reading it on, and the entries of a map may stand as they were read (Protocol Buffers language guide, "Maps": of equal keys the
+-- last one counts).
 use Rattle.std.specs.Prelude.{◌≡◌, ℕ, List, [], ◌∷◌, fold, flat_map, map, false, Some, ⊤}
 use Rattle.std.specs.List.{AllByRecursion}
 use Rattle.pg_wire.specs.Records.{IsRecord}

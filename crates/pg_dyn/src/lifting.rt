@@ -6,6 +6,7 @@ ghost use Rattle.pg_dyn.specs.Seen.{Rises};
 use crate::draft::{Draft, MOST_PUT_BETWEEN};
 use crate::error::DynError;
 use crate::field_list::{exchange, place_of, put, reserve};
+use crate::marks::Marks;
 use crate::message::{Content, Value};
 use crate::noting::{note, noted_rival};
 use crate::reading::entries::{is_above, with_added};
@@ -49,43 +50,53 @@ impl Draft {
     ghost use Rattle.pg_dyn.specs.declared.error.DynError.TheVariants as errors;
     ghost use Rattle.pg_dyn.specs.Fits.{Fits};
     ghost use Rattle.pg_dyn.specs.Kept.{KeptItem, of_number, type_of};
+    ghost use Rattle.pg_dyn.specs.Marked.{AreMarked};
     ghost use Rattle.pg_dyn.specs.Message.{Part};
     ghost use Rattle.pg_dyn.specs.Replacing.{with_content, with_parts, without_rivals};
     ghost use Rattle.pg_dyn.specs.Steps.{HeldFits, MayHold, parts_held};
 
     // Takes out what the field, which is no map, holds; in a oneof the contents of the other members are dropped, wherever
     // they stand.
-    fn lift_own(&mut self, schema: &Schema, field: &Field) -> Option<Content>
+    fn lift_own(&mut self, marks: &mut Marks, schema: &Schema, field: &Field) -> Option<Content>
         requires is_schema { IsSchema schema.now }
         requires fits { Fits (shape_of schema.now) self.old }
         requires found { field_at (fields (shape_of schema.now) (type_of self.old)) field.now.number ≡ Some (field_shape field.now) }
         requires no_map { is_map field.now.presence ≡ false }
+        requires marked { AreMarked (shape_of schema.now) marks.old self.old }
         ensures parts { of_number field.now.number self.old ≡ parts_held field.now.number result }
         ensures held_fits { HeldFits (shape_of schema.now) (field_shape field.now) result }
         ensures same { (ps : List (Part KeptItem)) → with_parts field.now.number ps self.new ≡ with_content (fields (shape_of schema.now) (type_of self.old)) (field_shape field.now) ps self.old }
         ensures may_hold { MayHold (shape_of schema.now) (field_shape field.now) self.new }
         ensures of_type { type_of self.new ≡ type_of self.old }
         ensures others { Fits (shape_of schema.now) (without_rivals (fields (shape_of schema.now) (type_of self.old)) (field_shape field.now) self.old) }
+        ensures marked { AreMarked (shape_of schema.now) marks.new self.old }
     {
         // What holds of the message before.
         let _type_id = self.type_id;
-        self.clear_others(schema, field);
+        self.clear_others(marks, schema, field);
         take_out(&mut self.fields, field.number)
     }
 
     // Takes out what the field, which is no map, holds. What is left may hold another content of the field; in a oneof the
     // contents of the other members are dropped.
-    pub(crate) fn lift(&mut self, schema: &Schema, field: &Field) -> Option<Content>
+    pub(crate) fn lift(
+        &mut self,
+        marks: &mut Marks,
+        schema: &Schema,
+        field: &Field,
+    ) -> Option<Content>
         requires is_schema { IsSchema schema.now }
         requires fits { Fits (shape_of schema.now) self.old }
         requires found { field_at (fields (shape_of schema.now) (type_of self.old)) field.now.number ≡ Some (field_shape field.now) }
         requires no_map { is_map field.now.presence ≡ false }
+        requires marked { AreMarked (shape_of schema.now) marks.old self.old }
         ensures parts { of_number field.now.number self.old ≡ parts_held field.now.number result }
         ensures held_fits { HeldFits (shape_of schema.now) (field_shape field.now) result }
         ensures same { (ps : List (Part KeptItem)) → with_parts field.now.number ps self.new ≡ with_content (fields (shape_of schema.now) (type_of self.old)) (field_shape field.now) ps self.old }
         ensures may_hold { MayHold (shape_of schema.now) (field_shape field.now) self.new }
         ensures of_type { type_of self.new ≡ type_of self.old }
         ensures others { Fits (shape_of schema.now) (without_rivals (fields (shape_of schema.now) (type_of self.old)) (field_shape field.now) self.old) }
+        ensures marked { AreMarked (shape_of schema.now) marks.new self.old }
     {
         let type_id = self.type_id;
         match noted_rival(&self.fields, &self.noted, schema, type_id, field) {
@@ -96,7 +107,7 @@ impl Draft {
                 self.drop_content(other);
                 None
             }
-            None => self.lift_own(schema, field),
+            None => self.lift_own(marks, schema, field),
         }
     }
 

@@ -79,7 +79,7 @@ fn none_rivals_in_pairs(schema: &Schema, type_id: TypeId, contents: &[(u32, Cont
 }
 
 // The oneof of which the field of the number is a member.
-fn oneof_of(schema: &Schema, type_id: TypeId, number: u32) -> Option<u32>
+pub(crate) fn oneof_of(schema: &Schema, type_id: TypeId, number: u32) -> Option<u32>
     ensures { result ≡ option_and_then (λ f. f.oneof) (field_at (fields (shape_of schema.now) type_id) number) }
 {
     match schema.field(type_id, number) {

@@ -3,7 +3,8 @@ use super::copying::copied;
 use super::nested::{again, read_within};
 use super::runtime::type_of_rows;
 use super::schemas::schema_of;
-use super::{M, is_or_lacks_memory, read, set, whole, write};
+use super::wide::paired_members;
+use super::{M, is_or_lacks_memory, pair_rows, read, set, whole, write};
 use pg_dyn::{Content, DynError, Message, Value};
 use pg_schema::{Scalar, Schema};
 use std::alloc::{AllocError, Global};
@@ -180,6 +181,18 @@ fn refused_reads(rt: HostRuntime) -> Result<(), Fail> {
     let merged =
         b"\x0a\x21\x0a\x00\x1a\x02\x02\x01\x22\x05\x08\x01\x12\x01a\x22\x05\x08\x02\x12\x01b\x2a\x00\x2a\x02\x10\x05\x3d\x07\x00\x00\x00\x48\x01\x48\x02";
     is_or_lacks_memory(&rt, again(rt.alloc(), &schema, parts), merged);
+    Ok(())
+}
+
+// A message with members of so many oneofs that these are marked is read, or memory was refused: not where it was for marks.
+#[test]
+fn refused_marks(rt: HostRuntime) -> Result<(), Fail> {
+    let schema = paired_members(rt.alloc())?;
+    for (bytes, kept) in &pair_rows::ROWS_1 {
+        if let Some(kept) = kept {
+            is_or_lacks_memory(&rt, again(rt.alloc(), &schema, bytes), kept);
+        }
+    }
     Ok(())
 }
 

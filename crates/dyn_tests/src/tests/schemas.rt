@@ -79,12 +79,14 @@ fn numbers_of(alloc: Global, shapes: &[Shape]) -> Result<Vec<u32>, AllocError> {
     Ok(numbers)
 }
 
-/// The oneof `k`, where a field is in it.
+/// The oneofs `k0`, `k1` and so on; the first of a oneof's members comes behind those of the oneofs before it.
 fn oneofs_of(alloc: Global, shapes: &[Shape]) -> Result<Vec<String>, AllocError> {
     let mut oneofs = Vec::new(alloc);
     for (_, _, _, oneof) in shapes {
-        if oneof.is_some() && oneofs.is_empty() {
-            oneofs.push(String::from_str(alloc, "k")?)?;
+        if let Some(place) = oneof {
+            if *place as usize == oneofs.len() {
+                oneofs.push(format!(in alloc; "k{place}")?)?;
+            }
         }
     }
     Ok(oneofs)

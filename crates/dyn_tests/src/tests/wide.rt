@@ -8,7 +8,7 @@ use super::runtime::{agree, is_of_bytes, type_of_rows};
 use super::schemas::{
     BYTES, CHILD, INT, LIST, NUMBER, PACKED, Shape, TEXT, schema_by, schema_with_enum,
 };
-use super::{far_rows, odd_wide_rows, wide_rows};
+use super::{far_rows, odd_wide_rows, pair_rows, wide_rows};
 use pg_dyn::DynError;
 use pg_schema::{Element, Presence, Scalar, Schema};
 use std::alloc::Global;
@@ -109,6 +109,25 @@ fn far_members(alloc: Global) -> Result<Schema, Fail> {
 fn rows_of_members_that_stand_far_apart(rt: HostRuntime) -> Result<(), Fail> {
     let schema = far_members(rt.alloc())?;
     agree(&rt, &schema, &far_rows::ROWS_1);
+    Ok(())
+}
+
+/// `message M` of 40 oneofs of two numbers each, and a number that is in none.
+pub(super) fn paired_members(alloc: Global) -> Result<Schema, Fail> {
+    let mut shapes = Vec::new(alloc);
+    for place in 0..40u32 {
+        shapes.push((2 * place + 1, Presence::Explicit, INT, Some(place)))?;
+        shapes.push((2 * place + 2, Presence::Explicit, INT, Some(place)))?;
+    }
+    shapes.push((81, Presence::Implicit, INT, None))?;
+    schema_by(alloc, &shapes)
+}
+
+// So many oneofs that they are marked while the message is read.
+#[test]
+fn rows_of_many_oneofs(rt: HostRuntime) -> Result<(), Fail> {
+    let schema = paired_members(rt.alloc())?;
+    agree(&rt, &schema, &pair_rows::ROWS_1);
     Ok(())
 }
 

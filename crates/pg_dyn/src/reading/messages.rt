@@ -14,11 +14,13 @@ ghost use Rattle.pg_dyn.specs.Decoding.{all_readable, dec};
 ghost use Rattle.pg_dyn.specs.Fits.{Fits};
 ghost use Rattle.pg_dyn.specs.Kept.{type_of};
 ghost use Rattle.pg_dyn.specs.Lifting.{EntryReadsOn, IsEntryOf};
+ghost use Rattle.pg_dyn.specs.Marked.{AreMarked};
 ghost use Rattle.pg_dyn.specs.Steps.{FieldReads, HeldFits, HeldReadsOn, IsShallow, IsShallowIn, IsShallowItem, IsShallowRecord, ItemReadsOn, ReadsOn, RefusedIn, RefusedItem, RefusedOf, RefusedRecord};
 
 use crate::accept::{accepts, is_own};
 use crate::draft::Draft;
 use crate::error::DynError;
+use crate::marks::Marks;
 use crate::message::{Content, Message, Value};
 use crate::reading::contents::push_row;
 use crate::reading::elements::{scalar_of, whole_item};
@@ -255,6 +257,7 @@ fn read_content(
 #[cycle(reading)]
 fn read_record(
     draft: &mut Draft,
+    marks: &mut Marks,
     alloc: Global,
     schema: &Schema,
     found: &Record<'_>,
@@ -265,7 +268,9 @@ fn read_record(
     requires is_record { IsRecord (seen_record found.now) }
     requires fits { Fits (shape_of schema.now) draft.old }
     requires room { at + length found.now.bytes.now < 2 ^ 64 }
+    requires marked { AreMarked (shape_of schema.now) marks.old draft.old }
     ensures ok { OnOk result (ReadsOn (shape_of schema.now) found.now.bytes.now draft.old draft.new) }
+    ensures marked { OnOk result (AreMarked (shape_of schema.now) marks.new draft.new) }
     ensures shallow { OnOk result (IsShallowRecord (shape_of schema.now) levels (fields (shape_of schema.now) (type_of draft.old)) (seen_record found.now)) }
     ensures err { IfErr result (RefusedRecord (shape_of schema.now) levels (fields (shape_of schema.now) (type_of draft.old)) (seen_record found.now) at) }
 {
@@ -275,7 +280,8 @@ fn read_record(
                 let (key, value) = read_map_entry(alloc, schema, field, key, found, at, levels)?;
                 return draft.add_entry(alloc, schema, field, key, value);
             }
-            let held = draft.lift(schema, field);
+            let held = draft.lift(marks, schema, field);
+            marks.add(field);
             let new = read_content(alloc, schema, field, held, found, at, levels)?;
             draft.lower(schema, field, new)
         }
@@ -301,11 +307,12 @@ pub(crate) fn read_bytes(
     ensures err { IfErr result (RefusedIn (shape_of schema.now) (suc levels) (fields (shape_of schema.now) (type_of message.old)) bytes.now start) }
 {
     let mut draft = Draft::begin(alloc, message);
+    let mut marks = Marks::none(alloc);
     let mut at = start;
     for found in Records::new(bytes) {
         match found {
             Ok(record) => {
-                read_record(&mut draft, alloc, schema, &record, at, levels)?;
+                read_record(&mut draft, &mut marks, alloc, schema, &record, at, levels)?;
                 at += record.bytes.len();
             }
             Err(error) => return Err(DynError::Wire(error.after(start))),

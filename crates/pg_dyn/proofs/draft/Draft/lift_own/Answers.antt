@@ -40,7 +40,7 @@ before c = sym (ap type_of (seen_is c.self.inside ∙ c.self.view_is)) ∙ type_
 
 after : (c : goal.After-take_out) → type_of c.args.self.now ≡ c.self-2.inside.type_id
 after c =
-    sym (type_of-without_rivals (fields (shape_of c.args.schema.now) (type_of c.args.self.now)) (field_shape c.args.field.now) c.args.self.now) ∙ ap type_of (sym c.clear_others.ensures) ∙ sym (ap type_of (seen_is c.self-2.inside ∙ c.self-2.view_is))
+    sym (type_of-without_rivals (fields (shape_of c.args.schema.now) (type_of c.args.self.now)) (field_shape c.args.field.now) c.args.self.now) ∙ ap type_of (sym c.clear_others.ensures.left) ∙ sym (ap type_of (seen_is c.self-2.inside ∙ c.self-2.view_is))
     ∙ type_shown c.self-2.inside.type_id (held c.self-2.inside) (map record_seen c.self-2.inside.unknown.items)
 
 found_after : (c : goal.After-take_out) → field_at (fields (shape_of c.args.schema.now) c.self-2.inside.type_id) c.args.field.now.number ≡ Some (field_shape c.args.field.now)
@@ -52,7 +52,7 @@ still_fits c =
     let a = c.self.inside in
     let f = field_shape c.args.field.now in
     let found = subst (λ (t : TypeId). field_at (fields shape t) f.number ≡ Some f) (before c) c.requires.found in
-    subst (Fits shape) (sym (c.clear_others.ensures ∙ ap (λ (t : TypeId). without_rivals (fields shape t) f c.args.self.now) (before c)))
+    subst (Fits shape) (sym (c.clear_others.ensures.left ∙ ap (λ (t : TypeId). without_rivals (fields shape t) f c.args.self.now) (before c)))
     (fits_cleared shape a.type_id c.requires.is_schema.shape (rising c.args.schema.now c.requires.is_schema a.type_id) f found (held a) (map record_seen a.unknown.items) c.args.self.now (seen_is c.self.inside ∙ c.self.view_is)
     (held_rises a c.self.invariant) (held_filled a) (held_keys a c.self.invariant) c.requires.fits)
 
@@ -74,7 +74,7 @@ returns-clause-parts c =
     let b = c.self-2.inside in
     let f = field_shape c.args.field.now in
     sym (own_left (fields shape (type_of c.args.self.now)) f c.args.self.now (rising c.args.schema.now c.requires.is_schema (type_of c.args.self.now)) c.requires.found)
-    ∙ ap (of_number f.number) (sym c.clear_others.ensures)
+    ∙ ap (of_number f.number) (sym c.clear_others.ensures.left)
     ∙ held_parts shape b.type_id c.requires.is_schema.shape (rising c.args.schema.now c.requires.is_schema b.type_id) f (found_after c) (held b) (map record_seen b.unknown.items) c.clear_others.new.self (seen_is c.self-2.inside ∙ c.self-2.view_is)
     (held_rises b c.self-2.invariant) (held_filled b) (held_keys b c.self-2.invariant) c.take_out.result (is_held c)
 
@@ -94,7 +94,7 @@ left_is c ps =
     (held_rises b c.self-2.invariant) (held_filled b) (held_keys b c.self-2.invariant) c.take_out.result (settle_each (filled_fields c.take_out.new.fields.items)) (settle_left c.args.field.now.number (filled_fields b.fields.items) (filled_fields c.take_out.new.fields.items) c.take_out.result (filled_taken c.args.field.now.number b.fields.items c.take_out.new.fields.items c.take_out.result c.take_out.ensures.rest)) ps
 
 pub returns-clause-same : goal.returns-clause-same
-returns-clause-same c = λ ps. ap (with_parts c.args.field.now.number ps) (seen_raw c.self-2.inside.type_id c.take_out.new.fields.items (map record_seen c.self-2.inside.unknown.items)) ∙ left_is c ps ∙ ap (with_parts c.args.field.now.number ps) c.clear_others.ensures
+returns-clause-same c = λ ps. ap (with_parts c.args.field.now.number ps) (seen_raw c.self-2.inside.type_id c.take_out.new.fields.items (map record_seen c.self-2.inside.unknown.items)) ∙ left_is c ps ∙ ap (with_parts c.args.field.now.number ps) c.clear_others.ensures.left
 
 new_type : (c : goal.After-take_out) → type_of (shown c.self-2.inside.type_id (settle_each (filled_fields c.take_out.new.fields.items)) (map record_seen c.self-2.inside.unknown.items)) ≡ type_of c.args.self.now
 new_type c = type_shown c.self-2.inside.type_id (settle_each (filled_fields c.take_out.new.fields.items)) (map record_seen c.self-2.inside.unknown.items) ∙ sym (after c)
@@ -110,11 +110,11 @@ returns-clause-may_hold c =
           (held_rises b c.self-2.invariant) (held_filled b) (held_keys b c.self-2.invariant) c.take_out.result (is_held c) (still_fits c));
       apart = subst (λ (t : TypeId). AllByRecursion (λ (p : Part KeptItem). is_rival_number (fields shape t) f p.number ≡ false) (parts_of (with_parts f.number [] (shown b.type_id (settle_each (filled_fields c.take_out.new.fields.items)) (map record_seen b.unknown.items))))) (sym (new_type c))
           (subst (λ (m : Kept). AllByRecursion (λ (p : Part KeptItem). is_rival_number (fields shape (type_of c.args.self.now)) f p.number ≡ false) (parts_of m)) (sym (left_is c []))
-          (none_left (fields shape (type_of c.args.self.now)) f c.args.self.now c.clear_others.new.self c.clear_others.ensures));
+          (none_left (fields shape (type_of c.args.self.now)) f c.args.self.now c.clear_others.new.self c.clear_others.ensures.left));
     })
 
 pub returns-clause-of_type : goal.returns-clause-of_type
 returns-clause-of_type c = ap type_of (seen_raw c.self-2.inside.type_id c.take_out.new.fields.items (map record_seen c.self-2.inside.unknown.items)) ∙ new_type c
 
 pub returns-clause-others : goal.returns-clause-others
-returns-clause-others c = subst (Fits (shape_of c.args.schema.now)) c.clear_others.ensures (still_fits c)
+returns-clause-others c = subst (Fits (shape_of c.args.schema.now)) c.clear_others.ensures.left (still_fits c)

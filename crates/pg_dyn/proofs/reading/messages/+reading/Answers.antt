@@ -27,6 +27,7 @@ use Rattle.pg_schema.specs.Shape.{is_map, is_packable}
 use Rattle.pg_dyn.proofs.reading.messages.+reading.Goals.{read_part-else-found-eq1-via-then-found-eq1+else-is_own, read_part-else-found-eq1-via-else-found-eq1, read_part-else-found-eq2-via-then-found-eq2+else-is_own-2, read_part-else-found-eq2-via-else-found-eq2}
 use Rattle.pg_dyn.specs.Seen.{record_seen}
 use Rattle.pg_dyn.proofs.DecodeSteps.{on_ok_map}
+use Rattle.pg_dyn.proofs.MarkLaws.{entry_marked, set_marked, unknown_marked}
 use Rattle.pg_dyn.proofs.FitsChecks.{unknown_by_field, unknown_without_field}
 use Rattle.pg_dyn.proofs.Drafted.{held, held_filled, held_keys, held_rises, seen_is}
 use Rattle.pg_dyn.proofs.ReplacingLaws.{type_shown}
@@ -68,9 +69,12 @@ not_map (presences.Map s) h = absurd (h s refl)
 pub read_bytes-loop-found-init : goal.read_bytes-loop-found-init
 read_bytes-loop-found-init t c =
     let shape = shape_of c.args.schema.now in
-    subst (λ m. MessageAhead (shape_of c.args.schema.now) c.args.levels c.args.bytes.now c.args.start c.args.message.now c.args.start c.into_iter-found-iterator.result m) (sym c.begin-draft.ensures)
-    (subst (λ l. MessageAhead shape c.args.levels c.args.bytes.now c.args.start c.args.message.now c.args.start l c.args.message.now) (sym (c.into_iter-found-iterator.ensures.into_iter_gives ∙ c.new-found-items.ensures))
-    (steps.begin shape c.args.levels c.args.bytes.now c.args.start c.args.message.now c.requires.is_schema.shape c.requires.fits))
+    record {
+      reads = subst (λ m. MessageAhead (shape_of c.args.schema.now) c.args.levels c.args.bytes.now c.args.start c.args.message.now c.args.start c.into_iter-found-iterator.result m) (sym c.begin-draft.ensures)
+          (subst (λ l. MessageAhead shape c.args.levels c.args.bytes.now c.args.start c.args.message.now c.args.start l c.args.message.now) (sym (c.into_iter-found-iterator.ensures.into_iter_gives ∙ c.new-found-items.ensures))
+          (steps.begin shape c.args.levels c.args.bytes.now c.args.start c.args.message.now c.requires.is_schema.shape c.requires.fits));
+      marked = λ whole. absurd (true≢false (sym whole ∙ c.none-marks.ensures));
+    }
 
 pub read_bytes-read_record-requires : goal.read_bytes-read_record-requires
 read_bytes-read_record-requires t c =
@@ -79,8 +83,8 @@ read_bytes-read_record-requires t c =
     let next = c.in-Some.ensures.steps ∙ ap (λ x. seen x ∷ c.next.new.self) c.in-Ok.is in
     let r = seen_record c.in-Ok.record in
     let fs = fields shape (type_of c.args.message.now) in
-    let inside = ahead.inside shape c.args.levels fs c.args.bytes.now c.args.start l.at l.found-iterator l.invariant.ahead r c.next.new.self next in
-    (omega (arith, c.decreases), (c.requires.is_schema, (ahead.is_record shape c.args.levels fs c.args.bytes.now c.args.start l.at l.found-iterator l.invariant.ahead r c.next.new.self next, (l.invariant.read.fits, omega (arith, c.requires.room)))))
+    let inside = ahead.inside shape c.args.levels fs c.args.bytes.now c.args.start l.at l.found-iterator l.invariant.reads.ahead r c.next.new.self next in
+    (omega (arith, c.decreases), (c.requires.is_schema, (ahead.is_record shape c.args.levels fs c.args.bytes.now c.args.start l.at l.found-iterator l.invariant.reads.ahead r c.next.new.self next, (l.invariant.reads.read.fits, (omega (arith, c.requires.room), l.invariant.marked)))))
 
 pub read_bytes-returns-in_err-read_record-in-Ok-clause-err : goal.read_bytes-returns-in_err-read_record-in-Ok-clause-err
 read_bytes-returns-in_err-read_record-in-Ok-clause-err t c =
@@ -89,28 +93,31 @@ read_bytes-returns-in_err-read_record-in-Ok-clause-err t c =
     let next = c.in-Some.ensures.steps ∙ ap (λ x. seen x ∷ c.next.new.self) c.in-Ok.is in
     let (y, is, from) = err_from_is_err_and c.from_residual.result c.from_residual.ensures.1 in
     handed_on (RefusedIn shape (suc c.args.levels) (fields shape (type_of c.args.message.now)) c.args.bytes.now c.args.start) c.from_residual.result _ y is from
-    (steps.refused shape c.args.levels c.args.bytes.now c.args.start c.args.message.now l.at l.found-iterator l.draft l.invariant (seen_record c.in-Ok.record) c.next.new.self next _ c.in_err-read_record-in-Ok.ensures.err)
+    (steps.refused shape c.args.levels c.args.bytes.now c.args.start c.args.message.now l.at l.found-iterator l.draft l.invariant.reads (seen_record c.in-Ok.record) c.next.new.self next _ c.in_err-read_record-in-Ok.ensures.err)
 
 pub read_bytes-overflow_add-at : goal.read_bytes-overflow_add-at
 read_bytes-overflow_add-at t c =
     let l = c.loop-found in
     let next = c.in-Some.ensures.steps ∙ ap (λ x. seen x ∷ c.next.new.self) c.in-Ok.is in
-    let inside = ahead.inside (shape_of c.args.schema.now) c.args.levels (fields (shape_of c.args.schema.now) (type_of c.args.message.now)) c.args.bytes.now c.args.start l.at l.found-iterator l.invariant.ahead (seen_record c.in-Ok.record) c.next.new.self next in
+    let inside = ahead.inside (shape_of c.args.schema.now) c.args.levels (fields (shape_of c.args.schema.now) (type_of c.args.message.now)) c.args.bytes.now c.args.start l.at l.found-iterator l.invariant.reads.ahead (seen_record c.in-Ok.record) c.next.new.self next in
     omega (arith, c.requires.room)
 
 pub read_bytes-loop-found-preserved : goal.read_bytes-loop-found-preserved
 read_bytes-loop-found-preserved t c =
     let l = c.loop-found in
     let next = c.in-Some.ensures.steps ∙ ap (λ x. seen x ∷ c.next.new.self) c.in-Ok.is in
-    steps.onward (shape_of c.args.schema.now) c.args.levels c.args.bytes.now c.args.start c.args.message.now l.at l.found-iterator l.draft l.invariant (seen_record c.in-Ok.record) c.next.new.self next
-    c.read_record.new.draft c.in_ok-read_record-in-Ok.ensures.ok c.in_ok-read_record-in-Ok.ensures.shallow
+    record {
+      reads = steps.onward (shape_of c.args.schema.now) c.args.levels c.args.bytes.now c.args.start c.args.message.now l.at l.found-iterator l.draft l.invariant.reads (seen_record c.in-Ok.record) c.next.new.self next
+          c.read_record.new.draft c.in_ok-read_record-in-Ok.ensures.ok c.in_ok-read_record-in-Ok.ensures.shallow;
+      marked = c.in_ok-read_record-in-Ok.ensures.marked;
+    }
 
 pub read_bytes-after-requires : goal.read_bytes-after-requires
 read_bytes-after-requires t c =
     let shape = shape_of c.args.schema.now in
     let l = c.loop-found in
     let next = c.in-Some.ensures.steps ∙ ap (λ x. seen x ∷ c.next.new.self) c.in-Err.is in
-    ahead.stop_room shape c.args.levels (fields shape (type_of c.args.message.now)) c.args.bytes.now c.args.start l.at l.found-iterator l.invariant.ahead c.in-Err.error c.next.new.self next c.requires.room
+    ahead.stop_room shape c.args.levels (fields shape (type_of c.args.message.now)) c.args.bytes.now c.args.start l.at l.found-iterator l.invariant.reads.ahead c.in-Err.error c.next.new.self next c.requires.room
 
 pub read_bytes-returns-in-Err-clause-err : goal.read_bytes-returns-in-Err-clause-err
 read_bytes-returns-in-Err-clause-err t c =
@@ -119,7 +126,7 @@ read_bytes-returns-in-Err-clause-err t c =
     let next = c.in-Some.ensures.steps ∙ ap (λ x. seen x ∷ c.next.new.self) c.in-Err.is in
     let fs = fields shape (type_of c.args.message.now) in
     subst (λ x. RefusedIn shape (suc c.args.levels) fs c.args.bytes.now c.args.start (errors.Wire x)) (sym c.after.ensures)
-    (ahead.stopped shape c.args.levels fs c.args.bytes.now c.args.start l.at l.found-iterator l.invariant.ahead c.in-Err.error c.next.new.self next)
+    (ahead.stopped shape c.args.levels fs c.args.bytes.now c.args.start l.at l.found-iterator l.invariant.reads.ahead c.in-Err.error c.next.new.self next)
 
 pub read_bytes-begin-draft-requires : goal.read_bytes-begin-draft-requires
 read_bytes-begin-draft-requires t c = (shape_of c.args.schema.now, c.requires.is_schema.shape, c.requires.fits)
@@ -128,12 +135,12 @@ pub read_bytes-returns-clause-ok : goal.read_bytes-returns-clause-ok
 read_bytes-returns-clause-ok t c =
     let l = c.loop-found in
     subst (ReadsOn (shape_of c.args.schema.now) c.args.bytes.now c.args.message.now) (sym c.in_ok-message.ensures)
-    (steps.done (shape_of c.args.schema.now) c.args.levels c.args.bytes.now c.args.start c.args.message.now l.at l.found-iterator l.draft l.invariant c.in-None.ensures.steps.0)
+    (steps.done (shape_of c.args.schema.now) c.args.levels c.args.bytes.now c.args.start c.args.message.now l.at l.found-iterator l.draft l.invariant.reads c.in-None.ensures.steps.0)
 
 pub read_bytes-returns-clause-shallow : goal.read_bytes-returns-clause-shallow
 read_bytes-returns-clause-shallow t c =
     let l = c.loop-found in
-    steps.all_shallow (shape_of c.args.schema.now) c.args.levels c.args.bytes.now c.args.start c.args.message.now l.at l.found-iterator l.draft l.invariant c.in-None.ensures.steps.0
+    steps.all_shallow (shape_of c.args.schema.now) c.args.levels c.args.bytes.now c.args.start c.args.message.now l.at l.found-iterator l.draft l.invariant.reads c.in-None.ensures.steps.0
 
 pub read_map_entry-returns-in_err-entry-clause-err : goal.read_map_entry-returns-in_err-entry-clause-err
 read_map_entry-returns-in_err-entry-clause-err t c =
@@ -459,6 +466,20 @@ read_record-returns-in-Map-clause-ok t c =
     entry_reads c.args.schema.now c.requires.is_schema c.args.draft.now c.add_entry.new.self r c.requires.is_record f taken (length shape) (records.is_field c.args.schema.now c.requires.is_schema (type_of c.args.draft.now) r.number f taken.found)
     c.in_ok-key-in-Some.key c.in_ok-key-in-Some.value read.fits c.requires.fits read.readable read.ok put fits) c.add_entry.ensures.ok c.add_entry.ensures.fits
 
+pub read_record-returns-in-Map-clause-marked : goal.read_record-returns-in-Map-clause-marked
+read_record-returns-in-Map-clause-marked t c =
+    let shape = shape_of c.args.schema.now in
+    let a = c.draft.inside in
+    let r = seen_record c.args.found.now in
+    let f = field_shape c.in-Some.field.now in
+    let same : type_of c.args.draft.now ≡ a.type_id = sym (ap type_of (seen_is c.draft.inside ∙ c.draft.view_is)) ∙ type_shown a.type_id (held a) (map record_seen a.unknown.items) in
+    let fs = fields shape (type_of c.args.draft.now) in
+    let is : Some f ≡ field_at fs r.number = c.in-Some.ensures.shape ∙ ap (λ t. field_at (fields shape t) r.number) (sym same) in
+    let taken = records.taken_here fs r f is (sym c.accepts.ensures ∙ c.if-accepts.true) in
+    on_ok_map c.add_entry.result (λ entry.
+    entry_marked shape (length shape) f c.args.marks.now c.in-Map.key c.in_ok-key-in-Some.key c.in_ok-key-in-Some.value c.args.draft.now c.add_entry.new.self (records.is_field c.args.schema.now c.requires.is_schema (type_of c.args.draft.now) r.number f taken.found)
+    c.in-Map.is (records.found_here fs r.number f is) c.requires.marked entry) c.add_entry.ensures.ok
+
 pub read_record-returns-in-Map-clause-shallow : goal.read_record-returns-in-Map-clause-shallow
 read_record-returns-in-Map-clause-shallow t c =
     let shape = shape_of c.args.schema.now in
@@ -526,6 +547,19 @@ read_record-returns-in_ok-new-in-Some-clause-ok t c =
     records.record_reads c.args.schema.now c.requires.is_schema c.args.draft.now c.lift-held.new.self c.lower.new.self r c.requires.is_record f taken c.lift-held.result c.in_ok-new-in-Some.new
     l.parts c.in_ok-new-in-Some.ensures.ok c.in_ok-new-in-Some.ensures.readable l.same l.others new_is fits) c.lower.ensures.ok c.lower.ensures.fits
 
+pub read_record-returns-in_ok-new-in-Some-clause-marked : goal.read_record-returns-in_ok-new-in-Some-clause-marked
+read_record-returns-in_ok-new-in-Some-clause-marked t c =
+    let shape = shape_of c.args.schema.now in
+    let a = c.draft.inside in
+    let r = seen_record c.args.found.now in
+    let f = field_shape c.in-Some.field.now in
+    let same : type_of c.args.draft.now ≡ a.type_id = sym (ap type_of (seen_is c.draft.inside ∙ c.draft.view_is)) ∙ type_shown a.type_id (held a) (map record_seen a.unknown.items) in
+    let fs = fields shape (type_of c.args.draft.now) in
+    let is : Some f ≡ field_at fs r.number = c.in-Some.ensures.shape ∙ ap (λ t. field_at (fields shape t) r.number) (sym same) in
+    let l = c.lift-held.ensures in
+    on_ok_map c.lower.result (λ new_is.
+    set_marked shape f c.lift-held.new.marks c.add.new.self c.args.draft.now c.lift-held.new.self c.lower.new.self c.in_ok-new-in-Some.new (records.found_here fs r.number f is) l.marked c.add.ensures.whole c.add.ensures.marked c.add.ensures.keeps l.same new_is) c.lower.ensures.ok
+
 pub read_record-returns-in_ok-new-in-Some-clause-shallow : goal.read_record-returns-in_ok-new-in-Some-clause-shallow
 read_record-returns-in_ok-new-in-Some-clause-shallow t c =
     let shape = shape_of c.args.schema.now in
@@ -554,6 +588,10 @@ read_record-returns-in_default-clause-ok t c =
     on_ok_map c.keep.result
     (records.unknown_reads c.args.schema.now c.requires.is_schema c.args.draft.now c.keep.new.self r c.requires.is_record a.type_id (held a) (map record_seen a.unknown.items) (seen_is c.draft.inside ∙ c.draft.view_is)
     (held_rises a c.draft.invariant) (held_filled a) (held_keys a c.draft.invariant) c.requires.fits unknown) c.keep.ensures.ok
+
+pub read_record-returns-in_default-clause-marked : goal.read_record-returns-in_default-clause-marked
+read_record-returns-in_default-clause-marked t c =
+    on_ok_map c.keep.result (λ is. unknown_marked (shape_of c.args.schema.now) c.args.marks.now (seen_record c.args.found.now) c.args.draft.now c.keep.new.self c.requires.marked is) c.keep.ensures.ok
 
 pub read_record-returns-in_default-clause-shallow : goal.read_record-returns-in_default-clause-shallow
 read_record-returns-in_default-clause-shallow t c =

@@ -1,6 +1,7 @@
 -- A message inside has a level less. Of one message, what reads a part of it comes before what reads the whole.
 use Rattle.std.proofs.Common.{◌+◌, ◌*◌}
 use Rattle.pg_schema.specs.Parts.{shape_of}
+use Rattle.pg_dyn.specs.Marked.{AreMarked}
 use Rattle.pg_dyn.proofs.MessageSteps.{MessageAhead, EntryAhead}
 use Rattle.pg_dyn.proofs.reading.messages.+reading.Given as goal
 
@@ -29,4 +30,7 @@ abbrev pub invariant-read_entry-loop-found : goal.invariant-read_entry-loop-foun
 invariant-read_entry-loop-found l = EntryAhead (shape_of l.fn.schema) l.fn.levels l.fn.key l.fn.element l.fn.bytes l.fn.start l.at l.found-iterator l.entry
 
 abbrev pub invariant-read_bytes-loop-found : goal.invariant-read_bytes-loop-found
-invariant-read_bytes-loop-found l = MessageAhead (shape_of l.fn.schema) l.fn.levels l.fn.bytes l.fn.start l.fn.message l.at l.found-iterator l.draft
+invariant-read_bytes-loop-found l = record {
+  reads : MessageAhead (shape_of l.fn.schema) l.fn.levels l.fn.bytes l.fn.start l.fn.message l.at l.found-iterator l.draft;
+  marked : AreMarked (shape_of l.fn.schema) l.marks l.draft;
+}
