@@ -105,15 +105,15 @@ def far_schema():
 
 
 def pair_schema():
-    """`message P`, the type of pair_rows.rt: 40 oneofs of two numbers each, and a number that is in none."""
+    """`message P`, the type of pair_rows.rt: 60 oneofs of two numbers each, and a number that is in none."""
     file = descriptor_pb2.FileDescriptorProto(name="p.proto", syntax="proto3")
     message = file.message_type.add(name="P")
     add = adding(message)
-    for place in range(40):
+    for place in range(60):
         message.oneof_decl.add(name="k%d" % place)
         for number in (2 * place + 1, 2 * place + 2):
             add("f%d" % number, number, LABEL.TYPE_INT32).oneof_index = place
-    add("f81", 81, LABEL.TYPE_INT32)
+    add("f121", 121, LABEL.TYPE_INT32)
     return kind_of(file, "P")
 
 
@@ -235,11 +235,11 @@ def far_records(r, depth):
 
 
 def pair_records(r, depth):
-    """Records of a member of most of the oneofs, in any order, and then of members by turns, with some others between them."""
-    places = r.sample(range(40), r.randrange(30, 41))
-    front = b"".join(record(2 * place + r.randrange(1, 3), 0, varint(place)) for place in places)
-    others = [lambda: record(81, 0, varint(r.randrange(3))), lambda: record(82, 0, varint(r.randrange(1000)))]
-    later = [lambda: record(r.randrange(1, 81), 0, varint(r.randrange(100)))] * 8 + others
+    """A number that is in no oneof, a member of most of the oneofs in any order, and then members by turns, with some others between."""
+    places = r.sample(range(60), r.randrange(45, 61))
+    front = record(121, 0, varint(1)) + b"".join(record(2 * place + r.randrange(1, 3), 0, varint(place)) for place in places)
+    others = [lambda: record(121, 0, varint(r.randrange(3))), lambda: record(122, 0, varint(r.randrange(1000)))]
+    later = [lambda: record(r.randrange(1, 121), 0, varint(r.randrange(100)))] * 8 + others
     return front + b"".join(r.choice(later)() for _ in range(r.randrange(10, 25)))
 
 
@@ -476,7 +476,7 @@ def main():
     write_rows(folder + "/more_rows.rt", rows[110:])
     write_rows(folder + "/wide_rows.rt", made_rows(wide_schema(), wide_records, 60, 19))
     write_rows(folder + "/far_rows.rt", made_rows(far_schema(), far_records, 4, 20, longest=200))
-    write_rows(folder + "/pair_rows.rt", made_rows(pair_schema(), pair_records, 8, 22, longest=250))
+    write_rows(folder + "/pair_rows.rt", made_rows(pair_schema(), pair_records, 8, 22, longest=300))
     write_rows(folder + "/odd_rows.rt", read_rows(schema(), ODD))
     write_rows(folder + "/odd_wide_rows.rt", read_rows(wide_schema(), ODD_WIDE))
     kind = entry_schema()

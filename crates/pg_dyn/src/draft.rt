@@ -20,8 +20,8 @@ use std::mem;
 /// How many entries are put in between others while a message is read; later ones come behind.
 pub(crate) const MOST_PUT_BETWEEN: usize = 16;
 
-/// A message that is read on. A content that is taken out leaves an empty list in its place, so that the contents
-/// behind it needn't be moved each time; these places go when reading ends. An entry of a map that has its place between
+/// A message that is read on. A content that is taken out leaves an empty list in its place, or a zero while a record
+/// reads it on, so that the contents behind it needn't be moved each time; these places go when reading ends. An entry of a map that has its place between
 /// others comes behind them, if there were many such; these maps are put in order when reading ends.
 #[derive(Drop)]
 pub(crate) struct Draft {

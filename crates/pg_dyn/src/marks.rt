@@ -1,4 +1,5 @@
-//! Which oneofs may have members among the contents of a message that is read: where one has none, none is looked for.
+//! Which oneofs may have members among the contents of a message that is read: where one is known to have none, none is looked
+//! for.
 
 ghost use Rattle.std.specs.Prelude.{◌≡◌, ◌⊎◌, ◌<◌, length, true, false, get_or, IsTrue, OnOk};
 ghost use Rattle.std.specs.List.{AllByRecursion};
@@ -7,6 +8,7 @@ ghost use Rattle.pg_schema.specs.Shape.{fields};
 ghost use Rattle.pg_dyn.specs.Marked.{Keeps, is_marked, oneof_at};
 
 use crate::message::Content;
+use crate::noting::FEW;
 use crate::oneofs::oneof_of;
 use pg_schema::{Field, Schema, TypeId};
 use std::alloc::{AllocError, Global};
@@ -14,7 +16,7 @@ use std::alloc::{AllocError, Global};
 /// How often contents are gone over for the other members of a oneof before the oneofs are marked.
 const MOST_PASSES: u32 = 16;
 
-/// Marks of the oneofs of a message that is read, made once its contents were gone over often.
+/// Marks of the oneofs of a message that is read, made once its contents were gone over often and aren't few.
 #[derive(Drop)]
 pub(crate) struct Marks {
     /// By the oneof's place, whether a content may be a member of it.
@@ -78,8 +80,6 @@ fn has_mark(held: &[bool], oneof: u32) -> bool
 }
 
 impl Marks {
-    ghost use Rattle.std.specs.Prelude.{Some};
-
     /// No marks, for a message whose contents weren't gone over yet.
     pub(crate) fn none(alloc: Global) -> Marks
         ensures { result.is_whole ≡ false }
@@ -102,7 +102,7 @@ impl Marks {
         }
     }
 
-    // Before contents are gone over: where that was done often, the oneof of each is marked.
+    // Before contents are gone over: where that was done often, and they aren't few, the oneof of each is marked.
     fn prepare(&mut self, contents: &[(u32, Content)], schema: &Schema, type_id: TypeId)
         ensures { self.new.is_whole ≡ true → ((self.old.is_whole ≡ true) × (self.new.held.items ≡ self.old.held.items))
             ⊎ AllByRecursion (λ c. is_marked self.new.held.items (oneof_at (fields (shape_of schema.now) type_id) c.0) ≡ true) contents.now }
@@ -112,6 +112,9 @@ impl Marks {
         }
         if self.passes < MOST_PASSES {
             self.passes += 1;
+            return;
+        }
+        if contents.len() < FEW {
             return;
         }
         self.is_whole = mark_all(&mut self.held, contents, schema, type_id).is_ok();

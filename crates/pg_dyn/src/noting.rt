@@ -13,8 +13,8 @@ use crate::message::Content;
 use crate::rivals::is_rival;
 use pg_schema::{Field, Schema, TypeId};
 
-// Of fewer contents none is noted: to go over them costs little.
-const FEW: usize = 32;
+/// Of fewer contents none is noted: to go over them costs little.
+pub(crate) const FEW: usize = 32;
 
 // The member of the field's oneof that was noted last.
 fn noted_member(noted: &[u32], field: &Field) -> Option<u32> {

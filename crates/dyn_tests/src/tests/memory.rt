@@ -184,7 +184,7 @@ fn refused_reads(rt: HostRuntime) -> Result<(), Fail> {
     Ok(())
 }
 
-// A message with members of so many oneofs that these are marked is read, or memory was refused: not where it was for marks.
+// A message with members of so many oneofs that these are marked is read as it is, or memory was refused.
 #[test]
 fn refused_marks(rt: HostRuntime) -> Result<(), Fail> {
     let schema = paired_members(rt.alloc())?;

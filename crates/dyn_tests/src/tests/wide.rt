@@ -112,14 +112,14 @@ fn rows_of_members_that_stand_far_apart(rt: HostRuntime) -> Result<(), Fail> {
     Ok(())
 }
 
-/// `message M` of 40 oneofs of two numbers each, and a number that is in none.
+/// `message M` of 60 oneofs of two numbers each, and a number that is in none.
 pub(super) fn paired_members(alloc: Global) -> Result<Schema, Fail> {
     let mut shapes = Vec::new(alloc);
-    for place in 0..40u32 {
+    for place in 0..60u32 {
         shapes.push((2 * place + 1, Presence::Explicit, INT, Some(place)))?;
         shapes.push((2 * place + 2, Presence::Explicit, INT, Some(place)))?;
     }
-    shapes.push((81, Presence::Implicit, INT, None))?;
+    shapes.push((121, Presence::Implicit, INT, None))?;
     schema_by(alloc, &shapes)
 }
 
