@@ -171,7 +171,8 @@ sources_levelled : (all files : List Entry) → AllByRecursion HasTree files →
 sources_levelled all [] h = tt
 sources_levelled all (e ∷ es) h = (file_levelled 64 e.1.tree (file_good e.1.bytes.items e.1.tree h.0) h.0.derives, sources_levelled all es h.1)
 
-pub texts_are_shallow : (linked : LinkedFiles) (parts : Parts) → IsLinkedUp linked → Declares (linked_sources linked.files) parts → IsSound parts → are_shallow parts ≡ true
+pub texts_are_shallow : (linked : LinkedFiles) (parts : Parts) → IsLinkedUp linked → Declares (linked_sources linked.files) parts → IsSound parts
+    → are_shallow parts ≡ true
 texts_are_shallow linked parts up h sound =
     let sources = linked_sources linked.files in
     let d = with_files nothing sources in
