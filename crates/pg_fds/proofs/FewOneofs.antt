@@ -13,6 +13,9 @@ use Rattle.pg_schema.proofs.PairLemmas.{and_both, and_left, and_right}
 below : (a b : ℕ) → nat_lt a b ≡ true → a < b
 below a b h = grind (arith, nat_tests)
 
+same_number : (a b : ℕ) → nat_eq a b ≡ true → a ≡ b
+same_number a b h = grind (arith, nat_tests)
+
 -- numbers that rise are as far above the first as they are many
 rising_long : (most a : ℕ) (xs : List ℕ) → is_rising (a ∷ xs) ≡ true → list_all (λ x. nat_lt x most) xs ≡ true → a < most → a + length xs < most
 rising_long most a [] rising all h = omega (arith, h)
@@ -91,6 +94,9 @@ few_oneofs (suc n) fs has =
     let later = few_oneofs n (without n fs) (still_members n n (omega arith) fs (and_right (list_any (is_member n) fs) (have_members n fs) has)) in
     omega (arith, less, later)
 
+below_twice : (oneofs declared fields : ℕ) → fields < 2 ^ 29 → oneofs ≤ fields → declared ≡ fields → oneofs + declared < 2 ^ 31
+below_twice oneofs declared fields few less same = omega (arith, few, less, same)
+
 -- so 32 bits hold the place of a oneof
 pub oneof_small : (oneofs types enums : ℕ) (fs : List Field) → list_all (is_field oneofs types enums) fs ≡ true → is_rising (0 ∷ numbers fs) ≡ true → have_members oneofs fs ≡ true
     → (o : Option ℕ) → is_oneof oneofs o ≡ true → IfSome o (λ place. place < 2 ^ 32)
@@ -100,12 +106,6 @@ oneof_small oneofs types enums fs h rising has (Some place) is =
     let less = few_oneofs oneofs fs has in
     let at = below place oneofs is in
     omega (arith, few, less, at)
-
-same_number : (a b : ℕ) → nat_eq a b ≡ true → a ≡ b
-same_number a b h = grind (arith, nat_tests)
-
-below_twice : (oneofs declared fields : ℕ) → fields < 2 ^ 29 → oneofs ≤ fields → declared ≡ fields → oneofs + declared < 2 ^ 31
-below_twice oneofs declared fields few less same = omega (arith, few, less, same)
 
 -- and an int32 the places of a message type's oneofs, of which each field may have one of its own
 pub few_places : (types enums : ℕ) (t : MessageType) → is_message_type types enums t ≡ true → length t.oneofs.items + length t.declared.items < 2 ^ 31

@@ -1,15 +1,15 @@
 -- Message types of linked files are nested at most 64 deep, as deep as the grammar lets messages be nested in their texts.
-use Rattle.std.proofs.Common.{◌≡◌, ◌∙◌, ℕ, zero, suc, ◌+◌, ◌^◌, ◌<◌, ◌≤◌, Bool, true, false, cond, List, [], ◌∷◌, ◌++◌, filter, length, map, Option, Some, slice_get, sym, ap, subst, refl, arith, append_assoc, length-append}
+use Rattle.std.proofs.Common.{◌≡◌, ◌∙◌, ℕ, zero, suc, ◌+◌, ◌^◌, ◌≤◌, Bool, true, false, cond, List, [], ◌∷◌, ◌++◌, filter, length, map, Option, Some, slice_get, sym, ap, subst, refl, arith, append_assoc, length-append}
 use Rattle.std.specs.List.{list_all, AllByRecursion}
 use Rattle.std.specs.Str.{bytes_eq}
-use Rattle.std.proofs.lemmas.Bool.Decides.{nat_tests}
-use Rattle.std.proofs.lemmas.List.{append-nil, length-map}
+use Rattle.std.proofs.lemmas.List.{length-map}
 use Rattle.std.proofs.lemmas.List.Elements.{recursion_from_All}
 use Rattle.std.proofs.lemmas.Slice.Eq.{bytes_eq-Decides}
 use Rattle.pg_schema.specs.declared.field.TypeId.{TypeId}
 use Rattle.pg_schema.specs.declared.file.File.{File}
 use Rattle.pg_schema.specs.declared.message_type.MessageType.{MessageType}
 use Rattle.pg_schema.specs.declared.parts.Parts.{Parts}
+use Rattle.pg_schema.specs.Sound.{IsSound}
 use Rattle.pg_schema.proofs.PairLemmas.{and_both}
 use Rattle.pg_dyn.proofs.Lists.{each-append}
 use Rattle.pg_link.specs.declared.target.Target.{Target}
@@ -21,11 +21,11 @@ use Rattle.pg_check.specs.MadeNumbers.{index_of}
 use Rattle.pg_check.specs.MadeParts.{Declared, EachIs, FileShape, IsFileOf, IsTypeOf, Source, TypeTree, file_shape, nothing, placed_enums, placed_messages, type_tree, type_trees, with_file, with_files}
 use Rattle.pg_check.specs.Outline.{Message, file_messages, message_scope, package_of}
 use Rattle.pg_check.specs.Sources.{linked_source, linked_sources}
-use Rattle.pg_check.proofs.Eachs.{each-length}
-use Rattle.pg_check.proofs.SoundParts.{linked_sound}
 use Rattle.pg_check.proofs.WordTrees.{file_good}
 use Rattle.pg_fds.specs.Again.{are_shallow, holds_inside, nest_within}
 use Rattle.pg_fds.proofs.TextLevels.{AreLevelled, file_levelled, words_in}
+use Rattle.pg_fds.proofs.TextPlaces.{index_is}
+use Rattle.pg_fds.proofs.TextTypes.{each_long, later_types, types_declared}
 
 -- ---- the message types of a file
 
@@ -92,9 +92,6 @@ module _ (types : List MessageType) (targets : ℕ → Option Target) (before : 
           absurd (omega (arith, same, high, levelled.0.below, levelled.0.shallow))
       by false is others = others
 
-  small : (n : ℕ) → n < 2 ^ 32 → index_of n ≡ n
-  small n less = grind (arith, nat_tests)
-
   abbrev Fits : ℕ → Type 0
   Fits n = (scope : List ℕ) → top ≤ words_in scope + n → nest_within n types (types_in scope (places before ms)) ≡ true
 
@@ -107,7 +104,7 @@ module _ (types : List MessageType) (targets : ℕ → Option Target) (before : 
       here : bytes_eq scope m.scope ≡ true → holds_inside (nest_within n types) (slice_get types (index_of place)) ≡ true
       here is =
           let same : words_in scope ≡ words_in m.scope = same_scope scope m.scope is in
-          ap (λ k. holds_inside (nest_within n types) (slice_get types k)) (small place (omega (arith, few)))
+          ap (λ k. holds_inside (nest_within n types) (slice_get types k)) (index_is place (omega (arith, few)))
           ∙ (ap (holds_inside (nest_within n types)) are.0.1
           ∙ (ap (nest_within n types) are.0.2.nested_types ∙ inside m.full (omega (arith, same, high, levelled.0.below))))
 
@@ -127,18 +124,6 @@ module _ (types : List MessageType) (targets : ℕ → Option Target) (before : 
 abbrev IsLevelledFile : Source → Type 0
 IsLevelledFile s = AreLevelled (words_in (package_of s.tree) + 64) (file_messages s.tree)
 
--- the types that were there, and those of more files
-record Behind (d : Declared) (trees : List TypeTree) : Type 0 where
-  more : List TypeTree
-  is : trees ≡ d.types ++ more
-
-behind : (d : Declared) (ss : List Source) → Behind d (with_files d ss).types
-behind d [] = record { more = []; is = sym (append-nil d.types) }
-behind d (s ∷ ss) =
-    let later = behind (with_file d s) ss in
-    let trees = type_trees (length d.types) (length d.enums) s in
-    record { more = trees ++ later.more; is = later.is ∙ append_assoc d.types trees later.more }
-
 module _ (types : List MessageType) where
   abbrev IsShallowFile : FileShape → Type 0
   IsShallowFile w = nest_within 64 types w.types ≡ true
@@ -152,12 +137,13 @@ module _ (types : List MessageType) where
       let enums = placed_enums (length d.enums) s.tree in
       let trees = type_trees (length d.types) (length d.enums) s in
       let shape = file_shape (length d.types) (length d.enums) (length d.services) s in
-      let later = behind (with_file d s) ss in
-      let both : AreFrom types 0 (d.types ++ trees) = front_from types 0 (d.types ++ trees) later.more (subst (AreFrom types 0) later.is are) in
+      let later : List TypeTree = later_types (with_file d s) ss in
+      let split : (with_files (with_file d s) ss).types ≡ (d.types ++ trees) ++ later = types_declared (with_file d s) ss in
+      let both : AreFrom types 0 (d.types ++ trees) = front_from types 0 (d.types ++ trees) later (subst (AreFrom types 0) split are) in
       let here : AreFrom types (length d.types) trees =
       subst (λ n. AreFrom types n trees) (from_none (length d.types)) (back_from types 0 d.types trees both) in
-      let all : length (with_files (with_file d s) ss).types ≡ length (d.types ++ trees) + length later.more =
-      ap length later.is ∙ length-append (d.types ++ trees) later.more in
+      let all : length (with_files (with_file d s) ss).types ≡ length (d.types ++ trees) + length later =
+      ap length split ∙ length-append (d.types ++ trees) later in
       let first : length (d.types ++ trees) ≡ length d.types + length trees = length-append d.types trees in
       let own : length trees ≡ length ms = length-map ms (type_tree s.targets (placed_messages (length d.types) s.tree) enums) in
       let inside : IsShallowFile shape =
@@ -185,15 +171,16 @@ sources_levelled : (all files : List Entry) → AllByRecursion HasTree files →
 sources_levelled all [] h = tt
 sources_levelled all (e ∷ es) h = (file_levelled 64 e.1.tree (file_good e.1.bytes.items e.1.tree h.0) h.0.derives, sources_levelled all es h.1)
 
-pub texts_are_shallow : (linked : LinkedFiles) (parts : Parts) → IsLinkedUp linked → Declares (linked_sources linked.files) parts → are_shallow parts ≡ true
-texts_are_shallow linked parts up h =
+pub texts_are_shallow : (linked : LinkedFiles) (parts : Parts) → IsLinkedUp linked → Declares (linked_sources linked.files) parts → IsSound parts
+    → are_shallow parts ≡ true
+texts_are_shallow linked parts up h sound =
     let sources = linked_sources linked.files in
     let d = with_files nothing sources in
     let types = parts.types.items in
     let levelled : AllByRecursion IsLevelledFile sources =
     sources_levelled linked.files linked.files (recursion_from_All HasTree linked.files up.parsed) in
     let made = h.has_parts.types in
-    let as_many : length d.types ≡ length types = each-length IsTypeOf d.types types made in
-    let few : length types ≤ 4096 = (linked_sound linked parts up h).few_types in
+    let as_many : length d.types ≡ length types = each_long IsTypeOf d.types types made in
+    let few : length types ≤ 4096 = sound.few_types in
     shapes_shallow types d.files parts.files.items h.has_parts.files
     (files_shallow types nothing sources levelled (all_from types [] types d.types refl made) (omega (arith, as_many, few)) tt)

@@ -9,7 +9,6 @@ use Rattle.pg_schema.proofs.PairLemmas.{and_left, and_right}
 use Rattle.pg_dyn.proofs.Lists.{each-append}
 use Rattle.pg_check.specs.Outline.{Message, all_messages, file_messages, full_name, messages_in, package_of, row_messages, statement_messages, statements_behind}
 use Rattle.pg_check.proofs.WordTrees.{IsGood}
-use Rattle.pg_check.proofs.WordedFiles.{word_bytes}
 use Rattle.pg_syntax.specs.declared.tree as tree
 use Rattle.pg_syntax.specs.declared.tree.Part.{Part, Row_of-Part, end_of-Part, more_of-Part}
 use Rattle.pg_syntax.specs.declared.tree.Part.TheVariants as parts
@@ -19,6 +18,7 @@ use Rattle.pg_syntax.specs.Tree.{Tree, Empty, At, Both}
 use Rattle.pg_syntax.specs.Views as view
 use Rattle.pg_syntax.specs.Proto3 as grammar
 use Rattle.pg_lex.specs.declared.token.Span.{Span}
+use Rattle.pg_fds.proofs.WrittenNames.{word_bytes}
 
 -- ---- words of full names
 

@@ -23,7 +23,7 @@ use Rattle.pg_fds.proofs.TextWalks.{AreTyped, full_of, from_joined, walk_in_orde
 
 -- ---- what is declared, file after file
 
-abbrev later_types : Declared → List Source → List TypeTree
+abbrev pub later_types : Declared → List Source → List TypeTree
 later_types d [] = []
 later_types d (s ∷ ss) = type_trees (length d.types) (length d.enums) s ++ later_types (with_file d s) ss
 
@@ -31,7 +31,7 @@ abbrev later_files : Declared → List Source → List FileShape
 later_files d [] = []
 later_files d (s ∷ ss) = file_shape (length d.types) (length d.enums) (length d.services) s ∷ later_files (with_file d s) ss
 
-types_declared : (d : Declared) (ss : List Source) → (with_files d ss).types ≡ d.types ++ later_types d ss
+pub types_declared : (d : Declared) (ss : List Source) → (with_files d ss).types ≡ d.types ++ later_types d ss
 types_declared d [] = sym (append-nil d.types)
 types_declared d (s ∷ ss) =
     let own = type_trees (length d.types) (length d.enums) s in
@@ -57,7 +57,7 @@ each_splits is (x ∷ xs) ys (z ∷ zs) each =
     let rest = each_splits is xs ys zs each.1 in
     record { front = z ∷ rest.front; back = rest.back; splits = ap (λ ws. z ∷ ws) rest.splits; each_front = (each.0, rest.each_front); each_back = rest.each_back }
 
-each_long : {A B : Type 0} (is : A → B → Type 0) (xs : List A) (ys : List B) → EachIs is xs ys → length xs ≡ length ys
+pub each_long : {A B : Type 0} (is : A → B → Type 0) (xs : List A) (ys : List B) → EachIs is xs ys → length xs ≡ length ys
 each_long is [] [] each = refl
 each_long is [] (y ∷ ys) each = absurd each
 each_long is (x ∷ xs) [] each = absurd each

@@ -24,7 +24,7 @@ no_dots (b ∷ bytes) word (suc i) h = no_dots bytes (and_right (is_word_byte b)
 letter_in_word : (byte : ℕ) → is_letter byte ≡ true → is_word_byte byte ≡ true
 letter_in_word byte letter = ap (λ b. b || is_digit byte) letter
 
-word_bytes : (name : List ℕ) → is_word name ≡ true → list_all is_word_byte name ≡ true
+pub word_bytes : (name : List ℕ) → is_word name ≡ true → list_all is_word_byte name ≡ true
 word_bytes [] word = refl
 word_bytes (b ∷ bytes) word =
     ap (λ x. x && list_all is_word_byte bytes) (letter_in_word b (and_left (is_letter b) (list_all is_word_byte bytes) word))
