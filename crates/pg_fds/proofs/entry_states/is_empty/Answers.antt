@@ -1,4 +1,4 @@
-use Rattle.std.proofs.Common.{[], ◌≡◌, ap, map, ℕ, ◌∙◌}
+use Rattle.std.proofs.Common.{[], ◌≡◌, ap, map, ℕ}
 use Rattle.std.proofs.lemmas.Result.{MatchResult-from_err}
 use Rattle.pg_dyn.specs.declared.message.Content.{Content}
 use Rattle.pg_dyn.specs.Kept.{message_of, type_of, unknown_of}

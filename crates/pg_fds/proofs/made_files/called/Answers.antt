@@ -3,7 +3,7 @@ use Rattle.std.proofs.lemmas.Result.{MatchResult-from_err}
 use Rattle.std.specs.Option.{option_copied}
 use Rattle.pg_dyn.specs.Kept.{message_of}
 use Rattle.pg_fds.specs.Said.{maybe_text_at}
-use Rattle.pg_fds.proofs.CalledLaws.{called_found, called_means, called_text, called_there}
+use Rattle.pg_fds.proofs.CalledLaws.{called_found, called_means, called_text}
 use Rattle.pg_fds.proofs.made_files.called.Goals as goal
 
 pub returns-in_err-name-clause-refused : goal.returns-in_err-name-clause-refused

@@ -1,4 +1,4 @@
-use Rattle.std.proofs.Common.{◌≡◌, ap, nat_eq, of_z, pos, sym, true, ◌∙◌}
+use Rattle.std.proofs.Common.{◌≡◌, ap, nat_eq, of_z, sym, true, ◌∙◌}
 use Rattle.std.specs.Int.{w128}
 use Rattle.std.proofs.lemmas.Result.{MatchResult-from_err}
 use Rattle.std.specs.Option.{option_copied}

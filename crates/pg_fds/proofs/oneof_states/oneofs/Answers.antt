@@ -1,4 +1,4 @@
-use Rattle.std.proofs.Common.{◌≡◌, ap, ap₂, map, sym, ◌∙◌}
+use Rattle.std.proofs.Common.{ap₂, map, sym, ◌∙◌}
 use Rattle.std.proofs.lemmas.Result.{err_from_is_err_and}
 use Rattle.std.specs.List.{list_all}
 use Rattle.pg_dyn.specs.Kept.{message_of}
