@@ -6,7 +6,10 @@
 set -eu
 top=$(cd "$(dirname "$0")/.." && pwd)
 work=${1:-$(mktemp -d)}
-protogate="$top/crates/protogate/out/protogate"
+# The program with large pages, as the script at the top starts it.
+protogate="$work/protogate"
+printf '#!/bin/sh\nGLIBC_TUNABLES=glibc.malloc.hugetlb=1 exec "%s" "$@"\n' "$top/crates/protogate/out/protogate" > "$protogate"
+chmod 755 "$protogate"
 python3 "$top/bench/sets.py" "$work/text.proto"
 python3 "$top/bench/sets.py" "$work/quarter.proto" 925
 python3 "$top/bench/link.py" "$work/files"

@@ -105,7 +105,8 @@ try_status() {
     compare "$*" "status $wanted" "$("$@" >/dev/null 2>&1; echo "status $?")"
 }
 
-# A repository's scripts with a program that answers by its first word: `gate` takes two seconds, `show` none, and `verify` stops.
+# A repository's scripts with a program that answers by its first word: `gate` takes two seconds, `show` none, `verify` stops, and
+# `compile` says what the C library is asked for.
 make_slow_program() {
     mkdir -p slow/tools slow/docs slow/crates/protogate/out \
         && cp -- "$root/protogate" slow && cp -- "$root/tools/install.sh" slow/tools && cp -- "$root/docs/protogate.1" slow/docs \
@@ -116,6 +117,7 @@ case $1 in
     gate) sleep 2 ;;
     verify) kill -STOP $$ ;;
     show) ;;
+    compile) echo "$GLIBC_TUNABLES" ;;
     *) exit 4 ;;
 esac
 END
@@ -140,7 +142,13 @@ try_terminal() {
     compare "$1: an open file" "free" "$(said_on_terminal "$1" '(flock -n 9; "$slow" show) 9>lock; flock -n lock echo free')"
 }
 
-# The same of the script at the top, and of the one that is installed.
+# Large pages are asked for, where the user asks the C library for nothing else.
+try_pages() {
+    compare "$1: pages" glibc.malloc.hugetlb=1 "$(env -u GLIBC_TUNABLES "$1" compile)"
+    compare "$1: what the user asks for" glibc.malloc.arena_max=1 "$(env GLIBC_TUNABLES=glibc.malloc.arena_max=1 "$1" compile)"
+}
+
+# What is said on a terminal of the script at the top, and of the one that is installed.
 try_terminals() {
     for tool in script ps flock; do
         if ! command -v "$tool" >/dev/null; then
@@ -246,6 +254,8 @@ compare "a word that isn't UTF-8" "$(echo 'error: invalid UTF-8 was detected in 
 try_memory
 compare "a slow program" "status 0" "$(make_slow_program; echo "status $?")"
 compare "an installed program" "status 4" "$("slow/o'clock/bin/protogate" relay; echo "status $?")"
+try_pages slow/protogate
+try_pages "slow/o'clock/bin/protogate"
 try_terminals
 compare "docs/protogate.1: codes" "$(sed -n 's/^| \(E[^|]*\)|.*/\1/p' "$root/docs/REFUSALS.md" | grep -o 'E[0-9][0-9]*' | sort -u)" \
     "$(sed -n 's/^\.BI* \(E[0-9]*\).*/\1/p' "$root/docs/protogate.1" | sort -u)"
