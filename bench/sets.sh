@@ -6,6 +6,7 @@
 set -eu
 top=$(cd "$(dirname "$0")/.." && pwd)
 work=${1:-$(mktemp -d)}
+mkdir -p "$work"
 # The program with large pages, as the script at the top starts it.
 protogate="$work/protogate"
 printf '#!/bin/sh\nGLIBC_TUNABLES=glibc.malloc.hugetlb=1 exec "%s" "$@"\n' "$top/crates/protogate/out/protogate" > "$protogate"
