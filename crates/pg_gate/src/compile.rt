@@ -80,6 +80,26 @@ pub(crate) fn compile_texts<S: Sources>(
     })
 }
 
+/// The schema of the texts at these paths below the folder, and of all that they import. The files themselves are dropped.
+pub(crate) fn schema_of_texts<S: Sources>(
+    alloc: Global,
+    source: &mut S,
+    side: Side,
+    folder: &str,
+    paths: &[&str],
+) -> Result<Schema, GateError>
+    ensures compiled { IfOk result (IsCompiled (world (S.may_give source.old) (S.may_lack source.old)
+        folder.now (paths_of paths.now))) }
+    ensures refused { IfErr result (IsErrorOf (IsFaultOf (world (S.may_give source.old) (S.may_lack source.old)
+        folder.now (paths_of paths.now))) side) }
+    ensures counted { S.failures source.new ≡ S.failures source.old + source_failures result }
+    ensures same_given { S.may_give source.new ≡ S.may_give source.old }
+    ensures same_lacked { S.may_lack source.new ≡ S.may_lack source.old }
+{
+    let compiled = compile_texts(alloc, source, side, folder, paths)?;
+    Ok(compiled.schema)
+}
+
 /// The schema of the descriptor set at this path below the folder, which has no files.
 fn compile_set<S: Sources>(
     alloc: Global,

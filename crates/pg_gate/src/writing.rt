@@ -3,7 +3,7 @@ ghost use Rattle.std.specs.Prelude.{◌≡◌, ◌+◌, IfErr, IfOk};
 ghost use Rattle.pg_link.specs.Walk.{world};
 ghost use Rattle.pg_gate.specs.Files.{IsErrorOf, IsFaultOfSet, IsSetOf, paths_of, source_failures};
 
-use crate::compile::compile_texts;
+use crate::compile::schema_of_texts;
 use crate::error::{Fault, GateError, Side};
 use pg_fds::{FdsError, write};
 use pg_link::Sources;
@@ -24,8 +24,9 @@ pub(crate) fn written<S: Sources>(
     ensures same_given { S.may_give source.new ≡ S.may_give source.old }
     ensures same_lacked { S.may_lack source.new ≡ S.may_lack source.old }
 {
-    let compiled = compile_texts(alloc, source, Side::Old, folder, paths)?;
-    match write(alloc, &compiled.schema) {
+    // The files go before the set is made, which takes as much memory.
+    let schema = schema_of_texts(alloc, source, Side::Old, folder, paths)?;
+    match write(alloc, &schema) {
         Ok(bytes) => Ok(bytes),
         Err(FdsError::Memory) => Err(GateError::Memory),
         Err(error) => Err(GateError::Compile(Side::Old, Fault::Set(error))),

@@ -9,4 +9,4 @@ pub returns-clause-refused : goal.returns-clause-refused
 returns-clause-refused g c =
     let w = world (g.S.Sources.may_give c.args.source.now) (g.S.Sources.may_lack c.args.source.now) c.args.folder.now (paths_of c.args.paths.now) in
     let other : c.in-Err.error ≡ sets.Memory → ⊥ = search rules in
-    (refl, unwritten w c.in_ok-compiled.compiled.schema c.in_ok-compiled.ensures.compiled c.in-Err.error other c.in-Err.ensures.err)
+    (refl, unwritten w c.in_ok-schema.schema c.in_ok-schema.ensures.compiled c.in-Err.error other c.in-Err.ensures.err)
