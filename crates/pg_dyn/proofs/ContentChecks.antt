@@ -314,10 +314,6 @@ module _ (shape : Shape) (f : FieldShape) (c : Content) where
     from_field (errors.TooDeep at) early k = absurd k
     from_field (errors.Wire w) early k = absurd k
 
-  -- another shape than the presence asks
-  pub told_shape : (HasPresence f.presence c → ⊥) → IsLowest (FieldFault shape f c) errors.WrongKind × (code errors.WrongKind < 605)
-  told_shape none = (lowest (FieldFault shape f c) errors.WrongKind (inl none) (omega arith) (λ x. x) (λ low x. x) (λ low x. omega arith) (λ low x. omega arith) (λ low at x. omega arith), omega arith)
-
 module _ (shape : Shape) (n : ℕ) (element : Element) (oneof : Option ℕ) (r : Result (Unit {0}) DynError) where
   abbrev with_presence : Presence → FieldShape
   with_presence p = record { number = n; presence = p; element = element; oneof = oneof }
@@ -329,16 +325,6 @@ module _ (shape : Shape) (n : ℕ) (element : Element) (oneof : Option ℕ) (r :
       → ((e : DynError) → HasItemFault shape (with_presence p) c e → F e) → Tells P F r → TellsField p c
   of_items p c P F has right to back h =
       told_so P (ItemsFit shape p element c) F (FieldFault shape (with_presence p) c) right (λ e k. to_field shape (with_presence p) c e (to e k)) (λ e early k. back e (from_field shape (with_presence p) c has e early k)) r h
-
-  one_back : (P : Type 0) → P ⊎ ⊥ → P
-  one_back P (inl k) = k
-  one_back P (inr k) = absurd k
-
-  pub told_implicit : (v : Value) → Tells (ItemFits shape element v) (ElementFault shape element v) r → TellsField presences.Implicit (contents.One v)
-  told_implicit v h = of_items presences.Implicit (contents.One v) (ItemFits shape element v) (ElementFault shape element v) tt (λ k. k) (λ e k. inl k) (λ e k. one_back (ElementFault shape element v e) k) h
-
-  pub told_explicit : (v : Value) → Tells (ItemFits shape element v) (ElementFault shape element v) r → TellsField presences.Explicit (contents.One v)
-  told_explicit v h = of_items presences.Explicit (contents.One v) (ItemFits shape element v) (ElementFault shape element v) tt (λ k. k) (λ e k. inl k) (λ e k. one_back (ElementFault shape element v e) k) h
 
   pub told_list : (packed : Bool) (vs : Vec Value Global) → Tells (AllByRecursion (ItemFits shape element) vs.items) (λ e. AnyOf (λ v. ElementFault shape element v e) vs.items) r → TellsField (presences.Repeated packed) (contents.Many vs)
   told_list packed vs h =

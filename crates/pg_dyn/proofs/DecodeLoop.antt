@@ -1,7 +1,5 @@
 -- A decoder goes over the records of bytes.
-use Rattle.std.proofs.Common.{◌≡◌, ℕ, ◌+◌, ◌≤◌, List, [], ◌∷◌, length, Some, Result, Ok, Err, refl, ap, ap₂, sym, ◌∙◌, arith, drop, drop_at}
-use Rattle.pg_schema.specs.declared.field.TypeId.{TypeId}
-use Rattle.pg_schema.specs.Shape.{Shape, IsShape, fields}
+use Rattle.std.proofs.Common.{◌≡◌, ℕ, ◌+◌, ◌≤◌, List, [], ◌∷◌, length, Result, Ok, Err, refl, ap, ap₂, sym, ◌∙◌, arith, drop, drop_at}
 use Rattle.pg_wire.specs.declared.error.WireError.{WireError}
 use Rattle.pg_wire.specs.Reading.{Fault, Front, ◌>>=◌}
 use Rattle.pg_wire.specs.Errors.{error_at, fault_of, place_of, placed}
@@ -9,12 +7,6 @@ use Rattle.pg_wire.specs.Records.{WireRecord, record_at}
 use Rattle.pg_wire.specs.Reads.{record_found, results}
 use Rattle.pg_wire.proofs.RecordLaws.{record_at_takes}
 use Rattle.pg_wire.proofs.Results.{fault_of-error_at, results-end, results-ok, results-err}
-use Rattle.pg_dyn.specs.Message.{Message}
-use Rattle.pg_dyn.specs.Message as model
-use Rattle.pg_dyn.specs.Decoding.{dec}
-use Rattle.pg_dyn.specs.Encoding.{enc}
-use Rattle.pg_dyn.proofs.Again.{reads_again}
-use Rattle.pg_dyn.proofs.Splitting.{records_in_none}
 
 cons_not_nil : {A : Type 0} (x : A) (xs : List A) → ◌≡◌ {A = List A} [] (x ∷ xs) → ⊥
 cons_not_nil x xs e = cc
@@ -90,13 +82,3 @@ end_step at (b ∷ bytes) h = of (record_at (b ∷ bytes)) refl
     of : (read : Front WireRecord) → record_at (b ∷ bytes) ≡ read → b ∷ bytes ≡ []
     of (Ok x) k = absurd (cons_not_nil _ _ (sym h ∙ (results-ok at (b ∷ bytes) x.0 (found_of (b ∷ bytes) (Ok x) k)).then))
     of (Err f) k = absurd (cons_not_nil _ [] (sym h ∙ results-err at (b ∷ bytes) (error_at f 0) (omega arith) (found_of (b ∷ bytes) (Err f) k)))
-
-nothing_written : (shape : Shape) (type : TypeId) → enc shape type (model.ends []) ≡ []
-unfolding enc
-nothing_written shape type = rw (records_in_none (fields shape type))
-
--- no bytes are read as the message without content
-pub dec_nothing : (shape : Shape) (type : TypeId) → IsShape shape → dec shape type [] ≡ Some (model.ends [])
-dec_nothing shape type is_shape =
-    let none = nothing_written shape type in
-    ap (dec shape type) (sym none) ∙ reads_again shape type (model.ends []) is_shape tt (omega (arith, ap length none))

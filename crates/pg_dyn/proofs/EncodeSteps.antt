@@ -104,9 +104,6 @@ module _ {X : Type 0} (b k : X → List ℕ) where
       let (more, then) = next (flat_map k (drop (i + 1) xs) ++ rest) ahead in
       (more ∙ ap (λ ys. ys ++ b x) written_is ∙ append_assoc before (flat_map b (take i xs)) (b x) ∙ ap (λ ys. before ++ ys) (sym (row_more b xs i x inside is)), then)
 
-  pub at_the_start : (xs : List X) (before lengths : List ℕ) → IsOnTheWay xs 0 before before lengths lengths
-  at_the_start xs before lengths = λ rest whole. (sym (append-nil before), whole)
-
   pub at_the_end : (xs ys : List X) (i : ℕ) (before out lengths left : List ℕ) → xs ≡ ys → length xs ≤ i → IsOnTheWay xs i before out lengths left
       → (rest : List ℕ) → lengths ≡ flat_map k ys ++ rest → (out ≡ before ++ flat_map b ys) × (left ≡ rest)
   at_the_end xs ys i before out lengths left same past so_far rest whole =

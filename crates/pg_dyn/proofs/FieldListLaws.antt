@@ -9,7 +9,7 @@ use Rattle.std.specs.List.Sorted.{IsNonDecreasingBy}
 use Rattle.pg_dyn.specs.declared.message.Content.{Content}
 use Rattle.pg_dyn.specs.Seen.{Rises}
 use Rattle.pg_dyn.specs.FieldList.{fields_below, fields_above, put_field, remove_field}
-use Rattle.pg_dyn.proofs.Lists.{filter_all, filter_none, filter-append', each_weaker, each_both, each-append, each-filter, each_of_all}
+use Rattle.pg_dyn.proofs.Lists.{filter_all, filter_none, filter-append', each_weaker, each-append, each-filter, each_of_all}
 
 abbrev pub AllBelow : ℕ → List (ℕ × Content) → Type 0
 AllBelow n fs = AllByRecursion (λ (f : ℕ × Content). f.0 < n) fs
@@ -109,16 +109,6 @@ apart_there fs i n d inside other y zs e =
     head_same : (x y : ℕ × Content) (xs ys : List (ℕ × Content)) → x ∷ xs ≡ y ∷ ys → x ≡ y
     head_same x y xs ys h = cc
 
--- none of the number stands at the place, if there is one
-pub apart_at : (fs : List (ℕ × Content)) (i n : ℕ) → (i < length fs → (d : ℕ × Content) → (get_or fs i d).0 ≢ n) → (y : ℕ × Content) (zs : List (ℕ × Content)) → drop i fs ≡ y ∷ zs → y.0 ≢ n
-apart_at [] zero n other y zs e = absurd (cc)
-apart_at [] (suc i) n other y zs e = absurd (cc)
-apart_at (f ∷ fs) zero n other y zs e = λ k. other (omega arith) f (first f y fs zs e ∙ k)
-  where
-    first : (x y : ℕ × Content) (xs ys : List (ℕ × Content)) → x ∷ xs ≡ y ∷ ys → x.0 ≡ y.0
-    first x y xs ys h = cc
-apart_at (f ∷ fs) (suc i) n other y zs e = apart_at fs i n (λ inside d. other (omega arith) d) y zs e
-
 -- the numbers don't fall, index by index
 pub non_decreasing : (fs : List (ℕ × Content)) → Rises fs → IsNonDecreasingBy (λ (f : ℕ × Content). f.0) fs
 non_decreasing [] h i j d le inside = absurd (omega arith)
@@ -160,9 +150,6 @@ none_there fs i n rises low high apart =
     (each-append (λ (f : ℕ × Content). f.0 ≢ n) (take i fs) (drop i fs)
     (each_weaker (λ (f : ℕ × Content). f.0 < n) (λ (f : ℕ × Content). f.0 ≢ n) (λ f below e. absurd (omega arith)) (take i fs) low)
     (each_weaker (λ (f : ℕ × Content). n < f.0) (λ (f : ℕ × Content). f.0 ≢ n) (λ f above e. absurd (omega arith)) (drop i fs) (strictly_above n (drop i fs) (rises_drop i fs rises) high apart)))
-
-pub one_there : (fs : List (ℕ × Content)) (i n : ℕ) (d : ℕ × Content) → i < length fs → (get_or fs i d).0 ≡ n → AllByRecursion (λ (f : ℕ × Content). f.0 ≢ n) fs → ⊥
-one_there fs i n d inside here none = at_index (λ (f : ℕ × Content). f.0 ≢ n) fs i d inside none here
 
 -- a field within the list doesn't depend on the default
 pub same_at : (fs : List (ℕ × Content)) (i : ℕ) (d e : ℕ × Content) → i < length fs → get_or fs i d ≡ get_or fs i e
@@ -236,50 +223,3 @@ module _ (P : ℕ × Content → Type 0) (n : ℕ) where
 
   pub each_removed : (fs : List (ℕ × Content)) → AllByRecursion P fs → AllByRecursion P (remove_field n fs)
   each_removed fs h = each-append P (fields_below n fs) (fields_above n fs) (each_kept (λ (f : ℕ × Content). nat_lt f.0 n) fs h) (each_kept (λ (f : ℕ × Content). nat_lt n f.0) fs h)
-
--- a field that is put where it stands changes nothing
-pub set_same : (fs : List (ℕ × Content)) (i : ℕ) (d : ℕ × Content) → i < length fs → d ≡ get_or fs i d → slice_set fs i (d.0, d.1) ≡ fs
-set_same [] i d inside is = refl
-set_same (f ∷ fs) zero d inside is = ap (λ x. x ∷ fs) is
-set_same (f ∷ fs) (suc i) d inside is = ap (λ xs. f ∷ xs) (set_same fs i d (omega arith) is)
-
--- A content in the place of another that stands next to its own place.
-
-module _ (P : ℕ × Content → Type 0) where
-  each_take : (i : ℕ) (xs : List (ℕ × Content)) → AllByRecursion P (take (suc i) xs) → AllByRecursion P (take i xs)
-  each_take zero xs h = tt
-  each_take (suc i) [] h = tt
-  each_take (suc i) (x ∷ xs) h = (h.0, each_take i xs h.1)
-
-  each_drop : (i : ℕ) (xs : List (ℕ × Content)) → AllByRecursion P (drop i xs) → AllByRecursion P (drop (suc i) xs)
-  each_drop zero [] h = tt
-  each_drop zero (x ∷ xs) h = h.1
-  each_drop (suc i) [] h = tt
-  each_drop (suc i) (x ∷ xs) h = each_drop i xs h
-
-  each_dropped : (i : ℕ) (xs : List (ℕ × Content)) → AllByRecursion P xs → AllByRecursion P (drop i xs)
-  each_dropped zero xs h = h
-  each_dropped (suc i) [] h = tt
-  each_dropped (suc i) (x ∷ xs) h = each_dropped i xs h.1
-
-module _ (fs : List (ℕ × Content)) (i n other : ℕ) (rises : Rises fs) (inside : i < length fs) (d : ℕ × Content) (here : (get_or fs i d).0 ≡ other)
-    (low : AllBelow other (take i fs)) (high : AllFrom other (drop i fs)) (absent : AllByRecursion (λ (f : ℕ × Content). f.0 ≢ n) fs) (c : Content) where
-  all_above : AllFrom n (drop (suc i) fs) → AllAbove n (drop (suc i) fs)
-  all_above from =
-      each_weaker (λ (f : ℕ × Content). (n ≤ f.0) × (f.0 ≢ n)) (λ (f : ℕ × Content). n < f.0) (λ f k. let low_end = k.0 in let apart = k.1 in let over : n < f.0 = omega (arith, low_end, apart) in over) (drop (suc i) fs)
-      (each_both (λ (f : ℕ × Content). n ≤ f.0) (λ (f : ℕ × Content). f.0 ≢ n) (drop (suc i) fs) from (each_dropped (λ (f : ℕ × Content). f.0 ≢ n) (suc i) fs absent))
-
-  around : AllBelow n (take i fs) → AllFrom n (drop (suc i) fs) → slice_set fs i (n, c) ≡ put_field n c (remove_field other fs)
-  around below from =
-      sym (take-append-drop i (slice_set fs i (n, c))) ∙ ap (λ xs. xs ++ drop i (slice_set fs i (n, c))) (take-set fs i (n, c))
-      ∙ ap (λ ys. take i fs ++ ys) (drop-set fs i (n, c) inside) ∙ ap (λ k. take i fs ++ (n, c) ∷ drop k fs) (add-one i)
-      ∙ ap (λ ys. take i fs ++ (n, c) ∷ ys) (sym (split_above n (take i fs) (drop (suc i) fs) below from ∙ above_all n (drop (suc i) fs) (all_above from)))
-      ∙ ap (λ xs. xs ++ (n, c) ∷ fields_above n (take i fs ++ drop (suc i) fs)) (sym (split_below n (take i fs) (drop (suc i) fs) below from))
-      ∙ ap (put_field n c) (removed_there fs i other rises low high inside d here)
-
-  pub exchanged_here : AllBelow n (take i fs) → AllFrom n (drop i fs) → slice_set fs i (n, c) ≡ put_field n c (remove_field other fs)
-  exchanged_here below from = around below (each_drop (λ (f : ℕ × Content). n ≤ f.0) i fs from)
-
-  pub exchanged_next : AllBelow n (take (i + 1) fs) → AllFrom n (drop (i + 1) fs) → slice_set fs i (n, c) ≡ put_field n c (remove_field other fs)
-  exchanged_next below from =
-      around (each_take (λ (f : ℕ × Content). f.0 < n) i fs (subst (λ k. AllBelow n (take k fs)) (add-one i) below)) (subst (λ k. AllFrom n (drop k fs)) (add-one i) from)

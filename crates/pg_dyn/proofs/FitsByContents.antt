@@ -58,9 +58,6 @@ pub own_rival : (f : FieldShape) → is_rival f f ≡ false
 own_rival f = ap (λ b. same_oneof f.oneof f.oneof && not b) (eq-eqb f.number f.number refl) ∙ and-false (same_oneof f.oneof f.oneof)
 
 module _ (shape : Shape) (type : TypeId) where
-  abbrev fs : List FieldShape
-  fs = fields shape type
-
   abbrev pub Whole : Kept → Type 0
   Whole m = IsMessage shape type (message_of m) × PartsAgree shape m
 

@@ -8,16 +8,12 @@ use Rattle.pg_schema.specs.Invariant.{IsSchema}
 use Rattle.pg_schema.specs.Shape.{FieldShape, fields, field_at}
 use Rattle.pg_wire.specs.Records.{WireRecord, IsRecord}
 use Rattle.pg_dyn.specs.declared.message.UnknownRecord.{UnknownRecord}
-use Rattle.pg_dyn.specs.declared.message.Value.{Value}
 use Rattle.pg_dyn.specs.Content.{is_accepted, takes, is_unknown}
 use Rattle.pg_dyn.specs.Seen.{record_seen}
 use Rattle.pg_dyn.specs.Belonging.{IsUnknown}
 use Rattle.pg_dyn.proofs.Splitting.{found_number}
-use Rattle.pg_dyn.proofs.DecodeSteps.{rising, takes_it, unknown_where_none, unknown_where_not_accepted}
+use Rattle.pg_dyn.proofs.TypeFields.{rising, takes_it, unknown_where_none, unknown_where_not_accepted}
 use Rattle.pg_dyn.proofs.Lists.{list_any_at}
-
-pub same_value : (v w : Value) → ◌≡◌ {A = Option Value} (Some v) (Some w) → v ≡ w
-same_value v w e = cc
 
 pub none_found : (f : FieldShape) → ◌≡◌ {A = Option FieldShape} None (Some f) → ⊥
 none_found f e = cc

@@ -31,14 +31,6 @@ key_trans (Bytes a) (Bytes b) (F32 c) h k = absurd (cc)
 key_trans (Bytes a) (Bytes b) (F64 c) h k = absurd (cc)
 key_trans (Bytes a) (Bytes b) (Bytes c) h k = nat_list_cmp_total.trans a b c h k
 
-pub bytes_default : (bs : List ℕ) (w : Value) → IsKey w → ((x : _) → w ≡ values.Text x → ⊥) → ((x : _) → w ≡ values.Bytes x → ⊥) → Equal ≡ key_cmp (Bytes bs) (leaf_of w)
-bytes_default bs (values.Int x) key text bytes = refl
-bytes_default bs (values.F32 x) key text bytes = refl
-bytes_default bs (values.F64 x) key text bytes = refl
-bytes_default bs (values.Text x) key text bytes = absurd (text x refl)
-bytes_default bs (values.Bytes x) key text bytes = absurd (bytes x refl)
-bytes_default bs (values.Msg x) key text bytes = absurd key
-
 pub other_default : (v w : Value) → IsKey v → ((x : _) → v ≡ values.Int x → ⊥) → ((x : _) → v ≡ values.Text x → ⊥) → ((x : _) → v ≡ values.Bytes x → ⊥) → Equal ≡ key_cmp (leaf_of v) (leaf_of w)
 other_default (values.Int x) w key int text bytes = absurd (int x refl)
 other_default (values.F32 x) w key int text bytes = refl
@@ -73,14 +65,6 @@ adjacent (x ∷ y ∷ es) (suc k) d e inside h = adjacent (y ∷ es) k d e (omeg
 
 pub apart_from : (fs : List FieldShape) (a b : ℕ) → are_rivals_by (field_at fs a) (field_at fs b) ≡ false → AreApart fs a b
 apart_from fs a b h f g found there = sym (ap (λ o. are_rivals_by o (field_at fs b)) found ∙ ap (are_rivals_by (Some f)) there) ∙ h
-
-pub apart_to : (fs : List FieldShape) (a b : ℕ) → AreApart fs a b → are_rivals_by (field_at fs a) (field_at fs b) ≡ false
-apart_to fs a b h = of (field_at fs a) (field_at fs b) refl refl
-  where
-    of : (o p : Option FieldShape) → field_at fs a ≡ o → field_at fs b ≡ p → are_rivals_by (field_at fs a) (field_at fs b) ≡ false
-    of (Some f) (Some g) found there = ap (λ o. are_rivals_by o (field_at fs b)) found ∙ ap (are_rivals_by (Some f)) there ∙ h f g found there
-    of (Some f) None found there = ap (λ o. are_rivals_by o (field_at fs b)) found ∙ ap (are_rivals_by (Some f)) there
-    of None p found there = ap (λ o. are_rivals_by o (field_at fs b)) found
 
 module _ (fs : List FieldShape) where
   abbrev pub ApartFrom : ℕ → List (ℕ × Content) → Type 0

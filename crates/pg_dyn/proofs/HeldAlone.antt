@@ -1,15 +1,20 @@
--- A message that fits and holds a member of a oneof holds no other.
-use Rattle.std.proofs.Common.{◌≡◌, ℕ, zero, suc, ◌<◌, List, [], ◌∷◌, length, get_or, Bool, true, false, not, Option, Some, None, refl, ap, sym, subst, ◌∙◌, arith, true≢false}
+-- A message that fits and holds a member of a oneof holds no other, and loses just that one where another is set.
+use Rattle.std.proofs.Common.{◌≡◌, ℕ, zero, suc, ◌<◌, List, [], ◌∷◌, length, get_or, Bool, true, false, not, Option, Some, None, refl, ap, sym, subst, ◌∙◌, arith, true≢false, ◌≢◌, filter, nat_eq, cond, ⊎_elim, eq-eqb, ne_eqb}
 use Rattle.std.specs.List.{AllByRecursion}
+use Rattle.std.proofs.lemmas.Bool.{and_parts, and_from, cases_eq, eqb-true}
 use Rattle.pg_schema.specs.Shape.{FieldShape, field_at, Rising}
 use Rattle.pg_dyn.specs.declared.message.Content.{Content}
-use Rattle.pg_dyn.specs.Content.{is_rival}
+use Rattle.pg_dyn.specs.Content.{is_rival, same_oneof}
 use Rattle.pg_dyn.specs.ContentFits.{AreApart, NoneRivals}
+use Rattle.pg_dyn.specs.FieldList.{remove_field}
 use Rattle.pg_dyn.specs.Replacing.{is_rival_number}
+use Rattle.pg_dyn.specs.Seen.{Rises}
 use Rattle.pg_dyn.proofs.FitsByContents.{own_rival}
 use Rattle.pg_dyn.proofs.Flat.{is_rival_sym}
 use Rattle.pg_dyn.proofs.KeptParts.{at_index}
 use Rattle.pg_dyn.proofs.Lists.{each_weaker}
+use Rattle.pg_dyn.proofs.MembersOut.{removed_is}
+use Rattle.pg_dyn.proofs.Splitting.{found_number}
 use Rattle.pg_dyn.proofs.WithoutRivals.{rival_found, rival_nowhere}
 
 module _ (fs : List FieldShape) (rising : Rising fs) (f : FieldShape) (n : ℕ) (found : field_at fs n ≡ Some f) where
@@ -47,3 +52,67 @@ module _ (fs : List FieldShape) (rising : Rising fs) (f : FieldShape) (n : ℕ) 
     ap not (before c.0 (subst (λ m. AreApart fs c.0 m) here (at_index (λ (l : ℕ × Content). AreApart fs c.0 l.0) cs i d (omega arith) none.0))),
     held_alone cs i d (omega arith) here none.1,
   )
+
+-- The one that is lost.
+
+same_third : (a b c : Option ℕ) → same_oneof a b ≡ true → same_oneof a c ≡ true → same_oneof b c ≡ true
+same_third (Some a) (Some b) (Some c) h k = eq-eqb b c (sym (eqb-true a b h) ∙ eqb-true a c k)
+same_third None b c h k = absurd (cc)
+same_third (Some a) None c h k = absurd (cc)
+same_third (Some a) (Some b) None h k = absurd (cc)
+
+-- of two members of a oneof, each is a rival of the third, but for itself
+third : (f g h : FieldShape) → is_rival f g ≡ true → is_rival g h ≡ false → g.number ≢ h.number → is_rival f h ≡ false
+third f g h one none apart = of (is_rival f h) refl
+  where
+    of : (b : Bool) → is_rival f h ≡ b → is_rival f h ≡ false
+    of false e = e
+    of true e =
+        let first = (and_parts (same_oneof f.oneof g.oneof) (not (nat_eq f.number g.number)) one).0 in
+        let second = (and_parts (same_oneof f.oneof h.oneof) (not (nat_eq f.number h.number)) e).0 in
+        let both = and_from (same_oneof g.oneof h.oneof) (not (nat_eq g.number h.number)) (same_third f.oneof g.oneof h.oneof first second) (ap not (ne_eqb g.number h.number apart)) in
+        absurd (true≢false (sym both ∙ none))
+
+filter_on : (p q : ℕ × Content → Bool) (xs : List (ℕ × Content)) → AllByRecursion (λ (x : ℕ × Content). p x ≡ q x) xs → filter p xs ≡ filter q xs
+filter_on p q [] e = refl
+filter_on p q (x ∷ xs) e = ap (λ b. cond b (x ∷ filter p xs) (filter p xs)) e.0 ∙ ap (λ ys. cond (q x) (x ∷ ys) ys) (filter_on p q xs e.1)
+
+module _ (fs : List FieldShape) (rising : Rising fs) (f : FieldShape) (found : field_at fs f.number ≡ Some f) (n : ℕ) (rival : is_rival_number fs f n ≡ true)
+    (ms : List (ℕ × Content)) (rises : Rises ms) (i : ℕ) (d : ℕ × Content) (inside : i < length ms) (here : (get_or ms i d).0 ≡ n) (apart : NoneRivals fs ms) where
+  the_rival : (g : FieldShape) × (field_at fs n ≡ Some g) × (is_rival f g ≡ true)
+  the_rival = of (field_at fs n) refl
+    where
+      of : (x : Option FieldShape) → field_at fs n ≡ x → (g : FieldShape) × (field_at fs n ≡ Some g) × (is_rival f g ≡ true)
+      of (Some g) there = (g, there, sym (rival_found fs f g n rising there) ∙ rival)
+      of None there = absurd (true≢false (sym rival ∙ rival_nowhere fs f n there))
+
+  module _ (g : FieldShape) (there : field_at fs n ≡ Some g) (one : is_rival f g ≡ true) where
+    off : (m : ℕ) → n ≢ m → is_rival_number fs g m ≡ false → is_rival_number fs f m ≡ false
+    off m other none = of (field_at fs m) refl
+      where
+        of : (x : Option FieldShape) → field_at fs m ≡ x → is_rival_number fs f m ≡ false
+        of (Some h) at =
+            rival_found fs f h m rising at
+            ∙ third f g h one (sym (rival_found fs g h m rising at) ∙ none) (λ e. other (sym (found_number fs n g there) ∙ e ∙ found_number fs m h at))
+        of None at = rival_nowhere fs f m at
+
+    not_true : (b : Bool) → not b ≡ true → b ≡ false
+    not_true true h = absurd (cc)
+    not_true false h = refl
+
+    same_test : (x : ℕ × Content) → not (is_rival_number fs g x.0) ≡ true → not (is_rival_number fs f x.0) ≡ not (nat_eq n x.0)
+    same_test x stays =
+        ⊎_elim
+        (λ same. ap not (ap (is_rival_number fs f) (sym same) ∙ rival ∙ sym (eq-eqb n x.0 same)))
+        (λ other. ap not (off x.0 other (not_true (is_rival_number fs g x.0) stays) ∙ sym (ne_eqb n x.0 other)))
+        (cases_eq n x.0)
+
+    one_out : filter (λ (x : ℕ × Content). not (is_rival_number fs f x.0)) ms ≡ remove_field n ms
+    one_out =
+        filter_on (λ (x : ℕ × Content). not (is_rival_number fs f x.0)) (λ (x : ℕ × Content). not (nat_eq n x.0)) ms
+        (each_weaker (λ (x : ℕ × Content). not (is_rival_number fs g x.0) ≡ true) (λ (x : ℕ × Content). not (is_rival_number fs f x.0) ≡ not (nat_eq n x.0)) same_test ms (held_alone fs rising g n there ms i d inside here apart))
+        ∙ sym (removed_is n ms rises)
+
+  -- the contents without the other members are those without that one
+  pub alone_out : filter (λ (x : ℕ × Content). not (is_rival_number fs f x.0)) ms ≡ remove_field n ms
+  alone_out = let (g, there, one) = the_rival in one_out g there one

@@ -14,8 +14,8 @@ use Rattle.pg_dyn.specs.declared.message.Value.{Value}
 use Rattle.pg_dyn.specs.declared.message.Value.TheVariants as values
 use Rattle.pg_dyn.specs.Message.{is_zero}
 use Rattle.pg_dyn.specs.Coding.{InRange, scalar_form}
-use Rattle.pg_dyn.specs.Kept.{type_of}
-use Rattle.pg_dyn.specs.Seen.{leaf_of, IsKey}
+use Rattle.pg_dyn.specs.Kept.{Plain, type_of}
+use Rattle.pg_dyn.specs.Seen.{leaf_of, item_seen, IsKey}
 use Rattle.pg_dyn.specs.Belonging.{LeafFits, MayBeZero}
 use Rattle.pg_dyn.specs.Fits.{Fits}
 use Rattle.pg_dyn.specs.ScalarItems.{IsItemOf}
@@ -53,6 +53,14 @@ zero_of_key (values.F64 x) key = refl
 zero_of_key (values.Text x) key = refl
 zero_of_key (values.Bytes x) key = refl
 zero_of_key (values.Msg x) key = absurd key
+
+pub key_seen : (v : Value) → IsKey v → item_seen false v ≡ Plain false (leaf_of v)
+key_seen (values.Int x) h = refl
+key_seen (values.F32 x) h = refl
+key_seen (values.F64 x) h = refl
+key_seen (values.Text x) h = refl
+key_seen (values.Bytes x) h = refl
+key_seen (values.Msg x) h = absurd h
 
 -- an implicit field holds no zero
 abbrev pub ZeroFits : Presence → Value → Type 0

@@ -77,12 +77,6 @@ module _ (f : FieldShape) where
       same : (n : ℕ) → (not (is_rival_number gs f n) && not (nat_eq g.number n)) ≡ not (is_rival_number (gs ++ g ∷ []) f n)
       same n = neither (is_rival_number gs f n) (nat_eq g.number n) ∙ ap not (ap (λ b. is_rival_number gs f n || (b && nat_eq g.number n)) (sym rival) ∙ sym (one_more gs g n))
 
-  other_stays : (gs : List FieldShape) (g : FieldShape) (cs : List (ℕ × Content)) → is_rival f g ≡ false → without gs cs ≡ without (gs ++ g ∷ []) cs
-  other_stays gs g cs other = filter_alike (λ (c : ℕ × Content). not (is_rival_number gs f c.0)) (λ (c : ℕ × Content). not (is_rival_number (gs ++ g ∷ []) f c.0)) (λ c. same c.0) cs
-    where
-      same : (n : ℕ) → not (is_rival_number gs f n) ≡ not (is_rival_number (gs ++ g ∷ []) f n)
-      same n = ap not (sym (or-false (is_rival_number gs f n)) ∙ ap (λ b. is_rival_number gs f n || (b && nat_eq g.number n)) (sym other) ∙ sym (one_more gs g n))
-
   -- the same of fields that are gone through by index
   abbrev pub so_far : List Field → ℕ → List FieldShape
   so_far hs i = map field_shape (take i hs)
@@ -94,9 +88,6 @@ module _ (f : FieldShape) where
   pub member_out : (hs : List Field) (i : ℕ) (h : Field) (cs now : List (ℕ × Content)) → i < length hs → h ≡ get_or hs i h → is_rival f (field_shape h) ≡ true → Rises cs → now ≡ without (so_far hs i) cs → remove_field h.number now ≡ without (so_far hs (i + 1)) cs
   member_out hs i h cs now inside is rival rises was =
       ap (remove_field h.number) was ∙ rival_out (so_far hs i) (field_shape h) cs rival rises ∙ ap (λ gs. without gs cs) (next_so_far hs i h inside is)
-
-  pub member_stays : (hs : List Field) (i : ℕ) (h : Field) (cs now : List (ℕ × Content)) → i < length hs → h ≡ get_or hs i h → is_rival f (field_shape h) ≡ false → now ≡ without (so_far hs i) cs → now ≡ without (so_far hs (i + 1)) cs
-  member_stays hs i h cs now inside is other was = was ∙ other_stays (so_far hs i) (field_shape h) cs other ∙ ap (λ gs. without gs cs) (next_so_far hs i h inside is)
 
   -- at first all stay
   pub all_stay : (cs : List (ℕ × Content)) → cs ≡ without [] cs

@@ -1,5 +1,5 @@
 -- Packed lists, element by element.
-use Rattle.std.proofs.Common.{◌≡◌, ℕ, zero, suc, ◌+◌, ◌-◌, ◌<◌, ◌≤◌, List, [], ◌∷◌, ◌++◌, length, map, take, drop, Some, option_and_then, Result, Ok, Err, IfOk, refl, ap, ap₂, sym, ◌∙◌, arith, lt-ltb, le-ltb, length-append, length-drop, drop-drop, drop_at, append_assoc}
+use Rattle.std.proofs.Common.{◌≡◌, ℕ, zero, suc, ◌+◌, ◌-◌, ◌<◌, ◌≤◌, List, [], ◌∷◌, ◌++◌, length, map, take, drop, true, true≢false, Some, is_some, option_and_then, Result, Ok, Err, IfOk, refl, ap, ap₂, sym, ◌∙◌, arith, lt-ltb, le-ltb, length-append, length-drop, drop-drop, drop_at, append_assoc}
 use Rattle.std.specs.List.{AllByRecursion}
 use Rattle.std.proofs.lemmas.List.{append-nil, map-append, drop_all, take_at, take_all}
 use Rattle.pg_schema.specs.declared.field.Scalar.{Scalar}
@@ -54,13 +54,6 @@ varint_one bytes word n h = of (varint_at bytes) refl h
         let front : take n bytes ≡ r.0 = ap₂ take len taken.1 ∙ take_at r.0 r.1 (length r.0) refl in
         let back : drop n bytes ≡ r.1 = ap₂ drop len taken.1 ∙ drop_at r.0 r.1 (length r.0) refl in
         (is ∙ ap₂ (λ x y. Ok (x, y)) (sym front) (sym back), omega (arith, length-IsVarint r.0 taken.0), omega (arith, ap length taken.1))
-
-pub varint_none : (bytes : List ℕ) (e : WireError) → ◌≡◌ {A = Result (ℕ × ℕ) WireError} (Err e) (value_at bytes) → (fault : Fault) × (varint_at bytes ≡ Err fault) × (e ≡ error_at fault 0)
-varint_none bytes e h = of (varint_at bytes) refl h
-  where
-    of : (read : Front (List ℕ)) → varint_at bytes ≡ read → ◌≡◌ {A = Result (ℕ × ℕ) WireError} (Err e) (placed 0 (read >>= λ r. Ok (varint_value r.0, length r.0))) → (fault : Fault) × (varint_at bytes ≡ Err fault) × (e ≡ error_at fault 0)
-    of (Ok r) is k = absurd (cc)
-    of (Err f) is k = (f, is, cc)
 
 -- Rows, step by step.
 
@@ -161,6 +154,10 @@ module _ (s : Scalar) (body : List ℕ) (old : List Value) where
               ∙ ap (λ xs. Ok xs) (sym (append_assoc a.done (take n (drop start body) ∷ []) others));
           row_err = λ f h. a.row_err f (step ∙ ap (λ r. r >>= λ others. Ok (take n (drop start body) ∷ others)) h);
         }
+
+-- a row that can't be read has no items
+pub row_fault : (s : Scalar) (body : List ℕ) (f : Fault) → row (element_at (form_wire (scalar_form s))) body ≡ Err f → is_some (packed_leaves (scalar_form s) body) ≡ true → ⊥
+row_fault s body f is some = true≢false (sym some ∙ ap (λ r. is_some (option_and_then (λ bodies. all_some (map (leaf_in (scalar_form s)) bodies)) (option_from r))) is)
 
 -- a length that is there, or isn't
 pub if_there : (wire : WireType) (len : ℕ) (bytes : List ℕ) → 1 ≤ len → element_at wire bytes ≡ exactly len bytes → len ≤ length bytes → IsOne wire bytes len

@@ -29,8 +29,7 @@ use Rattle.pg_dyn.proofs.ByField as ByField
 use Rattle.pg_dyn.proofs.ByCells as ByCells
 use Rattle.pg_dyn.proofs.MessageReadsOn.{content_none}
 use Rattle.pg_dyn.proofs.ItemLeaves.{item_is_key}
-use Rattle.pg_dyn.proofs.ReplacingLaws.{content_number, type_of-kept_onto, unknown-message_of}
-use Rattle.pg_dyn.proofs.Lifted.{type_of-with_parts, type_of-without_rivals}
+use Rattle.pg_dyn.proofs.ReplacingLaws.{content_number, type_of-kept_onto, unknown-message_of, type_of-with_parts, type_of-without_rivals}
 use Rattle.pg_dyn.proofs.SelfSame.{plain_unknown}
 use Rattle.pg_dyn.proofs.Leaves.{leaf_eq_self, same_leaf}
 

@@ -29,7 +29,7 @@ use Rattle.pg_dyn.specs.ScalarItems.{IsItemOf}
 use Rattle.pg_dyn.specs.Seen.{content_seen, item_seen, leaf_of, Rises, IsFilled, HasKeys}
 use Rattle.pg_dyn.specs.Setting.{is_zero_kept, is_key_below, put_entry, by_rising_key, settled_by}
 use Rattle.pg_dyn.specs.Told.{EntryFits, is_nothing, ItemsFit}
-use Rattle.pg_dyn.proofs.DecodeSteps.{is_type, rising}
+use Rattle.pg_dyn.proofs.TypeFields.{is_type, rising}
 use Rattle.pg_dyn.proofs.FieldListLaws.{rises-filter, rises_put, rises_remove, each_put, each_removed}
 use Rattle.pg_dyn.proofs.FitsByContents.{own_rival, fits_from_contents, contents_from_fits}
 use Rattle.pg_dyn.proofs.FitsChecks.{same_field}
@@ -246,9 +246,6 @@ not_true false h = refl
 -- A message that fits without a field's rivals still does with another content in the field.
 
 module _ (parts : Parts) (h : IsSchema parts) (type : TypeId) (f : FieldShape) (n : ℕ) (found : field_at (fields (shape_of parts) type) n ≡ Some f) where
-  abbrev gs : List FieldShape
-  gs = fields (shape_of parts) type
-
   pub no_self_rival : is_rival_number (fields (shape_of parts) type) f n ≡ false
   no_self_rival = rival_found (fields (shape_of parts) type) f f n (rising parts h type) found ∙ own_rival f
 

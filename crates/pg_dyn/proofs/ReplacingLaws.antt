@@ -1,28 +1,22 @@
 -- A content under a number, among the parts of a message.
-use Rattle.std.proofs.Common.{◌≡◌, ◌≢◌, ℕ, ◌<◌, ◌≤◌, List, [], ◌∷◌, ◌++◌, map, filter, flat_map, nat_lt, nat_eq, Bool, true, false, cond, not, ◌&&◌, Option, Some, None, refl, ap, ap₂, sym, subst, ◌∙◌, arith, ⊎_elim, append_assoc, eq-eqb, ne_eqb, lt-ltb, le-ltb}
+use Rattle.std.proofs.Common.{◌≡◌, ℕ, List, [], ◌∷◌, ◌++◌, map, filter, flat_map, nat_lt, nat_eq, Bool, true, false, cond, not, ◌&&◌, Option, Some, None, refl, ap, ap₂, sym, ◌∙◌}
 use Rattle.std.specs.List.{AllByRecursion}
 use Rattle.std.proofs.lemmas.List.{append-nil}
-use Rattle.std.proofs.lemmas.Bool.{cases_eq, eqb-true}
 use Rattle.pg_schema.specs.declared.field.TypeId.{TypeId}
-use Rattle.pg_schema.specs.Shape.{Shape, FieldShape, fields, field_at, Rising}
+use Rattle.pg_schema.specs.Shape.{FieldShape}
 use Rattle.pg_wire.specs.Records.{WireRecord}
 use Rattle.pg_dyn.specs.declared.message.Content.{Content}
 use Rattle.pg_dyn.specs.declared.message.Content.TheVariants as contents
 use Rattle.pg_dyn.specs.declared.message.Value.{Value}
 use Rattle.pg_dyn.specs.declared.message.Value.TheVariants as values
-use Rattle.pg_dyn.specs.Optional.{joined}
 use Rattle.pg_dyn.specs.Message.{Leaf, Part, Place, place_of, places, is_of, is_zero, Item, Message, message_from}
 use Rattle.pg_dyn.specs.Message as model
 use Rattle.pg_dyn.specs.Kept.{Kept, ends, holds, nests, KeptItem, Plain, Msg, type_of, parts_of, unknown_of, message_of}
 use Rattle.pg_dyn.specs.Seen.{leaf_of, item_seen, content_seen, value_onto, items_onto, entries_onto, content_onto, fields_onto}
 use Rattle.pg_dyn.specs.FieldList.{fields_below, fields_above, put_field, remove_field}
 use Rattle.pg_dyn.specs.Content.{is_rival}
-use Rattle.pg_dyn.specs.ReadingOn.{next_parts}
-use Rattle.pg_dyn.specs.Belonging.{IsMessage}
-use Rattle.pg_dyn.specs.Replacing.{kept_part, kept_onto, kept_from, with_parts, is_rival_number, without_rivals, with_unknown}
-use Rattle.pg_dyn.proofs.Lists.{filter_all, filter_none, filter-append', each_weaker, each-map, each_of_all, map_same, flat_map-append', list_any_none}
-use Rattle.pg_dyn.proofs.Order.{NeverFalls, of_each, of_each_is, never_falls, places-parts, above_head}
-use Rattle.pg_dyn.proofs.Splitting.{found_later}
+use Rattle.pg_dyn.specs.Replacing.{kept_part, kept_onto, kept_from, with_parts, is_rival_number, without_rivals}
+use Rattle.pg_dyn.proofs.Lists.{filter_all, filter_none, filter-append', each_weaker, each-map, each_of_all, flat_map-append', list_any_none}
 use Rattle.pg_dyn.proofs.NoRivals.{no_rival}
 
 -- the parts of all fields
@@ -140,11 +134,16 @@ put_shows type n c ms us = around type n ((n, c) ∷ []) ms us ∙ ap (λ ps. wi
 pub remove_shows : (type : TypeId) (n : ℕ) (ms : List (ℕ × Content)) (us : List WireRecord) → shown type (remove_field n ms) us ≡ with_parts n [] (shown type ms us)
 remove_shows type n ms us = around type n [] ms us
 
-pub unknown_more : (type : TypeId) (ms : List (ℕ × Content)) (us : List WireRecord) (r : WireRecord) → shown type ms (us ++ r ∷ []) ≡ with_unknown r (shown type ms us)
-unknown_more type ms us r =
-    fields_from ms (ends type (us ++ r ∷ []))
-    ∙ ap₂ (λ ps u. kept_from type ps (u ++ r ∷ [])) (sym (parts_shown type ms us)) (sym (unknown_shown type ms us))
-    ∙ ap (λ t. kept_from t (parts_of (shown type ms us)) (unknown_of (shown type ms us) ++ r ∷ [])) (sym (type_shown type ms us))
+-- a message of other parts is of the same type
+pub type_of-with_parts : (n : ℕ) (ps : List (Part KeptItem)) (m : Kept) → type_of (with_parts n ps m) ≡ type_of m
+type_of-with_parts n ps m =
+    type_of-kept_onto
+    (filter (λ (p : Part KeptItem). nat_lt p.number n) (parts_of m) ++ (ps ++ filter (λ (p : Part KeptItem). nat_lt n p.number) (parts_of m)))
+    (ends (type_of m) (unknown_of m))
+
+pub type_of-without_rivals : (fs : List FieldShape) (f : FieldShape) (m : Kept) → type_of (without_rivals fs f m) ≡ type_of m
+type_of-without_rivals fs f m =
+    type_of-kept_onto (filter (λ (p : Part KeptItem). not (is_rival_number fs f p.number)) (parts_of m)) (ends (type_of m) (unknown_of m))
 
 -- a field outside all oneofs has no rivals
 pub no_rivals : (fs : List FieldShape) (f : FieldShape) (m : Kept) → f.oneof ≡ None → without_rivals fs f m ≡ m
@@ -191,107 +190,3 @@ filter-part_item test (p ∷ ps) =
       | true ↦ λ e. ap (λ qs. part_item p ∷ qs) (filter-part_item test ps)
       | false ↦ λ e. filter-part_item test ps
     ] refl
-
-map-append' : {A B : Type 0} (f : A → B) (xs ys : List A) → map f (xs ++ ys) ≡ map f xs ++ map f ys
-map-append' f [] ys = refl
-map-append' f (x ∷ xs) ys = ap (λ zs. f x ∷ zs) (map-append' f xs ys)
-
-pub message_of-with_parts : (n : ℕ) (ps : List (Part KeptItem)) (m : Kept)
-    → message_of (with_parts n ps m)
-    ≡ message_from (filter (λ (p : Part Item). nat_lt p.number n) (model.parts (message_of m)) ++ (map part_item ps ++ filter (λ (p : Part Item). nat_lt n p.number) (model.parts (message_of m)))) (model.unknown_of (message_of m))
-message_of-with_parts n ps m =
-    let below = filter (λ (p : Part KeptItem). nat_lt p.number n) (parts_of m) in
-    let above = filter (λ (p : Part KeptItem). nat_lt n p.number) (parts_of m) in
-    let low = sym (filter-part_item (λ k. nat_lt k n) (parts_of m)) ∙ ap (filter (λ (p : Part Item). nat_lt p.number n)) (sym (parts-message_of m)) in
-    let high = sym (filter-part_item (λ k. nat_lt n k) (parts_of m)) ∙ ap (filter (λ (p : Part Item). nat_lt n p.number)) (sym (parts-message_of m)) in
-    message_of-kept_from (type_of m) (below ++ (ps ++ above)) (unknown_of m)
-    ∙ ap (λ qs. message_from qs (unknown_of m)) (map-append' part_item below (ps ++ above) ∙ ap (λ qs. map part_item below ++ qs) (map-append' part_item ps above) ∙ ap₂ (λ qs rs. qs ++ (map part_item ps ++ rs)) low high)
-    ∙ ap (message_from (filter (λ (p : Part Item). nat_lt p.number n) (model.parts (message_of m)) ++ (map part_item ps ++ filter (λ (p : Part Item). nat_lt n p.number) (model.parts (message_of m))))) (sym (unknown-message_of m))
-
-pub message_of-with_unknown : (r : WireRecord) (m : Kept) → message_of (with_unknown r m) ≡ message_from (model.parts (message_of m)) (model.unknown_of (message_of m) ++ r ∷ [])
-message_of-with_unknown r m =
-    message_of-kept_from (type_of m) (parts_of m) (unknown_of m ++ r ∷ []) ∙ ap₂ (λ ps us. message_from ps (us ++ r ∷ [])) (sym (parts-message_of m)) (sym (unknown-message_of m))
-
--- Fields in order, with other parts for one of them.
-
-abbrev before_number : ℕ → List (Part Item) → List (Part Item)
-before_number n ps = filter (λ (p : Part Item). nat_lt p.number n) ps
-
-abbrev after_number : ℕ → List (Part Item) → List (Part Item)
-after_number n ps = filter (λ (p : Part Item). nat_lt n p.number) ps
-
-numbered : (n : ℕ) (ps : List (Part Item)) → AllByRecursion (λ (p : Part Item). p.number ≡ n) (filter (is_of n) ps)
-numbered n [] = tt
-numbered n (p ∷ ps) =
-    elim (nat_eq p.number n) as (λ b. nat_eq p.number n ≡ b → AllByRecursion (λ (q : Part Item). q.number ≡ n) (cond b (p ∷ filter (is_of n) ps) (filter (is_of n) ps))) [
-      | true ↦ λ e. (eqb-true p.number n e, numbered n ps)
-      | false ↦ λ e. numbered n ps
-    ] refl
-
-pub own_kept : (test : ℕ → Bool) (n : ℕ) (ps : List (Part Item)) → test n ≡ true → filter (λ (p : Part Item). test p.number) (filter (is_of n) ps) ≡ filter (is_of n) ps
-own_kept test n ps hit = filter_all (λ (p : Part Item). test p.number) (filter (is_of n) ps) (each_weaker (λ (p : Part Item). p.number ≡ n) (λ (p : Part Item). test p.number ≡ true) (λ p e. ap test e ∙ hit) (filter (is_of n) ps) (numbered n ps))
-
-pub own_dropped : (test : ℕ → Bool) (n : ℕ) (ps : List (Part Item)) → test n ≡ false → filter (λ (p : Part Item). test p.number) (filter (is_of n) ps) ≡ []
-own_dropped test n ps miss = filter_none (λ (p : Part Item). test p.number) (filter (is_of n) ps) (each_weaker (λ (p : Part Item). p.number ≡ n) (λ (p : Part Item). test p.number ≡ false) (λ p e. ap test e ∙ miss) (filter (is_of n) ps) (numbered n ps))
-
-pub each_kept : (test : ℕ → Bool) (fs : List FieldShape) (ps : List (Part Item)) → AllByRecursion (λ f. test f.number ≡ true) fs → filter (λ (p : Part Item). test p.number) (of_each fs ps) ≡ of_each fs ps
-each_kept test [] ps h = refl
-each_kept test (f ∷ fs) ps h = filter-append' (λ (p : Part Item). test p.number) (filter (is_of f.number) ps) (of_each fs ps) ∙ ap₂ (λ xs ys. xs ++ ys) (own_kept test f.number ps h.0) (each_kept test fs ps h.1)
-
-pub each_dropped : (test : ℕ → Bool) (fs : List FieldShape) (ps : List (Part Item)) → AllByRecursion (λ f. test f.number ≡ false) fs → filter (λ (p : Part Item). test p.number) (of_each fs ps) ≡ []
-each_dropped test [] ps h = refl
-each_dropped test (f ∷ fs) ps h = filter-append' (λ (p : Part Item). test p.number) (filter (is_of f.number) ps) (of_each fs ps) ∙ ap₂ (λ xs ys. xs ++ ys) (own_dropped test f.number ps h.0) (each_dropped test fs ps h.1)
-
-module _ (g : FieldShape) (qs : List (Part Item)) (m : Message) (alone : (f : FieldShape) → is_rival f g ≡ false) where
-  other_parts : (f : FieldShape) → f.number ≢ g.number → next_parts g qs m f ≡ filter (is_of f.number) (model.parts m)
-  other_parts f apart =
-      let own = filter (is_of f.number) (model.parts m) in
-      ap (λ b. cond b qs (cond (is_rival f g) [] own)) (ne_eqb f.number g.number apart) ∙ ap (λ b. cond b [] own) (alone f)
-
-  others_same : (fs : List FieldShape) → AllByRecursion (λ f. g.number < f.number) fs → joined (map (next_parts g qs m) fs) ≡ of_each fs (model.parts m)
-  others_same fs h = ap joined (map_same (next_parts g qs m) (λ (f : FieldShape). filter (is_of f.number) (model.parts m)) fs
-      (each_weaker (λ f. g.number < f.number) (λ f. next_parts g qs m f ≡ filter (is_of f.number) (model.parts m)) (λ f high. other_parts f (λ e. absurd (omega arith))) fs h))
-
-  replaced_each : (fs : List FieldShape) → Rising fs → field_at fs g.number ≡ Some g
-      → joined (map (next_parts g qs m) fs) ≡ before_number g.number (of_each fs (model.parts m)) ++ (qs ++ after_number g.number (of_each fs (model.parts m)))
-  replaced_each [] rising found = absurd (cc)
-  replaced_each (f ∷ fs) rising found = ⊎_elim here (later (replaced_each fs rising.1)) (cases_eq f.number g.number)
-    where
-      here : f.number ≡ g.number → joined (map (next_parts g qs m) (f ∷ fs)) ≡ before_number g.number (of_each (f ∷ fs) (model.parts m)) ++ (qs ++ after_number g.number (of_each (f ∷ fs) (model.parts m)))
-      here same =
-          let high : AllByRecursion (λ (x : FieldShape). g.number < x.number) fs = subst (λ n. AllByRecursion (λ (x : FieldShape). n < x.number) fs) same rising.0 in
-          let own = filter (is_of f.number) (model.parts m) in
-          let rest = of_each fs (model.parts m) in
-          let low : before_number g.number (own ++ rest) ≡ [] =
-          filter-append' (λ (p : Part Item). nat_lt p.number g.number) own rest
-          ∙ ap₂ (λ xs ys. xs ++ ys) (own_dropped (λ k. nat_lt k g.number) f.number (model.parts m) (le-ltb f.number g.number (omega arith)))
-          (each_dropped (λ k. nat_lt k g.number) fs (model.parts m) (each_weaker (λ (x : FieldShape). g.number < x.number) (λ (x : FieldShape). nat_lt x.number g.number ≡ false) (λ x k. let le : g.number ≤ x.number = omega arith in le-ltb x.number g.number le) fs high)) in
-          let up : after_number g.number (own ++ rest) ≡ rest =
-          filter-append' (λ (p : Part Item). nat_lt g.number p.number) own rest
-          ∙ ap₂ (λ xs ys. xs ++ ys) (own_dropped (λ k. nat_lt g.number k) f.number (model.parts m) (le-ltb g.number f.number (omega arith)))
-          (each_kept (λ k. nat_lt g.number k) fs (model.parts m) (each_weaker (λ (x : FieldShape). g.number < x.number) (λ (x : FieldShape). nat_lt g.number x.number ≡ true) (λ x k. lt-ltb g.number x.number k) fs high)) in
-          ap (λ b. cond b qs (cond (is_rival f g) [] own) ++ joined (map (next_parts g qs m) fs)) (eq-eqb f.number g.number same)
-          ∙ ap (λ xs. qs ++ xs) (others_same fs high) ∙ ap₂ (λ xs ys. xs ++ (qs ++ ys)) (sym low) (sym up)
-
-      later : (field_at fs g.number ≡ Some g → joined (map (next_parts g qs m) fs) ≡ before_number g.number (of_each fs (model.parts m)) ++ (qs ++ after_number g.number (of_each fs (model.parts m)))) → f.number ≢ g.number → joined (map (next_parts g qs m) (f ∷ fs)) ≡ before_number g.number (of_each (f ∷ fs) (model.parts m)) ++ (qs ++ after_number g.number (of_each (f ∷ fs) (model.parts m)))
-      later rest_replaced apart =
-          let found_there : field_at fs g.number ≡ Some g = found_later f g fs g.number apart found in
-          let below : f.number < g.number = above_head f g fs g.number rising.0 found_there in
-          let own = filter (is_of f.number) (model.parts m) in
-          let rest = of_each fs (model.parts m) in
-          let low : before_number g.number (own ++ rest) ≡ own ++ before_number g.number rest =
-          filter-append' (λ (p : Part Item). nat_lt p.number g.number) own rest
-          ∙ ap (λ xs. xs ++ before_number g.number rest) (own_kept (λ k. nat_lt k g.number) f.number (model.parts m) (lt-ltb f.number g.number below)) in
-          let up : after_number g.number (own ++ rest) ≡ after_number g.number rest =
-          filter-append' (λ (p : Part Item). nat_lt g.number p.number) own rest
-          ∙ ap (λ xs. xs ++ after_number g.number rest) (own_dropped (λ k. nat_lt g.number k) f.number (model.parts m) (le-ltb g.number f.number (omega arith))) in
-          ap₂ (λ xs ys. xs ++ ys) (other_parts f apart) (rest_replaced found_there)
-          ∙ sym (append_assoc own (before_number g.number rest) (qs ++ after_number g.number rest))
-          ∙ ap₂ (λ xs ys. xs ++ (qs ++ ys)) (sym low) (sym up)
-
-  -- in a message of the type
-  pub replaced_parts : (shape : Shape) (type : TypeId) → Rising (fields shape type) → field_at (fields shape type) g.number ≡ Some g → IsMessage shape type m
-      → joined (map (next_parts g qs m) (fields shape type)) ≡ before_number g.number (model.parts m) ++ (qs ++ after_number g.number (model.parts m))
-  replaced_parts shape type rising found h =
-      let whole : of_each (fields shape type) (model.parts m) ≡ model.parts m = of_each_is (fields shape type) (model.parts m) rising (subst (NeverFalls (fields shape type)) (sym (places-parts m)) (never_falls shape type m h)) in
-      replaced_each (fields shape type) rising found ∙ ap (λ ps. before_number g.number ps ++ (qs ++ after_number g.number ps)) whole

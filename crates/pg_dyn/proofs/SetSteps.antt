@@ -1,5 +1,5 @@
 -- What setting a content does.
-use Rattle.std.proofs.Common.{◌≡◌, ℕ, List, ◌++◌, filter, nat_eq, nat_lt, not, ◌&&◌, false, Option, Some, None, IfSome, ap, sym, ◌∙◌, ⊎_elim, eq-eqb, ne_eqb}
+use Rattle.std.proofs.Common.{◌≡◌, ℕ, List, nat_eq, not, ◌&&◌, false, Option, Some, None, IfSome, ap, sym, ◌∙◌, ⊎_elim, eq-eqb, ne_eqb}
 use Rattle.std.specs.List.{AllByRecursion}
 use Rattle.std.proofs.lemmas.Bool.{cases_eq}
 use Rattle.std.proofs.Math.Bool.{and-false}
@@ -11,7 +11,7 @@ use Rattle.pg_schema.specs.Shape.{FieldShape, fields, field_at}
 use Rattle.pg_dyn.specs.declared.error.DynError.{DynError}
 use Rattle.pg_dyn.specs.declared.error.DynError.TheVariants as errors
 use Rattle.pg_dyn.specs.declared.message.Content.{Content}
-use Rattle.pg_dyn.specs.Kept.{Kept, KeptItem, ends, parts_of, type_of, unknown_of}
+use Rattle.pg_dyn.specs.Kept.{Kept, KeptItem, type_of}
 use Rattle.pg_dyn.specs.Message.{Part}
 use Rattle.pg_dyn.specs.Seen.{content_seen}
 use Rattle.pg_dyn.specs.Content.{is_rival, same_oneof}
@@ -22,7 +22,6 @@ use Rattle.pg_dyn.specs.Told.{IsTaken}
 use Rattle.pg_dyn.proofs.ContentChecks.{taken_once, taken_twice}
 use Rattle.pg_dyn.proofs.Lists.{each_of_all, list_any_none}
 use Rattle.pg_dyn.proofs.PutLaws.{no_self_rival, rivals_after, settled_number}
-use Rattle.pg_dyn.proofs.ReplacingLaws.{type_of-kept_onto}
 use Rattle.pg_dyn.proofs.Splitting.{found_number}
 
 -- the lowest fault may be told
@@ -61,9 +60,6 @@ module _ (parts : Parts) (h : IsSchema parts) (n : ℕ) (c : Content) (f : Field
 
   pub key_twice : (type : TypeId) → IsTaken (shape_of parts) type n c f → HasKeyTwice c → MayRefuseFor (ContentFault (shape_of parts) type n c) errors.DuplicateKey
   key_twice type taken twice = taken_twice (shape_of parts) type n c f taken.found taken.items twice
-
-pub with_parts_type : (n : ℕ) (ps : List (Part KeptItem)) (m : Kept) → type_of (with_parts n ps m) ≡ type_of m
-with_parts_type n ps m = type_of-kept_onto (filter (λ (p : Part KeptItem). nat_lt p.number n) (parts_of m) ++ (ps ++ filter (λ (p : Part KeptItem). nat_lt n p.number) (parts_of m))) (ends (type_of m) (unknown_of m))
 
 -- Which other members are looked for makes no difference after a content of the field is put in, if it made none before.
 

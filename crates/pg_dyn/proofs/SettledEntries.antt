@@ -1,15 +1,14 @@
 -- Entries of a map that are put in one by one, as the program keeps them.
-use Rattle.std.proofs.Common.{◌≡◌, ◌≢◌, suc, ◌+◌, ◌<◌, ◌≤◌, List, [], ◌∷◌, ◌++◌, length, fold, filter, Bool, true, false, not, cond, ◌&&◌, inl, inr, ⊎_elim, refl, ap, ap₂, sym, subst, ◌∙◌, arith}
+use Rattle.std.proofs.Common.{◌≡◌, ◌≢◌, ◌<◌, List, [], ◌∷◌, ◌++◌, length, fold, filter, Bool, true, false, not, cond, ◌&&◌, inl, inr, ⊎_elim, refl, ap, ap₂, sym, subst, ◌∙◌, arith}
 use Rattle.std.specs.List.{AllByRecursion}
 use Rattle.std.specs.List.Sorted.{IsPermutation, IsStableBy, ties}
 use Rattle.std.specs.Ordering.{is_lt, ordering_reverse}
 use Rattle.std.specs.declared.cmp.Ordering.{Ordering}
 use Rattle.std.specs.declared.cmp.Ordering.TheVariants.{Less, Equal, Greater}
-use Rattle.std.proofs.lemmas.List.Sums.{fold-append}
 use Rattle.pg_dyn.specs.declared.message.Value.{Value}
 use Rattle.pg_dyn.specs.declared.message.Value.TheVariants as values
 use Rattle.pg_dyn.specs.ContentFits.{KeysRise}
-use Rattle.pg_dyn.specs.Drafts.{settled_entries}
+use Rattle.pg_dyn.specs.Settled.{settled_entries}
 use Rattle.pg_dyn.specs.Held.{with_entry}
 use Rattle.pg_dyn.specs.KeyOrder.{AreAlike, IsNumber, IsText, ranks_below, rank_cmp}
 use Rattle.pg_dyn.specs.Message.{Leaf, key_cmp, leaf_eq}
@@ -93,30 +92,6 @@ each_before P before (e ∷ es) h k = each_before P (with_entry e.0 e.1 before) 
 
 pub each_settled : (P : Entry → Type 0) (es : List Entry) → AllByRecursion P es → AllByRecursion P (settled_entries es)
 each_settled P es h = each_before P [] es tt h
-
-pub alike_settled : (es : List Entry) → AreAlike es → AreAlike (settled_entries es)
-alike_settled es h = ⊎_elim (λ n. inl (each_settled (λ (e : Entry). IsNumber e.0) es n)) (λ t. inr (each_settled (λ (e : Entry). IsText e.0) es t)) h
-
--- an entry behind the others is put in last
-pub settled_more : (es : List Entry) (e : Entry) → settled_entries (es ++ e ∷ []) ≡ with_entry e.0 e.1 (settled_entries es)
-settled_more es e = fold-append (λ xs x. with_entry x.0 x.1 xs) [] es (e ∷ [])
-
--- there are no more of them
-with_length : (e : Entry) (es : List Entry) → length (with_entry e.0 e.1 es) ≤ suc (length es)
-with_length e [] = omega arith
-with_length e (x ∷ es) = of (key_cmp (leaf_of e.0) (leaf_of x.0)) refl (with_length e es)
-  where
-    of : (o : Ordering) → key_cmp (leaf_of e.0) (leaf_of x.0) ≡ o → length (with_entry e.0 e.1 es) ≤ suc (length es) → length (with_entry e.0 e.1 (x ∷ es)) ≤ suc (length (x ∷ es))
-    of Less is rest = rw is (omega arith)
-    of Equal is rest = rw is (omega arith)
-    of Greater is rest = rw is (omega (arith, rest))
-
-length_before : (before es : List Entry) → length (fold (λ xs e. with_entry e.0 e.1 xs) before es) ≤ length before + length es
-length_before before [] = omega arith
-length_before before (e ∷ es) = omega (arith, length_before (with_entry e.0 e.1 before) es, with_length e before)
-
-pub settled_length : (es : List Entry) → length (settled_entries es) ≤ length es
-settled_length es = omega (arith, length_before [] es)
 
 -- and some where there are some
 with_some : (e : Entry) (es : List Entry) → 0 < length (with_entry e.0 e.1 es)
@@ -210,13 +185,6 @@ alike_parts xs ys h =
 pub rises_with : (e : Entry) (es : List Entry) → AreAlike (e ∷ es) → KeysRise es → KeysRise (with_entry e.0 e.1 es)
 rises_with e es alike rise = let (b, kind) = kind_of (e ∷ es) alike in is_rise (with_entry e.0 e.1 es) (subst (Rise key) (sym (with_is_place e es)) (rise_placed key b e es kind.0 kind.1 (rise_is es rise)))
 
-pub alike_more : (es : List Entry) (e : Entry) → AreAlike (e ∷ es) → AreAlike (es ++ e ∷ [])
-alike_more es e h =
-    ⊎_elim (λ n. inl (each-append (λ (x : Entry). IsNumber x.0) es (e ∷ []) n.1 (n.0, tt))) (λ t. inr (each-append (λ (x : Entry). IsText x.0) es (e ∷ []) t.1 (t.0, tt))) h
-
-pub alike_with : (es : List Entry) (e : Entry) → AreAlike (e ∷ es) → AreAlike (with_entry e.0 e.1 es)
-alike_with es e h = ⊎_elim (λ n. inl (each_with (λ (x : Entry). IsNumber x.0) e es n.0 n.1)) (λ t. inr (each_with (λ (x : Entry). IsText x.0) e es t.0 t.1)) h
-
 pub record SettlesTo (all before rest : List Entry) : Type 0 where
   pub alike : AreAlike (before ++ rest)
   pub rises : KeysRise before
@@ -250,12 +218,3 @@ all_put all before rest is h = ap (λ xs. fold (λ ys (x : Entry). with_entry x.
 
 pub keys_put : (all before rest : List Entry) → SettlesTo all before rest → AllByRecursion (λ (e : Entry). IsKey e.0) before × AllByRecursion (λ (e : Entry). IsKey e.0) rest
 keys_put all before rest h = let (a, b) = alike_parts before rest h.alike in (alike_keys before a, alike_keys rest b)
-
--- one more, put in its place among entries that rise, or behind others
-pub put_settles : (es : List Entry) (k v : Value) → AreAlike ((k, v) ∷ es) → KeysRise es → (settled_entries (with_entry k v es) ≡ with_entry k v (settled_entries es)) × AreAlike (with_entry k v es) × KeysRise (with_entry k v es)
-put_settles es k v alike rise =
-    let e : Entry = (k, v) in
-    let rest : AreAlike es = ⊎_elim (λ n. inl n.1) (λ t. inr t.1) alike in
-    let new_alike = alike_with es e alike in
-    let new_rise = rises_with e es alike rise in
-    (rising_stay (with_entry k v es) new_alike new_rise ∙ ap (with_entry k v) (sym (rising_stay es rest rise)), new_alike, new_rise)

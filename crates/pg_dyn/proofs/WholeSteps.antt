@@ -26,9 +26,9 @@ use Rattle.pg_dyn.specs.Setting.{settled, settled_parts, IsWhole}
 use Rattle.pg_dyn.specs.Told.{TakesContent}
 use Rattle.pg_dyn.proofs.Lists.{filter_all, filter_none, filter-append', flat_map-append', each_weaker, each_both}
 use Rattle.pg_dyn.proofs.KeptParts.{each_from_index}
-use Rattle.pg_dyn.proofs.DecodeSteps.{rising}
+use Rattle.pg_dyn.proofs.TypeFields.{rising}
 use Rattle.pg_dyn.proofs.PutLaws.{no_self_rival, rivals_back, settled_number}
-use Rattle.pg_dyn.proofs.ReplacingLaws.{parts_of-kept_onto, unknown_of-kept_onto, type_of-kept_onto, kept_whole}
+use Rattle.pg_dyn.proofs.ReplacingLaws.{parts_of-kept_onto, unknown_of-kept_onto, type_of-with_parts, kept_whole}
 use Rattle.pg_dyn.proofs.Standing.{StandsIn, all_in, passes_once}
 use Rattle.pg_dyn.proofs.WithoutRivals.{rival_found}
 
@@ -60,9 +60,6 @@ parts_with : (n : ℕ) (ps : List (Part KeptItem)) (m : Kept)
     → parts_of (with_parts n ps m) ≡ filter (λ (p : Part KeptItem). nat_lt p.number n) (parts_of m) ++ (ps ++ filter (λ (p : Part KeptItem). nat_lt n p.number) (parts_of m))
 parts_with n ps m =
     parts_of-kept_onto (filter (λ (p : Part KeptItem). nat_lt p.number n) (parts_of m) ++ (ps ++ filter (λ (p : Part KeptItem). nat_lt n p.number) (parts_of m))) (ends (type_of m) (unknown_of m)) ∙ append-nil _
-
-type_with : (n : ℕ) (ps : List (Part KeptItem)) (m : Kept) → type_of (with_parts n ps m) ≡ type_of m
-type_with n ps m = type_of-kept_onto (filter (λ (p : Part KeptItem). nat_lt p.number n) (parts_of m) ++ (ps ++ filter (λ (p : Part KeptItem). nat_lt n p.number) (parts_of m))) (ends (type_of m) (unknown_of m))
 
 unknown_with : (n : ℕ) (ps : List (Part KeptItem)) (m : Kept) → unknown_of (with_parts n ps m) ≡ unknown_of m
 unknown_with n ps m = unknown_of-kept_onto (filter (λ (p : Part KeptItem). nat_lt p.number n) (parts_of m) ++ (ps ++ filter (λ (p : Part KeptItem). nat_lt n p.number) (parts_of m))) (ends (type_of m) (unknown_of m))
@@ -139,16 +136,13 @@ module _ (parts : Parts) (type : TypeId) where
   under_apart : (j n : ℕ) (c : Content) → j ≢ n → under j ((n, c) ∷ []) ≡ []
   under_apart j n c apart = ap (λ b. flat_map (settled_parts fs) (cond b ((n, c) ∷ []) [])) (ne_eqb n j (λ e. apart (sym e)))
 
-  pub whole_none : IsWhole (shape_of parts) type [] (ends type [])
-  whole_none = record { of_type = refl; contents = λ number. refl; no_unknown = refl }
-
   pub whole_more : (xs : List (ℕ × Content)) (n : ℕ) (c : Content) (f : FieldShape) (m new : Kept) → IsWhole (shape_of parts) type xs m → AllByRecursion (λ (x : ℕ × Content). x.0 < n) xs → field_at (fields (shape_of parts) type) n ≡ Some f
       → new ≡ with_parts n (settled f (content_seen n c)) m → IsWhole (shape_of parts) type (xs ++ (n, c) ∷ []) new
   whole_more xs n c f m new whole below found is_new =
       let ps = settled f (content_seen n c) in
       let own = settled_number f.presence n c in
       record {
-        of_type = ap type_of is_new ∙ type_with n ps m ∙ whole.of_type;
+        of_type = ap type_of is_new ∙ type_of-with_parts n ps m ∙ whole.of_type;
         contents = λ j. ⊎_elim
             (λ same. ap (of_number j) is_new ∙ ap (λ k. of_number k (with_parts n ps m)) same ∙ under_own n ps own m ∙ sym (under_one n c f found)
             ∙ ap (λ qs. qs ++ under n ((n, c) ∷ [])) (sym (under_none n xs below)) ∙ sym (under_more n xs (n, c)) ∙ ap (λ k. under k (xs ++ (n, c) ∷ [])) (sym same))

@@ -1,17 +1,16 @@
 -- The entries of maps, as their records are read (Encoding guide, "Maps").
-use Rattle.std.specs.Prelude.{◌≡◌, ⊤, true, false, List, [], ◌∷◌, filter, Option, Some, None}
+use Rattle.std.specs.Prelude.{◌≡◌, ⊤, false, List, [], ◌∷◌, filter, Option, Some, None}
 use Rattle.pg_schema.specs.declared.field.Scalar.{Scalar}
 use Rattle.pg_schema.specs.declared.field.Element.{Element}
 use Rattle.pg_schema.specs.declared.field.Element.TheVariants as elements
 use Rattle.pg_schema.specs.Shape.{Shape, FieldShape}
 use Rattle.pg_wire.specs.Records.{WireRecord}
 use Rattle.pg_dyn.specs.declared.message.Value.{Value}
-use Rattle.pg_dyn.specs.declared.reading.messages.Entry.{Entry}
 use Rattle.pg_dyn.specs.Message.{Leaf}
 use Rattle.pg_dyn.specs.Coding.{form, zero_leaf}
 use Rattle.pg_dyn.specs.Content.{takes, plain_content, key_field, value_field}
 use Rattle.pg_dyn.specs.ContentFits.{ItemFits}
-use Rattle.pg_dyn.specs.Decoding.{all_readable, read_item, dec}
+use Rattle.pg_dyn.specs.Decoding.{read_item, dec}
 use Rattle.pg_dyn.specs.Seen.{item_seen}
 use Rattle.pg_dyn.specs.Steps.{item_of}
 
@@ -39,12 +38,6 @@ PartFits shape element (Some value) = ItemFits shape element value
 
 abbrev pub PartRead : Shape → FieldShape → List WireRecord → Option Value → Type 0
 PartRead shape f rs held = PartIs shape f.element (plain_content f (filter (takes f) rs)) held
-
--- what is read of these records of an entry
-pub record EntryRead (shape : Shape) (key : Scalar) (element : Element) (rs : List WireRecord) (entry : Entry) : Type 0 where
-  pub key_read : PartRead shape (key_field key) rs entry.key
-  pub value_read : PartRead shape (value_field element) rs entry.value
-  pub readable : all_readable (dec shape) (entry_fields key element) rs ≡ true
 
 -- the part of a whole entry: the one that was read, or the default
 abbrev pub WholeItem : Shape → Element → Option Value → Value → Type 0

@@ -1,5 +1,5 @@
 -- What a field holds, as the program takes it apart and puts it together.
-use Rattle.std.specs.Prelude.{◌≡◌, pos, ⊤, List, [], ◌∷◌, ◌&&◌, if◌then◌else◌, Option, Some, None}
+use Rattle.std.specs.Prelude.{◌≡◌, ⊤, List, [], ◌∷◌, ◌&&◌, if◌then◌else◌, Option, Some, None}
 use Rattle.std.specs.declared.cmp.Ordering.{Ordering}
 use Rattle.std.specs.declared.cmp.Ordering.TheVariants.{Less, Equal, Greater}
 use Rattle.pg_schema.specs.declared.field.Presence.{Presence}
@@ -11,33 +11,9 @@ use Rattle.pg_schema.specs.Shape.{is_implicit}
 use Rattle.pg_dyn.specs.declared.message.Content.{Content}
 use Rattle.pg_dyn.specs.declared.message.Content.TheVariants as contents
 use Rattle.pg_dyn.specs.declared.message.Value.{Value}
-use Rattle.pg_dyn.specs.declared.message.Value.TheVariants as values
 use Rattle.pg_dyn.specs.Message.{key_cmp}
 use Rattle.pg_dyn.specs.Seen.{leaf_of}
 use Rattle.pg_dyn.specs.ContentFits.{is_zero_value}
-
--- the one item, the items of a list, the entries of a map
-abbrev pub item_held : Option Content → Option Value
-item_held (Some (contents.One value)) = Some value
-item_held (Some (contents.Many vs)) = None
-item_held (Some (contents.Map es)) = None
-item_held None = None
-
-abbrev pub items_held : Option Content → List Value
-items_held (Some (contents.One value)) = []
-items_held (Some (contents.Many vs)) = vs.items
-items_held (Some (contents.Map es)) = []
-items_held None = []
-
-abbrev pub entries_held : Option Content → List (Value × Value)
-entries_held (Some (contents.One value)) = []
-entries_held (Some (contents.Many vs)) = []
-entries_held (Some (contents.Map es)) = es.items
-entries_held None = []
-
--- a zero that stands where a content was taken out
-abbrev pub placeholder : Content
-placeholder = contents.One (values.Int (pos 0))
 
 -- what a singular field holds after an item: no zero where it is implicit
 abbrev pub item_left : Presence → Value → Option Content

@@ -37,7 +37,3 @@ without_rivals fs f m = kept_from (type_of m) (filter (λ p. not (is_rival_numbe
 -- The message with this content in the field, in the place of the field's own and of those of the other members of its oneof.
 abbrev pub with_content : List FieldShape → FieldShape → List (Part KeptItem) → Kept → Kept
 with_content fs f ps m = with_parts f.number ps (without_rivals fs f m)
-
--- the message with one unknown record more
-abbrev pub with_unknown : WireRecord → Kept → Kept
-with_unknown r m = kept_from (type_of m) (parts_of m) (unknown_of m ++ r ∷ [])

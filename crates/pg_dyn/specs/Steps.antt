@@ -1,12 +1,10 @@
--- What reading on makes of a message, of a content and of an item, and when it is refused (Encoding guide, "Message Structure", "Last
--- One Wins"). Places are counted from the first byte of what is read on.
-use Rattle.std.specs.Prelude.{◌≡◌, ◌⊎◌, ℕ, ◌+◌, ⊤, true, false, List, [], ◌++◌, map, filter, Option, Some, None, is_some, Err}
+-- What a field holds as parts of a message, why bytes are refused, and where no message stands too deep (Encoding guide, "Message
+-- Structure"). Places are counted from the first byte of what is gone over.
+use Rattle.std.specs.Prelude.{◌≡◌, ◌⊎◌, ℕ, ◌+◌, ⊤, true, false, List, [], ◌++◌, map, Option, Some, None, Err}
 use Rattle.std.specs.List.{AllByRecursion}
 use Rattle.pg_schema.specs.declared.field.Scalar.{Scalar}
-use Rattle.pg_schema.specs.declared.field.TypeId.{TypeId}
 use Rattle.pg_schema.specs.declared.field.Element.{Element}
-use Rattle.pg_schema.specs.declared.field.Element.TheVariants as elements
-use Rattle.pg_schema.specs.Shape.{Shape, FieldShape, fields, field_at, Rising, is_map}
+use Rattle.pg_schema.specs.Shape.{Shape, FieldShape, field_at, is_map}
 use Rattle.pg_wire.specs.Errors.{error_at, fault_of, place_of}
 use Rattle.pg_wire.specs.Reading.{Fault, row}
 use Rattle.pg_wire.specs.Records.{WireRecord}
@@ -14,42 +12,17 @@ use Rattle.pg_dyn.specs.declared.error.DynError.{DynError}
 use Rattle.pg_dyn.specs.declared.error.DynError.TheVariants as errors
 use Rattle.pg_dyn.specs.declared.message.Content.{Content}
 use Rattle.pg_dyn.specs.declared.message.Value.{Value}
-use Rattle.pg_dyn.specs.declared.message.Value.TheVariants as values
-use Rattle.pg_dyn.specs.Optional.{joined}
-use Rattle.pg_dyn.specs.Message.{Item, Message, Part, parts, unknown_of, message_from, is_of}
+use Rattle.pg_dyn.specs.Message.{Item, Part}
 use Rattle.pg_dyn.specs.Message as model
-use Rattle.pg_dyn.specs.Coding.{element_at, form, form_wire, leaf_in, scalar_form}
+use Rattle.pg_dyn.specs.Coding.{element_at, form_wire, scalar_form}
 use Rattle.pg_dyn.specs.Content.{packed_leaves, takes}
 use Rattle.pg_dyn.specs.ScalarItems.{IsItemOf}
 use Rattle.pg_dyn.specs.Decoding.{is_readable, dec}
-use Rattle.pg_dyn.specs.ReadingOn.{next_parts}
-use Rattle.pg_dyn.specs.Kept.{Kept, KeptItem, Plain, Msg, ends, type_of, message_of, parts_of}
-use Rattle.pg_dyn.specs.Replacing.{is_rival_number, with_parts}
+use Rattle.pg_dyn.specs.Kept.{KeptItem, Plain, Msg, message_of}
 use Rattle.pg_dyn.specs.Seen.{IsFilled, content_seen, leaf_of}
 use Rattle.pg_dyn.specs.ContentFits.{ContentFits}
 use Rattle.pg_dyn.specs.Faults.{Code, Wire, NotUtf8, FaultIn, FaultOf}
-use Rattle.pg_dyn.specs.Fits.{Fits}
 use Rattle.pg_dyn.specs.TooDeep.{TooDeepIn, TooDeepOf}
-
--- A message reads on by bytes, whichever bytes it was read from; these are read by themselves too.
-pub record ReadsOn (shape : Shape) (bytes : List ℕ) (old new : Kept) : Type 0 where
-  pub reads : (front : List ℕ) → dec shape (type_of old) front ≡ Some (message_of old) → dec shape (type_of old) (front ++ bytes) ≡ Some (message_of new)
-  pub alone : is_some (dec shape (type_of old) bytes) ≡ true
-  pub fits : Fits shape new
-  pub of_type : type_of new ≡ type_of old
-
--- the child that reads on: the one that is there, or one without content
-abbrev pub child_before : TypeId → Option Value → Kept
-child_before t (Some (values.Msg child)) = child.value
-child_before t (Some value) = ends t []
-child_before t None = ends t []
-
--- An item reads on by the body of a record: a message reads on by it, any other item is what stands there.
-abbrev pub ItemReadsOn : Shape → Element → List ℕ → Option Value → Value → Type 0
-ItemReadsOn shape (elements.Scalar s) body old value = leaf_in (form (elements.Scalar s)) body ≡ Some (leaf_of value)
-ItemReadsOn shape (elements.Enum e) body old value = leaf_in (form (elements.Enum e)) body ≡ Some (leaf_of value)
-ItemReadsOn shape (elements.Message t) body old (values.Msg child) = ReadsOn shape body (child_before t old) child.value
-ItemReadsOn shape (elements.Message t) body old value = ⊥
 
 -- what a field holds, as parts of a message
 abbrev pub item_of : KeptItem → Item
@@ -66,14 +39,6 @@ parts_held number (Some content) = content_seen number content
 abbrev pub HeldFits : Shape → FieldShape → Option Content → Type 0
 HeldFits shape f None = ⊤
 HeldFits shape f (Some content) = ContentFits shape f.presence f.element content × IsFilled content
-
--- What a field holds reads on by a record that the field takes, in every message that holds it.
-abbrev pub HeldReadsOn : Shape → FieldShape → WireRecord → Option Content → Option Content → Type 0
-HeldReadsOn shape f r old new =
-    (type : TypeId) (bytes : List ℕ) (m : Message) →
-    Rising (fields shape type) → field_at (fields shape type) f.number ≡ Some f → dec shape type bytes ≡ Some m →
-    filter (is_of f.number) (parts m) ≡ map part_of (parts_held f.number old) →
-    dec shape type (bytes ++ r.bytes) ≡ Some (message_from (joined (map (next_parts f (map part_of (parts_held f.number new)) m) (fields shape type))) (unknown_of m))
 
 -- Why reading is refused: memory was, or what the error names stands that many bytes behind a place.
 abbrev pub RefusedBy : (Code → ℕ → Type 0) → (ℕ → Type 0) → ℕ → DynError → Type 0
@@ -133,8 +98,3 @@ RowReads s body old new =
 
 abbrev pub RowRefused : Scalar → List ℕ → ℕ → DynError → Type 0
 RowRefused s body at e = (e ≡ errors.Memory) ⊎ ((fault : Fault) × (e ≡ errors.Wire (error_at fault at)) × (row (element_at (form_wire (scalar_form s))) body ≡ Err fault))
-
--- The message without the field's own content fits, and holds none of another member of its oneof.
-pub record MayHold (shape : Shape) (f : FieldShape) (m : Kept) : Type 0 where
-  pub fits : Fits shape (with_parts f.number [] m)
-  pub apart : AllByRecursion (λ (p : Part KeptItem). is_rival_number (fields shape (type_of m)) f p.number ≡ false) (parts_of (with_parts f.number [] m))

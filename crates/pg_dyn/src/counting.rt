@@ -1,10 +1,9 @@
 //! Lengths of encodings, counted before anything is written. A length above the most is counted as one more than it.
 
-ghost use Rattle.std.specs.Prelude.{◌≡◌, ℕ, ◌+◌, ◌^◌, ◌<◌, ◌≤◌, ◌++◌, List, length, flat_map, true, IfOk, OnOk};
+ghost use Rattle.std.specs.Prelude.{◌≡◌, ℕ, ◌+◌, ◌^◌, ◌<◌, ◌++◌, List, length, flat_map, true, IfOk, OnOk};
 ghost use Rattle.std.specs.List.{AllByRecursion};
 ghost use Rattle.pg_schema.specs.Invariant.{IsSchema};
 ghost use Rattle.pg_schema.specs.Parts.{shape_of};
-ghost use Rattle.pg_schema.specs.Shape.{is_packable};
 ghost use Rattle.pg_wire.specs.declared.record.WireType.TheVariants.{Len};
 ghost use Rattle.pg_wire.specs.Records.{length_before, written};
 ghost use Rattle.pg_dyn.specs.Coding.{body, form, scalar_form, word_bytes};

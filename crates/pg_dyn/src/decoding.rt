@@ -1,17 +1,37 @@
-ghost use Rattle.std.specs.Prelude.{◌≡◌, ◌<◌, ℕ, length, Some, OnOk, IfOk, IfErr};
+ghost use Rattle.std.specs.Prelude.{◌≡◌, ◌<◌, ℕ, suc, length, true, is_some, Some, OnOk, IfOk, IfErr};
+ghost use Rattle.pg_schema.specs.Invariant.{IsSchema};
 ghost use Rattle.pg_schema.specs.Parts.{shape_of};
 ghost use Rattle.pg_schema.specs.Shape.{fields};
 ghost use Rattle.pg_dyn.specs.Decoding.{dec};
 ghost use Rattle.pg_dyn.specs.Fits.{Fits};
 ghost use Rattle.pg_dyn.specs.Kept.{message_of, type_of};
 ghost use Rattle.pg_dyn.specs.Refusals.{MayRefuse};
+ghost use Rattle.pg_dyn.specs.Steps.{IsShallowIn, RefusedIn};
 ghost use Rattle.pg_dyn.specs.TooDeep.{TooDeepIn};
+ghost use Rattle.pg_dyn.specs.declared.error.DynError.TheVariants as errors;
 
 use crate::error::DynError;
+use crate::faults::find_fault;
 use crate::message::Message;
-use crate::reading::read_bytes;
+use crate::reading::read_message;
+use crate::reading::stop::Stop;
 use pg_schema::{Schema, TypeId};
 use std::alloc::Global;
+
+// Why bytes aren't read that have a fault, or a message below theirs by more levels than that.
+fn fault_in(schema: &Schema, type_id: TypeId, bytes: &[u8], levels: usize) -> DynError
+    requires is_schema { IsSchema schema.now }
+    requires not_good { is_some (dec (shape_of schema.now) type_id bytes.now) ≡ true
+        → IsShallowIn (shape_of schema.now) (suc levels) (fields (shape_of schema.now) type_id) bytes.now → ⊥ }
+    ensures fault { RefusedIn (shape_of schema.now) (suc levels) (fields (shape_of schema.now) type_id) bytes.now 0 result }
+    ensures not_memory { result ≡ errors.Memory → ⊥ }
+{
+    match find_fault(schema, type_id, bytes, 0, levels) {
+        Err(error) => error,
+        // They have one.
+        Ok(()) => DynError::Memory,
+    }
+}
 
 /// The message that bytes are read as, by the type, which the schema has (Protocol Buffers encoding guide,
 /// "Message Structure", "Last One Wins", "Packed Repeated Fields", "Maps"). Records that no field of the type accepts
@@ -38,7 +58,9 @@ pub fn decode(
     }
     // What holds of every schema.
     schema.parts();
-    let mut message = Message::empty(alloc, type_id);
-    read_bytes(&mut message, alloc, schema, bytes, 0, limit - 1)?;
-    Ok(message)
+    match read_message(alloc, schema, type_id, bytes, limit - 1) {
+        Ok(message) => Ok(message),
+        Err(Stop::Memory) => Err(DynError::Memory),
+        Err(Stop::Fault) => Err(fault_in(schema, type_id, bytes, limit - 1)),
+    }
 }

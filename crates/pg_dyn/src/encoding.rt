@@ -1,11 +1,11 @@
-ghost use Rattle.std.specs.Prelude.{◌≡◌, ℕ, ◌+◌, ◌^◌, ◌<◌, ◌≤◌, ◌++◌, List, length, flat_map, OnOk, IfOk, IfErr};
+ghost use Rattle.std.specs.Prelude.{◌≡◌, ℕ, ◌+◌, ◌<◌, ◌≤◌, ◌++◌, List, length, flat_map, OnOk, IfOk, IfErr};
 ghost use Rattle.std.specs.List.{AllByRecursion};
 ghost use Rattle.pg_schema.specs.declared.field.Element.TheVariants as elements;
 ghost use Rattle.pg_schema.specs.Invariant.{IsSchema};
 ghost use Rattle.pg_schema.specs.Parts.{shape_of};
 ghost use Rattle.pg_wire.specs.Records.{length_before, tag, wire_code};
 ghost use Rattle.pg_wire.specs.Varint.{varint};
-ghost use Rattle.pg_dyn.specs.Coding.{body, form, scalar_form};
+ghost use Rattle.pg_dyn.specs.Coding.{body, form};
 ghost use Rattle.pg_dyn.specs.ContentFits.{ContentFits, ItemFits};
 ghost use Rattle.pg_dyn.specs.EncodedFields.{record_bytes};
 ghost use Rattle.pg_dyn.specs.Encoding.{cap, enc};

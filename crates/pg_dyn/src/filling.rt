@@ -18,7 +18,7 @@ use crate::keys::check_keys;
 use crate::message::{Content, Message};
 use crate::oneofs::{has_twice, sorted_oneofs};
 use pg_schema::{Schema, TypeId};
-use std::alloc::{AllocError, Global};
+use std::alloc::Global;
 
 // What is wrong with one content, but for keys that stand twice.
 fn check_one(schema: &Schema, type_id: TypeId, one: &(u32, Content)) -> Result<(), DynError>

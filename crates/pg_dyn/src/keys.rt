@@ -1,6 +1,5 @@
 ghost use Rattle.std.specs.Prelude.{◌≡◌, ◌⊎◌, map, false, IfErr, IfOk, IsTrue, OnOk};
 ghost use Rattle.std.specs.List.Sorted.{IsPermutation, IsSortedBy};
-ghost use Rattle.std.specs.Ordering.{is_lt};
 ghost use Rattle.pg_dyn.specs.declared.error.DynError.TheVariants.{DuplicateKey, Memory};
 ghost use Rattle.pg_dyn.specs.Content.{leaf_bytes};
 ghost use Rattle.pg_dyn.specs.ContentFaults.{HasEntryTwice, HasKeyTwice};

@@ -4,7 +4,6 @@ ghost use Rattle.std.specs.Prelude.{◌≡◌, ◌<◌, ℕ, true, get_or, lengt
 ghost use Rattle.pg_schema.specs.Parts.{field_shape, shape_of};
 ghost use Rattle.pg_schema.specs.Shape.{fields};
 ghost use Rattle.pg_dyn.specs.declared.message.Content.{Content as TheContent};
-ghost use Rattle.pg_dyn.specs.FieldList.{filled_fields};
 ghost use Rattle.pg_dyn.specs.Replacing.{is_rival_number};
 ghost use Rattle.pg_dyn.specs.Seen.{Rises};
 
@@ -12,6 +11,7 @@ use crate::field_list::holds;
 use crate::message::Content;
 use crate::rivals::is_rival;
 use pg_schema::{Field, Schema, TypeId};
+use std::alloc::Global;
 
 /// Of fewer contents none is noted: to go over them costs little.
 pub(crate) const FEW: usize = 32;
@@ -25,7 +25,7 @@ fn noted_member(noted: &[u32], field: &Field) -> Option<u32> {
     None
 }
 
-/// The other member of the field's oneof that was noted last, where a content under its number holds something.
+/// The other member of the field's oneof that was noted last, where a content stands under its number.
 pub(crate) fn noted_rival(
     contents: &[(u32, Content)],
     noted: &[u32],
@@ -35,13 +35,33 @@ pub(crate) fn noted_rival(
 ) -> Option<u32>
     requires { Rises contents.now }
     ensures rival { IfSome result (λ number. is_rival_number (fields (shape_of schema.now) type_id) (field_shape field.now) number ≡ true) }
-    ensures there { IfSome result (λ number. (place : ℕ) × (place < length (filled_fields contents.now)) × ((d : ℕ × TheContent) → (get_or (filled_fields contents.now) place d).0 ≡ number)) }
+    ensures there { IfSome result (λ number. (place : ℕ) × (place < length contents.now) × ((d : ℕ × TheContent) → (get_or contents.now place d).0 ≡ number)) }
 {
     let number = noted_member(noted, field)?;
     if is_rival(schema, type_id, field, number) && holds(contents, number) {
         return Some(number);
     }
     None
+}
+
+/// The members of oneofs among the contents. Where memory is refused, fewer are noted.
+#[inline(never)]
+pub(crate) fn noted_of(
+    alloc: Global,
+    schema: &Schema,
+    type_id: TypeId,
+    contents: &[(u32, Content)],
+) -> Vec<u32> {
+    let mut noted = Vec::new(alloc);
+    if contents.len() < FEW {
+        return noted;
+    }
+    for (number, _) in contents {
+        if let Some(field) = schema.field(type_id, *number) {
+            note(&mut noted, contents.len(), field);
+        }
+    }
+    noted
 }
 
 /// Notes the field as the member of its oneof that was set last, in a message of so many contents.

@@ -1,10 +1,16 @@
-//! Reading on: what one more record makes of a message.
+//! What bytes are read as: their records are gathered, and then read field by field.
 
-mod contents;
-mod elements;
-pub(crate) mod entries;
+pub(crate) mod elements;
+mod entries;
+mod gathering;
 mod items;
-mod messages;
-mod rows;
+mod nested;
+mod ordering;
+mod parts;
+pub(crate) mod rows;
+mod scalars;
+mod sorting;
+pub(crate) mod stop;
+mod streaks;
 
-pub(crate) use messages::read_bytes;
+pub(crate) use nested::read_message;

@@ -5,9 +5,7 @@ ghost use Rattle.pg_dyn.specs.Content.{is_rival};
 ghost use Rattle.pg_dyn.specs.Replacing.{is_rival_number};
 ghost use Rattle.pg_dyn.specs.Seen.{Rises};
 
-use crate::draft::Draft;
 use crate::field_list::{holds, remove};
-use crate::marks::Marks;
 use crate::message::{Content, Message};
 use crate::noting::{note, noted_rival};
 use crate::oneofs::is_same_oneof;
@@ -133,45 +131,5 @@ impl Message {
             None => self.clear_rivals(schema, field),
         }
         note(&mut self.noted, self.fields.len(), field);
-    }
-}
-
-impl Draft {
-    ghost use Rattle.std.specs.Prelude.{Some};
-    ghost use Rattle.pg_schema.specs.Invariant.{IsSchema};
-    ghost use Rattle.pg_schema.specs.Shape.{field_at};
-    ghost use Rattle.pg_dyn.specs.Fits.{Fits};
-    ghost use Rattle.pg_dyn.specs.Kept.{type_of};
-    ghost use Rattle.pg_dyn.specs.Marked.{AreMarked};
-    ghost use Rattle.pg_dyn.specs.Replacing.{without_rivals};
-
-    // The same of a message that is read.
-    fn clear_rivals(&mut self, schema: &Schema, field: &Field)
-        ensures { self.new ≡ without_rivals (fields (shape_of schema.now) (type_of self.old)) (field_shape field.now) self.old }
-    {
-        let type_id = self.type_id;
-        match field.oneof {
-            Some(_) => remove_rivals(&mut self.fields, schema, type_id, field),
-            None => {}
-        }
-    }
-
-    /// The same of one that fits: where it holds the field, or the marks rule it out, it holds no other member.
-    pub(crate) fn clear_others(&mut self, marks: &mut Marks, schema: &Schema, field: &Field)
-        requires is_schema { IsSchema schema.now }
-        requires fits { Fits (shape_of schema.now) self.old }
-        requires found { field_at (fields (shape_of schema.now) (type_of self.old)) field.now.number ≡ Some (field_shape field.now) }
-        requires marked { AreMarked (shape_of schema.now) marks.old self.old }
-        ensures left { self.new ≡ without_rivals (fields (shape_of schema.now) (type_of self.old)) (field_shape field.now) self.old }
-        ensures marked { AreMarked (shape_of schema.now) marks.new self.old }
-    {
-        let type_id = self.type_id;
-        if holds(&self.fields, field.number) {
-            return;
-        }
-        if marks.rules_out(&self.fields, schema, type_id, field) {
-            return;
-        }
-        self.clear_rivals(schema, field);
     }
 }

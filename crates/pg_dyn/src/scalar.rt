@@ -1,16 +1,16 @@
-ghost use Rattle.std.specs.Prelude.{◌≡◌, ◌⊎◌, ◌↔◌, ◌^◌, ◌<◌, ℕ, List, true, false, Some, IfOk, IfErr, IsTrue};
-ghost use Rattle.std.specs.Str.{is_utf8};
+ghost use Rattle.std.specs.Prelude.{◌≡◌, ◌<◌, ℕ, List, true, Some, IfOk, IfErr, is_some};
 ghost use Rattle.pg_schema.specs.declared.field.Element.TheVariants as elements;
 ghost use Rattle.pg_schema.specs.Shape.{is_packable};
 ghost use Rattle.pg_dyn.specs.Coding.{Text, form_wire, leaf_in, scalar_form, word_in};
 ghost use Rattle.pg_dyn.specs.declared.error.DynError.TheVariants as errors;
 ghost use Rattle.pg_dyn.specs.ScalarItems.{HasShape, IsItemOf};
 ghost use Rattle.pg_dyn.specs.Seen.{leaf_of};
-ghost use Rattle.pg_dyn.specs.WordOf.{HasBits, IsIntegerOf};
+ghost use Rattle.pg_dyn.specs.ByFields.{StopsFor};
+ghost use Rattle.pg_dyn.specs.WordOf.{HasBits};
 
 use crate::body::wire_type_of;
-use crate::error::DynError;
 use crate::message::Value;
+use crate::reading::stop::Stop;
 use crate::word::number_of;
 use pg_schema::Scalar;
 use pg_wire::{WireType, read_varint};
@@ -54,23 +54,17 @@ pub(crate) fn word_item(scalar: Scalar, word: u64) -> Value
     }
 }
 
-/// The item of a body of the scalar's own wire type, which stands in the record at that place. Not inlined, so that a level
-/// of messages takes no more of the stack for it.
+/// The item of a body of the scalar's own wire type. Not inlined, so that a level of messages takes no more of the stack for it.
 #[inline(never)]
-pub(crate) fn read_item(
-    alloc: Global,
-    scalar: Scalar,
-    body: &[u8],
-    at: usize,
-) -> Result<Value, DynError>
+pub(crate) fn item_in(alloc: Global, scalar: Scalar, body: &[u8]) -> Result<Value, Stop>
     requires { HasShape (form_wire (scalar_form scalar)) body.now }
     ensures ok { IfOk result (λ value. (leaf_in (scalar_form scalar) body.now ≡ Some (leaf_of value)) × IsItemOf scalar value) }
-    ensures err { IfErr result (λ e. (e ≡ errors.Memory) ⊎ ((e ≡ errors.NotUtf8 (Some at)) × (scalar_form scalar ≡ Text) × (is_utf8 body.now ≡ false))) }
+    ensures err { IfErr result (StopsFor (is_some (leaf_in (scalar_form scalar) body.now) ≡ true)) }
 {
     match scalar {
         Scalar::String => match simdutf8::compat::from_utf8(body) {
             Ok(text) => Ok(Value::Text(String::from_str(alloc, text)?)),
-            Err(_) => Err(DynError::NotUtf8 { at: Some(at) }),
+            Err(_) => Err(Stop::Fault),
         },
         Scalar::Bytes => Ok(Value::Bytes(Vec::from_slice(alloc, body)?)),
         _ => Ok(word_item(scalar, body_word(wire_type_of(scalar), body))),

@@ -4,8 +4,7 @@ ghost use Rattle.pg_schema.specs.Parts.{field_shape, shape_of};
 ghost use Rattle.pg_dyn.specs.ContentFaults.{HasKeyTwice};
 ghost use Rattle.pg_dyn.specs.ContentFits.{ContentFits, ItemFits};
 ghost use Rattle.pg_dyn.specs.KeyOrder.{KeysAlike};
-ghost use Rattle.pg_dyn.specs.ScalarItems.{IsItemOf};
-ghost use Rattle.pg_dyn.specs.Seen.{content_seen, HasKeys, IsFilled, item_seen, leaf_of};
+ghost use Rattle.pg_dyn.specs.Seen.{content_seen, HasKeys, IsFilled, item_seen};
 ghost use Rattle.pg_dyn.specs.Setting.{settled};
 ghost use Rattle.pg_dyn.specs.Told.{EntryFits, entry_seen, is_nothing, ItemsFit};
 

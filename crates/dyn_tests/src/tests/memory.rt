@@ -184,9 +184,9 @@ fn refused_reads(rt: HostRuntime) -> Result<(), Fail> {
     Ok(())
 }
 
-// A message with members of so many oneofs that these are marked is read as it is, or memory was refused.
+// A message with members of many oneofs is read as it is, or memory was refused.
 #[test]
-fn refused_marks(rt: HostRuntime) -> Result<(), Fail> {
+fn refused_oneofs(rt: HostRuntime) -> Result<(), Fail> {
     let schema = paired_members(rt.alloc())?;
     for (bytes, kept) in &pair_rows::ROWS_1 {
         if let Some(kept) = kept {

@@ -123,7 +123,7 @@ pub(super) fn paired_members(alloc: Global) -> Result<Schema, Fail> {
     schema_by(alloc, &shapes)
 }
 
-// So many oneofs that they are marked while the message is read.
+// Many oneofs, of which one member counts each.
 #[test]
 fn rows_of_many_oneofs(rt: HostRuntime) -> Result<(), Fail> {
     let schema = paired_members(rt.alloc())?;

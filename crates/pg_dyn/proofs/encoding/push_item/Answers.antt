@@ -4,7 +4,7 @@ use Rattle.pg_wire.specs.Records.{tag, length_before}
 use Rattle.pg_dyn.specs.Coding.{body, form_wire, scalar_form}
 use Rattle.pg_dyn.specs.Seen.{leaf_of}
 use Rattle.pg_dyn.proofs.EncodeSteps.{record_is}
-use Rattle.pg_dyn.proofs.DecodeSteps.{on_ok_map}
+use Rattle.pg_dyn.proofs.TypeFields.{on_ok_map}
 use Rattle.pg_dyn.proofs.encoding.push_item.Goals as goal
 
 pub returns : goal.returns

@@ -2,7 +2,7 @@
 use Rattle.std.proofs.Common.{sym, ◌∙◌}
 use Rattle.pg_schema.specs.Parts.{field_shape, shape_of}
 use Rattle.pg_schema.specs.Shape.{fields}
-use Rattle.pg_dyn.proofs.DecodeSteps.{rising}
+use Rattle.pg_dyn.proofs.TypeFields.{rising}
 use Rattle.pg_dyn.proofs.WithoutRivals.{rival_found, rival_nowhere}
 use Rattle.pg_dyn.proofs.rivals.is_rival.Goals as goal
 

@@ -9,17 +9,15 @@ use Rattle.pg_wire.specs.Records.{WireRecord}
 use Rattle.pg_dyn.specs.declared.message.Content.{Content}
 use Rattle.pg_dyn.specs.declared.message.Content.TheVariants as contents
 use Rattle.pg_dyn.specs.declared.message.Value.TheVariants as values
-use Rattle.pg_dyn.specs.FieldList.{filled_fields, remove_field}
+use Rattle.pg_dyn.specs.FieldList.{remove_field}
 use Rattle.pg_dyn.specs.Fits.{Fits}
 use Rattle.pg_dyn.specs.Kept.{Kept, type_of}
 use Rattle.pg_dyn.specs.Replacing.{is_rival_number, without_rivals}
 use Rattle.pg_dyn.specs.Seen.{HasKeys, IsFilled, Rises, record_seen}
 use Rattle.std.specs.List.{AllByRecursion}
-use Rattle.pg_dyn.proofs.DecodeSteps.{rising}
-use Rattle.pg_dyn.proofs.Exchanging.{alone_out}
+use Rattle.pg_dyn.proofs.TypeFields.{rising}
 use Rattle.pg_dyn.proofs.FitsByContents.{contents_from_fits}
-use Rattle.pg_dyn.proofs.Gaps.{nothing_empty}
-use Rattle.pg_dyn.proofs.HeldAlone.{held_alone}
+use Rattle.pg_dyn.proofs.HeldAlone.{alone_out, held_alone}
 use Rattle.pg_dyn.proofs.Lists.{filter_all}
 use Rattle.pg_dyn.proofs.MembersOut.{all_stay, rival_out}
 use Rattle.pg_dyn.proofs.ReplacingLaws.{shown, type_shown}
@@ -27,16 +25,14 @@ use Rattle.pg_dyn.proofs.Splitting.{found_number}
 use Rattle.pg_dyn.proofs.WithoutRivals.{cleared_shown, rival_found}
 use Rattle.pg_dyn.proofs.message.Message.held_rivals.Goals as goal
 
--- a place under the number among the contents that hold something, of which each does
-there : (n : ℕ) (cs given : List (ℕ × Content)) → given ≡ cs → AllByRecursion (λ (x : ℕ × Content). IsFilled x.1) cs
-    → (i : ℕ) × (i < length (filled_fields given)) × ((d : ℕ × Content) → (get_or (filled_fields given) i d).0 ≡ n) → (i : ℕ) × (i < length cs) × ((d : ℕ × Content) → (get_or cs i d).0 ≡ n)
-there n cs given same filled h =
-    subst (λ (xs : List (ℕ × Content)). (i : ℕ) × (i < length xs) × ((d : ℕ × Content) → (get_or xs i d).0 ≡ n)) (ap filled_fields same ∙ nothing_empty cs filled) h
+-- a content stands under the number
+abbrev Holds : ℕ → List (ℕ × Content) → Type 0
+Holds n cs = (i : ℕ) × (i < length cs) × ((d : ℕ × Content) → (get_or cs i d).0 ≡ n)
 
 module _ (parts : Parts) (is_schema : IsSchema parts) (type : TypeId) (cs : List (ℕ × Content)) (us : List WireRecord) (m : Kept) (view : shown type cs us ≡ m) (rises : Rises cs)
     (filled : AllByRecursion (λ (x : ℕ × Content). IsFilled x.1) cs) (keys : AllByRecursion (λ (x : ℕ × Content). HasKeys x.1) cs) (fits : Fits (shape_of parts) m) (f : FieldShape)
     (found : field_at (fields (shape_of parts) type) f.number ≡ Some f) where
-  own_alone : (i : ℕ) × (i < length cs) × ((d : ℕ × Content) → (get_or cs i d).0 ≡ f.number) → without_rivals [] f m ≡ without_rivals (fields (shape_of parts) type) f m
+  own_alone : Holds f.number cs → without_rivals [] f m ≡ without_rivals (fields (shape_of parts) type) f m
   own_alone h =
       let d : ℕ × Content = (0, contents.One (values.Int (pos 0))) in
       let by = contents_from_fits (shape_of parts) type cs us m view is_schema.shape filled keys fits in
@@ -44,7 +40,7 @@ module _ (parts : Parts) (is_schema : IsSchema parts) (type : TypeId) (cs : List
       let left = sym (filter_all (λ (x : ℕ × Content). not (is_rival_number (fields (shape_of parts) type) f x.0)) cs all) in
       sym (cleared_shown [] f type cs cs us m (all_stay f cs) view) ∙ cleared_shown (fields (shape_of parts) type) f type cs cs us m left view
 
-  other_alone : (n : ℕ) (g : FieldShape) → is_rival_number (fields (shape_of parts) type) f n ≡ true → field_at (fields (shape_of parts) type) n ≡ Some g → (i : ℕ) × (i < length cs) × ((d : ℕ × Content) → (get_or cs i d).0 ≡ n)
+  other_alone : (n : ℕ) (g : FieldShape) → is_rival_number (fields (shape_of parts) type) f n ≡ true → field_at (fields (shape_of parts) type) n ≡ Some g → Holds n cs
       → without_rivals (g ∷ []) f m ≡ without_rivals (fields (shape_of parts) type) f m
   other_alone n g rival at h =
       let d : ℕ × Content = (0, contents.One (values.Int (pos 0))) in
@@ -64,7 +60,7 @@ returns-then-holds c =
     let f = field_shape c.args.field.now in
     let same = sym (ap type_of c.self.view_is) ∙ type_shown a.type_id cs us in
     let found = subst (λ (t : TypeId). field_at (fields (shape_of c.args.schema.now) t) c.args.field.now.number ≡ Some (field_shape c.args.field.now)) same c.requires.found in
-    let held = there f.number cs _ c.deref.ensures.value c.self.invariant.filled (c.holds.ensures c.if-holds.true) in
+    let held = subst (Holds f.number) c.deref.ensures.value (c.holds.ensures c.if-holds.true) in
     own_alone c.args.schema.now c.requires.is_schema a.type_id cs us c.args.self.now c.self.view_is c.self.invariant.rises c.self.invariant.filled c.self.invariant.keys c.requires.fits f found held
     ∙ ap (λ (t : TypeId). without_rivals (fields (shape_of c.args.schema.now) t) (field_shape c.args.field.now) c.args.self.now) (sym same)
 
@@ -77,7 +73,7 @@ returns c =
     let g = field_shape c.in_ok-member.member.now in
     let same = sym (ap type_of c.self.view_is) ∙ type_shown a.type_id cs us in
     let found = subst (λ (t : TypeId). field_at (fields (shape_of c.args.schema.now) t) c.args.field.now.number ≡ Some (field_shape c.args.field.now)) same c.requires.found in
-    let held = there c.in_ok-other.other cs _ c.deref-2.ensures.value c.self.invariant.filled c.in_ok-other.ensures.there in
+    let held = subst (Holds c.in_ok-other.other) c.deref-2.ensures.value c.in_ok-other.ensures.there in
     ap (λ gs. without_rivals (map field_shape gs) f c.args.self.now) c.from_ref.ensures.value
     ∙ other_alone c.args.schema.now c.requires.is_schema a.type_id cs us c.args.self.now c.self.view_is c.self.invariant.rises c.self.invariant.filled c.self.invariant.keys c.requires.fits f found c.in_ok-other.other g
     c.in_ok-other.ensures.rival (sym c.in_ok-member.ensures.shape) held

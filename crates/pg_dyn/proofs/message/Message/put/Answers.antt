@@ -10,8 +10,8 @@ use Rattle.pg_dyn.specs.Seen.{record_seen}
 use Rattle.pg_dyn.specs.Told.{IsTaken, ItemsFit}
 use Rattle.pg_dyn.proofs.FitsChecks.{none_found, same_field}
 use Rattle.pg_dyn.proofs.PutLaws.{cleared_fits, settled_number}
-use Rattle.pg_dyn.proofs.ReplacingLaws.{type_shown}
-use Rattle.pg_dyn.proofs.SetSteps.{members_after, set_to, with_parts_type}
+use Rattle.pg_dyn.proofs.ReplacingLaws.{type_shown, type_of-with_parts}
+use Rattle.pg_dyn.proofs.SetSteps.{members_after, set_to}
 use Rattle.pg_dyn.proofs.Splitting.{found_number}
 use Rattle.pg_dyn.proofs.message.Message.put.Goals as goal
 
@@ -27,7 +27,7 @@ pub settle_rivals-requires : goal.settle_rivals-requires
 settle_rivals-requires c =
     let f = field_shape c.in-Some.field.now in
     let put = c.put_content.new.self in
-    let put_type : type_of put ≡ type_of c.args.self.now = ap type_of c.in_ok-put_content.ensures.ok ∙ with_parts_type f.number _ c.args.self.now in
+    let put_type : type_of put ≡ type_of c.args.self.now = ap type_of c.in_ok-put_content.ensures.ok ∙ type_of-with_parts f.number _ c.args.self.now in
     subst (λ (t : TypeId). IfSome c.held_rivals-members.result (λ members. without_rivals (map field_shape members.now) f c.put_content.new.self ≡ without_rivals (fields (shape_of c.args.schema.now) t) f c.put_content.new.self)) (sym put_type)
     (members_after (λ members. map field_shape members.now) (fields (shape_of c.args.schema.now) (type_of c.args.self.now)) f _ c.args.self.now put c.in_ok-put_content.ensures.ok
     (settled_number f.presence f.number c.args.content) c.held_rivals-members.result c.held_rivals-members.ensures)
@@ -65,7 +65,7 @@ returns-clause-ok c =
     let found = ap (λ (t : TypeId). field_at (fields (shape_of c.args.schema.now) t) c.args.number) same ∙ sym c.in-Some.ensures.shape in
     let taken = subst (IsTaken (shape_of c.args.schema.now) (type_of c.args.self.now) c.args.number c.args.content) (same_field g f (sym given.found ∙ found)) given in
     let put = c.put_content.new.self in
-    let put_type : type_of put ≡ type_of c.args.self.now = ap type_of c.in_ok-put_content.ensures.ok ∙ with_parts_type f.number _ c.args.self.now in
+    let put_type : type_of put ≡ type_of c.args.self.now = ap type_of c.in_ok-put_content.ensures.ok ∙ type_of-with_parts f.number _ c.args.self.now in
     let new = c.settle_rivals.ensures ∙ ap (λ (t : TypeId). without_rivals (fields (shape_of c.args.schema.now) t) (field_shape c.in-Some.field.now) c.put_content.new.self) put_type in
     set_to c.args.schema.now c.parts.ensures.checked c.args.number c.args.content f c.args.self.now put c.settle_rivals.new.self taken c.in_ok-put_content.ensures.ok new
 
@@ -77,7 +77,7 @@ returns-clause-fits c =
     let shape = shape_of c.args.schema.now in
     let same : type_of c.args.self.now ≡ a.type_id = sym (ap type_of c.self.view_is) ∙ type_shown a.type_id a.fields.items us in
     let put = c.put_content.new.self in
-    let put_type : type_of put ≡ type_of c.args.self.now = ap type_of c.in_ok-put_content.ensures.ok ∙ with_parts_type f.number _ c.args.self.now in
+    let put_type : type_of put ≡ type_of c.args.self.now = ap type_of c.in_ok-put_content.ensures.ok ∙ type_of-with_parts f.number _ c.args.self.now in
     let new = c.settle_rivals.ensures ∙ ap (λ (t : TypeId). without_rivals (fields (shape_of c.args.schema.now) t) (field_shape c.in-Some.field.now) c.put_content.new.self) put_type in
     let cleared = cleared_fits c.args.schema.now c.parts.ensures.checked a.type_id f c.args.number (sym c.in-Some.ensures.shape) a.fields.items us c.args.self.now c.self.view_is c.self.invariant.rises c.self.invariant.filled c.self.invariant.keys c.requires.fits in
     let here = subst (λ (t : TypeId). Fits (shape_of c.args.schema.now) (without_rivals (fields (shape_of c.args.schema.now) t) (field_shape c.in-Some.field.now) c.args.self.now)) (sym same) cleared in

@@ -1,0 +1,563 @@
+-- Messages are read field by field.
+use Rattle.std.proofs.Common.{◌≡◌, ◌++◌, map, arith, Option, Some, None, sym, subst, ◌∙◌, append-nil, take_all, ◌+◌, ◌-◌, take, refl, ap, List}
+use Rattle.std.proofs.lemmas.Result.{IfOk-weaker, err_from_is_err_and}
+use Rattle.pg_schema.specs.Parts.{field_shape, shape_of}
+use Rattle.pg_schema.specs.Shape.{fields}
+use Rattle.pg_wire.specs.Reads.{seen_record}
+use Rattle.pg_dyn.specs.ByFields.{AreGood, HoldsOf, IsEntryRead, RecordsGood, StopsFor}
+use Rattle.pg_dyn.proofs.ByFields.{with_held}
+use Rattle.pg_dyn.proofs.TypeFields.{is_field_of, rising}
+use Rattle.pg_dyn.proofs.FieldKinds.{is_no_message, lists_no_map, not_list, not_map}
+use Rattle.pg_dyn.proofs.FieldRuns.{ReadUpTo}
+use Rattle.pg_dyn.proofs.FieldRuns as runs
+use Rattle.pg_dyn.proofs.Lists.{each_weaker}
+use Rattle.std.specs.List.{AllByRecursion}
+use Rattle.pg_schema.specs.declared.field.Element.TheVariants as elements
+use Rattle.pg_dyn.specs.declared.message.Content.TheVariants as contents
+use Rattle.pg_dyn.specs.ContentFits.{ItemFits}
+use Rattle.pg_dyn.specs.Steps.{HeldFits}
+use Rattle.pg_dyn.specs.Kept.{message_of, ends}
+use Rattle.pg_dyn.proofs.BodiesByFields as bodies
+use Rattle.pg_dyn.proofs.ChildrenByFields.{AreChildren}
+use Rattle.pg_dyn.proofs.ChildrenByFields as children
+use Rattle.pg_dyn.proofs.EntriesByFields as entries
+use Rattle.pg_dyn.proofs.MapsByFields.{AreEntriesRead}
+use Rattle.pg_dyn.proofs.MapsByFields as maps
+use Rattle.pg_dyn.proofs.StopSteps.{stopped, handed_on, stops_for}
+use Rattle.pg_dyn.proofs.reading.nested.+reading.Goals.{read_entry-in-Message+in_ok-value-in-Message, read_entry-in-Scalar, counted-in-Some+then-counts+in_ok-push, counted-in-Some+else-counts+in_ok-read_content+in-Some+in-One+in-Text-1, counted-in-Some+else-counts+in_ok-read_content+in-Some+in-One+in-Bytes-1, counted-in-Some+else-counts+in_ok-read_content+in-Some+in-One+in-Msg-1, counted-in-Some+else-counts+in_ok-read_content+in-Some+in-One+in-Int-1, counted-in-Some+else-counts+in_ok-read_content+in-Some+in-Many-1, counted-in-Some+else-counts+in_ok-read_content+in-Some+in-Map-1, counted-in-Some+else-counts+in_ok-read_content+in-None-1, counted-in_default, read_gathered-then-streaks, read_gathered-else-streaks+in_ok-left}
+use Rattle.pg_dyn.proofs.reading.nested.+reading.Goals as goal
+use Rattle.pg_wire.specs.declared.record.Record.{Record}
+use Rattle.pg_dyn.proofs.CountedRecords.{CountedUpTo}
+use Rattle.pg_dyn.proofs.CountedRecords as counting
+use Rattle.pg_dyn.proofs.Gathered.{counted_so_far}
+use Rattle.pg_dyn.proofs.KeptParts.{fields_keep}
+use Rattle.pg_dyn.specs.Belonging.{IsUnknown}
+use Rattle.pg_dyn.specs.Seen.{record_seen}
+use Rattle.pg_dyn.proofs.GatheredReading.{IsLeft}
+use Rattle.pg_dyn.proofs.GatheredReading as gathered
+use Rattle.pg_wire.specs.Records.{IsRecord, WireRecord}
+use Rattle.pg_dyn.specs.Gathering.{AreByNumber, AreGathered}
+
+none_some : {A : Type 0} {x : A} → ◌≡◌ {A = Option A} None (Some x) → ⊥
+none_some e = cc
+
+pub counted-read_content-requires : goal.counted-read_content-requires
+counted-read_content-requires t c =
+    let shape = shape_of c.args.schema.now in
+    let fs = fields shape c.args.type_id in
+    let up = rising c.args.schema.now c.requires.is_schema c.args.type_id in
+    let l = c.loop-place in
+    let f = field_shape c.in-Some.field.now in
+    let one =
+    counting.one_of shape c.args.levels fs up c.args.streaks.now c.args.known.now c.requires.are_records c.requires.known l.place l.counted.items
+    l.invariant c.loop-place-test.true _ f (sym c.in-Some.ensures.shape) in
+    let some =
+    counting.one_some shape c.args.levels fs up c.args.streaks.now c.args.known.now c.requires.are_records c.requires.known l.place l.counted.items
+    l.invariant c.loop-place-test.true _ f (sym c.in-Some.ensures.shape) in
+    (omega arith, (c.requires.is_schema, (is_field_of c.args.schema.now c.requires.is_schema c.args.type_id _ f (sym c.in-Some.ensures.shape), (one, some))))
+
+pub counted-returns-in_err-read_content-clause-err : goal.counted-returns-in_err-read_content-clause-err
+counted-returns-in_err-read_content-clause-err t c =
+    let shape = shape_of c.args.schema.now in
+    let fs = fields shape c.args.type_id in
+    let up = rising c.args.schema.now c.requires.is_schema c.args.type_id in
+    let l = c.loop-place in
+    let f = field_shape c.in-Some.field.now in
+    let (y, is, from) = err_from_is_err_and c.from_residual-in_err-read_content.result c.from_residual-in_err-read_content.ensures.1 in
+    let one =
+    counting.one_good shape c.args.levels fs up c.args.streaks.now c.args.known.now c.requires.are_records c.requires.known l.place l.counted.items
+    l.invariant c.loop-place-test.true _ f (sym c.in-Some.ensures.shape) in
+    handed_on (StopsFor (RecordsGood shape c.args.levels fs (map seen_record c.args.known.now))) c.from_residual-in_err-read_content.result _ y is from
+    (stops_for _ _ one _ c.in_err-read_content.ensures.err)
+
+pub counted-returns-clause-ok : goal.counted-returns-clause-ok
+counted-returns-clause-ok t c =
+    let shape = shape_of c.args.schema.now in
+    let fs = fields shape c.args.type_id in
+    let up = rising c.args.schema.now c.requires.is_schema c.args.type_id in
+    let l = c.loop-place in
+    counted_so_far fs up c.args.streaks.now c.args.known.now c.requires.are_records c.requires.known l.place l.counted.items l.invariant.counted
+    c.loop-place-test.false c.requires.streaks
+
+pub counted-returns-clause-good : goal.counted-returns-clause-good
+counted-returns-clause-good t c =
+    let shape = shape_of c.args.schema.now in
+    let fs = fields shape c.args.type_id in
+    counting.all_counted_good shape c.args.levels fs (rising c.args.schema.now c.requires.is_schema c.args.type_id) c.args.streaks.now c.args.known.now
+    c.loop-place.place c.loop-place.counted.items c.loop-place-test.false c.loop-place.invariant
+
+pub read_child-loop-record-init : goal.read_child-loop-record-init
+read_child-loop-record-init t c = record {
+  spelled = tt;
+  gathered = c.new-gathered.ensures (shape_of c.args.schema.now) c.args.type_id;
+}
+
+pub read_child-loop-record-preserved : goal.read_child-loop-record-preserved
+read_child-loop-record-preserved t c =
+    let l = c.loop-record in
+    bodies.opened_step
+    (shape_of c.args.schema.now) c.args.type_id c.args.run.now l.record-index _ l.gathered c.add_all.new.self c.loop-record-test.true l.invariant
+    c.in_ok-add_all.ensures.ok
+
+pub read_child-returns-in_err-add_all-clause-err : goal.read_child-returns-in_err-add_all-clause-err
+read_child-returns-in_err-add_all-clause-err t c =
+    stopped _ _ c.from_residual.result _ c.from_residual.ensures.1
+    (bodies.good_spelled
+    (shape_of c.args.schema.now) c.args.type_id c.args.run.now c.loop-record.record-index c.args.levels _ c.loop-record-test.true) c.in_err-add_all.ensures.err
+
+pub read_child-read_gathered-requires : goal.read_child-read_gathered-requires
+read_child-read_gathered-requires t c = (omega arith, (c.requires.is_schema, (c.requires.type_id, (_, c.loop-record.invariant.gathered))))
+
+pub read_child-returns-in_err-child-clause-err : goal.read_child-returns-in_err-child-clause-err
+read_child-returns-in_err-child-clause-err t c =
+    let shape = shape_of c.args.schema.now in
+    let l = c.loop-record in
+    let all = bodies.opened_all shape c.args.type_id c.args.run.now l.record-index l.gathered c.loop-record-test.false l.invariant in
+    stopped _ _ c.from_residual-in_err-child.result _ c.from_residual-in_err-child.ensures.1
+    (bodies.good_opened shape c.args.type_id (map seen_record c.args.run.now) l.gathered all c.args.levels (c.args.levels - 1)
+    (omega (arith, c.if-levels-eq0.false)))
+    (c.in_err-child.ensures.err _ all.gathered)
+
+pub read_child-returns-clause-ok : goal.read_child-returns-clause-ok
+read_child-returns-clause-ok t c =
+    let shape = shape_of c.args.schema.now in
+    let l = c.loop-record in
+    let all = bodies.opened_all shape c.args.type_id c.args.run.now l.record-index l.gathered c.loop-record-test.false l.invariant in
+    bodies.opened_read shape c.args.type_id (map seen_record c.args.run.now) l.gathered all (message_of c.in_ok-new.field-0.value)
+    (c.in_ok-child.ensures.ok _ all.gathered ∙ ap (λ m. Some (message_of m)) (sym c.in_ok-new.ensures.ok))
+
+pub read_child-returns-clause-good : goal.read_child-returns-clause-good
+read_child-returns-clause-good t c =
+    let shape = shape_of c.args.schema.now in
+    let l = c.loop-record in
+    let all = bodies.opened_all shape c.args.type_id c.args.run.now l.record-index l.gathered c.loop-record-test.false l.invariant in
+    bodies.opened_good shape c.args.type_id (map seen_record c.args.run.now) l.gathered all c.args.levels (c.args.levels - 1)
+    (omega (arith, c.if-levels-eq0.false)) (c.in_ok-child.ensures.good _ all.gathered)
+
+pub read_children-loop-place-preserved : goal.read_children-loop-place-preserved
+read_children-loop-place-preserved t c =
+    let f = field_shape c.args.field.now in
+    let l = c.loop-place in
+    children.read_more (shape_of c.args.schema.now) c.args.levels f c.args.type_id c.requires.of_type
+    (lists_no_map f.presence c.requires.repeated) c.args.run.now l.place (l.place + 1 - l.place) c.loop-place-test.true (omega arith)
+    l.values.items c.push.new.self.items c.in_ok-child.child c.requires.run l.invariant c.in_ok-child.ensures.ok c.in_ok-child.ensures.fits
+    c.in_ok-child.ensures.good c.in_ok-push.ensures.items
+
+pub read_children-returns-in_err-child-clause-err : goal.read_children-returns-in_err-child-clause-err
+read_children-returns-in_err-child-clause-err t c =
+    let f = field_shape c.args.field.now in
+    let place = c.loop-place.place in
+    stopped _ _ c.from_residual-in_err-child.result _ c.from_residual-in_err-child.ensures.1
+    (children.one_of_good (shape_of c.args.schema.now) c.args.levels f c.args.type_id c.requires.of_type
+    (lists_no_map f.presence c.requires.repeated) c.args.run.now place (place + 1 - place) c.loop-place-test.true (omega arith))
+    c.in_err-child.ensures.err
+
+pub read_children-returns-clause-ok : goal.read_children-returns-clause-ok
+read_children-returns-clause-ok t c =
+    let shape = shape_of c.args.schema.now in
+    let f = field_shape c.args.field.now in
+    let l = c.loop-place in
+    children.children_held shape f c.args.type_id c.requires.of_type (lists_no_map f.presence c.requires.repeated)
+    (map seen_record c.args.run.now) l.values.items c.requires.repeated c.requires.run
+    (subst (λ rs. AreChildren shape c.args.type_id (map seen_record rs) l.values.items)
+    (take_all l.place c.args.run.now c.loop-place-test.false) l.invariant.read)
+
+pub read_children-returns-clause-fits : goal.read_children-returns-clause-fits
+read_children-returns-clause-fits t c =
+    let shape = shape_of c.args.schema.now in
+    let f = field_shape c.args.field.now in
+    let l = c.loop-place in
+    let read =
+    subst (λ rs. AreChildren shape c.args.type_id (map seen_record rs) l.values.items)
+    (take_all l.place c.args.run.now c.loop-place-test.false) l.invariant.read in (
+      children.list_fits shape f.presence f.element l.values c.requires.repeated
+          (subst (λ e. AllByRecursion (ItemFits shape e) l.values.items) (sym c.requires.of_type) l.invariant.fits),
+      children.children_filled shape c.args.type_id (map seen_record c.args.run.now) l.values.items (children.seen_some c.args.run.now c.requires.some) read,
+    )
+
+pub read_children-returns-clause-good : goal.read_children-returns-clause-good
+read_children-returns-clause-good t c =
+    let l = c.loop-place in
+    subst (λ rs. AreGood (shape_of c.args.schema.now) c.args.levels (field_shape c.args.field.now) (map seen_record rs))
+    (take_all l.place c.args.run.now c.loop-place-test.false) l.invariant.good
+
+pub read_content-returns-in_err-child-in_default-Message-clause-err : goal.read_content-returns-in_err-child-in_default-Message-clause-err
+read_content-returns-in_err-child-in_default-Message-clause-err t c =
+    let f = field_shape c.args.field.now in
+    stopped _ _ c.from_residual.result _ c.from_residual.ensures.1
+    (children.bodies_from_good (shape_of c.args.schema.now) f c.in_default-Message.type_id c.in_default-Message.is-1
+    (not_map f.presence c.in_default-Message.not-Map-0) c.args.levels (map seen_record c.args.run.now)
+    (children.seen_some c.args.run.now c.requires.some)) c.in_err-child-in_default-Message.ensures.err
+
+pub read_content-returns-in-Repeated-default : goal.read_content-returns-in-Repeated-default
+read_content-returns-in-Repeated-default t c =
+    let shape = shape_of c.args.schema.now in
+    let f = field_shape c.args.field.now in
+    record {
+      ok = IfOk-weaker c.read_list.result _ (HoldsOf shape f (map seen_record c.args.run.now)) (λ held h. h shape) c.read_list.ensures.ok;
+      fits = IfOk-weaker c.read_list.result _ (HeldFits shape f) (λ held h. h shape) c.read_list.ensures.fits;
+      good = c.read_list.ensures.good shape c.args.levels;
+      err = c.read_list.ensures.err shape c.args.levels;
+    }
+
+pub read_content-returns-in_ok-child-in_default-Message-clause-ok : goal.read_content-returns-in_ok-child-in_default-Message-clause-ok
+read_content-returns-in_ok-child-in_default-Message-clause-ok t c =
+    let f = field_shape c.args.field.now in
+    children.child_held (shape_of c.args.schema.now) f c.in_default-Message.type_id c.in_default-Message.is-1
+    (not_map f.presence c.in_default-Message.not-Map-0) (map seen_record c.args.run.now) c.in_ok-child-in_default-Message.child
+    (not_list f.presence c.in_default-Message.not-Repeated-0)
+    (children.seen_some c.args.run.now c.requires.some) c.requires.run c.in_ok-child-in_default-Message.ensures.ok
+
+pub read_content-returns-in_ok-child-in_default-Message-clause-good : goal.read_content-returns-in_ok-child-in_default-Message-clause-good
+read_content-returns-in_ok-child-in_default-Message-clause-good t c =
+    let f = field_shape c.args.field.now in
+    children.good_from_bodies (shape_of c.args.schema.now) f c.in_default-Message.type_id c.in_default-Message.is-1
+    (not_map f.presence c.in_default-Message.not-Map-0) c.args.levels (map seen_record c.args.run.now)
+    c.requires.run c.in_ok-child-in_default-Message.ensures.good
+
+pub read_content-returns-in_default : goal.read_content-returns-in_default
+read_content-returns-in_default t c =
+    let shape = shape_of c.args.schema.now in
+    let f = field_shape c.args.field.now in
+    record {
+      ok = IfOk-weaker c.read_last.result _ (HoldsOf shape f (map seen_record c.args.run.now)) (λ held h. h shape) c.read_last.ensures.ok;
+      fits = IfOk-weaker c.read_last.result _ (HeldFits shape f) (λ held h. h shape) c.read_last.ensures.fits;
+      good = c.read_last.ensures.good shape c.args.levels;
+      err = c.read_last.ensures.err shape c.args.levels;
+    }
+
+pub read_contents-read_content-requires : goal.read_contents-read_content-requires
+read_contents-read_content-requires t c =
+    let shape = shape_of c.args.schema.now in
+    let f = field_shape c.in-Some.field.now in
+    let of_run =
+    runs.are_of shape c.args.levels c.args.type_id c.args.sorted.now
+    (rising c.args.schema.now c.requires.is_schema c.args.type_id) c.requires.rise c.requires.count
+    c.loop-place.place c.loop-place-test.true c.run_end-end.result c.run_end-end.ensures.later c.run_end-end.ensures.inside c.run_end-end.ensures.run _ f
+    (sym c.in-Some.ensures.shape) in
+    let some =
+    runs.some_rows shape c.args.levels c.args.type_id c.args.sorted.now
+    (rising c.args.schema.now c.requires.is_schema c.args.type_id) c.requires.rise c.requires.count
+    c.loop-place.place c.loop-place-test.true c.run_end-end.result c.run_end-end.ensures.later c.run_end-end.ensures.inside c.run_end-end.ensures.run _ f
+    (sym c.in-Some.ensures.shape) in
+    (omega arith, (c.requires.is_schema, (is_field_of c.args.schema.now c.requires.is_schema c.args.type_id _ f (sym c.in-Some.ensures.shape), (of_run, some))))
+
+pub read_contents-returns-in_err-content-clause-err : goal.read_contents-returns-in_err-content-clause-err
+read_contents-returns-in_err-content-clause-err t c =
+    let shape = shape_of c.args.schema.now in
+    let f = field_shape c.in-Some.field.now in
+    let run =
+    runs.good_run shape c.args.levels c.args.type_id c.args.sorted.now
+    (rising c.args.schema.now c.requires.is_schema c.args.type_id) c.requires.rise c.requires.count
+    c.loop-place.place c.loop-place-test.true c.run_end-end.result c.run_end-end.ensures.later c.run_end-end.ensures.inside c.run_end-end.ensures.run _ f
+    (sym c.in-Some.ensures.shape) in
+    stopped _ _ c.from_residual.result _ c.from_residual.ensures.1 run c.in_err-content.ensures.err
+
+pub read_contents-returns-clause-ok : goal.read_contents-returns-clause-ok
+read_contents-returns-clause-ok t c =
+    runs.all_read (shape_of c.args.schema.now) c.args.levels c.args.type_id c.args.sorted.now
+    (rising c.args.schema.now c.requires.is_schema c.args.type_id) c.requires.count
+    c.loop-place.place c.loop-place.contents.items c.loop-place.invariant c.loop-place-test.false
+
+pub read_contents-returns-clause-fits : goal.read_contents-returns-clause-fits
+read_contents-returns-clause-fits t c =
+    runs.all_fit (shape_of c.args.schema.now) c.args.levels c.args.type_id c.args.sorted.now
+    (rising c.args.schema.now c.requires.is_schema c.args.type_id) c.requires.count
+    c.loop-place.place c.loop-place.contents.items c.loop-place.invariant c.loop-place-test.false c.requires.type_id
+
+pub read_contents-returns-clause-kept : goal.read_contents-returns-clause-kept
+read_contents-returns-clause-kept t c = let read = c.loop-place.invariant.read in (read.rises, read.filled, read.keys)
+
+pub read_contents-returns-clause-good : goal.read_contents-returns-clause-good
+read_contents-returns-clause-good t c =
+    runs.all_good (shape_of c.args.schema.now) c.args.levels c.args.type_id c.args.sorted.now
+    (rising c.args.schema.now c.requires.is_schema c.args.type_id) c.requires.count
+    c.loop-place.place c.loop-place.contents.items c.loop-place.invariant c.loop-place-test.false
+
+pub read_contents-loop-place-preserved-in_ok-push : goal.read_contents-loop-place-preserved-in_ok-push
+read_contents-loop-place-preserved-in_ok-push t c =
+    let shape = shape_of c.args.schema.now in
+    let f = field_shape c.in-Some.field.now in
+    let next =
+    runs.onward shape c.args.levels c.args.type_id c.args.sorted.now
+    (rising c.args.schema.now c.requires.is_schema c.args.type_id) c.requires.rise c.requires.count
+    c.loop-place.place c.loop-place-test.true c.run_end-end.result c.run_end-end.ensures.later c.run_end-end.ensures.inside c.run_end-end.ensures.run _ f
+    (sym c.in-Some.ensures.shape)
+    c.loop-place.contents.items c.loop-place.invariant c.run_end-end.ensures.beyond c.in_ok-content.field-0 c.in_ok-content.ensures.ok
+    c.in_ok-content.ensures.fits c.in_ok-content.ensures.good in
+    subst (ReadUpTo shape c.args.levels c.args.type_id c.args.sorted.now c.run_end-end.result) (sym c.in_ok-push.ensures.items)
+    (subst (λ held. ReadUpTo shape c.args.levels c.args.type_id c.args.sorted.now c.run_end-end.result
+    (c.loop-place.contents.items ++ with_held f.number held)) c.in-Some-2.is next)
+
+pub read_contents-loop-place-preserved-in_default-2 : goal.read_contents-loop-place-preserved-in_default-2
+read_contents-loop-place-preserved-in_default-2 t c =
+    let shape = shape_of c.args.schema.now in
+    let f = field_shape c.in-Some.field.now in
+    let next =
+    runs.onward shape c.args.levels c.args.type_id c.args.sorted.now
+    (rising c.args.schema.now c.requires.is_schema c.args.type_id) c.requires.rise c.requires.count
+    c.loop-place.place c.loop-place-test.true c.run_end-end.result c.run_end-end.ensures.later c.run_end-end.ensures.inside c.run_end-end.ensures.run _ f
+    (sym c.in-Some.ensures.shape)
+    c.loop-place.contents.items c.loop-place.invariant c.run_end-end.ensures.beyond c.in_ok-content.field-0 c.in_ok-content.ensures.ok
+    c.in_ok-content.ensures.fits c.in_ok-content.ensures.good in
+    subst (ReadUpTo shape c.args.levels c.args.type_id c.args.sorted.now c.run_end-end.result) (append-nil c.loop-place.contents.items)
+    (subst (λ held. ReadUpTo shape c.args.levels c.args.type_id c.args.sorted.now c.run_end-end.result
+    (c.loop-place.contents.items ++ with_held f.number held)) c.in_default-2.is next)
+
+pub read_contents-loop-place-preserved : goal.read_contents-loop-place-preserved
+read_contents-loop-place-preserved t c =
+    let there =
+    runs.field_there (shape_of c.args.schema.now) c.args.levels c.args.type_id c.args.sorted.now
+    (rising c.args.schema.now c.requires.is_schema c.args.type_id) c.requires.rise c.requires.count
+    c.loop-place.place c.loop-place-test.true _ in
+    absurd (none_some (c.in_default.ensures.shape ∙ there.1.found))
+
+pub read_entry-returns-in_err-parts-clause-err : goal.read_entry-returns-in_err-parts-clause-err
+read_entry-returns-in_err-parts-clause-err t c =
+    stopped _ _ c.from_residual.result _ c.from_residual.ensures.1
+    (entries.scalars_of_entry (shape_of c.args.schema.now) c.args.levels (field_shape c.args.field.now) c.args.key c.requires.of_map
+    (seen_record c.args.found.now)) c.in_err-parts.ensures.err
+
+pub read_entry-returns-in_err-value-in-Message-clause-err : goal.read_entry-returns-in_err-value-in-Message-clause-err
+read_entry-returns-in_err-value-in-Message-clause-err t c =
+    stopped _ _ c.from_residual-in_err-value-in-Message.result _ c.from_residual-in_err-value-in-Message.ensures.1
+    (entries.good_child (shape_of c.args.schema.now) c.args.levels (field_shape c.args.field.now) c.args.key c.requires.of_map
+    (seen_record c.args.found.now) c.in_ok-parts.parts c.in_ok-parts.ensures.ok
+    c.in-Message.type_id c.in-Message.is c.as_slice.result.now c.as_slice.ensures.value) c.in_err-value-in-Message.ensures.err
+
+pub read_entry-returns-clause-ok : goal.read_entry-returns-clause-ok
+read_entry-returns-clause-ok t c =
+    let shape = shape_of c.args.schema.now in
+    let f = field_shape c.args.field.now in
+    let r = seen_record c.args.found.now in
+    let k = c.or_zero-whole_key in
+    let whole_key = k.ensures.whole shape (elements.Scalar c.args.key) tt refl in
+    let key_fits = k.ensures.fits shape (elements.Scalar c.args.key) tt refl in
+    elim c.match-element.branch [
+      | read_entry-in-Message+in_ok-value-in-Message w ↦
+          let m = w.in-Message in
+          let read = w.in_ok-value-in-Message in
+          subst (λ v. IsEntryRead shape c.args.key f.element r (k.result, v)) (sym w.value-is)
+          (entries.child_entry shape c.args.levels f c.args.key c.requires.of_map r c.in_ok-parts.parts c.in_ok-parts.ensures.ok m.type_id m.is
+          w.as_slice.result.now w.as_slice.ensures.value k.result read.value (whole_key, key_fits)
+          read.ensures.ok read.ensures.fits)
+      | read_entry-in-Scalar w ↦
+          let scalar = is_no_message f.element w.in-Scalar.is in
+          let whole = w.or_zero-value.ensures in
+          subst (λ v. IsEntryRead shape c.args.key f.element r (k.result, v)) (sym w.value-is)
+          (entries.scalar_entry shape c.args.levels f c.args.key c.requires.of_map r c.in_ok-parts.parts c.in_ok-parts.ensures.ok scalar k.result
+          w.or_zero-value.result (whole_key, key_fits)
+          (whole.whole shape f.element scalar (sym w.scalar_of.ensures)) (whole.fits shape f.element scalar (sym w.scalar_of.ensures)))
+    ]
+
+pub read_entry-returns-clause-good : goal.read_entry-returns-clause-good
+read_entry-returns-clause-good t c =
+    let shape = shape_of c.args.schema.now in
+    let f = field_shape c.args.field.now in
+    let r = seen_record c.args.found.now in
+    elim c.match-element.branch [
+      | read_entry-in-Message+in_ok-value-in-Message w ↦
+          entries.child_good shape c.args.levels f c.args.key c.requires.of_map r c.in_ok-parts.parts c.in_ok-parts.ensures.ok w.in-Message.type_id
+          w.in-Message.is w.as_slice.result.now w.as_slice.ensures.value
+          w.in_ok-value-in-Message.ensures.good
+      | read_entry-in-Scalar w ↦ entries.scalar_good shape c.args.levels f c.args.key c.requires.of_map r c.in_ok-parts.parts c.in_ok-parts.ensures.ok
+          (is_no_message f.element w.in-Scalar.is)
+    ]
+
+pub read_gathered-counted-requires : goal.read_gathered-counted-requires
+read_gathered-counted-requires t c =
+    let (rs, are) = c.requires.gathered in
+    let asked =
+    gathered.known_asked (shape_of c.args.schema.now) c.args.levels c.args.type_id rs c.args.gathered are c.deref.result.now c.deref.ensures.value in
+    (omega arith, (c.requires.is_schema, asked))
+
+pub read_gathered-returns-in_err-left-clause-err : goal.read_gathered-returns-in_err-left-clause-err
+read_gathered-returns-in_err-left-clause-err t c =
+    let shape = shape_of c.args.schema.now in
+    let (y, is, from) = err_from_is_err_and c.from_residual.result c.from_residual.ensures.1 in
+    handed_on (λ e. (rs : List WireRecord) → AreGathered shape c.args.type_id rs c.args.gathered
+    → StopsFor (RecordsGood shape c.args.levels (fields shape c.args.type_id) rs) e) c.from_residual.result _ y is from
+    (λ rs are. stops_for _ _
+    (gathered.known_good shape c.args.levels c.args.type_id rs c.args.gathered are c.deref.result.now c.deref.ensures.value) _ c.in_err-left.ensures.err)
+
+pub read_gathered-read_contents-requires : goal.read_gathered-read_contents-requires
+read_gathered-read_contents-requires t c =
+    let shape = shape_of c.args.schema.now in
+    let (rs, are) = c.requires.gathered in
+    let left : IsLeft shape c.args.levels (fields shape c.args.type_id) rs c.if-streaks.left.items =
+    elim c.if-streaks.branch [
+      | read_gathered-then-streaks w ↦ rw w.left-is (gathered.all_left shape c.args.levels c.args.type_id rs c.args.gathered are w.if-streaks.true)
+      | read_gathered-else-streaks+in_ok-left w ↦
+          rw w.left-is
+          (gathered.some_left shape c.args.levels c.args.type_id rs c.args.gathered are w.deref.result.now w.in_ok-left.left.items
+          w.deref.ensures.value w.in_ok-left.ensures.ok w.in_ok-left.ensures.good)
+    ] in
+    let by = subst (AreByNumber c.if-streaks.left.items) (sym c.deref-2.ensures.value) c.in_ok-sorted.ensures in
+    let up = rising c.args.schema.now c.requires.is_schema c.args.type_id in
+    let count = gathered.all_count shape c.args.levels c.args.type_id rs c.args.gathered are up c.if-streaks.left.items c.deref-2.result.now left by in
+    (omega arith, (c.requires.is_schema, (c.requires.type_id, (by.rise, count))))
+
+pub read_gathered-returns-in_err-fields-clause-err : goal.read_gathered-returns-in_err-fields-clause-err
+read_gathered-returns-in_err-fields-clause-err t c =
+    let shape = shape_of c.args.schema.now in
+    let (y, is, from) = err_from_is_err_and c.from_residual-in_err-fields.result c.from_residual-in_err-fields.ensures.1 in
+    handed_on (λ e. (rs : List WireRecord) → AreGathered shape c.args.type_id rs c.args.gathered
+    → StopsFor (RecordsGood shape c.args.levels (fields shape c.args.type_id) rs) e) c.from_residual-in_err-fields.result _ y is from
+    (λ rs are.
+    let left : IsLeft shape c.args.levels (fields shape c.args.type_id) rs c.if-streaks.left.items =
+    elim c.if-streaks.branch [
+      | read_gathered-then-streaks w ↦ rw w.left-is (gathered.all_left shape c.args.levels c.args.type_id rs c.args.gathered are w.if-streaks.true)
+      | read_gathered-else-streaks+in_ok-left w ↦
+          rw w.left-is
+          (gathered.some_left shape c.args.levels c.args.type_id rs c.args.gathered are w.deref.result.now w.in_ok-left.left.items
+          w.deref.ensures.value w.in_ok-left.ensures.ok w.in_ok-left.ensures.good)
+    ] in
+    let by = subst (AreByNumber c.if-streaks.left.items) (sym c.deref-2.ensures.value) c.in_ok-sorted.ensures in
+    stops_for _ _ (gathered.good_before shape c.args.levels c.args.type_id rs c.args.gathered are
+    (rising c.args.schema.now c.requires.is_schema c.args.type_id) c.if-streaks.left.items c.deref-2.result.now left by) _ c.in_err-fields.ensures.err)
+
+pub read_gathered-invariant_of-result : goal.read_gathered-invariant_of-result
+read_gathered-invariant_of-result t c =
+    let shape = shape_of c.args.schema.now in
+    let (rs, are) = c.requires.gathered in
+    record {
+      rises = c.in_ok-fields.ensures.kept.0;
+      filled = c.in_ok-fields.ensures.kept.1;
+      keys = c.in_ok-fields.ensures.kept.2;
+      records = each_weaker (IsUnknown (fields shape c.args.type_id)) IsRecord (λ r k. k.is_record) (map record_seen c.args.gathered.unknown.items)
+          (gathered.unknown_are shape c.args.levels c.args.type_id rs c.args.gathered are);
+    }
+
+pub read_gathered-returns-clause-ok : goal.read_gathered-returns-clause-ok
+read_gathered-returns-clause-ok t c rs are =
+    let shape = shape_of c.args.schema.now in
+    let left : IsLeft shape c.args.levels (fields shape c.args.type_id) rs c.if-streaks.left.items =
+    elim c.if-streaks.branch [
+      | read_gathered-then-streaks w ↦ rw w.left-is (gathered.all_left shape c.args.levels c.args.type_id rs c.args.gathered are w.if-streaks.true)
+      | read_gathered-else-streaks+in_ok-left w ↦
+          rw w.left-is
+          (gathered.some_left shape c.args.levels c.args.type_id rs c.args.gathered are w.deref.result.now w.in_ok-left.left.items
+          w.deref.ensures.value w.in_ok-left.ensures.ok w.in_ok-left.ensures.good)
+    ] in
+    let by = subst (AreByNumber c.if-streaks.left.items) (sym c.deref-2.ensures.value) c.in_ok-sorted.ensures in
+    gathered.read_of_all shape c.args.levels c.args.type_id rs c.args.gathered are
+    (rising c.args.schema.now c.requires.is_schema c.args.type_id) c.if-streaks.left.items c.deref-2.result.now left by c.in_ok-fields.fields.items
+    c.in_ok-fields.ensures.good c.in_ok-fields.ensures.ok
+
+pub read_gathered-returns-clause-fits : goal.read_gathered-returns-clause-fits
+read_gathered-returns-clause-fits t c =
+    let shape = shape_of c.args.schema.now in
+    let (rs, are) = c.requires.gathered in
+    let kept = c.in_ok-fields.ensures.kept in (
+      gathered.fits_of_all shape c.args.levels c.args.type_id rs c.args.gathered are c.requires.is_schema.shape c.in_ok-fields.fields.items kept.0
+          kept.1 kept.2 c.in_ok-fields.ensures.fits,
+      (fields_keep c.in_ok-fields.fields.items (ends c.args.type_id (map record_seen c.args.gathered.unknown.items))).1,
+    )
+
+pub read_gathered-returns-clause-good : goal.read_gathered-returns-clause-good
+read_gathered-returns-clause-good t c rs are =
+    let shape = shape_of c.args.schema.now in
+    let left : IsLeft shape c.args.levels (fields shape c.args.type_id) rs c.if-streaks.left.items =
+    elim c.if-streaks.branch [
+      | read_gathered-then-streaks w ↦ rw w.left-is (gathered.all_left shape c.args.levels c.args.type_id rs c.args.gathered are w.if-streaks.true)
+      | read_gathered-else-streaks+in_ok-left w ↦
+          rw w.left-is
+          (gathered.some_left shape c.args.levels c.args.type_id rs c.args.gathered are w.deref.result.now w.in_ok-left.left.items
+          w.deref.ensures.value w.in_ok-left.ensures.ok w.in_ok-left.ensures.good)
+    ] in
+    let by = subst (AreByNumber c.if-streaks.left.items) (sym c.deref-2.ensures.value) c.in_ok-sorted.ensures in
+    gathered.good_after shape c.args.levels c.args.type_id rs c.args.gathered are
+    (rising c.args.schema.now c.requires.is_schema c.args.type_id) c.if-streaks.left.items c.deref-2.result.now left by c.in_ok-fields.ensures.good
+
+pub read_map-loop-record-preserved : goal.read_map-loop-record-preserved
+read_map-loop-record-preserved t c =
+    let l = c.loop-record in
+    entries.entries_more (shape_of c.args.schema.now) c.args.levels
+    (field_shape c.args.field.now) c.args.key c.args.run.now l.record-index c.loop-record-test.true _ l.entries.items c.push.new.self.items
+    c.in_ok-read_entry.field-0 l.invariant c.in_ok-read_entry.ensures.ok c.in_ok-read_entry.ensures.good c.in_ok-push.ensures.items
+
+pub read_map-returns-in_err-read_entry-clause-err : goal.read_map-returns-in_err-read_entry-clause-err
+read_map-returns-in_err-read_entry-clause-err t c =
+    stopped _ _ c.from_residual-in_err-read_entry.result _ c.from_residual-in_err-read_entry.ensures.1
+    (entries.entry_of_good (shape_of c.args.schema.now) c.args.levels
+    (field_shape c.args.field.now) c.args.key c.args.run.now c.loop-record.record-index c.loop-record-test.true _) c.in_err-read_entry.ensures.err
+
+pub read_map-last_of_keys-requires : goal.read_map-last_of_keys-requires
+read_map-last_of_keys-requires t c =
+    let f = field_shape c.args.field.now in
+    let l = c.loop-record in
+    maps.entries_alike (shape_of c.args.schema.now) c.args.key f.element (map seen_record (take l.record-index c.args.run.now)) l.entries.items
+    (entries.key_of_map f.presence c.args.key f.element f.oneof c.requires.of_map c.requires.is_field.presence_fits) l.invariant.read
+
+pub read_map-returns-clause-ok : goal.read_map-returns-clause-ok
+read_map-returns-clause-ok t c =
+    let shape = shape_of c.args.schema.now in
+    let f = field_shape c.args.field.now in
+    let l = c.loop-record in
+    let read =
+    subst (λ rs. AreEntriesRead shape c.args.key f.element (map seen_record rs) l.entries.items)
+    (take_all l.record-index c.args.run.now c.loop-record-test.false) l.invariant.read in
+    maps.map_holds shape f c.args.key (map seen_record c.args.run.now) l.entries.items
+    (contents.Map c.in_ok-last_of_keys.field-0) c.requires.of_map read c.in_ok-last_of_keys.ensures
+
+pub read_map-returns-clause-fits : goal.read_map-returns-clause-fits
+read_map-returns-clause-fits t c =
+    let shape = shape_of c.args.schema.now in
+    let f = field_shape c.args.field.now in
+    let l = c.loop-record in
+    let read =
+    subst (λ rs. AreEntriesRead shape c.args.key f.element (map seen_record rs) l.entries.items)
+    (take_all l.record-index c.args.run.now c.loop-record-test.false) l.invariant.read in
+    maps.map_fits shape f c.args.key (map seen_record c.args.run.now) l.entries.items (contents.Map c.in_ok-last_of_keys.field-0) c.requires.of_map
+    (entries.key_of_map f.presence c.args.key f.element f.oneof c.requires.of_map c.requires.is_field.presence_fits)
+    (children.seen_some c.args.run.now c.requires.some) read c.in_ok-last_of_keys.ensures
+
+pub read_map-returns-clause-good : goal.read_map-returns-clause-good
+read_map-returns-clause-good t c =
+    let l = c.loop-record in
+    subst (λ rs. AreGood (shape_of c.args.schema.now) c.args.levels (field_shape c.args.field.now) (map seen_record rs))
+    (take_all l.record-index c.args.run.now c.loop-record-test.false) l.invariant.good
+
+pub counted-loop-place-init : goal.counted-loop-place-init
+counted-loop-place-init t c =
+    let shape = shape_of c.args.schema.now in
+    let fs = fields shape c.args.type_id in
+    subst (λ (xs : List Record). CountedUpTo shape c.args.levels fs c.args.streaks.now c.args.known.now 0 xs) (sym c.new-counted.ensures.items)
+    (counting.none_counted shape c.args.levels fs (rising c.args.schema.now c.requires.is_schema c.args.type_id) c.args.streaks.now c.args.known.now)
+
+pub counted-loop-place-preserved : goal.counted-loop-place-preserved
+counted-loop-place-preserved t c =
+    let shape = shape_of c.args.schema.now in
+    let fs = fields shape c.args.type_id in
+    let up = rising c.args.schema.now c.requires.is_schema c.args.type_id in
+    let l = c.loop-place in
+    let keeps =
+    counting.one_kept shape c.args.levels fs up c.args.streaks.now c.args.known.now c.requires.are_records c.requires.known l.place l.counted.items
+    l.invariant c.loop-place-test.true in
+    let drops =
+    counting.one_read shape c.args.levels fs up c.args.streaks.now c.args.known.now c.requires.are_records c.requires.known l.place l.counted.items
+    l.invariant c.loop-place-test.true in
+    let some =
+    counting.some_field shape c.args.levels fs up c.args.streaks.now c.args.known.now c.requires.are_records c.requires.known l.place l.counted.items
+    l.invariant c.loop-place-test.true in
+    elim c.match-field.branch [
+      | counted-in-Some+then-counts+in_ok-push w ↦
+          let h = w.in_ok-push.ensures.items in
+          let i = w.counted-is in
+          rw w.counted-is (rw w.in_ok-push.ensures.items (keeps _ _ (sym w.in-Some.ensures.shape) (sym w.counts.ensures ∙ w.if-counts.true)))
+      | counted-in-Some+else-counts+in_ok-read_content+in-Some+in-One+in-Text-1 w ↦
+          rw w.counted-is (drops _ _ (sym w.in-Some.ensures.shape) (sym w.counts.ensures ∙ w.if-counts.false) w.in_ok-read_content.ensures.good)
+      | counted-in-Some+else-counts+in_ok-read_content+in-Some+in-One+in-Bytes-1 w ↦
+          rw w.counted-is (drops _ _ (sym w.in-Some.ensures.shape) (sym w.counts.ensures ∙ w.if-counts.false) w.in_ok-read_content.ensures.good)
+      | counted-in-Some+else-counts+in_ok-read_content+in-Some+in-One+in-Msg-1 w ↦
+          rw w.counted-is (drops _ _ (sym w.in-Some.ensures.shape) (sym w.counts.ensures ∙ w.if-counts.false) w.in_ok-read_content.ensures.good)
+      | counted-in-Some+else-counts+in_ok-read_content+in-Some+in-One+in-Int-1 w ↦
+          rw w.counted-is (drops _ _ (sym w.in-Some.ensures.shape) (sym w.counts.ensures ∙ w.if-counts.false) w.in_ok-read_content.ensures.good)
+      | counted-in-Some+else-counts+in_ok-read_content+in-Some+in-Many-1 w ↦
+          rw w.counted-is (drops _ _ (sym w.in-Some.ensures.shape) (sym w.counts.ensures ∙ w.if-counts.false) w.in_ok-read_content.ensures.good)
+      | counted-in-Some+else-counts+in_ok-read_content+in-Some+in-Map-1 w ↦
+          rw w.counted-is (drops _ _ (sym w.in-Some.ensures.shape) (sym w.counts.ensures ∙ w.if-counts.false) w.in_ok-read_content.ensures.good)
+      | counted-in-Some+else-counts+in_ok-read_content+in-None-1 w ↦
+          rw w.counted-is (drops _ _ (sym w.in-Some.ensures.shape) (sym w.counts.ensures ∙ w.if-counts.false) w.in_ok-read_content.ensures.good)
+      | counted-in_default w ↦ absurd (some _ (sym w.in_default.ensures.shape))
+    ]

@@ -1,0 +1,60 @@
+-- The bytes' records are gathered and read.
+use Rattle.std.proofs.Common.{◌≡◌, true, suc, [], Ok, Err, IfOk, IfErr, Result, is_some}
+use Rattle.std.proofs.lemmas.Result.{err_from_is_err_and}
+use Rattle.pg_schema.specs.Parts.{shape_of}
+use Rattle.pg_schema.specs.Shape.{fields}
+use Rattle.pg_dyn.specs.ByFields.{StopsFor}
+use Rattle.pg_dyn.specs.Decoding.{dec}
+use Rattle.pg_dyn.specs.Kept.{message_of}
+use Rattle.pg_dyn.specs.Steps.{IsShallowIn}
+use Rattle.pg_dyn.proofs.BodiesByFields.{bytes_good, bytes_read, records_good}
+use Rattle.pg_dyn.proofs.TypeFields.{on_ok_map}
+use Rattle.pg_dyn.proofs.Joining.{readable_from_dec}
+use Rattle.pg_dyn.proofs.StopSteps.{handed_on, stops_for}
+use Rattle.pg_dyn.proofs.reading.nested.read_message.Goals as goal
+
+if_ok : {T E : Type 0} (P Q : T → Type 0) (r : Result T E) → ((x : T) → P x → Q x) → IfOk r P → IfOk r Q
+if_ok P Q (Ok x) f h = f x h
+if_ok P Q (Err e) f h = tt
+
+if_err : {T E : Type 0} (P Q : E → Type 0) (r : Result T E) → ((e : E) → P e → Q e) → IfErr r P → IfErr r Q
+if_err P Q (Ok x) f h = tt
+if_err P Q (Err e) f h = f e h
+
+pub returns-in_err-add_all-clause-err : goal.returns-in_err-add_all-clause-err
+returns-in_err-add_all-clause-err c =
+    let shape = shape_of c.args.schema.now in
+    let (y, is, from) = err_from_is_err_and c.from_residual.result c.from_residual.ensures.1 in
+    handed_on (StopsFor ((is_some (dec shape c.args.type_id c.args.bytes.now) ≡ true)
+    × IsShallowIn shape (suc c.args.levels) (fields shape c.args.type_id) c.args.bytes.now)) c.from_residual.result _ y is from
+    (stops_for _ _
+    (λ h. let (rs, spelled, readable) = readable_from_dec shape c.args.type_id c.args.bytes.now h.0 in (rs, spelled)) _ c.in_err-add_all.ensures.err)
+
+pub read_gathered-requires-clause-gathered : goal.read_gathered-requires-clause-gathered
+read_gathered-requires-clause-gathered c =
+    let all = c.in_ok-add_all.ensures.ok in
+    (all.0, all.2 [] (c.new-gathered.ensures (shape_of c.args.schema.now) c.args.type_id))
+
+pub returns-clause-ok : goal.returns-clause-ok
+returns-clause-ok c =
+    let shape = shape_of c.args.schema.now in
+    let all = c.in_ok-add_all.ensures.ok in
+    let are = all.2 [] (c.new-gathered.ensures shape c.args.type_id) in
+    if_ok _ _ c.read_gathered.result (λ m read. bytes_read shape c.args.levels c.args.type_id c.args.bytes.now all.0 all.1 (message_of m)
+    (read all.0 are)) c.read_gathered.ensures.ok
+
+pub returns-clause-shallow : goal.returns-clause-shallow
+returns-clause-shallow c =
+    let shape = shape_of c.args.schema.now in
+    let all = c.in_ok-add_all.ensures.ok in
+    let are = all.2 [] (c.new-gathered.ensures shape c.args.type_id) in
+    on_ok_map c.read_gathered.result (λ good. (bytes_good shape c.args.levels c.args.type_id c.args.bytes.now all.0 all.1
+    (good all.0 are)).1) c.read_gathered.ensures.good
+
+pub returns-clause-err : goal.returns-clause-err
+returns-clause-err c =
+    let shape = shape_of c.args.schema.now in
+    let all = c.in_ok-add_all.ensures.ok in
+    let are = all.2 [] (c.new-gathered.ensures shape c.args.type_id) in
+    if_err _ _ c.read_gathered.result (λ e stop. stops_for _ _ (records_good shape c.args.levels c.args.type_id c.args.bytes.now all.0 all.1) e
+    (stop all.0 are)) c.read_gathered.ensures.err

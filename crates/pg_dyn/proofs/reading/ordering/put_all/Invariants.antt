@@ -1,0 +1,6 @@
+-- the entries so far are settled, and the rest is put in behind them
+use Rattle.pg_dyn.proofs.SettledEntries.{SettlesTo}
+use Rattle.pg_dyn.proofs.reading.ordering.put_all.Given as goal
+
+abbrev pub invariant-loop-key : goal.invariant-loop-key
+invariant-loop-key l = SettlesTo l.fn.entries.items l.settled.items l.key-iterator.rest.items

@@ -1,0 +1,9 @@
+-- The items of the records so far.
+use Rattle.std.proofs.Common.{map, take}
+use Rattle.pg_schema.specs.Parts.{field_shape}
+use Rattle.pg_wire.specs.Reads.{seen_record}
+use Rattle.pg_dyn.proofs.ScalarRuns.{ItemsSoFar}
+use Rattle.pg_dyn.proofs.reading.scalars.read_items.Given as goal
+
+abbrev pub invariant-loop-record : goal.invariant-loop-record
+invariant-loop-record l = ItemsSoFar (field_shape l.fn.field) (map seen_record (take l.record-index l.run)) l.values.items

@@ -1,0 +1,107 @@
+//! The records of a message, before it is known what they say together.
+
+ghost use Rattle.std.specs.Prelude.{◌≡◌, ◌++◌, ◌<◌, List, Ok, OnOk, IfOk, IfErr};
+ghost use Rattle.pg_schema.specs.Invariant.{IsSchema};
+ghost use Rattle.pg_schema.specs.Parts.{shape_of};
+ghost use Rattle.pg_wire.specs.Reads.{seen_record};
+ghost use Rattle.pg_wire.specs.Records.{IsRecord, WireRecord, records_of};
+ghost use Rattle.pg_dyn.specs.declared.reading.stop.Stop.TheVariants as stops;
+ghost use Rattle.pg_dyn.specs.ByFields.{StopsFor};
+ghost use Rattle.pg_dyn.specs.Gathering.{AreGathered};
+ghost use Rattle.pg_dyn.specs.Seen.{record_seen};
+
+use crate::accept::accepts;
+use crate::message::UnknownRecord;
+use crate::reading::stop::Stop;
+use crate::reading::streaks::Streaks;
+use pg_schema::{Schema, TypeId};
+use pg_wire::{Record, Records};
+use std::alloc::Global;
+
+/// The records of a message that is read.
+#[derive(Drop)]
+pub(crate) struct Gathered<'a> {
+    /// Those that fields of the type accept, in the order of the bytes.
+    pub(crate) known: Vec<Record<'a>>,
+    /// The others, in that order.
+    pub(crate) unknown: Vec<UnknownRecord>,
+    /// Which of the known ones count in the oneofs.
+    pub(crate) streaks: Streaks,
+}
+
+// A record that no field accepts, with all its bytes.
+fn kept(alloc: Global, found: &Record<'_>) -> Result<UnknownRecord, Stop>
+    requires { IsRecord (seen_record found.now) }
+    ensures ok { IfOk result (λ kept. record_seen kept ≡ seen_record found.now) }
+    ensures err { IfErr result (λ e. e ≡ stops.Memory) }
+{
+    Ok(UnknownRecord {
+        number: found.number,
+        wire_type: found.wire_type,
+        body_start: found.bytes.len() - found.body.len(),
+        bytes: Vec::from_slice(alloc, found.bytes)?,
+    })
+}
+
+impl<'a> Gathered<'a> {
+    ghost use Rattle.std.specs.Prelude.{[], ◌∷◌};
+    ghost use Rattle.pg_schema.specs.Shape.{Shape};
+    ghost use Rattle.pg_schema.specs.declared.field.TypeId.{TypeId as TheTypeId};
+
+    /// No records.
+    pub(crate) fn new(alloc: Global) -> Gathered<'a>
+        ensures { (shape : Shape) (type : TheTypeId) → AreGathered shape type [] result }
+    {
+        Gathered {
+            known: Vec::new(alloc),
+            unknown: Vec::new(alloc),
+            streaks: Streaks::new(alloc),
+        }
+    }
+
+    // Adds a record.
+    fn add(
+        &mut self,
+        alloc: Global,
+        schema: &Schema,
+        type_id: TypeId,
+        found: Record<'a>,
+    ) -> Result<(), Stop>
+        requires is_schema { IsSchema schema.now }
+        requires is_record { IsRecord (seen_record found) }
+        ensures ok { OnOk result ((rs : List WireRecord) → AreGathered (shape_of schema.now) type_id rs self.old
+            → AreGathered (shape_of schema.now) type_id (rs ++ seen_record found.entry ∷ []) self.new) }
+        ensures err { IfErr result (λ e. e ≡ stops.Memory) }
+    {
+        match schema.field(type_id, found.number) {
+            Some(field) if accepts(field, found.wire_type) => {
+                self.streaks.note(field, self.known.len())?;
+                self.known.push(found)?;
+            }
+            _ => self.unknown.push(kept(alloc, &found)?)?,
+        }
+        Ok(())
+    }
+
+    /// Adds the records of bytes.
+    pub(crate) fn add_all(
+        &mut self,
+        alloc: Global,
+        schema: &Schema,
+        type_id: TypeId,
+        bytes: &'a [u8],
+    ) -> Result<(), Stop>
+        requires is_schema { IsSchema schema.now }
+        ensures ok { OnOk result ((rs : List WireRecord) × (records_of bytes.now ≡ Ok rs)
+            × ((before : List WireRecord) → AreGathered (shape_of schema.now) type_id before self.old → AreGathered (shape_of schema.now) type_id (before ++ rs) self.new)) }
+        ensures err { IfErr result (StopsFor ((rs : List WireRecord) × (records_of bytes.now ≡ Ok rs))) }
+    {
+        for found in Records::new(bytes) {
+            match found {
+                Ok(record) => self.add(alloc, schema, type_id, record)?,
+                Err(_) => return Err(Stop::Fault),
+            }
+        }
+        Ok(())
+    }
+}

@@ -1,0 +1,87 @@
+//! Contents of fields whose items are no messages.
+
+ghost use Rattle.std.specs.Prelude.{◌≡◌, ◌≢◌, ℕ, [], map, true, false, IfOk, IfErr, OnOk};
+ghost use Rattle.pg_schema.specs.Parts.{field_shape};
+ghost use Rattle.pg_schema.specs.Shape.{Shape, is_map, is_repeated};
+ghost use Rattle.pg_wire.specs.Reads.{seen_record};
+ghost use Rattle.pg_dyn.specs.ByFields.{AreGood, AreOf, HoldsOf, StopsFor};
+ghost use Rattle.pg_dyn.specs.ItemRuns.{AllRead, AreItemsOf};
+ghost use Rattle.pg_dyn.specs.ReadingOn.{IsNoMessage};
+ghost use Rattle.pg_dyn.specs.Steps.{HeldFits};
+
+use crate::accept::is_own;
+use crate::message::{Content, Value};
+use crate::reading::elements::scalar_of;
+use crate::reading::items::{left, list_left};
+use crate::reading::rows::push_packed;
+use crate::reading::stop::Stop;
+use crate::scalar::item_in;
+use pg_schema::Field;
+use pg_wire::Record;
+use std::alloc::Global;
+
+/// What a singular field holds after records of one item each: the last.
+pub(crate) fn read_last(
+    alloc: Global,
+    field: &Field,
+    run: &[Record<'_>],
+) -> Result<Option<Content>, Stop>
+    requires run { AreOf (field_shape field.now) (map seen_record run.now) }
+    requires some { run.now ≢ [] }
+    requires singular { is_repeated field.now.presence ≡ false }
+    requires no_map { is_map field.now.presence ≡ false }
+    requires no_message { IsNoMessage field.now.element }
+    ensures ok { IfOk result (λ held. (shape : Shape) → HoldsOf shape (field_shape field.now) (map seen_record run.now) held) }
+    ensures fits { IfOk result (λ held. (shape : Shape) → HeldFits shape (field_shape field.now) held) }
+    ensures good { (shape : Shape) (levels : ℕ) → OnOk result (AreGood shape levels (field_shape field.now) (map seen_record run.now)) }
+    ensures err { (shape : Shape) (levels : ℕ) → IfErr result (StopsFor (AreGood shape levels (field_shape field.now) (map seen_record run.now))) }
+{
+    let scalar = scalar_of(field.element);
+    let mut held = None;
+    for record in run {
+        held = Some(item_in(alloc, scalar, record.body)?);
+    }
+    Ok(match held {
+        Some(value) => left(field.presence, value),
+        None => None,
+    })
+}
+
+// The items of the records, packed or not.
+fn read_items(alloc: Global, field: &Field, run: &[Record<'_>]) -> Result<Vec<Value>, Stop>
+    requires run { AreOf (field_shape field.now) (map seen_record run.now) }
+    requires repeated { is_repeated field.now.presence ≡ true }
+    requires no_message { IsNoMessage field.now.element }
+    ensures ok { IfOk result (λ values. AreItemsOf (field_shape field.now) (map seen_record run.now) values.items) }
+    ensures err { IfErr result (StopsFor (AllRead (field_shape field.now) (map seen_record run.now))) }
+{
+    let scalar = scalar_of(field.element);
+    let mut values = Vec::new(alloc);
+    for record in run {
+        if is_own(record.wire_type, field.element) {
+            values.push(item_in(alloc, scalar, record.body)?)?;
+        } else {
+            push_packed(scalar, &mut values, record.body)?;
+        }
+    }
+    Ok(values)
+}
+
+/// What a repeated field holds after records: the items of all, packed or not.
+#[inline(never)]
+pub(crate) fn read_list(
+    alloc: Global,
+    field: &Field,
+    run: &[Record<'_>],
+) -> Result<Option<Content>, Stop>
+    requires run { AreOf (field_shape field.now) (map seen_record run.now) }
+    requires some { run.now ≢ [] }
+    requires repeated { is_repeated field.now.presence ≡ true }
+    requires no_message { IsNoMessage field.now.element }
+    ensures ok { IfOk result (λ held. (shape : Shape) → HoldsOf shape (field_shape field.now) (map seen_record run.now) held) }
+    ensures fits { IfOk result (λ held. (shape : Shape) → HeldFits shape (field_shape field.now) held) }
+    ensures good { (shape : Shape) (levels : ℕ) → OnOk result (AreGood shape levels (field_shape field.now) (map seen_record run.now)) }
+    ensures err { (shape : Shape) (levels : ℕ) → IfErr result (StopsFor (AreGood shape levels (field_shape field.now) (map seen_record run.now))) }
+{
+    Ok(list_left(read_items(alloc, field, run)?))
+}
