@@ -1,8 +1,8 @@
 #!/usr/bin/env bash
 # Times decode of maps of 10,000, 30,000 and 100,000 entries: with rising keys, falling ones, keys all about, falling ones in two maps
-# by turns, and two keys by turns. A hundred thousand should take some ten times as long as ten thousand. Then of maps in a child that
-# each entry reads on, with falling keys, where each moves those above it, and with rising ones; and in a child that every 17 entries
-# read on, with falling keys, where so many put all in order anew.
+# by turns, and two keys by turns. A hundred thousand should take some ten times as long as ten thousand. Then of maps in a child of
+# which each entry stands in a record of its own, with falling keys and with rising ones, and of which every 17 entries do, with falling
+# keys: twice as many should take some twice as long.
 # usage: bench/maps.sh [FOLDER]    FOLDER keeps the built program for the next run.
 set -eu
 top=$(cd "$(dirname "$0")/.." && pwd)

@@ -1,9 +1,8 @@
 #!/usr/bin/env bash
 # Times decode of messages of 1,000 and of 10,000 fields behind which 100,000 records alternate between the members of a oneof: next to
-# each other, around all other fields, in a oneof for each two fields, and the first two again in a child that each record reads on.
-# The number of fields should make no difference but around all others in a child. Then of a child that each record reads on by a zero
-# or a number, which goes over the fields for each zero, of fields that come by falling number, of which each moves all before it, and
-# of a child that each field of the third kind reads on, where the first member of each oneof goes over the fields.
+# each other, around all other fields, in a oneof for each two fields, and the first two again in a child of whose records each stands in
+# one of its own. The number of fields should make little difference. Then of such a child in which a field is a zero or a number by
+# turns, of fields that come by falling number, and of the third kind's fields in such a child: these take time by the fields.
 # usage: bench/oneofs.sh [FOLDER]    FOLDER keeps the built program for the next run.
 set -eu
 top=$(cd "$(dirname "$0")/.." && pwd)

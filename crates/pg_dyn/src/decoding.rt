@@ -1,12 +1,10 @@
-ghost use Rattle.std.specs.Prelude.{◌≡◌, ◌<◌, ℕ, suc, length, true, is_some, Some, OnOk, IfOk, IfErr};
-ghost use Rattle.pg_schema.specs.Invariant.{IsSchema};
+ghost use Rattle.std.specs.Prelude.{◌≡◌, ◌<◌, ℕ, length, true, is_some, Some, OnOk, IfOk, IfErr};
 ghost use Rattle.pg_schema.specs.Parts.{shape_of};
 ghost use Rattle.pg_schema.specs.Shape.{fields};
 ghost use Rattle.pg_dyn.specs.Decoding.{dec};
 ghost use Rattle.pg_dyn.specs.Fits.{Fits};
 ghost use Rattle.pg_dyn.specs.Kept.{message_of, type_of};
 ghost use Rattle.pg_dyn.specs.Refusals.{MayRefuse};
-ghost use Rattle.pg_dyn.specs.Steps.{IsShallowIn, RefusedIn};
 ghost use Rattle.pg_dyn.specs.TooDeep.{TooDeepIn};
 ghost use Rattle.pg_dyn.specs.declared.error.DynError.TheVariants as errors;
 
@@ -14,24 +12,8 @@ use crate::error::DynError;
 use crate::faults::find_fault;
 use crate::message::Message;
 use crate::reading::read_message;
-use crate::reading::stop::Stop;
 use pg_schema::{Schema, TypeId};
 use std::alloc::Global;
-
-// Why bytes aren't read that have a fault, or a message below theirs by more levels than that.
-fn fault_in(schema: &Schema, type_id: TypeId, bytes: &[u8], levels: usize) -> DynError
-    requires is_schema { IsSchema schema.now }
-    requires not_good { is_some (dec (shape_of schema.now) type_id bytes.now) ≡ true
-        → IsShallowIn (shape_of schema.now) (suc levels) (fields (shape_of schema.now) type_id) bytes.now → ⊥ }
-    ensures fault { RefusedIn (shape_of schema.now) (suc levels) (fields (shape_of schema.now) type_id) bytes.now 0 result }
-    ensures not_memory { result ≡ errors.Memory → ⊥ }
-{
-    match find_fault(schema, type_id, bytes, 0, levels) {
-        Err(error) => error,
-        // They have one.
-        Ok(()) => DynError::Memory,
-    }
-}
 
 /// The message that bytes are read as, by the type, which the schema has (Protocol Buffers encoding guide,
 /// "Message Structure", "Last One Wins", "Packed Repeated Fields", "Maps"). Records that no field of the type accepts
@@ -39,7 +21,8 @@ fn fault_in(schema: &Schema, type_id: TypeId, bytes: &[u8], levels: usize) -> Dy
 /// inside one more than the message that holds it, and the entry of a map adds nothing.
 ///
 /// The errors are `Wire` and `NotUtf8`, with the place of the record that has the fault itself, of several the first
-/// in the bytes; `TooDeep`, with the place of the record whose message stands too deep; and `Memory`.
+/// in the bytes; `TooDeep`, with the place of the record whose message stands too deep; and, where the bytes have neither,
+/// `Memory`.
 pub fn decode(
     alloc: Global,
     schema: &Schema,
@@ -52,6 +35,8 @@ pub fn decode(
     ensures fits { IfOk result (λ m. Fits (shape_of schema.now) m × (type_of m ≡ type_id)) }
     ensures within { OnOk result ((place : ℕ) → TooDeepIn (shape_of schema.now) limit (fields (shape_of schema.now) type_id) bytes.now place → ⊥) }
     ensures refused { IfErr result (λ e. MayRefuse (shape_of schema.now) type_id limit bytes.now e) }
+    ensures lacking { IfErr result (λ e. e ≡ errors.Memory → (is_some (dec (shape_of schema.now) type_id bytes.now) ≡ true)
+        × ((place : ℕ) → TooDeepIn (shape_of schema.now) limit (fields (shape_of schema.now) type_id) bytes.now place → ⊥)) }
 {
     if limit == 0 {
         return Err(DynError::TooDeep { at: 0 });
@@ -60,7 +45,10 @@ pub fn decode(
     schema.parts();
     match read_message(alloc, schema, type_id, bytes, limit - 1) {
         Ok(message) => Ok(message),
-        Err(Stop::Memory) => Err(DynError::Memory),
-        Err(Stop::Fault) => Err(fault_in(schema, type_id, bytes, limit - 1)),
+        Err(_) => {
+            // The first fault in the bytes is told; where they have none, memory was refused.
+            find_fault(schema, type_id, bytes, 0, limit - 1)?;
+            Err(DynError::Memory)
+        }
     }
 }

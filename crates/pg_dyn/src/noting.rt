@@ -73,6 +73,10 @@ pub(crate) fn note(noted: &mut Vec<u32>, contents: usize, field: &Field) {
         return;
     }
     let place = oneof as usize;
+    // A message of a type with far more oneofs than contents notes none of the last: that would take more than it saves.
+    if place >= contents.saturating_mul(8) {
+        return;
+    }
     if place >= noted.len() && noted.resize(place + 1, 0).is_err() {
         return;
     }

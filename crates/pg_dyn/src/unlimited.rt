@@ -1,6 +1,6 @@
 //! Reading without a limit of depth.
 
-ghost use Rattle.std.specs.Prelude.{◌≡◌, ◌<◌, length, option_map, IfOk, IfSome};
+ghost use Rattle.std.specs.Prelude.{◌≡◌, ◌<◌, length, option_map, true, is_some, IfOk, IfSome, OnErr};
 ghost use Rattle.pg_schema.specs.Parts.{shape_of};
 ghost use Rattle.pg_dyn.specs.Decoding.{dec};
 ghost use Rattle.pg_dyn.specs.Fits.{Fits};
@@ -15,7 +15,7 @@ use std::alloc::{AllocError, Global};
 /// The message that bytes are read as, by the type, which the schema has, however deep its messages are nested;
 /// `None` where they have no reading.
 ///
-/// Refused only where memory is.
+/// Refused only where memory is, for bytes that have a reading.
 pub fn decode_unlimited(
     alloc: Global,
     schema: &Schema,
@@ -25,6 +25,7 @@ pub fn decode_unlimited(
     requires type_id { type_id.index < length (shape_of schema.now) }
     ensures message { IfOk result (λ found. option_map message_of found ≡ dec (shape_of schema.now) type_id bytes.now) }
     ensures fits { IfOk result (λ found. IfSome found (λ m. Fits (shape_of schema.now) m × (type_of m ≡ type_id))) }
+    ensures lacking { OnErr result (is_some (dec (shape_of schema.now) type_id bytes.now) ≡ true) }
 {
     // No message stands deeper than the bytes are many.
     match decode(alloc, schema, type_id, bytes, bytes.len() + 1) {
