@@ -392,6 +392,8 @@ ODD = [
     # texts with a zero, at the edges of UTF-8, and that are none
     "32 01 00", "32 03 ef bf bf", "32 04 f4 8f bf bf", "32 02 c0 80", "32 03 ed a0 80", "32 03 e0 80 80", "32 04 f4 90 80 80", "32 02 c3 28", "32 01 c3",
     "32 01 80", "22 05 12 03 ed a0 80", "32 01 c3 32 02 c3 a4", "32 01 ff 3d 00 00 00 00",
+    # a message in parts, of which one has a member of a oneof that a later part overrules, and a later one has nothing to keep
+    "0a 03 32 01 61 0a 05 3d 00 00 00 00 0a 02 10 00",
 ]
 
 # The same of `W`.
@@ -412,6 +414,13 @@ ODD_WIDE = [
     "5a 01 61 52 00", "52 02 60 05 50 05", "52 02 60 05 52 02 60 00",
     # lists of nothing, beside items
     "0a 00", "12 00", "1a 00", "22 00", "32 00", "0a 00 08 05 0a 00", "1a 00 19 05 00 00 00 00 00 00 00 1a 00",
+    # a message in a oneof that a later member overrules, and that can't be read
+    "52 01 0c 5a 01 61", "52 02 12 05 5a 01 61", "52 04 52 02 60 80 5a 01 61", "52 05 52 03 0a 01 80 5a 01 61", "52 07 3a 05 0a 01 ff 12 00 5a 01 61",
+    # a oneof whose members stand in several bodies of one entry's value
+    "3a 09 12 03 5a 01 61 12 02 52 00", "3a 0d 12 02 60 05 12 03 5a 01 61 12 02 60 00",
+    # a message in a oneof that starts again after another member, with what is in it alone, and lists of booleans between single ones
+    "52 02 60 05 5a 01 61 52 02 08 01 5a 01 62", "52 03 d8 01 05 5a 01 61 52 03 d8 01 06", "52 05 52 03 5a 01 61 52 04 52 02 52 00",
+    "12 01 01 10 00 12 02 01 00 10 01",
 ]
 
 

@@ -61,8 +61,9 @@ static FIELDS: [Shape; 6] = [
     (6, Presence::Explicit, TEXT, Some(0)),
 ];
 
-/// A fault before a message that is too deep, behind it, inside it and round it, and two such messages.
-static BESIDE: [Fault; 28] = [
+/// A fault before a message that is too deep, behind it, inside it and round it, two such messages, one inside a message
+/// that a later member overrules, and faults in both parts of a message.
+static BESIDE: [Fault; 30] = [
     (b"", 0, Told::TooDeep, 0),
     (b"\xff", 0, Told::TooDeep, 0),
     (b"\x12\x01\xff", 0, Told::TooDeep, 0),
@@ -91,6 +92,8 @@ static BESIDE: [Fault; 28] = [
     (b"\x2a\x00\x32\x01\x61", 1, Told::TooDeep, 0),
     (b"\x0a\x00\x0a\x00", 1, Told::TooDeep, 0),
     (b"\x0a\x04\x0a\x00\x0a\x00", 2, Told::TooDeep, 2),
+    (b"\x2a\x02\x0a\x00\x32\x00", 2, Told::TooDeep, 2),
+    (b"\x0a\x03\x12\x01\xff\x0a\x01\x0c", 100, Told::NoText, 2),
 ];
 
 /// The same with the messages of entries. Whether an entry lacks its value is known at its end alone.

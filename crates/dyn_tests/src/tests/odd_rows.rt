@@ -190,7 +190,7 @@ pub(super) static ROWS_5: [(&[u8], Option<&[u8]>); 20] = [
     (b"\x32\x03\xef\xbf\xbf", Some(b"\x32\x03\xef\xbf\xbf")),
 ];
 
-pub(super) static ROWS_6: [(&[u8], Option<&[u8]>); 11] = [
+pub(super) static ROWS_6: [(&[u8], Option<&[u8]>); 12] = [
     (
         b"\x32\x04\xf4\x8f\xbf\xbf",
         Some(b"\x32\x04\xf4\x8f\xbf\xbf"),
@@ -205,4 +205,8 @@ pub(super) static ROWS_6: [(&[u8], Option<&[u8]>); 11] = [
     (b"\x22\x05\x12\x03\xed\xa0\x80", None),
     (b"\x32\x01\xc3\x32\x02\xc3\xa4", None),
     (b"\x32\x01\xff\x3d\x00\x00\x00\x00", None),
+    (
+        b"\x0a\x03\x32\x01\x61\x0a\x05\x3d\x00\x00\x00\x00\x0a\x02\x10\x00",
+        Some(b"\x0a\x05\x3d\x00\x00\x00\x00"),
+    ),
 ];

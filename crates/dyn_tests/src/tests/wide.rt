@@ -3,6 +3,7 @@
 //! float f4 = 4 [packed = false]; E f5 = 5; repeated E f6 = 6; map<string, M> f7 = 7; map<bool, bytes> f8 = 8; map<uint64,
 //! double> f9 = 9; oneof k { M f10 = 10; bytes f11 = 11; } uint64 f12 = 12; optional sint64 f13 = 13; sfixed64 f14 = 14; }`.
 use super::apart_rows::ROWS;
+use super::depths::{Fault, Told, are_told};
 use super::nested::again;
 use super::runtime::{agree, is_of_bytes, type_of_rows};
 use super::schemas::{
@@ -82,6 +83,39 @@ fn odd_wide_rows_of_another_runtime(rt: HostRuntime) -> Result<(), Fail> {
     agree(&rt, &schema, &odd_wide_rows::ROWS_2);
     agree(&rt, &schema, &odd_wide_rows::ROWS_3);
     agree(&rt, &schema, &odd_wide_rows::ROWS_4);
+    agree(&rt, &schema, &odd_wide_rows::ROWS_5);
+    Ok(())
+}
+
+/// Faults in a message in a oneof that a later member overrules. The other runtime refuses them too.
+static OVERRULED: [Fault; 5] = [
+    (b"\x52\x01\x0c\x5a\x01\x61", 100, Told::Group, 2),
+    (b"\x52\x02\x12\x05\x5a\x01\x61", 100, Told::CutOff, 2),
+    (
+        b"\x52\x04\x52\x02\x60\x80\x5a\x01\x61",
+        100,
+        Told::CutOff,
+        4,
+    ),
+    (
+        b"\x52\x05\x52\x03\x0a\x01\x80\x5a\x01\x61",
+        100,
+        Told::CutOff,
+        4,
+    ),
+    (
+        b"\x52\x07\x3a\x05\x0a\x01\xff\x12\x00\x5a\x01\x61",
+        100,
+        Told::NoText,
+        4,
+    ),
+];
+
+// What a later member overrules has to be readable.
+#[test]
+fn faults_in_overruled_messages(rt: HostRuntime) -> Result<(), Fail> {
+    let schema = schema(rt.alloc())?;
+    are_told(&rt, &schema, &OVERRULED);
     Ok(())
 }
 
