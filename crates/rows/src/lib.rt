@@ -1,9 +1,15 @@
 //! What the programs that answer rows share: how a row is cut into its parts, and how it spells bytes.
 #![tactic(auto)]
 
+mod files;
+mod repeats;
 mod spelled;
+mod texts;
 
+pub use files::{File, borrowed, files_of};
+pub use repeats::unrolled;
 pub use spelled::bytes_of;
+pub use texts::text_of;
 
 /// The part of a row in front of the first ` | `, and what stands behind it: nothing where there is none.
 pub fn cut(row: &str) -> (&str, &str) {

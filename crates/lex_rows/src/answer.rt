@@ -1,0 +1,64 @@
+//! What is printed of one text.
+use pg_lex::{Kind, LexError, Token, lex, place};
+use rows::text_of;
+use std::alloc::{AllocError, Global};
+
+// The code, and the byte at which the fault stands.
+fn fault(error: LexError) -> (u32, usize) {
+    match error {
+        LexError::Memory => (1, 0),
+        LexError::NotUtf8 { at } => (101, at),
+        LexError::BadCharacter { at } => (102, at),
+        LexError::OpenString { at } => (103, at),
+        LexError::BadEscape { at } => (104, at),
+        LexError::OpenComment { at } => (105, at),
+        LexError::NumberTooLarge { at } => (106, at),
+        LexError::FloatLiteral { at } => (107, at),
+        LexError::FileTooLong { at } => (108, at),
+    }
+}
+
+fn refusal(alloc: Global, text: &[u8], error: LexError) -> Result<String, AllocError> {
+    let (code, at) = fault(error);
+    let (line, column) = place(text, at);
+    format!(in alloc; "E{code} {line}:{column}")
+}
+
+fn value(alloc: Global, kind: &Kind) -> Result<String, AllocError> {
+    match kind {
+        Kind::Word(word) => format!(in alloc; "{word}"),
+        Kind::Whole(number) => format!(in alloc; "{number}"),
+        Kind::Text(text) => format!(in alloc; "{text:?}"),
+        Kind::Mark(mark) => format!(in alloc; "{}", char::from(*mark)),
+    }
+}
+
+// A token's value and its place, as `a@0-1`.
+fn token(alloc: Global, token: &Token) -> Result<String, AllocError> {
+    let value = value(alloc, &token.kind)?;
+    format!(in alloc; "{value}@{}-{}", token.span.from, token.span.to)
+}
+
+fn tokens(alloc: Global, tokens: &[Token]) -> Result<String, AllocError> {
+    let mut out = String::new(alloc);
+    for one in tokens {
+        if !out.is_empty() {
+            out.push_str(" ")?;
+        }
+        out.push_str(&token(alloc, one)?)?;
+    }
+    Ok(out)
+}
+
+fn answer_of(alloc: Global, text: &[u8]) -> Result<String, AllocError> {
+    match lex(alloc, text) {
+        Ok(found) if found.is_empty() => String::from_str(alloc, "no tokens"),
+        Ok(found) => tokens(alloc, &found),
+        Err(error) => refusal(alloc, text, error),
+    }
+}
+
+/// The tokens of the text with their places, or the code and the place of what it is refused with.
+pub fn answer(alloc: Global, spelled: &str) -> Result<String, AllocError> {
+    answer_of(alloc, &text_of(alloc, spelled)?)
+}

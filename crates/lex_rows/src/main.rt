@@ -1,0 +1,18 @@
+//! Prints for each row `WHAT | TEXT` of standard input the tokens of the text with their places, or the code and the place of what it is
+//! refused with. `~` at the text's head stands for a first line `syntax = "proto3";`.
+#![tactic(auto)]
+
+mod answer;
+
+use rows::{cut, unrolled};
+use std::io;
+
+fn main(rt: HostRuntime) -> io::Result<()> {
+    for row in rt.lines(rt.alloc()) {
+        let row = unrolled(rt.alloc(), row?.as_str())?;
+        let (what, text) = cut(&row);
+        let answer = answer::answer(rt.alloc(), text)?;
+        println!(rt; "{what} | {answer}")?;
+    }
+    Ok(())
+}

@@ -1,0 +1,86 @@
+//! Linked files and refusals as rows show them.
+use pg_link::{LinkError, Linked, Place, Target};
+use std::alloc::{AllocError, Global};
+
+fn at(alloc: Global, code: u32, place: &Place) -> Result<String, AllocError> {
+    let file = place.file.as_bytes().escape_ascii();
+    format!(in alloc; "E{code} {file}:{}:{}", place.line, place.column)
+}
+
+/// The code and the place of a refusal; of a text that is no file in its own right the code is E100 or E200.
+pub fn refusal(alloc: Global, error: &LinkError) -> Result<String, AllocError> {
+    match error {
+        LinkError::MissingFile(place) => at(alloc, 301, place),
+        LinkError::ImportCycle(place) => at(alloc, 302, place),
+        LinkError::DuplicateImport(place) => at(alloc, 303, place),
+        LinkError::DuplicateName(place) => at(alloc, 304, place),
+        LinkError::UnknownName(place) => at(alloc, 305, place),
+        LinkError::NotAType(place) => at(alloc, 306, place),
+        LinkError::NotImported(place) => at(alloc, 307, place),
+        LinkError::TooManyFiles(place) => at(alloc, 308, place),
+        LinkError::SourceFailed(place) => at(alloc, 309, place),
+        LinkError::Lex(_, place) => at(alloc, 100, place),
+        LinkError::Syntax(_, place) => at(alloc, 200, place),
+        LinkError::Memory => String::from_str(alloc, "E001"),
+    }
+}
+
+// A message type or an enum, by a letter and its number.
+fn target(alloc: Global, target: &Target) -> Result<String, AllocError> {
+    match target {
+        Target::Message(number) => format!(in alloc; " m{number}"),
+        Target::Enum(number) => format!(in alloc; " e{number}"),
+    }
+}
+
+// Puts a file's path and what its uses of types resolve to behind the others.
+fn put_file(
+    alloc: Global,
+    out: &mut String,
+    linked: &Linked,
+    file: usize,
+) -> Result<(), AllocError> {
+    if let Some((path, _)) = linked.files().get_index(file) {
+        let path = path.as_bytes().escape_ascii();
+        out.push_str(&format!(in alloc; "{path}")?)?;
+        for one in linked.targets(file) {
+            out.push_str(&target(alloc, one)?)?;
+        }
+    }
+    Ok(())
+}
+
+// The files in their order; of more than nine files how many they are.
+fn files(alloc: Global, linked: &Linked) -> Result<String, AllocError> {
+    let count = linked.files().len();
+    if count > 9 {
+        return format!(in alloc; "{count} files");
+    }
+    let mut out = String::new(alloc);
+    for file in 0..count {
+        if file > 0 {
+            out.push_str(" ; ")?;
+        }
+        put_file(alloc, &mut out, linked, file)?;
+    }
+    Ok(out)
+}
+
+// Where a name is declared.
+fn name(alloc: Global, linked: &Linked, name: &str) -> Result<String, AllocError> {
+    match linked.place(name) {
+        Some((file, line, column)) => format!(in alloc; " | {name} {file}:{line}:{column}"),
+        None => format!(in alloc; " | {name} nowhere"),
+    }
+}
+
+/// The files in their order, each with what its uses of types resolve to, and the places of these names.
+pub fn linked_files(alloc: Global, linked: &Linked, names: &str) -> Result<String, AllocError> {
+    let mut out = files(alloc, linked)?;
+    for one in names.split(' ') {
+        if !one.is_empty() {
+            out.push_str(&name(alloc, linked, one)?)?;
+        }
+    }
+    Ok(out)
+}

@@ -1,0 +1,48 @@
+//! Rows that say a text many times.
+use std::alloc::{AllocError, Global};
+
+// The number that is spelled, 0 for any other text.
+fn number_of(text: &str) -> u32 {
+    text.parse::<u32>().unwrap_or(0)
+}
+
+// Puts the text once behind the others, each `#` in it being the number.
+fn put(alloc: Global, out: &mut String, text: &str, number: u32) -> Result<(), AllocError> {
+    for (place, part) in text.split('#').enumerate() {
+        if place > 0 {
+            out.push_str(&format!(in alloc; "{number}")?)?;
+        }
+        out.push_str(part)?;
+    }
+    Ok(())
+}
+
+// Puts what `FROM TO TEXT` spells behind the others.
+fn put_repeat(alloc: Global, out: &mut String, spelled: &str) -> Result<(), AllocError> {
+    let (from, rest) = spelled.split_once(' ').unwrap_or((spelled, ""));
+    let (to, text) = rest.split_once(' ').unwrap_or((rest, ""));
+    for number in number_of(from)..number_of(to) {
+        put(alloc, out, text, number)?;
+    }
+    Ok(())
+}
+
+// Puts a repeat, which ends with `>>`, and what stands behind it.
+fn put_piece(alloc: Global, out: &mut String, piece: &str) -> Result<(), AllocError> {
+    let (repeat, behind) = piece.split_once(">>").unwrap_or((piece, ""));
+    put_repeat(alloc, out, repeat)?;
+    out.push_str(behind)
+}
+
+/// The row with each `<<FROM TO TEXT>>` in it replaced by the text once for each number from `FROM` up to `TO`, without `TO`, each `#`
+/// in the text being the number.
+pub fn unrolled(alloc: Global, row: &str) -> Result<String, AllocError> {
+    let (front, rest) = row.split_once("<<").unwrap_or((row, ""));
+    let mut out = String::from_str(alloc, front)?;
+    if !rest.is_empty() {
+        for piece in rest.split("<<") {
+            put_piece(alloc, &mut out, piece)?;
+        }
+    }
+    Ok(out)
+}

@@ -1,0 +1,14 @@
+//! Texts of files as rows spell them.
+use crate::spelled::bytes_of;
+use std::alloc::{AllocError, Global};
+
+/// The bytes of a file that the text spells: a `~` at its head stands for the line `syntax = "proto3";`.
+pub fn text_of(alloc: Global, spelled: &str) -> Result<Vec<u8>, AllocError> {
+    match spelled.strip_prefix('~') {
+        Some(behind) => bytes_of(
+            alloc,
+            &format!(in alloc; "syntax = \"proto3\";\\n{behind}")?,
+        ),
+        None => bytes_of(alloc, spelled),
+    }
+}

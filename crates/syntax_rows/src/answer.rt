@@ -1,0 +1,40 @@
+//! What is printed of one text.
+use crate::shown::first_statement;
+use pg_lex::{Token, lex, place};
+use pg_syntax::{SyntaxError, parse};
+use std::alloc::{AllocError, Global};
+
+// The code, and the byte at which the fault stands.
+fn fault(error: SyntaxError) -> (u32, usize) {
+    match error {
+        SyntaxError::Memory => (1, 0),
+        SyntaxError::NotProto3 { at } => (201, at),
+        SyntaxError::Unexpected { at } => (202, at),
+        SyntaxError::Group { at } => (203, at),
+        SyntaxError::Extension { at } => (204, at),
+        SyntaxError::CustomOption { at } => (205, at),
+        SyntaxError::WeakImport { at } => (206, at),
+        SyntaxError::NestedTooDeep { at } => (207, at),
+    }
+}
+
+fn refusal(alloc: Global, text: &[u8], error: SyntaxError) -> Result<String, AllocError> {
+    let (code, at) = fault(error);
+    let (line, column) = place(text, at);
+    format!(in alloc; "E{code} {line}:{column}")
+}
+
+fn of_tokens(alloc: Global, text: &[u8], tokens: &[Token]) -> Result<String, AllocError> {
+    match parse(alloc, tokens, text.len()) {
+        Ok(file) => first_statement(alloc, &file),
+        Err(error) => refusal(alloc, text, error),
+    }
+}
+
+/// What a text with these tokens is refused with, or what is shown of it.
+pub fn answer(alloc: Global, text: &[u8]) -> Result<String, AllocError> {
+    match lex(alloc, text) {
+        Ok(tokens) => of_tokens(alloc, text, &tokens),
+        Err(_) => String::from_str(alloc, "no tokens"),
+    }
+}

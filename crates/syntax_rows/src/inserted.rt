@@ -1,0 +1,57 @@
+//! The rows of one text, and those that put a word in front of each of its tokens.
+use crate::answer::answer as answer_of;
+use pg_lex::{Token, lex};
+use rows::{cut, text_of};
+use std::alloc::{AllocError, Global};
+
+// The text with the word and a blank put in at a byte.
+fn with_word(alloc: Global, text: &[u8], at: usize, word: &str) -> Result<Vec<u8>, AllocError> {
+    let (front, back) = text.split_at_checked(at).unwrap_or((text, b""));
+    let mut out = Vec::from_slice(alloc, front)?;
+    out.extend_from_slice(word.as_bytes())?;
+    out.push(b' ')?;
+    out.extend_from_slice(back)?;
+    Ok(out)
+}
+
+// Puts the answer for that text behind the others.
+fn put(
+    alloc: Global,
+    out: &mut String,
+    text: &[u8],
+    at: usize,
+    word: &str,
+) -> Result<(), AllocError> {
+    let answer = answer_of(alloc, &with_word(alloc, text, at, word)?)?;
+    if !out.is_empty() {
+        out.push_str(", ")?;
+    }
+    out.push_str(&answer)
+}
+
+fn at_each(alloc: Global, text: &[u8], tokens: &[Token], word: &str) -> Result<String, AllocError> {
+    let mut out = String::new(alloc);
+    for token in tokens {
+        put(alloc, &mut out, text, token.span.from, word)?;
+    }
+    put(alloc, &mut out, text, text.len(), word)?;
+    Ok(out)
+}
+
+fn answers(alloc: Global, text: &[u8], word: &str) -> Result<String, AllocError> {
+    match lex(alloc, text) {
+        Ok(tokens) => at_each(alloc, text, &tokens, word),
+        Err(_) => String::from_str(alloc, "no tokens"),
+    }
+}
+
+/// The answer for a text, or where a word stands behind it those for the text with the word put in.
+pub fn answer(alloc: Global, input: &str) -> Result<String, AllocError> {
+    let (spelled, word) = cut(input);
+    let text = text_of(alloc, spelled)?;
+    if word.is_empty() {
+        answer_of(alloc, &text)
+    } else {
+        answers(alloc, &text, word)
+    }
+}
