@@ -1,76 +1,59 @@
-//! What is printed of a row `FILES [| from ROOT ROOT ..] [| below FOLDER] [| fails READ] [| names NAME NAME ..]`. With no roots the first
-//! file is the root, and with no folder it is `.`. With `fails` the source fails at its read of that number, counted from 1. With `names`
-//! the place of each full name is printed too.
+//! What is printed of a row.
 use crate::failing_source::FailingSource;
+use crate::options::{Options, options_of};
 use crate::shown::{linked_files, refusal};
-use pg_link::{LinkError, Linked, Listed, link};
+use pg_link::{LinkError, Linked, Listed, link, read_file};
 use rows::{borrowed, cut, files_of};
 use std::alloc::{AllocError, Global};
 
-#[derive(Clone, Copy)]
-struct Options<'a> {
-    roots: &'a str,
-    folder: &'a str,
-    fails_at: u64,
-    names: &'a str,
-}
+type Source<'a> = FailingSource<Listed<'a>>;
 
-// The options with one more.
-fn with_option<'a>(options: Options<'a>, spelled: &'a str) -> Options<'a> {
-    let (word, value) = spelled.split_once(' ').unwrap_or((spelled, ""));
-    match word {
-        "from" => Options {
-            roots: value,
-            ..options
-        },
-        "below" => Options {
-            folder: value,
-            ..options
-        },
-        "fails" => Options {
-            fails_at: value.parse::<u64>().unwrap_or(0),
-            ..options
-        },
-        _ => Options {
-            names: value,
-            ..options
-        },
-    }
-}
-
-fn options_of<'a>(first_path: &'a str, spelled: &'a str) -> Options<'a> {
-    let mut options = Options {
-        roots: first_path,
-        folder: ".",
-        fails_at: 0,
-        names: "",
-    };
-    if !spelled.is_empty() {
-        for option in spelled.split(" | ") {
-            options = with_option(options, option);
-        }
-    }
-    options
-}
-
-fn linked(
-    alloc: Global,
-    files: &[(&str, &[u8])],
-    options: Options,
-) -> Result<Result<Linked, LinkError>, AllocError> {
+fn linked(alloc: Global, source: &mut Source, options: Options) -> Result<Linked, LinkError> {
     let roots: Vec<&str> = options.roots.split(' ').collect(alloc)?;
-    let mut source = FailingSource::new(Listed { files }, options.fails_at);
-    Ok(link(alloc, &mut source, options.folder, &roots))
+    link(alloc, source, options.folder, &roots)
 }
 
-fn answer_of(
+fn of_links(alloc: Global, source: &mut Source, options: Options) -> Result<String, AllocError> {
+    match linked(alloc, source, options) {
+        Ok(linked) => linked_files(alloc, &linked, options.names),
+        Err(error) => refusal(alloc, &error),
+    }
+}
+
+// What a read of the file gives.
+fn of_read(
+    alloc: Global,
+    source: &mut Source,
+    folder: &str,
+    path: &str,
+) -> Result<String, AllocError> {
+    match read_file(alloc, source, folder, path) {
+        Ok(bytes) => format!(in alloc; "{}", bytes.escape_ascii()),
+        Err(error) => refusal(alloc, &error),
+    }
+}
+
+fn of_reads(alloc: Global, source: &mut Source, options: Options) -> Result<String, AllocError> {
+    let mut out = String::new(alloc);
+    for path in options.reads.split(' ') {
+        if !out.is_empty() {
+            out.push_str(", ")?;
+        }
+        out.push_str(&of_read(alloc, source, options.folder, path)?)?;
+    }
+    Ok(out)
+}
+
+fn of_files(
     alloc: Global,
     files: &[(&str, &[u8])],
     options: Options,
 ) -> Result<String, AllocError> {
-    match linked(alloc, files, options)? {
-        Ok(linked) => linked_files(alloc, &linked, options.names),
-        Err(error) => refusal(alloc, &error),
+    let mut source = FailingSource::new(Listed { files }, options.fails_at);
+    if options.reads.is_empty() {
+        of_links(alloc, &mut source, options)
+    } else {
+        of_reads(alloc, &mut source, options)
     }
 }
 
@@ -80,5 +63,5 @@ pub fn answer(alloc: Global, input: &str) -> Result<String, AllocError> {
     let files = files_of(alloc, files)?;
     let files = borrowed(alloc, &files)?;
     let first_path = files.first().map_or("", |file| file.0);
-    answer_of(alloc, &files, options_of(first_path, options))
+    of_files(alloc, &files, options_of(first_path, options))
 }

@@ -1,9 +1,10 @@
 //! Prints for each row `WHAT | FILES` of standard input the linked files, each with what its uses of types resolve to, or the code and the
-//! place of what they are refused with. `answer` says what else may stand in a row.
+//! place of what they are refused with. `options` says what else may stand in a row.
 #![tactic(auto)]
 
 mod answer;
 mod failing_source;
+mod options;
 mod shown;
 
 use rows::{cut, unrolled};

@@ -1,11 +1,3 @@
-mod declares_tests;
-mod declaring_tests;
-mod failing_source;
-mod folder_tests;
-mod link_tests;
-mod linking;
+mod folder;
+mod linked;
 mod memory;
-mod reading_tests;
-mod scope_tests;
-mod shown;
-mod walk_tests;

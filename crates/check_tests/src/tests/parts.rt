@@ -1,17 +1,46 @@
-//! Parts that come from no text.
-use super::{is_told, line};
+//! Parts that come from no text. `tools/try_memory.sh` refuses each growth in turn.
 use pg_check::{CheckError, admit};
+use pg_link::Place;
 use pg_schema::{
     Element, EnumId, EnumOptions, EnumType, EnumValue, EnumValueOptions, Field, FieldOptions, File,
     FileOption, MessageOptions, MessageType, OptionValue, Parts, Presence, ReservedFields, Scalar,
-    Schema, TypeId,
+    TypeId,
 };
 use std::alloc::{AllocError, Global};
 use std::process::Abort;
 use std::test::*;
 
+/// A message `M` of two fields alone in its file, with the numbers 7 to 9 and the name `z` reserved. The second field is `b = 2` of
+/// implicit presence, in no oneof, with no options.
+#[derive(Clone, Copy)]
+struct Sketch {
+    number: u32,
+    name: &'static str,
+    /// Of the first field, which is `a = 1`.
+    presence: Presence,
+    oneof: Option<u32>,
+    packed: Option<bool>,
+    /// Whether the message has a oneof.
+    has_oneof: bool,
+    /// The values of an enum beside the message.
+    values: Option<&'static [i32]>,
+    /// An option of the file.
+    option: Option<u32>,
+}
+
+const PLAIN: Sketch = Sketch {
+    number: 2,
+    name: "b",
+    presence: Presence::Implicit,
+    oneof: None,
+    packed: None,
+    has_oneof: false,
+    values: None,
+    option: None,
+};
+
 /// An `int32` field.
-pub(super) fn field(alloc: Global, number: u32, name: &str) -> Result<Field, AllocError> {
+fn field(alloc: Global, number: u32, name: &str) -> Result<Field, AllocError> {
     Ok(Field {
         number,
         name: String::from_str(alloc, name)?,
@@ -27,214 +56,299 @@ pub(super) fn field(alloc: Global, number: u32, name: &str) -> Result<Field, All
     })
 }
 
-/// A message `M` of these fields, alone in its file.
-pub(super) fn parts_of(alloc: Global, first: Field, second: Field) -> Result<Parts, AllocError> {
-    let declared = vec![in alloc; first.number, second.number]?;
-    let message_type = MessageType {
+fn fields(alloc: Global, sketch: &Sketch) -> Result<Vec<Field>, AllocError> {
+    let mut first = field(alloc, 1, "a")?;
+    first.presence = sketch.presence;
+    first.oneof = sketch.oneof;
+    first.options.packed = sketch.packed;
+    let second = field(alloc, sketch.number, sketch.name)?;
+    vec![in alloc; first, second]
+}
+
+/// The text alone where it is wanted.
+fn texts(alloc: Global, text: &str, is_wanted: bool) -> Result<Vec<String>, AllocError> {
+    let mut out = Vec::new(alloc);
+    if is_wanted {
+        out.push(String::from_str(alloc, text)?)?;
+    }
+    Ok(out)
+}
+
+fn message(alloc: Global, sketch: &Sketch) -> Result<MessageType, AllocError> {
+    Ok(MessageType {
         name: String::from_str(alloc, "M")?,
-        fields: vec![in alloc; first, second]?,
-        declared,
-        oneofs: Vec::new(alloc),
+        fields: fields(alloc, sketch)?,
+        declared: vec![in alloc; 1, sketch.number]?,
+        oneofs: texts(alloc, "k", sketch.has_oneof)?,
         nested_types: Vec::new(alloc),
         nested_enums: Vec::new(alloc),
         reserved_numbers: vec![in alloc; ReservedFields { first: 7, last: 9 }]?,
-        reserved_names: vec![in alloc; String::from_str(alloc, "z")?]?,
+        reserved_names: texts(alloc, "z", true)?,
         options: MessageOptions { deprecated: None },
-    };
-    let file = File {
+    })
+}
+
+fn values(alloc: Global, numbers: &[i32]) -> Result<Vec<EnumValue>, AllocError> {
+    let mut out = Vec::new(alloc);
+    for (place, number) in numbers.iter().enumerate() {
+        out.push(EnumValue {
+            name: format!(in alloc; "V{place}")?,
+            number: *number,
+            options: EnumValueOptions { deprecated: None },
+        })?;
+    }
+    Ok(out)
+}
+
+fn enums(alloc: Global, sketch: &Sketch) -> Result<Vec<EnumType>, AllocError> {
+    let mut out = Vec::new(alloc);
+    if let Some(numbers) = sketch.values {
+        out.push(EnumType {
+            name: String::from_str(alloc, "E")?,
+            values: values(alloc, numbers)?,
+            reserved_numbers: Vec::new(alloc),
+            reserved_names: Vec::new(alloc),
+            options: EnumOptions {
+                allow_alias: None,
+                deprecated: None,
+            },
+        })?;
+    }
+    Ok(out)
+}
+
+fn options(alloc: Global, sketch: &Sketch) -> Result<Vec<FileOption>, AllocError> {
+    let value = OptionValue::Flag(true);
+    let mut out = Vec::new(alloc);
+    if let Some(number) = sketch.option {
+        out.push(FileOption { number, value })?;
+    }
+    Ok(out)
+}
+
+/// The enum of the file, where it has one.
+fn enum_ids(alloc: Global, sketch: &Sketch) -> Result<Vec<EnumId>, AllocError> {
+    let mut out = Vec::new(alloc);
+    if sketch.values.is_some() {
+        out.push(EnumId { index: 0 })?;
+    }
+    Ok(out)
+}
+
+fn file(alloc: Global, sketch: &Sketch) -> Result<File, AllocError> {
+    Ok(File {
         name: String::from_str(alloc, "m.proto")?,
         package: String::new(alloc),
         imports: Vec::new(alloc),
         types: vec![in alloc; TypeId { index: 0 }]?,
-        enums: Vec::new(alloc),
+        enums: enum_ids(alloc, sketch)?,
         services: Vec::new(alloc),
-        options: Vec::new(alloc),
-    };
+        options: options(alloc, sketch)?,
+    })
+}
+
+fn parts(alloc: Global, sketch: &Sketch) -> Result<Parts, AllocError> {
     Ok(Parts {
-        files: vec![in alloc; file]?,
-        types: vec![in alloc; message_type]?,
-        enums: Vec::new(alloc),
+        files: vec![in alloc; file(alloc, sketch)?]?,
+        types: vec![in alloc; message(alloc, sketch)?]?,
+        enums: enums(alloc, sketch)?,
         services: Vec::new(alloc),
     })
 }
 
-/// The schema of the parts.
-pub(super) fn admitted(alloc: Global, parts: Parts) -> Result<Schema, CheckError> {
-    admit(alloc, parts)
-}
-
-/// What the parts are refused with, or `taken`.
-fn told(alloc: Global, parts: Parts) -> Result<String, AllocError> {
-    match admitted(alloc, parts) {
-        Ok(_) => String::from_str(alloc, "taken"),
-        Err(error) => line(alloc, &error),
+/// The code, where it stands at no place.
+fn at(code: usize, place: &Place) -> usize {
+    if place.file.is_empty() && (place.line, place.column) == (0, 0) {
+        code
+    } else {
+        0
     }
 }
 
-/// The parts are refused with that, or `taken`.
-fn tells<R: Abort + AllocGlobal>(rt: &R, parts: Parts, wanted: &str) -> Result<(), AllocError> {
-    is_told(rt, &told(rt.alloc(), parts)?, wanted);
-    Ok(())
-}
-
-/// The same of a message of a field `a = 1` and this one.
-fn tells_of<R: Abort + AllocGlobal>(
-    rt: &R,
-    number: u32,
-    name: &str,
-    wanted: &str,
-) -> Result<(), AllocError> {
-    let alloc = rt.alloc();
-    let parts = parts_of(alloc, field(alloc, 1, "a")?, field(alloc, number, name)?)?;
-    tells(rt, parts, wanted)
-}
-
-#[test]
-fn numbers_and_names(rt: HostRuntime) -> Result<(), Fail> {
-    for (number, name, wanted) in [
-        (2, "b", "taken"),
-        (0, "b", "E401 :0:0"),
-        (536_870_912, "b", "E401 :0:0"),
-        (19_000, "b", "E401 :0:0"),
-        (1, "b", "E402 :0:0"),
-        (9, "b", "E403 :0:0"),
-        (2, "z", "E404 :0:0"),
-        (2, "a", "E406 :0:0"),
-        (2, "1", "E415 :0:0"),
-    ] {
-        tells_of(&rt, number, name, wanted)?;
+/// The code of a refusal at no place.
+fn code(error: &CheckError) -> usize {
+    match error {
+        CheckError::BadNumber(place) => at(401, place),
+        CheckError::DuplicateNumber(place) => at(402, place),
+        CheckError::ReservedNumber(place) => at(403, place),
+        CheckError::ReservedName(place) => at(404, place),
+        CheckError::RangeOverlap(place) => at(405, place),
+        CheckError::JsonNameClash(place) => at(406, place),
+        CheckError::BadMapKey(place) => at(407, place),
+        CheckError::BadOneofMember(place) => at(408, place),
+        CheckError::EnumFirstNotZero(place) => at(409, place),
+        CheckError::EnumAlias(place) => at(410, place),
+        CheckError::BadOption(place) => at(411, place),
+        CheckError::PackedNotAllowed(place) => at(412, place),
+        CheckError::TooManyTypes(place) => at(413, place),
+        CheckError::EnumEmpty(place) => at(414, place),
+        CheckError::BadParts(place) => at(415, place),
+        CheckError::Memory => 1,
     }
-    Ok(())
 }
 
-/// A message whose first field is of that shape.
-fn shaped(
-    alloc: Global,
-    presence: Presence,
-    oneof: Option<u32>,
-    packed: Option<bool>,
-) -> Result<Parts, AllocError> {
-    let mut first = field(alloc, 1, "a")?;
-    first.presence = presence;
-    first.oneof = oneof;
-    first.options.packed = packed;
-    parts_of(alloc, first, field(alloc, 2, "b")?)
-}
-
-#[test]
-fn shapes_of_fields(rt: HostRuntime) -> Result<(), Fail> {
-    let key = Scalar::Float;
-    for (presence, oneof, packed, wanted) in [
-        (Presence::Implicit, None, Some(true), "E412 :0:0"),
-        (Presence::Implicit, None, Some(false), "taken"),
-        (Presence::Map { key }, None, None, "E407 :0:0"),
-        (
-            Presence::Repeated { packed: true },
-            Some(0),
-            None,
-            "E408 :0:0",
-        ),
-        (Presence::Repeated { packed: true }, None, None, "taken"),
-        (
-            Presence::Repeated { packed: false },
-            None,
-            None,
-            "E415 :0:0",
-        ),
-        (Presence::Explicit, None, None, "E415 :0:0"),
-    ] {
-        let parts = shaped(rt.alloc(), presence, oneof, packed)?;
-        tells(&rt, parts, wanted)?;
+/// How many message types the schema of the parts has, 1, or the code that they are refused with.
+fn answer(alloc: Global, parts: Parts) -> Result<usize, CheckError> {
+    match admit(alloc, parts) {
+        Ok(schema) => Ok(schema.parts().types.len()),
+        Err(CheckError::Memory) => Err(CheckError::Memory),
+        Err(error) => Ok(code(&error)),
     }
-    Ok(())
 }
 
-/// An enum's value.
-fn value(alloc: Global, number: i32, name: &str) -> Result<EnumValue, AllocError> {
-    Ok(EnumValue {
-        name: String::from_str(alloc, name)?,
-        number,
-        options: EnumValueOptions { deprecated: None },
-    })
-}
+const KEY: Scalar = Scalar::Float;
 
-/// The parts with an enum of these values beside the message.
-fn with_enum(alloc: Global, values: Vec<EnumValue>) -> Result<Parts, AllocError> {
-    let mut parts = parts_of(alloc, field(alloc, 1, "a")?, field(alloc, 2, "b")?)?;
-    parts.enums.push(EnumType {
-        name: String::from_str(alloc, "E")?,
-        values,
-        reserved_numbers: Vec::new(alloc),
-        reserved_names: Vec::new(alloc),
-        options: EnumOptions {
-            allow_alias: None,
-            deprecated: None,
+static SKETCHES: [(Sketch, usize); 26] = [
+    (PLAIN, 1),
+    (Sketch { number: 0, ..PLAIN }, 401),
+    (
+        Sketch {
+            number: 536_870_912,
+            ..PLAIN
         },
-    })?;
-    for file in &mut parts.files {
-        file.enums.push(EnumId { index: 0 })?;
-    }
-    Ok(parts)
-}
-
-/// The same of an enum of two values.
-fn of_values(alloc: Global, first: i32, second: i32) -> Result<Parts, AllocError> {
-    let values = vec![in alloc; value(alloc, first, "A")?, value(alloc, second, "B")?]?;
-    with_enum(alloc, values)
-}
+        401,
+    ),
+    (
+        Sketch {
+            number: 19_000,
+            ..PLAIN
+        },
+        401,
+    ),
+    (Sketch { number: 1, ..PLAIN }, 402),
+    (Sketch { number: 9, ..PLAIN }, 403),
+    (Sketch { name: "z", ..PLAIN }, 404),
+    (Sketch { name: "a", ..PLAIN }, 406),
+    (Sketch { name: "1", ..PLAIN }, 415),
+    (
+        Sketch {
+            packed: Some(true),
+            ..PLAIN
+        },
+        412,
+    ),
+    (
+        Sketch {
+            packed: Some(false),
+            ..PLAIN
+        },
+        1,
+    ),
+    (
+        Sketch {
+            presence: Presence::Map { key: KEY },
+            ..PLAIN
+        },
+        407,
+    ),
+    (
+        Sketch {
+            presence: Presence::Repeated { packed: true },
+            oneof: Some(0),
+            ..PLAIN
+        },
+        408,
+    ),
+    (
+        Sketch {
+            presence: Presence::Repeated { packed: true },
+            ..PLAIN
+        },
+        1,
+    ),
+    (
+        Sketch {
+            presence: Presence::Repeated { packed: false },
+            ..PLAIN
+        },
+        415,
+    ),
+    (
+        Sketch {
+            presence: Presence::Explicit,
+            ..PLAIN
+        },
+        415,
+    ),
+    (
+        Sketch {
+            values: Some(&[]),
+            ..PLAIN
+        },
+        414,
+    ),
+    (
+        Sketch {
+            values: Some(&[0, -1]),
+            ..PLAIN
+        },
+        1,
+    ),
+    (
+        Sketch {
+            values: Some(&[1, 0]),
+            ..PLAIN
+        },
+        409,
+    ),
+    (
+        Sketch {
+            values: Some(&[0, 0]),
+            ..PLAIN
+        },
+        410,
+    ),
+    (
+        Sketch {
+            values: Some(&[-2_147_483_648, 0]),
+            ..PLAIN
+        },
+        409,
+    ),
+    (
+        Sketch {
+            option: Some(10),
+            ..PLAIN
+        },
+        1,
+    ),
+    (
+        Sketch {
+            option: Some(11),
+            ..PLAIN
+        },
+        411,
+    ),
+    (
+        Sketch {
+            option: Some(12),
+            ..PLAIN
+        },
+        411,
+    ),
+    (
+        Sketch {
+            presence: Presence::Explicit,
+            oneof: Some(0),
+            has_oneof: true,
+            ..PLAIN
+        },
+        1,
+    ),
+    (
+        Sketch {
+            has_oneof: true,
+            ..PLAIN
+        },
+        408,
+    ),
+];
 
 #[test]
-fn enums_of_parts(rt: HostRuntime) -> Result<(), Fail> {
-    let alloc = rt.alloc();
-    tells(&rt, with_enum(alloc, Vec::new(alloc))?, "E414 :0:0")?;
-    for (first, second, wanted) in [
-        (0, -1, "taken"),
-        (1, 0, "E409 :0:0"),
-        (0, 0, "E410 :0:0"),
-        (-2_147_483_648, 0, "E409 :0:0"),
-    ] {
-        tells(&rt, of_values(alloc, first, second)?, wanted)?;
+fn parts_are_admitted_or_refused_or_memory_is_refused(rt: HostRuntime) -> Result<(), Fail> {
+    for (sketch, want) in &SKETCHES {
+        let found = answer(rt.alloc(), parts(rt.alloc(), sketch)?)?;
+        assert_eq!(rt; found, *want);
     }
     Ok(())
-}
-
-/// A file with an option of that number.
-fn with_option(alloc: Global, number: u32) -> Result<Parts, AllocError> {
-    let mut parts = parts_of(alloc, field(alloc, 1, "a")?, field(alloc, 2, "b")?)?;
-    for file in &mut parts.files {
-        file.options.push(FileOption {
-            number,
-            value: OptionValue::Flag(true),
-        })?;
-    }
-    Ok(parts)
-}
-
-#[test]
-fn options_of_parts(rt: HostRuntime) -> Result<(), Fail> {
-    for (number, wanted) in [(10, "taken"), (11, "E411 :0:0"), (12, "E411 :0:0")] {
-        tells(&rt, with_option(rt.alloc(), number)?, wanted)?;
-    }
-    Ok(())
-}
-
-/// A message with a oneof, and a first field of that shape.
-fn with_oneof(alloc: Global, presence: Presence, oneof: Option<u32>) -> Result<Parts, AllocError> {
-    let mut parts = shaped(alloc, presence, oneof, None)?;
-    for one in &mut parts.types {
-        one.oneofs.push(String::from_str(alloc, "k")?)?;
-    }
-    Ok(parts)
-}
-
-#[test]
-fn oneofs_of_parts(rt: HostRuntime) -> Result<(), Fail> {
-    let alloc = rt.alloc();
-    tells(
-        &rt,
-        with_oneof(alloc, Presence::Explicit, Some(0))?,
-        "taken",
-    )?;
-    let none = with_oneof(alloc, Presence::Implicit, None)?;
-    Ok(tells(&rt, none, "E408 :0:0")?)
 }

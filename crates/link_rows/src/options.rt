@@ -1,0 +1,46 @@
+//! What may stand behind the files of a row, each with ` | ` in front.
+
+#[derive(Clone, Copy)]
+pub struct Options<'a> {
+    /// `from ROOT ROOT ..`: the roots, else the first file.
+    pub roots: &'a str,
+    /// `below FOLDER`: the folder, else `.`.
+    pub folder: &'a str,
+    /// `fails READ`: the source fails at its read of that number, counted from 1.
+    pub fails_at: u64,
+    /// `names NAME NAME ..`: the full names whose places are printed too.
+    pub names: &'a str,
+    /// `read PATH PATH ..`: the files that are read in turn and printed, where none is linked.
+    pub reads: &'a str,
+}
+
+// The options with one more.
+fn with_option<'a>(options: Options<'a>, spelled: &'a str) -> Options<'a> {
+    let (word, value) = spelled.split_once(' ').unwrap_or((spelled, ""));
+    let mut options = options;
+    match word {
+        "from" => options.roots = value,
+        "below" => options.folder = value,
+        "fails" => options.fails_at = value.parse::<u64>().unwrap_or(0),
+        "names" => options.names = value,
+        _ => options.reads = value,
+    }
+    options
+}
+
+/// The options that are spelled, of files of which this is the first.
+pub fn options_of<'a>(first_path: &'a str, spelled: &'a str) -> Options<'a> {
+    let mut options = Options {
+        roots: first_path,
+        folder: ".",
+        fails_at: 0,
+        names: "",
+        reads: "",
+    };
+    if !spelled.is_empty() {
+        for option in spelled.split(" | ") {
+            options = with_option(options, option);
+        }
+    }
+    options
+}
