@@ -3,7 +3,7 @@ use crate::failing_source::FailingSource;
 use crate::options::{Options, options_of};
 use crate::shown::{linked_files, refusal};
 use pg_link::{LinkError, Linked, Listed, link, read_file};
-use rows::{borrowed, cut, files_of};
+use rows::{borrowed, cut, files_of, spelling};
 use std::alloc::{AllocError, Global};
 
 type Source<'a> = FailingSource<Listed<'a>>;
@@ -28,7 +28,7 @@ fn of_read(
     path: &str,
 ) -> Result<String, AllocError> {
     match read_file(alloc, source, folder, path) {
-        Ok(bytes) => format!(in alloc; "{}", bytes.escape_ascii()),
+        Ok(bytes) => spelling(alloc, &bytes),
         Err(error) => refusal(alloc, &error),
     }
 }

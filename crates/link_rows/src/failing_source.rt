@@ -8,14 +8,14 @@ use std::alloc::Global;
 #[derive(Drop)]
 pub struct FailingSource<S> {
     source: S,
-    reads: u64,
-    fails_at: u64,
+    reads: u32,
+    fails_at: u32,
     failures: Tally,
     asked: PathRecord,
 }
 
 impl<S> FailingSource<S> {
-    pub fn new(source: S, fails_at: u64) -> FailingSource<S> {
+    pub fn new(source: S, fails_at: u32) -> FailingSource<S> {
         FailingSource {
             source,
             reads: 0,

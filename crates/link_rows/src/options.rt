@@ -1,4 +1,5 @@
 //! What may stand behind the files of a row, each with ` | ` in front.
+use rows::number_of;
 
 #[derive(Clone, Copy)]
 pub struct Options<'a> {
@@ -7,7 +8,7 @@ pub struct Options<'a> {
     /// `below FOLDER`: the folder, else `.`.
     pub folder: &'a str,
     /// `fails READ`: the source fails at its read of that number, counted from 1.
-    pub fails_at: u64,
+    pub fails_at: u32,
     /// `names NAME NAME ..`: the full names whose places are printed too.
     pub names: &'a str,
     /// `read PATH PATH ..`: the files that are read in turn and printed, where none is linked.
@@ -21,7 +22,7 @@ fn with_option<'a>(options: Options<'a>, spelled: &'a str) -> Options<'a> {
     match word {
         "from" => options.roots = value,
         "below" => options.folder = value,
-        "fails" => options.fails_at = value.parse::<u64>().unwrap_or(0),
+        "fails" => options.fails_at = number_of(value),
         "names" => options.names = value,
         _ => options.reads = value,
     }

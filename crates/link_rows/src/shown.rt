@@ -1,9 +1,10 @@
 //! Linked files and refusals as rows show them.
 use pg_link::{LinkError, Linked, Place, Target};
+use rows::spelling;
 use std::alloc::{AllocError, Global};
 
 fn at(alloc: Global, code: u32, place: &Place) -> Result<String, AllocError> {
-    let file = place.file.as_bytes().escape_ascii();
+    let file = spelling(alloc, place.file.as_bytes())?;
     format!(in alloc; "E{code} {file}:{}:{}", place.line, place.column)
 }
 
@@ -41,8 +42,7 @@ fn put_file(
     file: usize,
 ) -> Result<(), AllocError> {
     if let Some((path, _)) = linked.files().get_index(file) {
-        let path = path.as_bytes().escape_ascii();
-        out.push_str(&format!(in alloc; "{path}")?)?;
+        out.push_str(&spelling(alloc, path.as_bytes())?)?;
         for one in linked.targets(file) {
             out.push_str(&target(alloc, one)?)?;
         }

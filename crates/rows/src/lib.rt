@@ -7,9 +7,9 @@ mod spelled;
 mod texts;
 
 pub use files::{File, borrowed, files_of};
-pub use repeats::unrolled;
-pub use spelled::bytes_of;
-pub use texts::text_of;
+pub use repeats::{number_of, unrolled};
+pub use spelled::{bytes_of, spelling};
+pub use texts::{text_of, with_word};
 
 /// The part of a row in front of the first ` | `, and what stands behind it: nothing where there is none.
 pub fn cut(row: &str) -> (&str, &str) {

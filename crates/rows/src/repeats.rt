@@ -1,8 +1,8 @@
 //! Rows that say a text many times.
 use std::alloc::{AllocError, Global};
 
-// The number that is spelled, 0 for any other text.
-fn number_of(text: &str) -> u32 {
+/// The number that is spelled, 0 for any other text.
+pub fn number_of(text: &str) -> u32 {
     text.parse::<u32>().unwrap_or(0)
 }
 

@@ -42,3 +42,8 @@ pub fn bytes_of(alloc: Global, text: &str) -> Result<Vec<u8>, AllocError> {
     }
     Ok(bytes)
 }
+
+/// The spelling of bytes: what is no printable ASCII character is escaped, and so are quotes and backslashes.
+pub fn spelling(alloc: Global, bytes: &[u8]) -> Result<String, AllocError> {
+    format!(in alloc; "{}", bytes.escape_ascii())
+}

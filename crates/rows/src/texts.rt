@@ -12,3 +12,13 @@ pub fn text_of(alloc: Global, spelled: &str) -> Result<Vec<u8>, AllocError> {
         None => bytes_of(alloc, spelled),
     }
 }
+
+/// The text with a word and a blank put in at a byte.
+pub fn with_word(alloc: Global, text: &[u8], at: usize, word: &str) -> Result<Vec<u8>, AllocError> {
+    let (front, back) = text.split_at_checked(at).unwrap_or((text, b""));
+    let mut out = Vec::from_slice(alloc, front)?;
+    out.extend_from_slice(word.as_bytes())?;
+    out.push(b' ')?;
+    out.extend_from_slice(back)?;
+    Ok(out)
+}

@@ -1,18 +1,8 @@
 //! The rows of one text, and those that put a word in front of each of its tokens.
 use crate::answer::answer as answer_of;
 use pg_lex::{Token, lex};
-use rows::{cut, text_of};
+use rows::{cut, text_of, with_word};
 use std::alloc::{AllocError, Global};
-
-// The text with the word and a blank put in at a byte.
-fn with_word(alloc: Global, text: &[u8], at: usize, word: &str) -> Result<Vec<u8>, AllocError> {
-    let (front, back) = text.split_at_checked(at).unwrap_or((text, b""));
-    let mut out = Vec::from_slice(alloc, front)?;
-    out.extend_from_slice(word.as_bytes())?;
-    out.push(b' ')?;
-    out.extend_from_slice(back)?;
-    Ok(out)
-}
 
 // Puts the answer for that text behind the others.
 fn put(

@@ -49,7 +49,7 @@ fn first_type(file: &FileTree) -> Option<&TypeName> {
 
 /// Whether the place is the file as a whole.
 fn is_whole(place: &Place) -> bool {
-    place.file == "m.proto" && (place.line, place.column) == (0, 0)
+    place.file.as_str() == "m.proto" && (place.line, place.column) == (0, 0)
 }
 
 /// What that type resolves to in this scope.

@@ -9,7 +9,7 @@ type Answer = (u32, usize, usize);
 
 /// A code at a place of `a.proto`.
 fn at(code: u32, place: &Place) -> Answer {
-    if place.file == "a.proto" {
+    if place.file.as_str() == "a.proto" {
         (code, place.line, place.column)
     } else {
         (code, 0, 0)
@@ -104,6 +104,6 @@ fn files_are_linked_or_refused_or_memory_is_refused(rt: HostRuntime) {
 fn a_file_is_read_or_memory_is_refused(rt: HostRuntime) -> Result<(), Fail> {
     let files: [(&str, &[u8]); 1] = [("d/a.fds", b"below")];
     let bytes = read_file(rt.alloc(), &mut Listed { files: &files }, "d", "a.fds")?;
-    assert_eq!(rt; bytes.as_slice(), b"below");
+    assert_eq!(rt; bytes.as_slice(), b"below".as_slice());
     Ok(())
 }
