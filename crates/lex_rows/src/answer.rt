@@ -1,6 +1,6 @@
 //! What is printed of one text.
 use pg_lex::{Kind, LexError, Token, lex, place};
-use rows::text_of;
+use rows::{cut, number_of, text_of};
 use std::alloc::{AllocError, Global};
 
 // The code, and the byte at which the fault stands.
@@ -58,7 +58,20 @@ fn answer_of(alloc: Global, text: &[u8]) -> Result<String, AllocError> {
     }
 }
 
-/// The tokens of the text with their places, or the code and the place of what it is refused with.
-pub fn answer(alloc: Global, spelled: &str) -> Result<String, AllocError> {
-    answer_of(alloc, &text_of(alloc, spelled)?)
+// The line and the column of a byte.
+fn place_of(alloc: Global, text: &[u8], offset: u32) -> Result<String, AllocError> {
+    let (line, column) = place(text, offset as usize);
+    format!(in alloc; "{line}:{column}")
+}
+
+/// The tokens of a text with their places, or the code and the place of what it is refused with; with an offset behind it the place of
+/// that byte.
+pub fn answer(alloc: Global, input: &str) -> Result<String, AllocError> {
+    let (spelled, offset) = cut(input);
+    let text = text_of(alloc, spelled)?;
+    if offset.is_empty() {
+        answer_of(alloc, &text)
+    } else {
+        place_of(alloc, &text, number_of(offset))
+    }
 }

@@ -66,7 +66,16 @@ const D: &[u8] = b"syntax = \"proto3\";\nenum E { A = 0; }\n";
 
 const E: &[u8] = b"syntax = \"proto3\";\nimport \"d.proto\";\n";
 
-static TEXTS: [(&[u8], Answer); 8] = [
+static TEXTS: [(&[u8], Answer); 11] = [
+    (
+        b"a = 'b\\n'; 7 'long enough to grow, and to grow again'",
+        (200, 1, 1),
+    ),
+    (b"a = 'b\\q';", (100, 1, 5)),
+    (
+        b"syntax = \"proto3\"; package p; message M { optional .q.T a = 1 [packed = false]; }",
+        (305, 1, 52),
+    ),
     (A, (0, 3, 0)),
     (b"syntax = \"proto3\";\nimport \"f.proto\";\n", (301, 2, 8)),
     (b"syntax = \"proto3\";\nimport \"a.proto\";\n", (302, 2, 8)),
