@@ -66,7 +66,7 @@ fn a_schema_is_built_or_memory_is_refused(rt: HostRuntime) -> Result<(), Fail> {
 
 /// Whether the place is the second number of the broken text.
 fn is_second(place: &Place) -> bool {
-    place.file == "m.proto" && (place.line, place.column) == (2, 32)
+    place.file.as_str() == "m.proto" && (place.line, place.column) == (2, 32)
 }
 
 /// Expects a number that is given twice, or that a growth was refused.

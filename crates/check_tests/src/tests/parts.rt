@@ -62,7 +62,7 @@ fn fields(alloc: Global, sketch: &Sketch) -> Result<Vec<Field>, AllocError> {
     first.oneof = sketch.oneof;
     first.options.packed = sketch.packed;
     let second = field(alloc, sketch.number, sketch.name)?;
-    vec![in alloc; first, second]
+    Ok(vec![in alloc; first, second]?)
 }
 
 /// The text alone where it is wanted.
