@@ -1,6 +1,7 @@
-//! What is printed of one text.
-use crate::shown::first_statement;
-use pg_lex::{Token, lex, place};
+//! The tree of one text.
+use super::shown::first_statement;
+use crate::placed::refusal;
+use pg_lex::{Token, lex};
 use pg_syntax::{SyntaxError, parse};
 use std::alloc::{AllocError, Global};
 
@@ -18,21 +19,15 @@ fn fault(error: SyntaxError) -> (u32, usize) {
     }
 }
 
-fn refusal(alloc: Global, text: &[u8], error: SyntaxError) -> Result<String, AllocError> {
-    let (code, at) = fault(error);
-    let (line, column) = place(text, at);
-    format!(in alloc; "E{code} {line}:{column}")
-}
-
 fn of_tokens(alloc: Global, text: &[u8], tokens: &[Token]) -> Result<String, AllocError> {
     match parse(alloc, tokens, text.len()) {
         Ok(file) => first_statement(alloc, &file),
-        Err(error) => refusal(alloc, text, error),
+        Err(error) => refusal(alloc, text, fault(error)),
     }
 }
 
 /// What a text with these tokens is refused with, or what is shown of it.
-pub fn answer(alloc: Global, text: &[u8]) -> Result<String, AllocError> {
+pub fn answer_of(alloc: Global, text: &[u8]) -> Result<String, AllocError> {
     match lex(alloc, text) {
         Ok(tokens) => of_tokens(alloc, text, &tokens),
         Err(_) => String::from_str(alloc, "no tokens"),

@@ -1,27 +1,23 @@
 //! Linked files and refusals as rows show them.
-use pg_link::{LinkError, Linked, Place, Target};
+use crate::placed::refusal_in;
+use pg_link::{LinkError, Linked, Target};
 use rows::spelling;
 use std::alloc::{AllocError, Global};
-
-fn at(alloc: Global, code: u32, place: &Place) -> Result<String, AllocError> {
-    let file = spelling(alloc, place.file.as_bytes())?;
-    format!(in alloc; "E{code} {file}:{}:{}", place.line, place.column)
-}
 
 /// The code and the place of a refusal; of a text that is no file in its own right the code is E100 or E200.
 pub fn refusal(alloc: Global, error: &LinkError) -> Result<String, AllocError> {
     match error {
-        LinkError::MissingFile(place) => at(alloc, 301, place),
-        LinkError::ImportCycle(place) => at(alloc, 302, place),
-        LinkError::DuplicateImport(place) => at(alloc, 303, place),
-        LinkError::DuplicateName(place) => at(alloc, 304, place),
-        LinkError::UnknownName(place) => at(alloc, 305, place),
-        LinkError::NotAType(place) => at(alloc, 306, place),
-        LinkError::NotImported(place) => at(alloc, 307, place),
-        LinkError::TooManyFiles(place) => at(alloc, 308, place),
-        LinkError::SourceFailed(place) => at(alloc, 309, place),
-        LinkError::Lex(_, place) => at(alloc, 100, place),
-        LinkError::Syntax(_, place) => at(alloc, 200, place),
+        LinkError::MissingFile(place) => refusal_in(alloc, 301, place),
+        LinkError::ImportCycle(place) => refusal_in(alloc, 302, place),
+        LinkError::DuplicateImport(place) => refusal_in(alloc, 303, place),
+        LinkError::DuplicateName(place) => refusal_in(alloc, 304, place),
+        LinkError::UnknownName(place) => refusal_in(alloc, 305, place),
+        LinkError::NotAType(place) => refusal_in(alloc, 306, place),
+        LinkError::NotImported(place) => refusal_in(alloc, 307, place),
+        LinkError::TooManyFiles(place) => refusal_in(alloc, 308, place),
+        LinkError::SourceFailed(place) => refusal_in(alloc, 309, place),
+        LinkError::Lex(_, place) => refusal_in(alloc, 100, place),
+        LinkError::Syntax(_, place) => refusal_in(alloc, 200, place),
         LinkError::Memory => String::from_str(alloc, "E001"),
     }
 }

@@ -1,5 +1,7 @@
-//! What is printed of a row `FILES [| types|enums|services|files]`; the first file is the root.
-use crate::code::refusal;
+//! Schemas of files, of which the first is the root.
+mod code;
+
+use code::refusal;
 use pg_check::build;
 use pg_link::{Linked, Listed, link};
 use pg_schema::{Parts, Schema};

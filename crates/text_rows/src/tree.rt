@@ -1,5 +1,8 @@
-//! The rows of one text, and those that put a word in front of each of its tokens.
-use crate::answer::answer as answer_of;
+//! Trees of texts, and of texts with a word in front of each token.
+mod one;
+mod shown;
+
+use one::answer_of;
 use pg_lex::{Token, lex};
 use rows::{cut, text_of, with_word};
 use std::alloc::{AllocError, Global};

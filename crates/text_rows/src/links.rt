@@ -1,9 +1,13 @@
-//! What is printed of a row.
-use crate::failing_source::FailingSource;
-use crate::options::{Options, options_of};
-use crate::shown::{linked_files, refusal};
+//! Linked files.
+mod failing_source;
+mod options;
+mod shown;
+
+use failing_source::FailingSource;
+use options::{Options, options_of};
 use pg_link::{LinkError, Linked, Listed, link, read_file};
 use rows::{borrowed, cut, files_of, spelling};
+use shown::{linked_files, refusal};
 use std::alloc::{AllocError, Global};
 
 type Source<'a> = FailingSource<Listed<'a>>;

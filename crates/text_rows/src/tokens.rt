@@ -1,4 +1,5 @@
-//! What is printed of one text.
+//! The tokens of a text.
+use crate::placed::refusal;
 use pg_lex::{Kind, LexError, Token, lex, place};
 use rows::{cut, number_of, text_of};
 use std::alloc::{AllocError, Global};
@@ -16,12 +17,6 @@ fn fault(error: LexError) -> (u32, usize) {
         LexError::FloatLiteral { at } => (107, at),
         LexError::FileTooLong { at } => (108, at),
     }
-}
-
-fn refusal(alloc: Global, text: &[u8], error: LexError) -> Result<String, AllocError> {
-    let (code, at) = fault(error);
-    let (line, column) = place(text, at);
-    format!(in alloc; "E{code} {line}:{column}")
 }
 
 fn value(alloc: Global, kind: &Kind) -> Result<String, AllocError> {
@@ -54,7 +49,7 @@ fn answer_of(alloc: Global, text: &[u8]) -> Result<String, AllocError> {
     match lex(alloc, text) {
         Ok(found) if found.is_empty() => String::from_str(alloc, "no tokens"),
         Ok(found) => tokens(alloc, &found),
-        Err(error) => refusal(alloc, text, error),
+        Err(error) => refusal(alloc, text, fault(error)),
     }
 }
 

@@ -1,2 +1,0 @@
-mod building;
-mod parts;

@@ -1,3 +1,0 @@
-mod folder;
-mod linked;
-mod memory;

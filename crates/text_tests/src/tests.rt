@@ -1,0 +1,5 @@
+mod building;
+mod folder;
+mod linked;
+mod linking;
+mod parts;
