@@ -1,0 +1,166 @@
+//! Contents that are spelled by words, each of which takes what the words before it left: a value, as `contents` spells it, or `M`
+//! and `N` for a message of the first and the second type with nothing in it; `=5` makes the last value the content of field 5, `=5*`
+//! all values a list and `=5:` all values a map; and `message` makes a message of the last content alone, which is a value.
+use crate::types::{FIRST, SECOND};
+use pg_dyn::{Content, DynError, Message, Value};
+use pg_schema::{Schema, TypeId};
+use pg_show::bytes_of_hex;
+use std::alloc::{AllocError, Global};
+use std::mem::replace;
+
+/// What a word answers that spells nothing.
+const UNSPELLED: DynError = DynError::TooLong;
+
+/// Values and contents that no word has taken yet.
+#[derive(Drop)]
+pub(crate) struct Draft {
+    values: Vec<Value>,
+    contents: Vec<(u32, Content)>,
+}
+
+fn boxed(alloc: Global, message: Message) -> Result<Value, DynError> {
+    Ok(Value::Msg(Box::new(alloc, message)?))
+}
+
+fn empty(alloc: Global, type_id: TypeId) -> Result<Value, DynError> {
+    boxed(alloc, Message::empty(alloc, type_id))
+}
+
+fn text(alloc: Global, text: &str) -> Result<Value, DynError> {
+    Ok(Value::Text(String::from_str(alloc, text)?))
+}
+
+fn bytes(alloc: Global, digits: &str) -> Result<Value, DynError> {
+    match bytes_of_hex(alloc, digits) {
+        Ok(bytes) => Ok(Value::Bytes(bytes)),
+        Err(_) => Err(UNSPELLED),
+    }
+}
+
+fn number(spelled: &str) -> Result<Value, DynError> {
+    match spelled.parse::<i128>() {
+        Ok(number) => Ok(Value::Int(number)),
+        Err(_) => Err(UNSPELLED),
+    }
+}
+
+fn float(bits: &str) -> Result<Value, DynError> {
+    match bits.parse::<u32>() {
+        Ok(bits) => Ok(Value::F32(bits)),
+        Err(_) => Err(UNSPELLED),
+    }
+}
+
+fn double(bits: &str) -> Result<Value, DynError> {
+    match bits.parse::<u64>() {
+        Ok(bits) => Ok(Value::F64(bits)),
+        Err(_) => Err(UNSPELLED),
+    }
+}
+
+fn value_of(alloc: Global, spelled: &str) -> Result<Value, DynError> {
+    if let Some(spelled) = spelled.strip_prefix("'") {
+        return text(alloc, spelled);
+    }
+    if let Some(digits) = spelled.strip_prefix("#") {
+        return bytes(alloc, digits);
+    }
+    if let Some(bits) = spelled.strip_prefix("f") {
+        return float(bits);
+    }
+    if let Some(bits) = spelled.strip_prefix("d") {
+        return double(bits);
+    }
+    match spelled {
+        "M" => empty(alloc, FIRST),
+        "N" => empty(alloc, SECOND),
+        _ => number(spelled),
+    }
+}
+
+// Each two values as a key and a value.
+fn paired(alloc: Global, values: Vec<Value>) -> Result<Content, DynError> {
+    let mut entries = Vec::new(alloc);
+    let mut key = None;
+    for value in values {
+        key = match key {
+            Some(key) => {
+                entries.push((key, value))?;
+                None
+            }
+            None => Some(value),
+        };
+    }
+    Ok(Content::Map(entries))
+}
+
+fn whole(
+    alloc: Global,
+    schema: &Schema,
+    content: Option<(u32, Content)>,
+) -> Result<Message, DynError> {
+    let (true, Some(content)) = (schema.has(FIRST), content) else {
+        return Err(UNSPELLED);
+    };
+    Message::whole(alloc, schema, FIRST, vec![in alloc; content]?)
+}
+
+impl Draft {
+    // The content that a word makes of the values, and the number in it.
+    fn content(&mut self, alloc: Global, spelled: &str) -> Result<Content, DynError> {
+        if spelled.ends_with("*") {
+            return Ok(Content::Many(replace(&mut self.values, Vec::new(alloc))));
+        }
+        if spelled.ends_with(":") {
+            return paired(alloc, replace(&mut self.values, Vec::new(alloc)));
+        }
+        match self.values.pop() {
+            Some(value) => Ok(Content::One(value)),
+            None => Err(UNSPELLED),
+        }
+    }
+
+    fn put_content(&mut self, alloc: Global, spelled: &str) -> Result<(), DynError> {
+        let content = self.content(alloc, spelled)?;
+        match spelled.trim_end_matches("*").trim_end_matches(":").parse::<u32>() {
+            Ok(number) => Ok(self.contents.push((number, content))?),
+            Err(_) => Err(UNSPELLED),
+        }
+    }
+
+    fn put_message(&mut self, alloc: Global, schema: &Schema) -> Result<(), DynError> {
+        let value = boxed(alloc, whole(alloc, schema, self.contents.pop())?)?;
+        Ok(self.values.push(value)?)
+    }
+
+    fn put_value(&mut self, alloc: Global, spelled: &str) -> Result<(), DynError> {
+        let value = value_of(alloc, spelled)?;
+        Ok(self.values.push(value)?)
+    }
+
+    fn take(&mut self, alloc: Global, schema: &Schema, word: &str) -> Result<(), DynError> {
+        if word == "message" {
+            return self.put_message(alloc, schema);
+        }
+        match word.strip_prefix("=") {
+            Some(spelled) => self.put_content(alloc, spelled),
+            None => self.put_value(alloc, word),
+        }
+    }
+}
+
+/// The contents that words spell.
+pub(crate) fn contents_of(
+    alloc: Global,
+    schema: &Schema,
+    words: &str,
+) -> Result<Vec<(u32, Content)>, DynError> {
+    let mut draft = Draft {
+        values: Vec::new(alloc),
+        contents: Vec::new(alloc),
+    };
+    for word in words.split(' ') {
+        draft.take(alloc, schema, word)?;
+    }
+    Ok(draft.contents)
+}
