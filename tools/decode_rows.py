@@ -19,36 +19,27 @@ WORDS = {number: name[5:].lower() for name, number in LABEL.Type.items()}
 
 
 def declared_field(message, field):
-    """A field as a text declares it."""
+    """A field as a row declares it."""
     kind = field.type_name[1:] or WORDS[field.type]
     entries = {".%s.%s" % (message.name, entry.name): entry for entry in message.nested_type}
+    label = ""
     if field.type_name in entries:
         key, value = entries[field.type_name].field
-        label, kind = "", "map<%s, %s>" % (WORDS[key.type], value.type_name[1:] or WORDS[value.type])
+        kind = "map<%s,%s>" % (WORDS[key.type], value.type_name[1:] or WORDS[value.type])
     elif field.label == LABEL.LABEL_REPEATED:
-        label = "repeated "
-    else:
-        label = "optional " if field.proto3_optional else ""
-    unpacked = " [packed = false]" if field.options.HasField("packed") else ""
-    return "%s%s %s = %d%s; " % (label, kind, field.name, field.number, unpacked)
+        label = "unpacked " if field.options.HasField("packed") else "repeated "
+    elif field.proto3_optional:
+        label = "optional "
+    elif field.HasField("oneof_index"):
+        label = "k%d " % field.oneof_index
+    return "%s%s %s=%d" % (label, kind, field.name, field.number)
 
 
 def declared(file):
-    """The declarations of a file with one message type, in one line."""
+    """The message type of a file as crates/tiny_schemas reads it."""
     message = file.message_type[0]
-    text = "message %s { " % message.name
-    in_oneof = None
-    for field in message.field:
-        place = field.oneof_index if field.HasField("oneof_index") and not field.proto3_optional else None
-        if place != in_oneof:
-            text += "} " if in_oneof is not None else ""
-            text += "" if place is None else "oneof %s { " % message.oneof_decl[place].name
-            in_oneof = place
-        text += declared_field(message, field)
-    text += "} }" if in_oneof is not None else "}"
-    for enum in file.enum_type:
-        text += " enum %s { %s = %d; }" % (enum.name, enum.value[0].name, enum.value[0].number)
-    return text
+    fields = sorted(message.field, key=lambda field: field.number)
+    return "%s: %s" % (message.name, ", ".join(declared_field(message, field) for field in fields))
 
 
 def kind_of(file, name):
@@ -432,12 +423,13 @@ def literal(data):
     return 'b"' + "".join("\\x%02x" % b for b in data) + '"'
 
 
-def write_pairs(path, kind, rows):
-    """The rows that a test reads with memory refused, those that are read."""
+def write_pairs(path, kind, text, rows):
+    """The rows that a test reads with memory refused, those that are read, and their type."""
     rows = [(data, again(kind, data)) for data in rows]
     rows = [(data, back) for data, back in rows if back is not None]
     with open(path, "w", encoding="utf-8") as out:
         print("//! Made by tools/decode_rows.py: bytes, and those that python3-protobuf writes again.", file=out)
+        print('\npub(super) const TYPE: &str =\n    "%s";' % text, file=out)
         print("\npub(super) static ROWS: [(&[u8], &[u8]); %d] = [" % len(rows), file=out)
         for data, back in rows:
             print("    (%s, %s)," % (literal(data), literal(back)), file=out)
@@ -635,7 +627,7 @@ def main():
     lines.add_type("P", text)
     pairs = made_rows(kind, pair_records, 8, 22, longest=300)
     lines.add_rows("many oneofs", kind, pairs)
-    write_pairs("crates/bytes_tests/src/tests/pair_rows.rt", kind, pairs)
+    write_pairs("crates/bytes_tests/src/tests/pair_rows.rt", kind, text, pairs)
     kind, text = entry_schema()
     lines.add_type("T", text)
     lines.add_rows("entries without a key or a value, in both orders, twice, and between others", kind, each_entry())

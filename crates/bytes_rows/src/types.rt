@@ -1,16 +1,15 @@
 //! The types that rows are read by.
-use pg_check::build;
-use pg_link::{Listed, link};
 use pg_schema::{Schema, TypeId};
 use std::alloc::{AllocError, Global};
+use tiny_schemas::schema;
 
-/// The first message type of a file.
+/// The first message type of a schema.
 pub(crate) const FIRST: TypeId = TypeId { index: 0 };
 
-/// The second message type of a file.
+/// The second message type of a schema.
 pub(crate) const SECOND: TypeId = TypeId { index: 1 };
 
-/// The type of the rows, and the one to compare with.
+/// The schema of the rows, and the one to compare with.
 #[derive(Drop)]
 pub(crate) struct Types {
     pub(crate) own: Option<Schema>,
@@ -27,26 +26,12 @@ impl Types {
     }
 }
 
-// The schema of the file `m` among these; none where it isn't taken.
-fn compiled(alloc: Global, files: &[(&str, &[u8])]) -> Option<Schema> {
-    match link(alloc, &mut Listed { files }, ".", &["m"]) {
-        Ok(linked) => build(alloc, &linked).ok(),
-        Err(_) => None,
-    }
-}
-
-// The schema of a file with these declarations; none where it isn't taken.
-fn schema_of(alloc: Global, declarations: &str) -> Result<Option<Schema>, AllocError> {
-    let text = format!(in alloc; "syntax = \"proto3\";\n{declarations}\n")?;
-    Ok(compiled(alloc, &[("m", text.as_bytes())]))
-}
-
-/// Compiles a file, and answers whether it is taken.
+/// Makes the schema that the line says, and answers whether it says one.
 pub(crate) fn put(
     alloc: Global,
     place: &mut Option<Schema>,
-    declarations: &str,
+    line: &str,
 ) -> Result<&'static str, AllocError> {
-    *place = schema_of(alloc, declarations)?;
+    *place = schema(alloc, line)?;
     Ok(if place.is_some() { "taken" } else { "refused" })
 }

@@ -2,7 +2,6 @@
 mod large;
 mod memory;
 mod pair_rows;
-mod schemas;
 mod setting;
 mod shapes;
 mod showing;
@@ -12,10 +11,10 @@ use pg_schema::{Schema, TypeId};
 use std::alloc::Global;
 use std::process::Abort;
 
-/// The type of `schema_by`.
+/// The first type of a schema.
 const M: TypeId = TypeId { index: 0 };
 
-/// The message that the bytes are read as, by the type of `schema_by`.
+/// The message that the bytes are read as, by the first type of the schema.
 fn read(alloc: Global, schema: &Schema, bytes: &[u8]) -> Result<Message, DynError> {
     if !schema.has(M) {
         return Err(DynError::NoSuchField);
@@ -44,7 +43,7 @@ fn set(
     message.set(schema, number, content)
 }
 
-/// The message of the contents, by the type of `schema_by`.
+/// The message of the contents, by the first type of the schema.
 fn whole(
     alloc: Global,
     schema: &Schema,

@@ -1,14 +1,13 @@
 //! Messages with thousands of fields or entries.
-use super::schemas::{INT, Shape, schema_by};
+use super::shapes::schema_of;
 use super::{M, read, set, whole, write};
 use pg_dyn::{Content, Message, Value};
-use pg_schema::{Presence, Scalar, Schema};
 use std::alloc::{AllocError, Global};
 use std::process::Abort;
 use std::test::Fail;
 
-/// `message M { map<int32, int32> f1 = 1; }`
-static OF_NUMBERS: [Shape; 1] = [(1, Presence::Map { key: Scalar::Int32 }, INT, None)];
+/// One map of numbers.
+const OF_NUMBERS: &str = "M: map<int32,int32> f1=1";
 
 // An entry whose key takes two bytes, as those from 128 to 16,383 do.
 fn push_long(bytes: &mut Vec<u8>, key: u16) -> Result<(), AllocError> {
@@ -52,7 +51,7 @@ fn span(content: Option<&Content>) -> (usize, Option<i128>, Option<i128>) {
 #[test]
 fn ten_thousand_falling_keys_that_are_read(rt: HostRuntime) -> Result<(), Fail> {
     let alloc = rt.alloc();
-    let schema = schema_by(alloc, &OF_NUMBERS)?;
+    let schema = schema_of(alloc, OF_NUMBERS)?;
     let message = read(alloc, &schema, &many_falling(alloc)?)?;
     assert_eq!(rt; span(message.get(1)), (10_000, Some(1_000), Some(10_999)));
     let found = write(alloc, &schema, &message)?;
@@ -72,7 +71,7 @@ fn falling(alloc: Global) -> Result<Content, AllocError> {
 // bench/maps.sh times such maps.
 #[test]
 fn ten_thousand_falling_keys_that_are_set(rt: HostRuntime) -> Result<(), Fail> {
-    let schema = schema_by(rt.alloc(), &OF_NUMBERS)?;
+    let schema = schema_of(rt.alloc(), OF_NUMBERS)?;
     let mut message = Message::empty(rt.alloc(), M);
     assert!(rt; set(&schema, &mut message, 1, falling(rt.alloc())?).is_ok());
     assert_eq!(rt; span(message.get(1)), (10_000, Some(1), Some(10_000)));
@@ -80,12 +79,12 @@ fn ten_thousand_falling_keys_that_are_set(rt: HostRuntime) -> Result<(), Fail> {
 }
 
 /// Ten thousand fields of numbers.
-fn of_many(alloc: Global) -> Result<Schema, Fail> {
-    let mut shapes = Vec::new(alloc);
-    for number in 1..10_001 {
-        shapes.push((number, Presence::Implicit, INT, None))?;
+fn of_many(alloc: Global) -> Result<String, AllocError> {
+    let mut line = String::from_str(alloc, "M: uint32 f1=1")?;
+    for number in 2..10_001u32 {
+        line.push_str(format!(in alloc; ", uint32 f{number}={number}")?.as_str())?;
     }
-    schema_by(alloc, &shapes)
+    Ok(line)
 }
 
 /// A content of each, by falling number.
@@ -105,7 +104,8 @@ fn is_seven(content: Option<&Content>) -> bool {
 #[test]
 fn ten_thousand_fields(rt: HostRuntime) -> Result<(), Fail> {
     let alloc = rt.alloc();
-    let message = whole(alloc, &of_many(alloc)?, many_contents(alloc)?)?;
+    let schema = schema_of(alloc, of_many(alloc)?.as_str())?;
+    let message = whole(alloc, &schema, many_contents(alloc)?)?;
     for number in [1, 5_000, 10_000] {
         assert!(rt; is_seven(message.get(number)), "field {number}");
     }

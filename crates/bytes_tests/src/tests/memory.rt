@@ -1,9 +1,10 @@
 //! What each call answers where memory is refused. `tools/try_memory.sh` refuses each growth in turn.
-use super::schemas::{INT, Shape, schema_by};
-use super::shapes::{OF_ALL_SHAPES, OF_CHILDREN, OF_TEXTS, WRITTEN, contents, one_of_bytes};
+use super::shapes::{
+    OF_ALL_SHAPES, OF_CHILDREN, OF_TEXTS, WRITTEN, contents, one_of_bytes, schema_of,
+};
 use super::{M, is_or_lacks_memory, pair_rows, read, whole, write};
 use pg_dyn::{Content, DynError, copy, decode_unlimited, encode_outside, fits};
-use pg_schema::{Presence, Schema};
+use pg_schema::Schema;
 use std::alloc::Global;
 use std::test::Fail;
 
@@ -37,33 +38,23 @@ static TEXTS: &[u8] = b"\x0a\x01a\x12\x01b\x18\x05";
 
 #[test]
 fn read_copies_and_memory(rt: HostRuntime) -> Result<(), Fail> {
-    let rows: [(&[Shape], &[u8], &[u8]); 4] = [
-        (&OF_ALL_SHAPES, IN_PARTS.0, IN_PARTS.1),
-        (&OF_ALL_SHAPES, ALL, ALL),
-        (&OF_CHILDREN, CHILDREN.0, CHILDREN.1),
-        (&OF_TEXTS, TEXTS, TEXTS),
+    let rows: [(&str, &[u8], &[u8]); 4] = [
+        (OF_ALL_SHAPES, IN_PARTS.0, IN_PARTS.1),
+        (OF_ALL_SHAPES, ALL, ALL),
+        (OF_CHILDREN, CHILDREN.0, CHILDREN.1),
+        (OF_TEXTS, TEXTS, TEXTS),
     ];
     for (shapes, bytes, kept) in rows {
-        let schema = schema_by(rt.alloc(), shapes)?;
+        let schema = schema_of(rt.alloc(), shapes)?;
         is_or_lacks_memory(&rt, copied(rt.alloc(), &schema, bytes), kept);
     }
     Ok(())
 }
 
-/// `message M` of 60 oneofs of two numbers each, and a number that is in none.
-fn paired_members(alloc: Global) -> Result<Schema, Fail> {
-    let mut shapes = Vec::new(alloc);
-    for place in 0..60u32 {
-        shapes.push((2 * place + 1, Presence::Explicit, INT, Some(place)))?;
-        shapes.push((2 * place + 2, Presence::Explicit, INT, Some(place)))?;
-    }
-    shapes.push((121, Presence::Implicit, INT, None))?;
-    schema_by(alloc, &shapes)
-}
-
+// Sixty oneofs of two numbers each, and a number that is in none.
 #[test]
 fn read_oneofs_and_memory(rt: HostRuntime) -> Result<(), Fail> {
-    let schema = paired_members(rt.alloc())?;
+    let schema = schema_of(rt.alloc(), pair_rows::TYPE)?;
     for (bytes, kept) in &pair_rows::ROWS {
         is_or_lacks_memory(&rt, copied(rt.alloc(), &schema, bytes), kept);
     }
@@ -98,8 +89,8 @@ fn outside(
 #[test]
 fn bytes_of_other_types_and_memory(rt: HostRuntime) -> Result<(), Fail> {
     let alloc = rt.alloc();
-    let schema = schema_by(alloc, &OF_ALL_SHAPES)?;
-    let other = schema_by(alloc, &OF_TEXTS)?;
+    let schema = schema_of(alloc, OF_ALL_SHAPES)?;
+    let other = schema_of(alloc, OF_TEXTS)?;
     is_or_lacks_memory(&rt, unlimited(alloc, &schema, WRITTEN), WRITTEN);
     is_or_lacks_memory(&rt, outside(alloc, &schema, WRITTEN, &other), &WRITTEN[2..]);
     Ok(())
@@ -118,9 +109,9 @@ fn written(
 #[test]
 fn wholes_and_memory(rt: HostRuntime) -> Result<(), Fail> {
     let alloc = rt.alloc();
-    let schema = schema_by(alloc, &OF_ALL_SHAPES)?;
+    let schema = schema_of(alloc, OF_ALL_SHAPES)?;
     is_or_lacks_memory(&rt, written(alloc, &schema, contents(alloc)?), WRITTEN);
-    let schema = schema_by(alloc, &OF_TEXTS)?;
+    let schema = schema_of(alloc, OF_TEXTS)?;
     let contents = vec![in alloc; (2, one_of_bytes(alloc, b"b")?)]?;
     is_or_lacks_memory(&rt, written(alloc, &schema, contents), b"\x12\x01b");
     Ok(())

@@ -1,7 +1,6 @@
 //! What `set` answers where memory is refused: the message is as it was, and the content comes back as it was handed in.
-use super::schemas::schema_by;
 use super::shapes::{
-    OF_ALL_SHAPES, OF_MEMBERS, OF_TEXTS, WRITTEN, contents, ints, one_of_bytes,
+    OF_ALL_SHAPES, OF_MEMBERS, OF_TEXTS, WRITTEN, contents, ints, one_of_bytes, schema_of,
 };
 use super::{M, is_or_lacks_memory, set, whole, write};
 use pg_dyn::{Content, DynError, Message, Value};
@@ -17,7 +16,7 @@ fn is_item(content: &Content, item: &[u8]) -> bool {
 
 #[test]
 fn a_set_text_and_memory(rt: HostRuntime) -> Result<(), Fail> {
-    let schema = schema_by(rt.alloc(), &OF_TEXTS)?;
+    let schema = schema_of(rt.alloc(), OF_TEXTS)?;
     let mut message = Message::empty(rt.alloc(), M);
     match set(&schema, &mut message, 1, one_of_bytes(rt.alloc(), b"a")?) {
         Ok(()) => assert!(rt; matches!(message.get(1), Some(Content::One(Value::Text(_))))),
@@ -49,7 +48,7 @@ fn sets_or_lacks_memory(
 #[test]
 fn sets_of_all_shapes_and_memory(rt: HostRuntime) -> Result<(), Fail> {
     let alloc = rt.alloc();
-    let schema = schema_by(alloc, &OF_ALL_SHAPES)?;
+    let schema = schema_of(alloc, OF_ALL_SHAPES)?;
     let mut message = Message::empty(alloc, M);
     sets_or_lacks_memory(&rt, &schema, &mut message, 6, one_of_bytes(alloc, b"c")?);
     for (number, content) in contents(alloc)? {
@@ -92,7 +91,7 @@ fn first_member(alloc: Global, schema: &Schema) -> Result<Message, Fail> {
 // A refused map comes back in its order.
 #[test]
 fn a_set_map_and_memory(rt: HostRuntime) -> Result<(), Fail> {
-    let schema = schema_by(rt.alloc(), &OF_MEMBERS)?;
+    let schema = schema_of(rt.alloc(), OF_MEMBERS)?;
     let mut message = first_member(rt.alloc(), &schema)?;
     match set(&schema, &mut message, 4, ints(rt.alloc(), &[(3, 1), (1, 0)])?) {
         Ok(()) => has_keys(&rt, message.get(4), &[1, 3]),
@@ -111,7 +110,7 @@ fn is_int(content: &Content, wanted: i128) -> bool {
 // The message keeps the other member of the oneof where memory is refused.
 #[test]
 fn a_set_member_and_memory(rt: HostRuntime) -> Result<(), Fail> {
-    let schema = schema_by(rt.alloc(), &OF_MEMBERS)?;
+    let schema = schema_of(rt.alloc(), OF_MEMBERS)?;
     let mut message = first_member(rt.alloc(), &schema)?;
     match set(&schema, &mut message, 3, Content::One(Value::Int(8))) {
         Ok(()) => assert!(rt; message.get(2).is_none()),

@@ -1,72 +1,30 @@
-//! Fields of messages, and contents of theirs.
+//! Types of messages, and contents of theirs.
 use super::M;
-use super::schemas::{BYTES, CHILD, INT, LIST, PACKED, Shape, TEXT};
 use pg_dyn::{Content, Message, Value};
-use pg_schema::{Element, Presence, Scalar};
+use pg_schema::Schema;
 use std::alloc::{AllocError, Global};
+use std::test::Fail;
+use tiny_schemas::schema;
 
-/// `message M { M f1 = 1; int32 f2 = 2; repeated sint32 f3 = 3; map<int32, string> f4 = 4; repeated M f5 = 5; oneof k0 {
-/// string f6 = 6; fixed32 f7 = 7; } }`
-pub(super) static OF_ALL_SHAPES: [Shape; 7] = [
-    (1, Presence::Explicit, CHILD, None),
-    (2, Presence::Implicit, INT, None),
-    (3, PACKED, Element::Scalar(Scalar::Sint32), None),
-    (4, Presence::Map { key: Scalar::Int32 }, TEXT, None),
-    (5, LIST, CHILD, None),
-    (6, Presence::Explicit, TEXT, Some(0)),
-    (
-        7,
-        Presence::Explicit,
-        Element::Scalar(Scalar::Fixed32),
-        Some(0),
-    ),
-];
+/// A field or two of each shape.
+pub(super) const OF_ALL_SHAPES: &str = "M: M f1=1, int32 f2=2, repeated sint32 f3=3, map<int32,string> f4=4, repeated M f5=5, k0 string f6=6, k0 fixed32 f7=7";
 
-/// `message M { M f1 = 1; repeated int32 f2 = 2; map<string, M> f3 = 3; }`
-pub(super) static OF_CHILDREN: [Shape; 3] = [
-    (1, Presence::Explicit, CHILD, None),
-    (2, PACKED, INT, None),
-    (
-        3,
-        Presence::Map {
-            key: Scalar::String,
-        },
-        CHILD,
-        None,
-    ),
-];
+/// Messages inside.
+pub(super) const OF_CHILDREN: &str = "M: M f1=1, repeated int32 f2=2, map<string,M> f3=3";
 
-/// `message M { M f1 = 1; repeated int32 f2 = 2; map<string, bytes> f3 = 3; }`
-pub(super) static OF_SHOWN: [Shape; 3] = [
-    (1, Presence::Explicit, CHILD, None),
-    (2, PACKED, INT, None),
-    (
-        3,
-        Presence::Map {
-            key: Scalar::String,
-        },
-        BYTES,
-        None,
-    ),
-];
+/// Texts and bytes.
+pub(super) const OF_TEXTS: &str = "M: string f1=1, bytes f2=2";
 
-/// `message M { string f1 = 1; bytes f2 = 2; }`
-pub(super) static OF_TEXTS: [Shape; 2] = [
-    (1, Presence::Implicit, TEXT, None),
-    (2, Presence::Implicit, BYTES, None),
-];
+/// Two members of a oneof, and a map.
+pub(super) const OF_MEMBERS: &str = "M: k0 int32 f2=2, k0 int32 f3=3, map<int32,bool> f4=4";
 
-/// `message M { oneof k0 { int32 f2 = 2; int32 f3 = 3; } map<int32, bool> f4 = 4; }`
-pub(super) static OF_MEMBERS: [Shape; 3] = [
-    (2, Presence::Explicit, INT, Some(0)),
-    (3, Presence::Explicit, INT, Some(0)),
-    (
-        4,
-        Presence::Map { key: Scalar::Int32 },
-        Element::Scalar(Scalar::Bool),
-        None,
-    ),
-];
+/// The schema that the line says.
+pub(super) fn schema_of(alloc: Global, line: &str) -> Result<Schema, Fail> {
+    match schema(alloc, line)? {
+        Some(schema) => Ok(schema),
+        None => Err(Fail::from("the line says no schema")),
+    }
+}
 
 fn bytes(alloc: Global, bytes: &[u8]) -> Result<Value, AllocError> {
     Ok(Value::Bytes(Vec::from_slice(alloc, bytes)?))

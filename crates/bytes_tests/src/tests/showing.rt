@@ -1,7 +1,6 @@
 //! What `pg_show` answers where memory is refused, and the words that it reads.
 use super::M;
-use super::schemas::schema_by;
-use super::shapes::OF_SHOWN;
+use super::shapes::schema_of;
 use pg_dyn::DynError;
 use pg_schema::Schema;
 use pg_show::{HexError, bytes_of_hex, show};
@@ -9,7 +8,7 @@ use std::alloc::Global;
 use std::process::Abort;
 use std::test::Fail;
 
-/// The text of the bytes, by the type of `schema_by`.
+/// The text of the bytes, by the first type of the schema.
 fn shown(alloc: Global, schema: &Schema, bytes: &[u8]) -> Result<String, DynError> {
     if !schema.has(M) {
         return Err(DynError::NoSuchField);
@@ -20,12 +19,12 @@ fn shown(alloc: Global, schema: &Schema, bytes: &[u8]) -> Result<String, DynErro
 // The text is whole, or memory was refused.
 #[test]
 fn a_shown_text_and_memory(rt: HostRuntime) -> Result<(), Fail> {
-    let schema = schema_by(rt.alloc(), &OF_SHOWN)?;
+    let schema = schema_of(rt.alloc(), "M: M m=1, repeated int32 a=2, map<string,bytes> b=3")?;
     let bytes = b"\x0a\x06\x12\x02\x01\x02\x28\x07\x1a\x00\x10\x03\x20\x01";
     match shown(rt.alloc(), &schema, bytes) {
         Ok(text) => assert_eq!(rt;
             text.as_str(),
-            "1 f1 msg\n  2 f2 int 1\n  2 f2 int 2\n  unknown 2807\n2 f2 int 3\n3 f3 key text - value bytes -\nunknown 2001\nagain 0a061202010228071201031a040a0012002001\n"
+            "1 m msg\n  2 a int 1\n  2 a int 2\n  unknown 2807\n2 a int 3\n3 b key text - value bytes -\nunknown 2001\nagain 0a061202010228071201031a040a0012002001\n"
         ),
         Err(error) => assert_eq!(rt; error, DynError::Memory),
     }
