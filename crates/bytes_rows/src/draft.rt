@@ -122,7 +122,11 @@ impl Draft {
 
     fn put_content(&mut self, alloc: Global, spelled: &str) -> Result<(), DynError> {
         let content = self.content(alloc, spelled)?;
-        match spelled.trim_end_matches("*").trim_end_matches(":").parse::<u32>() {
+        match spelled
+            .trim_end_matches("*")
+            .trim_end_matches(":")
+            .parse::<u32>()
+        {
             Ok(number) => Ok(self.contents.push((number, content))?),
             Err(_) => Err(UNSPELLED),
         }

@@ -46,12 +46,7 @@ fn again(alloc: Global, schema: &Schema, bytes: &[u8]) -> Result<String, DynErro
 }
 
 // The same, or a complaint where it is what another runtime makes of the bytes.
-fn apart(
-    alloc: Global,
-    schema: &Schema,
-    bytes: &[u8],
-    theirs: &str,
-) -> Result<String, DynError> {
+fn apart(alloc: Global, schema: &Schema, bytes: &[u8], theirs: &str) -> Result<String, DynError> {
     let found = again(alloc, schema, bytes)?;
     if found.as_str() == theirs {
         return text(alloc, "as another runtime");
@@ -60,12 +55,7 @@ fn apart(
 }
 
 // Whether bytes are read within a limit of depth.
-fn within(
-    alloc: Global,
-    schema: &Schema,
-    bytes: &[u8],
-    limit: &str,
-) -> Result<String, DynError> {
+fn within(alloc: Global, schema: &Schema, bytes: &[u8], limit: &str) -> Result<String, DynError> {
     let limit = limit.parse::<usize>().unwrap_or(100);
     let _message = read(alloc, schema, bytes, limit)?;
     text(alloc, "read")
@@ -83,7 +73,11 @@ fn plain(alloc: Global, schema: &Schema, bytes: &[u8]) -> Result<String, DynErro
 }
 
 /// The bytes of the copy of a message that fits.
-pub(crate) fn copied(alloc: Global, schema: &Schema, message: &Message) -> Result<String, DynError> {
+pub(crate) fn copied(
+    alloc: Global,
+    schema: &Schema,
+    message: &Message,
+) -> Result<String, DynError> {
     if !fits(schema, message) {
         return Err(DynError::WrongKind);
     }
@@ -130,7 +124,10 @@ fn outside(
     if !fits(schema, &message) {
         return Err(DynError::WrongKind);
     }
-    Ok(word(alloc, &encode_outside(alloc, schema, &message, other, FIRST)?)?)
+    Ok(word(
+        alloc,
+        &encode_outside(alloc, schema, &message, other, FIRST)?,
+    )?)
 }
 
 fn shown(alloc: Global, schema: &Schema, bytes: &[u8]) -> Result<String, DynError> {

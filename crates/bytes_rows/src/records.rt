@@ -19,13 +19,13 @@ fn varint(alloc: Global, bytes: &[u8]) -> Result<String, AllocError> {
 fn spelled(alloc: Global, record: &Record) -> Result<String, AllocError> {
     let body = word(alloc, record.body)?;
     let whole = word(alloc, record.bytes)?;
-    format!(in alloc; "{} {:?} {body} of {whole}, ", record.number, record.wire_type)
+    format!(in alloc;
+        "{} {:?} {body} of {whole}, ",
+        record.number, record.wire_type
+    )
 }
 
-fn spelled_next(
-    alloc: Global,
-    next: Result<Record, WireError>,
-) -> Result<String, AllocError> {
+fn spelled_next(alloc: Global, next: Result<Record, WireError>) -> Result<String, AllocError> {
     match next {
         Ok(record) => spelled(alloc, &record),
         Err(error) => format!(in alloc; "{error:?}, "),

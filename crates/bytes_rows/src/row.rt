@@ -18,8 +18,16 @@ fn by_type(
 ) -> Result<String, DynError> {
     match call {
         "set" | "hold" | "whole" | "copied" => answer_of_contents(alloc, schema, call, input),
-        "again" | "within" | "apart" | "read" | "plain" | "copy" | "unlimited" | "fits"
-        | "outside" | "show" => answer_of_bytes(alloc, schema, other, call, input),
+        "again"
+        | "within"
+        | "apart"
+        | "read"
+        | "plain"
+        | "copy"
+        | "unlimited"
+        | "fits"
+        | "outside"
+        | "show" => answer_of_bytes(alloc, schema, other, call, input),
         _ => answer_of_wire(alloc, call, input),
     }
 }

@@ -79,7 +79,11 @@ pub fn schema(alloc: Global, line: &str) -> Result<Option<Schema>, AllocError> {
 }
 
 /// The schemas that two lines say; `None` where one of them says none.
-pub fn schemas(alloc: Global, old: &str, new: &str) -> Result<Option<(Schema, Schema)>, AllocError> {
+pub fn schemas(
+    alloc: Global,
+    old: &str,
+    new: &str,
+) -> Result<Option<(Schema, Schema)>, AllocError> {
     let old = schema(alloc, old)?;
     let new = schema(alloc, new)?;
     Ok(old.zip(new))

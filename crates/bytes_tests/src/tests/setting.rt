@@ -93,7 +93,12 @@ fn first_member(alloc: Global, schema: &Schema) -> Result<Message, Fail> {
 fn a_set_map_and_memory(rt: HostRuntime) -> Result<(), Fail> {
     let schema = schema_of(rt.alloc(), OF_MEMBERS)?;
     let mut message = first_member(rt.alloc(), &schema)?;
-    match set(&schema, &mut message, 4, ints(rt.alloc(), &[(3, 1), (1, 0)])?) {
+    match set(
+        &schema,
+        &mut message,
+        4,
+        ints(rt.alloc(), &[(3, 1), (1, 0)])?,
+    ) {
         Ok(()) => has_keys(&rt, message.get(4), &[1, 3]),
         Err((error, back)) => {
             assert!(rt; error == DynError::Memory && message.get(4).is_none());

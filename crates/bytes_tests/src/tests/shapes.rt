@@ -7,7 +7,8 @@ use std::test::Fail;
 use tiny_schemas::schema;
 
 /// A field or two of each shape.
-pub(super) const OF_ALL_SHAPES: &str = "M: M f1=1, int32 f2=2, repeated sint32 f3=3, map<int32,string> f4=4, repeated M f5=5, k0 string f6=6, k0 fixed32 f7=7";
+pub(super) const OF_ALL_SHAPES: &str =
+    "M: M f1=1, int32 f2=2, repeated sint32 f3=3, map<int32,string> f4=4, repeated M f5=5, k0 string f6=6, k0 fixed32 f7=7";
 
 /// Messages inside.
 pub(super) const OF_CHILDREN: &str = "M: M f1=1, repeated int32 f2=2, map<string,M> f3=3";
@@ -60,9 +61,7 @@ fn falling(alloc: Global) -> Result<Content, AllocError> {
 
 /// Two messages.
 fn children(alloc: Global) -> Result<Content, AllocError> {
-    Ok(Content::Many(
-        vec![in alloc; child(alloc)?, child(alloc)?]?,
-    ))
+    Ok(Content::Many(vec![in alloc; child(alloc)?, child(alloc)?]?))
 }
 
 /// Contents of `OF_ALL_SHAPES`: messages inside, numbers in a list, a map by falling keys, and the second member of the

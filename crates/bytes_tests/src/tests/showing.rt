@@ -19,7 +19,10 @@ fn shown(alloc: Global, schema: &Schema, bytes: &[u8]) -> Result<String, DynErro
 // The text is whole, or memory was refused.
 #[test]
 fn a_shown_text_and_memory(rt: HostRuntime) -> Result<(), Fail> {
-    let schema = schema_of(rt.alloc(), "M: M m=1, repeated int32 a=2, map<string,bytes> b=3")?;
+    let schema = schema_of(
+        rt.alloc(),
+        "M: M m=1, repeated int32 a=2, map<string,bytes> b=3",
+    )?;
     let bytes = b"\x0a\x06\x12\x02\x01\x02\x28\x07\x1a\x00\x10\x03\x20\x01";
     match shown(rt.alloc(), &schema, bytes) {
         Ok(text) => assert_eq!(rt;
