@@ -1,5 +1,5 @@
 //! How messages and their contents are spelled.
-use pg_dyn::{Content, Message, UnknownRecord, Value};
+use pg_dyn::{Content, DynError, Message, UnknownRecord, Value};
 use std::alloc::{AllocError, Global};
 
 /// Bytes in hexadecimal, and no bytes as `-`.
@@ -8,6 +8,11 @@ pub(crate) fn word(alloc: Global, bytes: &[u8]) -> Result<String, AllocError> {
         return String::from_str(alloc, "-");
     }
     hex::encode(alloc, bytes)
+}
+
+/// The name of an error, with its place.
+pub(crate) fn name_of(alloc: Global, error: DynError) -> Result<String, AllocError> {
+    format!(in alloc; "{error:?}")
 }
 
 // An integer, `f` or `d` and the bits of a float or a double, `'` and a text, `#` and bytes, or a message.

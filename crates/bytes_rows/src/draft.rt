@@ -11,13 +11,6 @@ use std::mem::replace;
 /// What a word answers that spells nothing.
 const UNSPELLED: DynError = DynError::TooLong;
 
-/// Values and contents that no word has taken yet.
-#[derive(Drop)]
-pub(crate) struct Draft {
-    values: Vec<Value>,
-    contents: Vec<(u32, Content)>,
-}
-
 fn boxed(alloc: Global, message: Message) -> Result<Value, DynError> {
     Ok(Value::Msg(Box::new(alloc, message)?))
 }
@@ -105,51 +98,66 @@ fn whole(
     Message::whole(alloc, schema, FIRST, vec![in alloc; content]?)
 }
 
-impl Draft {
-    // The content that a word makes of the values, and the number in it.
-    fn content(&mut self, alloc: Global, spelled: &str) -> Result<Content, DynError> {
-        if spelled.ends_with("*") {
-            return Ok(Content::Many(replace(&mut self.values, Vec::new(alloc))));
-        }
-        if spelled.ends_with(":") {
-            return paired(alloc, replace(&mut self.values, Vec::new(alloc)));
-        }
-        match self.values.pop() {
-            Some(value) => Ok(Content::One(value)),
-            None => Err(UNSPELLED),
-        }
+// The content that a word makes of the values.
+fn content(alloc: Global, values: &mut Vec<Value>, spelled: &str) -> Result<Content, DynError> {
+    if spelled.ends_with("*") {
+        return Ok(Content::Many(replace(values, Vec::new(alloc))));
     }
-
-    fn put_content(&mut self, alloc: Global, spelled: &str) -> Result<(), DynError> {
-        let content = self.content(alloc, spelled)?;
-        match spelled
-            .trim_end_matches("*")
-            .trim_end_matches(":")
-            .parse::<u32>()
-        {
-            Ok(number) => Ok(self.contents.push((number, content))?),
-            Err(_) => Err(UNSPELLED),
-        }
+    if spelled.ends_with(":") {
+        return paired(alloc, replace(values, Vec::new(alloc)));
     }
-
-    fn put_message(&mut self, alloc: Global, schema: &Schema) -> Result<(), DynError> {
-        let value = boxed(alloc, whole(alloc, schema, self.contents.pop())?)?;
-        Ok(self.values.push(value)?)
+    match values.pop() {
+        Some(value) => Ok(Content::One(value)),
+        None => Err(UNSPELLED),
     }
+}
 
-    fn put_value(&mut self, alloc: Global, spelled: &str) -> Result<(), DynError> {
-        let value = value_of(alloc, spelled)?;
-        Ok(self.values.push(value)?)
+fn put_content(
+    alloc: Global,
+    values: &mut Vec<Value>,
+    contents: &mut Vec<(u32, Content)>,
+    spelled: &str,
+) -> Result<(), DynError> {
+    let content = content(alloc, values, spelled)?;
+    match spelled
+        .trim_end_matches("*")
+        .trim_end_matches(":")
+        .parse::<u32>()
+    {
+        Ok(number) => Ok(contents.push((number, content))?),
+        Err(_) => Err(UNSPELLED),
     }
+}
 
-    fn take(&mut self, alloc: Global, schema: &Schema, word: &str) -> Result<(), DynError> {
-        if word == "message" {
-            return self.put_message(alloc, schema);
-        }
-        match word.strip_prefix("=") {
-            Some(spelled) => self.put_content(alloc, spelled),
-            None => self.put_value(alloc, word),
-        }
+fn put_message(
+    alloc: Global,
+    schema: &Schema,
+    values: &mut Vec<Value>,
+    content: Option<(u32, Content)>,
+) -> Result<(), DynError> {
+    let value = boxed(alloc, whole(alloc, schema, content)?)?;
+    Ok(values.push(value)?)
+}
+
+fn put_value(alloc: Global, values: &mut Vec<Value>, spelled: &str) -> Result<(), DynError> {
+    let value = value_of(alloc, spelled)?;
+    Ok(values.push(value)?)
+}
+
+// What a word does with the values and the contents that no word has taken yet.
+fn take(
+    alloc: Global,
+    schema: &Schema,
+    values: &mut Vec<Value>,
+    contents: &mut Vec<(u32, Content)>,
+    word: &str,
+) -> Result<(), DynError> {
+    if word == "message" {
+        return put_message(alloc, schema, values, contents.pop());
+    }
+    match word.strip_prefix("=") {
+        Some(spelled) => put_content(alloc, values, contents, spelled),
+        None => put_value(alloc, values, word),
     }
 }
 
@@ -159,12 +167,10 @@ pub(crate) fn contents_of(
     schema: &Schema,
     words: &str,
 ) -> Result<Vec<(u32, Content)>, DynError> {
-    let mut draft = Draft {
-        values: Vec::new(alloc),
-        contents: Vec::new(alloc),
-    };
+    let mut values = Vec::new(alloc);
+    let mut contents = Vec::new(alloc);
     for word in words.split(' ') {
-        draft.take(alloc, schema, word)?;
+        take(alloc, schema, &mut values, &mut contents, word)?;
     }
-    Ok(draft.contents)
+    Ok(contents)
 }

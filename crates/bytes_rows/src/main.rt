@@ -16,7 +16,9 @@ mod types;
 use std::io;
 
 fn main(rt: HostRuntime) -> io::Result<()> {
-    let mut types = types::Types::none();
+    let Some(mut types) = types::Types::empty(rt.alloc())? else {
+        return Ok(());
+    };
     for row in rt.lines(rt.alloc()) {
         let text = row::answer(rt.alloc(), &mut types, row?.as_str())?;
         println!(rt; "{text}")?;

@@ -10,6 +10,10 @@ fn text(alloc: Global, text: &str) -> Result<String, DynError> {
     Ok(String::from_str(alloc, text)?)
 }
 
+fn answer(alloc: Global, holds: bool) -> Result<String, DynError> {
+    text(alloc, if holds { "true" } else { "false" })
+}
+
 fn read(alloc: Global, schema: &Schema, bytes: &[u8], limit: usize) -> Result<Message, DynError> {
     if !schema.has(FIRST) {
         return Err(DynError::NoSuchField);
@@ -69,7 +73,7 @@ fn contents(alloc: Global, schema: &Schema, bytes: &[u8]) -> Result<String, DynE
 
 fn plain(alloc: Global, schema: &Schema, bytes: &[u8]) -> Result<String, DynError> {
     let message = read(alloc, schema, bytes, 100)?;
-    Ok(format!(in alloc; "{}", message.is_plain())?)
+    answer(alloc, message.is_plain())
 }
 
 /// The bytes of the copy of a message that fits.
@@ -110,7 +114,7 @@ fn of_both(
     bytes: &[u8],
 ) -> Result<String, DynError> {
     let message = read(alloc, schema, bytes, 100)?;
-    Ok(format!(in alloc; "{}", fits(other, &message))?)
+    answer(alloc, fits(other, &message))
 }
 
 // What the other type doesn't have of a message.

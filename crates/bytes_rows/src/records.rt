@@ -81,14 +81,21 @@ fn of_bytes(alloc: Global, call: &str, bytes: &[u8]) -> Result<String, AllocErro
 }
 
 // How many bytes are written in front of others, and all.
-fn written(alloc: Global, value: u64) -> Result<String, AllocError> {
+fn written(alloc: Global, input: &str) -> Result<String, AllocError> {
+    let value = input.parse::<u64>().unwrap_or(0);
     let mut out = [0xaa; 10];
     let length = write_varint(value, &mut out);
     let bytes = word(alloc, &out)?;
     format!(in alloc; "{length} {bytes}")
 }
 
-fn length_of_tag(alloc: Global, number: u32) -> Result<String, AllocError> {
+fn length(alloc: Global, input: &str) -> Result<String, AllocError> {
+    let value = input.parse::<u64>().unwrap_or(0);
+    format!(in alloc; "{}", varint_len(value))
+}
+
+fn length_of_tag(alloc: Global, input: &str) -> Result<String, AllocError> {
+    let number = input.parse::<u32>().unwrap_or(0);
     if number < 536_870_912 {
         return format!(in alloc; "{}", tag_len(number));
     }
@@ -96,17 +103,18 @@ fn length_of_tag(alloc: Global, number: u32) -> Result<String, AllocError> {
 }
 
 // The word of a number, and the number of that word.
-fn zigzag_of(alloc: Global, number: i64) -> Result<String, AllocError> {
+fn zigzag_of(alloc: Global, input: &str) -> Result<String, AllocError> {
+    let number = input.parse::<i64>().unwrap_or(0);
     let word = zigzag(number);
     format!(in alloc; "{word} {}", unzigzag(word))
 }
 
 fn of_number(alloc: Global, call: &str, input: &str) -> Result<String, AllocError> {
     match call {
-        "write" => written(alloc, input.parse::<u64>().unwrap_or(0)),
-        "length" => format!(in alloc; "{}", varint_len(input.parse::<u64>().unwrap_or(0))),
-        "tag" => length_of_tag(alloc, input.parse::<u32>().unwrap_or(0)),
-        _ => zigzag_of(alloc, input.parse::<i64>().unwrap_or(0)),
+        "write" => written(alloc, input),
+        "length" => length(alloc, input),
+        "tag" => length_of_tag(alloc, input),
+        _ => zigzag_of(alloc, input),
     }
 }
 

@@ -1,4 +1,5 @@
 //! One row.
+use crate::contents::name_of;
 use crate::reading::answer_of_bytes;
 use crate::records::answer_of_wire;
 use crate::setting::answer_of_contents;
@@ -36,8 +37,7 @@ fn by_type(
 fn spelled(alloc: Global, found: Result<String, DynError>) -> Result<String, AllocError> {
     match found {
         Ok(text) => Ok(text),
-        Err(DynError::Memory) => Err(AllocError),
-        Err(error) => format!(in alloc; "{error:?}"),
+        Err(error) => name_of(alloc, error),
     }
 }
 
@@ -49,13 +49,9 @@ fn answered(
     input: &str,
 ) -> Result<String, AllocError> {
     match call {
-        "type" => String::from_str(alloc, put(alloc, &mut types.own, input)?),
-        "other" => String::from_str(alloc, put(alloc, &mut types.other, input)?),
-        _ => match (&types.own, &types.other) {
-            (Some(own), Some(other)) => spelled(alloc, by_type(alloc, own, other, call, input)),
-            (Some(own), None) => spelled(alloc, by_type(alloc, own, own, call, input)),
-            _ => spelled(alloc, answer_of_wire(alloc, call, input)),
-        },
+        "type" => put(alloc, &mut types.own, input),
+        "other" => put(alloc, &mut types.other, input),
+        _ => spelled(alloc, by_type(alloc, &types.own, &types.other, call, input)),
     }
 }
 

@@ -1,5 +1,5 @@
 //! Messages that are made of contents, one by one or as a whole.
-use crate::contents::{spelled_content, spelled_message};
+use crate::contents::{name_of, spelled_content, spelled_message};
 use crate::draft::contents_of;
 use crate::reading::{copied, written};
 use crate::types::FIRST;
@@ -40,9 +40,10 @@ fn refused(
     error: DynError,
     back: &Content,
 ) -> Result<String, DynError> {
+    let name = name_of(alloc, error)?;
     let back = spelled_content(alloc, back)?;
     let written = written(alloc, schema, message)?;
-    Ok(format!(in alloc; "{error:?} {back} {written}")?)
+    Ok(format!(in alloc; "{name} {back} {written}")?)
 }
 
 // The bytes of the message that comes of setting the contents in turn.
@@ -54,7 +55,6 @@ fn written_of(
     let mut message = Message::empty(alloc, FIRST);
     match set_each(schema, &mut message, contents) {
         Ok(()) => written(alloc, schema, &message),
-        Err((DynError::Memory, _)) => Err(DynError::Memory),
         Err((error, back)) => refused(alloc, schema, &message, error, &back),
     }
 }
