@@ -62,8 +62,9 @@ fn ten_thousand_falling_keys_that_are_read(rt: HostRuntime) -> Result<(), Fail> 
 /// Ten thousand entries by falling keys.
 fn falling(alloc: Global) -> Result<Content, AllocError> {
     let mut entries = Vec::new(alloc);
-    for place in 0..10_000i128 {
-        entries.push((Value::Int(10_000 - place), Value::Int(1)))?;
+    for place in 0..10_000u32 {
+        let key = i128::from(10_000 - place);
+        entries.push((Value::Int(key), Value::Int(1)))?;
     }
     Ok(Content::Map(entries))
 }
