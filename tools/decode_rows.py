@@ -1,8 +1,10 @@
 #!/usr/bin/python3
-"""Makes the rows of crates/dyn_tests/src/tests: byte strings, and what python3-protobuf (its C++ core) reads and writes again.
+"""Makes rows of crates/bytes_rows: byte strings, and what python3-protobuf (its C++ core) reads and writes again.
 
-Run `/usr/bin/python3 tools/decode_rows.py crates/dyn_tests/src/tests`, then `rt fmt` in crates/dyn_tests. The rows are always the
-same. Those of apart_rows.rt are what this crate and that runtime tell apart by choice, each with its reason; all others leave it out.
+Run `/usr/bin/python3 tools/decode_rows.py` at the top of the repository. It writes the lines of crates/bytes_rows/stdin and stdout that
+begin with `another runtime` anew, behind the others, which are written by hand, and crates/bytes_tests/src/tests/pair_rows.rt, which then
+wants `rt fmt`. The rows are always the same. Those of APART are what this repository and that runtime make of bytes otherwise by choice,
+each with its reason; all others leave it out.
 """
 import random
 import sys
@@ -13,11 +15,38 @@ from google.protobuf.internal import api_implementation
 LABEL = descriptor_pb2.FieldDescriptorProto
 
 
+WORDS = {number: name[5:].lower() for name, number in LABEL.Type.items()}
+
+
+def declared_field(message, field):
+    """A field as a row declares it."""
+    kind = field.type_name[1:] or WORDS[field.type]
+    entries = {".%s.%s" % (message.name, entry.name): entry for entry in message.nested_type}
+    label = ""
+    if field.type_name in entries:
+        key, value = entries[field.type_name].field
+        kind = "map<%s,%s>" % (WORDS[key.type], value.type_name[1:] or WORDS[value.type])
+    elif field.label == LABEL.LABEL_REPEATED:
+        label = "unpacked " if field.options.HasField("packed") else "repeated "
+    elif field.proto3_optional:
+        label = "optional "
+    elif field.HasField("oneof_index"):
+        label = "k%d " % field.oneof_index
+    return "%s%s %s=%d" % (label, kind, field.name, field.number)
+
+
+def declared(file):
+    """The message type of a file as crates/tiny_schemas reads it."""
+    message = file.message_type[0]
+    fields = sorted(message.field, key=lambda field: field.number)
+    return "%s: %s" % (message.name, ", ".join(declared_field(message, field) for field in fields))
+
+
 def kind_of(file, name):
-    """The class of the messages of a type in a file."""
+    """The class of the messages of a type in a file, and the file's declarations."""
     pool = descriptor_pool.DescriptorPool()
     pool.Add(file)
-    return message_factory.MessageFactory(pool).GetPrototype(pool.FindMessageTypeByName(name))
+    return message_factory.MessageFactory(pool).GetPrototype(pool.FindMessageTypeByName(name)), declared(file)
 
 
 def adding(message):
@@ -42,7 +71,7 @@ def add_entry(message, name, key, value, type_name=None):
 
 
 def schema():
-    """`message M`, the type of rows.rt and apart_rows.rt."""
+    """`message M`, the type of the first rows and of those that are taken otherwise."""
     file = descriptor_pb2.FileDescriptorProto(name="m.proto", syntax="proto3")
     message = file.message_type.add(name="M")
     add = adding(message)
@@ -59,7 +88,7 @@ def schema():
 
 
 def wide_schema():
-    """`message W`, the type of wide_rows.rt."""
+    """`message W`, with lists of each kind, maps and a message in a oneof."""
     file = descriptor_pb2.FileDescriptorProto(name="w.proto", syntax="proto3")
     states = file.enum_type.add(name="E")
     states.value.add(name="ZERO", number=0)
@@ -89,7 +118,7 @@ def wide_schema():
 
 
 def far_schema():
-    """`message F`, the type of far_rows.rt: 36 fields, of which the first, one in the middle and the last are members of a oneof."""
+    """`message F`: 36 fields, of which the first, one in the middle and the last are members of a oneof."""
     file = descriptor_pb2.FileDescriptorProto(name="f.proto", syntax="proto3")
     message = file.message_type.add(name="F")
     message.oneof_decl.add(name="k")
@@ -105,7 +134,7 @@ def far_schema():
 
 
 def pair_schema():
-    """`message P`, the type of pair_rows.rt: 60 oneofs of two numbers each, and a number that is in none."""
+    """`message P`: 60 oneofs of two numbers each, and a number that is in none."""
     file = descriptor_pb2.FileDescriptorProto(name="p.proto", syntax="proto3")
     message = file.message_type.add(name="P")
     add = adding(message)
@@ -123,7 +152,7 @@ VALUES = [LABEL.TYPE_DOUBLE, LABEL.TYPE_FLOAT] + KEYS + [LABEL.TYPE_BYTES, LABEL
 
 
 def entry_schema():
-    """`message T`, the type of entry_rows.rt and between_rows.rt: a map to each type of value, with all types of keys in turn."""
+    """`message T`: a map to each type of value, with all types of keys in turn."""
     file = descriptor_pb2.FileDescriptorProto(name="t.proto", syntax="proto3")
     states = file.enum_type.add(name="E")
     states.value.add(name="ZERO", number=0)
@@ -318,6 +347,7 @@ def look(message):
 
 
 def again(kind, data, looks=True):
+    """What the runtime writes again, or None where it refuses the bytes."""
     message = kind()
     try:
         message.ParseFromString(data)
@@ -328,15 +358,8 @@ def again(kind, data, looks=True):
     return message.SerializeToString(deterministic=True)
 
 
-def literal(data):
-    return 'b"' + "".join("\\x%02x" % b for b in data) + '"'
-
-
-def option(back):
-    return "None" if back is None else "Some(%s)" % literal(back)
-
-
 def made_rows(kind, records, count, seed, longest=60):
+    """Byte strings at random."""
     r = random.Random(seed)
     rows = []
     seen = set()
@@ -347,80 +370,149 @@ def made_rows(kind, records, count, seed, longest=60):
         if data in seen or len(data) > longest:
             continue
         seen.add(data)
-        rows.append((data, again(kind, data)))
+        rows.append(data)
     return rows
 
 
-def write_rows(path, rows):
+class Lines:
+    """Lines of standard input and of standard output."""
+
+    def __init__(self):
+        self.asked, self.answered = [], []
+
+    def add(self, what, asked, answer):
+        what = "another runtime" + what
+        assert " | " not in what
+        self.asked.append("%s | %s\n" % (what, asked))
+        self.answered.append("%s | %s\n" % (what, answer))
+
+    def add_type(self, name, text):
+        self.add(": type " + name, "type " + text, "taken")
+
+    def add_rows(self, what, kind, rows):
+        """Byte strings, and what the runtime writes again."""
+        for place, data in enumerate(rows, 1):
+            self.add(": %s, %d" % (what, place), "again " + spelled(data), spelled(again(kind, data)))
+
+    def add_groups(self, kind, groups):
+        """Groups of byte strings in hexadecimal, each with what it shows."""
+        for what, words in groups:
+            self.add_rows(what, kind, [bytes.fromhex(word) for word in words])
+
+    def add_apart(self, kind):
+        for data, ours, why in APART:
+            theirs = again(kind, data, looks=False)
+            assert theirs != ours, data
+            self.add(" takes it otherwise: " + why, "apart %s %s" % (spelled(theirs), spelled(data)), spelled(ours))
+
+    def put_behind(self, folder):
+        """Puts them behind the lines that are written by hand."""
+        for name, lines in [("stdin", self.asked), ("stdout", self.answered)]:
+            with open(folder + "/" + name, encoding="utf-8") as file:
+                kept = [line for line in file if not line.startswith("another runtime")]
+            with open(folder + "/" + name, "w", encoding="utf-8") as file:
+                file.writelines(kept + lines)
+
+
+def spelled(data):
+    """How a row spells bytes, and that they are refused."""
+    return "refused" if data is None else data.hex() or "-"
+
+
+def literal(data):
+    return 'b"' + "".join("\\x%02x" % b for b in data) + '"'
+
+
+def write_pairs(path, kind, text, rows):
+    """The rows that a test reads with memory refused, those that are read, and their type."""
+    rows = [(data, again(kind, data)) for data in rows]
+    rows = [(data, back) for data, back in rows if back is not None]
     with open(path, "w", encoding="utf-8") as out:
-        print("//! Made by tools/decode_rows.py: bytes, and those that python3-protobuf writes again; none where it refuses them.", file=out)
-        # more in one list are too many to be proved at once
-        for first in range(0, len(rows), 20):
-            part = rows[first : first + 20]
-            print("\npub(super) static ROWS_%d: [(&[u8], Option<&[u8]>); %d] = [" % (first // 20 + 1, len(part)), file=out)
-            for data, back in part:
-                print("    (%s, %s)," % (literal(data), option(back)), file=out)
-            print("];", file=out)
+        print("//! Made by tools/decode_rows.py: bytes, and those that python3-protobuf writes again.", file=out)
+        print('\npub(super) const TYPE: &str =\n    "%s";' % text, file=out)
+        print("\npub(super) static ROWS: [(&[u8], &[u8]); %d] = [" % len(rows), file=out)
+        for data, back in rows:
+            print("    (%s, %s)," % (literal(data), literal(back)), file=out)
+        print("];", file=out)
 
 
 NINE = "80" * 9
 
 # Bytes of `M`, in hexadecimal, that are written in an odd way or are no message.
 ODD = [
-    # groups that no end closes, or an end by another number, or one beyond the message that holds them, and ends inside a message
-    "4b", "4b 54", "4b 4b 4c", "13", "0b 14", "0a 01 4b 4c", "0a 01 4c", "0a 01 0c", "22 01 4b 4c", "22 01 4c", "2a 03 4b 10 05", "32 01 4b",
-    # the wire types 6 and 7
-    "16", "17 05", "4e 05", "10 05 4f", "0a 02 4f 05", "22 02 0e 05",
-    # tags, lengths and words that are longer than needed, up to too long
-    "90 00 05", "90 80 80 80 00 05", "90" + NINE + "00 05", "32 81 00 61", "32 81 80 80 80 00 61", "32 81" + NINE + "00 61", "22 84 00 08 85 00 12",
-    "10 85 00", "10 85 80 80 80 80 80 80 80 80 00", "10 85" + NINE + "00", "10" + NINE, "18 82 80 80 00 1a 03 84 80 00", "22 05 08 85 80 80 00",
-    # words of ten bytes with bits above 64
-    "10 85 80 80 80 80 80 80 80 80 7e", "10" + "ff" * 9 + "7f", "10" + NINE + "02", "10 05 10" + NINE + "7e", "1a 0b" + NINE + "7e 02", "18" + "ff" * 9 + "03",
-    "22 0b 08" + NINE + "7e", "22 0b 08" + "ff" * 9 + "41",
-    # fields of the number 0
-    "02 00", "01 00 00 00 00 00 00 00 00", "05 00 00 00 00", "03", "06", "0a 01 00", "0a 02 00 05", "22 01 00", "22 02 00 05", "2a 02 02 00", "10 05 02 01 61",
-    # the greatest number of a field, numbers that none may have, and tags of more than 32 bits
-    "f8 ff ff ff 0f 05", "fa ff ff ff 0f 01 61", "fd ff ff ff 0f 01 02 03 04", "c0 a3 09 05", "fa bf 09 00", "f8 ff ff ff ff 00 05", "0a 06 f8 ff ff ff 0f 05",
-    # bodies that are cut off
-    "3d", "3d 01 02 03", "15 00 00 00", "11 00 00 00 00 00 00 00", "11", "0d 00 00 00", "0a 03 3d 00 00", "10", "10 80", "32", "32 05 61", "0a 05 10 05",
-    "22 03 08 80 80", "22 02 12 01", "22 04 15 00 00 00", "0a 02 10 80 10 05", "2a 03 0a 02 10 05", "32 ff ff ff ff 07", "0a ff ff ff ff ff ff ff ff ff 01",
-    # packed lists that end in an item
-    "1a 01 80", "1a 03 02 80 80", "1a 02 80 80 00", "1a 0b 80" + NINE + "01", "1a 0c" + NINE + "01 80 00", "1a 05 02",
-    # lists, and items of another wire type, where the field takes none of them
-    "12 01 05", "12 00", "12 02 05 06 10 07", "3a 04 01 00 00 00", "32 01 61 3a 04 00 00 00 00", "3d 01 00 00 00 30 05", "08 05", "0d 00 00 00 00", "28 05",
-    "20 05", "25 00 00 00 00", "1d 00 00 00 00", "19 00 00 00 00 00 00 00 00", "22 06 0a 01 05 12 01 61", "22 05 08 05 12 01 61", "22 04 08 05 10 06",
-    # texts with a zero, at the edges of UTF-8, and that are none
-    "32 01 00", "32 03 ef bf bf", "32 04 f4 8f bf bf", "32 02 c0 80", "32 03 ed a0 80", "32 03 e0 80 80", "32 04 f4 90 80 80", "32 02 c3 28", "32 01 c3",
-    "32 01 80", "22 05 12 03 ed a0 80", "32 01 c3 32 02 c3 a4", "32 01 ff 3d 00 00 00 00",
-    # a message in parts, of which one has a member of a oneof that a later part overrules, and a later one has nothing to keep
-    "0a 03 32 01 61 0a 05 3d 00 00 00 00 0a 02 10 00",
+    ("groups that aren't closed where they begin", [
+        "4b", "4b 54", "4b 4b 4c", "13", "0b 14", "0a 01 4b 4c", "0a 01 4c", "0a 01 0c", "22 01 4b 4c", "22 01 4c", "2a 03 4b 10 05", "32 01 4b",
+    ]),
+    ("wire types 6 and 7", [
+        "16", "17 05", "4e 05", "10 05 4f", "0a 02 4f 05", "22 02 0e 05",
+    ]),
+    ("tags, lengths and words that are longer than needed", [
+        "90 00 05", "90 80 80 80 00 05", "90" + NINE + "00 05", "32 81 00 61", "32 81 80 80 80 00 61", "32 81" + NINE + "00 61", "22 84 00 08 85 00 12",
+        "10 85 00", "10 85 80 80 80 80 80 80 80 80 00", "10 85" + NINE + "00", "10" + NINE, "18 82 80 80 00 1a 03 84 80 00", "22 05 08 85 80 80 00",
+    ]),
+    ("words of ten bytes with bits above 64", [
+        "10 85 80 80 80 80 80 80 80 80 7e", "10" + "ff" * 9 + "7f", "10" + NINE + "02", "10 05 10" + NINE + "7e", "1a 0b" + NINE + "7e 02", "18" + "ff" * 9 + "03",
+        "22 0b 08" + NINE + "7e", "22 0b 08" + "ff" * 9 + "41",
+    ]),
+    ("fields of the number 0", [
+        "02 00", "01 00 00 00 00 00 00 00 00", "05 00 00 00 00", "03", "06", "0a 01 00", "0a 02 00 05", "22 01 00", "22 02 00 05", "2a 02 02 00", "10 05 02 01 61",
+    ]),
+    ("the greatest numbers, and tags of more than 32 bits", [
+        "f8 ff ff ff 0f 05", "fa ff ff ff 0f 01 61", "fd ff ff ff 0f 01 02 03 04", "c0 a3 09 05", "fa bf 09 00", "f8 ff ff ff ff 00 05", "0a 06 f8 ff ff ff 0f 05",
+    ]),
+    ("bodies that are cut off", [
+        "3d", "3d 01 02 03", "15 00 00 00", "11 00 00 00 00 00 00 00", "11", "0d 00 00 00", "0a 03 3d 00 00", "10", "10 80", "32", "32 05 61", "0a 05 10 05",
+        "22 03 08 80 80", "22 02 12 01", "22 04 15 00 00 00", "0a 02 10 80 10 05", "2a 03 0a 02 10 05", "32 ff ff ff ff 07", "0a ff ff ff ff ff ff ff ff ff 01",
+    ]),
+    ("packed lists that end in an item", [
+        "1a 01 80", "1a 03 02 80 80", "1a 02 80 80 00", "1a 0b 80" + NINE + "01", "1a 0c" + NINE + "01 80 00", "1a 05 02",
+    ]),
+    ("lists, and items of another wire type", [
+        "12 01 05", "12 00", "12 02 05 06 10 07", "3a 04 01 00 00 00", "32 01 61 3a 04 00 00 00 00", "3d 01 00 00 00 30 05", "08 05", "0d 00 00 00 00", "28 05",
+        "20 05", "25 00 00 00 00", "1d 00 00 00 00", "19 00 00 00 00 00 00 00 00", "22 06 0a 01 05 12 01 61", "22 05 08 05 12 01 61", "22 04 08 05 10 06",
+    ]),
+    ("texts at the edges of UTF-8", [
+        "32 01 00", "32 03 ef bf bf", "32 04 f4 8f bf bf", "32 02 c0 80", "32 03 ed a0 80", "32 03 e0 80 80", "32 04 f4 90 80 80", "32 02 c3 28", "32 01 c3",
+        "32 01 80", "22 05 12 03 ed a0 80", "32 01 c3 32 02 c3 a4", "32 01 ff 3d 00 00 00 00",
+    ]),
+    ("a message in parts, of which one has a member that a later one overrules", [
+        "0a 03 32 01 61 0a 05 3d 00 00 00 00 0a 02 10 00",
+    ]),
 ]
 
 # The same of `W`.
 ODD_WIDE = [
-    # words and packed lists of words, fixed and not, that are cut off
-    "1a 07 00 00 00 00 00 00 00", "1a 09 00 00 00 00 00 00 00 00 00", "1a 0f" + "00" * 15, "22 03 00 00 00", "22 05 00 00 00 00 00", "19 00 00 00 00 00 00 00",
-    "25 00 00 00", "71 00 00 00 00", "12 01 80", "12 02 02 80", "0a 01 80", "0a 02 80 80", "32 01 ff", "32 0b" + "ff" * 10 + "01", "4a 08 11 00 00 00 00 00 00 00",
-    # words of ten bytes with bits above 64
-    "12 0a" + NINE + "02", "12 0a" + NINE + "03", "10" + NINE + "7e", "42 0b 08" + NINE + "02", "42 0d 08" + NINE + "7f 12 00", "28" + NINE + "02",
-    "28" + "ff" * 9 + "7f", "32 0a" + "ff" * 9 + "7f", "60" + "ff" * 9 + "7f", "60" + NINE + "02", "68" + "ff" * 9 + "7f", "68" + NINE + "7e", "0a 0a" + "ff" * 9 + "7f",
-    "4a 0b 08" + "ff" * 9 + "7f",
-    # lists, and items of another wire type, where the field takes none of them
-    "0d 00 00 00 00", "09 00 00 00 00 00 00 00 00", "15 00 00 00 00", "1d 00 00 00 00", "18 05", "21 00 00 00 00 00 00 00 00", "20 05", "2a 01 05", "2d 05 00 00 00",
-    "35 05 00 00 00", "62 01 05", "6a 01 05", "72 08 00 00 00 00 00 00 00 00", "75 00 00 00 00", "50 05", "58 05", "5a 01 61 50 05", "52 00 58 05", "38 05",
-    "3a 02 10 05", "3a 05 12 03 d8 01 05", "3a 0a 12 03 d8 01 05 12 03 d8 01 06", "3a 04 0a 00 15 00", "42 02 0a 00", "42 02 10 05", "4a 02 0a 00", "4a 05 15 00 00 00 00", "4a 06 08 05 12 02 00 00",
-    # a message in a oneof: its bodies are joined, unless a record of another member that its field takes stands between them
-    "52 02 60 05 52 02 08 01", "52 02 60 05 58 05 52 02 08 01", "52 02 60 05 5a 01 61 52 02 08 01", "52 02 60 05 5a 00 52 02 08 01", "52 02 60 05 5a 00",
-    "5a 01 61 52 00", "52 02 60 05 50 05", "52 02 60 05 52 02 60 00",
-    # lists of nothing, beside items
-    "0a 00", "12 00", "1a 00", "22 00", "32 00", "0a 00 08 05 0a 00", "1a 00 19 05 00 00 00 00 00 00 00 1a 00",
-    # a message in a oneof that a later member overrules, and that can't be read
-    "52 01 0c 5a 01 61", "52 02 12 05 5a 01 61", "52 04 52 02 60 80 5a 01 61", "52 05 52 03 0a 01 80 5a 01 61", "52 07 3a 05 0a 01 ff 12 00 5a 01 61",
-    # a oneof whose members stand in several bodies of one entry's value
-    "3a 09 12 03 5a 01 61 12 02 52 00", "3a 0d 12 02 60 05 12 03 5a 01 61 12 02 60 00",
-    # a message in a oneof that starts again after another member, with what is in it alone, and lists of booleans between single ones
-    "52 02 60 05 5a 01 61 52 02 08 01 5a 01 62", "52 03 d8 01 05 5a 01 61 52 03 d8 01 06", "52 05 52 03 5a 01 61 52 04 52 02 52 00",
-    "12 01 01 10 00 12 02 01 00 10 01",
+    ("W: words and packed lists that are cut off", [
+        "1a 07 00 00 00 00 00 00 00", "1a 09 00 00 00 00 00 00 00 00 00", "1a 0f" + "00" * 15, "22 03 00 00 00", "22 05 00 00 00 00 00", "19 00 00 00 00 00 00 00",
+        "25 00 00 00", "71 00 00 00 00", "12 01 80", "12 02 02 80", "0a 01 80", "0a 02 80 80", "32 01 ff", "32 0b" + "ff" * 10 + "01", "4a 08 11 00 00 00 00 00 00 00",
+    ]),
+    ("W: words of ten bytes with bits above 64", [
+        "12 0a" + NINE + "02", "12 0a" + NINE + "03", "10" + NINE + "7e", "42 0b 08" + NINE + "02", "42 0d 08" + NINE + "7f 12 00", "28" + NINE + "02",
+        "28" + "ff" * 9 + "7f", "32 0a" + "ff" * 9 + "7f", "60" + "ff" * 9 + "7f", "60" + NINE + "02", "68" + "ff" * 9 + "7f", "68" + NINE + "7e", "0a 0a" + "ff" * 9 + "7f",
+        "4a 0b 08" + "ff" * 9 + "7f",
+    ]),
+    ("W: lists, and items of another wire type", [
+        "0d 00 00 00 00", "09 00 00 00 00 00 00 00 00", "15 00 00 00 00", "1d 00 00 00 00", "18 05", "21 00 00 00 00 00 00 00 00", "20 05", "2a 01 05", "2d 05 00 00 00",
+        "35 05 00 00 00", "62 01 05", "6a 01 05", "72 08 00 00 00 00 00 00 00 00", "75 00 00 00 00", "50 05", "58 05", "5a 01 61 50 05", "52 00 58 05", "38 05",
+        "3a 02 10 05", "3a 05 12 03 d8 01 05", "3a 0a 12 03 d8 01 05 12 03 d8 01 06", "3a 04 0a 00 15 00", "42 02 0a 00", "42 02 10 05", "4a 02 0a 00", "4a 05 15 00 00 00 00", "4a 06 08 05 12 02 00 00",
+    ]),
+    ("W: a message in a oneof, in parts", [
+        "52 02 60 05 52 02 08 01", "52 02 60 05 58 05 52 02 08 01", "52 02 60 05 5a 01 61 52 02 08 01", "52 02 60 05 5a 00 52 02 08 01", "52 02 60 05 5a 00",
+        "5a 01 61 52 00", "52 02 60 05 50 05", "52 02 60 05 52 02 60 00",
+    ]),
+    ("W: lists of nothing", [
+        "0a 00", "12 00", "1a 00", "22 00", "32 00", "0a 00 08 05 0a 00", "1a 00 19 05 00 00 00 00 00 00 00 1a 00",
+    ]),
+    ("W: a message that a later member overrules, and that can't be read", [
+        "52 01 0c 5a 01 61", "52 02 12 05 5a 01 61", "52 04 52 02 60 80 5a 01 61", "52 05 52 03 0a 01 80 5a 01 61", "52 07 3a 05 0a 01 ff 12 00 5a 01 61",
+    ]),
+    ("W: members of a oneof in the parts of an entry's value", [
+        "3a 09 12 03 5a 01 61 12 02 52 00", "3a 0d 12 02 60 05 12 03 5a 01 61 12 02 60 00",
+    ]),
+    ("W: a message that starts again after another member", [
+        "52 02 60 05 5a 01 61 52 02 08 01 5a 01 62", "52 03 d8 01 05 5a 01 61 52 03 d8 01 06", "52 05 52 03 5a 01 61 52 04 52 02 52 00",
+        "12 01 01 10 00 12 02 01 00 10 01",
+    ]),
 ]
 
 
@@ -458,40 +550,33 @@ APART = [
 ]
 
 
-def write_apart(path, kind):
-    with open(path, "w", encoding="utf-8") as out:
-        print("//! Made by tools/decode_rows.py: bytes that python3-protobuf takes otherwise, on purpose. Each has what this crate writes again,", file=out)
-        print("//! what that runtime does, none where it refuses the bytes, and why.", file=out)
-        print("\npub(super) static ROWS: [(&[u8], Option<&[u8]>, Option<&[u8]>, &str); %d] = [" % len(APART), file=out)
-        for data, ours, why in APART:
-            theirs = again(kind, data, looks=False)
-            assert theirs != ours, data
-            print('    (%s, %s, %s, "%s"),' % (literal(data), option(ours), option(theirs), why), file=out)
-        print("];", file=out)
-
-
-def read_rows(kind, words):
-    """Rows of bytes in hexadecimal."""
-    return [(bytes.fromhex(word), again(kind, bytes.fromhex(word))) for word in words]
-
-
 def main():
     # a runtime in Python alone reads otherwise
     assert api_implementation.Type() == "cpp"
-    folder = sys.argv[1]
-    rows = made_rows(schema(), records, 220, 18)
-    # all in one file are too many lines to read
-    write_rows(folder + "/rows.rt", rows[:110])
-    write_rows(folder + "/more_rows.rt", rows[110:])
-    write_rows(folder + "/wide_rows.rt", made_rows(wide_schema(), wide_records, 60, 19))
-    write_rows(folder + "/far_rows.rt", made_rows(far_schema(), far_records, 4, 20, longest=200))
-    write_rows(folder + "/pair_rows.rt", made_rows(pair_schema(), pair_records, 8, 22, longest=300))
-    write_rows(folder + "/odd_rows.rt", read_rows(schema(), ODD))
-    write_rows(folder + "/odd_wide_rows.rt", read_rows(wide_schema(), ODD_WIDE))
-    kind = entry_schema()
-    write_rows(folder + "/entry_rows.rt", [(data, again(kind, data)) for data in each_entry()] + read_rows(kind, ENTRIES))
-    write_rows(folder + "/between_rows.rt", made_rows(kind, entries_between, 30, 21, longest=120))
-    write_apart(folder + "/apart_rows.rt", schema())
+    lines = Lines()
+    kind, text = schema()
+    lines.add_type("M", text)
+    lines.add_rows("M at random", kind, made_rows(kind, records, 220, 18))
+    lines.add_groups(kind, ODD)
+    lines.add_apart(kind)
+    kind, text = wide_schema()
+    lines.add_type("W", text)
+    lines.add_rows("W at random", kind, made_rows(kind, wide_records, 60, 19))
+    lines.add_groups(kind, ODD_WIDE)
+    kind, text = far_schema()
+    lines.add_type("F", text)
+    lines.add_rows("members that stand far apart", kind, made_rows(kind, far_records, 4, 20, longest=200))
+    kind, text = pair_schema()
+    lines.add_type("P", text)
+    pairs = made_rows(kind, pair_records, 8, 22, longest=300)
+    lines.add_rows("many oneofs", kind, pairs)
+    write_pairs("crates/bytes_tests/src/tests/pair_rows.rt", kind, text, pairs)
+    kind, text = entry_schema()
+    lines.add_type("T", text)
+    lines.add_rows("entries without a key or a value, in both orders, twice, and between others", kind, each_entry())
+    lines.add_rows("a key twice, and keys that are one", kind, [bytes.fromhex(word) for word in ENTRIES])
+    lines.add_rows("entries between other records", kind, made_rows(kind, entries_between, 30, 21, longest=120))
+    lines.put_behind("crates/bytes_rows")
 
 
 main()

@@ -2,6 +2,8 @@
 #![tactic(auto)]
 
 #[cfg(test)]
-mod rule_tests;
+mod pieces;
+#[cfg(test)]
+mod rules;
 #[cfg(test)]
 mod tests;

@@ -1,0 +1,182 @@
+//! What is made of bytes by a type.
+use crate::contents::{spelled_message, word};
+use crate::types::FIRST;
+use pg_dyn::{DynError, Message, copy, decode, decode_unlimited, encode, encode_outside, fits};
+use pg_schema::Schema;
+use pg_show::{HexError, bytes_of_hex, show};
+use std::alloc::{AllocError, Global};
+
+fn text(alloc: Global, text: &str) -> Result<String, DynError> {
+    Ok(String::from_str(alloc, text)?)
+}
+
+fn answer(alloc: Global, holds: bool) -> Result<String, DynError> {
+    text(alloc, if holds { "true" } else { "false" })
+}
+
+fn read(alloc: Global, schema: &Schema, bytes: &[u8], limit: usize) -> Result<Message, DynError> {
+    if !schema.has(FIRST) {
+        return Err(DynError::NoSuchField);
+    }
+    decode(alloc, schema, FIRST, bytes, limit)
+}
+
+/// The bytes of a message that fits the schema; of one that doesn't fit `WrongKind`.
+pub(crate) fn written(
+    alloc: Global,
+    schema: &Schema,
+    message: &Message,
+) -> Result<String, DynError> {
+    if !fits(schema, message) {
+        return Err(DynError::WrongKind);
+    }
+    Ok(word(alloc, &encode(alloc, schema, message)?)?)
+}
+
+// What is written again of bytes that are read.
+fn rewritten(alloc: Global, schema: &Schema, bytes: &[u8]) -> Result<String, DynError> {
+    let message = read(alloc, schema, bytes, 100)?;
+    written(alloc, schema, &message)
+}
+
+// The same, or `refused` where the bytes have a fault, whichever it is.
+fn again(alloc: Global, schema: &Schema, bytes: &[u8]) -> Result<String, DynError> {
+    match rewritten(alloc, schema, bytes) {
+        Err(DynError::Wire(_) | DynError::NotUtf8 { at: Some(_) } | DynError::TooDeep { .. }) => {
+            text(alloc, "refused")
+        }
+        found => found,
+    }
+}
+
+// The same, or a complaint where it is what another runtime makes of the bytes.
+fn apart(alloc: Global, schema: &Schema, bytes: &[u8], theirs: &str) -> Result<String, DynError> {
+    let found = again(alloc, schema, bytes)?;
+    if found.as_str() == theirs {
+        return text(alloc, "as another runtime");
+    }
+    Ok(found)
+}
+
+// Whether bytes are read within a limit of depth.
+fn within(alloc: Global, schema: &Schema, bytes: &[u8], limit: &str) -> Result<String, DynError> {
+    let limit = limit.parse::<usize>().unwrap_or(100);
+    let _message = read(alloc, schema, bytes, limit)?;
+    text(alloc, "read")
+}
+
+// The contents that are read.
+fn contents(alloc: Global, schema: &Schema, bytes: &[u8]) -> Result<String, DynError> {
+    let message = read(alloc, schema, bytes, 100)?;
+    Ok(spelled_message(alloc, &message)?)
+}
+
+fn plain(alloc: Global, schema: &Schema, bytes: &[u8]) -> Result<String, DynError> {
+    let message = read(alloc, schema, bytes, 100)?;
+    answer(alloc, message.is_plain())
+}
+
+/// The bytes of the copy of a message that fits.
+pub(crate) fn copied(
+    alloc: Global,
+    schema: &Schema,
+    message: &Message,
+) -> Result<String, DynError> {
+    if !fits(schema, message) {
+        return Err(DynError::WrongKind);
+    }
+    let copied = copy(alloc, schema, message)?;
+    written(alloc, schema, &copied)
+}
+
+// What is written of the copy of a message.
+fn copied_again(alloc: Global, schema: &Schema, bytes: &[u8]) -> Result<String, DynError> {
+    let message = read(alloc, schema, bytes, 100)?;
+    copied(alloc, schema, &message)
+}
+
+// The same of a message that is read without a limit of depth, or `none`.
+fn unlimited(alloc: Global, schema: &Schema, bytes: &[u8]) -> Result<String, DynError> {
+    if !schema.has(FIRST) {
+        return Err(DynError::NoSuchField);
+    }
+    match decode_unlimited(alloc, schema, FIRST, bytes)? {
+        Some(message) => copied(alloc, schema, &message),
+        None => text(alloc, "none"),
+    }
+}
+
+// Whether a message is one of the other schema too.
+fn of_both(
+    alloc: Global,
+    schema: &Schema,
+    other: &Schema,
+    bytes: &[u8],
+) -> Result<String, DynError> {
+    let message = read(alloc, schema, bytes, 100)?;
+    answer(alloc, fits(other, &message))
+}
+
+// What the other type doesn't have of a message.
+fn outside(
+    alloc: Global,
+    schema: &Schema,
+    other: &Schema,
+    bytes: &[u8],
+) -> Result<String, DynError> {
+    let message = read(alloc, schema, bytes, 100)?;
+    if !fits(schema, &message) {
+        return Err(DynError::WrongKind);
+    }
+    Ok(word(
+        alloc,
+        &encode_outside(alloc, schema, &message, other, FIRST)?,
+    )?)
+}
+
+fn shown(alloc: Global, schema: &Schema, bytes: &[u8]) -> Result<String, DynError> {
+    if !schema.has(FIRST) {
+        return Err(DynError::NoSuchField);
+    }
+    let text = show(alloc, schema, FIRST, bytes)?;
+    Ok(format!(in alloc; "{}", text.as_bytes().escape_ascii())?)
+}
+
+// What a call makes of bytes, beside which it has another word or none.
+fn found(
+    alloc: Global,
+    schema: &Schema,
+    other: &Schema,
+    call: &str,
+    beside: &str,
+    bytes: &[u8],
+) -> Result<String, DynError> {
+    match call {
+        "again" => again(alloc, schema, bytes),
+        "within" => within(alloc, schema, bytes, beside),
+        "apart" => apart(alloc, schema, bytes, beside),
+        "read" => contents(alloc, schema, bytes),
+        "plain" => plain(alloc, schema, bytes),
+        "copy" => copied_again(alloc, schema, bytes),
+        "unlimited" => unlimited(alloc, schema, bytes),
+        "fits" => of_both(alloc, schema, other, bytes),
+        "outside" => outside(alloc, schema, other, bytes),
+        _ => shown(alloc, schema, bytes),
+    }
+}
+
+/// What a call makes of `[WORD] HEX`.
+pub(crate) fn answer_of_bytes(
+    alloc: Global,
+    schema: &Schema,
+    other: &Schema,
+    call: &str,
+    input: &str,
+) -> Result<String, DynError> {
+    let (beside, spelled) = input.split_once(' ').unwrap_or(("", input));
+    match bytes_of_hex(alloc, spelled) {
+        Ok(bytes) => found(alloc, schema, other, call, beside, &bytes),
+        Err(HexError::Memory) => Err(DynError::Memory),
+        Err(HexError::BadHex) => text(alloc, "no hexadecimal"),
+    }
+}

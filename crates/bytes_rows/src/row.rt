@@ -1,0 +1,64 @@
+//! One row.
+use crate::contents::name_of;
+use crate::reading::answer_of_bytes;
+use crate::records::answer_of_wire;
+use crate::setting::answer_of_contents;
+use crate::types::{Types, put};
+use pg_dyn::DynError;
+use pg_schema::Schema;
+use rows::cut;
+use std::alloc::{AllocError, Global};
+
+// What a call by the type of the rows answers; one that isn't of messages is one of `pg_wire`.
+fn by_type(
+    alloc: Global,
+    schema: &Schema,
+    other: &Schema,
+    call: &str,
+    input: &str,
+) -> Result<String, DynError> {
+    match call {
+        "set" | "hold" | "whole" | "copied" => answer_of_contents(alloc, schema, call, input),
+        "again"
+        | "within"
+        | "apart"
+        | "read"
+        | "plain"
+        | "copy"
+        | "unlimited"
+        | "fits"
+        | "outside"
+        | "show" => answer_of_bytes(alloc, schema, other, call, input),
+        _ => answer_of_wire(alloc, call, input),
+    }
+}
+
+// The answer, or the name of the error.
+fn spelled(alloc: Global, found: Result<String, DynError>) -> Result<String, AllocError> {
+    match found {
+        Ok(text) => Ok(text),
+        Err(error) => name_of(alloc, error),
+    }
+}
+
+// What a call answers.
+fn answered(
+    alloc: Global,
+    types: &mut Types,
+    call: &str,
+    input: &str,
+) -> Result<String, AllocError> {
+    match call {
+        "type" => put(alloc, &mut types.own, input),
+        "other" => put(alloc, &mut types.other, input),
+        _ => spelled(alloc, by_type(alloc, &types.own, &types.other, call, input)),
+    }
+}
+
+/// The line that a row is answered with.
+pub(crate) fn answer(alloc: Global, types: &mut Types, row: &str) -> Result<String, AllocError> {
+    let (what, asked) = cut(row);
+    let (call, input) = asked.split_once(' ').unwrap_or((asked, ""));
+    let found = answered(alloc, types, call, input)?;
+    format!(in alloc; "{what} | {found}")
+}
