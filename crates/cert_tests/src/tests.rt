@@ -1,21 +1,16 @@
-//! Certificates of types of one field: one file with `message M { SCALAR a = 1; }` on each side. What the bounds and the
-//! witness are is computed by hand from the public encoding guide.
-mod forged;
+//! The tables and certificates that callers hold, a chain of as many types as a schema may have, and what is answered where memory is
+//! refused. What the checker and texts answer stands in the rows of `answer_rows`.
+mod chain;
 mod memory;
-mod messages;
-mod texts;
-mod witnesses;
 
-use pg_cert::{Bounds, BoundsError, CertError, Certificate, PairBound, Verdict, check};
+use pg_cert::{Bounds, BoundsError, Certificate, PairBound, from_text};
 use pg_pairs::{Pair, Table};
-use pg_schema::{
-    Element, Field, FieldOptions, File, MessageOptions, MessageType, Parts, PartsError, Presence,
-    Scalar, Schema, TypeId,
-};
+use pg_schema::{Schema, TypeId};
 use std::alloc::{AllocError, Global};
 use std::test::Fail;
+use tiny_schemas::schemas;
 
-/// The type of `schema_of`.
+/// The first type of a schema.
 const M: TypeId = TypeId { index: 0 };
 
 const ROOT: Pair = Pair { old: M, new: M };
@@ -31,136 +26,22 @@ const MINUS_ONE: [u8; 11] = [
     0x08, 0xff, 0xff, 0xff, 0xff, 0xff, 0xff, 0xff, 0xff, 0xff, 0x01,
 ];
 
-fn field(alloc: Global, scalar: Scalar) -> Result<Field, AllocError> {
-    Ok(Field {
-        number: 1,
-        name: String::from_str(alloc, "a")?,
-        presence: Presence::Implicit,
-        element: Element::Scalar(scalar),
-        oneof: None,
-        json_name: String::from_str(alloc, "a")?,
-        states_optional: false,
-        options: FieldOptions {
-            packed: None,
-            deprecated: None,
-        },
-    })
-}
-
-fn message_type(alloc: Global, scalar: Scalar) -> Result<MessageType, AllocError> {
-    Ok(MessageType {
-        name: String::from_str(alloc, "M")?,
-        fields: vec![in alloc; field(alloc, scalar)?]?,
-        declared: vec![in alloc; 1]?,
-        oneofs: Vec::new(alloc),
-        nested_types: Vec::new(alloc),
-        nested_enums: Vec::new(alloc),
-        reserved_numbers: Vec::new(alloc),
-        reserved_names: Vec::new(alloc),
-        options: MessageOptions { deprecated: None },
-    })
-}
-
-fn file(alloc: Global) -> Result<File, AllocError> {
-    Ok(File {
-        name: String::from_str(alloc, "m.proto")?,
-        package: String::new(alloc),
-        imports: Vec::new(alloc),
-        types: vec![in alloc; M]?,
-        enums: Vec::new(alloc),
-        services: Vec::new(alloc),
-        options: Vec::new(alloc),
-    })
-}
-
-/// The schema of one message type with one field.
-fn schema_of(alloc: Global, scalar: Scalar) -> Result<Schema, Fail> {
-    let parts = Parts {
-        files: vec![in alloc; file(alloc)?]?,
-        types: vec![in alloc; message_type(alloc, scalar)?]?,
-        enums: Vec::new(alloc),
-        services: Vec::new(alloc),
-    };
-    match Schema::from_parts(alloc, parts) {
-        Ok(schema) => Ok(schema),
-        Err((PartsError::Memory, _)) => Err(Fail::from(AllocError)),
-        Err((PartsError::Invariant, _)) => Err(Fail::from("the parts make no schema")),
-    }
+/// Types whose number changes its sign.
+fn numbers(alloc: Global) -> Result<(Schema, Schema), Fail> {
+    Ok(schemas(alloc, "M: int32 a=1", "M: uint32 a=1")?.ok_or("schemas")?)
 }
 
 fn line(pair: Pair, bound: Option<u32>) -> PairBound {
     PairBound { pair, bound }
 }
 
-/// What a certificate with these bounds and no witness shows.
-fn verdict(
-    alloc: Global,
-    old: Scalar,
-    new: Scalar,
-    bounds: &[PairBound],
-) -> Result<Result<Verdict, CertError>, Fail> {
-    let old = schema_of(alloc, old)?;
-    let new = schema_of(alloc, new)?;
-    let table = Bounds::new(alloc, bounds.to_vec(alloc)?);
-    let table = table.ok().ok_or("the bounds are a table")?;
-    match Certificate::new(ROOT, table, None) {
-        Ok(certificate) => Ok(check(alloc, &old, &new, &certificate)),
-        Err(_) => Ok(Err(CertError::BadText)),
+/// The table of these bounds.
+fn table(alloc: Global, bounds: &[PairBound]) -> Result<Bounds, Fail> {
+    match Bounds::new(alloc, bounds.to_vec(alloc)?) {
+        Ok(table) => Ok(table),
+        Err((BoundsError::Memory, _)) => Err(AllocError.into()),
+        Err((BoundsError::Invariant, _)) => Err("the bounds are no table".into()),
     }
-}
-
-#[test]
-fn an_unchanged_field_is_compatible(rt: HostRuntime) -> Result<(), Fail> {
-    let bounds = [line(ROOT, None)];
-    let found = verdict(rt.alloc(), Scalar::Int32, Scalar::Int32, &bounds)?;
-    assert_eq!(rt; found, Ok(Verdict::Compatible));
-    Ok(())
-}
-
-#[test]
-fn a_bound_alone(rt: HostRuntime) -> Result<(), Fail> {
-    let alloc = rt.alloc();
-    let found = verdict(
-        alloc,
-        Scalar::Int32,
-        Scalar::Uint32,
-        &[line(ROOT, Some(11))],
-    )?;
-    assert_eq!(rt; found, Ok(Verdict::AtLeast(11)));
-    let found = verdict(alloc, Scalar::Int32, Scalar::Uint32, &[line(ROOT, Some(1))])?;
-    assert_eq!(rt; found, Ok(Verdict::AtLeast(1)));
-    Ok(())
-}
-
-// The choice is the gap of the field 1, of case 2.
-#[test]
-fn a_bound_too_high(rt: HostRuntime) -> Result<(), Fail> {
-    let alloc = rt.alloc();
-    let fault = CertError::BoundTooHigh {
-        pair: ROOT,
-        number: 1,
-        case: 2,
-    };
-    let found = verdict(
-        alloc,
-        Scalar::Int32,
-        Scalar::Uint32,
-        &[line(ROOT, Some(12))],
-    )?;
-    assert_eq!(rt; found, Err(fault));
-    let found = verdict(alloc, Scalar::Int32, Scalar::Uint32, &[line(ROOT, None)])?;
-    assert_eq!(rt; found, Err(fault));
-    Ok(())
-}
-
-#[test]
-fn no_bound_of_the_root(rt: HostRuntime) -> Result<(), Fail> {
-    let alloc = rt.alloc();
-    let found = verdict(alloc, Scalar::Int32, Scalar::Int32, &[])?;
-    assert_eq!(rt; found, Err(CertError::RootMissing));
-    let found = verdict(alloc, Scalar::Int32, Scalar::Int32, &[line(OTHER, None)])?;
-    assert_eq!(rt; found, Err(CertError::RootMissing));
-    Ok(())
 }
 
 /// Whether the bounds are no table, and come back.
@@ -176,29 +57,25 @@ fn is_refused(alloc: Global, bounds: &[PairBound]) -> Result<bool, Fail> {
 fn bounds_that_are_no_table(rt: HostRuntime) -> Result<(), Fail> {
     let alloc = rt.alloc();
     assert!(rt; is_refused(alloc, &[line(ROOT, None), line(ROOT, Some(2))])?);
-    assert!(rt; is_refused(alloc, &[line(ROOT, Some(0))])?);
-    assert!(rt; is_refused(alloc, &[line(ROOT, Some(2_147_483_648))])?);
+    for bound in [0, 2_147_483_648] {
+        assert!(rt; is_refused(alloc, &[line(ROOT, Some(bound))])?);
+    }
     assert!(rt; !is_refused(alloc, &[line(ROOT, Some(2_147_483_647)), line(OTHER, None)])?);
     Ok(())
 }
 
 #[test]
 fn the_bounds_of_a_table(rt: HostRuntime) -> Result<(), Fail> {
-    let alloc = rt.alloc();
-    let bounds = vec![in alloc; line(ROOT, Some(11)), line(OTHER, None)]?;
-    let table = Bounds::new(alloc, bounds);
-    let table = table.ok().ok_or("the bounds are a table")?;
+    let table = table(rt.alloc(), &[line(ROOT, Some(11)), line(OTHER, None)])?;
     assert_eq!(rt; table.len(), 2);
     assert!(rt; !table.is_empty());
     assert_eq!(rt; table.bound(ROOT), Some(Some(11)));
     assert_eq!(rt; table.bound(OTHER), Some(None));
-    assert_eq!(rt;
-        table.bound(Pair {
-            old: M,
-            new: OTHER.old
-        }),
-        None
-    );
+    let missing = Pair {
+        old: M,
+        new: OTHER.old,
+    };
+    assert_eq!(rt; table.bound(missing), None);
     assert_eq!(rt; table.get(1), Some(line(OTHER, None)));
     assert_eq!(rt; table.get(2), None);
     Ok(())
@@ -206,10 +83,7 @@ fn the_bounds_of_a_table(rt: HostRuntime) -> Result<(), Fail> {
 
 #[test]
 fn another_bound(rt: HostRuntime) -> Result<(), Fail> {
-    let alloc = rt.alloc();
-    let bounds = vec![in alloc; line(ROOT, None), line(OTHER, Some(11))]?;
-    let table = Bounds::new(alloc, bounds);
-    let mut table = table.ok().ok_or("the bounds are a table")?;
+    let mut table = table(rt.alloc(), &[line(ROOT, None), line(OTHER, Some(11))])?;
     table.set_bound(0, Some(8));
     assert_eq!(rt; table.get(0), Some(line(ROOT, Some(8))));
     assert_eq!(rt; table.bound(ROOT), Some(Some(8)));
@@ -224,12 +98,25 @@ fn another_bound(rt: HostRuntime) -> Result<(), Fail> {
 #[test]
 fn a_witness_has_bytes(rt: HostRuntime) -> Result<(), Fail> {
     let alloc = rt.alloc();
-    let table = Bounds::new(alloc, Vec::new(alloc));
-    let table = table.ok().ok_or("no bounds are a table")?;
-    let Err((table, witness)) = Certificate::new(ROOT, table, Some(Vec::new(alloc))) else {
+    let Err((table, witness)) = Certificate::new(ROOT, table(alloc, &[])?, Some(Vec::new(alloc)))
+    else {
         return Err("a witness without bytes".into());
     };
     assert!(rt; table.is_empty());
     assert_eq!(rt; witness.map(|bytes| bytes.len()), Some(0));
+    Ok(())
+}
+
+const TEXT: &str =
+    "protogate-certificate 1\nroot M M\npair M M 11\nwitness 08ffffffffffffffffff01\nend\n";
+
+#[test]
+fn the_parts_of_a_text(rt: HostRuntime) -> Result<(), Fail> {
+    let (old, new) = numbers(rt.alloc())?;
+    let certificate = from_text(rt.alloc(), &old, &new, TEXT.as_bytes())?;
+    assert_eq!(rt; certificate.root(), ROOT);
+    assert_eq!(rt; certificate.bounds().len(), 1);
+    assert_eq!(rt; certificate.bounds().get(0), Some(line(ROOT, Some(11))));
+    assert_eq!(rt; certificate.witness(), Some(MINUS_ONE.as_slice()));
     Ok(())
 }

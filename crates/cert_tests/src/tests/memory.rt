@@ -1,65 +1,64 @@
 //! What each call answers where memory is refused. `tools/try_memory.sh` refuses each growth in turn.
-use super::messages::{INNER, linked};
-use super::{MINUS_ONE, ROOT, line, schema_of};
+use super::{MINUS_ONE, ROOT, line, numbers};
 use pg_cert::{Bounds, BoundsError, CertError, Certificate, Verdict, check, from_text, to_text};
-use pg_schema::{Scalar, Schema};
+use pg_pairs::Pair;
+use pg_schema::{Schema, TypeId};
 use std::alloc::Global;
+use std::process::Abort;
 use std::test::Fail;
+use tiny_schemas::schemas;
 
-const TEXT: &str = "protogate-certificate 1\nroot M M\npair M M 11\nwitness 0102\nend\n";
-
-// The bounds come back where memory is refused, and checking answers the verdict or that memory was refused.
-#[test]
-fn a_refused_check(rt: HostRuntime) -> Result<(), Fail> {
-    let alloc = rt.alloc();
-    let old = schema_of(alloc, Scalar::Int32)?;
-    let new = schema_of(alloc, Scalar::Uint32)?;
-    let bounds = vec![in alloc; line(ROOT, Some(11))]?;
-    let table = match Bounds::new(alloc, bounds) {
-        Ok(table) => table,
+// The bounds of one pair come back where memory is refused.
+fn table(rt: &impl Abort, alloc: Global) -> Result<Option<Bounds>, Fail> {
+    match Bounds::new(alloc, vec![in alloc; line(ROOT, Some(11))]?) {
+        Ok(table) => Ok(Some(table)),
         Err((error, back)) => {
             assert_eq!(rt; error, BoundsError::Memory);
             assert_eq!(rt; back.len(), 1);
-            return Ok(());
+            Ok(None)
         }
+    }
+}
+
+// Checking answers the verdict, or that memory was refused.
+fn expect_verdict(
+    rt: &impl Abort,
+    alloc: Global,
+    witness: Option<Vec<u8>>,
+    wanted: Verdict,
+) -> Result<(), Fail> {
+    let (old, new) = numbers(alloc)?;
+    let Some(table) = table(rt, alloc)? else {
+        return Ok(());
     };
-    let Ok(certificate) = Certificate::new(ROOT, table, None) else {
-        return Err("a certificate without a witness".into());
+    let Ok(certificate) = Certificate::new(ROOT, table, witness) else {
+        return Err("no certificate".into());
     };
     match check(alloc, &old, &new, &certificate) {
-        Ok(verdict) => assert_eq!(rt; verdict, Verdict::AtLeast(11)),
+        Ok(verdict) => assert_eq!(rt; verdict, wanted),
         Err(error) => assert_eq!(rt; error, CertError::Memory),
     }
     Ok(())
+}
+
+#[test]
+fn a_refused_check(rt: HostRuntime) -> Result<(), Fail> {
+    expect_verdict(&rt, rt.alloc(), None, Verdict::AtLeast(11))
 }
 
 // The same of a certificate with a witness.
 #[test]
 fn a_refused_witness(rt: HostRuntime) -> Result<(), Fail> {
-    let alloc = rt.alloc();
-    let old = schema_of(alloc, Scalar::Int32)?;
-    let new = schema_of(alloc, Scalar::Uint32)?;
-    let bounds = vec![in alloc; line(ROOT, Some(11))]?;
-    let table = Bounds::new(alloc, bounds);
-    let Ok(table) = table else {
-        return Ok(());
-    };
-    let witness = Vec::from_slice(alloc, &MINUS_ONE)?;
-    let Ok(certificate) = Certificate::new(ROOT, table, Some(witness)) else {
-        return Err("a certificate with a witness".into());
-    };
-    match check(alloc, &old, &new, &certificate) {
-        Ok(verdict) => assert_eq!(rt; verdict, Verdict::Breaks),
-        Err(error) => assert_eq!(rt; error, CertError::Memory),
-    }
-    Ok(())
+    let witness = Vec::from_slice(rt.alloc(), &MINUS_ONE)?;
+    expect_verdict(&rt, rt.alloc(), Some(witness), Verdict::Breaks)
 }
+
+const TEXT: &str = "protogate-certificate 1\nroot M M\npair M M 11\nwitness 0102\nend\n";
 
 #[test]
 fn refused_texts(rt: HostRuntime) -> Result<(), Fail> {
     let alloc = rt.alloc();
-    let old = schema_of(alloc, Scalar::Int32)?;
-    let new = schema_of(alloc, Scalar::Uint32)?;
+    let (old, new) = numbers(alloc)?;
     match from_text(alloc, &old, &new, TEXT.as_bytes()) {
         Ok(certificate) => {
             if let Ok(text) = to_text(alloc, &old, &new, &certificate) {
@@ -71,46 +70,55 @@ fn refused_texts(rt: HostRuntime) -> Result<(), Fail> {
     Ok(())
 }
 
+const INNER: Pair = Pair {
+    old: TypeId { index: 0 },
+    new: TypeId { index: 0 },
+};
+
+// Of two pairs: with and without a witness, with a pair missing, and texts that are none.
+static TEXTS: [(&str, Result<Verdict, CertError>); 6] = [
+    (
+        "pair N N 8\npair M M 6\nwitness 1206088080808008\nend\n",
+        Ok(Verdict::Breaks),
+    ),
+    (
+        "pair N N 8\npair M M 6\nwitness none\nend\n",
+        Ok(Verdict::AtLeast(8)),
+    ),
+    (
+        "pair N N 8\nwitness 1206088080808008\nend\n",
+        Err(CertError::PairMissing { pair: INNER }),
+    ),
+    (
+        "pair N N 8\npair M M 6\nwitness 120608808080800\nend\n",
+        Err(CertError::BadText),
+    ),
+    (
+        "pair N N 8\npair N N 8\nwitness none\nend\n",
+        Err(CertError::BadText),
+    ),
+    (
+        "pair N N 8\npair M M 6\nwitness none\n",
+        Err(CertError::BadText),
+    ),
+];
+
 // What a text shows, or that memory was refused somewhere.
-fn shown(alloc: Global, old: &Schema, new: &Schema, text: &str) -> Result<Verdict, CertError> {
+fn shown(alloc: Global, old: &Schema, new: &Schema, lines: &str) -> Result<Verdict, CertError> {
+    let text = format!(in alloc; "protogate-certificate 1\nroot N N\n{lines}")?;
     let certificate = from_text(alloc, old, new, text.as_bytes())?;
     check(alloc, old, new, &certificate)
 }
 
-// Of two pairs: with and without a witness, with a pair missing, and texts that are none.
 #[test]
 fn refused_children(rt: HostRuntime) -> Result<(), Fail> {
-    let alloc = rt.alloc();
-    let old = linked(alloc, Scalar::Uint32)?;
-    let new = linked(alloc, Scalar::Int32)?;
-    let missing = CertError::PairMissing { pair: INNER };
-    for (lines, wanted) in [
-        (
-            "pair N N 8\npair M M 6\nwitness 1206088080808008\nend\n",
-            Ok(Verdict::Breaks),
-        ),
-        (
-            "pair N N 8\npair M M 6\nwitness none\nend\n",
-            Ok(Verdict::AtLeast(8)),
-        ),
-        ("pair N N 8\nwitness 1206088080808008\nend\n", Err(missing)),
-        (
-            "pair N N 8\npair M M 6\nwitness 120608808080800\nend\n",
-            Err(CertError::BadText),
-        ),
-        (
-            "pair N N 8\npair N N 8\nwitness none\nend\n",
-            Err(CertError::BadText),
-        ),
-        (
-            "pair N N 8\npair M M 6\nwitness none\n",
-            Err(CertError::BadText),
-        ),
-    ] {
-        let text = format!(in alloc; "protogate-certificate 1\nroot N N\n{lines}")?;
-        let found = shown(alloc, &old, &new, text.as_str());
+    let old = "M: uint32 a=1; N: N next=1, M m=2";
+    let new = "M: int32 a=1; N: N next=1, M m=2";
+    let (old, new) = schemas(rt.alloc(), old, new)?.ok_or("schemas")?;
+    for (lines, wanted) in &TEXTS {
+        let found = shown(rt.alloc(), &old, &new, lines);
         if found != Err(CertError::Memory) {
-            assert_eq!(rt; found, wanted, "{lines}");
+            assert_eq!(rt; found, *wanted, "{lines}");
         }
     }
     Ok(())

@@ -1,14 +1,9 @@
-//! The calls of `pg_pairs` and of the codec that the tests make. Each stands at one place: a call takes the prover long, for its
-//! contract.
+//! The calls that the tests of memory make, of schemas that are spelled as `tiny_schemas` says, between the first types.
 
-ghost use Rattle.std.specs.Prelude.{IfSome};
-ghost use Rattle.pg_schema.specs.Parts.{shape_of};
-ghost use Rattle.pg_dyn.specs.Fits.{Fits};
+ghost use Rattle.std.specs.Prelude.{◌≡◌, None};
 
-use crate::tests::schemas::{Types, schemas};
-use crate::tests::tables::Bounds;
 use pg_dyn::{DynError, Message, decode, encode, fits};
-use pg_pairs::{Choice, Pair, View, breaks, carry, cheapest, options};
+use pg_pairs::{Choice, Numbers, Pair, Table, breaks, carry, cheapest, children, options};
 use pg_schema::{Schema, TypeId};
 use std::alloc::{AllocError, Global};
 use std::test::Fail;
@@ -22,76 +17,82 @@ pub(crate) const FIRST: Pair = Pair {
     new: ROOT,
 };
 
-/// Number, case, part and cost of a choice.
-pub(crate) type Row = (u32, u8, u32, u32);
+/// A table that no pair is in.
+struct NoBounds;
 
-/// Of this choice.
-pub(crate) fn row_of(choice: &Choice) -> Row {
-    (choice.number, choice.case, choice.part, choice.cost)
-}
+impl Table for NoBounds {
+    ghost bounds = { λ _ _. None };
 
-/// Of these choices.
-fn rows_of(alloc: Global, choices: &[Choice]) -> Result<Vec<Row>, AllocError> {
-    let mut rows = Vec::new(alloc);
-    for choice in choices {
-        rows.push(row_of(choice))?;
+    fn bound(&self, _pair: Pair) -> Option<Option<u32>> {
+        None
     }
-    Ok(rows)
 }
 
-/// The choices between the pair's types of these schemas.
-pub(crate) fn rows_between<V: View>(
+/// The schemas that the lines say.
+pub(crate) fn schemas(alloc: Global, old: &str, new: &str) -> Result<(Schema, Schema), Fail> {
+    Ok(tiny_schemas::schemas(alloc, old, new)?.ok_or("schemas")?)
+}
+
+pub(crate) fn count_choices(
     alloc: Global,
-    view: &V,
     old: &Schema,
     new: &Schema,
-    pair: Pair,
-    table: &Bounds,
-) -> Result<Vec<Row>, AllocError> {
-    let choices = options(alloc, view, old, new, pair, table)?;
-    rows_of(alloc, &choices)
+) -> Result<usize, AllocError> {
+    Ok(options(alloc, &Numbers, old, new, FIRST, &NoBounds)?.len())
 }
 
-/// The choices between the pair's types of schemas of these types.
-pub(crate) fn rows_in<V: View>(
+pub(crate) fn count_children(
     alloc: Global,
-    view: &V,
-    old: Types,
-    new: Types,
-    pair: Pair,
-    table: &Bounds,
-) -> Result<Vec<Row>, Fail> {
-    let (old, new) = schemas(alloc, old, new)?;
-    Ok(rows_between(alloc, view, &old, &new, pair, table)?)
-}
-
-/// The cheapest choice between the first types of these schemas.
-pub(crate) fn cheapest_between<V: View>(
-    alloc: Global,
-    view: &V,
     old: &Schema,
     new: &Schema,
-    table: &Bounds,
+) -> Result<usize, AllocError> {
+    Ok(children(alloc, old, new, FIRST)?.len())
+}
+
+pub(crate) fn cheapest_choice(
+    alloc: Global,
+    old: &Schema,
+    new: &Schema,
 ) -> Result<Option<Choice>, AllocError> {
-    cheapest(alloc, view, old, new, FIRST, table)
+    cheapest(alloc, &Numbers, old, new, FIRST, &NoBounds)
 }
 
-/// The choice's message round that child, if one carries it.
-pub(crate) fn carried<V: View>(
+/// The choice's message between the pair's types, round no child.
+pub(crate) fn carried(
     alloc: Global,
-    view: &V,
     old: &Schema,
     new: &Schema,
     pair: Pair,
     choice: &Choice,
-    child: Option<Message>,
-) -> Result<Option<Message>, Fail>
-    requires { IfSome child (Fits (shape_of old.now)) }
-{
+) -> Result<Message, Fail> {
     if !old.has(pair.old) {
         return Err(Fail::from("the old schema has no such type"));
     }
-    Ok(carry(alloc, view, old, new, pair, choice, child)?)
+    Ok(carry(alloc, &Numbers, old, new, pair, choice, None)?.ok_or("a message")?)
+}
+
+/// The choice's message round that child.
+pub(crate) fn carried_round(
+    alloc: Global,
+    old: &Schema,
+    new: &Schema,
+    choice: &Choice,
+    child: Message,
+) -> Result<Message, Fail> {
+    if !old.has(ROOT) || !fits(old, &child) {
+        return Err(Fail::from("the child doesn't fit"));
+    }
+    let message = carry(alloc, &Numbers, old, new, FIRST, choice, Some(child))?;
+    Ok(message.ok_or("a message")?)
+}
+
+// The answer, with want of memory told as such.
+fn told<T>(answer: Result<T, DynError>) -> Result<T, Fail> {
+    match answer {
+        Ok(value) => Ok(value),
+        Err(DynError::Memory) => Err(Fail::from(AllocError)),
+        Err(_) => Err(Fail::from("another error")),
+    }
 }
 
 /// The bytes of the message.
@@ -99,45 +100,26 @@ pub(crate) fn bytes_of(alloc: Global, schema: &Schema, message: &Message) -> Res
     if !fits(schema, message) {
         return Err(Fail::from("the message doesn't fit"));
     }
-    match encode(alloc, schema, message) {
-        Ok(bytes) => Ok(bytes),
-        Err(DynError::Memory) => Err(Fail::from(AllocError)),
-        Err(_) => Err(Fail::from("the message has no encoding")),
-    }
+    told(encode(alloc, schema, message))
 }
 
-/// The message of that type that the bytes spell.
-pub(crate) fn message_of(
-    alloc: Global,
-    schema: &Schema,
-    type_id: TypeId,
-    bytes: &[u8],
-) -> Result<Message, Fail> {
-    if !schema.has(type_id) {
-        return Err(Fail::from("the schema has no such type"));
+/// The message of the first type that the bytes spell.
+pub(crate) fn message_of(alloc: Global, schema: &Schema, bytes: &[u8]) -> Result<Message, Fail> {
+    if !schema.has(ROOT) {
+        return Err(Fail::from("the schema has no type"));
     }
-    match decode(alloc, schema, type_id, bytes, 100) {
-        Ok(message) => Ok(message),
-        Err(DynError::Memory) => Err(Fail::from(AllocError)),
-        Err(_) => Err(Fail::from("the bytes are no message")),
-    }
+    told(decode(alloc, schema, ROOT, bytes, 100))
 }
 
-/// Whether the message breaks between the pair's types of these schemas.
-pub(crate) fn is_broken<V: View>(
+/// Whether the message breaks.
+pub(crate) fn is_broken(
     alloc: Global,
-    view: &V,
     old: &Schema,
     new: &Schema,
-    pair: Pair,
     message: &Message,
 ) -> Result<bool, Fail> {
     if !fits(old, message) {
         return Err(Fail::from("the message doesn't fit"));
     }
-    match breaks(alloc, view, old, new, pair, message) {
-        Ok(so) => Ok(so),
-        Err(DynError::Memory) => Err(Fail::from(AllocError)),
-        Err(_) => Err(Fail::from("the message has no encoding")),
-    }
+    told(breaks(alloc, &Numbers, old, new, FIRST, message))
 }
