@@ -11,23 +11,29 @@ pub(crate) fn name_of(text: &str) -> &str {
 fn fields_of(alloc: Global, types: &[&str], text: &str) -> Result<Vec<Field>, AllocError> {
     let mut fields = Vec::new(alloc);
     for words in text.split(", ") {
-        if !words.is_empty() {
-            fields.push(field(alloc, types, words)?)?;
-        }
+        let field = field(alloc, types, words)?;
+        fields.push(field)?;
     }
     Ok(fields)
 }
 
 fn numbers_of(alloc: Global, fields: &[Field]) -> Result<Vec<u32>, AllocError> {
-    fields.iter().map(|field| field.number).collect(alloc)
+    let mut numbers = Vec::new(alloc);
+    for field in fields {
+        numbers.push(field.number)?;
+    }
+    Ok(numbers)
 }
 
-// The names of as many oneofs as the fields are members of.
-fn oneofs_of(alloc: Global, fields: &[Field]) -> Result<Vec<String>, AllocError> {
+static ONEOFS: &[&str] = &["k0", "k1"];
+
+// The names of the oneofs that fields are members of.
+fn oneofs_of(alloc: Global, fields: &str) -> Result<Vec<String>, AllocError> {
     let mut names = Vec::new(alloc);
-    for (place, name) in [(0, "k0"), (1, "k1")] {
-        if fields.iter().any(|field| field.oneof == Some(place)) {
-            names.push(String::from_str(alloc, name)?)?;
+    for name in ONEOFS {
+        if fields.contains(*name) {
+            let name = String::from_str(alloc, name)?;
+            names.push(name)?;
         }
     }
     Ok(names)
@@ -39,12 +45,16 @@ pub(crate) fn message(
     types: &[&str],
     text: &str,
 ) -> Result<MessageType, AllocError> {
-    let (name, fields) = text.split_once(": ").unwrap_or((text, ""));
-    let fields = fields_of(alloc, types, fields)?;
+    let (name, words) = text.split_once(": ").unwrap_or((text, ""));
+    let fields = if words.is_empty() {
+        Vec::new(alloc)
+    } else {
+        fields_of(alloc, types, words)?
+    };
     Ok(MessageType {
         name: String::from_str(alloc, name)?,
         declared: numbers_of(alloc, &fields)?,
-        oneofs: oneofs_of(alloc, &fields)?,
+        oneofs: oneofs_of(alloc, words)?,
         fields,
         nested_types: Vec::new(alloc),
         nested_enums: Vec::new(alloc),
