@@ -7,7 +7,11 @@ use rows::cut;
 use std::alloc::{AllocError, Global};
 
 /// The bytes of the message.
-pub(crate) fn spelled(alloc: Global, schema: &Schema, message: &Message) -> Result<String, AllocError> {
+pub(crate) fn spelled(
+    alloc: Global,
+    schema: &Schema,
+    message: &Message,
+) -> Result<String, AllocError> {
     if !fits(schema, message) {
         return String::from_str(alloc, "misfit");
     }

@@ -55,11 +55,7 @@ fn witness(alloc: Global) -> Result<(Vec<PairBound>, Vec<u8>), AllocError> {
 }
 
 // What the checker says of the last types of the chain.
-fn checked(
-    alloc: Global,
-    bounds: &[PairBound],
-    witness: Option<Vec<u8>>,
-) -> Result<Verdict, Fail> {
+fn checked(alloc: Global, bounds: &[PairBound], witness: Option<Vec<u8>>) -> Result<Verdict, Fail> {
     let old = chain(alloc, "M0: uint32 a=1")?;
     let new = chain(alloc, "M0: int32 a=1")?;
     let table = table(alloc, bounds)?;
