@@ -14,6 +14,7 @@ mod messages;
 mod row;
 mod searches;
 mod shown;
+mod sight;
 mod spelled;
 
 use rows::cut;

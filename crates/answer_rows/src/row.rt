@@ -1,6 +1,6 @@
 //! Which call a row is of.
 use crate::changed::Changed;
-use crate::{certificates, choices, gaps, messages, searches};
+use crate::{certificates, choices, gaps, messages, searches, sight};
 use pg_pairs::{Numbers, View};
 use pg_schema::Schema;
 use rows::cut;
@@ -22,6 +22,7 @@ fn seen<V: View>(
         "message" => messages::message(alloc, view, old, new, words),
         "carry" => messages::carry_choice(alloc, view, old, new, words),
         "breaks" => messages::break_or_keep(alloc, view, old, new, words),
+        "sight" => sight::sight(alloc, view, old, new, words),
         _ => String::from_str(alloc, "no such call"),
     }
 }

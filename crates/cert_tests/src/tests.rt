@@ -1,7 +1,6 @@
-//! The tables and certificates that callers hold, a chain of as many types as a schema may have, and what is answered where memory is
-//! refused. What the checker and texts answer stands in the rows of `answer_rows`.
+//! The tables and certificates that callers hold, and a chain of as many types as a schema may have. What the checker and texts answer
+//! stands in the rows of `answer_rows`.
 mod chain;
-mod memory;
 
 use pg_cert::{Bounds, BoundsError, Certificate, PairBound, from_text};
 use pg_pairs::{Pair, Table};
@@ -61,6 +60,17 @@ fn bounds_that_are_no_table(rt: HostRuntime) -> Result<(), Fail> {
         assert!(rt; is_refused(alloc, &[line(ROOT, Some(bound))])?);
     }
     assert!(rt; !is_refused(alloc, &[line(ROOT, Some(2_147_483_647)), line(OTHER, None)])?);
+    Ok(())
+}
+
+// Where memory is refused the bounds come back. `tools/try_memory.sh` refuses each growth in turn.
+#[test]
+fn memory_for_bounds(rt: HostRuntime) -> Result<(), Fail> {
+    let bounds = vec![in rt.alloc(); line(ROOT, Some(11))]?;
+    if let Err((error, back)) = Bounds::new(rt.alloc(), bounds) {
+        assert_eq!(rt; error, BoundsError::Memory);
+        assert_eq!(rt; back.len(), 1);
+    }
     Ok(())
 }
 
