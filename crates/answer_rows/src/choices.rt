@@ -1,6 +1,6 @@
 //! Choices, and the children of pairs.
 use crate::shown;
-use crate::shown::{comma, or_none};
+use crate::shown::{add, or_none};
 use crate::spelled::{pair_of, table_of};
 use pg_pairs::{Choice, Pair, View, cheapest, children, choice_child, options};
 use pg_schema::Schema;
@@ -11,7 +11,7 @@ fn list_of(alloc: Global, choices: &[Choice]) -> Result<String, AllocError> {
     let mut list = String::new(alloc);
     for choice in choices {
         let choice = shown::choice(alloc, choice)?;
-        list = format!(in alloc; "{list}{}{choice}", comma(&list))?;
+        add(&mut list, choice.as_str())?;
     }
     or_none(alloc, list)
 }
@@ -36,10 +36,7 @@ pub(crate) fn choices<V: View>(
 fn with_child(alloc: Global, choice: &Choice, child: Option<Pair>) -> Result<String, AllocError> {
     let text = shown::choice(alloc, choice)?;
     match child {
-        Some(child) => {
-            let child = shown::pair(alloc, child)?;
-            format!(in alloc; "{text} child {child}")
-        }
+        Some(Pair { old, new }) => { format!(in alloc; "{text} child {} {}", old.index, new.index) }
         None => Ok(text),
     }
 }
@@ -63,6 +60,15 @@ pub(crate) fn cheapest_choice<V: View>(
     }
 }
 
+fn list_of_pairs(alloc: Global, pairs: &[Pair]) -> Result<String, AllocError> {
+    let mut list = String::new(alloc);
+    for pair in pairs {
+        let pair = shown::pair(alloc, *pair)?;
+        add(&mut list, pair.as_str())?;
+    }
+    or_none(alloc, list)
+}
+
 /// `children | OLD | NEW | PAIR`: the children of the pair.
 pub(crate) fn child_pairs(
     alloc: Global,
@@ -70,10 +76,6 @@ pub(crate) fn child_pairs(
     new: &Schema,
     words: &str,
 ) -> Result<String, AllocError> {
-    let mut list = String::new(alloc);
-    for child in children(alloc, old, new, pair_of(words))?.as_slice() {
-        let child = shown::pair(alloc, *child)?;
-        list = format!(in alloc; "{list}{}{child}", comma(&list))?;
-    }
-    or_none(alloc, list)
+    let pairs = children(alloc, old, new, pair_of(words))?;
+    list_of_pairs(alloc, &pairs)
 }

@@ -2,7 +2,7 @@
 use crate::certificates::check_claim;
 use crate::messages::spelled;
 use crate::shown;
-use crate::shown::comma;
+use crate::shown::add;
 use crate::spelled::{pair_of, table_of};
 use pg_cert::Bounds;
 use pg_least::{Found, Step, find, search, way};
@@ -15,9 +15,8 @@ fn list_of(alloc: Global, bounds: &Bounds) -> Result<String, AllocError> {
     let mut list = String::new(alloc);
     for at in 0..bounds.len() {
         if let Some(line) = bounds.get(at) {
-            let pair = shown::pair(alloc, line.pair)?;
-            let bound = shown::bound(alloc, line.bound)?;
-            list = format!(in alloc; "{list}{}{pair} {bound}", comma(&list))?;
+            let bound = shown::bound(alloc, &line)?;
+            add(&mut list, bound.as_str())?;
         }
     }
     Ok(list)
@@ -84,9 +83,8 @@ pub(crate) fn search_pair(
 fn steps_of(alloc: Global, steps: &[Step]) -> Result<String, AllocError> {
     let mut list = String::new(alloc);
     for step in steps {
-        let pair = shown::pair(alloc, step.pair)?;
-        let choice = shown::choice(alloc, &step.choice)?;
-        list = format!(in alloc; "{list}{}{pair} by {choice}", comma(&list))?;
+        let step = shown::step(alloc, step)?;
+        add(&mut list, step.as_str())?;
     }
     Ok(list)
 }

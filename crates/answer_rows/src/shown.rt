@@ -1,11 +1,15 @@
 //! How answers are shown.
-use pg_cert::{CertError, Verdict};
+use pg_cert::{CertError, PairBound, Verdict};
+use pg_least::Step;
 use pg_pairs::{Choice, Pair};
 use std::alloc::{AllocError, Global};
 
-/// What stands in front of the next item of a list.
-pub(crate) fn comma(list: &str) -> &'static str {
-    if list.is_empty() { "" } else { ", " }
+/// Adds an item to the list.
+pub(crate) fn add(list: &mut String, item: &str) -> Result<(), AllocError> {
+    if !list.is_empty() {
+        list.push_str(", ")?;
+    }
+    list.push_str(item)
 }
 
 /// The list, or `none` where it has no item.
@@ -30,11 +34,26 @@ pub(crate) fn pair(alloc: Global, pair: Pair) -> Result<String, AllocError> {
     format!(in alloc; "{} {}", pair.old.index, pair.new.index)
 }
 
-pub(crate) fn bound(alloc: Global, bound: Option<u32>) -> Result<String, AllocError> {
-    match bound {
-        Some(bytes) => format!(in alloc; "{bytes}"),
-        None => String::from_str(alloc, "none"),
+pub(crate) fn bound(alloc: Global, bound: &PairBound) -> Result<String, AllocError> {
+    let Pair { old, new } = bound.pair;
+    match bound.bound {
+        Some(bytes) => format!(in alloc; "{} {} {bytes}", old.index, new.index),
+        None => format!(in alloc; "{} {} none", old.index, new.index),
     }
+}
+
+pub(crate) fn step(alloc: Global, step: &Step) -> Result<String, AllocError> {
+    let Choice {
+        number,
+        case,
+        part,
+        cost,
+    } = step.choice;
+    let Pair { old, new } = step.pair;
+    format!(in alloc;
+        "{} {} by {number} {case} {part} {cost}",
+        old.index, new.index
+    )
 }
 
 pub(crate) fn verdict(alloc: Global, verdict: Verdict) -> Result<String, AllocError> {
@@ -45,36 +64,32 @@ pub(crate) fn verdict(alloc: Global, verdict: Verdict) -> Result<String, AllocEr
     }
 }
 
-// A fault that names a pair.
-fn fault_of_pair(alloc: Global, error: CertError) -> Result<String, AllocError> {
+// The name of a fault that says nothing more.
+fn name_of(error: CertError) -> &'static str {
     match error {
-        CertError::PairMissing { pair: missing } => {
-            let pair = pair(alloc, missing)?;
-            format!(in alloc; "pair missing {pair}")
-        }
-        CertError::BoundTooHigh {
-            pair: high,
-            number,
-            case,
-        } => {
-            let pair = pair(alloc, high)?;
-            format!(in alloc; "bound too high {pair} at {number} {case}")
-        }
-        _ => String::from_str(alloc, "another fault"),
-    }
-}
-
-pub(crate) fn fault(alloc: Global, error: CertError) -> Result<String, AllocError> {
-    let name = match error {
-        CertError::Memory => return Err(AllocError),
         CertError::BadText => "bad text",
         CertError::RootMissing => "root missing",
         CertError::WitnessNotWritten => "witness not written",
         CertError::WitnessLength => "witness length",
         CertError::WitnessKeeps => "witness keeps",
-        CertError::PairMissing { .. } | CertError::BoundTooHigh { .. } => {
-            return fault_of_pair(alloc, error);
-        }
-    };
-    String::from_str(alloc, name)
+        CertError::Memory | CertError::PairMissing { .. } | CertError::BoundTooHigh { .. } => "",
+    }
+}
+
+pub(crate) fn fault(alloc: Global, error: CertError) -> Result<String, AllocError> {
+    match error {
+        CertError::Memory => Err(AllocError),
+        CertError::PairMissing {
+            pair: Pair { old, new },
+        } => format!(in alloc; "pair missing {} {}", old.index, new.index),
+        CertError::BoundTooHigh {
+            pair: Pair { old, new },
+            number,
+            case,
+        } => format!(in alloc;
+            "bound too high {} {} at {number} {case}",
+            old.index, new.index
+        ),
+        _ => String::from_str(alloc, name_of(error)),
+    }
 }

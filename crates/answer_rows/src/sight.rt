@@ -17,9 +17,8 @@ pub(crate) fn sight<V: View>(
     let (Some(one), Some(other)) = (old.enum_type(FIRST), new.enum_type(FIRST)) else {
         return String::from_str(alloc, "no enums");
     };
-    let number = words.parse().unwrap_or(0);
-    let alike = view.alike(one, other, number);
-    let least = view.least(one, other, true);
-    let least_beside_zero = view.least(one, other, false);
-    format!(in alloc; "alike {alike}, least {least:?} and {least_beside_zero:?}")
+    let alike = view.alike(one, other, words.parse().unwrap_or(0));
+    let none = view.least(one, other, true).is_none();
+    let none_beside_zero = view.least(one, other, false).is_none();
+    format!(in alloc; "alike {alike}, no least {none} {none_beside_zero}")
 }
