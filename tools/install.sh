@@ -15,11 +15,11 @@ prefix=$(CDPATH= cd -- "$prefix" && pwd -P)
 install -m 755 "$root/crates/protogate/out/protogate" "$prefix/libexec/protogate"
 # As a word of a script: what quotes it is written behind a quote's end.
 quoted=$(printf '%s' "$prefix" | sed "s/'/'\\\\''/g")
-# What users call gives the program the stack that messages nested deep need, asks for large pages, and where a terminal shows it says
+# What users call gives the program the stack that messages nested deep need, as much as the system lets a user have, asks for large pages, and where a terminal shows it says
 # of a run of over a second that it is at work, as the script `protogate` does.
 cat >"$prefix/bin/protogate" <<END
 #!/bin/sh
-ulimit -S -s 1048576 2>/dev/null || ulimit -S -s "\$(ulimit -H -s)" 2>/dev/null
+ulimit -S -s unlimited 2>/dev/null || ulimit -S -s "\$(ulimit -H -s)" 2>/dev/null
 export GLIBC_TUNABLES="\${GLIBC_TUNABLES:-glibc.malloc.hugetlb=1}"
 say_at_work() {
     sleep 1

@@ -1,0 +1,128 @@
+#!/usr/bin/env python3
+"""Proves and builds the program: each crate once those below it stand, as many side by side as there are processors and memory for.
+
+usage: tools/build.py    what is built already, and unchanged, is taken as it stands, so a build that was stopped goes on from there
+"""
+
+import os
+import re
+import subprocess
+import sys
+import tempfile
+import time
+
+TOP = os.path.dirname(os.path.dirname(os.path.realpath(__file__)))
+PROGRAM = "protogate"
+# What a check is likely to take of memory at most, in bytes.
+CHECK = 4_000_000_000
+# The status with which the program ends after its help.
+USAGE = 4
+
+
+def crates():
+    """Returns what crates.txt says: each crate's libraries in this repository, by name."""
+    with open(f"{TOP}/crates.txt", encoding="utf-8") as file:
+        lines = [it.partition("#")[0].partition(":") for it in file]
+    said = {name.split()[0]: below.split() for name, _, below in lines if name.strip()}
+    return {name: [it for it in below if it in said] for name, below in said.items()}
+
+
+def below(name, said, found=None):
+    """Returns a crate and all that it stands on, lowest first, each once."""
+    found = [] if found is None else found
+    for it in said[name]:
+        if it not in found:
+            below(it, said, found)
+    return [*found, name] if name == PROGRAM else found.append(name)
+
+
+def size(name):
+    """Returns the bytes that a check of the crate reads of it, which its time goes by."""
+    walked = os.walk(f"{TOP}/crates/{name}")
+    parts = re.compile(r"/(src|specs|proofs)(/|$)")
+    return sum(os.path.getsize(f"{at}/{it}") for at, _, files in walked if parts.search(at) for it in files)
+
+
+def chains(names, said):
+    """Returns for each crate how long the longest chain is that begins with it and goes upwards."""
+    longest = {}
+    for name in reversed(names):
+        longest[name] = size(name) + max([longest[it] for it in names if name in said[it]], default=0)
+    return longest
+
+
+def free_memory():
+    with open("/proc/meminfo", encoding="utf-8") as file:
+        return 1024 * int(re.search(r"MemAvailable:\s+(\d+)", file.read())[1])
+
+
+def say(text):
+    print(f"protogate: {text}", file=sys.stderr, flush=True)
+
+
+def begin(name, jobs, room):
+    """Starts the crate's check. A program is run as soon as it is built: its help says that it is there."""
+    words = ["rt", "run", "--", "--help"] if name == PROGRAM else ["rt", "lib", "--jobs", str(jobs)]
+    with open(f"{room}/{name}", "w", encoding="utf-8") as log:
+        how = {"stdin": subprocess.DEVNULL, "stdout": log, "stderr": subprocess.STDOUT}
+        return subprocess.Popen(words, cwd=f"{TOP}/crates/{name}", **how)
+
+
+def ended(running):
+    """Waits until one of the checks has ended, and returns its crate and status."""
+    while True:
+        for name, check in running.items():
+            if check.poll() is not None:
+                return name, check.returncode
+        time.sleep(0.05)
+
+
+def start_ready(left, running, longest, said, room):
+    """Starts the checks that can go on now, those with the longest chain behind them first."""
+    cores = len(os.sched_getaffinity(0))
+    lanes = max(1, min(cores, free_memory() // CHECK + len(running)))
+    ready = [it for it in left if it not in running and not any(dep in left for dep in said[it])]
+    ready.sort(key=lambda it: -longest[it])
+    for at, name in enumerate(ready[: max(0, lanes - len(running))]):
+        jobs = max(1, (cores - len(running)) // (len(ready) - at))
+        running[name] = begin(name, jobs, room)
+        say(f"proving {name} ({len(left)} of {len(longest)} crates left)")
+
+
+def build(room):
+    said = crates()
+    names = below(PROGRAM, said)
+    longest, left, running = chains(names, said), [*names], {}
+    while left:
+        start_ready(left, running, longest, said, room)
+        name, status = ended(running)
+        del running[name]
+        left.remove(name)
+        if status != (USAGE if name == PROGRAM else 0):
+            with open(f"{room}/{name}", encoding="utf-8", errors="replace") as log:
+                sys.stderr.write(log.read())
+            say(f"{name} is not proved; what is proved is kept, and the next run goes on from there")
+            for check in running.values():
+                check.terminate()
+            return False
+    return True
+
+
+def main():
+    begun = time.time()
+    say("proving and building: half an hour on four idle processors the first time")
+    with tempfile.TemporaryDirectory(prefix="protogate-build-") as room:
+        if not build(room):
+            return 1
+    stamp = f"{TOP}/crates/{PROGRAM}/out/{PROGRAM}.begun"
+    with open(stamp, "w", encoding="utf-8"):
+        pass
+    os.utime(stamp, (begun, begun))
+    return 0
+
+
+if __name__ == "__main__":
+    try:
+        sys.exit(main())
+    except KeyboardInterrupt:
+        sys.exit(130)

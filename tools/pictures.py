@@ -1,0 +1,118 @@
+#!/usr/bin/env python3
+"""Draws the pictures of docs/pictures: each NAME.txt says what NAME.svg shows.
+
+usage: tools/pictures.py            draws them all
+       tools/pictures.py --compare  status 1 where a picture isn't what its text says
+
+A text begins with a line 'title ..' and a line that says how the rest is read: 'flow' (a row a line, boxes with calls between them,
+as 'a -> call -> b'), 'table' (a row a line, cells with '|' between them, the first row is the head) or 'graph' ('node NAME PLACE TEXT',
+'edge FROM TO TEXT', nodes from left to right).
+"""
+
+import os
+import sys
+from html import escape
+
+TOP = os.path.dirname(os.path.dirname(os.path.realpath(__file__)))
+FOLDER = f"{TOP}/docs/pictures"
+INK, CALL, FILL, HEAD, LAST = "#1f2933", "#0b6bcb", "#eef4fb", "#d9e7f7", "#fdecea"
+# The width of a letter, in the fonts that are asked for.
+LETTER = 7.6
+
+
+def text(x, y, words, color=INK, anchor="middle", weight="normal", size=14):
+    font = "font-family='DejaVu Sans, Verdana, sans-serif'"
+    return f"<text x='{x:.0f}' y='{y:.0f}' {font} font-size='{size}' font-weight='{weight}' fill='{color}' text-anchor='{anchor}'>{escape(words)}</text>"
+
+
+def box(x, y, width, height, fill=FILL):
+    return f"<rect x='{x:.0f}' y='{y:.0f}' width='{width:.0f}' height='{height:.0f}' rx='6' fill='{fill}' stroke='{INK}'/>"
+
+
+def arrow(path):
+    return f"<path d='{path}' fill='none' stroke='{CALL}' stroke-width='1.5' marker-end='url(#tip)'/>"
+
+
+def width_of(words):
+    return LETTER * len(words) + 24
+
+
+def flow(lines):
+    """Rows of boxes, with the name of the call over each arrow."""
+    parts, widest = [], 0
+    for at, line in enumerate(lines):
+        x, y = 20, 60 + 80 * at
+        for number, words in enumerate(it.strip() for it in line.split("->")):
+            wide = width_of(words)
+            if number % 2:
+                parts += [text(x + wide / 2, y + 14, words, CALL, size=13), arrow(f"M {x + 2:.0f} {y + 22} H {x + wide - 4:.0f}")]
+            else:
+                parts += [box(x, y, wide, 44), text(x + wide / 2, y + 27, words)]
+            x += wide
+        widest = max(widest, x)
+    return parts, widest + 20, 60 + 80 * len(lines)
+
+
+def table(lines):
+    """Rows of cells, the head in bold, and the last row marked, since it is where the readers differ."""
+    rows = [[it.strip() for it in line.split("|")] for line in lines]
+    widths = [max(width_of(row[at]) for row in rows) for at in range(len(rows[0]))]
+    parts = []
+    for at, row in enumerate(rows):
+        x, y = 20, 56 + 40 * at
+        fill = HEAD if at == 0 else LAST if at == len(rows) - 1 else "#ffffff"
+        for cell, wide in zip(row, widths):
+            parts += [box(x, y, wide, 40, fill), text(x + wide / 2, y + 25, cell, weight="bold" if at == 0 else "normal")]
+            x += wide
+    return parts, sum(widths) + 40, 76 + 40 * len(rows)
+
+
+def graph(lines):
+    """Nodes from left to right, with arrows between neighbours, and above a node to itself."""
+    said = [line.split(" ", 3) for line in lines]
+    nodes = {name: (int(place), words) for kind, name, place, words in said if kind == "node"}
+    middle = {name: 150 + 400 * place for name, (place, _) in nodes.items()}
+    parts = []
+    for name, (_, words) in nodes.items():
+        wide = width_of(words)
+        parts += [box(middle[name] - wide / 2, 150, wide, 44), text(middle[name], 177, words)]
+    for _, start, end, words in (it for it in said if it[0] == "edge"):
+        x = middle[start]
+        if start == end:
+            parts += [arrow(f"M {x - 30} 150 C {x - 80} 70, {x + 80} 70, {x + 30} 148"), text(x + 20, 78, words, CALL, size=13)]
+        else:
+            left, right = x + width_of(nodes[start][1]) / 2, middle[end] - width_of(nodes[end][1]) / 2
+            parts += [arrow(f"M {left:.0f} 172 H {right - 4:.0f}"), text((left + right) / 2, 216, words, CALL, size=13)]
+    return parts, 300 + 400 * max(place for place, _ in nodes.values()), 240
+
+
+def drawn(source):
+    title, kind, *lines = source.strip().split("\n")
+    title = title.removeprefix("title ")
+    parts, width, height = {"flow": flow, "table": table, "graph": graph}[kind](lines)
+    width = max(width, width_of(title) + 60)
+    tip = f"<defs><marker id='tip' markerWidth='8' markerHeight='8' refX='6' refY='4' orient='auto'><path d='M0,0 L8,4 L0,8 z' fill='{CALL}'/></marker></defs>"
+    head = f"<svg xmlns='http://www.w3.org/2000/svg' width='{width:.0f}' height='{height:.0f}' viewBox='0 0 {width:.0f} {height:.0f}'>"
+    page = f"<rect width='{width:.0f}' height='{height:.0f}' fill='#ffffff'/>"
+    return "\n".join([head, f"<title>{escape(title)}</title>", tip, page, text(20, 34, title, anchor="start", weight="bold", size=16), *parts, "</svg>", ""])
+
+
+def main(words):
+    status = 0
+    for name in sorted(it[:-4] for it in os.listdir(FOLDER) if it.endswith(".txt")):
+        with open(f"{FOLDER}/{name}.txt", encoding="utf-8") as file:
+            made = drawn(file.read())
+        path = f"{FOLDER}/{name}.svg"
+        if words == ["--compare"]:
+            with open(path, encoding="utf-8") as file:
+                if file.read() != made:
+                    print(f"{name}.svg isn't what {name}.txt says")
+                    status = 1
+        else:
+            with open(path, "w", encoding="utf-8") as file:
+                file.write(made)
+    return status
+
+
+if __name__ == "__main__":
+    sys.exit(main(sys.argv[1:]))

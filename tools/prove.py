@@ -1,0 +1,147 @@
+#!/usr/bin/env python3
+"""Runs the gate (`rt ci`: each proof, the edits that must be refused, the tests and the programs) and tells what it cost.
+
+usage: tools/prove.py [rt's words]    ends with the gate's status, and with its last line, 'N passed, M failed'
+
+Lines of rt stand behind the seconds since the start. Behind them stand the processor seconds of each crate by kind: its proof, the
+second proof that its edits begin with (the seed), its edits, its tests, and what builds and runs programs. Without RT_JOBS as many
+checks run side by side as there are processors, and memory for 5 GB each.
+"""
+
+import os
+import re
+import subprocess
+import sys
+import threading
+import time
+
+KINDS = ("proof", "seed", "edits", "tests", "programs")
+TICKS = os.sysconf("SC_CLK_TCK")
+# How often processes are looked at, in seconds: what a process takes after the last look counts for no crate, but for the sum.
+PAUSE = 0.2
+
+
+def stat_of(pid):
+    """Returns a process's parent and the processor seconds of it and of the children that it has waited for."""
+    with open(f"/proc/{pid}/stat", encoding="utf-8", errors="replace") as file:
+        fields = file.read().rpartition(")")[2].split()
+    return int(fields[1]), sum(map(int, fields[11:15])) / TICKS
+
+
+def words_of(pid):
+    with open(f"/proc/{pid}/cmdline", encoding="utf-8", errors="replace") as file:
+        return file.read().split("\0")
+
+
+def behind(word, words):
+    """Returns the word behind this one, or nothing."""
+    return next((other for one, other in zip(words, words[1:]) if one == word), "")
+
+
+def is_check(words):
+    return os.path.basename(words[0]) == "rattle" and words[1:2] in (["check"], ["build"])
+
+
+def kind_of(pid, words):
+    """Returns the crate that a check is of, and the kind of work that it is."""
+    crate, over = behind("--crate-name", words), behind("--incremental", words)
+    if "/rt-edit-" in os.readlink(f"/proc/{pid}/cwd"):
+        return crate, "seed" if over.endswith("/seed") else "edits"
+    if "--crate-checked" in words:
+        return crate, "programs"
+    return crate, "tests" if "--test" in words else "proof"
+
+
+class Costs:
+    """What the processes below one have taken, by crate and kind. Each is known by its number and what it runs, since numbers come again."""
+
+    def __init__(self, top):
+        self.top, self.kinds, self.seconds, self.is_over = top, {}, {}, False
+
+    def is_below(self, pid, parents):
+        while pid in parents and pid != self.top:
+            pid = parents[pid]
+        return pid == self.top
+
+    def look(self):
+        parents, taken = {}, {}
+        for name in filter(str.isdigit, os.listdir("/proc")):
+            try:
+                parents[int(name)], taken[int(name)] = stat_of(name)
+            except (OSError, ValueError):
+                pass
+        for pid in taken:
+            if pid != self.top and self.is_below(pid, parents):
+                self.note(pid, parents[pid], taken[pid])
+
+    def note(self, pid, parent, seconds):
+        """Notes what a check has taken. One that another began counts there once it has ended."""
+        try:
+            words = words_of(pid)
+            if is_check(words) and not is_check(words_of(parent)):
+                key = pid, behind("-o", words), os.readlink(f"/proc/{pid}/cwd"), *kind_of(pid, words)
+                self.seconds[key] = max(self.seconds.get(key, 0), seconds)
+        except OSError:
+            pass
+
+    def watch(self):
+        while not self.is_over:
+            self.look()
+            time.sleep(PAUSE)
+
+    def table(self):
+        """Returns for each crate the seconds of each kind."""
+        found = {}
+        for (_, _, _, crate, kind), seconds in self.seconds.items():
+            row = found.setdefault(crate, dict.fromkeys(KINDS, 0.0))
+            row[kind] += seconds
+        return found
+
+
+def print_costs(table, whole):
+    """Prints a line for each crate and one for the sum; what no check took (rt itself, linking, the runs) counts among programs."""
+    print(f"{'processor seconds':24}" + "".join(f"{it:>10}" for it in (*KINDS, "whole")))
+    sums = dict.fromkeys(KINDS, 0.0)
+    for crate, row in sorted(table.items(), key=lambda it: -sum(it[1].values())):
+        print(f"{crate:24}" + "".join(f"{it:10.0f}" for it in (*row.values(), sum(row.values()))))
+        sums = {kind: sums[kind] + row[kind] for kind in KINDS}
+    sums["programs"] += max(0.0, whole - sum(sums.values()))
+    print(f"{'sum':24}" + "".join(f"{it:10.0f}" for it in (*sums.values(), whole)))
+    print("; ".join(f"{kind} {seconds:.0f}" for kind, seconds in sums.items()) + f"; whole {whole:.0f} processor seconds")
+
+
+def lanes():
+    with open("/proc/meminfo", encoding="utf-8") as file:
+        free = 1024 * int(re.search(r"MemAvailable:\s+(\d+)", file.read())[1])
+    return max(1, min(len(os.sched_getaffinity(0)), free // 5_000_000_000))
+
+
+def pass_on(lines, begun):
+    """Prints each line as it comes but the last, which is returned."""
+    held = ""
+    for line in lines:
+        print(held, end="", flush=True)
+        held = f"{time.time() - begun:5.0f} s  {line}" if line.startswith("rt:") else line
+    return held
+
+
+def main(words):
+    begun, how = time.time(), {"stdout": subprocess.PIPE, "stderr": subprocess.STDOUT, "text": True, "errors": "replace"}
+    env = {"RT_JOBS": str(lanes()), **os.environ}
+    run = subprocess.Popen(["rt", "ci", *words], stdin=subprocess.DEVNULL, env=env, **how)
+    costs = Costs(run.pid)
+    watch = threading.Thread(target=costs.watch)
+    watch.start()
+    last = pass_on(run.stdout, begun)
+    costs.is_over = True
+    watch.join()
+    _, status, used = os.wait4(run.pid, 0)
+    print_costs(costs.table(), used.ru_utime + used.ru_stime)
+    print(f"{time.time() - begun:.0f} seconds in all, {env['RT_JOBS']} checks side by side")
+    print(last, end="" if last.endswith("\n") else "\n")
+    return os.waitstatus_to_exitcode(status)
+
+
+if __name__ == "__main__":
+    os.chdir(os.path.dirname(os.path.dirname(os.path.realpath(__file__))))
+    sys.exit(main(sys.argv[1:]))

@@ -1,0 +1,72 @@
+#!/usr/bin/env python3
+"""Says for each edit of must-fail what refused it: the function, and the clause or other goal that wasn't proved.
+
+usage: tools/why_refused.py [CRATE..]    all crates that have edits, where none is named; status 1 where an edit isn't refused so
+
+Runs `rt must-fail`, which tries again only what changed. A reader compares the reason with the edit's name.
+"""
+
+import os
+import re
+import subprocess
+import sys
+
+TOP = os.path.dirname(os.path.dirname(os.path.realpath(__file__)))
+TRIED = re.compile(r"must-fail (\w+)/([\w.-]+)\.edit: (.*)")
+REFUSED = re.compile(r"refused, as it must be: (?:note: )?(?:\./)?(\S+?):(\d+):\d+: (.*)")
+GOAL = re.compile(r"\(`([^`]*)`\)")
+FUNCTION = re.compile(r"^\s*(?:pub(?:\(\w+\))?\s+)?(?:const\s+)?fn\s+(\w+)")
+
+
+def function_at(path, line):
+    """Returns the function that the line is of: that which begins there or behind its comments, else the last that began before it."""
+    try:
+        with open(path, encoding="utf-8") as file:
+            lines = file.read().split("\n")
+    except OSError:
+        return "?"
+    at = line - 1
+    while at < len(lines) and re.match(r"\s*(///|#\[|//)", lines[at]):
+        at += 1
+    for text in reversed(lines[: at + 1]):
+        found = FUNCTION.match(text)
+        if found:
+            return found[1]
+    return "?"
+
+
+def clause_of(goal):
+    """Returns the clause that a goal is of, by the names that the prover gives goals: returns-in-Err-clause-place is of place."""
+    named = re.search(r"clause-(\w+)", goal)
+    return f"{named[1]} ({goal})" if named else goal
+
+
+def reason(crate, said):
+    found = REFUSED.match(said)
+    if not found:
+        return None
+    path, line, text = found[1], int(found[2]), found[3]
+    goal = GOAL.search(text)
+    of = function_at(f"{TOP}/crates/{crate}/{path}", line)
+    return f"{path} {of}: {clause_of(goal[1]) if goal else text[:100]}"
+
+
+def crates_with_edits():
+    folders = sorted(os.listdir(f"{TOP}/crates"))
+    return [it for it in folders if os.path.isdir(f"{TOP}/crates/{it}/must-fail")]
+
+
+def main(words):
+    run = subprocess.run(["rt", "must-fail", *(words or crates_with_edits())], cwd=TOP, stdout=subprocess.PIPE, stderr=subprocess.STDOUT, text=True)
+    count = bad = 0
+    for crate, edit, said in TRIED.findall(run.stdout):
+        count += 1
+        found = reason(crate, said)
+        bad += found is None
+        print(f"{crate}/{edit}: {found or said}")
+    print(f"{count} edits, {bad} of them refused for no clause or goal, or not refused")
+    return 1 if bad or run.returncode else 0
+
+
+if __name__ == "__main__":
+    sys.exit(main(sys.argv[1:]))
