@@ -2,12 +2,11 @@
 //! stands in the rows of `answer_rows`.
 mod chain;
 
-use pg_cert::{Bounds, BoundsError, Certificate, PairBound, from_text};
+use pg_cert::{Bounds, BoundsError, Certificate, PairBound};
 use pg_pairs::{Pair, Table};
-use pg_schema::{Schema, TypeId};
+use pg_schema::TypeId;
 use std::alloc::{AllocError, Global};
 use std::test::Fail;
-use tiny_schemas::schemas;
 
 /// The first type of a schema.
 const M: TypeId = TypeId { index: 0 };
@@ -19,16 +18,6 @@ const OTHER: Pair = Pair {
     old: TypeId { index: 1 },
     new: TypeId { index: 0 },
 };
-
-/// The number -1 in the field.
-const MINUS_ONE: [u8; 11] = [
-    0x08, 0xff, 0xff, 0xff, 0xff, 0xff, 0xff, 0xff, 0xff, 0xff, 0x01,
-];
-
-/// Types whose number changes its sign.
-fn numbers(alloc: Global) -> Result<(Schema, Schema), Fail> {
-    Ok(schemas(alloc, "M: int32 a=1", "M: uint32 a=1")?.ok_or("schemas")?)
-}
 
 fn line(pair: Pair, bound: Option<u32>) -> PairBound {
     PairBound { pair, bound }
@@ -74,20 +63,26 @@ fn memory_for_bounds(rt: HostRuntime) -> Result<(), Fail> {
     Ok(())
 }
 
-#[test]
-fn the_bounds_of_a_table(rt: HostRuntime) -> Result<(), Fail> {
-    let table = table(rt.alloc(), &[line(ROOT, Some(11)), line(OTHER, None)])?;
-    assert_eq!(rt; table.len(), 2);
-    assert!(rt; !table.is_empty());
-    assert_eq!(rt; table.bound(ROOT), Some(Some(11)));
-    assert_eq!(rt; table.bound(OTHER), Some(None));
+// Whether the table has the two pairs with these bounds, and no other.
+fn has(table: &Bounds, root: Option<u32>, other: Option<u32>) -> bool {
     let missing = Pair {
         old: M,
         new: OTHER.old,
     };
-    assert_eq!(rt; table.bound(missing), None);
-    assert_eq!(rt; table.get(1), Some(line(OTHER, None)));
-    assert_eq!(rt; table.get(2), None);
+    table.len() == 2
+        && !table.is_empty()
+        && table.get(0) == Some(line(ROOT, root))
+        && table.get(1) == Some(line(OTHER, other))
+        && table.get(2).is_none()
+        && table.bound(ROOT) == Some(root)
+        && table.bound(OTHER) == Some(other)
+        && table.bound(missing).is_none()
+}
+
+#[test]
+fn the_bounds_of_a_table(rt: HostRuntime) -> Result<(), Fail> {
+    let table = table(rt.alloc(), &[line(ROOT, Some(11)), line(OTHER, None)])?;
+    assert!(rt; has(&table, Some(11), None));
     Ok(())
 }
 
@@ -95,13 +90,10 @@ fn the_bounds_of_a_table(rt: HostRuntime) -> Result<(), Fail> {
 fn another_bound(rt: HostRuntime) -> Result<(), Fail> {
     let mut table = table(rt.alloc(), &[line(ROOT, None), line(OTHER, Some(11))])?;
     table.set_bound(0, Some(8));
-    assert_eq!(rt; table.get(0), Some(line(ROOT, Some(8))));
-    assert_eq!(rt; table.bound(ROOT), Some(Some(8)));
+    assert!(rt; has(&table, Some(8), Some(11)));
     table.set_bound(1, None);
     table.set_bound(2, Some(3));
-    assert_eq!(rt; table.bound(ROOT), Some(Some(8)));
-    assert_eq!(rt; table.bound(OTHER), Some(None));
-    assert_eq!(rt; table.len(), 2);
+    assert!(rt; has(&table, Some(8), None));
     Ok(())
 }
 
@@ -114,19 +106,5 @@ fn a_witness_has_bytes(rt: HostRuntime) -> Result<(), Fail> {
     };
     assert!(rt; table.is_empty());
     assert_eq!(rt; witness.map(|bytes| bytes.len()), Some(0));
-    Ok(())
-}
-
-const TEXT: &str =
-    "protogate-certificate 1\nroot M M\npair M M 11\nwitness 08ffffffffffffffffff01\nend\n";
-
-#[test]
-fn the_parts_of_a_text(rt: HostRuntime) -> Result<(), Fail> {
-    let (old, new) = numbers(rt.alloc())?;
-    let certificate = from_text(rt.alloc(), &old, &new, TEXT.as_bytes())?;
-    assert_eq!(rt; certificate.root(), ROOT);
-    assert_eq!(rt; certificate.bounds().len(), 1);
-    assert_eq!(rt; certificate.bounds().get(0), Some(line(ROOT, Some(11))));
-    assert_eq!(rt; certificate.witness(), Some(MINUS_ONE.as_slice()));
     Ok(())
 }

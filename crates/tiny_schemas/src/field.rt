@@ -73,12 +73,9 @@ fn held(types: &[&str], words: &Words) -> (Presence, Element) {
     (presence_of(words.label, element), element)
 }
 
+// The place of the oneof that a label names.
 fn oneof_of(label: &str) -> Option<u32> {
-    match label {
-        "k0" => Some(0),
-        "k1" => Some(1),
-        _ => None,
-    }
+    label.strip_prefix("k")?.parse().ok()
 }
 
 /// The field that the text says, of a schema of these types.

@@ -25,16 +25,23 @@ fn numbers_of(alloc: Global, fields: &[Field]) -> Result<Vec<u32>, AllocError> {
     Ok(numbers)
 }
 
-static ONEOFS: &[&str] = &["k0", "k1"];
-
-// The names of the oneofs that fields are members of.
-fn oneofs_of(alloc: Global, fields: &str) -> Result<Vec<String>, AllocError> {
-    let mut names = Vec::new(alloc);
-    for name in ONEOFS {
-        if fields.contains(*name) {
-            let name = String::from_str(alloc, name)?;
-            names.push(name)?;
+// How many oneofs the fields are members of, where each up to the last has one.
+fn count_oneofs(fields: &[Field]) -> u32 {
+    let mut count = 0_u32;
+    for field in fields {
+        if let Some(place) = field.oneof {
+            count = count.max(place.saturating_add(1));
         }
+    }
+    count
+}
+
+// The names of so many oneofs.
+fn oneofs_of(alloc: Global, count: u32) -> Result<Vec<String>, AllocError> {
+    let mut names = Vec::new(alloc);
+    for place in 0..count {
+        let name = format!(in alloc; "k{place}")?;
+        names.push(name)?;
     }
     Ok(names)
 }
@@ -54,7 +61,7 @@ pub(crate) fn message(
     Ok(MessageType {
         name: String::from_str(alloc, name)?,
         declared: numbers_of(alloc, &fields)?,
-        oneofs: oneofs_of(alloc, words)?,
+        oneofs: oneofs_of(alloc, count_oneofs(&fields))?,
         fields,
         nested_types: Vec::new(alloc),
         nested_enums: Vec::new(alloc),

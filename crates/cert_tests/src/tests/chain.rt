@@ -1,6 +1,6 @@
 //! A chain of types, each with the one before it in a field: its witness is far deeper than most readers go.
 use super::{line, table};
-use pg_cert::{Certificate, PairBound, Verdict, check};
+use pg_cert::{Bounds, Certificate, PairBound, Verdict, check};
 use pg_pairs::Pair;
 use pg_schema::{Schema, TypeId};
 use pg_wire::write_varint;
@@ -54,24 +54,35 @@ fn witness(alloc: Global) -> Result<(Vec<PairBound>, Vec<u8>), AllocError> {
     Ok((bounds, bytes))
 }
 
-// What the checker says of the last types of the chain.
-fn checked(alloc: Global, bounds: &[PairBound], witness: Option<Vec<u8>>) -> Result<Verdict, Fail> {
+fn chains(alloc: Global) -> Result<(Schema, Schema), Fail> {
     let old = chain(alloc, "M0: uint32 a=1")?;
     let new = chain(alloc, "M0: int32 a=1")?;
-    let table = table(alloc, bounds)?;
+    Ok((old, new))
+}
+
+// What the checker says of a table and a witness of the last types.
+fn verdict(
+    alloc: Global,
+    old: &Schema,
+    new: &Schema,
+    table: Bounds,
+    witness: Option<Vec<u8>>,
+) -> Result<Verdict, Fail> {
     match Certificate::new(same(LINKS), table, witness) {
-        Ok(certificate) => Ok(check(alloc, &old, &new, &certificate)?),
+        Ok(certificate) => Ok(check(alloc, old, new, &certificate)?),
         Err(_) => Err("a witness without bytes".into()),
     }
 }
 
 #[test]
 fn a_chain_that_breaks(rt: HostRuntime) -> Result<(), Fail> {
-    let (bounds, bytes) = witness(rt.alloc())?;
+    let alloc = rt.alloc();
+    let (old, new) = chains(alloc)?;
+    let (bounds, bytes) = witness(alloc)?;
     let length = u32::try_from(bytes.len()).unwrap_or(0);
-    let alone = checked(rt.alloc(), &bounds, None)?;
+    let alone = verdict(alloc, &old, &new, table(alloc, &bounds)?, None)?;
     assert_eq!(rt; alone, Verdict::AtLeast(length));
-    let found = checked(rt.alloc(), &bounds, Some(bytes))?;
+    let found = verdict(alloc, &old, &new, table(alloc, &bounds)?, Some(bytes))?;
     assert_eq!(rt; found, Verdict::Breaks);
     Ok(())
 }
