@@ -1,8 +1,8 @@
 #!/bin/sh
-# Runs a built program of tests with each growth refused in turn, which the gate doesn't: each test then finds the right answer or want
-# of memory. Wants cc.
-# usage: tools/try_memory.sh CRATE [WORD]    runs the tests whose names hold the word, by default `memory`; the crate is built first by
-# `rt test` where it isn't.
+# Runs a built program of tests or of rows with each growth refused in turn, which the gate doesn't: each test then finds the right
+# answer or want of memory, and of each row the program prints the right answer, or nothing and ends with a fault. Wants cc.
+# usage: tools/try_memory.sh CRATE [WORD]    runs the tests whose names hold the word, by default `memory`, or the rows that hold it, by
+# default all; the crate is built first by `rt test` or `rt run` where it isn't.
 set -u
 root=$(CDPATH= cd -- "$(dirname -- "$0")/.." && pwd -P)
 crate=$1
@@ -10,10 +10,14 @@ folder="$root/crates/$crate"
 room=$(mktemp -d) || exit 1
 trap 'rm -rf -- "$room"' EXIT
 cc -O2 -shared -fPIC -o "$room/refuse.so" "$root/tools/refuse_memory.c" -ldl || exit 1
-built=$(ls -- "$folder/out/${crate}_tests" "$folder/out/$crate" 2>/dev/null | head -1)
-if [ -z "$built" ]; then
+find_built() { built=$(ls -- "$folder/out/${crate}_tests" "$folder/out/$crate" 2>/dev/null | head -1); }
+find_built
+if [ -z "$built" ] && [ -f "$folder/stdin" ]; then
+    (cd "$folder" && rt run <stdin >"$room/said") || exit 1
+    find_built
+elif [ -z "$built" ]; then
     (cd "$folder" && rt test) || exit 1
-    built=$(ls -- "$folder/out/${crate}_tests" "$folder/out/$crate" 2>/dev/null | head -1)
+    find_built
 fi
 # What a test does with each growth refused in turn.
 try_test() {
@@ -37,8 +41,52 @@ try_test() {
     failed=$((failed + wrong))
 }
 
+# What the program prints of a row with each growth refused in turn.
+try_row() {
+    turn=0
+    wrong=0
+    while :; do
+        turn=$((turn + 1))
+        REFUSE_MEMORY=$turn LD_PRELOAD="$room/refuse.so" "$built" <"$room/row" >"$room/said" 2>"$room/faults"
+        status=$?
+        if grep -q 'no such growth' "$room/faults"; then
+            break
+        fi
+        if [ "$status" -eq 0 ] && cmp -s "$room/said" "$room/wanted"; then
+            continue
+        fi
+        if [ "$status" -eq 0 ] || [ -s "$room/said" ]; then
+            echo "growth $turn: status $status"
+            tail -n 3 "$room/said" "$room/faults"
+            wrong=$((wrong + 1))
+        fi
+    done
+    grown=$((grown + turn - 1))
+    failed=$((failed + wrong))
+}
+
+try_rows() {
+    grown=0
+    while IFS= read -r row; do
+        case $row in
+        *"$1"*) ;;
+        *) continue ;;
+        esac
+        printf '%s\n' "$row" >"$room/row"
+        grep -F -- "${row%% | *} | " "$folder/stdout" | head -n 1 >"$room/wanted"
+        try_row
+        tried=$((tried + 1))
+    done <"$folder/stdin"
+    echo "$crate: $tried rows, $grown growths refused, $failed wrong"
+    [ "$tried" -gt 0 ] && [ "$failed" -eq 0 ]
+}
+
 failed=0
 tried=0
+if [ -f "$folder/stdin" ]; then
+    try_rows "${2:-}"
+    exit
+fi
 for name in $("$built" --list | sed 's/: test$//' | grep -- "${2:-memory}"); do
     try_test "$name"
     tried=$((tried + 1))

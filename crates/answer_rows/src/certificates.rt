@@ -1,0 +1,109 @@
+//! Certificates.
+use crate::shown;
+use crate::spelled::{hex_bytes, pair_of, table_of};
+use pg_cert::{Bounds, CertError, Certificate, check, from_text, to_text};
+use pg_pairs::Pair;
+use pg_schema::Schema;
+use rows::{bytes_of, cut};
+use std::alloc::{AllocError, Global};
+
+// What the checker says.
+fn checked(
+    alloc: Global,
+    old: &Schema,
+    new: &Schema,
+    certificate: &Certificate,
+) -> Result<String, AllocError> {
+    match check(alloc, old, new, certificate) {
+        Ok(verdict) => shown::verdict(alloc, verdict),
+        Err(error) => shown::fault(alloc, error),
+    }
+}
+
+/// What the checker says of the certificate of these parts.
+pub(crate) fn check_claim(
+    alloc: Global,
+    old: &Schema,
+    new: &Schema,
+    root: Pair,
+    bounds: Bounds,
+    witness: Option<Vec<u8>>,
+) -> Result<String, AllocError> {
+    match Certificate::new(root, bounds, witness) {
+        Ok(certificate) => checked(alloc, old, new, &certificate),
+        Err(_) => String::from_str(alloc, "no certificate"),
+    }
+}
+
+fn witness_of(alloc: Global, text: &str) -> Result<Option<Vec<u8>>, AllocError> {
+    if text.is_empty() {
+        return Ok(None);
+    }
+    Ok(Some(hex_bytes(alloc, text)?))
+}
+
+/// `check | OLD | NEW | ROOT | BOUNDS [| WITNESS]`: what the checker says.
+pub(crate) fn check_parts(
+    alloc: Global,
+    old: &Schema,
+    new: &Schema,
+    words: &str,
+) -> Result<String, AllocError> {
+    let (root, words) = cut(words);
+    let (bounds, witness) = cut(words);
+    let witness = witness_of(alloc, witness)?;
+    match table_of(alloc, bounds)? {
+        Some(table) => check_claim(alloc, old, new, pair_of(root), table, witness),
+        None => String::from_str(alloc, "no table"),
+    }
+}
+
+// What the checker says of a text's certificate, and the text that is written of it.
+fn read_text(
+    alloc: Global,
+    old: &Schema,
+    new: &Schema,
+    bytes: &[u8],
+) -> Result<String, AllocError> {
+    let certificate = match from_text(alloc, old, new, bytes) {
+        Ok(certificate) => certificate,
+        Err(error) => return shown::fault(alloc, error),
+    };
+    let again = to_text(alloc, old, new, &certificate)?;
+    let verdict = checked(alloc, old, new, &certificate)?;
+    format!(in alloc; "{verdict} | {}", again.as_bytes().escape_ascii())
+}
+
+/// `text | OLD | NEW | TEXT`: why the text is none, or what the checker says of its certificate and the text that is written of it.
+pub(crate) fn text(
+    alloc: Global,
+    old: &Schema,
+    new: &Schema,
+    words: &str,
+) -> Result<String, AllocError> {
+    let bytes = bytes_of(alloc, words)?;
+    read_text(alloc, old, new, &bytes)
+}
+
+// How many of the fronts of the bytes are bad, without the whole.
+fn bad_fronts(alloc: Global, old: &Schema, new: &Schema, bytes: &[u8]) -> usize {
+    let mut count = 0_usize;
+    for end in 0..bytes.len() {
+        if let Err(CertError::BadText) = from_text(alloc, old, new, &bytes[..end]) {
+            count = count.saturating_add(1);
+        }
+    }
+    count
+}
+
+/// `fronts | OLD | NEW | TEXT`: how many fronts of the text are no certificate's text, of how many there are.
+pub(crate) fn fronts(
+    alloc: Global,
+    old: &Schema,
+    new: &Schema,
+    words: &str,
+) -> Result<String, AllocError> {
+    let bytes = bytes_of(alloc, words)?;
+    let count = bad_fronts(alloc, old, new, &bytes);
+    format!(in alloc; "{count} of {} bad", bytes.len())
+}

@@ -1,0 +1,63 @@
+//! Which call a row is of.
+use crate::changed::Changed;
+use crate::{certificates, choices, gaps, messages, searches, sight};
+use pg_pairs::{Numbers, View};
+use pg_schema::Schema;
+use rows::cut;
+use std::alloc::{AllocError, Global};
+use tiny_schemas::schemas;
+
+// The answers of calls that see enums by a view.
+fn seen<V: View>(
+    alloc: Global,
+    view: &V,
+    call: &str,
+    old: &Schema,
+    new: &Schema,
+    words: &str,
+) -> Result<String, AllocError> {
+    match call {
+        "choices" => choices::choices(alloc, view, old, new, words),
+        "cheapest" => choices::cheapest_choice(alloc, view, old, new, words),
+        "message" => messages::message(alloc, view, old, new, words),
+        "carry" => messages::carry_choice(alloc, view, old, new, words),
+        "breaks" => messages::break_or_keep(alloc, view, old, new, words),
+        "sight" => sight::sight(alloc, view, old, new, words),
+        _ => String::from_str(alloc, "no such call"),
+    }
+}
+
+fn between(
+    alloc: Global,
+    call: &str,
+    old: &Schema,
+    new: &Schema,
+    words: &str,
+) -> Result<String, AllocError> {
+    match call {
+        "children" => choices::child_pairs(alloc, old, new, words),
+        "check" => certificates::check_parts(alloc, old, new, words),
+        "text" => certificates::text(alloc, old, new, words),
+        "fronts" => certificates::fronts(alloc, old, new, words),
+        "search" => searches::search_pair(alloc, old, new, words),
+        "way" => searches::way_down(alloc, old, new, words),
+        _ => match call.strip_prefix("changed ") {
+            Some(call) => seen(alloc, &Changed, call, old, new, words),
+            None => seen(alloc, &Numbers, call, old, new, words),
+        },
+    }
+}
+
+/// What is shown of a row.
+pub(crate) fn answer(alloc: Global, row: &str) -> Result<String, AllocError> {
+    let (call, words) = cut(row);
+    if call == "gaps" {
+        return gaps::gaps(alloc, words);
+    }
+    let (old, words) = cut(words);
+    let (new, words) = cut(words);
+    match schemas(alloc, old, new)? {
+        Some((old, new)) => between(alloc, call, &old, &new, words),
+        None => String::from_str(alloc, "no schemas"),
+    }
+}
