@@ -81,11 +81,7 @@ pub fn folder_read<R: Files>(
 }
 
 /// What `Listed::read` answers: the clauses of `Sources`, of a list.
-pub fn listed_read(
-    list: &mut Listed<'_>,
-    alloc: Global,
-    path: &str,
-) -> Result<Vec<u8>, SourceError>
+pub fn listed_read(list: &mut Listed<'_>, alloc: Global, path: &str) -> Result<Vec<u8>, SourceError>
     ensures given { IfOk result (λ bytes. IsTrue (gives list.old.files.now path.now bytes.items)) }
     ensures lacked { IsErrOf result SourceError.Missing → IsTrue (lacks list.old.files.now path.now) }
     ensures counted { 0 ≡ 0 + failures_in result }
