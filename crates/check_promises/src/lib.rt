@@ -1,0 +1,39 @@
+//! The promises of `pg_check`, said again of calls of it: the edits of `must-fail` turn each answer, and every one must be refused.
+#![tactic(auto)]
+
+ghost use Rattle.std.specs.Prelude.{◌≡◌, IfErr, IfOk, OnOk};
+ghost use Rattle.pg_schema.specs.Sound.{IsSound};
+ghost use Rattle.pg_check.specs.Declares.{Declares};
+ghost use Rattle.pg_check.specs.Errors as spec;
+ghost use Rattle.pg_check.specs.PartErrors.{IsRefusedOf};
+ghost use Rattle.pg_check.specs.Sources.{linked_sources};
+ghost use Rattle.pg_check.specs.declared.error.CheckError.TheVariants.{Memory};
+
+use pg_check::CheckError;
+use pg_link::Linked;
+use pg_schema::{Parts, Schema};
+use std::alloc::{AllocError, Global};
+
+/// What `build` answers.
+pub fn build(alloc: Global, linked: &Linked) -> Result<Schema, CheckError>
+    ensures built { IfOk result (Declares (linked_sources linked.now.files)) }
+    ensures refused { IfErr result (spec.IsRefused (linked_sources linked.now.files)) }
+{
+    pg_check::build(alloc, linked)
+}
+
+/// What `admit` answers.
+pub fn admit(alloc: Global, parts: Parts) -> Result<Schema, CheckError>
+    ensures admitted { IfOk result (λ schema. schema ≡ parts) }
+    ensures sound { OnOk result (IsSound parts) }
+    ensures refused { IfErr result (IsRefusedOf parts) }
+{
+    pg_check::admit(alloc, parts)
+}
+
+/// What `CheckError::from` answers of a refused growth. Only an edit uses the memory.
+pub fn error_of(_alloc: Global, error: AllocError) -> CheckError
+    ensures { result ≡ Memory }
+{
+    CheckError::from(error)
+}

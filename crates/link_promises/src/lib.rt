@@ -1,0 +1,13 @@
+//! The promises of `pg_link`, said again of calls of it: the edits of `must-fail` turn each answer, and every one must be refused.
+#![tactic(auto)]
+
+mod counts;
+mod linked;
+mod sources;
+
+pub use counts::{add, note, note_path, path_record, record, tally};
+pub use linked::{files, is_scalar, place, resolve, targets, targets_by_place};
+pub use sources::{
+    folder, folder_read, link, link_error_of, link_error_of_failed, listed_read, place_in,
+    read_file, source_error_of, source_error_of_failed,
+};

@@ -1,0 +1,81 @@
+//! What a caller may ask of linked files.
+
+ghost use Rattle.std.specs.Prelude.{◌≡◌, ◌<◌, ◌∷◌, IfErr, IfNone, IfOk, IfSome, Some, length, map, slice_get, ℕ};
+ghost use Rattle.std.specs.BTreeMap.{get};
+ghost use Rattle.std.specs.Ordering.{nat_cmp};
+ghost use Rattle.pg_link.specs.Files.{all_names, visible_names};
+ghost use Rattle.pg_link.specs.Index.{texts};
+ghost use Rattle.pg_link.specs.Linked.{IsDeclaredAt, IsDeclaredNowhere, IsLinkedUp};
+ghost use Rattle.pg_link.specs.Resolves.{Resolves, reference};
+ghost use Rattle.pg_link.specs.Targets.{file_targets, target_at};
+ghost use Rattle.pg_link.specs.UseFaults.{IsNoName};
+ghost use Rattle.pg_link.specs.Uses as spec;
+ghost use Rattle.pg_link.specs.Walk.{Entry, outlines, path_of};
+
+use indexmap::IndexMap;
+use pg_link::{LinkError, Linked, SourceFile, Target};
+use pg_syntax::tree::TypeName;
+use std::alloc::{AllocError, Global};
+use std::collections::BTreeMap;
+
+/// What `Linked::files` answers. Only an edit reads the other files.
+pub fn files<'a>(linked: &'a Linked, _other: &'a Linked) -> &'a IndexMap<String, SourceFile>
+    ensures files { result.now.entries ≡ linked.now.files }
+    ensures linked { IsLinkedUp linked.now }
+{
+    linked.files()
+}
+
+/// What `Linked::targets` answers.
+pub fn targets(linked: &Linked, file: usize) -> &[Target]
+    requires { file < length linked.now.files }
+    ensures targets { slice_get linked.now.targets file ≡ Some result.now }
+    ensures resolved { (e : Entry) → slice_get linked.now.files file ≡ Some e → map Some result.now ≡ file_targets linked.now.files e }
+{
+    linked.targets(file)
+}
+
+/// What `Linked::targets_by_place` answers.
+pub fn targets_by_place(
+    linked: &Linked,
+    alloc: Global,
+    file: usize,
+) -> Result<BTreeMap<usize, Target>, AllocError>
+    requires { file < length linked.now.files }
+    ensures { IfOk result (λ found. (e : Entry) → slice_get linked.now.files file ≡ Some e
+        → (at : ℕ) → get nat_cmp found at ≡ target_at linked.now.files e at) }
+{
+    linked.targets_by_place(alloc, file)
+}
+
+/// What `Linked::resolve` answers.
+pub fn resolve<'a>(
+    linked: &'a Linked,
+    alloc: Global,
+    file: usize,
+    scope: &[&str],
+    name: &TypeName,
+) -> Result<&'a str, LinkError>
+    requires { file < length linked.now.files }
+    ensures resolves { IfOk result (λ full. (e : Entry) → slice_get linked.now.files file ≡ Some e
+        → Resolves (visible_names (outlines linked.now.files) (path_of e)) (texts scope.now) (reference name.now) (46 ∷ full.now)) }
+    ensures refused { IfErr result (λ error. (e : Entry) → slice_get linked.now.files file ≡ Some e
+        → IsNoName (visible_names (outlines linked.now.files) (path_of e)) (all_names (outlines linked.now.files)) (texts scope.now) (reference name.now) (path_of e) error) }
+{
+    linked.resolve(alloc, file, scope, name)
+}
+
+/// What `Linked::place` answers.
+pub fn place<'a>(linked: &'a Linked, full_name: &str) -> Option<(&'a str, usize, usize)>
+    ensures place { IfSome result (λ p. IsDeclaredAt linked.now.files full_name.now p.0.now p.1 p.2) }
+    ensures absent { IfNone result (IsDeclaredNowhere linked.now.files full_name.now) }
+{
+    linked.place(full_name)
+}
+
+/// What `is_scalar` answers.
+pub fn is_scalar(name: &TypeName) -> bool
+    ensures { result ≡ spec.is_scalar (reference name.now) }
+{
+    pg_link::is_scalar(name)
+}

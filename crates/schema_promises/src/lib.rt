@@ -1,0 +1,93 @@
+//! The promises of `pg_schema`, said again of calls of it: the edits of `must-fail` turn each answer, and every one must be refused.
+#![tactic(auto)]
+
+ghost use Rattle.std.specs.Prelude.{◌≡◌, ◌<◌, ◌↔◌, Some, length, map, option_map, IsTrue, IfOk, IfErr, IfSome, OnOk};
+ghost use Rattle.std.specs.Option.{option_copied};
+ghost use Rattle.std.specs.String.{string_bytes};
+ghost use Rattle.pg_schema.specs.declared.error.PartsError.TheVariants.{Invariant};
+ghost use Rattle.pg_schema.specs.declared.field.TypeId.{TypeId};
+ghost use Rattle.pg_schema.specs.Invariant.{IsSchema};
+ghost use Rattle.pg_schema.specs.JsonName.{default_json_name};
+ghost use Rattle.pg_schema.specs.Parts.{enum_at, field_of, field_shape, name_at, shape_of, type_at};
+ghost use Rattle.pg_schema.specs.Shape.{field_at, fields, is_packable};
+ghost use Rattle.pg_schema.specs.Sound.{IsSound};
+ghost use Rattle.pg_schema.specs.Told as spec;
+
+use pg_schema::{Element, EnumId, EnumType, Field, MessageType, Parts, PartsError, Schema, TypeId};
+use std::alloc::{AllocError, Global};
+
+/// What `Schema::from_parts` answers.
+pub fn from_parts(alloc: Global, parts: Parts) -> Result<Schema, (PartsError, Parts)>
+    ensures schema { IfOk result (λ schema. schema ≡ parts) }
+    ensures checked { OnOk result (IsSchema parts) }
+    ensures back { IfErr result (λ refused. refused.1 ≡ parts) }
+    ensures broken { IfErr result (λ refused. refused.0 ≡ Invariant → IsSound parts → ⊥) }
+{
+    Schema::from_parts(alloc, parts)
+}
+
+/// What `Schema::parts` answers. Only an edit reads the other schema.
+pub fn parts<'a>(schema: &'a Schema, _other: &'a Schema) -> &'a Parts
+    ensures parts { result.now ≡ schema.now }
+    ensures checked { IsSchema schema.now }
+{
+    schema.parts()
+}
+
+/// What `Schema::has` answers.
+pub fn has(schema: &Schema, id: TypeId) -> bool
+    ensures { IsTrue result ↔ (id.index < length (shape_of schema.now)) }
+{
+    schema.has(id)
+}
+
+/// What `Schema::message` answers.
+pub fn message(schema: &Schema, name: &str) -> Option<TypeId>
+    ensures { (id : TypeId) → (result ≡ Some id) ↔ (name_at schema.now.types.items id ≡ Some name.now) }
+{
+    schema.message(name)
+}
+
+/// What `Schema::message_type` answers.
+pub fn message_type(schema: &Schema, id: TypeId) -> Option<&MessageType>
+    ensures exact { option_copied result ≡ type_at schema.now id }
+    ensures fields { IfSome result (λ t. map field_shape t.now.fields.items ≡ fields (shape_of schema.now) id) }
+{
+    schema.message_type(id)
+}
+
+/// What `Schema::enum_type` answers.
+pub fn enum_type(schema: &Schema, id: EnumId) -> Option<&EnumType>
+    ensures { option_copied result ≡ enum_at schema.now id }
+{
+    schema.enum_type(id)
+}
+
+/// What `Schema::field` answers.
+pub fn field(schema: &Schema, id: TypeId, number: u32) -> Option<&Field>
+    ensures exact { option_copied result ≡ field_of schema.now id number }
+    ensures shape { option_map field_shape (option_copied result) ≡ field_at (fields (shape_of schema.now) id) number }
+{
+    schema.field(id, number)
+}
+
+/// What `Element::is_packable` answers.
+pub fn is_packable(element: Element) -> bool
+    ensures { result ≡ is_packable element }
+{
+    element.is_packable()
+}
+
+/// What `default_json_name` answers.
+pub fn default_json_name(alloc: Global, name: &str) -> Result<String, AllocError>
+    ensures { IfOk result (λ text. string_bytes text ≡ default_json_name name.now) }
+{
+    pg_schema::default_json_name(alloc, name)
+}
+
+/// What the `Display` of `PartsError` writes.
+pub fn told(alloc: Global, error: PartsError) -> Result<String, AllocError>
+    ensures { IfOk result (λ text. string_bytes text ≡ spec.told error) }
+{
+    format!(in alloc; "{error}")
+}
