@@ -1,0 +1,12 @@
+//! The promises of `pg_dyn`, said again of calls of it: the edits of `must-fail` turn each answer, and every one must be refused.
+#![tactic(auto)]
+
+mod messages;
+mod reading;
+mod words;
+mod writing;
+
+pub use messages::{contents, empty, fits, get, is_plain, put, set, type_id, unknown, whole};
+pub use reading::{decode, decode_unlimited};
+pub use words::{complement_64, element_wire_type};
+pub use writing::{copy, encode, encode_outside};

@@ -1,0 +1,49 @@
+//! What is read of bytes.
+
+ghost use Rattle.std.specs.Prelude.{◌≡◌, ◌<◌, ℕ, length, option_map, true, is_some, Some, OnOk, OnErr, IfOk, IfErr, IfSome};
+ghost use Rattle.pg_schema.specs.Parts.{shape_of};
+ghost use Rattle.pg_schema.specs.Shape.{fields};
+ghost use Rattle.pg_dyn.specs.Decoding.{dec};
+ghost use Rattle.pg_dyn.specs.Fits.{Fits};
+ghost use Rattle.pg_dyn.specs.Kept.{message_of, type_of};
+ghost use Rattle.pg_dyn.specs.Refusals.{MayRefuse};
+ghost use Rattle.pg_dyn.specs.TooDeep.{TooDeepIn};
+ghost use Rattle.pg_dyn.specs.declared.error.DynError.TheVariants as errors;
+
+use pg_dyn::{DynError, Message};
+use pg_schema::{Schema, TypeId};
+use std::alloc::{AllocError, Global};
+
+/// What `decode` answers.
+pub fn decode(
+    alloc: Global,
+    schema: &Schema,
+    type_id: TypeId,
+    bytes: &[u8],
+    limit: usize,
+) -> Result<Message, DynError>
+    requires type_id { type_id.index < length (shape_of schema.now) }
+    ensures message { IfOk result (λ m. dec (shape_of schema.now) type_id bytes.now ≡ Some (message_of m)) }
+    ensures fits { IfOk result (λ m. Fits (shape_of schema.now) m × (type_of m ≡ type_id)) }
+    ensures within { OnOk result ((place : ℕ) → TooDeepIn (shape_of schema.now) limit (fields (shape_of schema.now) type_id) bytes.now place → ⊥) }
+    ensures refused { IfErr result (λ e. MayRefuse (shape_of schema.now) type_id limit bytes.now e) }
+    ensures lacking { IfErr result (λ e. e ≡ errors.Memory → (is_some (dec (shape_of schema.now) type_id bytes.now) ≡ true)
+        × ((place : ℕ) → TooDeepIn (shape_of schema.now) limit (fields (shape_of schema.now) type_id) bytes.now place → ⊥)) }
+{
+    pg_dyn::decode(alloc, schema, type_id, bytes, limit)
+}
+
+/// What `decode_unlimited` answers.
+pub fn decode_unlimited(
+    alloc: Global,
+    schema: &Schema,
+    type_id: TypeId,
+    bytes: &[u8],
+) -> Result<Option<Message>, AllocError>
+    requires type_id { type_id.index < length (shape_of schema.now) }
+    ensures message { IfOk result (λ found. option_map message_of found ≡ dec (shape_of schema.now) type_id bytes.now) }
+    ensures fits { IfOk result (λ found. IfSome found (λ m. Fits (shape_of schema.now) m × (type_of m ≡ type_id))) }
+    ensures lacking { OnErr result (is_some (dec (shape_of schema.now) type_id bytes.now) ≡ true) }
+{
+    pg_dyn::decode_unlimited(alloc, schema, type_id, bytes)
+}

@@ -1,0 +1,73 @@
+//! The promises of `pg_fds`, said again of calls of it: the edits of `must-fail` turn each answer, and every one must be refused.
+#![tactic(auto)]
+
+ghost use Rattle.std.specs.Prelude.{ℕ, ◌≡◌, ◌≤◌, ◌⊎◌, List, true, length, IfErr, IfOk};
+ghost use Rattle.pg_schema.specs.declared.parts.Parts.{Parts};
+ghost use Rattle.pg_schema.specs.Parts.{shape_of};
+ghost use Rattle.pg_schema.specs.Sound.{IsSound};
+ghost use Rattle.pg_dyn.specs.declared.error.DynError.TheVariants as faults;
+ghost use Rattle.pg_dyn.specs.Encoding.{cap};
+ghost use Rattle.pg_fds.specs.declared.error.FdsError.TheVariants as errors;
+ghost use Rattle.pg_fds.specs.Again.{IsNotTooDeep, IsReadable, are_shallow};
+ghost use Rattle.pg_fds.specs.Descriptor.{descriptor_shape};
+ghost use Rattle.pg_fds.specs.DescriptorParts.{descriptor_parts};
+ghost use Rattle.pg_fds.specs.InOrder.{StandInOrder};
+ghost use Rattle.pg_fds.specs.ReadAgain.{IsReadAgain, IsTooLong, MayRefuseAgain};
+ghost use Rattle.pg_fds.specs.Reads.{CanBeRead, IsHeld, fds_reads};
+ghost use Rattle.pg_fds.specs.Refused.{MayRefuseSet, NoneIsStated};
+ghost use Rattle.pg_fds.specs.Set.{fds};
+ghost use Rattle.pg_fds.specs.SetOrder.{in_set_order};
+ghost use Rattle.pg_fds.specs.Views.{parts_view};
+ghost use Rattle.pg_fds.specs.Written.{HasNoSet};
+
+use pg_fds::FdsError;
+use pg_schema::Schema;
+use std::alloc::{AllocError, Global};
+
+/// What `descriptor_schema` answers.
+pub fn descriptor_schema(alloc: Global) -> Result<Schema, AllocError>
+    ensures parts { IfOk result (λ schema. parts_view schema ≡ descriptor_parts) }
+    ensures shape { IfOk result (λ schema. shape_of schema ≡ descriptor_shape) }
+{
+    pg_fds::descriptor_schema(alloc)
+}
+
+/// What `write` answers.
+pub fn write(alloc: Global, schema: &Schema) -> Result<Vec<u8>, FdsError>
+    ensures ok { IfOk result (λ bytes. fds schema.now bytes.items) }
+    ensures short { IfOk result (λ bytes. length bytes.items ≤ cap) }
+    ensures stated { IfOk result (λ bytes. IsReadable schema.now → fds_reads bytes.items schema.now) }
+    ensures shallow { IfOk result (λ bytes. are_shallow schema.now ≡ true → IsNotTooDeep bytes.items) }
+    ensures err { IfErr result (λ e. (e ≡ errors.Memory) ⊎ ((e ≡ errors.Bytes faults.TooLong) × HasNoSet schema.now)) }
+{
+    pg_fds::write(alloc, schema)
+}
+
+/// What `read` answers.
+pub fn read(alloc: Global, bytes: &[u8]) -> Result<Schema, FdsError>
+    ensures ok { IfOk result (λ schema. fds_reads bytes.now schema) }
+    ensures sound { IfOk result IsSound }
+    ensures places { IfOk result (λ schema. StandInOrder schema) }
+    ensures refused { IfErr result (MayRefuseSet bytes.now) }
+    ensures same { IfOk result (λ schema. (parts : Parts) → IsHeld parts → fds_reads bytes.now parts
+        → parts_view schema ≡ parts_view (in_set_order parts)) }
+    ensures exact { IfOk result (λ schema. (parts : Parts) → CanBeRead parts → fds_reads bytes.now parts
+        → parts_view schema ≡ parts_view parts) }
+    ensures none_stated { IfErr result (NoneIsStated bytes.now) }
+{
+    pg_fds::read(alloc, bytes)
+}
+
+/// What `read_again` answers.
+pub fn read_again(alloc: Global, schema: &Schema) -> Result<Schema, FdsError>
+    ensures stated { IfOk result (λ made. (bytes : List ℕ) → fds schema.now bytes → fds_reads bytes made) }
+    ensures sound { IfOk result IsSound }
+    ensures places { IfOk result (λ made. StandInOrder made) }
+    ensures same { IfOk result (λ made. IsReadAgain schema.now → parts_view made ≡ parts_view (in_set_order schema.now)) }
+    ensures exact { IfOk result (λ made. IsReadAgain schema.now → StandInOrder schema.now
+        → parts_view made ≡ parts_view schema.now) }
+    ensures refused { IfErr result (λ e. IsReadAgain schema.now → (e ≡ errors.Memory) ⊎ IsTooLong schema.now e) }
+    ensures told { IfErr result (MayRefuseAgain schema.now) }
+{
+    pg_fds::read_again(alloc, schema)
+}
