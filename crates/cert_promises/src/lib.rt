@@ -1,7 +1,7 @@
 //! The promises of `pg_cert`, said again of calls of it: the edits of `must-fail` turn each answer, and every one must be refused.
 #![tactic(auto)]
 
-ghost use Rattle.std.specs.Prelude.{◌≡◌, ◌⊎◌, ◌×◌, length, nat_eq, slice_get, string_bytes, option_map, true, false, IfErr, IfOk, OnOk};
+ghost use Rattle.std.specs.Prelude.{◌≡◌, ◌⊎◌, length, nat_eq, slice_get, string_bytes, option_map, true, false, IfErr, IfOk, OnOk};
 ghost use Rattle.std.specs.Option.{option_copied};
 ghost use Rattle.pg_schema.specs.Parts.{shape_of};
 ghost use Rattle.pg_pairs.specs.Sight.{by_numbers};

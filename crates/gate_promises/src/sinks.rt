@@ -1,5 +1,5 @@
 //! What sinks take.
-ghost use Rattle.std.specs.Prelude.{◌≡◌, ◌+◌, ◌++◌, ◌×◌, ◌<◌, ◌≤◌, [], ℕ, length, take, IfOk, OnErr, OnOk};
+ghost use Rattle.std.specs.Prelude.{◌≡◌, ◌+◌, ◌++◌, ◌<◌, ◌≤◌, [], ℕ, length, take, IfOk, OnErr, OnOk};
 ghost use Rattle.pg_gate.specs.Sink.{failures_in, taken_of};
 
 use pg_gate::{Buffer, Sink, SinkError, StandardOutput};

@@ -1,7 +1,7 @@
 //! The promises of `pg_pairs`, said again of calls of it: the edits of `must-fail` turn each answer, and every one must be refused.
 #![tactic(auto)]
 
-ghost use Rattle.std.specs.Prelude.{◌≡◌, ◌↔◌, ◌⊎◌, ◌×◌, ◌<◌, ◌≤◌, length, option_map, true, None, IsTrue, IfErr, IfOk, IfSome, OnOk};
+ghost use Rattle.std.specs.Prelude.{◌≡◌, ◌↔◌, ◌⊎◌, ◌<◌, ◌≤◌, length, option_map, true, None, IsTrue, IfErr, IfOk, IfSome, OnOk};
 ghost use Rattle.pg_schema.specs.Parts.{shape_of};
 ghost use Rattle.pg_dyn.specs.declared.error.DynError.TheVariants as errors;
 ghost use Rattle.pg_dyn.specs.Breaking.{Breaks};
