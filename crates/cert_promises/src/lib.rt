@@ -1,0 +1,146 @@
+//! The promises of `pg_cert`, said again of calls of it: the edits of `must-fail` turn each answer, and every one must be refused.
+#![tactic(auto)]
+
+ghost use Rattle.std.specs.Prelude.{◌≡◌, ◌⊎◌, length, nat_eq, slice_get, string_bytes, option_map, true, false, IfErr, IfOk, OnOk};
+ghost use Rattle.std.specs.Option.{option_copied};
+ghost use Rattle.pg_schema.specs.Parts.{shape_of};
+ghost use Rattle.pg_pairs.specs.Sight.{by_numbers};
+ghost use Rattle.pg_cert.specs.declared.bounds.BoundsError.TheVariants.{Invariant};
+ghost use Rattle.pg_cert.specs.declared.error.CertError.TheVariants as errors;
+ghost use Rattle.pg_cert.specs.Bounds.{are_bounds, bound_in, is_bound, with_bound};
+ghost use Rattle.pg_cert.specs.Certificate.{AreBytes, Claim, Holds, is_witness, verdict_of};
+ghost use Rattle.pg_cert.specs.Faults.{IsFirstFault};
+ghost use Rattle.pg_cert.specs.Laws.{Says};
+ghost use Rattle.pg_cert.specs.Text as spec;
+
+use pg_cert::{Bounds, BoundsError, CertError, Certificate, PairBound, Verdict};
+use pg_pairs::{Pair, Table};
+use pg_schema::Schema;
+use std::alloc::{AllocError, Global};
+
+/// What `check` answers.
+pub fn check(
+    alloc: Global,
+    old: &Schema,
+    new: &Schema,
+    certificate: &Certificate,
+) -> Result<Verdict, CertError>
+    ensures holds { OnOk result (Holds by_numbers (shape_of old.now) (shape_of new.now) certificate.now) }
+    ensures verdict { IfOk result (λ verdict. verdict ≡ verdict_of certificate.now) }
+    ensures says { IfOk result (λ verdict. Says by_numbers (shape_of old.now) (shape_of new.now) certificate.now verdict) }
+    ensures first_fault { IfErr result (λ e. (e ≡ errors.Memory) ⊎ IsFirstFault by_numbers (shape_of old.now) (shape_of new.now) certificate.now e) }
+    ensures refused { IfErr result (λ e. (e ≡ errors.Memory) ⊎ ¬ (Holds by_numbers (shape_of old.now) (shape_of new.now) certificate.now)) }
+{
+    pg_cert::check(alloc, old, new, certificate)
+}
+
+/// What `from_text` answers.
+pub fn from_text(
+    alloc: Global,
+    old: &Schema,
+    new: &Schema,
+    bytes: &[u8],
+) -> Result<Certificate, CertError>
+    ensures certifies { IfOk result (λ c. spec.Certifies old.now new.now bytes.now c) }
+    ensures alone { IfOk result (λ c. (claim : Claim) → spec.Certifies old.now new.now bytes.now claim → c ≡ claim) }
+    ensures refused { IfErr result (λ e. (e ≡ errors.Memory) ⊎ ((e ≡ errors.BadText) × ((claim : Claim) → ¬ (spec.Certifies old.now new.now bytes.now claim)))) }
+{
+    pg_cert::from_text(alloc, old, new, bytes)
+}
+
+/// What `to_text` answers.
+pub fn to_text(
+    alloc: Global,
+    old: &Schema,
+    new: &Schema,
+    certificate: &Certificate,
+) -> Result<String, AllocError>
+    requires { spec.IsClaimOf old.now new.now certificate.now }
+    ensures { IfOk result (λ text. spec.Certifies old.now new.now (string_bytes text) certificate.now) }
+{
+    pg_cert::to_text(alloc, old, new, certificate)
+}
+
+/// What `Certificate::new` answers.
+pub fn certificate(
+    root: Pair,
+    bounds: Bounds,
+    witness: Option<Vec<u8>>,
+) -> Result<Certificate, (Bounds, Option<Vec<u8>>)>
+    ensures claim { IfOk result (λ c. c ≡ record { root = root; bounds = bounds; witness = option_map (λ bytes. bytes.items) witness }) }
+    ensures back { IfErr result (λ refused. refused ≡ (bounds, witness)) }
+    ensures empty { IfErr result (λ _. is_witness (option_map (λ bytes. bytes.items) witness) ≡ false) }
+{
+    Certificate::new(root, bounds, witness)
+}
+
+/// What `Certificate::root` answers.
+pub fn root(certificate: &Certificate) -> Pair
+    ensures root { result ≡ certificate.now.root }
+    ensures checked { are_bounds certificate.now.bounds ≡ true }
+    ensures witnessed { is_witness certificate.now.witness ≡ true }
+{
+    certificate.root()
+}
+
+/// What `Certificate::bounds` lends of the first of two certificates.
+pub fn bounds<'a>(certificate: &'a Certificate, _other: &'a Certificate) -> &'a Bounds
+    ensures { result.now ≡ certificate.now.bounds }
+{
+    certificate.bounds()
+}
+
+/// What `Certificate::witness` lends.
+pub fn witness(certificate: &Certificate) -> Option<&[u8]>
+    ensures witness { option_copied result ≡ certificate.now.witness }
+    ensures bytes { AreBytes certificate.now.witness }
+{
+    certificate.witness()
+}
+
+/// What `Bounds::new` answers.
+pub fn table(alloc: Global, bounds: Vec<PairBound>) -> Result<Bounds, (BoundsError, Vec<PairBound>)>
+    ensures table { IfOk result (λ table. table ≡ bounds.items) }
+    ensures checked { IfOk result (λ table. are_bounds table ≡ true) }
+    ensures back { IfErr result (λ refused. refused.1 ≡ bounds) }
+    ensures broken { IfErr result (λ refused. refused.0 ≡ Invariant → are_bounds bounds.items ≡ false) }
+{
+    Bounds::new(alloc, bounds)
+}
+
+/// What `Bounds::len` answers.
+pub fn len(bounds: &Bounds) -> usize
+    ensures len { result ≡ length bounds.now }
+    ensures checked { are_bounds bounds.now ≡ true }
+{
+    bounds.len()
+}
+
+/// What `Bounds::is_empty` answers.
+pub fn is_empty(bounds: &Bounds) -> bool
+    ensures { result ≡ nat_eq (length bounds.now) 0 }
+{
+    bounds.is_empty()
+}
+
+/// What `Bounds::get` answers.
+pub fn get(bounds: &Bounds, at: usize) -> Option<PairBound>
+    ensures { result ≡ slice_get bounds.now at }
+{
+    bounds.get(at)
+}
+
+/// What `Bounds::set_bound` does.
+pub fn set_bound(bounds: &mut Bounds, at: usize, bound: Option<u32>)
+    requires { is_bound bound ≡ true }
+    ensures { bounds.new ≡ with_bound bounds.old at bound }
+{
+    bounds.set_bound(at, bound)
+}
+
+/// The bound of a pair in a table.
+pub fn bound(bounds: &Bounds, pair: Pair) -> Option<Option<u32>>
+    ensures { result ≡ bound_in bounds.now pair }
+{
+    bounds.bound(pair)
+}

@@ -1,0 +1,98 @@
+//! The promises of `pg_gate`, said again of calls of it: the edits of `must-fail` turn each answer, and every one must be refused.
+#![tactic(auto)]
+
+mod printed;
+mod replies;
+mod sinks;
+
+ghost use Rattle.std.specs.Prelude.{◌≡◌, ◌≢◌, ◌+◌, None, Err, codes, IfErr, IfOk, IsErrOf};
+ghost use Rattle.clap.specs.Walk.{texts};
+ghost use Rattle.pg_gate.specs.Answer.{IsAnswer, IsRefusedRoot, Lacks};
+ghost use Rattle.pg_gate.specs.Call.{call_of};
+ghost use Rattle.pg_gate.specs.Files.{paths_of};
+ghost use Rattle.pg_gate.specs.Grants.{Grants, IsAnswerOfFiles, IsGateError, files_at, seen};
+ghost use Rattle.pg_gate.specs.Run.{Begins, IsRunError, Prints, failures_in};
+ghost use Rattle.pg_gate.specs.declared.error.GateError.TheVariants as errors;
+
+use pg_gate::{Answer, GateError, Sink};
+use pg_link::Sources;
+use pg_schema::Schema;
+pub use printed::{
+    digits, hex, location, named_field, refusal, report, side, step, steps, verified,
+};
+pub use replies::{into_text, status};
+pub use sinks::{buffer, buffer_of, output, print, put, write_all};
+use std::alloc::Global;
+
+/// What `gate` answers.
+pub fn gate(alloc: Global, old: &Schema, new: &Schema, root: &str) -> Result<Answer, GateError>
+    ensures answer { IfOk result (IsAnswer old.now new.now root.now) }
+    ensures old_missing { Lacks old.now root.now → result ≡ Err errors.RootMissingOld }
+    ensures new_missing { (Lacks old.now root.now → ⊥) → Lacks new.now root.now
+        → result ≡ Err errors.RootMissingNew }
+    ensures refused { IfErr result (IsRefusedRoot old.now new.now root.now) }
+{
+    pg_gate::gate(alloc, old, new, root)
+}
+
+/// What `gate_files` answers.
+pub fn gate_files<S: Sources, T: Sources>(
+    alloc: Global,
+    old: &mut S,
+    new: &mut T,
+    old_roots: &[&str],
+    new_roots: &[&str],
+    root: &str,
+) -> Result<Answer, GateError>
+    // The answer is that of texts and sets that the sources may give, and so is each refusal.
+    ensures answer { IfOk result (IsAnswerOfFiles root.now
+        (seen (S.may_give old.old) (S.may_lack old.old) (S.failures old.old) (S.failures old.new))
+        (seen (T.may_give new.old) (T.may_lack new.old) (T.failures new.old) (T.failures new.new))
+        (files_at (codes ".") (paths_of old_roots.now)) (files_at (codes ".") (paths_of new_roots.now))) }
+    ensures refused { IfErr result (IsGateError root.now
+        (seen (S.may_give old.old) (S.may_lack old.old) (S.failures old.old) (S.failures old.new))
+        (seen (T.may_give new.old) (T.may_lack new.old) (T.failures new.old) (T.failures new.new))
+        (files_at (codes ".") (paths_of old_roots.now)) (files_at (codes ".") (paths_of new_roots.now))) }
+    // The sources' reads leave what they may give and lack.
+    ensures old_given { S.may_give old.new ≡ S.may_give old.old }
+    ensures old_lacked { S.may_lack old.new ≡ S.may_lack old.old }
+    ensures new_given { T.may_give new.new ≡ T.may_give new.old }
+    ensures new_lacked { T.may_lack new.new ≡ T.may_lack new.old }
+{
+    pg_gate::gate_files(alloc, old, new, old_roots, new_roots, root)
+}
+
+/// What `run` does.
+pub fn run<S: Sources, T: Sources, W: Sink>(
+    alloc: Global,
+    words: &[&str],
+    old: &mut S,
+    new: &mut T,
+    sink: &mut W,
+) -> Result<u8, GateError>
+    // Only words that `clap` does not take end with the status of usage.
+    ensures usage { IfOk result (λ status. status ≡ 4 → call_of (texts words.now) ≡ None) }
+
+    // Else the sink took exactly the text of the words' call and an answer granted to it.
+    ensures printed { IfOk result (λ status. status ≢ 4 → Prints
+        (Grants (seen (S.may_give old.old) (S.may_lack old.old) (S.failures old.old) (S.failures old.new))
+        (seen (T.may_give new.old) (T.may_lack new.old) (T.failures new.old) (T.failures new.new)))
+        (texts words.now) status (W.taken sink.old) (W.taken sink.new)) }
+
+    // A sink that fails took a beginning of it, and memory that fails leaves the sink alone.
+    ensures begun { IsErrOf result GateError.WriteFailed → call_of (texts words.now) ≢ None → Begins
+        (Grants (seen (S.may_give old.old) (S.may_lack old.old) (S.failures old.old) (S.failures old.new))
+        (seen (T.may_give new.old) (T.may_lack new.old) (T.failures new.old) (T.failures new.new)))
+        (texts words.now) (W.taken sink.old) (W.taken sink.new) }
+    ensures only { IfErr result IsRunError }
+    ensures untouched { IsErrOf result GateError.Memory → W.taken sink.new ≡ W.taken sink.old }
+    ensures counted { W.failures sink.new ≡ W.failures sink.old + failures_in result }
+
+    // The sources' reads leave what they may give and lack.
+    ensures old_given { S.may_give old.new ≡ S.may_give old.old }
+    ensures old_lacked { S.may_lack old.new ≡ S.may_lack old.old }
+    ensures new_given { T.may_give new.new ≡ T.may_give new.old }
+    ensures new_lacked { T.may_lack new.new ≡ T.may_lack new.old }
+{
+    pg_gate::run(alloc, words, old, new, sink)
+}

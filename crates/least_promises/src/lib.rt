@@ -1,0 +1,51 @@
+//! The promises of `pg_least`, said again of calls of it: the edits of `must-fail` turn each answer, and every one must be refused.
+#![tactic(auto)]
+
+ghost use Rattle.std.specs.Prelude.{◌≡◌, ◌<◌, true, is_some, length, IfOk};
+ghost use Rattle.pg_schema.specs.Parts.{shape_of};
+ghost use Rattle.pg_pairs.specs.Sight.{by_numbers};
+ghost use Rattle.pg_cert.specs.Bounds.{bound_in};
+ghost use Rattle.pg_least.specs.Descent.{IsWay};
+ghost use Rattle.pg_least.specs.Exact.{IsBesideClaim, IsSearched};
+
+use pg_cert::Certificate;
+use pg_least::{Found, Step};
+use pg_pairs::Pair;
+use pg_schema::Schema;
+use std::alloc::{AllocError, Global};
+
+/// What `find` answers.
+pub fn find(alloc: Global, old: &Schema, new: &Schema, root: Pair) -> Result<Found, AllocError>
+    requires old_type { root.old.index < length (shape_of old.now) }
+    ensures searched { IfOk result (λ found. IsSearched by_numbers (shape_of old.now) (shape_of new.now) root found.certificate) }
+    ensures witness { IfOk result (λ found. IsBesideClaim by_numbers (shape_of old.now) (shape_of new.now) found.certificate found.witness) }
+{
+    pg_least::find(alloc, old, new, root)
+}
+
+/// What `search` answers.
+pub fn search(
+    alloc: Global,
+    old: &Schema,
+    new: &Schema,
+    root: Pair,
+) -> Result<Certificate, AllocError>
+    requires old_type { root.old.index < length (shape_of old.now) }
+    ensures { IfOk result (λ certificate. IsSearched by_numbers (shape_of old.now) (shape_of new.now) root certificate) }
+{
+    pg_least::search(alloc, old, new, root)
+}
+
+/// What `way` answers.
+pub fn way(
+    alloc: Global,
+    old: &Schema,
+    new: &Schema,
+    certificate: &Certificate,
+) -> Result<Vec<Step>, AllocError>
+    requires searched { IsSearched by_numbers (shape_of old.now) (shape_of new.now) certificate.now.root certificate.now }
+    requires breaks { is_some certificate.now.witness ≡ true }
+    ensures { IfOk result (λ steps. IsWay by_numbers (shape_of old.now) (shape_of new.now) (bound_in certificate.now.bounds) certificate.now.root steps.items) }
+{
+    pg_least::way(alloc, old, new, certificate)
+}

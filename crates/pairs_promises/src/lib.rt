@@ -1,0 +1,133 @@
+//! The promises of `pg_pairs`, said again of calls of it: the edits of `must-fail` turn each answer, and every one must be refused.
+#![tactic(auto)]
+
+ghost use Rattle.std.specs.Prelude.{◌≡◌, ◌↔◌, ◌⊎◌, ◌<◌, ◌≤◌, length, option_map, true, None, IsTrue, IfErr, IfOk, IfSome, OnOk};
+ghost use Rattle.pg_schema.specs.Parts.{shape_of};
+ghost use Rattle.pg_dyn.specs.declared.error.DynError.TheVariants as errors;
+ghost use Rattle.pg_dyn.specs.Breaking.{Breaks};
+ghost use Rattle.pg_dyn.specs.Encoding.{cap, enc};
+ghost use Rattle.pg_dyn.specs.Fits.{Fits};
+ghost use Rattle.pg_dyn.specs.Kept.{message_of, type_of};
+ghost use Rattle.pg_pairs.specs.Among.{IsAmong};
+ghost use Rattle.pg_pairs.specs.Carried as carried;
+ghost use Rattle.pg_pairs.specs.CarriedItems.{IsChoiceRound};
+ghost use Rattle.pg_pairs.specs.Cheapest as least;
+ghost use Rattle.pg_pairs.specs.Choices.{Table, choices};
+ghost use Rattle.pg_pairs.specs.Covering as covering;
+ghost use Rattle.pg_pairs.specs.Gaps as gaps;
+ghost use Rattle.pg_pairs.specs.Laws.{ReachedBy};
+ghost use Rattle.pg_pairs.specs.Views.{sight_of};
+
+use pg_dyn::{DynError, Message};
+use pg_pairs::{Choice, Gap, Numbers, Pair, Table, View};
+use pg_schema::{EnumType, Scalar, Schema};
+use std::alloc::{AllocError, Global};
+
+/// What `breaks` answers.
+pub fn breaks<V: View>(
+    alloc: Global,
+    view: &V,
+    old: &Schema,
+    new: &Schema,
+    pair: Pair,
+    message: &Message,
+) -> Result<bool, DynError>
+    requires { Fits (shape_of old.now) message.now }
+    ensures exact { IfOk result (λ b. IsTrue b ↔ ((type_of message.now ≡ pair.old) × Breaks (sight_of (V.is_alike view.now) (V.least_differing view.now) old.now new.now).alike (shape_of old.now) (shape_of new.now) pair.old pair.new (message_of message.now))) }
+    ensures encoded { OnOk result (length (enc (shape_of old.now) (type_of message.now) (message_of message.now)) ≤ cap) }
+    ensures refused { IfErr result (λ e. (e ≡ errors.Memory) ⊎ ((e ≡ errors.TooLong) × (cap < length (enc (shape_of old.now) (type_of message.now) (message_of message.now))))) }
+{
+    pg_pairs::breaks(alloc, view, old, new, pair, message)
+}
+
+/// What `carry` answers.
+pub fn carry<V: View>(
+    alloc: Global,
+    view: &V,
+    old: &Schema,
+    new: &Schema,
+    pair: Pair,
+    choice: &Choice,
+    child: Option<Message>,
+) -> Result<Option<Message>, AllocError>
+    requires child { IfSome child (Fits (shape_of old.now)) }
+    requires old_type { pair.old.index < length (shape_of old.now) }
+    ensures fits { IfOk result (λ found. IfSome found (λ m. Fits (shape_of old.now) m)) }
+    ensures type_is { IfOk result (λ found. IfSome found (λ m. type_of m ≡ pair.old)) }
+    ensures reached { IfOk result (λ found. IfSome found (λ m. (table : Table) →
+        IsAmong choice.now (choices (sight_of (V.is_alike view.now) (V.least_differing view.now) old.now new.now) table (shape_of old.now) (shape_of new.now) pair)
+        → carried.ChildReached (sight_of (V.is_alike view.now) (V.least_differing view.now) old.now new.now) (shape_of old.now) (shape_of new.now) table (carried.choice_child (shape_of old.now) (shape_of new.now) pair choice.now) (option_map message_of child)
+        → ReachedBy (sight_of (V.is_alike view.now) (V.least_differing view.now) old.now new.now) (shape_of old.now) (shape_of new.now) pair (message_of m) choice.now.cost)) }
+    ensures none { IfOk result (λ found. found ≡ None → IsChoiceRound (sight_of (V.is_alike view.now) (V.least_differing view.now) old.now new.now) (shape_of old.now) (shape_of new.now) pair choice.now child → ⊥) }
+{
+    pg_pairs::carry(alloc, view, old, new, pair, choice, child)
+}
+
+/// What `children` answers.
+pub fn children(
+    alloc: Global,
+    old: &Schema,
+    new: &Schema,
+    pair: Pair,
+) -> Result<Vec<Pair>, AllocError>
+    ensures { IfOk result (λ pairs. pairs.items ≡ covering.children (shape_of old.now) (shape_of new.now) pair) }
+{
+    pg_pairs::children(alloc, old, new, pair)
+}
+
+/// What `choice_child` answers.
+pub fn choice_child(old: &Schema, new: &Schema, pair: Pair, choice: &Choice) -> Option<Pair>
+    ensures { result ≡ carried.choice_child (shape_of old.now) (shape_of new.now) pair choice.now }
+{
+    pg_pairs::choice_child(old, new, pair, choice)
+}
+
+/// What `cheapest` answers.
+pub fn cheapest<V: View, T: Table>(
+    alloc: Global,
+    view: &V,
+    old: &Schema,
+    new: &Schema,
+    pair: Pair,
+    table: &T,
+) -> Result<Option<Choice>, AllocError>
+    ensures { IfOk result (λ found. found ≡ least.cheapest (choices (sight_of (V.is_alike view.now) (V.least_differing view.now) old.now new.now) (T.bounds table.now) (shape_of old.now) (shape_of new.now) pair)) }
+{
+    pg_pairs::cheapest(alloc, view, old, new, pair, table)
+}
+
+/// What `options` answers.
+pub fn options<V: View, T: Table>(
+    alloc: Global,
+    view: &V,
+    old: &Schema,
+    new: &Schema,
+    pair: Pair,
+    table: &T,
+) -> Result<Vec<Choice>, AllocError>
+    ensures { IfOk result (λ cs. cs.items ≡ choices (sight_of (V.is_alike view.now) (V.least_differing view.now) old.now new.now) (T.bounds table.now) (shape_of old.now) (shape_of new.now) pair) }
+{
+    pg_pairs::options(alloc, view, old, new, pair, table)
+}
+
+/// What `gap` answers.
+pub fn gap(old: Scalar, new: Scalar) -> Gap
+    ensures table { result ≡ gaps.gap old new }
+    ensures exact { gaps.IsTrueOf old new result }
+{
+    pg_pairs::gap(old, new)
+}
+
+/// Which numbers are alike by `Numbers`: all.
+pub fn alike(old: &EnumType, new: &EnumType, number: i32) -> bool
+    ensures { result ≡ true }
+{
+    Numbers.alike(old, new, number)
+}
+
+/// The least number that isn't alike by `Numbers`: none.
+pub fn least(old: &EnumType, new: &EnumType, zero: bool) -> Option<i32>
+    ensures { result ≡ None }
+{
+    Numbers.least(old, new, zero)
+}
