@@ -45,7 +45,7 @@ pub fn steps(alloc: Global, list: &[Step]) -> Result<String, AllocError>
 
 /// What is printed of what is found.
 pub fn report(alloc: Global, report: Report<'_>) -> Result<String, AllocError>
-    ensures { IfOk result (λ text. string_bytes text ≡ spec.finding_of report.root.now report.finding.now) }
+    ensures { IfOk result (λ text. string_bytes text ≡ spec.finding_of report.entry.root.now report.entry.finding.now) }
 {
     format!(in alloc; "{report}")
 }
