@@ -75,10 +75,7 @@ fn held(types: &[&str], words: &Words) -> (Presence, Element) {
 
 // The place of the oneof that a label names.
 fn oneof_of(label: &str) -> Option<u32> {
-    match label.strip_prefix("k") {
-        Some(place) => place.parse().ok(),
-        None => None,
-    }
+    label.strip_prefix("k")?.parse().ok()
 }
 
 /// The field that the text says, of a schema of these types.

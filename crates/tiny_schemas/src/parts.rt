@@ -6,32 +6,58 @@ use pg_schema::{
 };
 use std::alloc::{AllocError, Global};
 
-// `enum E { Z = 0; }`
-fn enum_type(alloc: Global) -> Result<EnumType, AllocError> {
+// The list of that item alone.
+fn one<T: Drop>(alloc: Global, item: T) -> Result<Vec<T>, AllocError> {
+    let mut list = Vec::new(alloc);
+    list.push(item)?;
+    Ok(list)
+}
+
+// `Z = 0;`
+fn values_of(alloc: Global) -> Result<Vec<EnumValue>, AllocError> {
     let zero = EnumValue {
         name: String::from_str(alloc, "Z")?,
         number: 0,
         options: EnumValueOptions { deprecated: None },
     };
-    Ok(EnumType {
+    one(alloc, zero)
+}
+
+// `enum E { Z = 0; }`
+fn enums_of(alloc: Global) -> Result<Vec<EnumType>, AllocError> {
+    let enum_type = EnumType {
         name: String::from_str(alloc, "E")?,
-        values: vec![in alloc; zero]?,
+        values: values_of(alloc)?,
         reserved_numbers: Vec::new(alloc),
         reserved_names: Vec::new(alloc),
         options: EnumOptions {
             allow_alias: None,
             deprecated: None,
         },
-    })
+    };
+    one(alloc, enum_type)
+}
+
+fn names_of(alloc: Global, line: &str) -> Result<Vec<&str>, AllocError> {
+    let mut names = Vec::new(alloc);
+    for text in line.split("; ") {
+        names.push(name_of(text))?;
+    }
+    Ok(names)
+}
+
+fn messages_of(alloc: Global, names: &[&str], line: &str) -> Result<Vec<MessageType>, AllocError> {
+    let mut types = Vec::new(alloc);
+    for text in line.split("; ") {
+        let message = message(alloc, names, text)?;
+        types.push(message)?;
+    }
+    Ok(types)
 }
 
 fn types_of(alloc: Global, line: &str) -> Result<Vec<MessageType>, AllocError> {
-    let names: Vec<&str> = line.split("; ").map(name_of).collect(alloc)?;
-    let mut types = Vec::new(alloc);
-    for text in line.split("; ") {
-        types.push(message(alloc, &names, text)?)?;
-    }
-    Ok(types)
+    let names = names_of(alloc, line)?;
+    messages_of(alloc, &names, line)
 }
 
 // The places of the types, in their order.
@@ -45,25 +71,25 @@ fn places_of(alloc: Global, types: &[MessageType]) -> Result<Vec<TypeId>, AllocE
     Ok(places)
 }
 
-fn file_of(alloc: Global, types: &[MessageType]) -> Result<File, AllocError> {
-    Ok(File {
+fn files_of(alloc: Global, types: &[MessageType]) -> Result<Vec<File>, AllocError> {
+    let file = File {
         name: String::from_str(alloc, "m.proto")?,
         package: String::new(alloc),
         imports: Vec::new(alloc),
         types: places_of(alloc, types)?,
-        enums: vec![in alloc; EnumId { index: 0 }]?,
+        enums: one(alloc, EnumId { index: 0 })?,
         services: Vec::new(alloc),
         options: Vec::new(alloc),
-    })
+    };
+    one(alloc, file)
 }
 
 fn parts_of(alloc: Global, line: &str) -> Result<Parts, AllocError> {
     let types = types_of(alloc, line)?;
-    let file = file_of(alloc, &types)?;
     Ok(Parts {
-        files: vec![in alloc; file]?,
+        files: files_of(alloc, &types)?,
         types,
-        enums: vec![in alloc; enum_type(alloc)?]?,
+        enums: enums_of(alloc)?,
         services: Vec::new(alloc),
     })
 }

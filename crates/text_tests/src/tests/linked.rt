@@ -52,18 +52,32 @@ fn is_whole(place: &Place) -> bool {
     place.file.as_str() == "m.proto" && (place.line, place.column) == (0, 0)
 }
 
+/// Whether the name is unknown, in the file as a whole.
+fn is_unknown(error: &LinkError) -> bool {
+    match error {
+        LinkError::UnknownName(place) => is_whole(place),
+        _ => false,
+    }
+}
+
+/// A copy of the name that was found, or `unknown`.
+fn told(alloc: Global, answer: Result<&str, LinkError>) -> Result<String, LinkError> {
+    match answer {
+        Ok(name) => Ok(String::from_str(alloc, name)?),
+        Err(error) if is_unknown(&error) => Ok(String::from_str(alloc, "unknown")?),
+        Err(error) => Err(error),
+    }
+}
+
 /// What that type resolves to in this scope.
-fn resolved<'a>(alloc: Global, links: &'a Linked, scope: &[&str]) -> Result<&'a str, LinkError> {
+fn resolved(alloc: Global, links: &Linked, scope: &[&str]) -> Result<String, LinkError> {
     let Some((_, file)) = links.files().get_index(0) else {
-        return Ok("no file");
+        return Ok(String::new(alloc));
     };
     let Some(name) = first_type(&file.tree) else {
-        return Ok("no type");
+        return Ok(String::new(alloc));
     };
-    match links.resolve(alloc, 0, scope, name) {
-        Err(LinkError::UnknownName(place)) if is_whole(&place) => Ok("unknown"),
-        answer => answer,
-    }
+    told(alloc, links.resolve(alloc, 0, scope, name))
 }
 
 const WITH_PACKAGE: &[u8] = b"syntax = \"proto3\";\npackage p;\nmessage M {\n  M field = 1;\n}\n";
@@ -71,8 +85,8 @@ const WITH_PACKAGE: &[u8] = b"syntax = \"proto3\";\npackage p;\nmessage M {\n  M
 #[test]
 fn a_name_is_resolved_in_a_scope_or_memory_is_refused(rt: HostRuntime) -> Result<(), Fail> {
     let links = linked(rt.alloc(), WITH_PACKAGE)?;
-    assert_eq!(rt; resolved(rt.alloc(), &links, &["p", "M"])?, "p.M");
-    assert_eq!(rt; resolved(rt.alloc(), &links, &[])?, "unknown");
+    assert_eq!(rt; resolved(rt.alloc(), &links, &["p", "M"])?.as_str(), "p.M");
+    assert_eq!(rt; resolved(rt.alloc(), &links, &[])?.as_str(), "unknown");
     Ok(())
 }
 
