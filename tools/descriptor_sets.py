@@ -1,5 +1,6 @@
 #!/usr/bin/python3
-"""Writes crates/fds_tests/src/tests/sets.rt: descriptor sets by protoc, and what becomes of them when they are changed.
+"""Writes the rows of crates/fds_rows (descriptor sets by protoc, and what becomes of them when they are changed), and those rows of
+crates/gate_rows that compile the same texts.
 
 Needs protoc (3.21) and python3-protobuf. Each set is made by `protoc --include_imports --descriptor_set_out`, from sources in which the
 message types stand before the map fields beside them, as our writing has it; a changed set is made of one of these by python3-protobuf.
@@ -12,8 +13,7 @@ import tempfile
 
 from google.protobuf import descriptor_pb2 as pb
 
-HERE = os.path.dirname(os.path.abspath(__file__))
-OUT = os.path.join(HERE, "..", "crates", "fds_tests", "src", "tests", "sets.rt")
+from gate_rows import files, printed, rewrite, spelled
 
 SOURCES = {
     "m.proto": 'syntax = "proto3"; message M { int32 a = 1; }',
@@ -334,52 +334,38 @@ def refused(sets):
     return rows
 
 
-def text_of(data):
-    """The bytes as a Rust byte string on lines that aren't long."""
-    parts, line = [], ""
-    for byte in data:
-        char = chr(byte)
-        piece = char if 32 <= byte < 127 and char not in '"\\' else "\\x%02x" % byte
-        if len(line) + len(piece) > 88:
-            parts.append(line)
-            line = ""
-        line += piece
-    parts.append(line)
-    # A blank at a line's start would be skipped.
-    lines = []
-    for part in parts:
-        if part.startswith(" "):
-            part = "\\x20" + part[1:]
-        lines.append(part)
-    return 'b"' + "\\\n        ".join(lines) + '"'
+def rows_of_sets(sets):
+    """Rows of fds_rows: what is read and written again is the set of protoc, and what is refused is so by a code."""
+    names = list(SOURCES)
+    data = {name: sets[name].SerializeToString() for name in names}
+    rows = [("protoc's set of %s" % name, data[name], '"%s"' % printed(data[name])) for name in names]
+    for what, read, place in variants(sets):
+        rows.append(("changed: " + what, read.SerializeToString(), '"%s"' % printed(data[names[place]])))
+    for what, code, read in refused(sets):
+        rows.append(("refused: " + what, read, "refused E%d" % code))
+    rows.append(("no bytes", b"", '""'))
+    one = data["m.proto"]
+    for length in range(1, len(one)):
+        rows.append(("cut off behind byte %d" % length, one[:length], "refused E701"))
+    return rows
 
 
-def table(says, name, number, rows):
-    """The lines of a constant of sets, each with a number before it."""
-    yield ""
-    yield "/// %s" % says
-    yield "pub const %s: &[(%s, &[u8])] = &[" % (name, number)
-    for called, value, data in rows:
-        yield "    // %s" % called
-        yield "    (\n        %d,\n        %s,\n    )," % (value, text_of(data))
-    yield "];"
+def rows_of_texts(sets):
+    """Rows of gate_rows: `compile` writes the sets of protoc."""
+    here = files(*SOURCES.items())
+    for name, made in sets.items():
+        what = "the set that protoc makes of %s" % name
+        line = " | ".join([what, "compile " + name, here])
+        yield what, (line, "%s | 0 %s" % (what, printed(made.SerializeToString())))
 
 
 def main():
     sets = by_protoc()
-    out = ["//! Sets of tools/descriptor_sets.py, which writes this file."]
-    out.append("")
-    out.append("/// Sets by protoc, which are written again as they are.")
-    out.append("pub const SAME: &[&[u8]] = &[")
-    for name in SOURCES:
-        out.append("    // %s" % name)
-        out.append("    %s," % text_of(sets[name].SerializeToString()))
-    out.append("];")
-    changed = [(name, place, read.SerializeToString()) for name, read, place in variants(sets)]
-    out.extend(table("Sets that are changed, and the place of the set above that is written again.", "CHANGED", "usize", changed))
-    out.extend(table("Sets that are refused, and by which code.", "REFUSED", "u16", refused(sets)))
-    with open(OUT, "w") as file:
-        file.write("\n".join(out) + "\n")
+    rows = rows_of_sets(sets)
+    made = {what: (" | ".join([what] + ([spelled(data)] if data else [])), "%s | %s" % (what, told)) for what, data, told in rows}
+    assert len(made) == len(rows)
+    rewrite("fds_rows", made)
+    rewrite("gate_rows", dict(rows_of_texts(sets)))
 
 
 main()

@@ -1,0 +1,44 @@
+//! One row: `WHAT | BYTES`.
+use crate::code::code;
+use pg_fds::{FdsError, read, read_again, write};
+use pg_schema::Schema;
+use rows::{bytes_of, cut};
+use std::alloc::{AllocError, Global};
+
+/// What is written of a schema, and whether the same schema is read and written of it again.
+type Written = (Vec<u8>, bool);
+
+fn is_same(alloc: Global, schema: &Schema, bytes: &[u8]) -> Result<bool, FdsError> {
+    let made = read_again(alloc, schema)?;
+    let again = write(alloc, &made)?;
+    Ok(made.parts() == schema.parts() && again.as_slice() == bytes)
+}
+
+fn written(alloc: Global, schema: &Schema) -> Result<Written, FdsError> {
+    let bytes = write(alloc, schema)?;
+    let is_same = is_same(alloc, schema, &bytes)?;
+    Ok((bytes, is_same))
+}
+
+fn read_and_written(alloc: Global, bytes: &[u8]) -> Result<Written, FdsError> {
+    let schema = read(alloc, bytes)?;
+    written(alloc, &schema)
+}
+
+// The bytes that are written of the set that these bytes spell, or its refusal.
+fn told(alloc: Global, bytes: &[u8]) -> Result<String, AllocError> {
+    match read_and_written(alloc, bytes) {
+        Ok((written, true)) => format!(in alloc; "\"{}\"", written.escape_ascii()),
+        Ok((_, false)) => String::from_str(alloc, "not the same again"),
+        Err(FdsError::Memory) => Err(AllocError),
+        Err(error) => format!(in alloc; "refused E{}", code(&error)),
+    }
+}
+
+/// What a row shows, and what is told of its set.
+pub(crate) fn answer(alloc: Global, row: &str) -> Result<String, AllocError> {
+    let (what, spelled) = cut(row);
+    let bytes = bytes_of(alloc, spelled)?;
+    let told = told(alloc, &bytes)?;
+    format!(in alloc; "{what} | {told}")
+}

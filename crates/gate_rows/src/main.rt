@@ -1,0 +1,16 @@
+//! Runs the program once for each line of standard input, over the files that the line holds, and prints its status and text.
+#![tactic(auto)]
+
+mod files;
+mod parts;
+mod row;
+
+use std::io;
+
+fn main(rt: HostRuntime) -> io::Result<()> {
+    for line in rt.lines(rt.alloc()) {
+        let text = row::answer(rt.alloc(), line?.as_str())?;
+        println!(rt; "{text}")?;
+    }
+    Ok(())
+}

@@ -1,0 +1,69 @@
+//! One row: `WHAT | WORDS | OLD FILES | NEW FILES`, and ` | PARTS` where only these are known of the text. Words have a blank between.
+use crate::files::{File, files, lent};
+use crate::parts::told;
+use pg_gate::{Buffer, run};
+use pg_link::Listed;
+use rows::cut;
+use std::alloc::{AllocError, Global};
+
+/// The files of the old and of the new side.
+type Sides<'a> = (Vec<File<'a>>, Vec<File<'a>>);
+
+/// The status, and what the program printed.
+type Printed = (u8, Vec<u8>);
+
+fn words_of(alloc: Global, text: &str) -> Result<Vec<&str>, AllocError> {
+    if text.is_empty() {
+        return Ok(Vec::new(alloc));
+    }
+    text.split(' ').collect(alloc)
+}
+
+fn printed(
+    alloc: Global,
+    words: &[&str],
+    old: &[(&str, &[u8])],
+    new: &[(&str, &[u8])],
+) -> Result<Printed, AllocError> {
+    let mut sink = Buffer::new(alloc);
+    let mut old = Listed { files: old };
+    let mut new = Listed { files: new };
+    // Neither such a source nor such a sink fails but for want of memory.
+    match run(alloc, words, &mut old, &mut new, &mut sink) {
+        Ok(status) => Ok((status, sink.bytes)),
+        Err(_) => Err(AllocError),
+    }
+}
+
+fn printed_over(alloc: Global, words: &str, sides: &Sides) -> Result<Printed, AllocError> {
+    let words = words_of(alloc, words)?;
+    let old = lent(alloc, &sides.0)?;
+    let new = lent(alloc, &sides.1)?;
+    printed(alloc, &words, &old, &new)
+}
+
+fn sides<'a>(alloc: Global, old: &'a str, new: &'a str) -> Result<Sides<'a>, AllocError> {
+    Ok((files(alloc, old)?, files(alloc, new)?))
+}
+
+fn spelled(alloc: Global, bytes: &[u8]) -> Result<String, AllocError> {
+    format!(in alloc; "{}", bytes.escape_ascii())
+}
+
+// The status of a run with these words over these files, and what it printed, spelled.
+fn ran(alloc: Global, words: &str, old: &str, new: &str) -> Result<(u8, String), AllocError> {
+    let sides = sides(alloc, old, new)?;
+    let (status, bytes) = printed_over(alloc, words, &sides)?;
+    Ok((status, spelled(alloc, &bytes)?))
+}
+
+/// What a row shows, and the status and the text of its run.
+pub(crate) fn answer(alloc: Global, row: &str) -> Result<String, AllocError> {
+    let (what, rest) = cut(row);
+    let (words, rest) = cut(rest);
+    let (old, rest) = cut(rest);
+    let (new, parts) = cut(rest);
+    let (status, text) = ran(alloc, words, old, new)?;
+    let text = told(alloc, text, parts)?;
+    format!(in alloc; "{what} | {status} {text}")
+}

@@ -1,0 +1,239 @@
+#!/usr/bin/env python3
+"""Writes the long rows of crates/gate_rows: chains of messages, cut sets and certificates, deep nests, and what is wanted of them.
+
+    tools/gate_rows.py
+
+A row stands in crates/gate_rows/stdin, and what the program has to print of it in crates/gate_rows/stdout. This script makes the rows
+that are too long to write by hand. What is wanted is computed here by the rules of the language, of message bytes and of certificates
+(docs/MODEL.md, docs/CERTIFICATES.md, docs/REFUSALS.md), never by the program. All other rows stay as they stand, in front of these.
+"""
+import os
+import re
+
+CRATES = os.path.join(os.path.dirname(os.path.dirname(os.path.abspath(__file__))), "crates")
+
+SYNTAX = 'syntax = "proto3";\n'
+
+# The set of `message M { int32 a = 1; }` in m.proto.
+SET = bytes.fromhex("0a240a076d2e70726f746f22110a014d120c0a0161180120012805520161620670726f746f33")
+
+TEXTS = "--old m.proto --new m.proto"
+
+ROWS = {}
+
+
+NAMES = {9: "\\t", 10: "\\n", 13: "\\r", 34: '\\"', 39: "\\'", 92: "\\\\"}
+
+
+def escaped(byte):
+    return NAMES.get(byte) or (chr(byte) if 32 <= byte < 127 else "\\x%02x" % byte)
+
+
+def printed(data):
+    """The bytes as the programs of rows print them."""
+    return "".join(map(escaped, data.encode() if isinstance(data, str) else data))
+
+
+def spelled(data):
+    """The bytes as rows spell them: quotes as they are, and no blanks at the ends or round the marks that end a file or a side."""
+    text = re.sub(r"\\(['\"])", r"\1", printed(data))
+    return re.sub("^ | $|(?<= )[|;](?= )", lambda found: "\\x%02x" % ord(found[0]), text)
+
+
+def files(*named):
+    """The files of a side: pairs of a path and what is there."""
+    return " ; ".join("%s=%s" % (path, spelled(data)) for path, data in named)
+
+
+def row(what, words, old, new, status, text):
+    """A row, with what the program prints."""
+    assert what not in ROWS, what
+    line = " | ".join([what, words] + ([old, new] if new else [old] if old else []))
+    assert line == line.strip() and "\n" not in line, what
+    ROWS[what] = line, "%s | %d %s" % (what, status, printed(text))
+
+
+def message(fields):
+    return SYNTAX + "message M { %s }\n" % fields
+
+
+def lines(*rest):
+    return SYNTAX + "".join(line + "\n" for line in rest)
+
+
+def place(text, at, path):
+    front = text[:at]
+    return "%s:%d:%d" % (path, front.count("\n") + 1, at - (front.rfind("\n") + 1) + 1)
+
+
+def field(text, name, number, path):
+    """The full name and the place of the field of that number in the message of that full name."""
+    start = text.index("message %s {" % name.rpartition(".")[2])
+    found = re.compile(r"(\w+) = %d\b" % number).search(text, start)
+    return "%s.%s %s" % (name, found[1], place(text, found.start(), path))
+
+
+def step(number, old, new):
+    return "step %d %s %s\n" % (number, field(*old), field(*new))
+
+
+def certificate(root, pairs, witness="none"):
+    """The text of a certificate between types of the same names."""
+    table = "".join("pair %s %s %s\n" % (name, name, bound) for name, bound in pairs)
+    return "protogate-certificate 1\nroot %s %s\n%switness %s\nend\n" % (root, root, table, witness)
+
+
+def varint(number):
+    out = bytearray()
+    while number > 127:
+        out.append(number & 127 | 128)
+        number >>= 7
+    return bytes(out) + bytes([number])
+
+
+def inside(body):
+    """The body as the field 1 of a message."""
+    return b"\x0a" + varint(len(body)) + body
+
+
+def chain(scalar, last):
+    """Messages C0 to Clast: C0 has a number, each other one has the one before."""
+    holders = ("message C%d { C%d n = 1; }" % (at, at - 1) for at in range(1, last + 1))
+    return lines("message C0 { %s a = 1; }" % scalar, *holders)
+
+
+def chain_rows(last):
+    """A number past the sign bit at the end of a chain."""
+    old, new, root = chain("uint32", last), chain("int32", last), "C%d" % last
+    witness, bounds = bytes.fromhex("088080808008"), [6]
+    for _ in range(last):
+        witness = inside(witness)
+        bounds.append(len(witness))
+    pairs = [("C%d" % at, bounds[at]) for at in range(last, -1, -1)]
+    steps = "".join(step(1, (old, name, 1, "m.proto"), (new, name, 1, "m.proto")) for name, _ in pairs)
+    breaks = "breaks %s %d\n" % (root, len(witness))
+    written = certificate(root, pairs, witness.hex())
+    sides = files(("m.proto", old)), files(("m.proto", new))
+    what = "a chain of %d messages" % (last + 1)
+    row(what, "gate %s --type %s" % (TEXTS, root), *sides, 1, breaks + "witness %s\n" % witness.hex() + steps)
+    row(what + ", its table", "gate %s --type %s --cert" % (TEXTS, root), *sides, 1, written)
+    row(what + ", its table checked", "verify %s c" % TEXTS, files(("m.proto", old), ("c", written)), sides[1], 1, breaks)
+
+
+def cut_set_rows():
+    """A set that is cut off is none; no bytes at all are a set without files."""
+    words, whole = "gate --old m.pb --new m.pb --type M", files(("m.pb", SET))
+    row("a set without bytes", words, "m.pb=", whole, 2, "refused E901\n")
+    for length in range(1, len(SET)):
+        what = "a set cut off behind byte %d" % length
+        row(what, words, files(("m.pb", SET[:length])), whole, 2, "refused old E502 at 0\n")
+
+
+def cut_certificate_rows():
+    """A certificate that is cut off is none."""
+    old, new = message("int32 a = 1;"), files(("m.proto", message("uint32 a = 1;")))
+    whole = certificate("M", [("M", 11)], "08ffffffffffffffffff01")
+    for length in range(len(whole)):
+        sides = files(("m.proto", old), ("c", whole[:length])), new
+        row("a certificate cut off behind byte %d" % length, "verify %s c" % TEXTS, *sides, 2, "refused E801\n")
+
+
+def nested_rows():
+    """Messages in messages, as deep as they are read, and one deeper."""
+    words, text = "show --file m.proto --type M ", files(("m.proto", message("M m = 1;")))
+    deep = b""
+    for _ in range(99):
+        deep = inside(deep)
+    shown = "".join("  " * depth + "1 m msg\n" for depth in range(99))
+    row("99 messages in one another", words + deep.hex(), text, "", 0, shown + "again %s\n" % deep.hex())
+    deeper = inside(deep)
+    # The fault stands at the innermost record, of two bytes.
+    refused = "refused E608 at %d\n" % (len(deeper) - 2)
+    row("100 messages in one another", words + deeper.hex(), text, "", 2, refused)
+
+
+def many_types(count):
+    return message("int32 a = 1;") + "".join("message M%d { }\n" % at for at in range(2, count + 1))
+
+
+def many_types_rows():
+    words, one = "gate %s --type M" % TEXTS, files(("m.proto", message("int32 a = 1;")))
+    row("4096 message types", words, files(("m.proto", many_types(4096))), one, 0, "compatible M\n")
+    # The last type is refused: each but the first has a line of its own, behind two lines.
+    refused = "refused old E413 m.proto:4098:9\n"
+    row("4097 message types", words, files(("m.proto", many_types(4097))), one, 2, refused)
+
+
+def deep_block_rows():
+    words, begin = "gate %s --type M" % TEXTS, "message M { "
+    deep = files(("m.proto", lines(begin * 64 + "} " * 64)))
+    row("64 message blocks in one another", words, deep, deep, 0, "compatible M\n")
+    deeper = files(("m.proto", lines(begin * 65 + "} " * 65)))
+    refused = "refused old E207 m.proto:2:%d\n" % (64 * len(begin) + 1)
+    row("65 message blocks in one another", words, deeper, files(("m.proto", message("int32 a = 1;"))), 2, refused)
+
+
+# Each statement of a file but a service, with one blank between two tokens of a line.
+STATEMENTS = """syntax = "proto3" ;
+import "b.proto" ;
+import public "c" ".proto" ;
+package p . q ;
+option java_package = "x" "y" ;
+;
+message M {
+option deprecated = true ;
+int32 a = 1 ;
+repeated p . q . E b = 2 [ packed = false , deprecated = true ] ;
+optional . p . q . M c = 3 ;
+map < int32 , E > d = 4 [ deprecated = false ] ;
+oneof k { int32 e = 5 ; . p . M f = 6 [ json_name = "g" ] ; ; }
+message N { ; }
+enum F { G = 0 ; }
+reserved 7 , 8 to 9 , 1000 to max ;
+reserved "x" , "y" "z" ;
+}
+enum E {
+option allow_alias = true ;
+H = 0 ;
+I = - 1 [ deprecated = true ] ;
+reserved - 5 to - 3 , 7 , 9 to max ;
+reserved "J" ;
+}
+"""
+
+
+def closing_rows():
+    """A closing parenthesis before any token behind the first statement, or at the end, can't go on."""
+    first = STATEMENTS.index("\n") + 1
+    places = [found.start() for found in re.finditer(r"\S+", STATEMENTS) if found.start() >= first] + [len(STATEMENTS)]
+    words, one = "gate %s --type M" % TEXTS, files(("m.proto", message("int32 a = 1;")))
+    for at, offset in enumerate(places, 1):
+        text = STATEMENTS[:offset] + ") " + STATEMENTS[offset:]
+        refused = "refused old E202 %s\n" % place(text, offset, "m.proto")
+        row("a closing parenthesis at place %d" % at, words, files(("m.proto", text)), one, 2, refused)
+
+
+def rewrite(folder, rows):
+    """Writes the rows into stdin and stdout of that crate, behind the other rows that stand there."""
+    for name, at in (("stdin", 0), ("stdout", 1)):
+        path = os.path.join(CRATES, folder, name)
+        with open(path) as file:
+            kept = [line for line in file.read().splitlines() if line.partition(" | ")[0] not in rows]
+        with open(path, "w") as file:
+            file.write("".join(line + "\n" for line in kept + [made[at] for made in rows.values()]))
+
+
+def main():
+    chain_rows(62)
+    chain_rows(100)
+    nested_rows()
+    many_types_rows()
+    deep_block_rows()
+    cut_set_rows()
+    cut_certificate_rows()
+    closing_rows()
+    rewrite("gate_rows", ROWS)
+
+
+if __name__ == "__main__":
+    main()
