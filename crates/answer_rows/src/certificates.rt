@@ -86,14 +86,21 @@ pub(crate) fn text(
 }
 
 // How many of the fronts of the bytes are bad, without the whole.
-fn bad_fronts(alloc: Global, old: &Schema, new: &Schema, bytes: &[u8]) -> usize {
+fn bad_fronts(
+    alloc: Global,
+    old: &Schema,
+    new: &Schema,
+    bytes: &[u8],
+) -> Result<usize, AllocError> {
     let mut count = 0_usize;
     for end in 0..bytes.len() {
-        if let Err(CertError::BadText) = from_text(alloc, old, new, &bytes[..end]) {
-            count = count.saturating_add(1);
+        match from_text(alloc, old, new, &bytes[..end]) {
+            Err(CertError::BadText) => count = count.saturating_add(1),
+            Err(CertError::Memory) => return Err(AllocError),
+            _ => {}
         }
     }
-    count
+    Ok(count)
 }
 
 /// `fronts | OLD | NEW | TEXT`: how many fronts of the text are no certificate's text, of how many there are.
@@ -104,6 +111,6 @@ pub(crate) fn fronts(
     words: &str,
 ) -> Result<String, AllocError> {
     let bytes = bytes_of(alloc, words)?;
-    let count = bad_fronts(alloc, old, new, &bytes);
+    let count = bad_fronts(alloc, old, new, &bytes)?;
     format!(in alloc; "{count} of {} bad", bytes.len())
 }
