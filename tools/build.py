@@ -43,6 +43,11 @@ def size(name):
     return sum(os.path.getsize(f"{at}/{it}") for at, _, files in walked if parts.search(at) for it in files)
 
 
+def claims(name, said):
+    """Returns what rt keeps other checks out of while it works on a crate: the crate and all below it."""
+    return {name}.union(*(claims(it, said) for it in said[name]))
+
+
 def chains(names, said):
     """Returns for each crate how long the longest chain is that begins with it and goes upwards."""
     longest = {}
@@ -65,7 +70,9 @@ def begin(name, jobs, room):
     words = ["rt", "run", "--", "--help"] if name == PROGRAM else ["rt", "lib", "--jobs", str(jobs)]
     with open(f"{room}/{name}", "w", encoding="utf-8") as log:
         how = {"stdin": subprocess.DEVNULL, "stdout": log, "stderr": subprocess.STDOUT}
-        return subprocess.Popen(words, cwd=f"{TOP}/crates/{name}", **how)
+        check = subprocess.Popen(words, cwd=f"{TOP}/crates/{name}", **how)
+    check.jobs = jobs
+    return check
 
 
 def ended(running):
@@ -77,14 +84,25 @@ def ended(running):
         time.sleep(0.05)
 
 
-def start_ready(left, running, longest, said, room):
-    """Starts the checks that can go on now, those with the longest chain behind them first."""
-    cores = len(os.sched_getaffinity(0))
-    lanes = max(1, min(cores, free_memory() // CHECK + len(running)))
+def choose(left, running, longest, said):
+    """Returns the crates whose check can begin now, those with the longest chain behind them first. None claims what another one does."""
+    lanes = max(1, min(len(os.sched_getaffinity(0)), free_memory() // CHECK + len(running)))
+    taken, chosen = set().union(*(claims(it, said) for it in running)), []
     ready = [it for it in left if it not in running and not any(dep in left for dep in said[it])]
-    ready.sort(key=lambda it: -longest[it])
-    for at, name in enumerate(ready[: max(0, lanes - len(running))]):
-        jobs = max(1, (cores - len(running)) // (len(ready) - at))
+    for name in sorted(ready, key=lambda it: -longest[it]):
+        if len(running) + len(chosen) < lanes and taken.isdisjoint(claims(name, said)):
+            taken |= claims(name, said)
+            chosen.append(name)
+    return chosen
+
+
+def start_ready(left, running, longest, said, room):
+    """Starts the checks that can begin now, and shares out the processors that no other check has."""
+    idle = len(os.sched_getaffinity(0)) - sum(it.jobs for it in running.values())
+    chosen = choose(left, running, longest, said)
+    for at, name in enumerate(chosen):
+        jobs = max(1, -(-idle // (len(chosen) - at)))
+        idle -= jobs
         running[name] = begin(name, jobs, room)
         say(f"proving {name} ({len(left)} of {len(longest)} crates left)")
 

@@ -1,7 +1,9 @@
 #!/usr/bin/env python3
 """Runs the gate (`rt ci`: each proof, the edits that must be refused, the tests and the programs) and tells what it cost.
 
-usage: tools/prove.py [rt's words]    ends with the gate's status, and with its last line, 'N passed, M failed'
+usage: tools/prove.py [CRATE..]    ends with the gate's status, and with its last line, 'N passed, M failed'
+
+Where crates are named, the gate runs on a copy of these and of those that they stand on.
 
 Lines of rt stand behind the seconds since the start. Behind them stand the processor seconds of each crate by kind: its proof, the
 second proof that its edits begin with (the seed), its edits, its tests, and what builds and runs programs. Without RT_JOBS as many
@@ -10,8 +12,10 @@ checks run side by side as there are processors, and memory for 5 GB each.
 
 import os
 import re
+import shutil
 import subprocess
 import sys
+import tempfile
 import threading
 import time
 
@@ -42,11 +46,12 @@ def is_check(words):
     return os.path.basename(words[0]) == "rattle" and words[1:2] in (["check"], ["build"])
 
 
-def kind_of(pid, words):
-    """Returns the crate that a check is of, and the kind of work that it is."""
+def kind_of(pid, words, seeds):
+    """Returns the crate that a check is of, and the kind of work that it is. The first check over a folder of edits proves all anew."""
     crate, over = behind("--crate-name", words), behind("--incremental", words)
     if "/rt-edit-" in os.readlink(f"/proc/{pid}/cwd"):
-        return crate, "seed" if over.endswith("/seed") else "edits"
+        is_seed = over.endswith("/seed") or "/rt-edits-" in over and seeds.setdefault(over, pid) == pid
+        return crate, "seed" if is_seed else "edits"
     if "--crate-checked" in words:
         return crate, "programs"
     return crate, "tests" if "--test" in words else "proof"
@@ -56,7 +61,7 @@ class Costs:
     """What the processes below one have taken, by crate and kind. Each is known by its number and what it runs, since numbers come again."""
 
     def __init__(self, top):
-        self.top, self.kinds, self.seconds, self.is_over = top, {}, {}, False
+        self.top, self.seeds, self.seconds, self.is_over = top, {}, {}, False
 
     def is_below(self, pid, parents):
         while pid in parents and pid != self.top:
@@ -79,7 +84,7 @@ class Costs:
         try:
             words = words_of(pid)
             if is_check(words) and not is_check(words_of(parent)):
-                key = pid, behind("-o", words), os.readlink(f"/proc/{pid}/cwd"), *kind_of(pid, words)
+                key = pid, behind("-o", words), os.readlink(f"/proc/{pid}/cwd"), *kind_of(pid, words, self.seeds)
                 self.seconds[key] = max(self.seconds.get(key, 0), seconds)
         except OSError:
             pass
@@ -116,6 +121,30 @@ def lanes():
     return max(1, min(len(os.sched_getaffinity(0)), free // 5_000_000_000))
 
 
+def below(names):
+    """Returns the lines of crates.txt for these crates and for those that they stand on."""
+    with open("crates.txt", encoding="utf-8") as file:
+        lines = {it.partition(":")[0].split()[0]: it for it in file if ":" in it.partition("#")[0]}
+    found, left = {}, [*names]
+    while left:
+        name = left.pop()
+        if name in lines and name not in found:
+            found[name] = lines[name]
+            left += lines[name].partition(":")[2].split()
+    return found
+
+
+def copy_of(names, room):
+    """Makes a repository of these crates and of those that they stand on."""
+    lines = below(names)
+    for name in lines:
+        shutil.copytree(f"crates/{name}", f"{room}/crates/{name}", ignore=shutil.ignore_patterns("out"))
+    shutil.copyfile("HANDLES", f"{room}/HANDLES")
+    with open(f"{room}/crates.txt", "w", encoding="utf-8") as file:
+        file.write("".join(lines.values()))
+    subprocess.run(["git", "init", "-q", room], check=True)
+
+
 def pass_on(lines, begun):
     """Prints each line as it comes but the last, which is returned."""
     held = ""
@@ -125,10 +154,11 @@ def pass_on(lines, begun):
     return held
 
 
-def main(words):
+def prove(folder):
+    """Runs the gate on the repository in this folder, and returns its status."""
     begun, how = time.time(), {"stdout": subprocess.PIPE, "stderr": subprocess.STDOUT, "text": True, "errors": "replace"}
     env = {"RT_JOBS": str(lanes()), **os.environ}
-    run = subprocess.Popen(["rt", "ci", *words], stdin=subprocess.DEVNULL, env=env, **how)
+    run = subprocess.Popen(["rt", "ci"], cwd=folder, stdin=subprocess.DEVNULL, env=env, **how)
     costs = Costs(run.pid)
     watch = threading.Thread(target=costs.watch)
     watch.start()
@@ -140,6 +170,14 @@ def main(words):
     print(f"{time.time() - begun:.0f} seconds in all, {env['RT_JOBS']} checks side by side")
     print(last, end="" if last.endswith("\n") else "\n")
     return os.waitstatus_to_exitcode(status)
+
+
+def main(names):
+    if not names:
+        return prove(".")
+    with tempfile.TemporaryDirectory(prefix="protogate-gate-") as room:
+        copy_of(names, room)
+        return prove(room)
 
 
 if __name__ == "__main__":
