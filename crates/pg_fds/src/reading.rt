@@ -212,7 +212,7 @@ fn bytes_schema(alloc: Global, bytes: &[u8]) -> Result<Schema, FdsError>
     set_schema(alloc, &set)
 }
 
-/// The schema that the bytes of a descriptor set state (descriptor.proto; docs/MODEL.md, "Descriptor
+/// The schema that the bytes of a descriptor set state (descriptor.proto; docs/PROOFS.md, "Descriptor
 /// sets"). Files may come in any order; those of the schema stand in post-order of imports, begun at the
 /// set's in their order, and message types, enums and services in order of declaration, file after file: a
 /// message type before those inside it, the enums of those inside it before its own.

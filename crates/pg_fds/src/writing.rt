@@ -65,7 +65,7 @@ fn set(alloc: Global, table: &Schema, source: &Schema) -> Result<Message, AllocE
 }
 
 /// The bytes of the schema's descriptor set: a `FileDescriptorSet` of its files, in their order
-/// (descriptor.proto; docs/MODEL.md, "Descriptor sets"). They are those of the definition, and at most
+/// (descriptor.proto; docs/PROOFS.md, "Descriptor sets"). They are those of the definition, and at most
 /// 2,147,483,647. Where each file stands behind those that it imports, no path twice, and messages are
 /// nested at most 100 deep, they state the schema, as `read` asks it of a set. Where messages are nested at
 /// most 64 deep, no message of the set stands deeper than `read` takes.
