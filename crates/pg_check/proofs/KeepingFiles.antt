@@ -27,11 +27,11 @@ use Rattle.pg_syntax.specs.declared.tree.Statement.TheVariants as statements
 
 -- ---- enums
 
-some_there : (at : ℕ) (keys : List Keyed) → (enums.empty_at at keys ≡ None) ↔ (has_some keys ≡ true)
+pub some_there : (at : ℕ) (keys : List Keyed) → (enums.empty_at at keys ≡ None) ↔ (has_some keys ≡ true)
 some_there at [] = ((λ h. absurd (cc (h))), λ h. absurd (false≢true h))
 some_there at (k ∷ ks) = ((λ h. refl), λ h. refl)
 
-zero_first : (keys : List Keyed) → (enums.first_not_zero keys ≡ None) ↔ (begins_with_zero keys ≡ true)
+pub zero_first : (keys : List Keyed) → (enums.first_not_zero keys ≡ None) ↔ (begins_with_zero keys ≡ true)
 zero_first [] = ((λ h. refl), λ h. refl)
 zero_first (k ∷ ks) = by (nat_eq k.key (numbers.rank false 0))
   where
@@ -39,7 +39,7 @@ zero_first (k ∷ ks) = by (nat_eq k.key (numbers.rank false 0))
     by true = ((λ h. refl), λ h. refl)
     by false = ((λ h. absurd (cc (h))), λ h. absurd (false≢true h))
 
-no_alias : (aliases : Bool) (keys : List Keyed) → (enums.first_alias aliases keys ≡ None) ↔ ((aliases || are_apart numbers.is_same keys) ≡ true)
+pub no_alias : (aliases : Bool) (keys : List Keyed) → (enums.first_alias aliases keys ≡ None) ↔ ((aliases || are_apart numbers.is_same keys) ≡ true)
 no_alias true keys = ((λ h. refl), λ h. refl)
 no_alias false keys = none_again numbers.is_same numbers.at keys
 

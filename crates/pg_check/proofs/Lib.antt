@@ -11,6 +11,7 @@ pub mod FirstFaults
 pub mod BrokenMessages
 pub mod BrokenEnums
 pub mod BrokenFiles
+pub mod BrokenParts
 pub mod Reach
 pub mod Linking
 pub mod PartMembers

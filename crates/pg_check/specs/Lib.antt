@@ -31,3 +31,4 @@ pub mod BrokenRules
 pub mod Errors
 pub mod PartFaults
 pub mod PartErrors
+pub mod BrokenParts

@@ -4,6 +4,7 @@ ghost use Rattle.std.specs.Prelude.{◌≡◌, ◌↔◌, List, None};
 ghost use Rattle.pg_schema.specs.Sound.{IsSound};
 ghost use Rattle.pg_schema.specs.declared.parts.Parts.{Parts};
 ghost use Rattle.pg_link.specs.Linked.{IsLinkedUp, LinkedFiles};
+ghost use Rattle.pg_check.specs.BrokenParts.{IsFirstBrokenPart};
 ghost use Rattle.pg_check.specs.BrokenRules.{IsFirstBroken};
 ghost use Rattle.pg_check.specs.Declares.{Declares, first_broken};
 ghost use Rattle.pg_check.specs.Errors.{IsTold};
@@ -12,6 +13,7 @@ ghost use Rattle.pg_check.specs.KeepsRules.{KeepsRules};
 ghost use Rattle.pg_check.specs.KeptParts.{KeptParts};
 ghost use Rattle.pg_check.specs.MadeParts.{Source};
 ghost use Rattle.pg_check.specs.NamedParts.{NamedParts};
+ghost use Rattle.pg_check.specs.PartErrors.{IsFirstOf};
 ghost use Rattle.pg_check.specs.Sources.{linked_sources};
 ghost use Rattle.pg_check.specs.declared.error.CheckError.{CheckError};
 
@@ -31,6 +33,12 @@ pub fn keeping_rules()
 /// declaration of its file, nor one of a lower code by this one.
 pub fn reported_rules()
     ensures { (files : List Source) (e : CheckError) → IsTold files e → IsFirstBroken files e }
+{}
+
+/// An error of parts that come from no text names the first rule that they break, at no place: of the
+/// message types, the enums and the files the first that breaks one, and of it the lowest code.
+pub fn reported_part_rules()
+    ensures { (parts : Parts) (e : CheckError) → IsFirstOf parts e → IsFirstBrokenPart parts e }
 {}
 
 /// The parts of files that keep to the rules keep to them too, as far as these go: numbers, reserved
