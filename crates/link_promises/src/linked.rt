@@ -9,7 +9,6 @@ ghost use Rattle.pg_link.specs.Linked.{IsDeclaredAt, IsDeclaredNowhere, IsLinked
 ghost use Rattle.pg_link.specs.Resolves.{Resolves, reference};
 ghost use Rattle.pg_link.specs.Targets.{file_targets, target_at};
 ghost use Rattle.pg_link.specs.UseFaults.{IsNoName};
-ghost use Rattle.pg_link.specs.Uses as spec;
 ghost use Rattle.pg_link.specs.Walk.{Entry, outlines, path_of};
 
 use indexmap::IndexMap;
@@ -71,11 +70,4 @@ pub fn place<'a>(linked: &'a Linked, full_name: &str) -> Option<(&'a str, usize,
     ensures absent { IfNone result (IsDeclaredNowhere linked.now.files full_name.now) }
 {
     linked.place(full_name)
-}
-
-/// What `is_scalar` answers.
-pub fn is_scalar(name: &TypeName) -> bool
-    ensures { result ≡ spec.is_scalar (reference name.now) }
-{
-    pg_link::is_scalar(name)
 }

@@ -1,6 +1,6 @@
 //! Sources, and what is read from them.
 
-ghost use Rattle.std.specs.Prelude.{◌≡◌, ◌+◌, [], ◌∷◌, IfErr, IfOk, IsErrOf, IsTrue, None, OnOk, Some};
+ghost use Rattle.std.specs.Prelude.{◌≡◌, ◌+◌, [], ◌∷◌, IfErr, IfOk, IsErrOf, IsTrue, None, OnOk, Some, codes};
 ghost use Rattle.pg_link.specs.Below.{path_below};
 ghost use Rattle.pg_link.specs.Index.{texts};
 ghost use Rattle.pg_link.specs.Linked.{IsLinkedUp};
@@ -17,7 +17,21 @@ use std::alloc::{AllocError, AllocFailed, Global};
 use std::rt::Files;
 
 /// What `link` answers.
-pub fn link<S: Sources>(
+pub fn link<S: Sources>(alloc: Global, source: &mut S, roots: &[&str]) -> Result<Linked, LinkError>
+    ensures linked { IfOk result (λ linked. spec.IsLinked (spec.world (S.may_give source.old) (S.may_lack source.old) (codes ".") (texts roots.now)) linked.files) }
+    ensures settled { IfOk result IsLinkedUp }
+    ensures refused { IfErr result (LinkRefuses (spec.world (S.may_give source.old) (S.may_lack source.old) (codes ".") (texts roots.now))) }
+    ensures reads_apart { ReadsApart (S.reads source.old) (S.reads source.new) }
+    ensures reads_each { IfOk result (λ linked. ReadsEach (codes ".") (S.reads source.old) (S.reads source.new) linked.files) }
+    ensures counted { S.failures source.new ≡ S.failures source.old + spec.failures_of result }
+    ensures same_given { S.may_give source.new ≡ S.may_give source.old }
+    ensures same_lacked { S.may_lack source.new ≡ S.may_lack source.old }
+{
+    pg_link::link(alloc, source, roots)
+}
+
+/// What `link_below` answers.
+pub fn link_below<S: Sources>(
     alloc: Global,
     source: &mut S,
     folder: &str,
@@ -32,7 +46,7 @@ pub fn link<S: Sources>(
     ensures same_given { S.may_give source.new ≡ S.may_give source.old }
     ensures same_lacked { S.may_lack source.new ≡ S.may_lack source.old }
 {
-    pg_link::link(alloc, source, folder, roots)
+    pg_link::link_below(alloc, source, folder, roots)
 }
 
 /// What `read_file` answers.

@@ -10,11 +10,11 @@ item_and_rest xs i d h = rw (add-one, drop-cons xs i d h) refl
 pub take_item : {A : Type 0} (xs : List A) (i : ℕ) (d : A) → i < length xs → take (i + 1) xs ≡ take i xs ++ get_or xs i d ∷ []
 take_item xs i d h = rw (add-one) (take-suc xs i d h)
 
-new_item : {A : Type 0} (same : A → A → Bool) (place : A → ℕ) (before : List A) (x : A) (xs : List A) → list_any (same x) before ≡ false
+pub new_item : {A : Type 0} (same : A → A → Bool) (place : A → ℕ) (before : List A) (x : A) (xs : List A) → list_any (same x) before ≡ false
     → first_again same place before (x ∷ xs) ≡ first_again same place (before ++ x ∷ []) xs
 new_item same place before x xs h = rw h refl
 
-old_item : {A : Type 0} (same : A → A → Bool) (place : A → ℕ) (before : List A) (x : A) (xs : List A) → list_any (same x) before ≡ true
+pub old_item : {A : Type 0} (same : A → A → Bool) (place : A → ℕ) (before : List A) (x : A) (xs : List A) → list_any (same x) before ≡ true
     → first_again same place before (x ∷ xs) ≡ Some (place x)
 old_item same place before x xs h = rw h refl
 

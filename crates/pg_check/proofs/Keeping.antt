@@ -89,7 +89,7 @@ names_keep taken ms =
     let once = none_again names.is_same names.at (map json_named ms) in
     ((λ h. let a = first.0 h in (free.0 a.0, once.0 (second.0 a.1))), λ k. first.1 (free.1 k.0, second.1 (once.1 k.1)))
 
-packed_keeps : (targets : ℕ → Option Target) (m : Member) → (messages.member_packed targets m ≡ None) ↔ (is_packed_rightly targets m ≡ true)
+pub packed_keeps : (targets : ℕ → Option Target) (m : Member) → (messages.member_packed targets m ≡ None) ↔ (is_packed_rightly targets m ≡ true)
 packed_keeps targets m = by (messages.may_be_packed targets m)
   where
     none : (messages.first_packed (settings (settings_of m)) ≡ None) ↔ (list_all (λ s. not (messages.states_packed s)) (settings (settings_of m)) ≡ true)
@@ -102,7 +102,7 @@ packed_keeps targets m = by (messages.may_be_packed targets m)
         let told = told_none rules.PackedNotAllowed (place_of m) (messages.first_packed (settings (settings_of m))) in
         ((λ h. none.0 (told.0 h)), λ h. told.1 (none.1 h))
 
-field_options_keep : (m : Member) → (messages.member_option m ≡ None) ↔ OptionsKeep (member_options m)
+pub field_options_keep : (m : Member) → (messages.member_option m ≡ None) ↔ OptionsKeep (member_options m)
 field_options_keep m =
     let told = told_none rules.BadOption (place_of m) (first_bad (member_options m)) in
     let all = options_keep (member_options m) in
@@ -130,7 +130,7 @@ shapes_keep targets ms =
 
 -- ---- oneofs
 
-no_option : (p : tree.OneofPart.OneofPart) → (messages.oneof_option p ≡ None) ↔ (is_no_option p ≡ true)
+pub no_option : (p : tree.OneofPart.OneofPart) → (messages.oneof_option p ≡ None) ↔ (is_no_option p ≡ true)
 no_option (oneof_parts.Empty span) = ((λ h. refl), λ h. refl)
 no_option (oneof_parts.Option o) = ((λ h. absurd (cc (h))), λ h. absurd (false≢true h))
 no_option (oneof_parts.Map m) = ((λ h. refl), λ h. refl)
@@ -140,7 +140,7 @@ member_there : (b : Bool) (at : ℕ) → (broken rules.BadOneofMember (cond b No
 member_there true at = ((λ h. refl), λ h. refl)
 member_there false at = ((λ h. absurd (cc (h))), λ h. absurd (false≢true h))
 
-oneof_is : (p : Part) → (messages.part_oneof p ≡ None) ↔ (oneof_keeps p ≡ true)
+pub oneof_is : (p : Part) → (messages.part_oneof p ≡ None) ↔ (oneof_keeps p ≡ true)
 oneof_is (parts.Empty span) = ((λ h. refl), λ h. refl)
 oneof_is (parts.Message' name shape row span) = ((λ h. refl), λ h. refl)
 oneof_is (parts.Enum e) = ((λ h. refl), λ h. refl)

@@ -27,11 +27,11 @@ use Rattle.pg_syntax.specs.declared.tree.Statement.TheVariants as statements
 
 -- ---- enums
 
-some_there : (at : ℕ) (keys : List Keyed) → (enums.empty_at at keys ≡ None) ↔ (has_some keys ≡ true)
+pub some_there : (at : ℕ) (keys : List Keyed) → (enums.empty_at at keys ≡ None) ↔ (has_some keys ≡ true)
 some_there at [] = ((λ h. absurd (cc (h))), λ h. absurd (false≢true h))
 some_there at (k ∷ ks) = ((λ h. refl), λ h. refl)
 
-zero_first : (keys : List Keyed) → (enums.first_not_zero keys ≡ None) ↔ (begins_with_zero keys ≡ true)
+pub zero_first : (keys : List Keyed) → (enums.first_not_zero keys ≡ None) ↔ (begins_with_zero keys ≡ true)
 zero_first [] = ((λ h. refl), λ h. refl)
 zero_first (k ∷ ks) = by (nat_eq k.key (numbers.rank false 0))
   where
@@ -39,11 +39,11 @@ zero_first (k ∷ ks) = by (nat_eq k.key (numbers.rank false 0))
     by true = ((λ h. refl), λ h. refl)
     by false = ((λ h. absurd (cc (h))), λ h. absurd (false≢true h))
 
-no_alias : (aliases : Bool) (keys : List Keyed) → (enums.first_alias aliases keys ≡ None) ↔ ((aliases || are_apart numbers.is_same keys) ≡ true)
+pub no_alias : (aliases : Bool) (keys : List Keyed) → (enums.first_alias aliases keys ≡ None) ↔ ((aliases || are_apart numbers.is_same keys) ≡ true)
 no_alias true keys = ((λ h. refl), λ h. refl)
 no_alias false keys = none_again numbers.is_same numbers.at keys
 
-value_keeps : (p : enums.Part) → (enums.part_option p ≡ None) ↔ OptionsKeep (value_options p)
+pub value_keeps : (p : enums.Part) → (enums.part_option p ≡ None) ↔ OptionsKeep (value_options p)
 value_keeps (enum_parts.Empty span) = ((λ h. record { right = refl; once = refl }), λ h. refl)
 value_keeps (enum_parts.Option o) = ((λ h. record { right = refl; once = refl }), λ h. refl)
 value_keeps (enum_parts.Reserved r) = ((λ h. record { right = refl; once = refl }), λ h. refl)
@@ -112,7 +112,7 @@ enum_keeps e =
 
 -- ---- services
 
-method_keeps : (p : tree.ServicePart.ServicePart) → (files.part_fault p ≡ None) ↔ OptionsKeep (method_options p)
+pub method_keeps : (p : tree.ServicePart.ServicePart) → (files.part_fault p ≡ None) ↔ OptionsKeep (method_options p)
 method_keeps (service_parts.Empty span) = ((λ h. record { right = refl; once = refl }), λ h. refl)
 method_keeps (service_parts.Option o) = ((λ h. record { right = refl; once = refl }), λ h. refl)
 method_keeps (service_parts.Rpc r) =
@@ -128,7 +128,7 @@ service_keeps s =
     let each = all_iff (λ p. files.part_fault p ≡ None) (λ p. OptionsKeep (method_options p)) method_keeps s.parts.items in
     ((λ h. let e = two.0 h in record { options = all.0 e.0; method_options = each.0 (told.0 e.1) }), λ k. two.1 (all.1 k.options, told.1 (each.1 k.method_options)))
 
-statement_keeps : (s : tree.Statement.Statement) → (files.statement_fault s ≡ None) ↔ StatementKeeps s
+pub statement_keeps : (s : tree.Statement.Statement) → (files.statement_fault s ≡ None) ↔ StatementKeeps s
 statement_keeps (statements.Empty span) = ((λ h. tt), λ h. refl)
 statement_keeps (statements.Import i) = ((λ h. tt), λ h. refl)
 statement_keeps (statements.Option o) = ((λ h. tt), λ h. refl)
@@ -188,7 +188,7 @@ file_keeps left s =
       ),
     )
 
-in_file_none : (place : ℕ) (f : Option Fault) (others : Option FileFault) → (in_file place f others ≡ None) ↔ ((f ≡ None) × (others ≡ None))
+pub in_file_none : (place : ℕ) (f : Option Fault) (others : Option FileFault) → (in_file place f others ≡ None) ↔ ((f ≡ None) × (others ≡ None))
 in_file_none place None others = ((λ h. (refl, h)), λ h. h.1)
 in_file_none place (Some f) others = ((λ h. absurd (cc (h))), λ h. absurd (cc (h.0)))
 

@@ -7,6 +7,11 @@ pub mod Placing
 pub mod Eachs
 pub mod PartsLaws
 pub mod FileFaults
+pub mod FirstFaults
+pub mod BrokenMessages
+pub mod BrokenEnums
+pub mod BrokenFiles
+pub mod BrokenParts
 pub mod Reach
 pub mod Linking
 pub mod PartMembers

@@ -19,7 +19,6 @@ use Rattle.pg_check.specs.Numbers.{rank, is_field_number}
 use Rattle.pg_check.specs.Options.{OptionAt, an_option, first_bad, is_of, is_of_kind, option_named}
 use Rattle.pg_check.specs.Outline.{Message}
 use Rattle.pg_check.specs.Types.{is_key_scalar, is_packable, scalar_of}
-use Rattle.pg_schema.specs.declared.field.Scalar.TheVariants as scalars
 use Rattle.pg_syntax.specs.declared.tree as tree
 use Rattle.pg_syntax.specs.declared.tree.Value.TheVariants as values
 use Rattle.std.specs.Prelude.{pos, negsuc}

@@ -22,10 +22,13 @@ pub mod MadeParts
 pub mod Sources
 pub mod Declares
 pub mod KeepsRules
+pub mod Firsts
 pub mod KeptParts
 pub mod NamedParts
 pub mod Rows
 pub mod Examples
+pub mod BrokenRules
 pub mod Errors
 pub mod PartFaults
 pub mod PartErrors
+pub mod BrokenParts

@@ -23,9 +23,9 @@ pub record IsFirstOf (parts : Parts) (e : CheckError) : Type 0 where
   pub is_nowhere : IsNowhere place
   pub is : e ≡ error_of fault.rule place
 
--- want of memory; of parts that are none of a schema the first rule that they break; or parts that break none, and yet are none of a
--- schema
+-- want of memory; of parts that are none of a schema the first rule that they break; or, at no place, parts that break none, and yet
+-- are none of a schema
 pub data IsRefusedOf (parts : Parts) : CheckError → Type 0 where
   lacking : IsRefusedOf parts Memory
   first : (e : CheckError) → IsFirstOf parts e → (IsSound parts → ⊥) → IsRefusedOf parts e
-  bad : (place : Place) → parts_fault parts ≡ None → (IsSound parts → ⊥) → IsRefusedOf parts (BadParts place)
+  bad : (place : Place) → IsNowhere place → parts_fault parts ≡ None → (IsSound parts → ⊥) → IsRefusedOf parts (BadParts place)

@@ -4,13 +4,18 @@ ghost use Rattle.std.specs.Prelude.{◌≡◌, ◌↔◌, List, None};
 ghost use Rattle.pg_schema.specs.Sound.{IsSound};
 ghost use Rattle.pg_schema.specs.declared.parts.Parts.{Parts};
 ghost use Rattle.pg_link.specs.Linked.{IsLinkedUp, LinkedFiles};
+ghost use Rattle.pg_check.specs.BrokenParts.{IsFirstBrokenPart};
+ghost use Rattle.pg_check.specs.BrokenRules.{IsFirstBroken};
 ghost use Rattle.pg_check.specs.Declares.{Declares, first_broken};
+ghost use Rattle.pg_check.specs.Errors.{IsTold};
 ghost use Rattle.pg_check.specs.Examples.{WorkedRules};
 ghost use Rattle.pg_check.specs.KeepsRules.{KeepsRules};
 ghost use Rattle.pg_check.specs.KeptParts.{KeptParts};
 ghost use Rattle.pg_check.specs.MadeParts.{Source};
 ghost use Rattle.pg_check.specs.NamedParts.{NamedParts};
+ghost use Rattle.pg_check.specs.PartErrors.{IsFirstOf};
 ghost use Rattle.pg_check.specs.Sources.{linked_sources};
+ghost use Rattle.pg_check.specs.declared.error.CheckError.{CheckError};
 
 /// What the rules take and what they refuse, by small examples.
 pub fn worked_rules()
@@ -21,6 +26,19 @@ pub fn worked_rules()
 /// type, enum, service and option of them does, and there are at most 4,096 message types.
 pub fn keeping_rules()
     ensures { (files : List Source) → (first_broken files ≡ None) ↔ KeepsRules files }
+{}
+
+/// An error names a rule that is broken, by the fact that its code says: the files before keep to the
+/// rules, the error stands at a declaration that breaks this one, and no rule is broken by an earlier
+/// declaration of its file, nor one of a lower code by this one.
+pub fn reported_rules()
+    ensures { (files : List Source) (e : CheckError) → IsTold files e → IsFirstBroken files e }
+{}
+
+/// An error of parts that come from no text names the first rule that they break, at no place: of the
+/// message types, the enums and the files the first that breaks one, and of it the lowest code.
+pub fn reported_part_rules()
+    ensures { (parts : Parts) (e : CheckError) → IsFirstOf parts e → IsFirstBrokenPart parts e }
 {}
 
 /// The parts of files that keep to the rules keep to them too, as far as these go: numbers, reserved

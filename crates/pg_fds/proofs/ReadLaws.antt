@@ -115,7 +115,7 @@ refused_for_memory ms files r u told memory =
 pub sound_refused : (parts : Parts) (e : CheckError) → IsRefusedOf parts e → IsSound parts → e ≡ rules.Memory
 sound_refused parts e lacking sound = refl
 sound_refused parts e (first f is unsound) sound = absurd (unsound sound)
-sound_refused parts e (bad place none unsound) sound = absurd (unsound sound)
+sound_refused parts e (bad place nowhere none unsound) sound = absurd (unsound sound)
 
 pub rule_broken : (parts : Parts) (e : CheckError) → IsRefusedOf parts e → (e ≡ rules.Memory → ⊥) → BreaksRule e
 rule_broken parts e refused other = ((parts, refused), other)

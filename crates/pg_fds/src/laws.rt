@@ -8,7 +8,7 @@ ghost use Rattle.pg_fds.specs.ReadExamples.{OneFieldRead};
 ghost use Rattle.pg_fds.specs.SetOrderLaws.{SetOrderLaws};
 ghost use Rattle.pg_fds.specs.TextOrder.{TextsAreReadAgain};
 
-use pg_check::linked_parts;
+use pg_check::laws::linked_parts;
 
 /// What is written down of descriptor.proto keeps to the rules of a schema.
 pub fn descriptor_rules()

@@ -9,7 +9,7 @@ ghost use Rattle.pg_gate.specs.Files.{IsCompiled, IsErrorOf, IsFaultOf, IsFaultO
 use crate::error::{Fault, GateError, Side};
 use crate::sets::{read_set, set_at};
 use pg_check::{CheckError, build};
-use pg_link::{LinkError, Linked, Sources, link};
+use pg_link::{LinkError, Linked, Sources, link_below};
 use pg_schema::Schema;
 use std::alloc::Global;
 
@@ -30,7 +30,7 @@ fn files_of<S: Sources>(
     ensures same_given { S.may_give source.new ≡ S.may_give source.old }
     ensures same_lacked { S.may_lack source.new ≡ S.may_lack source.old }
 {
-    match link(alloc, source, folder, paths) {
+    match link_below(alloc, source, folder, paths) {
         Ok(linked) => Ok(linked),
         Err(LinkError::Memory) => Err(GateError::Memory),
         Err(error) => Err(GateError::Compile(side, Fault::Link(error))),

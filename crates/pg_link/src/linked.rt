@@ -80,8 +80,8 @@ impl Linked {
     }
 
     /// What the uses of type names in a file resolve to, in the order of its text: the types of fields and of members of
-    /// oneofs, keys and values of maps, what rpcs take and return. Scalar words in fields and maps are no uses
-    /// (`is_scalar`). The file is given by its number.
+    /// oneofs, keys and values of maps, what rpcs take and return. Scalar words in fields and maps are no uses. The file is
+    /// given by its number.
     pub fn targets(&self, file: usize) -> &[Target]
         requires { file < length self.now.files }
         ensures targets { slice_get self.now.targets file ≡ Some result.now }

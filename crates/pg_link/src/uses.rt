@@ -48,7 +48,7 @@ fn is_scalar_word(word: &str) -> bool
 
 /// Whether the type name of a field or map is one of the 15 scalar words. It then names no message type and no enum; with
 /// a dot in front or among them it always does (proto3 language guide, "Scalar Value Types").
-pub fn is_scalar(name: &TypeName) -> bool
+pub(crate) fn is_scalar(name: &TypeName) -> bool
     ensures { result ≡ spec.is_scalar (reference name.now) }
 {
     if name.is_full || !name.path.more.is_empty() {

@@ -5,7 +5,7 @@ mod shown;
 
 use failing_source::FailingSource;
 use options::{Options, options_of};
-use pg_link::{LinkError, Linked, Listed, link, read_file};
+use pg_link::{LinkError, Linked, Listed, link_below, read_file};
 use rows::{borrowed, cut, files_of, spelling};
 use shown::{linked_files, refusal};
 use std::alloc::{AllocError, Global};
@@ -14,7 +14,7 @@ type Source<'a> = FailingSource<Listed<'a>>;
 
 fn linked(alloc: Global, source: &mut Source, options: Options) -> Result<Linked, LinkError> {
     let roots: Vec<&str> = options.roots.split(' ').collect(alloc)?;
-    link(alloc, source, options.folder, &roots)
+    link_below(alloc, source, options.folder, &roots)
 }
 
 fn of_links(alloc: Global, source: &mut Source, options: Options) -> Result<String, AllocError> {

@@ -27,7 +27,7 @@ fn of_linked(alloc: Global, linked: &Linked, asked: &str) -> Result<String, Allo
 
 fn of_files(alloc: Global, files: &[(&str, &[u8])], asked: &str) -> Result<String, AllocError> {
     let root = files.first().map_or("", |file| file.0);
-    match link(alloc, &mut Listed { files }, ".", &[root]) {
+    match link(alloc, &mut Listed { files }, &[root]) {
         Ok(linked) => of_linked(alloc, &linked, asked),
         Err(_) => String::from_str(alloc, "not linked"),
     }

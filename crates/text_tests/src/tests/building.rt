@@ -44,7 +44,7 @@ const BROKEN: &[u8] = b"syntax = \"proto3\";\nmessage M { int32 a = 1; int32 b =
 /// The links of `m.proto` of this text, which may import `a.proto`.
 fn linked(alloc: Global, text: &[u8]) -> Result<Linked, LinkError> {
     let files = [("m.proto", text), ("a.proto", IMPORTED)];
-    link(alloc, &mut Listed { files: &files }, ".", &["m.proto"])
+    link(alloc, &mut Listed { files: &files }, &["m.proto"])
 }
 
 /// How many message types linked files have, or why they have no schema.

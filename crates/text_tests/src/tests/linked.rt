@@ -9,7 +9,7 @@ use std::test::Fail;
 /// The links of a file `m.proto` of this text.
 fn linked(alloc: Global, text: &[u8]) -> Result<Linked, LinkError> {
     let files = [("m.proto", text)];
-    link(alloc, &mut Listed { files: &files }, ".", &["m.proto"])
+    link(alloc, &mut Listed { files: &files }, &["m.proto"])
 }
 
 /// What the file's uses resolve to, by their first bytes.

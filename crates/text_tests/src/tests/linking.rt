@@ -43,7 +43,7 @@ fn linked(alloc: Global, text: &[u8]) -> Result<Linked, LinkError> {
         ("d.proto", D),
         ("e.proto", E),
     ];
-    link(alloc, &mut Listed { files: &files }, ".", &["a.proto"])
+    link(alloc, &mut Listed { files: &files }, &["a.proto"])
 }
 
 /// What is answered for that text.

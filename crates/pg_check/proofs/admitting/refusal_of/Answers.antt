@@ -15,7 +15,9 @@ returns-in-Ok-Some c =
     }) c.requires
 
 pub returns-in-Ok-None : goal.returns-in-Ok-None
-returns-in-Ok-None c = bad (record { file = c.new.result; line = 0; column = 0 }) (sym c.in-Ok-None.ensures ∙ c.in-Ok-None.field-0-is) c.requires
+returns-in-Ok-None c =
+    let nowhere : Place = record { file = c.new.result; line = 0; column = 0 } in
+    bad nowhere (record { file = c.new.ensures.bytes; line = refl; column = refl }) (sym c.in-Ok-None.ensures ∙ c.in-Ok-None.field-0-is) c.requires
 
 pub returns-in-Err : goal.returns-in-Err
 returns-in-Err c = lacking
