@@ -1,5 +1,5 @@
 -- What is reported of parts that come from no text is the first rule that they break, and of one part the lowest code.
-use Rattle.std.proofs.Common.{◌≡◌, ◌∙◌, ◌↔◌, ◌≤◌, ◌<◌, ◌⊎◌, inl, inr, ℕ, Bool, true, false, cond, not, nat_eq, nat_le, nat_lt, ◌||◌, List, [], ◌∷◌, ◌++◌, length, map, Option, Some, None, string_bytes, sym, ap, subst, refl, arith}
+use Rattle.std.proofs.Common.{◌≡◌, ◌∙◌, ◌↔◌, ◌≤◌, ◌<◌, inl, inr, ℕ, Bool, true, false, cond, not, nat_eq, nat_le, nat_lt, ◌||◌, List, [], ◌∷◌, ◌++◌, length, map, Option, Some, None, string_bytes, sym, ap, subst, refl, arith}
 use Rattle.std.specs.List.{list_all, list_any, AllByRecursion}
 use Rattle.std.proofs.lemmas.Bool.{false≢true}
 use Rattle.std.proofs.lemmas.Bool.Decides.{nat_tests}
@@ -19,7 +19,7 @@ use Rattle.pg_check.specs.BrokenParts.{BreaksEnumType, BreaksFilePart, BreaksFir
 use Rattle.pg_check.specs.Enums as enums
 use Rattle.pg_check.specs.Errors.{error_of}
 use Rattle.pg_check.specs.Faults.{broken, broken_at, earlier, first_fault, or_else, order}
-use Rattle.pg_check.specs.Firsts.{IsBehind, IsNotAfter}
+use Rattle.pg_check.specs.Firsts.{IsNotAfter}
 use Rattle.pg_check.specs.KeepsRules.{are_apart, begins_with_zero, has_field_number, has_some, is_free, is_free_name, lies_within, rises}
 use Rattle.pg_check.specs.Messages as messages
 use Rattle.pg_check.specs.Names as names
@@ -365,14 +365,14 @@ few n h = grind (arith, nat_tests)
 types_meet : (parts : Parts) (place : Place) → length parts.types.items ≤ 4096 → Meets (Tells parts place) (first_fault faults.message_fault parts.types.items)
 types_meet parts place small =
     first_meets (Tells parts place) faults.message_fault KeepsType type_keeps parts.types.items (λ t behind f h.
-      let both = type_meets t place f h in
-      in_type t (error_of f.rule place) (order f.rule) small behind both.1 (λ other c b. lowest (faults.message_fault t) f c h both.0 (type_found t place other c b)))
+    let both = type_meets t place f h in
+    in_type t (error_of f.rule place) (order f.rule) small behind both.1 (λ other c b. lowest (faults.message_fault t) f c h both.0 (type_found t place other c b)))
 
 enums_meet : (parts : Parts) (place : Place) → length parts.types.items ≤ 4096 → AllByRecursion KeepsType parts.types.items → Meets (Tells parts place) (first_fault faults.enum_fault parts.enums.items)
 enums_meet parts place small types =
     first_meets (Tells parts place) faults.enum_fault KeepsEnumType enum_type_keeps parts.enums.items (λ e behind f h.
-      let both = enum_type_meets e place f h in
-      in_enum e (error_of f.rule place) (order f.rule) small types behind both.1 (λ other c b. lowest (faults.enum_fault e) f c h both.0 (enum_type_found e place other c b)))
+    let both = enum_type_meets e place f h in
+    in_enum e (error_of f.rule place) (order f.rule) small types behind both.1 (λ other c b. lowest (faults.enum_fault e) f c h both.0 (enum_type_found e place other c b)))
 
 files_meet : (parts : Parts) (place : Place) → length parts.types.items ≤ 4096 → AllByRecursion KeepsType parts.types.items → AllByRecursion KeepsEnumType parts.enums.items
     → Meets (Tells parts place) (first_fault faults.file_fault parts.files.items)
@@ -392,10 +392,10 @@ parts_meet parts place = by (not (nat_le (length parts.types.items) 4096)) refl
     by false e =
         let small = few (length parts.types.items) e in
         or_meets (Tells parts place) (first_fault faults.message_fault parts.types.items) rest (types_meet parts place small) (λ none.
-          let types = all_keep _ KeepsType type_keeps parts.types.items ((first_fault_none faults.message_fault parts.types.items).0 none) in
-          or_meets (Tells parts place) (first_fault faults.enum_fault parts.enums.items) (first_fault faults.file_fault parts.files.items) (enums_meet parts place small types) (λ no_enum.
-            let enumerations = all_keep _ KeepsEnumType enum_type_keeps parts.enums.items ((first_fault_none faults.enum_fault parts.enums.items).0 no_enum) in
-            files_meet parts place small types enumerations))
+        let types = all_keep _ KeepsType type_keeps parts.types.items ((first_fault_none faults.message_fault parts.types.items).0 none) in
+        or_meets (Tells parts place) (first_fault faults.enum_fault parts.enums.items) (first_fault faults.file_fault parts.files.items) (enums_meet parts place small types) (λ no_enum.
+        let enumerations = all_keep _ KeepsEnumType enum_type_keeps parts.enums.items ((first_fault_none faults.enum_fault parts.enums.items).0 no_enum) in
+        files_meet parts place small types enumerations))
 
 pub reported_part : (parts : Parts) (e : CheckError) → IsFirstOf parts e → IsFirstBrokenPart parts e
 reported_part parts e h = record {

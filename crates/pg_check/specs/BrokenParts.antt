@@ -1,7 +1,7 @@
 -- What each error says of parts that come from no text: the fact that doesn't hold, by the words of the rules that files keep to.
 -- Parts have no places, so of each message type, enum and file the lowest code is reported (proto3 language guide, "Assigning Field
 -- Numbers", "Reserved Fields", "Enumerations", "Oneof", "Maps", "JSON Mapping"; proto3 language specification, "Option").
-use Rattle.std.specs.Prelude.{◌≡◌, ◌≤◌, ◌<◌, ℕ, Bool, true, false, ◌||◌, List, map, length, string_bytes}
+use Rattle.std.specs.Prelude.{◌≡◌, ◌≤◌, ◌<◌, ℕ, true, false, ◌||◌, List, map, length, string_bytes}
 use Rattle.std.specs.List.{list_all, list_any, AllByRecursion}
 use Rattle.pg_link.specs.declared.error.Place.{Place}
 use Rattle.pg_schema.specs.declared.enum_type.EnumType.{EnumType}

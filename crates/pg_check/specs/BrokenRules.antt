@@ -130,8 +130,8 @@ pub data BreaksFile (s : Source) (left : ℕ) (place : Place) : CheckError → (
 abbrev pub left_behind : List Source → ℕ
 left_behind files = 4096 - length (flat_map source_messages files)
 
--- An error names a rule that is broken: the files before keep to the rules, its file breaks it at the place, and no rule is
--- broken by a declaration before, nor one of a lower code by this one.
+-- An error names a rule that is broken: the files before keep to the rules, its file breaks it at the place, and of no rule does
+-- the first declaration that breaks it come before, nor is it this one where its code is lower.
 pub record IsFirstBroken (files : List Source) (e : CheckError) : Type 0 where
   pub before : List Source
   pub file : Source

@@ -29,8 +29,9 @@ pub fn keeping_rules()
 {}
 
 /// An error names a rule that is broken, by the fact that its code says: the files before keep to the
-/// rules, the error stands at a declaration that breaks this one, and no rule is broken by an earlier
-/// declaration of its file, nor one of a lower code by this one.
+/// rules, the error stands at a declaration that breaks this one, and of no rule does the first
+/// declaration that breaks it, in order of declaration, come earlier in the file, nor is it this one
+/// where its code is lower.
 pub fn reported_rules()
     ensures { (files : List Source) (e : CheckError) → IsTold files e → IsFirstBroken files e }
 {}

@@ -129,7 +129,7 @@ pub(crate) fn text_of<S: Sources>(
     }
 }
 
-/// The bytes of the file `FOLDER/PATH`, or of `PATH` where the folder is `.`, as `link` reads a root.
+/// The bytes of the file `FOLDER/PATH`, or of `PATH` where the folder is `.`, as `link_below` reads a root.
 ///
 /// # Errors
 ///
