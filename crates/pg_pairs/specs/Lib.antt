@@ -19,3 +19,4 @@ pub mod FieldCosts
 pub mod ElementGaps
 pub mod LeastCosts
 pub mod SmallPairs
+pub mod Works
