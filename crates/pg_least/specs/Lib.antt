@@ -1,5 +1,8 @@
-pub mod Reached
 pub mod Pairs
 pub mod Settled
 pub mod Exact
 pub mod Descent
+pub mod Queues
+pub mod Relaxing
+pub mod Graphs
+pub mod Places

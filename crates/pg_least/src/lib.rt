@@ -1,7 +1,10 @@
 //! The search: for a pair of types the shortest message that breaks, and the table of bounds that shows it.
 #![tactic(auto)]
 
+mod arcs;
+mod queue;
 mod reached;
+mod relaxing;
 mod searching;
 mod settling;
 mod witness;

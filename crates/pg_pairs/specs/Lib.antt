@@ -20,3 +20,4 @@ pub mod ElementGaps
 pub mod LeastCosts
 pub mod SmallPairs
 pub mod Works
+pub mod Reached
