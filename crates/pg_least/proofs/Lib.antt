@@ -8,3 +8,4 @@ pub mod Lists
 pub mod Steps
 pub mod Placing
 pub mod Tables
+pub mod Bounding

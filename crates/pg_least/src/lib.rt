@@ -2,6 +2,7 @@
 #![tactic(auto)]
 
 mod arcs;
+mod least_bounds;
 mod queue;
 mod reached;
 mod relaxing;
@@ -9,5 +10,6 @@ mod searching;
 mod settling;
 mod witness;
 
+pub use least_bounds::settle;
 pub use searching::{Found, find, search};
 pub use witness::{Step, way};
