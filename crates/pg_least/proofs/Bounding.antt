@@ -118,11 +118,11 @@ one_number (Some n ∷ cs) c = let rest = one_number cs c in omega arith
 
 -- Bounds of pairs by costs at places.
 
-among_map : {A B : Type 0} (f : A → B) (y : B) (xs : List A) → IsAmong y (map f xs) → (x : A) × IsAmong x xs × (f x ≡ y)
+pub among_map : {A B : Type 0} (f : A → B) (y : B) (xs : List A) → IsAmong y (map f xs) → (x : A) × IsAmong x xs × (f x ≡ y)
 among_map f y [] h = absurd h
 among_map f y (x ∷ xs) h = ⊎_elim (λ same. (x, inl refl, sym same)) (λ later. let (z, among, is) = among_map f y xs later in (z, inr among, is)) h
 
-map_among : {A B : Type 0} (f : A → B) (x : A) (xs : List A) → IsAmong x xs → IsAmong (f x) (map f xs)
+pub map_among : {A B : Type 0} (f : A → B) (x : A) (xs : List A) → IsAmong x xs → IsAmong (f x) (map f xs)
 map_among f x [] h = absurd h
 map_among f x (y ∷ xs) h = ⊎_elim (λ same. inl (ap f same)) (λ later. inr (map_among f x xs later)) h
 

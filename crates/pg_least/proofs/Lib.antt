@@ -9,3 +9,4 @@ pub mod Steps
 pub mod Placing
 pub mod Tables
 pub mod Bounding
+pub mod OneSolution

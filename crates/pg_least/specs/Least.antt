@@ -1,8 +1,9 @@
 -- The least bounds of a graph.
-use Rattle.std.specs.Prelude.{◌≡◌, ℕ, ◌+◌, nat_le, List, [], ◌∷◌, length, map, filter, flat_map, is_some, if◌then◌else◌, Option, Some, None, option_and_then}
+use Rattle.std.specs.Prelude.{◌≡◌, ℕ, ◌+◌, ◌<◌, true, nat_le, List, [], ◌∷◌, length, map, filter, flat_map, is_some, if◌then◌else◌, Option, Some, None, option_and_then}
 use Rattle.pg_pairs.specs.declared.choice.Pair.{Pair}
 use Rattle.pg_pairs.specs.declared.edge.Edge.{Edge}
 use Rattle.pg_pairs.specs.declared.work.Work.{Work}
+use Rattle.pg_pairs.specs.Among.{IsAmong}
 use Rattle.pg_pairs.specs.Choices.{Table, number_for}
 use Rattle.pg_pairs.specs.Reached.{IsReachedInOrder}
 use Rattle.pg_cert.specs.declared.bounds.PairBound.{PairBound}
@@ -51,3 +52,14 @@ lines (p ∷ ps) (c ∷ costs) = record { pair = p; bound = c } ∷ lines ps cos
 
 abbrev pub opened_by : ℕ → Work → Work
 opened_by n work = record { settled = work.settled; relaxed = work.relaxed; opened = work.opened + n }
+
+-- each bound of the table is the least of its pair's base and of what its edges cost under this table itself
+abbrev pub AllLeast : (Pair → List Edge) → (Pair → Option ℕ) → (Edge → ℕ → Option ℕ) → Table → Type 0
+AllLeast edges base price table = (pair : Pair) (bound : Option ℕ) → table pair ≡ Some bound → IsLeastBound edges base price table pair bound
+
+-- Where edges cost more than the bounds of their children, two such tables of the same pairs are the same.
+abbrev pub OneSolution : Type 0
+OneSolution =
+    (edges : Pair → List Edge) (base : Pair → Option ℕ) (price : Edge → ℕ → Option ℕ) (s t : Table) → ((pair : Pair) → is_some (s pair) ≡ is_some (t pair)) →
+    ((pair : Pair) (edge : Edge) (bound cost : ℕ) → is_some (s pair) ≡ true → IsAmong edge (edges pair) → price edge bound ≡ Some cost → bound < cost) →
+    AllLeast edges base price s → AllLeast edges base price t → (pair : Pair) → s pair ≡ t pair

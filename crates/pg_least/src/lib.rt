@@ -10,6 +10,6 @@ mod searching;
 mod settling;
 mod witness;
 
-pub use least_bounds::settle;
+pub use least_bounds::{one_solution, settle};
 pub use searching::{Found, find, search};
 pub use witness::{Step, way};
