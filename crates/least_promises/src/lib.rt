@@ -7,10 +7,11 @@ ghost use Rattle.pg_pairs.specs.Sight.{by_numbers};
 ghost use Rattle.pg_cert.specs.Bounds.{bound_in};
 ghost use Rattle.pg_least.specs.Descent.{IsWay};
 ghost use Rattle.pg_least.specs.Exact.{IsBesideClaim, IsSearched};
+ghost use Rattle.pg_least.specs.Least.{IsCounted, IsSettled};
 
-use pg_cert::Certificate;
+use pg_cert::{Bounds, Certificate};
 use pg_least::{Found, Step};
-use pg_pairs::Pair;
+use pg_pairs::{Pair, Prices, Work};
 use pg_schema::Schema;
 use std::alloc::{AllocError, Global};
 
@@ -48,4 +49,14 @@ pub fn way(
     ensures { IfOk result (λ steps. IsWay by_numbers (shape_of old.now) (shape_of new.now) (bound_in certificate.now.bounds) certificate.now.root steps.items) }
 {
     pg_least::way(alloc, old, new, certificate)
+}
+
+/// What `settle` answers.
+pub fn settle<G: Prices>(alloc: Global, graph: &G, root: Pair) -> Result<(Bounds, Work), AllocError>
+    requires { G.is_known graph.now root ≡ true }
+    ensures settled { IfOk result (λ found. IsSettled (G.children_of graph.now) (G.edges_of graph.now) (G.base_of graph.now) (G.price_of graph.now) root found.0) }
+    ensures counted { IfOk result (λ found. IsCounted (G.edges_of graph.now) found.0 found.1) }
+{
+    let (bounds, work) = pg_least::settle(alloc, graph, root)?;
+    Ok((bounds, work))
 }

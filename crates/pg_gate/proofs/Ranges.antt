@@ -20,7 +20,7 @@ use Rattle.pg_cert.specs.declared.bounds.PairBound.{PairBound}
 use Rattle.pg_cert.specs.Certificate.{Claim}
 use Rattle.pg_cert.specs.Text.{IsClaimOf, IsPairOf}
 use Rattle.pg_least.specs.Exact.{IsSearched}
-use Rattle.pg_least.specs.Reached.{LeadsTo, itself, onwards}
+use Rattle.pg_pairs.specs.Reached.{LeadsTo, itself, onwards}
 
 -- ---- rows
 
@@ -123,7 +123,7 @@ module _ (old new : Shape) (is_old : IsShape old) (is_new : IsShape new) where
       distinct_there old new (all_children (fields new pair.new) (fields old pair.old))
       (all_children_there old new (fields new pair.new) (fields old pair.old) (fields_there new pair.new is_new) (fields_there old pair.old is_old))
 
-  led_to_there : (root pair : Pair) → AreThere old new root → LeadsTo old new root pair → AreThere old new pair
+  led_to_there : (root pair : Pair) → AreThere old new root → LeadsTo (children old new) root pair → AreThere old new pair
   led_to_there root pair there itself = there
   led_to_there root pair there (onwards above child leads among) = each_among (AreThere old new) child (children old new above) (children_there above) among
 
@@ -135,9 +135,9 @@ pub searched_there : (sight : Sight) (old new : Parts) (claim : Claim) → IsSha
     → IsSearched sight (shape_of old) (shape_of new) claim.root claim → IsClaimOf old new claim
 searched_there sight old new claim is_old is_new old_there new_there searched = record {
   root = as_types claim.root (old_there, new_there);
-  bounds = each_weaker (λ (b : PairBound). LeadsTo (shape_of old) (shape_of new) claim.root b.pair) (λ (b : PairBound). IsPairOf old new b.pair)
+  bounds = each_weaker (λ (b : PairBound). LeadsTo (children (shape_of old) (shape_of new)) claim.root b.pair) (λ (b : PairBound). IsPairOf old new b.pair)
       (λ b leads. as_types b.pair (led_to_there (shape_of old) (shape_of new) is_old is_new claim.root b.pair (old_there, new_there) leads)) claim.bounds
-      (each_unmapped (LeadsTo (shape_of old) (shape_of new) claim.root) (λ (b : PairBound). b.pair) claim.bounds searched.reached.led_to);
+      (each_unmapped (LeadsTo (children (shape_of old) (shape_of new)) claim.root) (λ (b : PairBound). b.pair) claim.bounds searched.reached.led_to);
 }
   where
     as_types : (pair : Pair) → AreThere (shape_of old) (shape_of new) pair → IsPairOf old new pair

@@ -82,7 +82,7 @@ found_at (x ∷ bounds) (suc at) b h here = of (same_pair b.pair x.pair) refl (f
     of true same later = absurd (let none : bound_in bounds b.pair ≡ None = subst (λ p. bound_in bounds p ≡ None) (sym (same_pair-true b.pair x.pair same)) (first_once x bounds h).0 in cc)
 
 -- what is found stands at a place
-place_of : (bounds : List PairBound) (p : Pair) (bound : Option ℕ) → bound_in bounds p ≡ Some bound → (at : ℕ) × (slice_get bounds at ≡ Some (record { pair = p; bound = bound }))
+pub place_of : (bounds : List PairBound) (p : Pair) (bound : Option ℕ) → bound_in bounds p ≡ Some bound → (at : ℕ) × (slice_get bounds at ≡ Some (record { pair = p; bound = bound }))
 place_of [] p bound h = absurd (cc)
 place_of (b ∷ bounds) p bound h =
     elim (same_pair p b.pair) as (λ t. same_pair p b.pair ≡ t → option_map (λ (x : PairBound). x.bound) (cond t (Some b) (find (λ (x : PairBound). same_pair p x.pair) bounds)) ≡ Some bound → (at : ℕ) × (slice_get (b ∷ bounds) at ≡ Some (record { pair = p; bound = bound }))) [

@@ -4,3 +4,9 @@ pub mod Grown
 pub mod Reaching
 pub mod Falling
 pub mod Unbounded
+pub mod Lists
+pub mod Steps
+pub mod Placing
+pub mod Tables
+pub mod Bounding
+pub mod OneSolution

@@ -3,13 +3,12 @@ use Rattle.std.proofs.Common.{◌≡◌, ℕ, zero, suc, ◌+◌, ◌<◌, List,
 use Rattle.std.specs.List.{AllByRecursion}
 use Rattle.std.proofs.lemmas.List.{take-append-le}
 use Rattle.std.proofs.lemmas.Option.{slice_get-get_or, slice_get_cases}
-use Rattle.pg_schema.specs.Shape.{Shape}
 use Rattle.pg_pairs.specs.declared.choice.Pair.{Pair}
-use Rattle.pg_pairs.specs.Covering.{children, distinct}
+use Rattle.pg_pairs.specs.Covering.{distinct}
 use Rattle.pg_pairs.specs.FirstSeen.{OnePairMore}
 use Rattle.pg_pairs.specs.Among.{IsAmong}
-use Rattle.pg_least.specs.Pairs.{IsClosed}
-use Rattle.pg_least.specs.Reached.{LeadsTo, IsReachedInOrder, itself, onwards}
+use Rattle.pg_least.specs.Pairs.{AreClosed}
+use Rattle.pg_pairs.specs.Reached.{LeadsTo, IsReachedInOrder, itself, onwards}
 use Rattle.pg_least.proofs.Grown.{distinct-again, distinct-front, grown_behind, each_distinct, among_distinct}
 
 -- Places in lists.
@@ -41,7 +40,7 @@ take_past [] (suc i) h = refl
 take_past (y ∷ xs) zero h = absurd (cc)
 take_past (y ∷ xs) (suc i) h = ap (λ zs. y ∷ zs) (take_past xs i h)
 
-each_at : {A : Type 0} (P : A → Type 0) (xs : List A) (i : ℕ) (x : A) → slice_get xs i ≡ Some x → AllByRecursion P xs → P x
+pub each_at : {A : Type 0} (P : A → Type 0) (xs : List A) (i : ℕ) (x : A) → slice_get xs i ≡ Some x → AllByRecursion P xs → P x
 each_at P [] i x h each = absurd (cc)
 each_at P (y ∷ xs) zero x h each = let same : y ≡ x = cc in subst P same each.0
 each_at P (y ∷ xs) (suc i) x h each = each_at P xs i x h each.1
@@ -78,51 +77,55 @@ each_flat h (x ∷ xs) all within = (
   each_flat h xs all (λ y among. within y (among_right y (h x) (flat_map h xs) among)),
 )
 
-module _ (law : OnePairMore) (old new : Shape) (root : Pair) where
+module _ (law : OnePairMore) (kids : Pair → List Pair) (root : Pair) where
   -- the root and the children of the pairs before that place
   abbrev pub found_to : ℕ → List Pair → List Pair
-  found_to at ps = distinct (root ∷ flat_map (children old new) (take at ps))
+  found_to at ps = distinct (root ∷ flat_map kids (take at ps))
 
   pub once : (at : ℕ) (ps : List Pair) → ps ≡ found_to at ps → distinct ps ≡ ps
-  once at ps so_far = ap distinct so_far ∙ distinct-again law (root ∷ flat_map (children old new) (take at ps)) ∙ sym so_far
+  once at ps so_far = ap distinct so_far ∙ distinct-again law (root ∷ flat_map kids (take at ps)) ∙ sym so_far
 
-  module _ (ps : List Pair) (at : ℕ) (x : Pair) (here : slice_get ps at ≡ Some x) (after : List Pair) (is : after ≡ distinct (ps ++ children old new x)) where
+  module _ (ps : List Pair) (at : ℕ) (x : Pair) (here : slice_get ps at ≡ Some x) (after : List Pair) (is : after ≡ distinct (ps ++ kids x)) where
     front_stays : ps ≡ found_to at ps → take (at + 1) after ≡ take (at + 1) ps
     front_stays so_far =
-        let (more, grown) = grown_behind law ps (children old new x) (once at ps so_far) in
+        let (more, grown) = grown_behind law ps (kids x) (once at ps so_far) in
         ap (take (at + 1)) (is ∙ grown) ∙ take-append-le (at + 1) ps more (let within = inside ps at x here in omega arith)
 
     pub next_found : ps ≡ found_to at ps → after ≡ found_to (at + 1) after
     next_found so_far =
-        is ∙ ap (λ qs. distinct (qs ++ children old new x)) so_far ∙ distinct-front law (root ∷ flat_map (children old new) (take at ps)) (children old new x)
-        ∙ ap (λ qs. distinct (root ∷ qs)) (sym (flat_map-end (children old new) (take at ps) x))
-        ∙ ap (λ qs. distinct (root ∷ flat_map (children old new) qs)) (sym (front_stays so_far ∙ take_one_more ps at x here))
+        is ∙ ap (λ qs. distinct (qs ++ kids x)) so_far ∙ distinct-front law (root ∷ flat_map kids (take at ps)) (kids x)
+        ∙ ap (λ qs. distinct (root ∷ qs)) (sym (flat_map-end kids (take at ps) x))
+        ∙ ap (λ qs. distinct (root ∷ flat_map kids qs)) (sym (front_stays so_far ∙ take_one_more ps at x here))
 
-    pub next_led : AllByRecursion (LeadsTo old new root) ps → AllByRecursion (LeadsTo old new root) after
+    pub next_led : AllByRecursion (LeadsTo kids root) ps → AllByRecursion (LeadsTo kids root) after
     next_led led =
-        subst (AllByRecursion (LeadsTo old new root)) (sym is)
-        (each_distinct (LeadsTo old new root) (ps ++ children old new x)
-        (each-append (LeadsTo old new root) ps (children old new x) led
-        (every_is_among (LeadsTo old new root) (children old new x) (λ c among. onwards x c (each_at (LeadsTo old new root) ps at x here led) among))))
+        subst (AllByRecursion (LeadsTo kids root)) (sym is)
+        (each_distinct (LeadsTo kids root) (ps ++ kids x)
+        (each-append (LeadsTo kids root) ps (kids x) led
+        (every_is_among (LeadsTo kids root) (kids x) (λ c among. onwards x c (each_at (LeadsTo kids root) ps at x here led) among))))
 
-  module _ (ps : List Pair) (in_order : ps ≡ distinct (root ∷ flat_map (children old new) ps)) where
+  -- what holds of the pairs and of the children of the next holds of all that are found
+  pub next_each : (P : Pair → Type 0) (ps : List Pair) (x : Pair) (after : List Pair) → after ≡ distinct (ps ++ kids x) → AllByRecursion P ps → ((y : Pair) → IsAmong y (kids x) → P y) → AllByRecursion P after
+  next_each P ps x after is each more = subst (AllByRecursion P) (sym is) (each_distinct P (ps ++ kids x) (each-append P ps (kids x) each (every_is_among P (kids x) more)))
+
+  module _ (ps : List Pair) (in_order : ps ≡ distinct (root ∷ flat_map kids ps)) where
     -- what is found stands in the list
-    among_found : (y : Pair) → IsAmong y (root ∷ flat_map (children old new) ps) → IsAmong y ps
-    among_found y among = subst (IsAmong y) (sym in_order) (among_distinct y (root ∷ flat_map (children old new) ps) among)
+    among_found : (y : Pair) → IsAmong y (root ∷ flat_map kids ps) → IsAmong y ps
+    among_found y among = subst (IsAmong y) (sym in_order) (among_distinct y (root ∷ flat_map kids ps) among)
 
-    pub all_closed : IsClosed old new ps
-    all_closed = each_flat (children old new) ps ps (λ y among. among_found y (inr among))
+    pub all_closed : AreClosed kids ps
+    all_closed = each_flat kids ps ps (λ y among. among_found y (inr among))
 
-    all_led : (p : Pair) → LeadsTo old new root p → IsAmong p ps
+    all_led : (p : Pair) → LeadsTo kids root p → IsAmong p ps
     all_led p itself = among_found root (inl refl)
     all_led p (onwards above child leads among) =
-        among_each (λ y. IsAmong y ps) child (children old new above) among
-        (among_each (λ q. AllByRecursion (λ y. IsAmong y ps) (children old new q)) above ps (all_led above leads) all_closed)
+        among_each (λ y. IsAmong y ps) child (kids above) among
+        (among_each (λ q. AllByRecursion (λ y. IsAmong y ps) (kids q)) above ps (all_led above leads) all_closed)
 
   -- all are found
-  pub all_found : (ps : List Pair) (at : ℕ) → take at ps ≡ ps → ps ≡ found_to at ps → AllByRecursion (LeadsTo old new root) ps → IsReachedInOrder old new root ps
+  pub all_found : (ps : List Pair) (at : ℕ) → take at ps ≡ ps → ps ≡ found_to at ps → AllByRecursion (LeadsTo kids root) ps → IsReachedInOrder kids root ps
   all_found ps at past so_far led =
-      let in_order : ps ≡ distinct (root ∷ flat_map (children old new) ps) = so_far ∙ ap (λ qs. distinct (root ∷ flat_map (children old new) qs)) past in
+      let in_order : ps ≡ distinct (root ∷ flat_map kids ps) = so_far ∙ ap (λ qs. distinct (root ∷ flat_map kids qs)) past in
       record {
         in_order = in_order;
         led_to = led;

@@ -6,12 +6,13 @@ use Rattle.pg_pairs.specs.Sight.{Sight}
 use Rattle.pg_pairs.specs.Carried.{choice_child}
 use Rattle.pg_pairs.specs.Cheapest.{cheapest}
 use Rattle.pg_pairs.specs.Choices.{Table, choices}
+use Rattle.pg_pairs.specs.Covering.{children}
 use Rattle.pg_pairs.specs.Laws.{IsExact}
 use Rattle.pg_pairs.specs.Among.{IsAmong}
 use Rattle.pg_cert.specs.declared.bounds.PairBound.{PairBound}
 use Rattle.pg_cert.specs.Bounds.{bound_in}
 use Rattle.pg_least.specs.Exact.{pairs_of}
-use Rattle.pg_least.specs.Reached.{IsReachedInOrder}
+use Rattle.pg_pairs.specs.Reached.{IsReachedInOrder}
 use Rattle.pg_least.specs.declared.witness.Step.{Step}
 
 -- each bound of the table is the least cost of its pair's choices
@@ -20,7 +21,7 @@ IsExactTable sight old new table = (pair : Pair) (bound : Option ℕ) → table 
 
 -- Just the pairs that the root leads to, in order, each with the least cost of its choices.
 pub record IsTableOf (sight : Sight) (old new : Shape) (root : Pair) (bounds : List PairBound) : Type 0 where
-  pub reached : IsReachedInOrder old new root (pairs_of bounds)
+  pub reached : IsReachedInOrder (children old new) root (pairs_of bounds)
   pub exact : IsExactTable sight old new (bound_in bounds)
 
 -- the cheapest choice of the pair, which costs what the table says

@@ -8,11 +8,12 @@ use Rattle.pg_dyn.specs.Kept.{Kept, message_of, type_of}
 use Rattle.pg_pairs.specs.declared.choice.Pair.{Pair}
 use Rattle.pg_pairs.specs.Sight.{Sight}
 use Rattle.pg_pairs.specs.Choices.{number_for}
+use Rattle.pg_pairs.specs.Covering.{children}
 use Rattle.pg_pairs.specs.Laws.{IsExact}
 use Rattle.pg_cert.specs.declared.bounds.PairBound.{PairBound}
 use Rattle.pg_cert.specs.Bounds.{bound_in}
 use Rattle.pg_cert.specs.Certificate.{Claim, Holds}
-use Rattle.pg_least.specs.Reached.{IsReachedInOrder}
+use Rattle.pg_pairs.specs.Reached.{IsReachedInOrder}
 
 abbrev pub pairs_of : List PairBound → List Pair
 pairs_of bounds = map (λ (b : PairBound). b.pair) bounds
@@ -30,7 +31,7 @@ pub record IsSearched (sight : Sight) (old new : Shape) (root : Pair) (claim : C
   pub root_is : claim.root ≡ root
   pub holds : Holds sight old new claim
   pub witness_where_it_breaks : is_some claim.witness ≡ is_some (number_for (bound_in claim.bounds) root)
-  pub reached : IsReachedInOrder old new root (pairs_of claim.bounds)
+  pub reached : IsReachedInOrder (children old new) root (pairs_of claim.bounds)
   pub exact : (pair : Pair) (bound : Option ℕ) → bound_in claim.bounds pair ≡ Some bound → IsExact sight old new (bound_in claim.bounds) pair bound
   pub says : (pair : Pair) (bound : Option ℕ) → bound_in claim.bounds pair ≡ Some bound → BoundSays sight old new pair bound
 

@@ -1,5 +1,9 @@
-pub mod Reached
 pub mod Pairs
 pub mod Settled
 pub mod Exact
 pub mod Descent
+pub mod Queues
+pub mod Relaxing
+pub mod Graphs
+pub mod Places
+pub mod Least

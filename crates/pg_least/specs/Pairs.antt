@@ -18,5 +18,8 @@ abbrev pub AreSeen : {S : Type 0} → List Pair → HashSet (ℕ × ℕ) S → T
 AreSeen pairs seen = (p : Pair) → contains same_indices seen (p.old.index, p.new.index) ≡ has_pair pairs p
 
 -- each pair's children stand in the list too
+abbrev pub AreClosed : (Pair → List Pair) → List Pair → Type 0
+AreClosed children pairs = AllByRecursion (λ (p : Pair). AllByRecursion (λ (c : Pair). IsAmong c pairs) (children p)) pairs
+
 abbrev pub IsClosed : Shape → Shape → List Pair → Type 0
-IsClosed old new pairs = AllByRecursion (λ (p : Pair). AllByRecursion (λ (c : Pair). IsAmong c pairs) (children old new p)) pairs
+IsClosed old new = AreClosed (children old new)

@@ -1,10 +1,15 @@
 //! The search: for a pair of types the shortest message that breaks, and the table of bounds that shows it.
 #![tactic(auto)]
 
+mod arcs;
+mod least_bounds;
+mod queue;
 mod reached;
+mod relaxing;
 mod searching;
 mod settling;
 mod witness;
 
+pub use least_bounds::{one_solution, settle};
 pub use searching::{Found, find, search};
 pub use witness::{Step, way};

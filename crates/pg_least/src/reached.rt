@@ -1,12 +1,13 @@
 //! The pairs that a root pair leads to.
 
-ghost use Rattle.std.specs.Prelude.{◌≡◌, ◌++◌, IfOk, OnOk};
+ghost use Rattle.std.specs.Prelude.{◌≡◌, ◌++◌, true, IfOk, OnOk};
+ghost use Rattle.std.specs.List.{AllByRecursion};
 ghost use Rattle.pg_schema.specs.Parts.{shape_of};
-ghost use Rattle.pg_pairs.specs.Covering.{distinct};
-ghost use Rattle.pg_least.specs.Pairs.{AreSeen, IsClosed};
-ghost use Rattle.pg_least.specs.Reached.{IsReachedInOrder};
+ghost use Rattle.pg_pairs.specs.Covering.{children, distinct};
+ghost use Rattle.pg_pairs.specs.Reached.{IsReachedInOrder};
+ghost use Rattle.pg_least.specs.Pairs.{AreClosed, AreSeen, IsClosed};
 
-use pg_pairs::{Pair, children, one_pair_more};
+use pg_pairs::{Pair, Prices, children, one_pair_more};
 use pg_schema::Schema;
 use std::alloc::{AllocError, Global};
 use std::collections::HashSet;
@@ -40,7 +41,7 @@ pub(crate) fn reached(
     new: &Schema,
     root: Pair,
 ) -> Result<Vec<Pair>, AllocError>
-    ensures in_order { IfOk result (λ pairs. IsReachedInOrder (shape_of old.now) (shape_of new.now) root pairs.items) }
+    ensures in_order { IfOk result (λ pairs. IsReachedInOrder (children (shape_of old.now) (shape_of new.now)) root pairs.items) }
     ensures once { IfOk result (λ pairs. distinct pairs.items ≡ pairs.items) }
     ensures closed { IfOk result (λ pairs. IsClosed (shape_of old.now) (shape_of new.now) pairs.items) }
 {
@@ -53,6 +54,34 @@ pub(crate) fn reached(
             break;
         };
         let found = children(alloc, old, new, pair)?;
+        add_unseen(&mut pairs, &mut seen, &found)?;
+    }
+    Ok(pairs)
+}
+
+/// The same of a graph that knows the root. It knows them all.
+///
+/// Refused only where memory is.
+pub(crate) fn reached_in<G: Prices>(
+    alloc: Global,
+    graph: &G,
+    root: Pair,
+) -> Result<Vec<Pair>, AllocError>
+    requires { G.is_known graph.now root ≡ true }
+    ensures in_order { IfOk result (λ pairs. IsReachedInOrder (G.children_of graph.now) root pairs.items) }
+    ensures once { IfOk result (λ pairs. distinct pairs.items ≡ pairs.items) }
+    ensures closed { IfOk result (λ pairs. AreClosed (G.children_of graph.now) pairs.items) }
+    ensures known { IfOk result (λ pairs. AllByRecursion (λ p. G.is_known graph.now p ≡ true) pairs.items) }
+{
+    one_pair_more();
+    let mut pairs = Vec::new(alloc);
+    let mut seen = HashSet::new(alloc);
+    add_unseen(&mut pairs, &mut seen, &[root])?;
+    for at in 0..usize::MAX {
+        let Some(pair) = pairs.get(at).copied() else {
+            break;
+        };
+        let found = graph.children(alloc, pair)?;
         add_unseen(&mut pairs, &mut seen, &found)?;
     }
     Ok(pairs)

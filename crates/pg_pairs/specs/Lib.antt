@@ -19,3 +19,5 @@ pub mod FieldCosts
 pub mod ElementGaps
 pub mod LeastCosts
 pub mod SmallPairs
+pub mod Works
+pub mod Reached

@@ -8,6 +8,7 @@ mod choice;
 mod comparing;
 mod cost;
 mod descent;
+mod edge;
 mod element;
 mod field_choice;
 mod gap_cost;
@@ -19,15 +20,18 @@ mod least_cost;
 mod least_member;
 mod member;
 mod option_list;
+mod prices;
 mod scalar_gap;
 mod shown;
 mod table;
 mod view;
+mod work;
 
 pub use breaking::breaks;
 pub use carrying::carry;
 pub use choice::{Choice, Pair};
 pub use descent::{children, choice_child};
+pub use edge::{Edge, Part};
 pub use gap_kind::Gap;
 pub use laws::{
     cheapest_is_least, children_cost, contents_cost, covering_bounds, each_child_costs_less,
@@ -38,6 +42,8 @@ pub use laws::{
 };
 pub use least_cost::cheapest;
 pub use option_list::options;
+pub use prices::Prices;
 pub use scalar_gap::gap;
 pub use table::Table;
 pub use view::{Numbers, View, sees};
+pub use work::Work;

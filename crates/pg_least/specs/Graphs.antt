@@ -1,0 +1,43 @@
+-- Arcs of a graph.
+use Rattle.std.specs.Prelude.{◌≡◌, ℕ, ◌+◌, ◌<◌, nat_eq, List, length, filter, slice_index_or, [], ◌∷◌, suc, Bool, true, false, is_some, Option, Some, Vec}
+use Rattle.std.specs.List.{AllByRecursion}
+use Rattle.pg_pairs.specs.declared.choice.Pair.{Pair}
+use Rattle.pg_pairs.specs.declared.edge.Edge.{Edge}
+use Rattle.pg_pairs.specs.declared.work.Work.{Work}
+use Rattle.pg_least.specs.declared.arcs.Arc.{Arc}
+use Rattle.pg_pairs.specs.Among.{IsAmong}
+use Rattle.pg_least.specs.Relaxing.{Arcs, cost_at, is_set}
+
+-- what an arc costs is what its edge does
+abbrev pub arcs_by : (Edge → ℕ → Option ℕ) → Arcs Arc
+arcs_by price = record { from = λ a. a.from; child = λ a. a.child; price = λ a. price a.edge }
+
+-- an edge of a known pair, between two of the places
+pub record IsArc (is_known : Pair → Bool) (edges_of : Pair → List Edge) (places : ℕ) (arc : Arc) : Type 0 where
+  pub known : is_known arc.edge.from ≡ true
+  pub edge : IsAmong arc.edge (edges_of arc.edge.from)
+  pub from : arc.from < places
+  pub child : arc.child < places
+
+abbrev pub arcs_to : List Arc → ℕ → List Arc
+arcs_to arcs at = filter (λ (a : Arc). nat_eq a.child at) arcs
+
+-- the arcs to settled places
+abbrev pub arcs_to_numbers : List Arc → List (Option ℕ) → List Arc
+arcs_to_numbers arcs costs = filter (λ (a : Arc). is_some (cost_at costs a.child)) arcs
+
+abbrev pub relaxed_by : ℕ → Work → Work
+relaxed_by n work = record { settled = work.settled; relaxed = work.relaxed + n; opened = work.opened }
+
+-- each place's list has the arcs to it
+abbrev pub IsTurned : {S : Type 0} → List Arc → List (Vec Arc S) → Type 0
+IsTurned {S} arcs turned = (at : ℕ) (d : Vec Arc S) → at < length turned → (slice_index_or turned at d).items ≡ arcs_to arcs at
+
+abbrev pub arcs_to_settled : List Arc → List Bool → List Arc
+arcs_to_settled arcs settled = filter (λ (a : Arc). is_set settled a.child) arcs
+
+-- how many places are left
+abbrev pub left : List Bool → ℕ
+left [] = 0
+left (true ∷ settled) = left settled
+left (false ∷ settled) = suc (left settled)
