@@ -1,25 +1,22 @@
 //! The promises of `pg_gate`, said again of calls of it: the edits of `must-fail` turn each answer, and every one must be refused.
+//! Clauses that no edit here turns, such as what a source's reads leave, aren't said again.
 #![tactic(auto)]
 
-mod printed;
 mod replies;
 mod sinks;
 
-ghost use Rattle.std.specs.Prelude.{◌≡◌, ◌≢◌, ◌+◌, None, Err, codes, IfErr, IfOk, IsErrOf};
+ghost use Rattle.std.specs.Prelude.{◌≡◌, ◌≢◌, None, Err, codes, IfErr, IfOk};
 ghost use Rattle.clap.specs.Walk.{texts};
 ghost use Rattle.pg_gate.specs.Answer.{IsAnswer, IsRefusedRoot, Lacks};
 ghost use Rattle.pg_gate.specs.Call.{call_of};
 ghost use Rattle.pg_gate.specs.Files.{paths_of};
 ghost use Rattle.pg_gate.specs.Grants.{Grants, IsAnswerOfFiles, IsGateError, files_at, seen};
-ghost use Rattle.pg_gate.specs.Run.{Begins, IsRunError, Prints, failures_in};
+ghost use Rattle.pg_gate.specs.Run.{Prints};
 ghost use Rattle.pg_gate.specs.declared.error.GateError.TheVariants as errors;
 
 use pg_gate::{Answer, GateError, Sink};
 use pg_link::Sources;
 use pg_schema::Schema;
-pub use printed::{
-    digits, hex, location, named_field, refusal, report, side, step, steps, verified,
-};
 pub use replies::{into_text, status};
 pub use sinks::{buffer, buffer_of, output, print, put, write_all};
 use std::alloc::Global;
@@ -53,11 +50,6 @@ pub fn gate_files<S: Sources, T: Sources>(
         (seen (S.may_give old.old) (S.may_lack old.old) (S.failures old.old) (S.failures old.new))
         (seen (T.may_give new.old) (T.may_lack new.old) (T.failures new.old) (T.failures new.new))
         (files_at (codes ".") (paths_of old_roots.now)) (files_at (codes ".") (paths_of new_roots.now))) }
-    // The sources' reads leave what they may give and lack.
-    ensures old_given { S.may_give old.new ≡ S.may_give old.old }
-    ensures old_lacked { S.may_lack old.new ≡ S.may_lack old.old }
-    ensures new_given { T.may_give new.new ≡ T.may_give new.old }
-    ensures new_lacked { T.may_lack new.new ≡ T.may_lack new.old }
 {
     pg_gate::gate_files(alloc, old, new, old_roots, new_roots, root)
 }
@@ -78,21 +70,6 @@ pub fn run<S: Sources, T: Sources, W: Sink>(
         (Grants (seen (S.may_give old.old) (S.may_lack old.old) (S.failures old.old) (S.failures old.new))
         (seen (T.may_give new.old) (T.may_lack new.old) (T.failures new.old) (T.failures new.new)))
         (texts words.now) status (W.taken sink.old) (W.taken sink.new)) }
-
-    // A sink that fails took a beginning of it, and memory that fails leaves the sink alone.
-    ensures begun { IsErrOf result GateError.WriteFailed → call_of (texts words.now) ≢ None → Begins
-        (Grants (seen (S.may_give old.old) (S.may_lack old.old) (S.failures old.old) (S.failures old.new))
-        (seen (T.may_give new.old) (T.may_lack new.old) (T.failures new.old) (T.failures new.new)))
-        (texts words.now) (W.taken sink.old) (W.taken sink.new) }
-    ensures only { IfErr result IsRunError }
-    ensures untouched { IsErrOf result GateError.Memory → W.taken sink.new ≡ W.taken sink.old }
-    ensures counted { W.failures sink.new ≡ W.failures sink.old + failures_in result }
-
-    // The sources' reads leave what they may give and lack.
-    ensures old_given { S.may_give old.new ≡ S.may_give old.old }
-    ensures old_lacked { S.may_lack old.new ≡ S.may_lack old.old }
-    ensures new_given { T.may_give new.new ≡ T.may_give new.old }
-    ensures new_lacked { T.may_lack new.new ≡ T.may_lack new.old }
 {
     pg_gate::run(alloc, words, old, new, sink)
 }

@@ -1,5 +1,4 @@
 //! The calls of the gate by themselves, beside the runs of the program.
-use crate::runs::file_of;
 use pg_gate::{Answer, GateError, Side, gate, gate_files};
 use pg_link::Listed;
 use pg_schema::{
@@ -113,6 +112,11 @@ fn a_gate_refuses_a_missing_root(rt: HostRuntime) -> Result<(), Fail> {
     let missing = answer_of(rt.alloc(), Scalar::Int32, Scalar::Uint32, "N")?;
     assert!(rt; matches!(missing, Err(GateError::RootMissingOld)));
     Ok(())
+}
+
+/// A file that holds the message `M` of these fields.
+fn file_of(alloc: Global, fields: &str) -> Result<String, AllocError> {
+    format!(in alloc; "syntax = \"proto3\";\nmessage M {{ {fields} }}\n")
 }
 
 /// The answer over files that hold the message `M` of these fields.

@@ -1,38 +1,165 @@
-//! Runs of the program over files in memory, and what is expected of them. `run` is called at one place: each call of it takes
-//! the prover long, for its contract.
+//! Runs of the program over files in memory, one of each subcommand at least, and what they print. `run` is called at one place:
+//! each call of it takes the prover long, for its contract.
 use pg_gate::{Buffer, GateError, Sink, Sources, run};
 use pg_link::Listed;
 use std::alloc::{AllocError, Global};
-use std::process::Abort;
-use std::test::Fail;
 
-/// The words of a gate on `o.proto` and `n.proto`.
-pub(crate) static WORDS: [&str; 7] = [
-    "gate", "--old", "o.proto", "--new", "n.proto", "--type", "M",
+/// The set of `message M { int32 a = 1; }`, as protoc writes it.
+const ONE: &[u8] =
+    b"\x0a\x24\x0a\x07m.proto\x22\x11\x0a\x01M\x12\x0c\x0a\x01a\x18\x01\x20\x01\x28\x05R\x01ab\x06proto3";
+
+/// The same with a field of type `uint32`.
+const UNSIGNED: &[u8] =
+    b"\x0a\x24\x0a\x07m.proto\x22\x11\x0a\x01M\x12\x0c\x0a\x01a\x18\x01\x20\x01\x28\x0dR\x01ab\x06proto3";
+
+/// The files of either side.
+pub(crate) static FILES: [(&str, &[u8]); 15] = [
+    (
+        "m.proto",
+        b"syntax = \"proto3\";\nmessage M { int32 a = 1; }\n",
+    ),
+    (
+        "u.proto",
+        b"syntax = \"proto3\";\nmessage M { uint32 a = 1; }\n",
+    ),
+    (
+        "f.proto",
+        b"syntax = \"proto3\";\nmessage M { int32 a = 0; }\n",
+    ),
+    (
+        "p.proto",
+        b"syntax = \"proto3\";\nimport \"m.proto\";\nmessage P { P next = 1; M m = 7; }\n",
+    ),
+    (
+        "q.proto",
+        b"syntax = \"proto3\";\nimport \"u.proto\";\nmessage P { P next = 1; M m = 7; }\n",
+    ),
+    (
+        "k.proto",
+        b"syntax = \"proto3\";\nmessage K { int32 a = 1; int32 b = 2; }\n",
+    ),
+    (
+        "l.proto",
+        b"syntax = \"proto3\";\nmessage K { oneof o { int32 a = 1; int32 b = 2; } }\n",
+    ),
+    (
+        "d/a.proto",
+        b"syntax = \"proto3\";\nimport \"b.proto\";\nmessage M { N n = 1; }\n",
+    ),
+    ("d/b.proto", b"syntax = \"proto3\";\nmessage N { }\n"),
+    (
+        "e/a.proto",
+        b"syntax = \"proto3\";\nimport \"b.proto\";\nmessage M { p.N n = 1; }\n",
+    ),
+    (
+        "e/b.proto",
+        b"syntax = \"proto3\";\npackage p;\nmessage N { sint32 s = 3; }\n",
+    ),
+    ("o.pb", ONE),
+    ("n.pb", UNSIGNED),
+    (
+        "c",
+        b"protogate-certificate 1\nroot M M\npair M M 11\nwitness 08ffffffffffffffffff01\nend\n",
+    ),
+    (
+        "none",
+        b"protogate-certificate 1\nroot M M\npair M M none\nwitness none\nend\n",
+    ),
 ];
 
-/// The words of a gate on a message that no text declares.
-pub(crate) static MISSING: [&str; 7] = [
-    "gate", "--old", "o.proto", "--new", "n.proto", "--type", "Z",
+/// Words, what is printed, and the status.
+pub(crate) static CALLS: [(&[&str], &str, u8); 15] = [
+    (
+        &["compile", "m.proto"],
+        "\x0a\x24\x0a\x07m.proto\x22\x11\x0a\x01M\x12\x0c\x0a\x01a\x18\x01\x20\x01\x28\x05R\x01ab\x06proto3",
+        0,
+    ),
+    // Two files, as protoc writes them.
+    (
+        &["compile", "--dir=d", "a.proto"],
+        "\x0a\x16\x0a\x07b.proto\x22\x03\x0a\x01Nb\x06proto3\x0a\x31\x0a\x07a.proto\x1a\x07b.proto\x22\x15\x0a\x01M\x12\x10\x0a\x01n\x18\x01\x20\x01\x28\x0b2\x02.NR\x01nb\x06proto3",
+        0,
+    ),
+    (
+        &["show", "--file=m.proto", "--type=M", "0805120178"],
+        "1 a int 5\nunknown 120178\nagain 0805120178\n",
+        0,
+    ),
+    (
+        &["show", "--dir=e", "--file=a.proto", "--type=M", "0a021803"],
+        "1 n msg\n  3 s int -2\nagain 0a021803\n",
+        0,
+    ),
+    (
+        &["verify", "--old=m.proto", "--new=u.proto", "c"],
+        "breaks M 11\n",
+        1,
+    ),
+    (
+        &["verify", "--old=m.proto", "--new=m.proto", "none"],
+        "compatible M\n",
+        0,
+    ),
+    (
+        &["verify", "--old=u.proto", "--new=m.proto", "c"],
+        "refused E804 M M 1 2\n",
+        2,
+    ),
+    (
+        &["gate", "--old=m.proto", "--new=m.proto", "--type=M"],
+        "compatible M\n",
+        0,
+    ),
+    (
+        &[
+            "gate",
+            "--old=m.proto",
+            "--new=u.proto",
+            "--type=M",
+            "--both",
+        ],
+        "forward\nbreaks M 11\nwitness 08ffffffffffffffffff01\nstep 1 M.a m.proto:2:19 M.a u.proto:2:20\nbackward\nbreaks M 6\nwitness 088080808008\nstep 1 M.a u.proto:2:20 M.a m.proto:2:19\n",
+        1,
+    ),
+    (
+        &[
+            "gate",
+            "--old=m.proto",
+            "--new=u.proto",
+            "--type=M",
+            "--cert",
+        ],
+        "protogate-certificate 1\nroot M M\npair M M 11\nwitness 08ffffffffffffffffff01\nend\n",
+        1,
+    ),
+    // Through a message of a file that is imported, in a type that leads back to itself.
+    (
+        &["gate", "--old=p.proto", "--new=q.proto", "--type=P"],
+        "breaks P 13\nwitness 3a0b08ffffffffffffffffff01\nstep 7 P.m p.proto:3:27 P.m q.proto:3:27\nstep 1 M.a m.proto:2:19 M.a u.proto:2:20\n",
+        1,
+    ),
+    // Two fields that meet in a oneof.
+    (
+        &["gate", "--old=k.proto", "--new=l.proto", "--type=K"],
+        "breaks K 4\nwitness 08011001\nstep 1 K.a k.proto:2:19 K.a l.proto:2:29\nstep 2 K.b k.proto:2:32 K.b l.proto:2:42\n",
+        1,
+    ),
+    (
+        &["gate", "--old=o.pb", "--new=n.pb", "--type=M"],
+        "breaks M 11\nwitness 08ffffffffffffffffff01\nstep 1 M.a - M.a -\n",
+        1,
+    ),
+    (
+        &["gate", "--old=m.proto", "--new=f.proto", "--type=M"],
+        "refused new E401 f.proto:2:19\n",
+        2,
+    ),
+    (
+        &["relay"],
+        "error: unrecognized subcommand 'relay'\n\nUsage: protogate <COMMAND>\n\nFor more information, try '--help'.\n",
+        4,
+    ),
 ];
-
-/// The words of a gate that writes the certificate alone.
-pub(crate) static CERTIFICATE: [&str; 8] = [
-    "gate", "--old", "o.proto", "--new", "n.proto", "--type", "M", "--cert",
-];
-
-/// The files of one side: a path and the text there.
-pub(crate) type Files<'a> = &'a [(&'a str, &'a [u8])];
-
-/// A file that holds the message `M` of these fields.
-pub(crate) fn file_of(alloc: Global, fields: &str) -> Result<String, AllocError> {
-    format!(in alloc; "syntax = \"proto3\";\nmessage M {{ {fields} }}\n")
-}
-
-/// A text whose second line is this one.
-pub(crate) fn text_of(alloc: Global, line: &str) -> Result<String, AllocError> {
-    format!(in alloc; "syntax = \"proto3\";\n{line}\n")
-}
 
 /// A sink that needs no more memory for an answer.
 pub(crate) fn buffer(alloc: Global) -> Result<Buffer, AllocError> {
@@ -50,158 +177,13 @@ pub(crate) fn run_over<S: Sources, T: Sources, W: Sink>(
     run(alloc, words, old, new, sink)
 }
 
-/// Runs the program with these words, over these files.
+/// Runs the program with these words, over the files on both sides.
 pub(crate) fn run_files<W: Sink>(
     alloc: Global,
     words: &[&str],
-    old: Files,
-    new: Files,
     sink: &mut W,
 ) -> Result<u8, GateError> {
-    let mut old = Listed { files: old };
-    let mut new = Listed { files: new };
+    let mut old = Listed { files: &FILES };
+    let mut new = old;
     run_over(alloc, words, &mut old, &mut new, sink)
-}
-
-/// The status of a run, and what it printed.
-pub(crate) type Printed = (u8, Vec<u8>);
-
-/// What the program prints with these words, over these sources.
-pub(crate) fn printed_over<S: Sources, T: Sources>(
-    alloc: Global,
-    words: &[&str],
-    old: &mut S,
-    new: &mut T,
-) -> Result<Printed, GateError> {
-    let mut sink = buffer(alloc)?;
-    let ended = run_over(alloc, words, old, new, &mut sink)?;
-    Ok((ended, sink.bytes))
-}
-
-/// What the program prints with these words, over these files.
-pub(crate) fn printed(
-    alloc: Global,
-    words: &[&str],
-    old: Files,
-    new: Files,
-) -> Result<Printed, GateError> {
-    let mut old = Listed { files: old };
-    let mut new = Listed { files: new };
-    printed_over(alloc, words, &mut old, &mut new)
-}
-
-/// Asserts the status and the text of a run.
-pub(crate) fn is_printed(rt: &impl Abort, found: &Printed, text: &str, status: u8) {
-    assert_eq!(rt; found.0, status, "status of {text}");
-    assert!(rt; found.1.as_slice() == text.as_bytes(), "text {text}");
-}
-
-/// Expects the program to print this with these words, over these files, and to end so.
-pub(crate) fn expect_files<R: Abort + AllocGlobal>(
-    rt: &R,
-    words: &[&str],
-    old: Files,
-    new: Files,
-    text: &str,
-    status: u8,
-) -> Result<(), Fail> {
-    let found = printed(rt.alloc(), words, old, new)?;
-    is_printed(rt, &found, text, status);
-    Ok(())
-}
-
-/// The same over these sources.
-pub(crate) fn expect_over<R: Abort + AllocGlobal, S: Sources, T: Sources>(
-    rt: &R,
-    words: &[&str],
-    old: &mut S,
-    new: &mut T,
-    text: &str,
-    status: u8,
-) -> Result<(), Fail> {
-    let found = printed_over(rt.alloc(), words, old, new)?;
-    is_printed(rt, &found, text, status);
-    Ok(())
-}
-
-/// The same on the text `o.proto` of the old side and `n.proto` of the new one.
-pub(crate) fn expect_texts<R: Abort + AllocGlobal>(
-    rt: &R,
-    words: &[&str],
-    old: &str,
-    new: &str,
-    text: &str,
-    status: u8,
-) -> Result<(), Fail> {
-    let old = [("o.proto", old.as_bytes())];
-    let new = [("n.proto", new.as_bytes())];
-    expect_files(rt, words, &old, &new, text, status)
-}
-
-/// Whether the output is this text, with the lines of steps behind it or without.
-fn is_before_steps(output: &[u8], text: &str) -> bool {
-    let Ok(output) = std::str::from_utf8(output) else {
-        return false;
-    };
-    match output.strip_prefix(text) {
-        Some(rest) => rest.is_empty() || rest.starts_with("step "),
-        None => false,
-    }
-}
-
-/// The same of the gate, but for the lines of steps.
-pub(crate) fn expect_before_steps<R: Abort + AllocGlobal>(
-    rt: &R,
-    old: &str,
-    new: &str,
-    text: &str,
-    status: u8,
-) -> Result<(), Fail> {
-    let old = [("o.proto", old.as_bytes())];
-    let new = [("n.proto", new.as_bytes())];
-    let found = printed(rt.alloc(), &WORDS, &old, &new)?;
-    assert_eq!(rt; found.0, status, "status of {text}");
-    assert!(rt; is_before_steps(&found.1, text), "text {text}");
-    Ok(())
-}
-
-/// Expects these words to be no call, and what is said of them to have each of these parts.
-pub(crate) fn says_parts<R: Abort + AllocGlobal>(
-    rt: &R,
-    words: &[&str],
-    parts: &[&str],
-) -> Result<(), Fail> {
-    let (ended, text) = printed(rt.alloc(), words, &[], &[])?;
-    assert_eq!(rt; ended, 4);
-    let text = std::str::from_utf8(&text)?;
-    for part in parts {
-        assert!(rt; text.contains(*part), "{part} in {text}");
-    }
-    Ok(())
-}
-
-/// The same of one part.
-pub(crate) fn says_usage<R: Abort + AllocGlobal>(
-    rt: &R,
-    words: &[&str],
-    part: &str,
-) -> Result<(), Fail> {
-    says_parts(rt, words, &[part])
-}
-
-/// Asserts that a run, where any one request for memory may be refused, ended so and printed this, or wanted memory and left the
-/// sink alone.
-pub(crate) fn is_kept_to_memory(
-    rt: &impl Abort,
-    ended: Result<u8, GateError>,
-    bytes: &[u8],
-    printed: &str,
-    status: u8,
-) {
-    let (wanted, text) = match ended {
-        Err(_) => (Err(GateError::Memory), ""),
-        Ok(_) => (Ok(status), printed),
-    };
-    assert!(rt; ended == wanted);
-    assert!(rt; bytes == text.as_bytes());
 }

@@ -1,0 +1,124 @@
+//! Sources that fail, at each read of each subcommand, and a source that gives too much.
+use crate::FailingSource;
+use crate::runs::{FILES, buffer, run_over};
+use pg_link::Listed;
+use std::process::Abort;
+use std::test::Fail;
+
+/// Words, the read of the old and of the new side that fails, counted from 1 (0 for none), and what is printed: the file that
+/// couldn't be read, whoever imports it.
+static FAILING: [(&[&str], u64, u64, &str); 12] = [
+    (
+        &["gate", "--old=m.proto", "--new=u.proto", "--type=M"],
+        1,
+        0,
+        "refused old E309 m.proto\n",
+    ),
+    (
+        &["gate", "--old=m.proto", "--new=u.proto", "--type=M"],
+        0,
+        1,
+        "refused new E309 u.proto\n",
+    ),
+    (
+        &["gate", "--old=p.proto", "--new=q.proto", "--type=P"],
+        2,
+        0,
+        "refused old E309 m.proto\n",
+    ),
+    (
+        &["gate", "--old=o.pb", "--new=n.pb", "--type=M"],
+        1,
+        0,
+        "refused old E309 o.pb\n",
+    ),
+    (
+        &["gate", "--old=o.pb", "--new=n.pb", "--type=M"],
+        0,
+        1,
+        "refused new E309 n.pb\n",
+    ),
+    (
+        &["verify", "--old=m.proto", "--new=u.proto", "c"],
+        2,
+        0,
+        "refused E309 c\n",
+    ),
+    (
+        &["verify", "--old=m.proto", "--new=u.proto", "c"],
+        1,
+        0,
+        "refused old E309 m.proto\n",
+    ),
+    (
+        &["verify", "--old=m.proto", "--new=u.proto", "c"],
+        0,
+        1,
+        "refused new E309 u.proto\n",
+    ),
+    (
+        &["compile", "--dir=d", "a.proto"],
+        1,
+        0,
+        "refused E309 a.proto\n",
+    ),
+    (
+        &["compile", "--dir=d", "a.proto"],
+        2,
+        0,
+        "refused E309 b.proto\n",
+    ),
+    (
+        &["show", "--dir=e", "--file=a.proto", "--type=M", "0a021803"],
+        1,
+        0,
+        "refused E309 a.proto\n",
+    ),
+    (
+        &["show", "--dir=e", "--file=a.proto", "--type=M", "0a021803"],
+        2,
+        0,
+        "refused E309 b.proto\n",
+    ),
+];
+
+/// Expects this to be printed where those reads fail.
+fn tells<R: Abort + AllocGlobal>(
+    rt: &R,
+    words: &[&str],
+    fails_at: (u64, u64),
+    printed: &str,
+) -> Result<(), Fail> {
+    let mut old = FailingSource::new(Listed { files: &FILES }, fails_at.0);
+    let mut new = FailingSource::new(Listed { files: &FILES }, fails_at.1);
+    let mut sink = buffer(rt.alloc())?;
+    let ended = run_over(rt.alloc(), words, &mut old, &mut new, &mut sink)?;
+    assert_eq!(rt; ended, 3, "status of {printed}");
+    assert!(rt;
+        sink.bytes.as_slice() == printed.as_bytes(),
+        "text {printed}"
+    );
+    Ok(())
+}
+
+#[test]
+fn tells_a_source_that_fails(rt: HostRuntime) -> Result<(), Fail> {
+    for (words, old, new, printed) in FAILING {
+        tells(&rt, words, (old, new), printed)?;
+    }
+    Ok(())
+}
+
+#[test]
+fn refuses_a_text_that_is_too_long(rt: HostRuntime) -> Result<(), Fail> {
+    let words = ["gate", "--old=m.proto", "--new=m.proto", "--type=M"];
+    let text = "// one of the lines that make the text too long\n".repeat(rt.alloc(), 90_000)?;
+    let files = [("m.proto", text.as_bytes())];
+    let mut old = Listed { files: &files };
+    let mut new = Listed { files: &[] };
+    let mut sink = buffer(rt.alloc())?;
+    let ended = run_over(rt.alloc(), &words, &mut old, &mut new, &mut sink)?;
+    assert_eq!(rt; ended, 2);
+    assert!(rt; sink.bytes.as_slice() == b"refused old E108 m.proto:1:1\n".as_slice());
+    Ok(())
+}
