@@ -16,19 +16,31 @@ use std::alloc::{AllocError, Global};
 
 /// What `build` answers.
 pub fn build(alloc: Global, linked: &Linked) -> Result<Schema, CheckError>
-    ensures built { IfOk result (Declares (linked_sources linked.now.files)) }
-    ensures refused { IfErr result (spec.IsRefused (linked_sources linked.now.files)) }
+    ensures { IfOk result (Declares (linked_sources linked.now.files)) }
 {
     pg_check::build(alloc, linked)
+}
+
+/// What `build` refuses.
+pub fn build_refused(alloc: Global, bad: &Linked) -> Result<Schema, CheckError>
+    ensures { IfErr result (spec.IsRefused (linked_sources bad.now.files)) }
+{
+    pg_check::build(alloc, bad)
 }
 
 /// What `admit` answers.
 pub fn admit(alloc: Global, parts: Parts) -> Result<Schema, CheckError>
     ensures admitted { IfOk result (λ schema. schema ≡ parts) }
     ensures sound { OnOk result (IsSound parts) }
-    ensures refused { IfErr result (IsRefusedOf parts) }
 {
     pg_check::admit(alloc, parts)
+}
+
+/// What `admit` refuses.
+pub fn admit_refused(alloc: Global, bad: Parts) -> Result<Schema, CheckError>
+    ensures { IfErr result (IsRefusedOf bad) }
+{
+    pg_check::admit(alloc, bad)
 }
 
 /// What `CheckError::from` answers of a refused growth. Only an edit uses the memory.

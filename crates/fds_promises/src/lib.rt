@@ -32,30 +32,54 @@ pub fn descriptor_schema(alloc: Global) -> Result<Schema, AllocError>
     pg_fds::descriptor_schema(alloc)
 }
 
-/// What `write` answers.
+/// What `write` answers: the set.
 pub fn write(alloc: Global, schema: &Schema) -> Result<Vec<u8>, FdsError>
-    ensures ok { IfOk result (λ bytes. fds schema.now bytes.items) }
-    ensures short { IfOk result (λ bytes. length bytes.items ≤ cap) }
-    ensures stated { IfOk result (λ bytes. IsReadable schema.now → fds_reads bytes.items schema.now) }
-    ensures shallow { IfOk result (λ bytes. are_shallow schema.now ≡ true → IsNotTooDeep bytes.items) }
-    ensures err { IfErr result (λ e. (e ≡ errors.Memory) ⊎ ((e ≡ errors.Bytes faults.TooLong) × HasNoSet schema.now)) }
+    ensures { IfOk result (λ bytes. fds schema.now bytes.items) }
 {
     pg_fds::write(alloc, schema)
 }
 
-/// What `read` answers.
+/// What `write` answers: what is read of the bytes.
+pub fn write_readable(alloc: Global, of: &Schema) -> Result<Vec<u8>, FdsError>
+    ensures short { IfOk result (λ bytes. length bytes.items ≤ cap) }
+    ensures stated { IfOk result (λ bytes. IsReadable of.now → fds_reads bytes.items of.now) }
+    ensures shallow { IfOk result (λ bytes. are_shallow of.now ≡ true → IsNotTooDeep bytes.items) }
+{
+    pg_fds::write(alloc, of)
+}
+
+/// What `write` refuses.
+pub fn write_refused(alloc: Global, too_long: &Schema) -> Result<Vec<u8>, FdsError>
+    ensures { IfErr result (λ e. (e ≡ errors.Memory) ⊎ ((e ≡ errors.Bytes faults.TooLong) × HasNoSet too_long.now)) }
+{
+    pg_fds::write(alloc, too_long)
+}
+
+/// What `read` answers: a schema that the set states.
 pub fn read(alloc: Global, bytes: &[u8]) -> Result<Schema, FdsError>
-    ensures ok { IfOk result (λ schema. fds_reads bytes.now schema) }
-    ensures sound { IfOk result IsSound }
-    ensures places { IfOk result (λ schema. StandInOrder schema) }
-    ensures refused { IfErr result (MayRefuseSet bytes.now) }
-    ensures same { IfOk result (λ schema. (parts : Parts) → IsHeld parts → fds_reads bytes.now parts
-        → parts_view schema ≡ parts_view (in_set_order parts)) }
-    ensures exact { IfOk result (λ schema. (parts : Parts) → CanBeRead parts → fds_reads bytes.now parts
-        → parts_view schema ≡ parts_view parts) }
-    ensures none_stated { IfErr result (NoneIsStated bytes.now) }
+    ensures { IfOk result (λ schema. fds_reads bytes.now schema) }
 {
     pg_fds::read(alloc, bytes)
+}
+
+/// What `read` answers: which of the schemas that the set states.
+pub fn read_alike(alloc: Global, set: &[u8]) -> Result<Schema, FdsError>
+    ensures sound { IfOk result IsSound }
+    ensures places { IfOk result (λ schema. StandInOrder schema) }
+    ensures same { IfOk result (λ schema. (parts : Parts) → IsHeld parts → fds_reads set.now parts
+        → parts_view schema ≡ parts_view (in_set_order parts)) }
+    ensures exact { IfOk result (λ schema. (parts : Parts) → CanBeRead parts → fds_reads set.now parts
+        → parts_view schema ≡ parts_view parts) }
+{
+    pg_fds::read(alloc, set)
+}
+
+/// What `read` refuses.
+pub fn read_refused(alloc: Global, bad: &[u8]) -> Result<Schema, FdsError>
+    ensures refused { IfErr result (MayRefuseSet bad.now) }
+    ensures none_stated { IfErr result (NoneIsStated bad.now) }
+{
+    pg_fds::read(alloc, bad)
 }
 
 /// What `read_again` answers.
@@ -66,8 +90,14 @@ pub fn read_again(alloc: Global, schema: &Schema) -> Result<Schema, FdsError>
     ensures same { IfOk result (λ made. IsReadAgain schema.now → parts_view made ≡ parts_view (in_set_order schema.now)) }
     ensures exact { IfOk result (λ made. IsReadAgain schema.now → StandInOrder schema.now
         → parts_view made ≡ parts_view schema.now) }
-    ensures refused { IfErr result (λ e. IsReadAgain schema.now → (e ≡ errors.Memory) ⊎ IsTooLong schema.now e) }
-    ensures told { IfErr result (MayRefuseAgain schema.now) }
 {
     pg_fds::read_again(alloc, schema)
+}
+
+/// What `read_again` refuses.
+pub fn read_again_refused(alloc: Global, of: &Schema) -> Result<Schema, FdsError>
+    ensures refused { IfErr result (λ e. IsReadAgain of.now → (e ≡ errors.Memory) ⊎ IsTooLong of.now e) }
+    ensures told { IfErr result (MayRefuseAgain of.now) }
+{
+    pg_fds::read_again(alloc, of)
 }

@@ -1,14 +1,11 @@
-//! The written schema beside what protoc writes.
+//! What no row can say: the written schema itself, schemas of texts beside protoc's bytes, want of memory, and the place of a fault.
 
-mod again;
-mod enum_places;
-mod read;
-mod sets;
-mod written;
-
-use pg_dyn::{decode, encode};
-use pg_fds::descriptor_schema;
-use pg_schema::{Schema, TypeId};
+use pg_check::build;
+use pg_dyn::{DynError, decode, encode};
+use pg_fds::{FdsError, descriptor_schema, read, read_again, write};
+use pg_link::{LinkError, Linked, Listed, link};
+use pg_schema::{Element, EnumId, Schema, TypeId};
+use pg_wire::WireError;
 use std::alloc::Global;
 use std::test::Fail;
 
@@ -60,71 +57,117 @@ const ALL_KINDS: &[u8] = b"\
     M\x1a\x08.p.q.M.N\x22\x03\x88\x02\x01(\x010\x01\x12%\x0a\x03Ask\x12\x06.p.q.M\x1a\x16.goog\
     le.protobuf.Empty\x1a\x03\x88\x02\x01B\x08\x0a\x01jH\x02\xb8\x01\x00P\x00b\x06proto3";
 
+// `protoc --descriptor_set_out=m.pb m.proto` of three texts: what is declared in them, and the bytes.
+const TEXTS: &[(&str, &[u8])] = &[
+    ("message M { int32 a = 1; }", ONE_FIELD),
+    (
+        "message M { map<string, int32> a = 1; optional int32 b = 2; }",
+        b"\x0a\x7e\x0a\x07m.proto\x22\x6b\x0a\x01M\x12\x17\x0a\x01a\x18\x01\x20\x03\x28\x0b\x32\x09.M.AEntry\x52\x01a\x12\x11\x0a\x01b\x18\x02\x20\x01\x28\x05\x48\x00\x52\x01b\x88\x01\x01\x1a\x34\x0a\x06AEntry\x12\x10\x0a\x03key\x18\x01\x20\x01\x28\x09\x52\x03key\x12\x14\x0a\x05value\x18\x02\x20\x01\x28\x05\x52\x05value\x3a\x02\x38\x01\x42\x04\x0a\x02_b\x62\x06proto3",
+    ),
+    (
+        "enum E { A = 0; } message M { enum F { B = 0; } F f = 1; E e = 2; }",
+        TWO_ENUMS,
+    ),
+];
+
+const TWO_ENUMS: &[u8] =
+    b"\x0aT\x0a\x07m.proto\x225\x0a\x01M\x12\x12\x0a\x01f\x18\x01 \x01(\x0e2\x04.M.FR\x01f\x12\x10\x0a\x01e\x18\x02 \x01(\x0e2\x02.ER\x01e\x22\x0a\x0a\x01F\x12\x05\x0a\x01B\x10\x00*\x0a\x0a\x01E\x12\x05\x0a\x01A\x10\x00b\x06proto3";
+
 // Whether the schema reads the bytes, each record into a field, and writes them again.
 fn keeps(alloc: Global, schema: &Schema, bytes: &[u8]) -> Result<bool, Fail> {
     if !schema.has(FILE_SET) {
         return Ok(false);
     }
     let set = decode(alloc, schema, FILE_SET, bytes, 100)?;
-    if !set.unknown().is_empty() {
-        return Ok(false);
-    }
     let again = encode(alloc, schema, &set)?;
-    Ok(again.as_slice() == bytes)
+    Ok(set.unknown().is_empty() && again.as_slice() == bytes)
 }
 
-fn name_of(alloc: Global, schema: &Schema, name: &str, number: u32) -> Result<String, Fail> {
-    let id = schema.message(name).ok_or("no type")?;
-    let field = schema.field(id, number).ok_or("no field")?;
-    Ok(field.name.clone()?)
+fn has_field(schema: &Schema, message: &str, number: u32, name: &str) -> bool {
+    schema
+        .message(message)
+        .and_then(|id| schema.field(id, number))
+        .is_some_and(|field| field.name.as_str() == name)
 }
 
 #[test]
-fn fields_by_name(rt: HostRuntime) -> Result<(), Fail> {
+fn written_schema(rt: HostRuntime) -> Result<(), Fail> {
     let alloc = rt.alloc();
     let schema = descriptor_schema(alloc)?;
-    let rows = [
-        ("google.protobuf.FileDescriptorSet", 1, "file"),
-        (
-            "google.protobuf.FileDescriptorProto",
-            10,
-            "public_dependency",
-        ),
-        ("google.protobuf.DescriptorProto", 8, "oneof_decl"),
-        ("google.protobuf.DescriptorProto.ReservedRange", 2, "end"),
-        (
-            "google.protobuf.FieldDescriptorProto",
-            17,
-            "proto3_optional",
-        ),
-        (
-            "google.protobuf.MethodDescriptorProto",
-            6,
-            "server_streaming",
-        ),
-        ("google.protobuf.FileOptions", 45, "ruby_package"),
-        ("google.protobuf.MethodOptions", 33, "deprecated"),
-    ];
-    for (message, number, name) in rows {
-        let found = name_of(alloc, &schema, message, number)?;
-        assert_eq!(rt; found.as_str(), name);
+    for (message, number, name) in [
+        ("FileDescriptorSet", 1, "file"),
+        ("FileDescriptorProto", 10, "public_dependency"),
+        ("DescriptorProto", 8, "oneof_decl"),
+        ("DescriptorProto.ReservedRange", 2, "end"),
+        ("FieldDescriptorProto", 17, "proto3_optional"),
+        ("MethodDescriptorProto", 6, "server_streaming"),
+        ("FileOptions", 45, "ruby_package"),
+        ("MethodOptions", 33, "deprecated"),
+    ] {
+        let full = format!(in alloc; "google.protobuf.{message}")?;
+        assert!(rt; has_field(&schema, full.as_str(), number, name));
+    }
+    for bytes in [ONE_FIELD, ALL_KINDS] {
+        assert!(rt; keeps(alloc, &schema, bytes)?);
     }
     Ok(())
 }
 
-#[test]
-fn sets_of_protoc(rt: HostRuntime) -> Result<(), Fail> {
-    let alloc = rt.alloc();
-    let schema = descriptor_schema(alloc)?;
-    assert!(rt; keeps(alloc, &schema, ONE_FIELD)?);
-    assert!(rt; keeps(alloc, &schema, ALL_KINDS)?);
-    Ok(())
+// The links of a file `m.proto` of this text.
+fn linked(alloc: Global, text: &[u8]) -> Result<Linked, LinkError> {
+    let files = [("m.proto", text)];
+    link(alloc, &mut Listed { files: &files }, ".", &["m.proto"])
+}
+
+// The schema of a file `m.proto` that declares this.
+fn schema_of(alloc: Global, declared: &str) -> Result<Schema, Fail> {
+    let text = format!(in alloc; "syntax = \"proto3\"; {declared}")?;
+    let linked = linked(alloc, text.as_bytes())?;
+    Ok(build(alloc, &linked)?)
 }
 
 #[test]
-fn no_rule_refuses_it(rt: HostRuntime) -> Result<(), Fail> {
+fn schemas_of_texts(rt: HostRuntime) -> Result<(), Fail> {
     let alloc = rt.alloc();
-    let made = descriptor_schema(alloc);
-    assert!(rt; made.is_ok());
+    for (declared, bytes) in TEXTS {
+        let schema = schema_of(alloc, declared)?;
+        assert_eq!(rt; write(alloc, &schema)?.as_slice(), *bytes);
+        let made = read_again(alloc, &schema)?;
+        assert_eq!(rt; write(alloc, &made)?.as_slice(), *bytes);
+        assert!(rt; made.parts() == read(alloc, bytes)?.parts());
+    }
+    Ok(())
+}
+
+// A set lists the enums of message types first, so an enum that the text has in front of them stands behind them once it is read again.
+#[test]
+fn places_of_enums(rt: HostRuntime) -> Result<(), Fail> {
+    let alloc = rt.alloc();
+    let made = read(alloc, TWO_ENUMS)?;
+    let first = made.parts().enums.first();
+    assert_eq!(rt; first.map(|one| one.name.as_str()), Some("M.F"));
+    let field = made.field(TypeId { index: 0 }, 1);
+    assert!(rt; field.map(|one| one.element) == Some(Element::Enum(EnumId { index: 0 })));
+    Ok(())
+}
+
+// What is written of the schema that the bytes state, once it was written and read again.
+fn written_twice(alloc: Global, bytes: &[u8]) -> Result<Vec<u8>, FdsError> {
+    let schema = read(alloc, bytes)?;
+    let made = read_again(alloc, &schema)?;
+    write(alloc, &made)
+}
+
+// Each growth refused in turn, by `tools/try_memory.sh`; and what a set that is cut off is refused with, to the place.
+#[test]
+fn calls_without_memory(rt: HostRuntime) -> Result<(), Fail> {
+    let alloc = rt.alloc();
+    match written_twice(alloc, ONE_FIELD) {
+        Ok(bytes) => assert_eq!(rt; bytes.as_slice(), ONE_FIELD),
+        Err(error) => assert_eq!(rt; error, FdsError::Memory),
+    }
+    let told = written_twice(alloc, &ONE_FIELD[..37]).err();
+    let cut = FdsError::Bytes(DynError::Wire(WireError::Truncated { at: 0 }));
+    assert!(rt; told == Some(FdsError::Memory) || told == Some(cut));
     Ok(())
 }

@@ -8,6 +8,6 @@ mod sources;
 pub use counts::{add, note, note_path, path_record, record, tally};
 pub use linked::{files, place, resolve, targets, targets_by_place};
 pub use sources::{
-    folder, folder_read, link, link_below, link_error_of, link_error_of_failed, listed_read,
-    place_in, read_file, source_error_of, source_error_of_failed,
+    folder, folder_read, link, link_below, link_error_of, link_error_of_failed, link_refused,
+    listed_read, place_in, read_file, source_error_of, source_error_of_failed,
 };

@@ -39,7 +39,6 @@ pub fn link_below<S: Sources>(
 ) -> Result<Linked, LinkError>
     ensures linked { IfOk result (λ linked. spec.IsLinked (spec.world (S.may_give source.old) (S.may_lack source.old) folder.now (texts roots.now)) linked.files) }
     ensures settled { IfOk result IsLinkedUp }
-    ensures refused { IfErr result (LinkRefuses (spec.world (S.may_give source.old) (S.may_lack source.old) folder.now (texts roots.now))) }
     ensures reads_apart { ReadsApart (S.reads source.old) (S.reads source.new) }
     ensures reads_each { IfOk result (λ linked. ReadsEach folder.now (S.reads source.old) (S.reads source.new) linked.files) }
     ensures counted { S.failures source.new ≡ S.failures source.old + spec.failures_of result }
@@ -47,6 +46,18 @@ pub fn link_below<S: Sources>(
     ensures same_lacked { S.may_lack source.new ≡ S.may_lack source.old }
 {
     pg_link::link_below(alloc, source, folder, roots)
+}
+
+/// What `link` refuses.
+pub fn link_refused<S: Sources>(
+    alloc: Global,
+    source: &mut S,
+    folder: &str,
+    bad: &[&str],
+) -> Result<Linked, LinkError>
+    ensures { IfErr result (LinkRefuses (spec.world (S.may_give source.old) (S.may_lack source.old) folder.now (texts bad.now))) }
+{
+    pg_link::link_below(alloc, source, folder, bad)
 }
 
 /// What `read_file` answers.
