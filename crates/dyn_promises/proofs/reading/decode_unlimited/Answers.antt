@@ -1,0 +1,11 @@
+use Rattle.std.proofs.Common.{rules}
+use Rattle.dyn_promises.proofs.reading.decode_unlimited.Goals as goal
+
+pub returns-clause-message : goal.returns-clause-message
+returns-clause-message c = search rules
+
+pub returns-clause-fits : goal.returns-clause-fits
+returns-clause-fits c = search rules
+
+pub returns-clause-lacking : goal.returns-clause-lacking
+returns-clause-lacking c = search rules

@@ -1,0 +1,14 @@
+use Rattle.std.proofs.Common.{rules}
+use Rattle.schema_promises.proofs.from_parts.Goals as goal
+
+pub returns-clause-schema : goal.returns-clause-schema
+returns-clause-schema c = search rules
+
+pub returns-clause-checked : goal.returns-clause-checked
+returns-clause-checked c = search rules
+
+pub returns-clause-back : goal.returns-clause-back
+returns-clause-back c = search rules
+
+pub returns-clause-broken : goal.returns-clause-broken
+returns-clause-broken c = search rules
