@@ -1,5 +1,5 @@
 -- What a search answers, as the gate's answer; and this as the answer of two sides.
-use Rattle.std.proofs.Common.{◌≡◌, ◌∙◌, ℕ, List, length, Bool, true, false, ◌&&◌, Option, Some, None, refl, ap, sym, subst, option_and_then, is_some}
+use Rattle.std.proofs.Common.{◌≡◌, ◌∙◌, ℕ, List, length, Bool, true, false, ◌&&◌, Option, Some, None, refl, ap, sym, subst, option_and_then, is_some, Result, IfErr}
 use Rattle.std.proofs.lemmas.Slice.Eq.{bytes_eq-Decides}
 use Rattle.clap.specs.Words.{Text}
 use Rattle.pg_schema.specs.declared.parts.Parts.{Parts}
@@ -19,9 +19,16 @@ use Rattle.pg_cert.specs.Bounds.{bound_in}
 use Rattle.pg_cert.specs.Certificate.{Claim, IsWitnessedIfThere}
 use Rattle.pg_cert.specs.Text.{IsClaimOf}
 use Rattle.pg_least.specs.Exact.{IsBesideClaim, IsSearched, IsWitnessMessage}
-use Rattle.pg_gate.specs.Answer.{AreRoots, IsAnswer, IsBroken, IsCompatible, IsLost, IsRefusedRoot, NewSees, OldWrites, certificate_of}
+use Rattle.pg_gate.specs.Answer.{AreRoots, IsAnswer, IsBroken, IsCompatible, IsLost, IsRefusedRoot, Lacks, NewSees, OldWrites, certificate_of}
 use Rattle.pg_gate.specs.Call.{Request, compile, gate, show, verify}
-use Rattle.pg_gate.specs.Grants.{Between, Grants, IsAnswerOfFiles, IsFindingOf, IsGateError, IsGateReply, IsReplyFor, IsSideSchema, Seen, SideFiles, Tells}
+use Rattle.pg_gate.specs.Files.{IsFaultOfSide, IsSide, IsSideError}
+use Rattle.pg_gate.specs.Grants.{Between, Counted, Grants, IsAnswerOfFiles, IsErrorFor, IsFindingOf, IsGateError, IsGateReply, IsReplyFor, IsSidesError, IsSidesFault, Seen, Tells}
+use Rattle.pg_gate.specs.Refusals.{refusal_for, refusal_of}
+use Rattle.pg_gate.specs.declared.call_error.CallError.{CallError}
+use Rattle.pg_gate.specs.declared.call_error.CallError.TheVariants as calls
+use Rattle.pg_gate.specs.declared.error.Side.TheVariants as sides
+use Rattle.pg_gate.specs.declared.refusal.Refusal.{Refusal}
+use Rattle.pg_link.specs.Walk.{World}
 use Rattle.pg_gate.specs.declared.answer.Answer.{Answer}
 use Rattle.pg_gate.specs.declared.answer.Answer.TheVariants as answers
 use Rattle.pg_gate.specs.declared.error.GateError.{GateError}
@@ -30,6 +37,9 @@ use Rattle.pg_gate.specs.declared.reply.Finding.{Finding}
 use Rattle.pg_gate.specs.declared.reply.Finding.TheVariants as findings
 use Rattle.pg_gate.specs.declared.reply.Reply.{Reply}
 use Rattle.pg_gate.specs.declared.reply.Reply.TheVariants as replies
+use Rattle.pg_gate.specs.Errors.{failures_at, failures_by}
+use Rattle.pg_gate.specs.declared.error.Side.{Side}
+use Rattle.pg_gate.proofs.ErrorLemmas.{error-weaker, none_counted, of_none}
 use Rattle.pg_gate.proofs.Ranges.{searched_there}
 use Rattle.pg_gate.proofs.Roots.{named_there}
 
@@ -199,48 +209,85 @@ found_roots old new root true (findings.Verified verified) is = absurd is
 -- so the other direction is refused for no root
 pub backward_refused : (old new : Parts) (root : Text) (certificate_only : Bool) (finding : Finding) → IsFindingOf old new root certificate_only finding
     → (error : GateError) → IsRefusedRoot new old root error → IsRefusedRoot old new root error
-backward_refused old new root certificate_only finding found errors.Memory is = tt
-backward_refused old new root certificate_only finding found errors.RootMissingOld is =
+backward_refused old new root certificate_only finding found error is =
     let (pair, roots) = found_roots old new root certificate_only finding found in
-    absurd (is pair.new roots.new_named)
-backward_refused old new root certificate_only finding found errors.RootMissingNew is =
-    let (pair, roots) = found_roots old new root certificate_only finding found in
-    absurd (is.1 pair.old roots.old_named)
-backward_refused old new root certificate_only finding found (errors.Compile side fault) is = absurd is
-backward_refused old new root certificate_only finding found (errors.Certificate fault) is = absurd is
-backward_refused old new root certificate_only finding found errors.WriteFailed is = absurd is
-backward_refused old new root certificate_only finding found errors.BadHex is = absurd is
-backward_refused old new root certificate_only finding found (errors.Bytes error) is = absurd is
+    error-weaker (λ side fault. ⊥) (λ side fault. ⊥) (λ lacks. absurd (lacks pair.new roots.new_named)) (λ lacks. absurd (lacks.1 pair.old roots.old_named))
+    (λ no. no) (λ side fault no. no) error is
+
+-- ---- sides
+
+-- a fault of the old side
+pub of_old_side : (old new : World) (error : GateError) → IsSideError old sides.Old error → IsSidesError old new error
+of_old_side old new error is =
+    error-weaker (λ of found. (of ≡ sides.Old) × IsFaultOfSide old found) (IsSidesFault old new) (λ no. no) (λ no. no) (λ no. no)
+    (λ of fault is. subst (λ s. IsSidesFault old new s fault) (sym is.0) is.1) error is
+
+-- a fault of the new side, where the old one has a schema
+pub of_new_side : (old new : World) (schema : Parts) → IsSide old schema → (error : GateError) → IsSideError new sides.New error → IsSidesError old new error
+of_new_side old new schema of_side error is =
+    error-weaker (λ of found. (of ≡ sides.New) × IsFaultOfSide new found) (IsSidesFault old new) (λ no. no) (λ no. no) (λ no. no)
+    (λ of fault is. subst (λ s. IsSidesFault old new s fault) (sym is.0) (record { schema = schema; of_side = of_side; so = is.1 })) error is
+
+-- an error of two sides is one of the gate
+pub of_sides : (root : Text) (old new : World) (error : GateError) → IsSidesError old new error → IsGateError root old new error
+of_sides root old new error is =
+    error-weaker (IsSidesFault old new) (IsSidesFault old new) (λ no. absurd no) (λ no. absurd no) (λ no. no) (λ side fault is. is) error is
+
+module _ (root : Text) (old new : World) (a b : Parts) (of_old : IsSide old a) (of_new : IsSide new b) where
+  pub answer_of_files : (answer : Answer) → IsAnswer a b root answer → IsAnswerOfFiles root old new answer
+  answer_of_files answer is = record { old_schema = a; new_schema = b; of_old = of_old; of_new = of_new; so = is }
+
+  pub reply_of_files : (certificate_only both : Bool) (reply : Reply) → IsGateReply a b root certificate_only both reply
+      → Between old new (λ a b. IsGateReply a b root certificate_only both reply)
+  reply_of_files certificate_only both reply is = record { old_schema = a; new_schema = b; of_old = of_old; of_new = of_new; so = is }
+
+  pub refused_of_files : (error : GateError) → IsRefusedRoot a b root error → IsGateError root old new error
+  refused_of_files error is =
+      error-weaker (λ side fault. ⊥) (IsSidesFault old new)
+      (λ lacks. record { old_schema = a; new_schema = b; of_old = of_old; of_new = of_new; so = lacks })
+      (λ lacks. record { old_schema = a; new_schema = b; of_old = of_old; of_new = of_new; so = lacks })
+      (λ no. no) (λ side fault no. absurd no) error is
+
+-- a missing root is no failure of a source
+pub root_uncounted : {X : Type 0} (old new : Parts) (root : Text) (side : Side) (r : Result X GateError) → IfErr r (IsRefusedRoot old new root) → failures_by (failures_at side) r ≡ 0
+root_uncounted old new root side r is =
+    none_counted r (λ e. IsRefusedRoot old new root e) (failures_at side)
+    (λ e is. of_none (Lacks old root) ((Lacks old root → ⊥) × Lacks new root) ⊥ side e is) is
 
 -- ---- calls
 
 -- what is answered, where nothing is refused, is granted
-pub replied : (old new : Seen) (call : Request) (reply : Reply) → IsReplyFor old new call reply → Grants old new call reply
-replied old new call (replies.Set bytes) is = is
-replied old new call (replies.Shown text) is = is
-replied old new call (replies.Found finding) is = is
-replied old new call (replies.Both forward backward) is = is
-replied old new (compile dir files) (replies.Refused refusal) is = absurd is
-replied old new (gate sides root certificate_only both) (replies.Refused refusal) is = absurd is.so
-replied old new (show dir file root word) (replies.Refused refusal) is = absurd is
-replied old new (verify sides certificate) (replies.Refused refusal) is = absurd is
+pub replied : (old new : Seen) (call : Request) (reply : Reply) → IsReplyFor old new call reply → Counted old new (λ side. 0) → Grants old new call reply
+replied old new call (replies.Set bytes) is counted = record { is_reply = is; counted = counted }
+replied old new call (replies.Shown text) is counted = record { is_reply = is; counted = counted }
+replied old new call (replies.Found finding) is counted = record { is_reply = is; counted = counted }
+replied old new call (replies.Both forward backward) is counted = record { is_reply = is; counted = counted }
+replied old new (compile dir files) (replies.Refused refusal) is counted = absurd is
+replied old new (gate sides root certificate_only both) (replies.Refused refusal) is counted = absurd is.so
+replied old new (show dir file root word) (replies.Refused refusal) is counted = absurd is
+replied old new (verify sides certificate) (replies.Refused refusal) is counted = absurd is
 
--- ---- sides
+-- no call ends in a sink that failed
+never_written : (old new : Seen) (call : Request) → IsErrorFor old new call (calls.Gate errors.WriteFailed) → ⊥
+never_written old new (compile dir files) is = is
+never_written old new (gate sides root certificate_only both) is = is
+never_written old new (show dir file root word) is = is
+never_written old new (verify sides certificate) is = is
 
-module _ (root : Text) (old new : Seen) (old_files new_files : SideFiles) (a b : Parts) (of_old : IsSideSchema old old_files a) (of_new : IsSideSchema new new_files b) where
-  pub answer_of_files : (answer : Answer) → IsAnswer a b root answer → IsAnswerOfFiles root old new old_files new_files answer
-  answer_of_files answer is = record { old_schema = a; new_schema = b; of_old = of_old; of_new = of_new; so = is }
+unprinted : (call : Request) (refusal : Refusal) (error : CallError) → refusal_of error ≡ Some refusal → refusal_for call error ≡ None → ⊥
+unprinted (compile dir files) refusal error some none = let no = rw some at none in cc
+unprinted (gate sides root certificate_only both) refusal error some none = let no = rw some at none in cc
+unprinted (show dir file root word) refusal error some none = let no = rw some at none in cc
+unprinted (verify sides certificate) refusal error some none = let no = rw some at none in cc
 
-  pub reply_of_files : (certificate_only both : Bool) (reply : Reply) → IsGateReply a b root certificate_only both reply
-      → Between old new old_files new_files (λ a b. IsGateReply a b root certificate_only both reply)
-  reply_of_files certificate_only both reply is = record { old_schema = a; new_schema = b; of_old = of_old; of_new = of_new; so = is }
-
-  pub refused_of_files : (error : GateError) → IsRefusedRoot a b root error → IsGateError root old new old_files new_files error
-  refused_of_files errors.Memory is = tt
-  refused_of_files errors.RootMissingOld is = record { old_schema = a; new_schema = b; of_old = of_old; of_new = of_new; so = is }
-  refused_of_files errors.RootMissingNew is = record { old_schema = a; new_schema = b; of_old = of_old; of_new = of_new; so = is }
-  refused_of_files (errors.Compile side fault) is = absurd is
-  refused_of_files (errors.Certificate fault) is = absurd is
-  refused_of_files errors.WriteFailed is = absurd is
-  refused_of_files errors.BadHex is = absurd is
-  refused_of_files (errors.Bytes error) is = absurd is
+-- each error of a call but out of memory is printed
+pub always_printed : (old new : Seen) (call : Request) (error : CallError) → IsErrorFor old new call error → (error ≡ calls.Gate errors.Memory → ⊥)
+    → refusal_for call error ≡ None → ⊥
+always_printed old new call (calls.Gate errors.Memory) is other none = other refl
+always_printed old new call (calls.Gate errors.RootMissingOld) is other none = unprinted call _ (calls.Gate errors.RootMissingOld) refl none
+always_printed old new call (calls.Gate errors.RootMissingNew) is other none = unprinted call _ (calls.Gate errors.RootMissingNew) refl none
+always_printed old new call (calls.Gate (errors.Compile side fault)) is other none = unprinted call _ (calls.Gate (errors.Compile side fault)) refl none
+always_printed old new call (calls.Gate errors.WriteFailed) is other none = never_written old new call is
+always_printed old new call (calls.Gate errors.BadHex) is other none = unprinted call _ (calls.Gate errors.BadHex) refl none
+always_printed old new call (calls.Certificate fault) is other none = unprinted call _ (calls.Certificate fault) refl none
+always_printed old new call (calls.Bytes error) is other none = unprinted call _ (calls.Bytes error) refl none

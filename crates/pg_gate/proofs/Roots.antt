@@ -1,5 +1,5 @@
 -- The root types, by their full name.
-use Rattle.std.proofs.Common.{◌≡◌, ◌<◌, length, map, Option, Some, None, sym, subst, string_bytes}
+use Rattle.std.proofs.Common.{◌≡◌, ◌<◌, length, map, Option, Some, None, string_bytes}
 use Rattle.std.specs.Option.{option_map}
 use Rattle.std.proofs.lemmas.List.{length-map}
 use Rattle.std.proofs.lemmas.Option.{slice_get_within}
@@ -8,9 +8,7 @@ use Rattle.pg_schema.specs.declared.field.TypeId.{TypeId}
 use Rattle.pg_schema.specs.declared.message_type.MessageType.{MessageType}
 use Rattle.pg_schema.specs.declared.parts.Parts.{Parts}
 use Rattle.pg_schema.specs.Parts.{field_shape, shape_of}
-use Rattle.pg_gate.specs.Answer.{IsNamed, IsRefusedRoot}
-use Rattle.pg_gate.specs.declared.error.GateError.{GateError}
-use Rattle.pg_gate.specs.declared.error.GateError.TheVariants as errors
+use Rattle.pg_gate.specs.Answer.{IsNamed}
 
 from_some : {X Y : Type 0} (f : X → Y) (o : Option X) (y : Y) → option_map f o ≡ Some y → (x : X) × (o ≡ Some x)
 from_some f None y mapped = absurd (cc)
@@ -22,6 +20,3 @@ named_there parts name id named =
     let found = from_some (λ (t : MessageType). string_bytes t.name) _ name named in
     let within = slice_get_within parts.types.items id.index found.0 found.1 in
     rw (length-map parts.types.items (λ (t : MessageType). map field_shape t.fields.items)) within
-
-pub memory_is_refused : (old new : Parts) (root : Text) (error : GateError) → error ≡ errors.Memory → IsRefusedRoot old new root error
-memory_is_refused old new root error is = subst (λ e. IsRefusedRoot old new root e) (sym is) tt

@@ -1,7 +1,7 @@
 -- What a checker's answers are told as; and these as the answers of two sides.
-use Rattle.std.proofs.Common.{arith, Err, ◌≡◌, ◌∙◌, ◌<◌, ◌⊎◌, ℕ, zero, suc, List, [], ◌∷◌, Bool, true, false, Option, Some, None, refl, ap, sym, subst, inl, inr, is_some, string_bytes, unwrap_or, slice_get, length}
+use Rattle.std.proofs.Common.{arith, ◌≡◌, ◌∙◌, ◌<◌, ◌⊎◌, ℕ, zero, suc, List, [], ◌∷◌, Bool, true, false, Option, Some, None, refl, ap, sym, subst, inl, inr, is_some, string_bytes, unwrap_or, slice_get, length}
 use Rattle.std.specs.Option.{option_map, option_or}
-use Rattle.std.specs.Prelude.{IsTrue, ◌+◌, ◌≤◌}
+use Rattle.std.specs.Prelude.{IsTrue}
 use Rattle.clap.specs.Words.{Text}
 use Rattle.pg_cert.specs.Bounds.{bound_in}
 use Rattle.pg_cert.specs.Certificate.{Claim}
@@ -20,13 +20,18 @@ use Rattle.pg_schema.specs.declared.field.TypeId.{TypeId}
 use Rattle.pg_schema.specs.declared.message_type.MessageType.{MessageType}
 use Rattle.pg_schema.specs.declared.parts.Parts.{Parts}
 use Rattle.pg_gate.specs.Answer.{IsNamed}
-use Rattle.pg_gate.specs.Files.{source_failures}
-use Rattle.pg_gate.specs.Grants.{IsSideSchema, IsUngiven, IsVerified, IsVerifyError, Seen, SideFiles}
+use Rattle.pg_gate.specs.Errors.{call_failures_at}
+use Rattle.pg_gate.specs.Files.{IsSide}
+use Rattle.pg_gate.specs.Grants.{IsSidesFault, IsUngiven, IsVerified, IsVerifyError}
 use Rattle.pg_gate.specs.Verified.{HasFirstFault, IsClaimError, IsHeldBy, IsToldOf}
-use Rattle.pg_gate.specs.declared.error.CertificateFault.TheVariants as certificates
-use Rattle.pg_gate.specs.declared.error.GateError.{GateError}
-use Rattle.pg_gate.specs.declared.error.GateError.TheVariants as errors
+use Rattle.pg_gate.specs.declared.call_error.CallError.{CallError}
+use Rattle.pg_gate.specs.declared.call_error.CallError.TheVariants as calls
+use Rattle.pg_gate.specs.declared.call_error.CertificateFault.TheVariants as certificates
+use Rattle.pg_gate.specs.declared.error.Side.{Side}
+use Rattle.pg_gate.specs.declared.error.Side.TheVariants as sides
 use Rattle.pg_gate.specs.declared.reply.Finding.{Finding}
+use Rattle.pg_gate.proofs.ErrorLemmas.{memory_is, of_memory, of_refused}
+use Rattle.pg_link.specs.Walk.{World}
 
 -- ---- names
 
@@ -106,8 +111,8 @@ module _ (old new : Parts) (bytes : Text) where
     no_bad_check (inr (inr witness)) = no_bad_witness (shape_of old) (shape_of new) claim claim.witness witness.1
 
     -- the checker's error, told
-    pub check_error : (fault : CertError) (error : GateError) → IsCheckFault fault → IsToldOf old new fault error → IsClaimError old new bytes error
-    check_error checks.Memory error is told = subst (λ e. IsClaimError old new bytes e) (sym told) tt
+    pub check_error : (fault : CertError) (error : CallError) → IsCheckFault fault → IsToldOf old new fault error → IsClaimError old new bytes error
+    check_error checks.Memory error is told = subst (λ e. IsClaimError old new bytes e) (sym told) refl
     check_error checks.BadText error is told = absurd (no_bad_check is)
     check_error checks.RootMissing error is told = subst (λ e. IsClaimError old new bytes e) (sym told) (has_first checks.RootMissing (λ no. cc) is)
     check_error (checks.PairMissing pair) error is told =
@@ -120,37 +125,36 @@ module _ (old new : Parts) (bytes : Text) where
 
 -- ---- sides
 
--- failures before, after a side that compiled, and after a read
-pub counts : (before between after failed : ℕ) → between ≡ before + 0 → after ≡ between + failed → before + failed ≤ after
-counts before between after failed compiled read = omega arith
-
-module _ (path : Text) (old new : Seen) (old_files new_files : SideFiles) (a b : Parts) (of_old : IsSideSchema old old_files a) (of_new : IsSideSchema new new_files b) where
-  pub ungiven_of_files : (error : GateError) → old.before + source_failures {X = Unit {0}} (Err error) ≤ old.after → IsUngiven old.may_lack path error
-      → IsVerifyError path old new old_files new_files error
-  ungiven_of_files errors.Memory counted is = tt
-  ungiven_of_files errors.RootMissingOld counted is = absurd is
-  ungiven_of_files errors.RootMissingNew counted is = absurd is
-  ungiven_of_files (errors.Compile side fault) counted is = absurd is
-  ungiven_of_files (errors.Certificate (certificates.Missing file)) counted is = record { old_schema = a; new_schema = b; of_old = of_old; of_new = of_new; so = is }
-  ungiven_of_files (errors.Certificate (certificates.Failed file)) counted is = record { old_schema = a; new_schema = b; of_old = of_old; of_new = of_new; so = (is, omega arith) }
-  ungiven_of_files (errors.Certificate (certificates.Refused fault)) counted is = absurd is
-  ungiven_of_files errors.WriteFailed counted is = absurd is
-  ungiven_of_files errors.BadHex counted is = absurd is
-  ungiven_of_files (errors.Bytes error) counted is = absurd is
+module _ (path : Text) (old new : World) (a b : Parts) (of_old : IsSide old a) (of_new : IsSide new b) where
+  pub ungiven_of_files : (error : CallError) → IsUngiven old.may_lack path error → IsVerifyError path old new error
+  ungiven_of_files (calls.Gate error) is = memory_is ⊥ ⊥ ⊥ (IsSidesFault old new) error is
+  ungiven_of_files (calls.Certificate (certificates.Missing file)) is = record { old_schema = a; new_schema = b; of_old = of_old; of_new = of_new; so = is }
+  ungiven_of_files (calls.Certificate (certificates.Failed file)) is = record { old_schema = a; new_schema = b; of_old = of_old; of_new = of_new; so = is }
+  ungiven_of_files (calls.Certificate (certificates.Refused fault)) is = absurd is
+  ungiven_of_files (calls.Bytes error) is = absurd is
 
   module _ (bytes : Text) (given : IsTrue (old.may_give path bytes)) where
-    pub held_of_files : (finding : Finding) → IsHeldBy a b bytes finding → IsVerified path old new old_files new_files finding
+    pub held_of_files : (finding : Finding) → IsHeldBy a b bytes finding → IsVerified path old new finding
     held_of_files finding is = record { old_schema = a; new_schema = b; of_old = of_old; of_new = of_new; so = record { bytes = bytes; given = given; so = is } }
 
-    pub refused_bytes_of_files : (error : GateError) → IsClaimError a b bytes error → IsVerifyError path old new old_files new_files error
-    refused_bytes_of_files errors.Memory is = tt
-    refused_bytes_of_files errors.RootMissingOld is = absurd is
-    refused_bytes_of_files errors.RootMissingNew is = absurd is
-    refused_bytes_of_files (errors.Compile side fault) is = absurd is
-    refused_bytes_of_files (errors.Certificate (certificates.Missing file)) is = absurd is
-    refused_bytes_of_files (errors.Certificate (certificates.Failed file)) is = absurd is
-    refused_bytes_of_files (errors.Certificate (certificates.Refused fault)) is =
+    pub refused_bytes_of_files : (error : CallError) → IsClaimError a b bytes error → IsVerifyError path old new error
+    refused_bytes_of_files (calls.Gate error) is = memory_is ⊥ ⊥ ⊥ (IsSidesFault old new) error is
+    refused_bytes_of_files (calls.Certificate (certificates.Missing file)) is = absurd is
+    refused_bytes_of_files (calls.Certificate (certificates.Failed file)) is = absurd is
+    refused_bytes_of_files (calls.Certificate (certificates.Refused fault)) is =
         record { old_schema = a; new_schema = b; of_old = of_old; of_new = of_new; so = record { bytes = bytes; given = given; so = is } }
-    refused_bytes_of_files errors.WriteFailed is = absurd is
-    refused_bytes_of_files errors.BadHex is = absurd is
-    refused_bytes_of_files (errors.Bytes error) is = absurd is
+    refused_bytes_of_files (calls.Bytes error) is = absurd is
+
+-- bytes that are refused no source failed in
+pub claim_uncounted : (old new : Parts) (bytes : Text) (side : Side) (error : CallError) → IsClaimError old new bytes error → call_failures_at side error ≡ 0
+claim_uncounted old new bytes side (calls.Gate error) is = of_memory side error is
+claim_uncounted old new bytes side (calls.Certificate (certificates.Missing file)) is = absurd is
+claim_uncounted old new bytes side (calls.Certificate (certificates.Failed file)) is = absurd is
+claim_uncounted old new bytes side (calls.Certificate (certificates.Refused fault)) is = of_refused side
+claim_uncounted old new bytes side (calls.Bytes error) is = absurd is
+
+-- the new source isn't asked for a certificate
+pub ungiven_uncounted : (lack : Text → Bool) (path : Text) (error : CallError) → IsUngiven lack path error → call_failures_at sides.New error ≡ 0
+ungiven_uncounted lack path (calls.Gate error) is = of_memory sides.New error is
+ungiven_uncounted lack path (calls.Certificate fault) is = refl
+ungiven_uncounted lack path (calls.Bytes error) is = absurd is

@@ -19,10 +19,10 @@ use Rattle.pg_pairs.specs.Sight.{by_numbers}
 use Rattle.pg_cert.specs.Bounds.{bound_in}
 use Rattle.pg_cert.specs.Certificate.{Claim, Holds}
 use Rattle.pg_least.specs.Exact.{IsSearched}
+use Rattle.pg_gate.specs.Errors.{IsError}
 use Rattle.pg_gate.specs.declared.answer.Answer.{Answer}
 use Rattle.pg_gate.specs.declared.answer.Answer.TheVariants as answers
 use Rattle.pg_gate.specs.declared.error.GateError.{GateError}
-use Rattle.pg_gate.specs.declared.error.GateError.TheVariants as errors
 
 -- the message type of that full name
 abbrev pub IsNamed : Parts → Text → TypeId → Type 0
@@ -94,11 +94,4 @@ certificate_of (answers.Breaks witness certificate) = certificate
 
 -- a refusal names a root that is missing: the old one first
 abbrev pub IsRefusedRoot : Parts → Parts → Text → GateError → Type 0
-IsRefusedRoot old new root errors.Memory = Unit {0}
-IsRefusedRoot old new root errors.RootMissingOld = Lacks old root
-IsRefusedRoot old new root errors.RootMissingNew = (Lacks old root → ⊥) × Lacks new root
-IsRefusedRoot old new root (errors.Compile side fault) = ⊥
-IsRefusedRoot old new root (errors.Certificate fault) = ⊥
-IsRefusedRoot old new root errors.WriteFailed = ⊥
-IsRefusedRoot old new root errors.BadHex = ⊥
-IsRefusedRoot old new root (errors.Bytes error) = ⊥
+IsRefusedRoot old new root = IsError (Lacks old root) ((Lacks old root → ⊥) × Lacks new root) ⊥ (λ side fault. ⊥)

@@ -1,5 +1,5 @@
 -- What a side's texts declare or its descriptor set states, and what either is refused for.
-use Rattle.std.specs.Prelude.{◌≡◌, ℕ, Bool, nat_eq, List, [], ◌∷◌, map, Option, Some, None, Result, Ok, Err, IsTrue, codes, if◌then◌else◌}
+use Rattle.std.specs.Prelude.{◌≡◌, ℕ, Bool, nat_eq, List, [], ◌∷◌, map, Option, Some, None, IsTrue, codes, if◌then◌else◌}
 use Rattle.std.specs.List.{ends_with}
 use Rattle.std.specs.Borrow.{Bor}
 use Rattle.clap.specs.Words.{Text}
@@ -19,16 +19,14 @@ use Rattle.pg_fds.specs.declared.error.FdsError.TheVariants as sets
 use Rattle.pg_link.specs.Below.{path_below}
 use Rattle.pg_link.specs.Linked.{IsLinkedUp}
 use Rattle.pg_link.specs.UseFaults.{LinkRefuses}
-use Rattle.pg_link.specs.Walk.{Entry, IsLinked, IsReadFault, World, failures_of}
+use Rattle.pg_link.specs.Walk.{Entry, IsLinked, IsReadFault, World}
 use Rattle.pg_link.specs.declared.error.LinkError.{LinkError}
 use Rattle.pg_link.specs.declared.error.LinkError.TheVariants as links
 use Rattle.pg_link.specs.declared.target.Target.{Target}
-use Rattle.pg_gate.specs.declared.error.CertificateFault.{CertificateFault}
-use Rattle.pg_gate.specs.declared.error.CertificateFault.TheVariants as certificates
+use Rattle.pg_gate.specs.Errors.{IsError}
 use Rattle.pg_gate.specs.declared.error.Fault.{Fault}
 use Rattle.pg_gate.specs.declared.error.Fault.TheVariants as faults
 use Rattle.pg_gate.specs.declared.error.GateError.{GateError}
-use Rattle.pg_gate.specs.declared.error.GateError.TheVariants as gates
 use Rattle.pg_gate.specs.declared.error.Side.{Side}
 use Rattle.pg_schema.specs.declared.parts.Parts.{Parts}
 use Rattle.pg_schema.specs.Sound.{IsSound}
@@ -84,14 +82,7 @@ IsOfRules files (faults.Set error) = ⊥
 
 -- a side ends in want of memory, or in a fault
 abbrev pub IsErrorOf : (Fault → Type 0) → Side → GateError → Type 0
-IsErrorOf fault side gates.Memory = Unit {0}
-IsErrorOf fault side gates.RootMissingOld = ⊥
-IsErrorOf fault side gates.RootMissingNew = ⊥
-IsErrorOf fault side (gates.Compile of found) = (of ≡ side) × fault found
-IsErrorOf fault side (gates.Certificate found) = ⊥
-IsErrorOf fault side gates.WriteFailed = ⊥
-IsErrorOf fault side gates.BadHex = ⊥
-IsErrorOf fault side (gates.Bytes error) = ⊥
+IsErrorOf fault side = IsError ⊥ ⊥ ⊥ (λ of found. (of ≡ side) × fault found)
 
 -- ---- descriptor sets
 
@@ -193,29 +184,3 @@ abbrev pub IsFaultOfSet : World → Fault → Type 0
 IsFaultOfSet w (faults.Link error) = IsLinkFault w error
 IsFaultOfSet w (faults.Check error) = IsBrokenRule w error
 IsFaultOfSet w (faults.Set error) = IsUnwritten w error
-
--- ---- failures of sources
-
--- the failures of its source that a fault tells of
-abbrev pub fault_failures : Fault → ℕ
-fault_failures (faults.Link error) = failures_of {X = Unit {0}} (Err error)
-fault_failures (faults.Check error) = 0
-fault_failures (faults.Set error) = 0
-
--- the failures of its source that the fault of a certificate tells of
-abbrev pub certificate_failures : CertificateFault → ℕ
-certificate_failures (certificates.Missing file) = 0
-certificate_failures (certificates.Failed file) = 1
-certificate_failures (certificates.Refused fault) = 0
-
--- the failures of its source that an answer from it tells of
-abbrev pub source_failures : {X : Type 0} → Result X GateError → ℕ
-source_failures (Ok x) = 0
-source_failures (Err gates.Memory) = 0
-source_failures (Err gates.RootMissingOld) = 0
-source_failures (Err gates.RootMissingNew) = 0
-source_failures (Err (gates.Compile side fault)) = fault_failures fault
-source_failures (Err (gates.Certificate fault)) = certificate_failures fault
-source_failures (Err gates.WriteFailed) = 0
-source_failures (Err gates.BadHex) = 0
-source_failures (Err (gates.Bytes error)) = 0

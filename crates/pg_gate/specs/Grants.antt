@@ -1,5 +1,5 @@
 -- What a call may be answered, by what its sources may give and lack.
-use Rattle.std.specs.Prelude.{◌≡◌, ◌+◌, ◌≤◌, ◌<◌, ◌&&◌, ℕ, Bool, true, false, not, List, [], ◌∷◌, Some, None, is_some, string_bytes, IsTrue}
+use Rattle.std.specs.Prelude.{◌≡◌, ◌+◌, ◌&&◌, ℕ, Bool, true, false, not, List, [], ◌∷◌, Some, None, is_some, string_bytes, IsTrue}
 use Rattle.clap.specs.Words.{Text}
 use Rattle.pg_cert.specs.Certificate.{Claim}
 use Rattle.pg_cert.specs.Text.{Certifies}
@@ -7,18 +7,20 @@ use Rattle.pg_dyn.specs.Kept.{Kept}
 use Rattle.pg_schema.specs.declared.parts.Parts.{Parts}
 use Rattle.pg_gate.specs.Call.{Request, compile, gate, show, verify}
 use Rattle.pg_link.specs.Walk.{World, world}
-use Rattle.pg_gate.specs.Files.{IsFaultOfSet, IsFaultOfSide, IsSetOf, IsSide, fault_failures}
+use Rattle.pg_gate.specs.Errors.{IsCallError, IsError, IsMemory, call_failures_at}
+use Rattle.pg_gate.specs.Files.{IsErrorOf, IsFaultOfSet, IsFaultOfSide, IsSetOf, IsSide}
 use Rattle.pg_gate.specs.Answer.{IsAnswer, IsBroken, IsCompatible, Lacks, certificate_of}
 use Rattle.pg_gate.specs.declared.answer.Answer.{Answer}
 use Rattle.pg_gate.specs.Refusals.{refusal_for}
-use Rattle.pg_gate.specs.Showing.{IsShowFault, IsShown}
+use Rattle.pg_gate.specs.Showing.{IsBadWord, IsRefusedWord, IsShown}
 use Rattle.pg_gate.specs.Steps.{AreSteps}
 use Rattle.pg_gate.specs.Verified.{IsClaimFault, IsHeldBy}
-use Rattle.pg_gate.specs.declared.error.CertificateFault.{CertificateFault}
-use Rattle.pg_gate.specs.declared.error.CertificateFault.TheVariants as certificates
+use Rattle.pg_gate.specs.declared.call_error.CallError.{CallError}
+use Rattle.pg_gate.specs.declared.call_error.CertificateFault.{CertificateFault}
+use Rattle.pg_gate.specs.declared.call_error.CertificateFault.TheVariants as certificates
 use Rattle.pg_gate.specs.declared.error.Fault.{Fault}
 use Rattle.pg_gate.specs.declared.error.GateError.{GateError}
-use Rattle.pg_gate.specs.declared.error.GateError.TheVariants as errors
+use Rattle.pg_gate.specs.declared.error.Side.{Side}
 use Rattle.pg_gate.specs.declared.error.Side.TheVariants as sides
 use Rattle.pg_gate.specs.declared.refusal.Refusal.{Refusal}
 use Rattle.pg_gate.specs.declared.reply.Finding.{Finding}
@@ -27,63 +29,37 @@ use Rattle.pg_gate.specs.declared.reply.Reply.{Reply}
 use Rattle.pg_gate.specs.declared.reply.Reply.TheVariants as replies
 use Rattle.pg_gate.specs.declared.step.Step.{Step}
 
--- what a run knows of a source: what it may give and lack, and its failures before and after
-pub record Seen : Type 0 where
-  pub may_give : Text → Text → Bool
-  pub may_lack : Text → Bool
-  pub before : ℕ
-  pub after : ℕ
+-- ---- sides
 
-abbrev pub seen : (Text → Text → Bool) → (Text → Bool) → ℕ → ℕ → Seen
-seen give lack before after = record {
-  may_give = give;
-  may_lack = lack;
-  before = before;
-  after = after;
-}
-
--- a side's files: its folder, and their paths below it
-pub record SideFiles : Type 0 where
-  pub folder : Text
-  pub paths : List Text
-
-abbrev pub files_at : Text → List Text → SideFiles
-files_at folder paths = record { folder = folder; paths = paths }
-
-abbrev pub world_of : Seen → SideFiles → World
-world_of s files = world s.may_give s.may_lack files.folder files.paths
-
--- the schema of texts or of a set of the side, which its source may give
-abbrev pub IsSideSchema : Seen → SideFiles → Parts → Type 0
-IsSideSchema s files parts = IsSide (world_of s files) parts
-
--- a fault of the side's files; a source failed only where it counted a failure
-pub record IsSideFault (s : Seen) (files : SideFiles) (fault : Fault) : Type 0 where
-  pub is_fault : IsFaultOfSide (world_of s files) fault
-  pub counted : s.before + fault_failures fault ≤ s.after
+-- what holds of the schema of a side
+pub record OfSide (w : World) (holds : Parts → Type 0) : Type 0 where
+  pub schema : Parts
+  pub of_side : IsSide w schema
+  pub so : holds schema
 
 -- what holds of the schemas of two sides
-pub record Between (old new : Seen) (old_files new_files : SideFiles) (holds : Parts → Parts → Type 0) : Type 0 where
+pub record Between (old new : World) (holds : Parts → Parts → Type 0) : Type 0 where
   pub old_schema : Parts
   pub new_schema : Parts
-  pub of_old : IsSideSchema old old_files old_schema
-  pub of_new : IsSideSchema new new_files new_schema
+  pub of_old : IsSide old old_schema
+  pub of_new : IsSide new new_schema
   pub so : holds old_schema new_schema
 
--- why no answer comes of two sides; a missing root is told of sides that both compile, the old one first
-abbrev pub IsGateError : Text → Seen → Seen → SideFiles → SideFiles → GateError → Type 0
-IsGateError root old new old_files new_files errors.Memory = Unit {0}
-IsGateError root old new old_files new_files errors.RootMissingOld = Between old new old_files new_files (λ a b. Lacks a root)
-IsGateError root old new old_files new_files errors.RootMissingNew = Between old new old_files new_files (λ a b. (Lacks a root → ⊥) × Lacks b root)
-IsGateError root old new old_files new_files (errors.Compile sides.Old fault) = IsSideFault old old_files fault
-IsGateError root old new old_files new_files (errors.Compile sides.New fault) = IsSideFault new new_files fault
-IsGateError root old new old_files new_files (errors.Certificate fault) = ⊥
-IsGateError root old new old_files new_files errors.WriteFailed = ⊥
-IsGateError root old new old_files new_files errors.BadHex = ⊥
-IsGateError root old new old_files new_files (errors.Bytes error) = ⊥
+-- A fault of two sides. The old one is compiled first: a fault of the new one is told where the old one has a schema.
+abbrev pub IsSidesFault : World → World → Side → Fault → Type 0
+IsSidesFault old new sides.Old fault = IsFaultOfSide old fault
+IsSidesFault old new sides.New fault = OfSide old (λ schema. IsFaultOfSide new fault)
 
-abbrev pub IsAnswerOfFiles : Text → Seen → Seen → SideFiles → SideFiles → Answer → Type 0
-IsAnswerOfFiles root old new old_files new_files answer = Between old new old_files new_files (λ a b. IsAnswer a b root answer)
+-- two sides end in want of memory, or in a fault of either
+abbrev pub IsSidesError : World → World → GateError → Type 0
+IsSidesError old new = IsError ⊥ ⊥ ⊥ (IsSidesFault old new)
+
+-- why no answer comes of two sides; a missing root is told of sides that both compile, the old one first
+abbrev pub IsGateError : Text → World → World → GateError → Type 0
+IsGateError root old new = IsError (Between old new (λ a b. Lacks a root)) (Between old new (λ a b. (Lacks a root → ⊥) × Lacks b root)) ⊥ (IsSidesFault old new)
+
+abbrev pub IsAnswerOfFiles : Text → World → World → Answer → Type 0
+IsAnswerOfFiles root old new answer = Between old new (λ a b. IsAnswer a b root answer)
 
 -- the types are compatible, as some certificate shows
 pub record IsShownCompatible (old new : Parts) (root : Text) : Type 0 where
@@ -147,32 +123,24 @@ Tells old new certificate true finding = TellsCertificate old new certificate fi
 -- ---- certificates that are checked
 
 -- bytes that the source may give for the path
-pub record IsGiven (s : Seen) (path : Text) (holds : Text → Type 0) : Type 0 where
+pub record IsGiven (w : World) (path : Text) (holds : Text → Type 0) : Type 0 where
   pub bytes : Text
-  pub given : IsTrue (s.may_give path bytes)
+  pub given : IsTrue (w.may_give path bytes)
   pub so : holds bytes
 
 -- what is found of a certificate, whose bytes the old source may give for its path as it stands
-abbrev pub IsVerified : Text → Seen → Seen → SideFiles → SideFiles → Finding → Type 0
-IsVerified path old new old_files new_files finding = Between old new old_files new_files (λ a b. IsGiven old path (λ bytes. IsHeldBy a b bytes finding))
+abbrev pub IsVerified : Text → World → World → Finding → Type 0
+IsVerified path old new finding = Between old new (λ a b. IsGiven old path (λ bytes. IsHeldBy a b bytes finding))
 
--- why a certificate isn't taken: the source may lack its path, failed in this run, or may give bytes that are refused
-abbrev pub IsCertificateFault : Seen → Text → Parts → Parts → CertificateFault → Type 0
-IsCertificateFault s path old new (certificates.Missing file) = (string_bytes file ≡ path) × IsTrue (s.may_lack path)
-IsCertificateFault s path old new (certificates.Failed file) = (string_bytes file ≡ path) × (s.before < s.after)
-IsCertificateFault s path old new (certificates.Refused fault) = IsGiven s path (λ bytes. IsClaimFault old new bytes fault)
+-- why a certificate isn't taken: the source may lack its path, it failed, or it may give bytes that are refused
+abbrev pub IsCertificateFault : World → Text → Parts → Parts → CertificateFault → Type 0
+IsCertificateFault w path old new (certificates.Missing file) = (string_bytes file ≡ path) × IsTrue (w.may_lack path)
+IsCertificateFault w path old new (certificates.Failed file) = string_bytes file ≡ path
+IsCertificateFault w path old new (certificates.Refused fault) = IsGiven w path (λ bytes. IsClaimFault old new bytes fault)
 
 -- why a certificate of two sides shows nothing; its own faults are told of sides that both compile
-abbrev pub IsVerifyError : Text → Seen → Seen → SideFiles → SideFiles → GateError → Type 0
-IsVerifyError path old new old_files new_files errors.Memory = Unit {0}
-IsVerifyError path old new old_files new_files errors.RootMissingOld = ⊥
-IsVerifyError path old new old_files new_files errors.RootMissingNew = ⊥
-IsVerifyError path old new old_files new_files (errors.Compile sides.Old fault) = IsSideFault old old_files fault
-IsVerifyError path old new old_files new_files (errors.Compile sides.New fault) = IsSideFault new new_files fault
-IsVerifyError path old new old_files new_files (errors.Certificate fault) = Between old new old_files new_files (λ a b. IsCertificateFault old path a b fault)
-IsVerifyError path old new old_files new_files errors.WriteFailed = ⊥
-IsVerifyError path old new old_files new_files errors.BadHex = ⊥
-IsVerifyError path old new old_files new_files (errors.Bytes error) = ⊥
+abbrev pub IsVerifyError : Text → World → World → CallError → Type 0
+IsVerifyError path old new = IsCallError (IsSidesError old new) (λ fault. Between old new (λ a b. IsCertificateFault old path a b fault)) (λ error. ⊥)
 
 -- why a source gives no bytes for a path
 abbrev pub IsUngivenFault : (Text → Bool) → Text → CertificateFault → Type 0
@@ -180,59 +148,42 @@ IsUngivenFault lack path (certificates.Missing file) = (string_bytes file ≡ pa
 IsUngivenFault lack path (certificates.Failed file) = string_bytes file ≡ path
 IsUngivenFault lack path (certificates.Refused fault) = ⊥
 
-abbrev pub IsUngiven : (Text → Bool) → Text → GateError → Type 0
-IsUngiven lack path errors.Memory = Unit {0}
-IsUngiven lack path errors.RootMissingOld = ⊥
-IsUngiven lack path errors.RootMissingNew = ⊥
-IsUngiven lack path (errors.Compile side fault) = ⊥
-IsUngiven lack path (errors.Certificate fault) = IsUngivenFault lack path fault
-IsUngiven lack path errors.WriteFailed = ⊥
-IsUngiven lack path errors.BadHex = ⊥
-IsUngiven lack path (errors.Bytes error) = ⊥
+abbrev pub IsUngiven : (Text → Bool) → Text → CallError → Type 0
+IsUngiven lack path = IsCallError IsMemory (IsUngivenFault lack path) (λ error. ⊥)
 
 -- ---- sets that are written
 
--- why no set is written; a source failed only where it counted a failure
-pub record IsSetFault (s : Seen) (files : SideFiles) (fault : Fault) : Type 0 where
-  pub is_fault : IsFaultOfSet (world_of s files) fault
-  pub counted : s.before + fault_failures fault ≤ s.after
-
-abbrev pub IsSetError : Seen → SideFiles → GateError → Type 0
-IsSetError s files errors.Memory = Unit {0}
-IsSetError s files errors.RootMissingOld = ⊥
-IsSetError s files errors.RootMissingNew = ⊥
-IsSetError s files (errors.Compile side fault) = IsSetFault s files fault
-IsSetError s files (errors.Certificate fault) = ⊥
-IsSetError s files errors.WriteFailed = ⊥
-IsSetError s files errors.BadHex = ⊥
-IsSetError s files (errors.Bytes error) = ⊥
+-- why no set is written; its files are compiled as an old side
+abbrev pub IsSetError : World → GateError → Type 0
+IsSetError w = IsErrorOf (IsFaultOfSet w) sides.Old
 
 -- ---- bytes that are shown
 
--- what holds of the schema of a side
-pub record OfSide (s : Seen) (files : SideFiles) (holds : Parts → Type 0) : Type 0 where
-  pub schema : Parts
-  pub of_side : IsSideSchema s files schema
-  pub so : holds schema
-
--- why nothing is shown: a fault of the files; else what is wrong is told of files that compile
-abbrev pub IsShowError : Seen → SideFiles → (root word : Text) → GateError → Type 0
-IsShowError s files root word errors.Memory = Unit {0}
-IsShowError s files root word errors.RootMissingOld = OfSide s files (λ schema. IsShowFault schema root word errors.RootMissingOld)
-IsShowError s files root word errors.RootMissingNew = ⊥
-IsShowError s files root word (errors.Compile side fault) = IsSideFault s files fault
-IsShowError s files root word (errors.Certificate fault) = ⊥
-IsShowError s files root word errors.WriteFailed = ⊥
-IsShowError s files root word errors.BadHex = OfSide s files (λ schema. IsShowFault schema root word errors.BadHex)
-IsShowError s files root word (errors.Bytes error) = OfSide s files (λ schema. IsShowFault schema root word (errors.Bytes error))
+-- why nothing is shown: a fault of the files, which are compiled as an old side; else what is wrong is told of files that compile
+abbrev pub IsShowError : World → (root word : Text) → CallError → Type 0
+IsShowError w root word = IsCallError
+    (IsError (OfSide w (λ schema. Lacks schema root)) ⊥ (OfSide w (λ schema. IsBadWord schema root word)) (λ side fault. (side ≡ sides.Old) × IsFaultOfSide w fault))
+    (λ fault. ⊥) (λ error. OfSide w (λ schema. IsRefusedWord schema root word error))
 
 -- ---- calls
 
--- a refusal of the call that is printed for such an error
-pub record IsRefusal (call : Request) (errors : GateError → Type 0) (refusal : Refusal) : Type 0 where
-  pub error : GateError
-  pub is_error : errors error
-  pub printed : refusal_for call error ≡ Some refusal
+-- what a run knows of a source: what it may give and lack, and its failures before and after
+pub record Seen : Type 0 where
+  pub may_give : Text → Text → Bool
+  pub may_lack : Text → Bool
+  pub before : ℕ
+  pub after : ℕ
+
+abbrev pub seen : (Text → Text → Bool) → (Text → Bool) → ℕ → ℕ → Seen
+seen give lack before after = record {
+  may_give = give;
+  may_lack = lack;
+  before = before;
+  after = after;
+}
+
+abbrev pub world_of : Seen → Text → List Text → World
+world_of s folder paths = world s.may_give s.may_lack folder paths
 
 -- a set of the call's files is written, and nothing else
 abbrev pub IsSetReply : World → Reply → Type 0
@@ -243,40 +194,63 @@ IsSetReply w (replies.Both forward backward) = ⊥
 IsSetReply w (replies.Refused refusal) = ⊥
 
 -- the lines of the message that the word's bytes are read as, and nothing else
-abbrev pub IsShowReply : Seen → SideFiles → (root word : Text) → Reply → Type 0
-IsShowReply s files root word (replies.Set bytes) = ⊥
-IsShowReply s files root word (replies.Shown text) = OfSide s files (λ schema. IsShown schema root word (string_bytes text))
-IsShowReply s files root word (replies.Found finding) = ⊥
-IsShowReply s files root word (replies.Both forward backward) = ⊥
-IsShowReply s files root word (replies.Refused refusal) = ⊥
+abbrev pub IsShowReply : World → (root word : Text) → Reply → Type 0
+IsShowReply w root word (replies.Set bytes) = ⊥
+IsShowReply w root word (replies.Shown text) = OfSide w (λ schema. IsShown schema root word (string_bytes text))
+IsShowReply w root word (replies.Found finding) = ⊥
+IsShowReply w root word (replies.Both forward backward) = ⊥
+IsShowReply w root word (replies.Refused refusal) = ⊥
 
 -- what a certificate shows, and nothing else
-abbrev pub IsVerifyReply : Text → Seen → Seen → SideFiles → SideFiles → Reply → Type 0
-IsVerifyReply path old new old_files new_files (replies.Set bytes) = ⊥
-IsVerifyReply path old new old_files new_files (replies.Shown text) = ⊥
-IsVerifyReply path old new old_files new_files (replies.Found finding) = IsVerified path old new old_files new_files finding
-IsVerifyReply path old new old_files new_files (replies.Both forward backward) = ⊥
-IsVerifyReply path old new old_files new_files (replies.Refused refusal) = ⊥
+abbrev pub IsVerifyReply : Text → World → World → Reply → Type 0
+IsVerifyReply path old new (replies.Set bytes) = ⊥
+IsVerifyReply path old new (replies.Shown text) = ⊥
+IsVerifyReply path old new (replies.Found finding) = IsVerified path old new finding
+IsVerifyReply path old new (replies.Both forward backward) = ⊥
+IsVerifyReply path old new (replies.Refused refusal) = ⊥
 
 -- what is answered to a call, where nothing is refused
 abbrev pub IsReplyFor : Seen → Seen → Request → Reply → Type 0
-IsReplyFor old new (compile dir files) reply = IsSetReply (world_of old (files_at dir files)) reply
+IsReplyFor old new (compile dir files) reply = IsSetReply (world_of old dir files) reply
 IsReplyFor old new (gate sides root certificate_only both) reply =
-    Between old new (files_at sides.old_dir (sides.old ∷ [])) (files_at sides.new_dir (sides.new ∷ [])) (λ a b. IsGateReply a b root certificate_only both reply)
-IsReplyFor old new (show dir file root word) reply = IsShowReply old (files_at dir (file ∷ [])) root word reply
+    Between (world_of old sides.old_dir (sides.old ∷ [])) (world_of new sides.new_dir (sides.new ∷ [])) (λ a b. IsGateReply a b root certificate_only both reply)
+IsReplyFor old new (show dir file root word) reply = IsShowReply (world_of old dir (file ∷ [])) root word reply
 IsReplyFor old new (verify sides certificate) reply =
-    IsVerifyReply certificate old new (files_at sides.old_dir (sides.old ∷ [])) (files_at sides.new_dir (sides.new ∷ [])) reply
+    IsVerifyReply certificate (world_of old sides.old_dir (sides.old ∷ [])) (world_of new sides.new_dir (sides.new ∷ [])) reply
+
+-- an error that no call but `verify` and `show` ends in
+abbrev pub OfGate : (GateError → Type 0) → CallError → Type 0
+OfGate is = IsCallError is (λ fault. ⊥) (λ error. ⊥)
 
 -- why nothing is answered to a call
-abbrev pub IsErrorFor : Seen → Seen → Request → GateError → Type 0
-IsErrorFor old new (compile dir files) error = IsSetError old (files_at dir files) error
-IsErrorFor old new (gate sides root certificate_only both) error = IsGateError root old new (files_at sides.old_dir (sides.old ∷ [])) (files_at sides.new_dir (sides.new ∷ [])) error
-IsErrorFor old new (show dir file root word) error = IsShowError old (files_at dir (file ∷ [])) root word error
-IsErrorFor old new (verify sides certificate) error = IsVerifyError certificate old new (files_at sides.old_dir (sides.old ∷ [])) (files_at sides.new_dir (sides.new ∷ [])) error
+abbrev pub IsErrorFor : Seen → Seen → Request → CallError → Type 0
+IsErrorFor old new (compile dir files) error = OfGate (IsSetError (world_of old dir files)) error
+IsErrorFor old new (gate sides root certificate_only both) error =
+    OfGate (IsGateError root (world_of old sides.old_dir (sides.old ∷ [])) (world_of new sides.new_dir (sides.new ∷ []))) error
+IsErrorFor old new (show dir file root word) error = IsShowError (world_of old dir (file ∷ [])) root word error
+IsErrorFor old new (verify sides certificate) error =
+    IsVerifyError certificate (world_of old sides.old_dir (sides.old ∷ [])) (world_of new sides.new_dir (sides.new ∷ [])) error
+
+-- each source's count of failures rose by just so much
+pub record Counted (old new : Seen) (failures : Side → ℕ) : Type 0 where
+  pub of_old : old.after ≡ old.before + failures sides.Old
+  pub of_new : new.after ≡ new.before + failures sides.New
+
+-- an answer, where nothing is refused: no source failed
+pub record IsAnswered (old new : Seen) (call : Request) (reply : Reply) : Type 0 where
+  pub is_reply : IsReplyFor old new call reply
+  pub counted : Counted old new (λ side. 0)
+
+-- a refusal of the call that is printed for an error; a source failed only where the error tells of that, and but once
+pub record IsRefusal (old new : Seen) (call : Request) (refusal : Refusal) : Type 0 where
+  pub error : CallError
+  pub is_error : IsErrorFor old new call error
+  pub counted : Counted old new (λ side. call_failures_at side error)
+  pub printed : refusal_for call error ≡ Some refusal
 
 abbrev pub Grants : Seen → Seen → Request → Reply → Type 0
-Grants old new call (replies.Set bytes) = IsReplyFor old new call (replies.Set bytes)
-Grants old new call (replies.Shown text) = IsReplyFor old new call (replies.Shown text)
-Grants old new call (replies.Found finding) = IsReplyFor old new call (replies.Found finding)
-Grants old new call (replies.Both forward backward) = IsReplyFor old new call (replies.Both forward backward)
-Grants old new call (replies.Refused refusal) = IsRefusal call (IsErrorFor old new call) refusal
+Grants old new call (replies.Set bytes) = IsAnswered old new call (replies.Set bytes)
+Grants old new call (replies.Shown text) = IsAnswered old new call (replies.Shown text)
+Grants old new call (replies.Found finding) = IsAnswered old new call (replies.Found finding)
+Grants old new call (replies.Both forward backward) = IsAnswered old new call (replies.Both forward backward)
+Grants old new call (replies.Refused refusal) = IsRefusal old new call refusal

@@ -17,14 +17,17 @@ use Rattle.pg_wire.specs.Errors.{place_of}
 use Rattle.pg_wire.specs.declared.error.WireError.{WireError}
 use Rattle.pg_wire.specs.declared.error.WireError.TheVariants as wires
 use Rattle.pg_gate.specs.Call.{Request, compile, gate, show, verify}
-use Rattle.pg_gate.specs.declared.error.CertificateFault.{CertificateFault}
-use Rattle.pg_gate.specs.declared.error.CertificateFault.TheVariants as certificates
-use Rattle.pg_gate.specs.declared.error.ClaimFault.{ClaimFault}
-use Rattle.pg_gate.specs.declared.error.ClaimFault.TheVariants as claims
+use Rattle.pg_gate.specs.declared.call_error.CallError.{CallError}
+use Rattle.pg_gate.specs.declared.call_error.CallError.TheVariants as calls
+use Rattle.pg_gate.specs.declared.call_error.CertificateFault.{CertificateFault}
+use Rattle.pg_gate.specs.declared.call_error.CertificateFault.TheVariants as certificates
+use Rattle.pg_gate.specs.declared.call_error.ClaimFault.{ClaimFault}
+use Rattle.pg_gate.specs.declared.call_error.ClaimFault.TheVariants as claims
 use Rattle.pg_gate.specs.declared.error.Fault.{Fault}
 use Rattle.pg_gate.specs.declared.error.Fault.TheVariants as faults
 use Rattle.pg_gate.specs.declared.error.GateError.{GateError}
-use Rattle.pg_gate.specs.declared.error.GateError.TheVariants.{Memory, RootMissingOld, RootMissingNew, Compile, Certificate, WriteFailed, BadHex, Bytes}
+use Rattle.pg_gate.specs.declared.error.GateError.TheVariants.{Memory, RootMissingOld, RootMissingNew, Compile, WriteFailed, BadHex}
+use Rattle.pg_gate.specs.declared.error.Side.{Side}
 use Rattle.pg_gate.specs.declared.refusal.Location.{Location}
 use Rattle.pg_gate.specs.declared.refusal.Location.TheVariants.{Nowhere, InPlace, InFile, AtByte, AtPair, AtChoice}
 use Rattle.pg_gate.specs.declared.refusal.Refusal.{Refusal}
@@ -152,23 +155,34 @@ told_of_certificate (certificates.Missing file) = record { code = 301; location 
 told_of_certificate (certificates.Failed file) = record { code = 309; location = InFile file }
 told_of_certificate (certificates.Refused fault) = told_of_claim fault
 
--- want of memory and a sink that failed aren't printed; a certificate's fault is told without a side
-abbrev pub refusal_of : GateError → Option Refusal
-refusal_of Memory = None
-refusal_of RootMissingOld = Some (record { side = None; code = 901; location = Nowhere })
-refusal_of RootMissingNew = Some (record { side = None; code = 902; location = Nowhere })
-refusal_of (Compile side fault) = Some (record { side = Some side; code = (told_of fault).code; location = (told_of fault).location })
-refusal_of (Certificate fault) = Some (record { side = None; code = (told_of_certificate fault).code; location = (told_of_certificate fault).location })
-refusal_of WriteFailed = None
-refusal_of BadHex = Some (record { side = None; code = 905; location = Nowhere })
-refusal_of (Bytes error) = Some (record { side = None; code = (told_of_message error).code; location = (told_of_message error).location })
+-- what is told of no side
+abbrev pub refusal_alone : Told → Refusal
+refusal_alone told = record { side = None; code = told.code; location = told.location }
+
+abbrev pub refusal_of_side : Side → Told → Refusal
+refusal_of_side side told = record { side = Some side; code = told.code; location = told.location }
+
+-- want of memory and a sink that failed aren't printed
+abbrev pub refusal_of_gate : GateError → Option Refusal
+refusal_of_gate Memory = None
+refusal_of_gate RootMissingOld = Some (refusal_alone (told_alone 901))
+refusal_of_gate RootMissingNew = Some (refusal_alone (told_alone 902))
+refusal_of_gate (Compile side fault) = Some (refusal_of_side side (told_of fault))
+refusal_of_gate WriteFailed = None
+refusal_of_gate BadHex = Some (refusal_alone (told_alone 905))
+
+-- the faults of a certificate and of bytes are told without a side
+abbrev pub refusal_of : CallError → Option Refusal
+refusal_of (calls.Gate error) = refusal_of_gate error
+refusal_of (calls.Certificate fault) = Some (refusal_alone (told_of_certificate fault))
+refusal_of (calls.Bytes error) = Some (refusal_alone (told_of_message error))
 
 -- files that are compiled by themselves have no side
 abbrev pub without_side : Refusal → Refusal
 without_side refusal = record { side = None; code = refusal.code; location = refusal.location }
 
 -- the refusal that is printed for an error of a call
-abbrev pub refusal_for : Request → GateError → Option Refusal
+abbrev pub refusal_for : Request → CallError → Option Refusal
 refusal_for (compile dir files) error = option_map without_side (refusal_of error)
 refusal_for (gate sides root certificate_only both) error = refusal_of error
 refusal_for (show dir file root word) error = option_map without_side (refusal_of error)

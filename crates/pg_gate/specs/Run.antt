@@ -4,7 +4,7 @@ use Rattle.clap.specs.Words.{Text}
 use Rattle.pg_gate.specs.Call.{Request, call_of}
 use Rattle.pg_gate.specs.Printed.{printed}
 use Rattle.pg_gate.specs.declared.error.GateError.{GateError}
-use Rattle.pg_gate.specs.declared.error.GateError.TheVariants.{Memory, RootMissingOld, RootMissingNew, Compile, Certificate, WriteFailed, BadHex, Bytes}
+use Rattle.pg_gate.specs.declared.error.GateError.TheVariants.{Memory, RootMissingOld, RootMissingNew, Compile, WriteFailed, BadHex}
 use Rattle.pg_gate.specs.declared.reply.Reply.{Reply}
 
 -- the sink took what the words' call prints, with an answer granted to it, and nothing else
@@ -36,7 +36,5 @@ failures_in (Err Memory) = 0
 failures_in (Err RootMissingOld) = 0
 failures_in (Err RootMissingNew) = 0
 failures_in (Err (Compile side fault)) = 0
-failures_in (Err (Certificate fault)) = 0
 failures_in (Err WriteFailed) = 1
 failures_in (Err BadHex) = 0
-failures_in (Err (Bytes error)) = 0

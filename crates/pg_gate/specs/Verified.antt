@@ -12,13 +12,15 @@ use Rattle.pg_pairs.specs.declared.choice.Pair.{Pair}
 use Rattle.pg_schema.specs.Parts.{shape_of}
 use Rattle.pg_schema.specs.declared.parts.Parts.{Parts}
 use Rattle.pg_gate.specs.Answer.{IsNamed}
-use Rattle.pg_gate.specs.declared.error.CertificateFault.{CertificateFault}
-use Rattle.pg_gate.specs.declared.error.CertificateFault.TheVariants as certificates
-use Rattle.pg_gate.specs.declared.error.ClaimFault.{ClaimFault}
-use Rattle.pg_gate.specs.declared.error.ClaimFault.TheVariants as claims
-use Rattle.pg_gate.specs.declared.error.GateError.{GateError}
-use Rattle.pg_gate.specs.declared.error.GateError.TheVariants as errors
-use Rattle.pg_gate.specs.declared.error.PairNames.{PairNames}
+use Rattle.pg_gate.specs.Errors.{IsCallError, IsMemory}
+use Rattle.pg_gate.specs.declared.call_error.CallError.{CallError}
+use Rattle.pg_gate.specs.declared.call_error.CallError.TheVariants as calls
+use Rattle.pg_gate.specs.declared.call_error.CertificateFault.{CertificateFault}
+use Rattle.pg_gate.specs.declared.call_error.CertificateFault.TheVariants as certificates
+use Rattle.pg_gate.specs.declared.call_error.ClaimFault.{ClaimFault}
+use Rattle.pg_gate.specs.declared.call_error.ClaimFault.TheVariants as claims
+use Rattle.pg_gate.specs.declared.call_error.PairNames.{PairNames}
+use Rattle.pg_gate.specs.declared.error.GateError.TheVariants as gates
 use Rattle.pg_gate.specs.declared.reply.Finding.{Finding}
 use Rattle.pg_gate.specs.declared.reply.Finding.TheVariants as findings
 use Rattle.pg_gate.specs.declared.verified.Verified.{Verified}
@@ -79,28 +81,21 @@ IsOfClaim old new bytes (certificates.Missing file) = ⊥
 IsOfClaim old new bytes (certificates.Failed file) = ⊥
 IsOfClaim old new bytes (certificates.Refused fault) = IsClaimFault old new bytes fault
 
-abbrev pub IsClaimError : Parts → Parts → Text → GateError → Type 0
-IsClaimError old new bytes errors.Memory = Unit {0}
-IsClaimError old new bytes errors.RootMissingOld = ⊥
-IsClaimError old new bytes errors.RootMissingNew = ⊥
-IsClaimError old new bytes (errors.Compile side fault) = ⊥
-IsClaimError old new bytes (errors.Certificate fault) = IsOfClaim old new bytes fault
-IsClaimError old new bytes errors.WriteFailed = ⊥
-IsClaimError old new bytes errors.BadHex = ⊥
-IsClaimError old new bytes (errors.Bytes error) = ⊥
+abbrev pub IsClaimError : Parts → Parts → Text → CallError → Type 0
+IsClaimError old new bytes = IsCallError IsMemory (IsOfClaim old new bytes) (λ error. ⊥)
 
 -- what is told of a checker's error: the same fault, with names for the pair
-abbrev pub refused : ClaimFault → GateError
-refused fault = errors.Certificate (certificates.Refused fault)
+abbrev pub refused : ClaimFault → CallError
+refused fault = calls.Certificate (certificates.Refused fault)
 
 -- the pair is told by its names
-pub record IsNamedFault (old new : Parts) (pair : Pair) (fault : PairNames → ClaimFault) (error : GateError) : Type 0 where
+pub record IsNamedFault (old new : Parts) (pair : Pair) (fault : PairNames → ClaimFault) (error : CallError) : Type 0 where
   pub names : PairNames
   pub are_names : AreNames old new pair names
   pub told : error ≡ refused (fault names)
 
-abbrev pub IsToldOf : Parts → Parts → CertError → GateError → Type 0
-IsToldOf old new checks.Memory error = error ≡ errors.Memory
+abbrev pub IsToldOf : Parts → Parts → CertError → CallError → Type 0
+IsToldOf old new checks.Memory error = error ≡ calls.Gate gates.Memory
 IsToldOf old new checks.BadText error = error ≡ refused claims.BadText
 IsToldOf old new checks.RootMissing error = error ≡ refused claims.RootMissing
 IsToldOf old new (checks.PairMissing pair) error = IsNamedFault old new pair claims.PairMissing error

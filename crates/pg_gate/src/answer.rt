@@ -1,11 +1,13 @@
 //! The gate: whether a reader of the new type sees all that a writer of the old one writes.
-ghost use Rattle.std.specs.Prelude.{◌≡◌, Err, codes, IfErr, IfOk};
+ghost use Rattle.std.specs.Prelude.{◌≡◌, ◌+◌, Err, codes, IfErr, IfOk};
 ghost use Rattle.pg_gate.specs.Answer.{AreRoots, IsAnswer, IsRefusedRoot, Lacks, certificate_of};
+ghost use Rattle.pg_gate.specs.Errors.{side_failures};
 ghost use Rattle.pg_gate.specs.Files.{paths_of};
-ghost use Rattle.pg_gate.specs.Grants.{IsAnswerOfFiles, IsGateError, files_at, seen};
+ghost use Rattle.pg_gate.specs.Grants.{IsAnswerOfFiles, IsGateError};
 ghost use Rattle.pg_gate.specs.declared.error.GateError.TheVariants as errors;
+ghost use Rattle.pg_link.specs.Walk.{world};
 
-use crate::compile::compile;
+use crate::both_sides::{SideFiles, compile_both};
 use crate::error::{GateError, Side};
 use pg_cert::Certificate;
 use pg_dyn::Message;
@@ -103,22 +105,31 @@ pub fn gate_files<S: Sources, T: Sources>(
     new_roots: &[&str],
     root: &str,
 ) -> Result<Answer, GateError>
-    // The answer is that of texts and sets that the sources may give, and so is each refusal.
+    // The answer is that of texts and sets that the sources may give, and so is each refusal. A fault of the new side
+    // comes only where the old side has a schema.
     ensures answer { IfOk result (IsAnswerOfFiles root.now
-        (seen (S.may_give old.old) (S.may_lack old.old) (S.failures old.old) (S.failures old.new))
-        (seen (T.may_give new.old) (T.may_lack new.old) (T.failures new.old) (T.failures new.new))
-        (files_at (codes ".") (paths_of old_roots.now)) (files_at (codes ".") (paths_of new_roots.now))) }
+        (world (S.may_give old.old) (S.may_lack old.old) (codes ".") (paths_of old_roots.now))
+        (world (T.may_give new.old) (T.may_lack new.old) (codes ".") (paths_of new_roots.now))) }
     ensures refused { IfErr result (IsGateError root.now
-        (seen (S.may_give old.old) (S.may_lack old.old) (S.failures old.old) (S.failures old.new))
-        (seen (T.may_give new.old) (T.may_lack new.old) (T.failures new.old) (T.failures new.new))
-        (files_at (codes ".") (paths_of old_roots.now)) (files_at (codes ".") (paths_of new_roots.now))) }
+        (world (S.may_give old.old) (S.may_lack old.old) (codes ".") (paths_of old_roots.now))
+        (world (T.may_give new.old) (T.may_lack new.old) (codes ".") (paths_of new_roots.now))) }
+    // A source failed once where that is what its side is refused for, and never else.
+    ensures old_counted { S.failures old.new ≡ S.failures old.old + side_failures Side.Old result }
+    ensures new_counted { T.failures new.new ≡ T.failures new.old + side_failures Side.New result }
     // The sources' reads leave what they may give and lack.
     ensures old_given { S.may_give old.new ≡ S.may_give old.old }
     ensures old_lacked { S.may_lack old.new ≡ S.may_lack old.old }
     ensures new_given { T.may_give new.new ≡ T.may_give new.old }
     ensures new_lacked { T.may_lack new.new ≡ T.may_lack new.old }
 {
-    let old_schema = compile(alloc, old, Side::Old, ".", old_roots)?;
-    let new_schema = compile(alloc, new, Side::New, ".", new_roots)?;
-    gate(alloc, &old_schema, &new_schema, root)
+    let old_files = SideFiles {
+        folder: ".",
+        paths: old_roots,
+    };
+    let new_files = SideFiles {
+        folder: ".",
+        paths: new_roots,
+    };
+    let both = compile_both(alloc, &old_files, &new_files, false, old, new)?;
+    gate(alloc, &both.old.schema, &both.new.schema, root)
 }

@@ -4,7 +4,8 @@ ghost use Rattle.pg_link.specs.Linked.{IsLinkedUp};
 ghost use Rattle.pg_link.specs.Walk.{IsLinked, world};
 ghost use Rattle.pg_check.specs.Declares.{Declares};
 ghost use Rattle.pg_check.specs.Sources.{linked_sources};
-ghost use Rattle.pg_gate.specs.Files.{IsCompiled, IsErrorOf, IsFaultOf, IsFaultOfRead, IsOfLink, IsOfRules, IsRead, IsSide, IsSideError, paths_of, source_failures};
+ghost use Rattle.pg_gate.specs.Errors.{source_failures};
+ghost use Rattle.pg_gate.specs.Files.{IsCompiled, IsErrorOf, IsFaultOf, IsFaultOfRead, IsOfLink, IsOfRules, IsRead, IsSide, IsSideError, paths_of};
 
 use crate::error::{Fault, GateError, Side};
 use crate::sets::{read_set, set_at};
@@ -49,11 +50,26 @@ fn schema_of(alloc: Global, side: Side, linked: &Linked) -> Result<Schema, GateE
     }
 }
 
-/// A side that compiled: its schema, and the files that declare it. A descriptor set has none.
+/// A side that compiled: its schema, and the files that declare it, where these are kept. A descriptor set has none.
 #[derive(Drop)]
 pub(crate) struct Compiled {
     pub schema: Schema,
     pub files: Option<Linked>,
+}
+
+impl Compiled {
+    /// The same, without the files unless they are to be kept.
+    pub(crate) fn with_files(self, keep: bool) -> Compiled
+        ensures { result.schema ≡ self.schema }
+    {
+        if keep {
+            return self;
+        }
+        Compiled {
+            schema: self.schema,
+            files: None,
+        }
+    }
 }
 
 /// The schema of texts with their files: those at these paths below the folder, and all that they import.

@@ -2,7 +2,6 @@
 
 use crate::sink::SinkError;
 use pg_check::CheckError;
-use pg_dyn::DynError;
 use pg_fds::FdsError;
 use pg_link::LinkError;
 use std::alloc::{AllocError, AllocFailed};
@@ -31,57 +30,6 @@ pub enum Fault {
     Set(FdsError),
 }
 
-/// The full names of an old and a new message type.
-#[derive(Debug, PartialEq, Eq, Drop)]
-pub struct PairNames {
-    pub old: String,
-    pub new: String,
-}
-
-/// What a certificate is refused for, of two schemas.
-#[derive(Debug, PartialEq, Eq, Drop, Error)]
-pub enum ClaimFault {
-    /// E801: the bytes are no certificate's text for the schemas.
-    #[error("no certificate of these schemas")]
-    BadText,
-    /// E802: the table lacks the root.
-    #[error("no bound of the root")]
-    RootMissing,
-    /// E803: the table lacks this pair, a child of one that it has.
-    #[error("no bound of a child")]
-    PairMissing(PairNames),
-    /// E804: a message of the pair that breaks by the case at the number is shorter than the bound says.
-    #[error("a bound too high at field {number}, case {case}")]
-    BoundTooHigh {
-        names: PairNames,
-        number: u32,
-        case: u8,
-    },
-    /// E805: no message of the old root without unknown records encodes to the witness.
-    #[error("a witness that the old writer never writes")]
-    WitnessNotWritten,
-    /// E806: the witness has not as many bytes as the root's bound says.
-    #[error("a witness of another length than the bound")]
-    WitnessLength,
-    /// E807: the witness doesn't break.
-    #[error("a witness that is kept")]
-    WitnessKeeps,
-}
-
-/// Why a certificate is not taken.
-#[derive(Debug, PartialEq, Eq, Drop, Error)]
-pub enum CertificateFault {
-    /// E301: the old source has no file of this path.
-    #[error("there is no such certificate")]
-    Missing(String),
-    /// E309: the old source failed to give the file.
-    #[error("the certificate could not be read")]
-    Failed(String),
-    /// E801 to E807: its bytes are refused.
-    #[error("{0}")]
-    Refused(ClaimFault),
-}
-
 /// Why the gate gives no answer.
 #[derive(Debug, PartialEq, Eq, Drop, Error)]
 pub enum GateError {
@@ -97,19 +45,12 @@ pub enum GateError {
     /// E903: a side does not compile. Of files that are compiled by themselves the side is the old one.
     #[error("the {0} side does not compile: {1}")]
     Compile(Side, Fault),
-    /// E301, E309, E801 to E807: a certificate is not taken.
-    #[error("the certificate is not taken: {0}")]
-    Certificate(CertificateFault),
     /// E904: the sink failed.
     #[error("the output could not be written")]
     WriteFailed,
     /// E905: a word that stands for bytes has an odd number of hexadecimal digits, or another character.
     #[error("no hexadecimal digits, two a byte")]
     BadHex,
-    /// E501 to E505, E604, E607, E608: bytes that are to be shown aren't read as a message, or the message has
-    /// no encoding.
-    #[error("the bytes are refused: {0}")]
-    Bytes(DynError),
 }
 
 impl fmt::Display for Side {

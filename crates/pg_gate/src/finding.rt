@@ -1,17 +1,21 @@
 //! What a call is answered, from its sources.
-ghost use Rattle.std.specs.Prelude.{◌≡◌, [], ◌∷◌, IfErr, IfOk};
+ghost use Rattle.std.specs.Prelude.{◌≡◌, ◌+◌, [], ◌∷◌, IfErr, IfOk};
 ghost use Rattle.pg_cert.specs.Text.{IsClaimOf};
 ghost use Rattle.pg_least.specs.Exact.{IsSearched};
 ghost use Rattle.pg_pairs.specs.Sight.{by_numbers};
 ghost use Rattle.pg_schema.specs.Parts.{shape_of};
 ghost use Rattle.pg_gate.specs.Answer.{IsRefusedRoot};
 ghost use Rattle.pg_gate.specs.Call.{request_of, sides_of};
+ghost use Rattle.pg_gate.specs.Errors.{call_failures, side_failures};
 ghost use Rattle.pg_gate.specs.Files.{paths_of};
-ghost use Rattle.pg_gate.specs.Grants.{Between, Grants, IsErrorFor, IsFindingOf, IsGateError, IsGateReply, IsReplyFor, Tells, TellsAnswer, TellsCertificate, files_at, seen};
+ghost use Rattle.pg_gate.specs.Grants.{Between, Grants, IsErrorFor, IsFindingOf, IsGateError, IsGateReply, IsReplyFor, Tells, TellsAnswer, TellsCertificate, seen};
+ghost use Rattle.pg_link.specs.Walk.{world};
 
 use crate::answer::gate;
+use crate::both_sides::{SideFiles, compile_both};
 use crate::call::{Call, Sides};
-use crate::compile::{Compiled, compile_files};
+use crate::call_error::CallError;
+use crate::compile::Compiled;
 use crate::error::{GateError, Side};
 use crate::refusal::refusal_for;
 use crate::reply::{Finding, Reply};
@@ -134,28 +138,33 @@ fn find<S: Sources, T: Sources>(
     new: &mut T,
 ) -> Result<Reply, GateError>
     ensures found { IfOk result (λ reply. Between
-        (seen (S.may_give old.old) (S.may_lack old.old) (S.failures old.old) (S.failures old.new))
-        (seen (T.may_give new.old) (T.may_lack new.old) (T.failures new.old) (T.failures new.new))
-        (files_at asked.now.sides.now.old_dir.now (asked.now.sides.now.old.now ∷ []))
-        (files_at asked.now.sides.now.new_dir.now (asked.now.sides.now.new.now ∷ []))
+        (world (S.may_give old.old) (S.may_lack old.old) asked.now.sides.now.old_dir.now (asked.now.sides.now.old.now ∷ []))
+        (world (T.may_give new.old) (T.may_lack new.old) asked.now.sides.now.new_dir.now (asked.now.sides.now.new.now ∷ []))
         (λ a b. IsGateReply a b asked.now.root.now asked.now.certificate_only asked.now.both reply)) }
     ensures refused { IfErr result (IsGateError asked.now.root.now
-        (seen (S.may_give old.old) (S.may_lack old.old) (S.failures old.old) (S.failures old.new))
-        (seen (T.may_give new.old) (T.may_lack new.old) (T.failures new.old) (T.failures new.new))
-        (files_at asked.now.sides.now.old_dir.now (asked.now.sides.now.old.now ∷ []))
-        (files_at asked.now.sides.now.new_dir.now (asked.now.sides.now.new.now ∷ []))) }
+        (world (S.may_give old.old) (S.may_lack old.old) asked.now.sides.now.old_dir.now (asked.now.sides.now.old.now ∷ []))
+        (world (T.may_give new.old) (T.may_lack new.old) asked.now.sides.now.new_dir.now (asked.now.sides.now.new.now ∷ []))) }
+    ensures old_counted { S.failures old.new ≡ S.failures old.old + side_failures Side.Old result }
+    ensures new_counted { T.failures new.new ≡ T.failures new.old + side_failures Side.New result }
     ensures old_given { S.may_give old.new ≡ S.may_give old.old }
     ensures old_lacked { S.may_lack old.new ≡ S.may_lack old.old }
     ensures new_given { T.may_give new.new ≡ T.may_give new.old }
     ensures new_lacked { T.may_lack new.new ≡ T.may_lack new.old }
 {
     let sides = asked.sides;
-    let old_side = compile_files(alloc, old, Side::Old, sides.old_dir, &[sides.old])?;
-    let new_side = compile_files(alloc, new, Side::New, sides.new_dir, &[sides.new])?;
+    let old_files = SideFiles {
+        folder: sides.old_dir,
+        paths: &[sides.old],
+    };
+    let new_files = SideFiles {
+        folder: sides.new_dir,
+        paths: &[sides.new],
+    };
+    let both = compile_both(alloc, &old_files, &new_files, true, old, new)?;
     between(
         alloc,
-        &old_side,
-        &new_side,
+        &both.old,
+        &both.new,
         asked.root,
         asked.certificate_only,
         asked.both,
@@ -168,7 +177,7 @@ fn reply_to<S: Sources, T: Sources>(
     call: &Call<'_>,
     old: &mut S,
     new: &mut T,
-) -> Result<Reply, GateError>
+) -> Result<Reply, CallError>
     ensures answered { IfOk result (IsReplyFor
         (seen (S.may_give old.old) (S.may_lack old.old) (S.failures old.old) (S.failures old.new))
         (seen (T.may_give new.old) (T.may_lack new.old) (T.failures new.old) (T.failures new.new))
@@ -177,6 +186,8 @@ fn reply_to<S: Sources, T: Sources>(
         (seen (S.may_give old.old) (S.may_lack old.old) (S.failures old.old) (S.failures old.new))
         (seen (T.may_give new.old) (T.may_lack new.old) (T.failures new.old) (T.failures new.new))
         (request_of call.now)) }
+    ensures old_counted { S.failures old.new ≡ S.failures old.old + call_failures Side.Old result }
+    ensures new_counted { T.failures new.new ≡ T.failures new.old + call_failures Side.New result }
     ensures old_given { S.may_give old.new ≡ S.may_give old.old }
     ensures old_lacked { S.may_lack old.new ≡ S.may_lack old.old }
     ensures new_given { T.may_give new.new ≡ T.may_give new.old }
@@ -189,17 +200,15 @@ fn reply_to<S: Sources, T: Sources>(
             root,
             certificate_only,
             both,
-        } => find(
-            alloc,
-            &Asked {
+        } => {
+            let asked = Asked {
                 sides,
                 root,
                 certificate_only: *certificate_only,
                 both: *both,
-            },
-            old,
-            new,
-        ),
+            };
+            Ok(find(alloc, &asked, old, new)?)
+        }
         Call::Show {
             dir,
             file,
@@ -230,9 +239,10 @@ pub(crate) fn answer<S: Sources, T: Sources>(
 {
     match reply_to(alloc, call, old, new) {
         Ok(reply) => Ok(reply),
+        Err(CallError::Gate(GateError::Memory)) => Err(AllocError),
         Err(error) => match refusal_for(call, error) {
             Some(refusal) => Ok(Reply::Refused(refusal)),
-            None => Err(AllocError),
+            None => unreachable!(),
         },
     }
 }

@@ -2,8 +2,10 @@
 #![tactic(auto)]
 
 mod answer;
+mod both_sides;
 mod buffer;
 mod call;
+mod call_error;
 mod command_line;
 mod compile;
 mod cursor;
@@ -28,7 +30,7 @@ mod writing;
 pub use answer::{Answer, gate, gate_files};
 pub use buffer::Buffer;
 pub use call::{Call, Sides};
-pub use error::{CertificateFault, ClaimFault, Fault, GateError, PairNames, Side};
+pub use error::{Fault, GateError, Side};
 pub use hex::{Digits, Hex};
 pub use pg_cert::{Certificate, Verdict};
 pub use pg_check::CheckError;

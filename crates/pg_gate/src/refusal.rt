@@ -4,12 +4,11 @@ ghost use Rattle.pg_gate.specs.Call.{request_of};
 ghost use Rattle.pg_gate.specs.Printed as printed;
 ghost use Rattle.pg_gate.specs.Refusals as refusals;
 ghost use Rattle.pg_gate.specs.Text as spec;
-ghost use Rattle.pg_gate.specs.declared.error.GateError.TheVariants as errors;
 
 use crate::call::Call;
-use crate::error::{CertificateFault, Fault, GateError, PairNames, Side};
-use crate::told::{SOURCE_FAILED, told_of, told_of_certificate, told_of_message};
-use pg_dyn::DynError;
+use crate::call_error::{CallError, PairNames};
+use crate::error::{GateError, Side};
+use crate::told::{SOURCE_FAILED, Told, told_alone, told_of, told_of_certificate, told_of_message};
 use pg_link::Place;
 use std::fmt;
 
@@ -71,11 +70,10 @@ impl Refusal {
     }
 }
 
-/// The refusal of a certificate, which has no side.
-fn refusal_of_certificate(fault: CertificateFault) -> Refusal
-    ensures { Some result ≡ refusals.refusal_of (errors.Certificate fault) }
+/// The refusal of what has no side.
+fn refusal_alone(told: Told) -> Refusal
+    ensures { result ≡ refusals.refusal_alone told }
 {
-    let told = told_of_certificate(fault);
     Refusal {
         side: None,
         code: told.code,
@@ -84,10 +82,9 @@ fn refusal_of_certificate(fault: CertificateFault) -> Refusal
 }
 
 /// The refusal of a side that does not compile.
-fn refusal_of_side(side: Side, fault: Fault) -> Refusal
-    ensures { Some result ≡ refusals.refusal_of (errors.Compile side fault) }
+fn refusal_of_side(side: Side, told: Told) -> Refusal
+    ensures { result ≡ refusals.refusal_of_side side told }
 {
-    let told = told_of(fault);
     Refusal {
         side: Some(side),
         code: told.code,
@@ -95,40 +92,32 @@ fn refusal_of_side(side: Side, fault: Fault) -> Refusal
     }
 }
 
-/// The refusal of bytes that are to be shown.
-fn refusal_of_bytes(error: DynError) -> Refusal
-    ensures { Some result ≡ refusals.refusal_of (errors.Bytes error) }
+/// The refusal that is printed for an error of the gate. Want of memory and a sink that failed have none.
+fn refusal_of_gate(error: GateError) -> Option<Refusal>
+    ensures { result ≡ refusals.refusal_of_gate error }
 {
-    let told = told_of_message(error);
-    Refusal {
-        side: None,
-        code: told.code,
-        location: told.location,
+    match error {
+        GateError::Compile(side, fault) => Some(refusal_of_side(side, told_of(fault))),
+        GateError::RootMissingOld => Some(refusal_alone(told_alone(ROOT_MISSING_OLD))),
+        GateError::RootMissingNew => Some(refusal_alone(told_alone(ROOT_MISSING_NEW))),
+        GateError::BadHex => Some(refusal_alone(told_alone(BAD_HEX))),
+        GateError::Memory | GateError::WriteFailed => None,
     }
 }
 
-/// The refusal that is printed for an error. Want of memory and a sink that failed have none.
-fn refusal_of(error: GateError) -> Option<Refusal>
+/// The same for an error of a call. A certificate and bytes are refused without a side.
+fn refusal_of(error: CallError) -> Option<Refusal>
     ensures { result ≡ refusals.refusal_of error }
 {
-    let code = match error {
-        GateError::Compile(side, fault) => return Some(refusal_of_side(side, fault)),
-        GateError::Certificate(fault) => return Some(refusal_of_certificate(fault)),
-        GateError::Bytes(error) => return Some(refusal_of_bytes(error)),
-        GateError::RootMissingOld => ROOT_MISSING_OLD,
-        GateError::RootMissingNew => ROOT_MISSING_NEW,
-        GateError::BadHex => BAD_HEX,
-        GateError::Memory | GateError::WriteFailed => return None,
-    };
-    Some(Refusal {
-        side: None,
-        code,
-        location: Location::Nowhere,
-    })
+    match error {
+        CallError::Gate(error) => refusal_of_gate(error),
+        CallError::Certificate(fault) => Some(refusal_alone(told_of_certificate(fault))),
+        CallError::Bytes(error) => Some(refusal_alone(told_of_message(error))),
+    }
 }
 
 /// The refusal that is printed for an error of the call.
-pub(crate) fn refusal_for(call: &Call<'_>, error: GateError) -> Option<Refusal>
+pub(crate) fn refusal_for(call: &Call<'_>, error: CallError) -> Option<Refusal>
     ensures { result ≡ refusals.refusal_for (request_of call.now) error }
 {
     let refusal = refusal_of(error)?;

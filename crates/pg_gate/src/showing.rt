@@ -1,10 +1,13 @@
 //! What is shown of bytes.
-ghost use Rattle.std.specs.Prelude.{◌≡◌, ◌<◌, [], ◌∷◌, length, Some, IfErr, IfOk, string_bytes};
+ghost use Rattle.std.specs.Prelude.{◌≡◌, ◌+◌, ◌<◌, [], ◌∷◌, length, Some, IfErr, IfOk, string_bytes};
 ghost use Rattle.pg_schema.specs.Parts.{shape_of};
 ghost use Rattle.pg_show.specs.Hex.{bytes_in};
-ghost use Rattle.pg_gate.specs.Grants.{IsShowError, OfSide, files_at, seen};
+ghost use Rattle.pg_link.specs.Walk.{world};
+ghost use Rattle.pg_gate.specs.Errors.{call_failures};
+ghost use Rattle.pg_gate.specs.Grants.{IsShowError, OfSide};
 ghost use Rattle.pg_gate.specs.Showing.{IsReadAs, IsShowFault, IsShown, IsUnread, IsUnspelled};
 
+use crate::call_error::CallError;
 use crate::compile::compile;
 use crate::error::{GateError, Side};
 use pg_dyn::DynError;
@@ -31,25 +34,25 @@ fn lines_of(
     schema: &Schema,
     type_id: TypeId,
     bytes: &[u8],
-) -> Result<String, GateError>
+) -> Result<String, CallError>
     requires { type_id.index < length (shape_of schema.now) }
     ensures shown { IfOk result (λ text. IsReadAs schema.now type_id bytes.now (string_bytes text)) }
     ensures refused { IfErr result (IsUnread schema.now type_id bytes.now) }
 {
     match show(alloc, schema, type_id, bytes) {
         Ok(text) => Ok(text),
-        Err(DynError::Memory) => Err(GateError::Memory),
-        Err(error) => Err(GateError::Bytes(error)),
+        Err(DynError::Memory) => Err(CallError::Gate(GateError::Memory)),
+        Err(error) => Err(CallError::Bytes(error)),
     }
 }
 
 /// The same by the type of this full name, of the bytes of the word.
-fn shown_by(alloc: Global, schema: &Schema, root: &str, word: &str) -> Result<String, GateError>
+fn shown_by(alloc: Global, schema: &Schema, root: &str, word: &str) -> Result<String, CallError>
     ensures shown { IfOk result (λ text. IsShown schema.now root.now word.now (string_bytes text)) }
     ensures refused { IfErr result (IsShowFault schema.now root.now word.now) }
 {
     let Some(type_id) = schema.message(root) else {
-        return Err(GateError::RootMissingOld);
+        return Err(CallError::Gate(GateError::RootMissingOld));
     };
     let bytes = bytes_of(alloc, word)?;
     lines_of(alloc, schema, type_id, &bytes)
@@ -63,14 +66,13 @@ pub(crate) fn shown<S: Sources>(
     file: &str,
     root: &str,
     word: &str,
-) -> Result<String, GateError>
+) -> Result<String, CallError>
     ensures shown { IfOk result (λ text. OfSide
-        (seen (S.may_give source.old) (S.may_lack source.old) (S.failures source.old) (S.failures source.new))
-        (files_at folder.now (file.now ∷ []))
+        (world (S.may_give source.old) (S.may_lack source.old) folder.now (file.now ∷ []))
         (λ schema. IsShown schema root.now word.now (string_bytes text))) }
     ensures refused { IfErr result (IsShowError
-        (seen (S.may_give source.old) (S.may_lack source.old) (S.failures source.old) (S.failures source.new))
-        (files_at folder.now (file.now ∷ [])) root.now word.now) }
+        (world (S.may_give source.old) (S.may_lack source.old) folder.now (file.now ∷ [])) root.now word.now) }
+    ensures counted { S.failures source.new ≡ S.failures source.old + call_failures Side.Old result }
     ensures same_given { S.may_give source.new ≡ S.may_give source.old }
     ensures same_lacked { S.may_lack source.new ≡ S.may_lack source.old }
 {

@@ -2,7 +2,8 @@
 ghost use Rattle.std.specs.Prelude.{◌≡◌};
 ghost use Rattle.pg_gate.specs.Refusals as refusals;
 
-use crate::error::{CertificateFault, ClaimFault, Fault};
+use crate::call_error::{CertificateFault, ClaimFault};
+use crate::error::Fault;
 use crate::refusal::Location;
 use pg_check::CheckError;
 use pg_dyn::DynError;
@@ -52,7 +53,7 @@ fn told_at(code: u16, place: Place) -> Told
 }
 
 /// What is told by its code alone.
-fn told_alone(code: u16) -> Told
+pub(crate) fn told_alone(code: u16) -> Told
     ensures { result ≡ refusals.told_alone code }
 {
     Told {

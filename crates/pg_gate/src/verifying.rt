@@ -4,14 +4,16 @@ ghost use Rattle.pg_cert.specs.Certificate.{Holds, verdict_of};
 ghost use Rattle.pg_cert.specs.Laws.{Says};
 ghost use Rattle.pg_cert.specs.Text.{Certifies, names_of};
 ghost use Rattle.pg_pairs.specs.Sight.{by_numbers};
+ghost use Rattle.pg_link.specs.Walk.{world};
 ghost use Rattle.pg_schema.specs.Parts.{shape_of};
-ghost use Rattle.pg_gate.specs.Files.{source_failures};
-ghost use Rattle.pg_gate.specs.Grants.{IsUngiven, IsVerified, IsVerifyError, files_at, seen};
+ghost use Rattle.pg_gate.specs.Errors.{call_failures};
+ghost use Rattle.pg_gate.specs.Grants.{IsUngiven, IsVerified, IsVerifyError};
 ghost use Rattle.pg_gate.specs.Verified as spec;
 
+use crate::both_sides::{SideFiles, compile_both};
 use crate::call::Sides;
-use crate::compile::compile;
-use crate::error::{CertificateFault, ClaimFault, GateError, PairNames, Side};
+use crate::call_error::{CallError, CertificateFault, ClaimFault, PairNames};
+use crate::error::{GateError, Side};
 use crate::reply::Finding;
 use crate::verified::Verified;
 use pg_cert::{CertError, Certificate, Verdict, check, from_text};
@@ -21,10 +23,10 @@ use pg_schema::{Schema, TypeId};
 use std::alloc::{AllocError, Global};
 
 /// The bytes of the certificate, for which the source is asked by its path as it stands.
-fn read<S: Sources>(alloc: Global, source: &mut S, path: &str) -> Result<Vec<u8>, GateError>
+fn read<S: Sources>(alloc: Global, source: &mut S, path: &str) -> Result<Vec<u8>, CallError>
     ensures given { IfOk result (λ bytes. IsTrue (S.may_give source.old path.now bytes.items)) }
     ensures refused { IfErr result (IsUngiven (S.may_lack source.old) path.now) }
-    ensures counted { S.failures source.new ≡ S.failures source.old + source_failures result }
+    ensures counted { S.failures source.new ≡ S.failures source.old + call_failures Side.Old result }
     ensures same_given { S.may_give source.new ≡ S.may_give source.old }
     ensures same_lacked { S.may_lack source.new ≡ S.may_lack source.old }
 {
@@ -32,9 +34,9 @@ fn read<S: Sources>(alloc: Global, source: &mut S, path: &str) -> Result<Vec<u8>
     let file = String::from_str(alloc, path)?;
     match source.read(alloc, path) {
         Ok(bytes) => Ok(bytes),
-        Err(SourceError::Missing) => Err(GateError::Certificate(CertificateFault::Missing(file))),
-        Err(SourceError::Failed) => Err(GateError::Certificate(CertificateFault::Failed(file))),
-        Err(SourceError::Memory) => Err(GateError::Memory),
+        Err(SourceError::Missing) => Err(CallError::Certificate(CertificateFault::Missing(file))),
+        Err(SourceError::Failed) => Err(CallError::Certificate(CertificateFault::Failed(file))),
+        Err(SourceError::Memory) => Err(CallError::Gate(GateError::Memory)),
     }
 }
 
@@ -64,10 +66,10 @@ fn pair_names(
 }
 
 /// The refusal of a certificate's bytes.
-fn refused(fault: ClaimFault) -> GateError
+fn refused(fault: ClaimFault) -> CallError
     ensures { result ≡ spec.refused fault }
 {
-    GateError::Certificate(CertificateFault::Refused(fault))
+    CallError::Certificate(CertificateFault::Refused(fault))
 }
 
 /// What is told of a checker's error.
@@ -76,11 +78,11 @@ fn error_of(
     old: &Schema,
     new: &Schema,
     error: CertError,
-) -> Result<GateError, AllocError>
+) -> Result<CallError, AllocError>
     ensures { IfOk result (spec.IsToldOf old.now new.now error) }
 {
     match error {
-        CertError::Memory => Ok(GateError::Memory),
+        CertError::Memory => Ok(CallError::Gate(GateError::Memory)),
         CertError::BadText => Ok(refused(ClaimFault::BadText)),
         CertError::RootMissing => Ok(refused(ClaimFault::RootMissing)),
         CertError::PairMissing { pair } => {
@@ -107,7 +109,7 @@ fn spelled(
     old: &Schema,
     new: &Schema,
     bytes: &[u8],
-) -> Result<Certificate, GateError>
+) -> Result<Certificate, CallError>
     ensures certifies { IfOk result (Certifies old.now new.now bytes.now) }
     ensures refused { IfErr result (spec.IsClaimError old.now new.now bytes.now) }
 {
@@ -123,7 +125,7 @@ fn checked(
     old: &Schema,
     new: &Schema,
     certificate: &Certificate,
-) -> Result<Verdict, GateError>
+) -> Result<Verdict, CallError>
     ensures holds { OnOk result (Holds by_numbers (shape_of old.now) (shape_of new.now) certificate.now) }
     ensures verdict { IfOk result (λ verdict. verdict ≡ verdict_of certificate.now) }
     ensures says { IfOk result (Says by_numbers (shape_of old.now) (shape_of new.now) certificate.now) }
@@ -147,7 +149,7 @@ fn witness_length(certificate: &Certificate) -> usize
 }
 
 /// What the certificate of these bytes shows of two schemas.
-fn held(alloc: Global, old: &Schema, new: &Schema, bytes: &[u8]) -> Result<Finding, GateError>
+fn held(alloc: Global, old: &Schema, new: &Schema, bytes: &[u8]) -> Result<Finding, CallError>
     ensures found { IfOk result (spec.IsHeldBy old.now new.now bytes.now) }
     ensures refused { IfErr result (spec.IsClaimError old.now new.now bytes.now) }
 {
@@ -170,24 +172,29 @@ pub(crate) fn verify<S: Sources, T: Sources>(
     certificate: &str,
     old: &mut S,
     new: &mut T,
-) -> Result<Finding, GateError>
+) -> Result<Finding, CallError>
     ensures found { IfOk result (IsVerified certificate.now
-        (seen (S.may_give old.old) (S.may_lack old.old) (S.failures old.old) (S.failures old.new))
-        (seen (T.may_give new.old) (T.may_lack new.old) (T.failures new.old) (T.failures new.new))
-        (files_at sides.now.old_dir.now (sides.now.old.now ∷ []))
-        (files_at sides.now.new_dir.now (sides.now.new.now ∷ []))) }
+        (world (S.may_give old.old) (S.may_lack old.old) sides.now.old_dir.now (sides.now.old.now ∷ []))
+        (world (T.may_give new.old) (T.may_lack new.old) sides.now.new_dir.now (sides.now.new.now ∷ []))) }
     ensures refused { IfErr result (IsVerifyError certificate.now
-        (seen (S.may_give old.old) (S.may_lack old.old) (S.failures old.old) (S.failures old.new))
-        (seen (T.may_give new.old) (T.may_lack new.old) (T.failures new.old) (T.failures new.new))
-        (files_at sides.now.old_dir.now (sides.now.old.now ∷ []))
-        (files_at sides.now.new_dir.now (sides.now.new.now ∷ []))) }
+        (world (S.may_give old.old) (S.may_lack old.old) sides.now.old_dir.now (sides.now.old.now ∷ []))
+        (world (T.may_give new.old) (T.may_lack new.old) sides.now.new_dir.now (sides.now.new.now ∷ []))) }
+    ensures old_counted { S.failures old.new ≡ S.failures old.old + call_failures Side.Old result }
+    ensures new_counted { T.failures new.new ≡ T.failures new.old + call_failures Side.New result }
     ensures old_given { S.may_give old.new ≡ S.may_give old.old }
     ensures old_lacked { S.may_lack old.new ≡ S.may_lack old.old }
     ensures new_given { T.may_give new.new ≡ T.may_give new.old }
     ensures new_lacked { T.may_lack new.new ≡ T.may_lack new.old }
 {
-    let old_schema = compile(alloc, old, Side::Old, sides.old_dir, &[sides.old])?;
-    let new_schema = compile(alloc, new, Side::New, sides.new_dir, &[sides.new])?;
+    let old_files = SideFiles {
+        folder: sides.old_dir,
+        paths: &[sides.old],
+    };
+    let new_files = SideFiles {
+        folder: sides.new_dir,
+        paths: &[sides.new],
+    };
+    let both = compile_both(alloc, &old_files, &new_files, false, old, new)?;
     let bytes = read(alloc, old, certificate)?;
-    held(alloc, &old_schema, &new_schema, &bytes)
+    held(alloc, &both.old.schema, &both.new.schema, &bytes)
 }

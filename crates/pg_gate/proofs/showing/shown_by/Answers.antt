@@ -1,7 +1,8 @@
-use Rattle.std.proofs.Common.{◌≡◌, ◌∙◌, Option, Some, ap, refl, string_bytes, subst, sym}
+use Rattle.std.proofs.Common.{◌≡◌, ◌∙◌, Some, ap, refl, string_bytes, subst, sym}
 use Rattle.std.proofs.lemmas.Result.{IfErr-weaker, IfOk-weaker}
 use Rattle.pg_gate.specs.Showing.{IsShowFault}
-use Rattle.pg_gate.specs.declared.error.GateError.{GateError}
+use Rattle.pg_gate.specs.declared.call_error.CallError.{CallError}
+use Rattle.pg_gate.specs.declared.call_error.CallError.TheVariants as calls
 use Rattle.pg_gate.proofs.CallLemmas.{IfErr-IsErrAnd}
 use Rattle.pg_gate.proofs.Roots.{named_there}
 use Rattle.pg_gate.proofs.ShowLemmas.{shown_there, unread_there, unspelled_there}
@@ -15,8 +16,8 @@ lines_of-requires c =
 pub returns-in_err-bytes-clause-refused : goal.returns-in_err-bytes-clause-refused
 returns-in_err-bytes-clause-refused c =
     let named = (c.in-Some.ensures c.in-Some.type_id).0 refl in
-    let error : GateError = c.in_err-bytes.field-0.0 in
-    let refused = unspelled_there c.args.schema.now c.args.root.now c.args.word.now c.in-Some.type_id named error c.in_err-bytes.ensures.refused in
+    let error : CallError = calls.Gate c.in_err-bytes.field-0.0 in
+    let refused = unspelled_there c.args.schema.now c.args.root.now c.args.word.now c.in-Some.type_id named c.in_err-bytes.field-0.0 c.in_err-bytes.ensures.refused in
     IfErr-IsErrAnd c.from_residual.result (λ e. e ≡ error) (λ e. IsShowFault c.args.schema.now c.args.root.now c.args.word.now e) c.from_residual.ensures.1
     (λ e same. subst (λ e. IsShowFault c.args.schema.now c.args.root.now c.args.word.now e) (sym same) refused)
 

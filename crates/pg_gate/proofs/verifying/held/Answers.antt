@@ -2,14 +2,14 @@ use Rattle.std.proofs.Common.{◌≡◌, ◌∙◌, ap, subst, sym}
 use Rattle.pg_cert.specs.Text.{names_of}
 use Rattle.pg_pairs.specs.declared.choice.Pair.{Pair}
 use Rattle.pg_gate.specs.Verified.{IsClaimError}
-use Rattle.pg_gate.specs.declared.error.GateError.{GateError}
+use Rattle.pg_gate.specs.declared.call_error.CallError.{CallError}
 use Rattle.pg_gate.proofs.CallLemmas.{IfErr-IsErrAnd}
 use Rattle.pg_gate.proofs.VerifyLemmas.{named_by}
 use Rattle.pg_gate.proofs.verifying.held.Goals as goal
 
 pub returns-in_err-verdict-clause-refused : goal.returns-in_err-verdict-clause-refused
 returns-in_err-verdict-clause-refused c =
-    let error : GateError = c.in_err-verdict.field-0.0 in
+    let error : CallError = c.in_err-verdict.field-0.0 in
     let refused = c.in_err-verdict.ensures.refused c.args.bytes.now c.in_ok-certificate.ensures.certifies in
     IfErr-IsErrAnd c.from_residual-in_err-verdict.result (λ e. e ≡ error) (λ e. IsClaimError c.args.old.now c.args.new.now c.args.bytes.now e) c.from_residual-in_err-verdict.ensures.1
     (λ e same. subst (λ e. IsClaimError c.args.old.now c.args.new.now c.args.bytes.now e) (sym same) refused)
