@@ -9,12 +9,14 @@ ghost use Rattle.std.specs.Prelude.{◌≡◌, ◌≢◌, ◌+◌, None, Err, co
 ghost use Rattle.clap.specs.Walk.{texts};
 ghost use Rattle.pg_gate.specs.Answer.{IsAnswer, IsRefusedRoot, Lacks};
 ghost use Rattle.pg_gate.specs.Call.{call_of};
+ghost use Rattle.pg_gate.specs.Errors.{side_failures};
 ghost use Rattle.pg_gate.specs.Files.{paths_of};
-ghost use Rattle.pg_gate.specs.Grants.{Grants, IsAnswerOfFiles, IsGateError, files_at, seen};
+ghost use Rattle.pg_gate.specs.Grants.{Grants, IsAnswerOfFiles, IsGateError, seen};
 ghost use Rattle.pg_gate.specs.Run.{Begins, IsRunError, Prints, failures_in};
 ghost use Rattle.pg_gate.specs.declared.error.GateError.TheVariants as errors;
+ghost use Rattle.pg_link.specs.Walk.{world};
 
-use pg_gate::{Answer, GateError, Sink};
+use pg_gate::{Answer, GateError, Side, Sink};
 use pg_link::Sources;
 use pg_schema::Schema;
 pub use printed::{
@@ -44,15 +46,17 @@ pub fn gate_files<S: Sources, T: Sources>(
     new_roots: &[&str],
     root: &str,
 ) -> Result<Answer, GateError>
-    // The answer is that of texts and sets that the sources may give, and so is each refusal.
+    // The answer is that of texts and sets that the sources may give, and so is each refusal. A fault of the new side
+    // comes only where the old side has a schema.
     ensures answer { IfOk result (IsAnswerOfFiles root.now
-        (seen (S.may_give old.old) (S.may_lack old.old) (S.failures old.old) (S.failures old.new))
-        (seen (T.may_give new.old) (T.may_lack new.old) (T.failures new.old) (T.failures new.new))
-        (files_at (codes ".") (paths_of old_roots.now)) (files_at (codes ".") (paths_of new_roots.now))) }
+        (world (S.may_give old.old) (S.may_lack old.old) (codes ".") (paths_of old_roots.now))
+        (world (T.may_give new.old) (T.may_lack new.old) (codes ".") (paths_of new_roots.now))) }
     ensures refused { IfErr result (IsGateError root.now
-        (seen (S.may_give old.old) (S.may_lack old.old) (S.failures old.old) (S.failures old.new))
-        (seen (T.may_give new.old) (T.may_lack new.old) (T.failures new.old) (T.failures new.new))
-        (files_at (codes ".") (paths_of old_roots.now)) (files_at (codes ".") (paths_of new_roots.now))) }
+        (world (S.may_give old.old) (S.may_lack old.old) (codes ".") (paths_of old_roots.now))
+        (world (T.may_give new.old) (T.may_lack new.old) (codes ".") (paths_of new_roots.now))) }
+    // A source failed once where that is what its side is refused for, and never else.
+    ensures old_counted { S.failures old.new ≡ S.failures old.old + side_failures Side.Old result }
+    ensures new_counted { T.failures new.new ≡ T.failures new.old + side_failures Side.New result }
     // The sources' reads leave what they may give and lack.
     ensures old_given { S.may_give old.new ≡ S.may_give old.old }
     ensures old_lacked { S.may_lack old.new ≡ S.may_lack old.old }
