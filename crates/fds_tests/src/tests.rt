@@ -116,7 +116,7 @@ fn written_schema(rt: HostRuntime) -> Result<(), Fail> {
 // The links of a file `m.proto` of this text.
 fn linked(alloc: Global, text: &[u8]) -> Result<Linked, LinkError> {
     let files = [("m.proto", text)];
-    link(alloc, &mut Listed { files: &files }, ".", &["m.proto"])
+    link(alloc, &mut Listed { files: &files }, &["m.proto"])
 }
 
 // The schema of a file `m.proto` that declares this.
