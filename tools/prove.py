@@ -3,7 +3,8 @@
 
 usage: tools/prove.py [CRATE..]    ends with the gate's status, and with its last line, 'N passed, M failed'
 
-Where crates are named, the gate runs on a copy of these and of those that they stand on.
+Where crates are named, the gate runs on a copy of these and of those that they stand on. Else the documents are compared first
+with the definitions and the pictures.
 
 Lines of rt stand behind the seconds since the start. Behind them stand the processor seconds of each crate by kind: its proof, the
 second proof that its edits begin with (the seed), its edits, its tests, and what builds and runs programs. Without RT_JOBS as many
@@ -172,7 +173,15 @@ def prove(folder):
     return os.waitstatus_to_exitcode(status)
 
 
+def documents_agree():
+    """Returns whether the documents name the files that the promise rests on, and the pictures say what their texts say."""
+    return all([subprocess.run([f"tools/{it}", "--compare"]).returncode == 0 for it in ("model_files.py", "pictures.py")])
+
+
 def main(names):
+    if not names and not documents_agree():
+        print("the documents say something else than the repository\n0 passed, 1 failed")
+        return 1
     if not names:
         return prove(".")
     with tempfile.TemporaryDirectory(prefix="protogate-gate-") as room:

@@ -9,7 +9,7 @@ ghost use Rattle.std.specs.Prelude.{◌≡◌, ◌≢◌, ◌+◌, None, Err, co
 ghost use Rattle.clap.specs.Walk.{texts};
 ghost use Rattle.pg_gate.specs.Answer.{IsAnswer, IsRefusedRoot, Lacks};
 ghost use Rattle.pg_gate.specs.Call.{call_of};
-ghost use Rattle.pg_gate.specs.Errors.{side_failures};
+ghost use Rattle.pg_gate.specs.Failures.{side_failures};
 ghost use Rattle.pg_gate.specs.Files.{paths_of};
 ghost use Rattle.pg_gate.specs.Grants.{Grants, IsAnswerOfFiles, IsGateError, seen};
 ghost use Rattle.pg_gate.specs.Run.{Prints};

@@ -37,7 +37,7 @@ use Rattle.pg_gate.specs.declared.reply.Finding.{Finding}
 use Rattle.pg_gate.specs.declared.reply.Finding.TheVariants as findings
 use Rattle.pg_gate.specs.declared.reply.Reply.{Reply}
 use Rattle.pg_gate.specs.declared.reply.Reply.TheVariants as replies
-use Rattle.pg_gate.specs.Errors.{failures_at, failures_by}
+use Rattle.pg_gate.specs.Failures.{failures_at, failures_by}
 use Rattle.pg_gate.specs.declared.error.Side.{Side}
 use Rattle.pg_gate.proofs.ErrorLemmas.{error-weaker, none_counted, of_none}
 use Rattle.pg_gate.proofs.Ranges.{searched_there}

@@ -2,7 +2,8 @@
 use Rattle.std.proofs.Common.{◌≡◌, ◌∙◌, ℕ, Result, Ok, Err, IfErr, refl, ap, sym, subst}
 use Rattle.std.specs.Result.{IsErrAnd}
 use Rattle.pg_dyn.specs.declared.error.DynError.{DynError}
-use Rattle.pg_gate.specs.Errors.{IsCallError, IsError, IsMemory, call_failures_at, failures_at, failures_by, fault_failures, if_same, told_failures}
+use Rattle.pg_gate.specs.Errors.{IsCallError, IsError, IsMemory}
+use Rattle.pg_gate.specs.Failures.{call_failures_at, failures_at, failures_by, fault_failures, if_same, told_failures}
 use Rattle.pg_gate.specs.Files.{IsErrorOf}
 use Rattle.pg_gate.specs.declared.call_error.CallError.{CallError}
 use Rattle.pg_gate.specs.declared.call_error.CallError.TheVariants as calls

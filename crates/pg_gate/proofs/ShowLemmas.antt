@@ -6,7 +6,8 @@ use Rattle.pg_schema.specs.declared.field.TypeId.{TypeId}
 use Rattle.pg_schema.specs.declared.parts.Parts.{Parts}
 use Rattle.pg_show.specs.Hex.{bytes_in}
 use Rattle.pg_gate.specs.Answer.{IsNamed, Lacks}
-use Rattle.pg_gate.specs.Errors.{IsError, IsMemory, call_failures_at}
+use Rattle.pg_gate.specs.Errors.{IsError, IsMemory}
+use Rattle.pg_gate.specs.Failures.{call_failures_at}
 use Rattle.pg_gate.specs.Files.{IsFaultOfSide, IsSide, IsSideError}
 use Rattle.pg_gate.specs.Grants.{IsShowError, OfSide}
 use Rattle.pg_gate.specs.Showing.{IsBadWord, IsReadAs, IsRefused, IsRefusedWord, IsShowFault, IsShown, IsUnread, IsUnspelled}

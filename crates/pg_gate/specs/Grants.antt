@@ -7,7 +7,8 @@ use Rattle.pg_dyn.specs.Kept.{Kept}
 use Rattle.pg_schema.specs.declared.parts.Parts.{Parts}
 use Rattle.pg_gate.specs.Call.{Request, compile, gate, show, verify}
 use Rattle.pg_link.specs.Walk.{World, world}
-use Rattle.pg_gate.specs.Errors.{IsCallError, IsError, IsMemory, call_failures_at}
+use Rattle.pg_gate.specs.Errors.{IsCallError, IsError, IsMemory}
+use Rattle.pg_gate.specs.Failures.{call_failures_at}
 use Rattle.pg_gate.specs.Files.{IsErrorOf, IsFaultOfSet, IsFaultOfSide, IsSetOf, IsSide}
 use Rattle.pg_gate.specs.Answer.{IsAnswer, IsBroken, IsCompatible, Lacks, certificate_of}
 use Rattle.pg_gate.specs.declared.answer.Answer.{Answer}

@@ -1,7 +1,7 @@
 //! The gate: whether a reader of the new type sees all that a writer of the old one writes.
 ghost use Rattle.std.specs.Prelude.{◌≡◌, ◌+◌, Err, codes, IfErr, IfOk};
 ghost use Rattle.pg_gate.specs.Answer.{AreRoots, IsAnswer, IsRefusedRoot, Lacks, certificate_of};
-ghost use Rattle.pg_gate.specs.Errors.{side_failures};
+ghost use Rattle.pg_gate.specs.Failures.{side_failures};
 ghost use Rattle.pg_gate.specs.Files.{paths_of};
 ghost use Rattle.pg_gate.specs.Grants.{IsAnswerOfFiles, IsGateError};
 ghost use Rattle.pg_gate.specs.declared.error.GateError.TheVariants as errors;

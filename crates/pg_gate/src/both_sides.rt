@@ -1,7 +1,7 @@
 //! Two sides that are compiled, the old one first.
 ghost use Rattle.std.specs.Prelude.{◌≡◌, ◌+◌, IfErr, IfOk};
 ghost use Rattle.pg_link.specs.Walk.{world};
-ghost use Rattle.pg_gate.specs.Errors.{side_failures};
+ghost use Rattle.pg_gate.specs.Failures.{side_failures};
 ghost use Rattle.pg_gate.specs.Files.{IsSide, paths_of};
 ghost use Rattle.pg_gate.specs.Grants.{IsSidesError};
 

@@ -4,7 +4,7 @@ ghost use Rattle.pg_link.specs.Linked.{IsLinkedUp};
 ghost use Rattle.pg_link.specs.Walk.{IsLinked, world};
 ghost use Rattle.pg_check.specs.Declares.{Declares};
 ghost use Rattle.pg_check.specs.Sources.{linked_sources};
-ghost use Rattle.pg_gate.specs.Errors.{source_failures};
+ghost use Rattle.pg_gate.specs.Failures.{source_failures};
 ghost use Rattle.pg_gate.specs.Files.{IsCompiled, IsErrorOf, IsFaultOf, IsFaultOfRead, IsOfLink, IsOfRules, IsRead, IsSide, IsSideError, paths_of};
 
 use crate::error::{Fault, GateError, Side};

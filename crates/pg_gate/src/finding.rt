@@ -6,7 +6,7 @@ ghost use Rattle.pg_pairs.specs.Sight.{by_numbers};
 ghost use Rattle.pg_schema.specs.Parts.{shape_of};
 ghost use Rattle.pg_gate.specs.Answer.{IsRefusedRoot};
 ghost use Rattle.pg_gate.specs.Call.{request_of, sides_of};
-ghost use Rattle.pg_gate.specs.Errors.{call_failures, side_failures};
+ghost use Rattle.pg_gate.specs.Failures.{call_failures, side_failures};
 ghost use Rattle.pg_gate.specs.Files.{paths_of};
 ghost use Rattle.pg_gate.specs.Grants.{Between, Grants, IsErrorFor, IsFindingOf, IsGateError, IsGateReply, IsReplyFor, Tells, TellsAnswer, TellsCertificate, seen};
 ghost use Rattle.pg_link.specs.Walk.{world};

@@ -1,7 +1,7 @@
 //! Sides that are descriptor sets.
 ghost use Rattle.std.specs.Prelude.{◌≡◌, ◌+◌, IfErr, IfOk, IsTrue, option_map};
 ghost use Rattle.pg_link.specs.Below.{path_below};
-ghost use Rattle.pg_gate.specs.Errors.{source_failures};
+ghost use Rattle.pg_gate.specs.Failures.{source_failures};
 ghost use Rattle.pg_gate.specs.Files.{IsErrorOf, IsFaultOfBytes, IsFaultOfRead, IsGivenFault, IsRead, IsStated, paths_of};
 ghost use Rattle.pg_gate.specs.Files as spec;
 

@@ -3,7 +3,7 @@ ghost use Rattle.std.specs.Prelude.{◌≡◌, ◌+◌, ◌<◌, [], ◌∷◌, 
 ghost use Rattle.pg_schema.specs.Parts.{shape_of};
 ghost use Rattle.pg_show.specs.Hex.{bytes_in};
 ghost use Rattle.pg_link.specs.Walk.{world};
-ghost use Rattle.pg_gate.specs.Errors.{call_failures};
+ghost use Rattle.pg_gate.specs.Failures.{call_failures};
 ghost use Rattle.pg_gate.specs.Grants.{IsShowError, OfSide};
 ghost use Rattle.pg_gate.specs.Showing.{IsReadAs, IsShowFault, IsShown, IsUnread, IsUnspelled};
 

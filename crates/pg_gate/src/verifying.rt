@@ -6,7 +6,7 @@ ghost use Rattle.pg_cert.specs.Text.{Certifies, names_of};
 ghost use Rattle.pg_pairs.specs.Sight.{by_numbers};
 ghost use Rattle.pg_link.specs.Walk.{world};
 ghost use Rattle.pg_schema.specs.Parts.{shape_of};
-ghost use Rattle.pg_gate.specs.Errors.{call_failures};
+ghost use Rattle.pg_gate.specs.Failures.{call_failures};
 ghost use Rattle.pg_gate.specs.Grants.{IsUngiven, IsVerified, IsVerifyError};
 ghost use Rattle.pg_gate.specs.Verified as spec;
 

@@ -1,7 +1,7 @@
 //! The descriptor set of files.
 ghost use Rattle.std.specs.Prelude.{◌≡◌, ◌+◌, IfErr, IfOk};
 ghost use Rattle.pg_link.specs.Walk.{world};
-ghost use Rattle.pg_gate.specs.Errors.{source_failures};
+ghost use Rattle.pg_gate.specs.Failures.{source_failures};
 ghost use Rattle.pg_gate.specs.Files.{IsErrorOf, IsFaultOfSet, IsSetOf, paths_of};
 
 use crate::compile::schema_of_texts;

@@ -1,7 +1,7 @@
 use Rattle.std.proofs.Common.{◌≡◌, ◌∙◌, ◌+◌, ap, arith, codes, subst, sym}
 use Rattle.std.proofs.lemmas.Result.{IfErr-weaker, IfOk-weaker}
 use Rattle.pg_link.specs.Walk.{world}
-use Rattle.pg_gate.specs.Errors.{failures_at}
+use Rattle.pg_gate.specs.Failures.{failures_at}
 use Rattle.pg_gate.specs.Files.{paths_of}
 use Rattle.pg_gate.specs.Grants.{IsGateError}
 use Rattle.pg_gate.specs.declared.error.GateError.{GateError}

@@ -1,6 +1,6 @@
 use Rattle.std.proofs.Common.{◌≡◌, ◌∙◌, ◌+◌, ap, arith, subst, sym}
 use Rattle.pg_link.specs.Walk.{world}
-use Rattle.pg_gate.specs.Errors.{failures_at}
+use Rattle.pg_gate.specs.Failures.{failures_at}
 use Rattle.pg_gate.specs.Files.{IsFaultOfSide, IsSide, paths_of}
 use Rattle.pg_gate.specs.Grants.{IsSidesError}
 use Rattle.pg_gate.specs.declared.error.GateError.{GateError}

@@ -1,7 +1,7 @@
 use Rattle.std.proofs.Common.{◌≡◌, ◌∙◌, ◌+◌, [], ◌∷◌, ap, arith, string_bytes, subst, sym}
 use Rattle.std.proofs.lemmas.Result.{IfErr-weaker, IfOk-weaker}
 use Rattle.pg_link.specs.Walk.{world}
-use Rattle.pg_gate.specs.Errors.{call_failures_at}
+use Rattle.pg_gate.specs.Failures.{call_failures_at}
 use Rattle.pg_gate.specs.Files.{IsFaultOfSide}
 use Rattle.pg_gate.specs.Grants.{IsShowError}
 use Rattle.pg_gate.specs.Showing.{IsShowFault}

@@ -3,7 +3,7 @@ use Rattle.std.proofs.lemmas.Result.{IfErr-weaker, IfOk-weaker}
 use Rattle.std.specs.Prelude.{IsTrue}
 use Rattle.clap.specs.Words.{Text}
 use Rattle.pg_link.specs.Walk.{world}
-use Rattle.pg_gate.specs.Errors.{call_failures_at}
+use Rattle.pg_gate.specs.Failures.{call_failures_at}
 use Rattle.pg_gate.specs.Grants.{IsUngiven, IsVerifyError}
 use Rattle.pg_gate.specs.Verified.{IsClaimError}
 use Rattle.pg_gate.specs.declared.call_error.CallError.{CallError}
