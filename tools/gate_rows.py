@@ -1,5 +1,6 @@
 #!/usr/bin/env python3
-"""Writes the long rows of crates/gate_rows: chains of messages, cut sets and certificates, deep nests, and what is wanted of them.
+"""Writes the long rows of crates/gate_rows: chains of messages, cut and forged sets, certificates and messages, deep nests, and what is
+wanted of them.
 
     tools/gate_rows.py
 
@@ -124,9 +125,12 @@ def cut_set_rows():
     """A set that is cut off is none; no bytes at all are a set without files."""
     words, whole = "gate --old m.pb --new m.pb --type M", files(("m.pb", SET))
     row("a set without bytes", words, "m.pb=", whole, 2, "refused E901\n")
+    row("a new set without bytes", words, whole, "m.pb=", 2, "refused E902\n")
     for length in range(1, len(SET)):
-        what = "a set cut off behind byte %d" % length
-        row(what, words, files(("m.pb", SET[:length])), whole, 2, "refused old E502 at 0\n")
+        what = "set cut off behind byte %d" % length
+        cut = files(("m.pb", SET[:length]))
+        row("a " + what, words, cut, whole, 2, "refused old E502 at 0\n")
+        row("a new " + what, words, whole, cut, 2, "refused new E502 at 0\n")
 
 
 def cut_certificate_rows():
@@ -136,6 +140,65 @@ def cut_certificate_rows():
     for length in range(len(whole)):
         sides = files(("m.proto", old), ("c", whole[:length])), new
         row("a certificate cut off behind byte %d" % length, "verify %s c" % TEXTS, *sides, 2, "refused E801\n")
+
+
+def forged_certificate_row(what, sides, lines, refused):
+    """A certificate of these lines, wrong in more than one way, between two sides: the first fault is printed."""
+    text = "protogate-certificate 1\n" + "".join(line + "\n" for line in lines) + "end\n"
+    old, new = files(("m.proto", sides[0]), ("c", text)), files(("m.proto", sides[1]))
+    row("forged: " + what, "verify %s c" % TEXTS, old, new, 2, "refused %s\n" % refused)
+
+
+def forged_rows_of_one_pair():
+    """The bound of the root is asked first, then whether a writer writes the witness, then its length, then whether it is kept."""
+    same = (message("int32 a = 1;"),) * 2
+    signed = message("int32 a = 1;"), message("uint32 a = 1;")
+    broken, kept, not_written = "witness 08ffffffffffffffffff01", "witness 0801", "witness 080008ffffffffffffffffff01"
+    for what, sides, pair, witness, refused in (
+        ("a bound too high, and a witness that no writer writes", signed, "pair M M 12", not_written, "E804 M M 1 2"),
+        ("a bound too high, and a witness that is kept", signed, "pair M M 12", kept, "E804 M M 1 2"),
+        ("no bound, and a witness that breaks", signed, "pair M M none", broken, "E804 M M 1 2"),
+        ("a witness of another length, and kept", signed, "pair M M 11", kept, "E806"),
+        ("no bound, and a witness that no writer writes", same, "pair M M none", "witness 0800", "E805"),
+        ("no bound, and a witness that is kept", same, "pair M M none", kept, "E806"),
+    ):
+        forged_certificate_row(what, sides, ["root M M", pair, witness], refused)
+
+
+def forged_rows_of_two_pairs():
+    """The root is asked first, then pair by pair: first its children, then its bound. Pairs that the root doesn't lead to are asked too."""
+    rest = ("message K { }", "message N { N next = 1; M m = 2; K k = 3; }")
+    sides = tuple(lines("message M { %s a = 1; }" % it, *rest) for it in ("uint32", "int32"))
+    for what, root, pairs, refused in (
+        ("no root, and a pair that is missing", "K K", ["N N 8"], "E802"),
+        ("no root, and a bound too high", "N N", ["M M 7"], "E802"),
+        ("a pair that is missing, and a bound too high", "N N", ["N N 9", "M M 6"], "E803 K K"),
+        ("a bound too high before a pair that lacks one", "N N", ["M M 7", "N N 8"], "E804 M M 1 2"),
+        ("a bound too high behind a pair that lacks one", "N N", ["N N 8", "M M 7"], "E803 K K"),
+        ("of two pairs that are missing the lower field's", "N N", ["N N 8"], "E803 M M"),
+        ("a bound too high of a pair that isn't reached", "M M", ["M M 6", "K K none", "N N 9"], "E804 N N 2 3"),
+        ("a pair that isn't reached and lacks one", "M M", ["M M 6", "N N 8"], "E803 K K"),
+    ):
+        forged_certificate_row(what, sides, ["root " + root, *("pair " + it for it in pairs), "witness none"], refused)
+
+
+def cut_message_rows():
+    """Two records of one message, cut off; and lengths of a message inside that end within its records."""
+    words, text = "show --file m.proto --type M ", files(("m.proto", message("M m = 1; int32 a = 2;")))
+    for what, word, status, printed_text in (
+        ("two records cut off behind byte 0", "-", 0, "again -\n"),
+        ("two records cut off behind byte 1", "0a", 2, "refused E502 at 0\n"),
+        ("two records cut off behind byte 2", "0a02", 2, "refused E502 at 0\n"),
+        ("two records cut off behind byte 3", "0a0210", 2, "refused E502 at 0\n"),
+        ("two records cut off behind byte 4", "0a021005", 0, "1 m msg\n  2 a int 5\nagain 0a021005\n"),
+        ("two records cut off behind byte 5", "0a0210050a", 2, "refused E502 at 4\n"),
+        ("forged: a length one too high", "0a0310050a00", 2, "refused E502 at 4\n"),
+        ("forged: a length one too low", "0a0110050a00", 2, "refused E502 at 2\n"),
+        ("forged: a group inside", "0a010b", 2, "refused E504 at 2\n"),
+        ("forged: a tag of the field 0 inside", "0a0103", 2, "refused E503 at 2\n"),
+        ("forged: a length past all bytes, written long", "0affffffffffffffffff01", 2, "refused E502 at 0\n"),
+    ):
+        row(what, words + word, text, "", status, printed_text)
 
 
 def nested_rows():
@@ -231,6 +294,9 @@ def main():
     deep_block_rows()
     cut_set_rows()
     cut_certificate_rows()
+    cut_message_rows()
+    forged_rows_of_one_pair()
+    forged_rows_of_two_pairs()
     closing_rows()
     rewrite("gate_rows", ROWS)
 
