@@ -1,0 +1,354 @@
+#!/usr/bin/env python3
+"""Runs the built program on texts, descriptor sets, certificates and messages that are changed at random, and judges its answers.
+
+    tools/fuzz.py [--seed N] [--count N] [--seconds N] [--jobs N] [--only KIND:NUMBER] [--folder FOLDER] [PROGRAM]
+
+KIND is text, set, certificate or message. Of each kind COUNT inputs are tried (20,000 by default), as far as SECONDS allow (120), by
+as many processes side by side as there are processors. What is changed are the repository's own inputs (tools/fuzz_seeds.py), one to
+four times each (tools/fuzz_changes.py). The input of a kind and number is the same for a seed, however many are tried.
+
+Asked of every run: it ends within ten seconds with a status from 0 to 5, by no signal, with nothing on standard error, and prints
+just what docs/USAGE.md and docs/REFUSALS.md say of that subcommand and status. Asked of what is accepted:
+
+- text: what `compile` refuses, `gate` refuses alike; the set that `compile` writes is one for `show`, and for protoc where it is there
+- text, set: the certificate of `gate --cert` passes `verify`, with the same status and length; `--both` begins with the answer
+- certificate: `gate` answers what `verify` says has been proved
+- message: `show` of what was written again shows the same, and the same bytes again
+
+An input that fails is written to a folder below FOLDER (./fuzz-failures), with its files and the commands of its runs, and is printed
+with the command that tries it again. The last line counts the inputs of each kind, how many of them were accepted and how many
+refused, the failures and the seconds. The status is 1 where an input failed.
+"""
+import argparse
+import collections
+import multiprocessing
+import os
+import random
+import re
+import resource
+import shlex
+import shutil
+import signal
+import subprocess
+import sys
+import tempfile
+import time
+
+sys.dont_write_bytecode = True
+from fuzz_changes import changed_certificate, changed_message, changed_text  # noqa: E402
+from fuzz_grammar import ANSWERS  # noqa: E402
+from fuzz_seeds import ROOT, Seed, all_seeds  # noqa: E402
+
+KINDS = ("text", "set", "certificate", "message")
+# How many seconds a run may take.
+LIMIT = 10
+# A share of the inputs ends with as many failures.
+MOST_FAILURES = 10
+# Of so many sets one is given to protoc, which takes several times as long as the program.
+PROTOC_SHARE = 4
+# What protoc refuses in a set, and proto3 has no rule against.
+PROTOC_ALONE = re.compile(rb"allow_alias|JSON|json_name|ignore case|is reserved multiple times|LITE_RUNTIME")
+ACCEPTED = {"compile": (0,), "gate": (0, 1), "verify": (0, 1, 5), "show": (0,)}
+
+
+class Failure(Exception):
+    """What the program did that it must not do."""
+
+
+def overdue(*_):
+    raise TimeoutError
+
+
+def quoted(data):
+    """Returns what was printed, short enough for a line."""
+    return ascii(data[:200].decode("latin-1"))
+
+
+class Room:
+    """A folder of its own with the files of an input, in which the program runs. It keeps the commands of the input's runs."""
+
+    def __init__(self, program):
+        self.program, self.path, self.calls = program, tempfile.mkdtemp(prefix="protogate-fuzz-"), []
+        os.chdir(self.path)
+        signal.signal(signal.SIGALRM, overdue)
+        hard = resource.getrlimit(resource.RLIMIT_STACK)[1]
+        resource.setrlimit(resource.RLIMIT_STACK, (hard, hard))
+        to_file = os.O_WRONLY | os.O_CREAT | os.O_TRUNC
+        self.to_files = [(os.POSIX_SPAWN_OPEN, 0, os.devnull, os.O_RDONLY, 0),
+                         (os.POSIX_SPAWN_OPEN, 1, "said", to_file, 0o600), (os.POSIX_SPAWN_OPEN, 2, "faults", to_file, 0o600)]
+
+    def clear(self):
+        self.calls = []
+        for name in os.listdir("."):
+            if os.path.isdir(name):
+                shutil.rmtree(name)
+            else:
+                os.unlink(name)
+
+    def put(self, side, files):
+        for name, data in files.items():
+            path = os.path.join(side, name)
+            os.makedirs(os.path.dirname(path) or ".", exist_ok=True)
+            with open(path, "wb") as file:
+                file.write(data)
+
+    def status_of(self, words):
+        """Runs the program and returns how it ended, below zero by a signal."""
+        pid = os.posix_spawn(self.program, [self.program, *words], os.environ, file_actions=self.to_files)
+        signal.setitimer(signal.ITIMER_REAL, LIMIT)
+        try:
+            _, ended = os.waitpid(pid, 0)
+        except TimeoutError:
+            os.kill(pid, signal.SIGKILL)
+            os.waitpid(pid, 0)
+            raise Failure(f"more than {LIMIT} seconds: {shlex.join(words)}") from None
+        finally:
+            signal.setitimer(signal.ITIMER_REAL, 0)
+        return os.waitstatus_to_exitcode(ended)
+
+    def run(self, words, wanted=None, keep=None):
+        """Runs the program, judges its answer by what such a call may print, and returns its status and what it printed."""
+        self.calls.append((words, keep))
+        status, said = self.status_of(words), read("said")
+        forms = ANSWERS[wanted or words[0]]
+        if status not in forms:
+            raise Failure(f"status {status}: {shlex.join(words)}: {quoted(said)}")
+        if not forms[status].fullmatch(said) or read("faults"):
+            raise Failure(f"printed with status {status}: {shlex.join(words)}: {quoted(said)} {quoted(read('faults'))}")
+        if keep:
+            os.replace("said", keep)
+        return status, said
+
+
+def read(path):
+    with open(path, "rb") as file:
+        return file.read()
+
+
+def expect(is_so, what):
+    if not is_so:
+        raise Failure(what)
+
+
+def spread(random_, change, data, other):
+    """Returns the data changed once, or up to four times."""
+    for _ in range(random_.choice((1, 1, 1, 2, 2, 3, 4))):
+        data = change(random_, data, other)
+    return data
+
+
+def judge_gate(room, random_, sides, type_):
+    """Asks the gate of two sides. Where it has an answer, its certificate is checked, and one in four times both directions are asked."""
+    status, said = room.run(["gate", *sides, "--type", type_])
+    if status not in ACCEPTED["gate"]:
+        return status, said
+    certified, _ = room.run(["gate", *sides, "--type", type_, "--cert"], "certificate", keep="c")
+    verified, verdict = room.run(["verify", *sides, "c"])
+    expect(certified == verified == status, f"status {status} of gate, {certified} with --cert, {verified} of verify")
+    expect(verdict == said[:said.index(b"\n") + 1], f"gate: {quoted(said)}, verify: {quoted(verdict)}")
+    if random_.randrange(4) == 0:
+        both, answers = room.run(["gate", *sides, "--type", type_, "--both"], "both")
+        expect(answers.startswith(b"forward\n" + said) and both >= status, f"gate: {quoted(said)}, with --both: {quoted(answers)}")
+    return status, said
+
+
+def judge_protoc(path, name):
+    """Asks protoc to read a set."""
+    words = ["protoc", f"--descriptor_set_in={path}", "-o", os.devnull, name]
+    run = subprocess.run(words, stdin=subprocess.DEVNULL, capture_output=True, timeout=6 * LIMIT, check=False)
+    expect(run.returncode == 0 or PROTOC_ALONE.search(run.stderr), f"{shlex.join(words)}: {quoted(run.stderr)}")
+
+
+def judge_compile(room, random_, folder, name, type_):
+    """Compiles a text, reads the set that is written, and returns what `compile` said of a text that it refused."""
+    status, said = room.run(["compile", "--dir", folder, name], keep="compiled.pb")
+    if status in ACCEPTED["compile"]:
+        shown = room.run(["show", "--file", "compiled.pb", "--type", type_, "-"])
+        expect(shown in ((0, b"again -\n"), (2, b"refused E901\n")), f"show of the set: {quoted(shown[1])}")
+        if shutil.which("protoc") and random_.randrange(PROTOC_SHARE) == 0:
+            judge_protoc("compiled.pb", name)
+        return b""
+    return said
+
+
+def try_text(room, random_, seeds):
+    """Changes a text of one side, compiles it and compares it with the other side."""
+    seed, other = random_.choice(seeds["text"]), random_.choice(seeds["text"])
+    side, type_ = random_.choice(("old", "new")), random_.choice(seed.types)
+    files = {"old": dict(seed.old_files), "new": dict(seed.new_files)}
+    name = seed.old if side == "old" else seed.new
+    changed = name if random_.random() < 0.8 else random_.choice(sorted(files[side]))
+    files[side][changed] = spread(random_, changed_text, files[side][changed], other.old_files[other.old])
+    room.put("old", files["old"])
+    room.put("new", files["new"])
+    refused = judge_compile(room, random_, side, name, type_)
+    status, said = judge_gate(room, random_, sides_of(seed), type_)
+    begin = b"refused " + side.encode()
+    is_alike = said == begin + refused[len(b"refused"):] if refused else not said.startswith(begin)
+    expect(is_alike, f"compile: {quoted(refused)}, gate: {quoted(said)}")
+    return status in ACCEPTED["gate"]
+
+
+def sides_of(seed):
+    return ["--old-dir", "old", "--new-dir", "new", "--old", seed.old, "--new", seed.new]
+
+
+def try_set(room, random_, seeds):
+    """Changes the set of one side and compares it with the other side."""
+    seed, other = random_.choice(seeds["set"]), random_.choice(seeds["set"])
+    files = {"old": dict(seed.old_files), "new": dict(seed.new_files)}
+    names = [(side, it) for side in files for it in sorted(files[side]) if not it.endswith(".proto")]
+    side, name = random_.choice(names)
+    files[side][name] = spread(random_, changed_message, files[side][name], other.old_files[other.old])
+    room.put("old", files["old"])
+    room.put("new", files["new"])
+    return judge_gate(room, random_, sides_of(seed), random_.choice(seed.types))[0] in ACCEPTED["gate"]
+
+
+def judge_verdict(room, seed, certificate, said):
+    """Compares what a certificate proves with what the gate answers, where the types of both sides have one name."""
+    verdict, root, *length = said.split()
+    old, new = certificate.split(b"\n")[1].split()[1:]
+    if old != new:
+        return
+    answer, found, *rest = room.run(["gate", *sides_of(seed), "--type", root.decode()])[1].split()
+    if verdict == b"bound":
+        is_proved = answer == b"compatible" or int(rest[0]) >= int(length[0])
+    else:
+        is_proved = [answer, *rest[:1]] == [verdict, *length]
+    expect(found == root and is_proved, f"verify: {quoted(said)}, gate: {answer.decode()} {rest[:1]}")
+
+
+def try_certificate(room, random_, seeds):
+    """Changes a certificate and checks it between the sides that it was made for."""
+    seed, other = random_.choice(seeds["certificate"]), random_.choice(seeds["certificate"])
+    certificate = spread(random_, changed_certificate, seed.data, other.data)
+    room.put("old", seed.old_files)
+    room.put("new", seed.new_files)
+    room.put(".", {"c": certificate})
+    status, said = room.run(["verify", *sides_of(seed), "c"])
+    if status in ACCEPTED["verify"]:
+        judge_verdict(room, seed, certificate, said)
+    return status in ACCEPTED["verify"]
+
+
+def word_of(random_, data):
+    """Returns bytes as `show` takes them, seldom with a digit that is none or too many."""
+    word = data.hex() if random_.randrange(2) else data.hex().upper()
+    if random_.randrange(60) == 0:
+        word += random_.choice("0gx-. ")
+    return word or "-"
+
+
+def try_message(room, random_, seeds):
+    """Changes a message and shows it, then shows what was written again."""
+    seed, other = random_.choice(seeds["message"]), random_.choice(seeds["message"])
+    word = word_of(random_, spread(random_, changed_message, seed.data, other.data))
+    room.put(".", seed.old_files)
+    words = ["show", "--file", seed.old, "--type", seed.types[0]]
+    status, said = room.run([*words, word])
+    if status in ACCEPTED["show"]:
+        again = room.run([*words, said.split()[-1].decode()])
+        expect(again == (status, said), f"shown: {quoted(said)}, what was written again: {quoted(again[1])}")
+    return status in ACCEPTED["show"]
+
+
+TRIES = {"text": try_text, "set": try_set, "certificate": try_certificate, "message": try_message}
+
+
+def write_failure(room, folder, kind, number):
+    """Keeps the files of an input that failed, with the commands of its runs, and returns the folder."""
+    kept = os.path.join(folder, f"{kind}-{number}")
+    shutil.rmtree(kept, ignore_errors=True)
+    shutil.copytree(room.path, kept)
+    lines = ["ulimit -s unlimited\n"]
+    for words, keep in room.calls:
+        lines.append(shlex.join([room.program, *words]) + (f" >{keep}" if keep else "") + "\n")
+    with open(os.path.join(kept, "commands.sh"), "w", encoding="utf-8", errors="surrogateescape") as file:
+        file.writelines(lines)
+    return kept
+
+
+def try_one(room, options, seeds, kind, number, counts):
+    """Tries the input of a kind and number, and counts what came of it."""
+    room.clear()
+    try:
+        is_accepted = TRIES[kind](room, random.Random(f"{options.seed} {kind} {number}"), seeds)
+        counts[kind, "accepted" if is_accepted else "refused"] += 1
+    except Failure as failure:
+        counts[kind, "failed"] += 1
+        kept = write_failure(room, options.folder, kind, number)
+        again = [os.path.realpath(__file__), "--seed", str(options.seed), "--only", f"{kind}:{number}", options.program]
+        print(f"{kind} {number}: {failure}\n  kept in {kept}\n  again: {shlex.join(again)}", flush=True)
+
+
+def inputs_of(options, share):
+    """Returns the kinds and numbers of a share of the inputs, the kinds in turn."""
+    if options.only:
+        kind, _, number = options.only.partition(":")
+        return [(kind, int(number))] if share == 0 else []
+    return ((kind, number) for number in range(share, options.count, options.jobs) for kind in KINDS)
+
+
+def try_share(options, seeds, share):
+    """Tries a share of the inputs until the time is over, and returns its counts."""
+    room, counts = Room(options.program), collections.Counter()
+    try:
+        for kind, number in inputs_of(options, share):
+            if time.time() > options.end or sum(it for key, it in counts.items() if key[1] == "failed") >= MOST_FAILURES:
+                break
+            try_one(room, options, seeds, kind, number, counts)
+    finally:
+        os.chdir(ROOT)
+        shutil.rmtree(room.path)
+    return counts
+
+
+def made_seeds(program, seeds):
+    """Returns the sets that the program makes of the texts of each change, and the certificates between them."""
+    room, sets, certificates = Room(program), [], []
+    for seed in seeds:
+        room.clear()
+        room.put("old", seed.old_files)
+        room.put("new", seed.new_files)
+        made = [room.run(["compile", "--dir", side, name])[1] for side, name in (("old", seed.old), ("new", seed.new))]
+        sets.append(Seed({"m.pb": made[0]}, "m.pb", {"m.pb": made[1]}, "m.pb", seed.types, b""))
+        for type_ in seed.types:
+            status, said = room.run(["gate", *sides_of(seed), "--type", type_, "--cert"], "certificate")
+            if status in ACCEPTED["gate"]:
+                certificates.append(seed._replace(types=[type_], data=said))
+    os.chdir(ROOT)
+    shutil.rmtree(room.path)
+    return sets, certificates
+
+
+def options_of():
+    parser = argparse.ArgumentParser(description=__doc__.partition("\n")[0])
+    parser.add_argument("--seed", type=int, default=1)
+    parser.add_argument("--count", type=int, default=20_000)
+    parser.add_argument("--seconds", type=float, default=120)
+    parser.add_argument("--jobs", type=int, default=len(os.sched_getaffinity(0)))
+    parser.add_argument("--only", metavar="KIND:NUMBER")
+    parser.add_argument("--folder", default="fuzz-failures", type=os.path.abspath)
+    parser.add_argument("program", nargs="?", default=os.path.join(ROOT, "crates/protogate/out/protogate"), type=os.path.abspath)
+    return parser.parse_args()
+
+
+def main():
+    options, begun = options_of(), time.time()
+    options.end = begun + options.seconds
+    seeds = all_seeds()
+    sets, certificates = made_seeds(options.program, seeds["text"])
+    seeds["set"] += sets
+    seeds["certificate"] += certificates
+    with multiprocessing.get_context("fork").Pool(options.jobs) as pool:
+        counts = sum(pool.starmap(try_share, [(options, seeds, share) for share in range(options.jobs)], 1), collections.Counter())
+    parts = [f"{kind} {sum(counts[kind, it] for it in ('accepted', 'refused', 'failed'))} inputs: {counts[kind, 'accepted']} accepted, "
+             f"{counts[kind, 'refused']} refused" for kind in KINDS]
+    failed = sum(counts[kind, "failed"] for kind in KINDS)
+    print("; ".join([*parts, f"{failed} failures; seed {options.seed}; {time.time() - begun:.0f} seconds"]))
+    return 1 if failed else 0
+
+
+if __name__ == "__main__":
+    sys.exit(main())
