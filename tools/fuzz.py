@@ -68,8 +68,11 @@ class Room:
     """A folder of its own with the files of an input, in which the program runs. It keeps the commands of the input's runs."""
 
     def __init__(self, program):
-        self.program, self.path, self.calls = program, tempfile.mkdtemp(prefix="protogate-fuzz-"), []
+        self.program, self.calls, self.env = program, [], dict(os.environb)
+        self.path = tempfile.mkdtemp(prefix="protogate-fuzz-", dir="/dev/shm" if os.access("/dev/shm", os.W_OK) else None)
         os.chdir(self.path)
+        os.mkdir("old")
+        os.mkdir("new")
         signal.signal(signal.SIGALRM, overdue)
         hard = resource.getrlimit(resource.RLIMIT_STACK)[1]
         resource.setrlimit(resource.RLIMIT_STACK, (hard, hard))
@@ -79,22 +82,27 @@ class Room:
 
     def clear(self):
         self.calls = []
-        for name in os.listdir("."):
-            if os.path.isdir(name):
-                shutil.rmtree(name)
-            else:
-                os.unlink(name)
+        for folder in ("old", "new", "."):
+            for entry in list(os.scandir(folder)):
+                if entry.is_file():
+                    os.unlink(entry.path)
+                elif entry.name not in ("old", "new"):
+                    shutil.rmtree(entry.path)
 
     def put(self, side, files):
         for name, data in files.items():
-            path = os.path.join(side, name)
-            os.makedirs(os.path.dirname(path) or ".", exist_ok=True)
-            with open(path, "wb") as file:
+            if "/" in name:
+                os.makedirs(os.path.join(side, os.path.dirname(name)), exist_ok=True)
+            with open(f"{side}/{name}", "wb") as file:
                 file.write(data)
+
+    def remove(self):
+        os.chdir(ROOT)
+        shutil.rmtree(self.path)
 
     def status_of(self, words):
         """Runs the program and returns how it ended, below zero by a signal."""
-        pid = os.posix_spawn(self.program, [self.program, *words], os.environ, file_actions=self.to_files)
+        pid = os.posix_spawn(self.program, [self.program, *words], self.env, file_actions=self.to_files)
         signal.setitimer(signal.ITIMER_REAL, LIMIT)
         try:
             _, ended = os.waitpid(pid, 0)
@@ -207,6 +215,8 @@ def try_set(room, random_, seeds):
 
 def judge_verdict(room, seed, certificate, said):
     """Compares what a certificate proves with what the gate answers, where the types of both sides have one name."""
+    forms = ANSWERS["certificate"]
+    expect(forms[0].fullmatch(certificate) or forms[1].fullmatch(certificate), f"verify takes {quoted(certificate)}")
     verdict, root, *length = said.split()
     old, new = certificate.split(b"\n")[1].split()[1:]
     if old != new:
@@ -299,8 +309,7 @@ def try_share(options, seeds, share):
                 break
             try_one(room, options, seeds, kind, number, counts)
     finally:
-        os.chdir(ROOT)
-        shutil.rmtree(room.path)
+        room.remove()
     return counts
 
 
@@ -317,8 +326,7 @@ def made_seeds(program, seeds):
             status, said = room.run(["gate", *sides_of(seed), "--type", type_, "--cert"], "certificate")
             if status in ACCEPTED["gate"]:
                 certificates.append(seed._replace(types=[type_], data=said))
-    os.chdir(ROOT)
-    shutil.rmtree(room.path)
+    room.remove()
     return sets, certificates
 
 
@@ -336,6 +344,8 @@ def options_of():
 
 def main():
     options, begun = options_of(), time.time()
+    if not os.access(options.program, os.X_OK):
+        sys.exit(f"no program: {options.program}")
     options.end = begun + options.seconds
     seeds = all_seeds()
     sets, certificates = made_seeds(options.program, seeds["text"])

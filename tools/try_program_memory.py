@@ -134,6 +134,8 @@ def options_of():
 
 def main():
     options, begun = options_of(), time.time()
+    if not os.access(options.program, os.X_OK):
+        sys.exit(f"no program: {options.program}")
     hard = resource.getrlimit(resource.RLIMIT_STACK)[1]
     resource.setrlimit(resource.RLIMIT_STACK, (hard, hard))
     with tempfile.TemporaryDirectory(prefix="protogate-memory-") as room:
