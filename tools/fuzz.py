@@ -47,7 +47,7 @@ MOST_FAILURES = 10
 # Of so many sets one is given to protoc, which takes several times as long as the program.
 PROTOC_SHARE = 4
 # What protoc refuses in a set, and proto3 has no rule against.
-PROTOC_ALONE = re.compile(rb"allow_alias|JSON|json_name|ignore case|is reserved multiple times|LITE_RUNTIME")
+PROTOC_ALONE = re.compile(rb"allow_alias|JSON|json_name|ignore case|is reserved multiple times|LITE_RUNTIME|recursion limit")
 ACCEPTED = {"compile": (0,), "gate": (0, 1), "verify": (0, 1, 5), "show": (0,)}
 
 
@@ -320,8 +320,9 @@ def made_seeds(program, seeds):
         room.clear()
         room.put("old", seed.old_files)
         room.put("new", seed.new_files)
-        made = [room.run(["compile", "--dir", side, name])[1] for side, name in (("old", seed.old), ("new", seed.new))]
-        sets.append(Seed({"m.pb": made[0]}, "m.pb", {"m.pb": made[1]}, "m.pb", seed.types, b""))
+        (done, old), (also, new) = (room.run(["compile", "--dir", *it]) for it in (("old", seed.old), ("new", seed.new)))
+        expect(done == also == 0, f"a seed is refused: {quoted(old)} {quoted(new)}")
+        sets.append(Seed({"m.pb": old}, "m.pb", {"m.pb": new}, "m.pb", seed.types, b""))
         for type_ in seed.types:
             status, said = room.run(["gate", *sides_of(seed), "--type", type_, "--cert"], "certificate")
             if status in ACCEPTED["gate"]:

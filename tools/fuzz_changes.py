@@ -235,9 +235,10 @@ def changed_text(random, data, other):
 
 def changed_word(random, word, words):
     """Returns a word of a certificate changed: a number, the witness, or a name."""
-    if word.isdigit() and random.random() < 0.8:
-        return str(random.choice((int(word) - 1, int(word) + 1, 0, 1, 2**31 - 1, 2**31, "none", "0" + word.decode()))).encode()
-    if len(word) % 2 == 0 and re.fullmatch(rb"[0-9a-f]+", word):
+    if re.fullmatch(rb"[1-9]\d{0,9}", word) and random.random() < 0.8:
+        lower = random.randrange(1, int(word) + 1)
+        return str(random.choice((int(word) - 1, int(word) + 1, lower, lower, 0, 2**31 - 1, 2**31, "none", "0" + word.decode()))).encode()
+    if len(word) % 2 == 0 and re.fullmatch(rb"[0-9a-f]+", word) and random.random() < 0.7:
         return changed_message(random, bytes.fromhex(word.decode()), b"\x08\x01").hex().encode()
     return random.choice((b"none", b"", random.choice(words), word + b"x"))
 
@@ -254,9 +255,11 @@ def changed_certificate(random, data, other):
         lines.insert(random.randrange(len(lines)), lines[at])
     elif way == 2:
         lines.insert(random.randrange(len(lines)), lines.pop(at))
+    elif way == 3:
+        lines = [b"witness none" if it.startswith(b"witness") else it for it in lines]
     else:
         words = lines[at].split(b" ")
         place = random.randrange(len(words))
-        words[place] = changed_word(random, words[place], data.split())
+        words[place] = changed_word(random, words[place], data.split() or [b"M"])
         lines[at] = b" ".join(words)
     return b"\n".join(lines)

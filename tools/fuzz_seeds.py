@@ -95,14 +95,12 @@ def example(old_folder, old, new_folder, new):
 
 
 def seeds_of_examples():
-    """Returns a seed for each change of examples/, without repetitions, in the order of their names."""
+    """Returns a seed for each change of examples/ between two texts."""
     at = os.path.join(ROOT, "examples")
-    changes = os.path.join(at, "changes")
-    found = [example(*(os.path.join(changes, it), "old.proto", os.path.join(changes, it), "new.proto"))
-             for it in sorted(os.listdir(changes))]
-    for above, name in ((at, "order.proto"), (os.path.join(at, "sets"), "shop.proto")):
-        found.append(example(os.path.join(above, "old"), name, os.path.join(above, "new"), name))
-    return found
+    changes = sorted(os.listdir(os.path.join(at, "changes")))
+    folders = [os.path.join(at, "changes", it) for it in changes]
+    found = [example(folder, "old.proto", folder, "new.proto") for folder in folders]
+    return [*found, example(os.path.join(at, "old"), "order.proto", os.path.join(at, "new"), "order.proto")]
 
 
 def text_of_type(spelled):
@@ -146,13 +144,14 @@ def types_of_set(data):
 
 
 def seeds_of_sets():
-    """Returns a seed for each descriptor set of crates/fds_rows, with itself on the other side."""
+    """Returns a seed for each descriptor set of crates/fds_rows that states a schema, with itself on the other side."""
     found = []
-    for row in lines_of("fds_rows", "stdin"):
-        data = bytes_of(row.partition(" | ")[2])
-        if data[:1] == b"\n" and len(data) <= LONGEST:
-            types = [it for it in types_of_set(data) if re.fullmatch(r"[\w.]+", it)]
-            found.append(Seed({"s.pb": data}, "s.pb", {"s.pb": data}, "s.pb", types or ["M"], b""))
+    for row, wanted in zip(lines_of("fds_rows", "stdin"), lines_of("fds_rows", "stdout")):
+        data, types = bytes_of(row.partition(" | ")[2]), []
+        if wanted.partition(" | ")[2].startswith('"') and len(data) <= LONGEST:
+            types = types_of_set(data)
+        if types:
+            found.append(Seed({"s.pb": data}, "s.pb", {"s.pb": data}, "s.pb", types, b""))
     return found
 
 
