@@ -11,7 +11,8 @@ Asked of every run: it ends within ten seconds with a status from 0 to 5, by no 
 just what docs/USAGE.md and docs/REFUSALS.md say of that subcommand and status. Asked of what is accepted:
 
 - text: what `compile` refuses, `gate` refuses alike; the set that `compile` writes is one for `show`, and for protoc where it is there
-- text, set: the certificate of `gate --cert` passes `verify`, with the same status and length; `--both` begins with the answer
+- text, set: the certificate of `gate --cert` passes `verify`, with the same status and length; `--both` begins with the answer; the
+  witness has its length, and the old side reads it and writes it again
 - certificate: `gate` answers what `verify` says has been proved
 - message: `show` of what was written again shows the same, and the same bytes again
 
@@ -145,8 +146,18 @@ def spread(random_, change, data, other):
     return data
 
 
+def judge_witness(room, sides, type_, said):
+    """Compares a witness with its length, and asks that the old side reads it and writes it again, where it isn't too deep for `show`."""
+    words = said.split()
+    length, witness = int(words[2]), words[4]
+    expect(len(witness) == 2 * length, f"length and witness: {quoted(said)}")
+    shown = room.run(["show", "--dir", "old", "--file", sides[sides.index("--old") + 1], "--type", type_, witness.decode()])[1]
+    is_deep = shown.startswith(b"refused E608")
+    expect(is_deep or shown.endswith(b"again %s\n" % witness) and b"unknown" not in shown, f"{quoted(said)} shown: {quoted(shown)}")
+
+
 def judge_gate(room, random_, sides, type_):
-    """Asks the gate of two sides. Where it has an answer, its certificate is checked, and one in four times both directions are asked."""
+    """Asks the gate of two sides. Its certificate is checked; one in four times both directions are asked, and the witness shown."""
     status, said = room.run(["gate", *sides, "--type", type_])
     if status not in ACCEPTED["gate"]:
         return status, said
@@ -157,6 +168,8 @@ def judge_gate(room, random_, sides, type_):
     if random_.randrange(4) == 0:
         both, answers = room.run(["gate", *sides, "--type", type_, "--both"], "both")
         expect(answers.startswith(b"forward\n" + said) and both >= status, f"gate: {quoted(said)}, with --both: {quoted(answers)}")
+        if status:
+            judge_witness(room, sides, type_, said)
     return status, said
 
 
