@@ -233,33 +233,43 @@ def changed_text(random, data, other):
     return b"".join(tokens)[:LONGEST]
 
 
-def changed_word(random, word, words):
-    """Returns a word of a certificate changed: a number, the witness, or a name."""
-    if re.fullmatch(rb"[1-9]\d{0,9}", word) and random.random() < 0.8:
+def changed_claim(random, word):
+    """Returns a bound or a witness changed: to a near number, a lower one or none; or to another message."""
+    if re.fullmatch(rb"[1-9]\d{0,9}", word):
         lower = random.randrange(1, int(word) + 1)
-        return str(random.choice((int(word) - 1, int(word) + 1, lower, lower, 0, 2**31 - 1, 2**31, "none", "0" + word.decode()))).encode()
-    if len(word) % 2 == 0 and re.fullmatch(rb"[0-9a-f]+", word) and random.random() < 0.7:
+        near = random.choice((int(word) - 1, int(word) + 1, lower, lower, 0, 2**31 - 1, 2**31, "none", "0" + word.decode()))
+        return str(near).encode()
+    if re.fullmatch(rb"(?:[0-9a-f]{2})+", word):
         return changed_message(random, bytes.fromhex(word.decode()), b"\x08\x01").hex().encode()
-    return random.choice((b"none", b"", random.choice(words), word + b"x"))
+    return random.choice((b"1", b"2", b"3", b"11", b"2147483647", b"0801", b"none"))
+
+
+def change_line(random, lines, at):
+    """Changes the last word of a line of a certificate, seldom another word."""
+    words = lines[at].split(b" ")
+    if random.random() < 0.8:
+        words[-1] = changed_claim(random, words[-1])
+    else:
+        others = [it for line in lines for it in line.split()] or [b"M"]
+        words[random.randrange(len(words))] = random.choice((b"none", b"", b"x", random.choice(others), random.choice(others)))
+    lines[at] = b" ".join(words)
 
 
 def changed_certificate(random, data, other):
-    """Returns a certificate with one of its words or lines changed, seldom with bytes changed."""
-    lines = data.split(b"\n")
-    if random.random() < 0.1:
-        return changed_bytes(random, data, other)
-    at, way = random.randrange(len(lines)), random.randrange(10)
+    """Returns a certificate with a line changed, most often one of a bound or the witness; seldom with bytes changed."""
+    lines, way = data.split(b"\n"), random.randrange(12)
+    claims = [at for at, line in enumerate(lines) if line.startswith((b"pair", b"witness"))]
+    at = random.choice(claims) if claims and random.random() < 0.9 else random.randrange(len(lines))
     if way == 0:
+        return changed_bytes(random, data, other)
+    if way == 1:
         del lines[at]
-    elif way == 1:
-        lines.insert(random.randrange(len(lines)), lines[at])
     elif way == 2:
-        lines.insert(random.randrange(len(lines)), lines.pop(at))
+        lines.insert(random.choice(claims or [0]), lines[at])
     elif way == 3:
+        lines.insert(random.choice(claims or [0]), lines.pop(at))
+    elif way == 4:
         lines = [b"witness none" if it.startswith(b"witness") else it for it in lines]
     else:
-        words = lines[at].split(b" ")
-        place = random.randrange(len(words))
-        words[place] = changed_word(random, words[place], data.split() or [b"M"])
-        lines[at] = b" ".join(words)
+        change_line(random, lines, at)
     return b"\n".join(lines)
