@@ -135,9 +135,8 @@ def below(names):
     return found
 
 
-def copy_of(names, room):
-    """Makes a repository of these crates and of those that they stand on."""
-    lines = below(names)
+def copy_of(lines, room):
+    """Makes a repository of the crates of these lines."""
     for name in lines:
         shutil.copytree(f"crates/{name}", f"{room}/crates/{name}", ignore=shutil.ignore_patterns("out"))
     shutil.copyfile("HANDLES", f"{room}/HANDLES")
@@ -184,8 +183,13 @@ def main(names):
         return 1
     if not names:
         return prove(".")
+    lines = below(names)
+    unknown = [it for it in names if it not in lines]
+    if unknown:
+        print(f"crates.txt has no {', '.join(unknown)}", file=sys.stderr)
+        return 2
     with tempfile.TemporaryDirectory(prefix="protogate-gate-") as room:
-        copy_of(names, room)
+        copy_of(lines, room)
         return prove(room)
 
 

@@ -67,13 +67,15 @@ try_row() {
 
 try_rows() {
     grown=0
+    number=0
     while IFS= read -r row; do
+        number=$((number + 1))
         case $row in
         *"$1"*) ;;
         *) continue ;;
         esac
         printf '%s\n' "$row" >"$room/row"
-        grep -F -- "${row%% | *} | " "$folder/stdout" | head -n 1 >"$room/wanted"
+        sed -n "${number}p" "$folder/stdout" >"$room/wanted"
         try_row
         tried=$((tried + 1))
     done <"$folder/stdin"

@@ -24,7 +24,7 @@ pub(crate) struct BothSides {
     pub new: Compiled,
 }
 
-/// The schemas of two sides. The linked files of the old side are kept, beside those of the new one, only where that is asked for.
+/// The schemas of two sides. Their linked files are kept only where that is asked for.
 pub(crate) fn compile_both<S: Sources, T: Sources>(
     alloc: Global,
     old_files: &SideFiles<'_>,
@@ -52,6 +52,6 @@ pub(crate) fn compile_both<S: Sources, T: Sources>(
     let new_side = compile_files(alloc, new, Side::New, new_files.folder, new_files.paths)?;
     Ok(BothSides {
         old: old_side,
-        new: new_side,
+        new: new_side.with_files(keep_files),
     })
 }

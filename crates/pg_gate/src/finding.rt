@@ -160,7 +160,14 @@ fn find<S: Sources, T: Sources>(
         folder: sides.new_dir,
         paths: &[sides.new],
     };
-    let both = compile_both(alloc, &old_files, &new_files, true, old, new)?;
+    let both = compile_both(
+        alloc,
+        &old_files,
+        &new_files,
+        !asked.certificate_only,
+        old,
+        new,
+    )?;
     between(
         alloc,
         &both.old,

@@ -4,7 +4,7 @@ ghost use Rattle.std.specs.Prelude.{◌≡◌, ◌+◌, ◌<◌, ◌^◌, List, 
 ghost use Rattle.std.specs.List.{AllByRecursion};
 ghost use Rattle.pg_pairs.specs.Covering.{distinct};
 ghost use Rattle.pg_cert.specs.Bounds.{is_bound};
-ghost use Rattle.pg_least.specs.Least.{IsCounted, IsSettled, OneSolution, lines, opened_by};
+ghost use Rattle.pg_least.specs.Least.{IsCounted, IsSettled, lines, opened_by};
 
 use crate::arcs::{arcs_of, turned};
 use crate::reached::reached_in;
@@ -91,9 +91,3 @@ pub fn settle<G: Prices>(alloc: Global, graph: &G, root: Pair) -> Result<(Bounds
     work.settled = count_numbers(&costs);
     Ok((table_of(alloc, &pairs, &costs)?, work))
 }
-
-/// Over any graph whose edges cost more than the bounds of their children, two tables of the same pairs are the same if
-/// each bound is the least of its pair's base and of what its edges cost under its own table.
-pub fn one_solution()
-    ensures { OneSolution }
-{}

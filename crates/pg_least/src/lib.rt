@@ -2,6 +2,7 @@
 #![tactic(auto)]
 
 mod arcs;
+pub mod laws;
 mod least_bounds;
 mod queue;
 mod reached;
@@ -10,6 +11,6 @@ mod searching;
 mod settling;
 mod witness;
 
-pub use least_bounds::{one_solution, settle};
+pub use least_bounds::settle;
 pub use searching::{Found, find, search};
 pub use witness::{Step, way};

@@ -62,3 +62,8 @@ pub returns-clause-old_compiled : goal.returns-clause-old_compiled
 returns-clause-old_compiled g c =
     let old = world (g.S.Sources.may_give c.args.old.now) (g.S.Sources.may_lack c.args.old.now) c.args.old_files.now.folder.now (paths_of c.args.old_files.now.paths.now) in
     subst (λ parts. IsSide old parts) (sym c.with_files-old_side.ensures) c.in_ok-compiled.ensures.compiled
+
+pub returns-clause-new_compiled : goal.returns-clause-new_compiled
+returns-clause-new_compiled g c =
+    let new = world (g.T.Sources.may_give c.args.new.now) (g.T.Sources.may_lack c.args.new.now) c.args.new_files.now.folder.now (paths_of c.args.new_files.now.paths.now) in
+    subst (λ parts. IsSide new parts) (sym c.with_files.ensures) c.in_ok-new_side.ensures.compiled
