@@ -4,7 +4,7 @@
 usage: tools/prove.py [CRATE..]    ends with the gate's status, and with its last line, 'N passed, M failed'
 
 Where crates are named, the gate runs on a copy of these and of those that they stand on. Else the documents are compared first
-with the definitions and the pictures.
+with the definitions and the pictures, and the program that was built is tried with each request for memory refused and on random inputs.
 
 Lines of rt stand behind the seconds since the start. Behind them stand the processor seconds of each crate by kind: its proof, the
 second proof that its edits begin with (the seed), its edits, its tests, and what builds and runs programs. Without RT_JOBS as many
@@ -155,7 +155,7 @@ def pass_on(lines, begun):
 
 
 def prove(folder):
-    """Runs the gate on the repository in this folder, and returns its status."""
+    """Runs `rt ci` on the repository in this folder, and returns its status and its last line."""
     begun, how = time.time(), {"stdout": subprocess.PIPE, "stderr": subprocess.STDOUT, "text": True, "errors": "replace"}
     env = {"RT_JOBS": str(lanes()), **os.environ}
     run = subprocess.Popen(["rt", "ci"], cwd=folder, stdin=subprocess.DEVNULL, env=env, **how)
@@ -168,8 +168,7 @@ def prove(folder):
     _, status, used = os.wait4(run.pid, 0)
     print_costs(costs.table(), used.ru_utime + used.ru_stime)
     print(f"{time.time() - begun:.0f} seconds in all, {env['RT_JOBS']} checks side by side")
-    print(last, end="" if last.endswith("\n") else "\n")
-    return os.waitstatus_to_exitcode(status)
+    return os.waitstatus_to_exitcode(status), last.strip()
 
 
 def documents_agree():
@@ -177,12 +176,30 @@ def documents_agree():
     return all([subprocess.run([f"tools/{it}", "--compare"]).returncode == 0 for it in ("model_files.py", "pictures.py")])
 
 
-def main(names):
-    if not names and not documents_agree():
+def try_program():
+    """Returns which of the testers of the program that `rt ci` built passed: each request for memory refused, and random inputs."""
+    return [subprocess.run([f"tools/{it}"]).returncode == 0 for it in ("try_program_memory.py", "fuzz.py")]
+
+
+def counted(last, passed):
+    """Returns the last line of `rt ci` with these among what passed and failed."""
+    found = re.fullmatch(r"(\d+) passed, (\d+) failed", last)
+    return f"{int(found[1]) + sum(passed)} passed, {int(found[2]) + len(passed) - sum(passed)} failed"
+
+
+def prove_all():
+    if not documents_agree():
         print("the documents say something else than the repository\n0 passed, 1 failed")
         return 1
-    if not names:
-        return prove(".")
+    status, last = prove(".")
+    sys.stdout.flush()
+    passed = try_program() if status == 0 else []
+    print(counted(last, passed) if passed else last)
+    return status or 1 - all(passed)
+
+
+def prove_named(names):
+    """Runs `rt ci` on a copy of these crates and of those that they stand on."""
     lines = below(names)
     unknown = [it for it in names if it not in lines]
     if unknown:
@@ -190,9 +207,11 @@ def main(names):
         return 2
     with tempfile.TemporaryDirectory(prefix="protogate-gate-") as room:
         copy_of(lines, room)
-        return prove(room)
+        status, last = prove(room)
+    print(last)
+    return status
 
 
 if __name__ == "__main__":
     os.chdir(os.path.dirname(os.path.dirname(os.path.realpath(__file__))))
-    sys.exit(main(sys.argv[1:]))
+    sys.exit(prove_named(sys.argv[1:]) if sys.argv[1:] else prove_all())
