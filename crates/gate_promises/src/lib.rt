@@ -58,7 +58,7 @@ pub fn gate_files<S: Sources, T: Sources>(
     pg_gate::gate_files(alloc, old, new, old_roots, new_roots, root)
 }
 
-/// What `run` does.
+/// What `run` prints, where its words are a call.
 pub fn run<S: Sources, T: Sources, W: Sink>(
     alloc: Global,
     words: &[&str],
@@ -66,14 +66,25 @@ pub fn run<S: Sources, T: Sources, W: Sink>(
     new: &mut T,
     sink: &mut W,
 ) -> Result<u8, GateError>
-    // Only words that `clap` does not take end with the status of usage.
-    ensures usage { IfOk result (λ status. status ≡ 4 → call_of (texts words.now) ≡ None) }
-
-    // Else the sink took exactly the text of the words' call and an answer granted to it.
+    // The sink took exactly the text of the words' call and an answer granted to it.
     ensures printed { IfOk result (λ status. status ≢ 4 → Prints
         (Grants (seen (S.may_give old.old) (S.may_lack old.old) (S.failures old.old) (S.failures old.new))
         (seen (T.may_give new.old) (T.may_lack new.old) (T.failures new.old) (T.failures new.new)))
         (texts words.now) status (W.taken sink.old) (W.taken sink.new)) }
 {
     pg_gate::run(alloc, words, old, new, sink)
+}
+
+/// When `run` ends with the status of usage.
+pub fn run_usage<S: Sources, T: Sources, W: Sink>(
+    alloc: Global,
+    said: &[&str],
+    old: &mut S,
+    new: &mut T,
+    sink: &mut W,
+) -> Result<u8, GateError>
+    // Only words that `clap` does not take end with it.
+    ensures usage { IfOk result (λ status. status ≡ 4 → call_of (texts said.now) ≡ None) }
+{
+    pg_gate::run(alloc, said, old, new, sink)
 }
