@@ -58,3 +58,4 @@ pub mod SameMessages
 pub mod BreakSteps
 pub mod TakenItems
 pub mod CarryContents
+pub mod ChoicePlaces

@@ -1,7 +1,7 @@
 use Rattle.pg_schema.specs.Parts.{shape_of}
 use Rattle.pg_pairs.specs.Sight.{by_numbers}
 use Rattle.pg_least.specs.Descent.{first_step}
-use Rattle.pg_least.proofs.Descents.{innermost, last_round, last_step, next_round, next_there, round, type_there}
+use Rattle.pg_least.proofs.Descents.{innermost, last_round, next_round, round}
 use Rattle.pg_least.proofs.witness.built.Goals as goal
 
 pub carried-requires : goal.carried-requires
@@ -9,10 +9,8 @@ carried-requires c =
     let (table, whole) = c.requires in
     let old = shape_of c.args.old.now in
     let new = shape_of c.args.new.now in
-    let step = last_step by_numbers old new table c.args.steps.items c.args.last whole.way in
     record {
       child = tt;
-      old_type = type_there by_numbers old new table c.args.last.pair c.args.last.choice step.among;
       round = last_round by_numbers old new table c.args.steps.items c.args.last whole;
     }
 
@@ -28,7 +26,6 @@ carried-requires-in-Some c =
     let first = first_step c.args.steps.items c.args.last in
     record {
       child = c.loop-step.invariant.fits;
-      old_type = next_there by_numbers old new first c.in-Some.step c.pop.new.self.items c.loop-step.steps.items c.loop-step.message c.loop-step.invariant c.in-Some.ensures.items;
       round = next_round by_numbers old new first c.in-Some.step c.pop.new.self.items c.loop-step.steps.items c.loop-step.message c.loop-step.invariant c.in-Some.ensures.items;
     }
 
