@@ -1,10 +1,10 @@
 //! The messages that bounds tell of.
 
-ghost use Rattle.std.specs.Prelude.{◌≡◌, ◌<◌, ℕ, length, true, is_some, Some, IfOk, IfSome};
+ghost use Rattle.std.specs.Prelude.{◌≡◌, ℕ, true, is_some, Some, IfOk, IfSome};
 ghost use Rattle.pg_schema.specs.Parts.{shape_of};
 ghost use Rattle.pg_dyn.specs.Fits.{Fits};
 ghost use Rattle.pg_dyn.specs.Kept.{message_of, type_of};
-ghost use Rattle.pg_pairs.specs.CarriedItems.{IsChoiceRound};
+ghost use Rattle.pg_pairs.specs.Carried.{IsChoiceRound};
 ghost use Rattle.pg_pairs.specs.Choices.{Table, number_for};
 ghost use Rattle.pg_pairs.specs.Laws.{ReachedBy};
 ghost use Rattle.pg_pairs.specs.Sight.{by_numbers};
@@ -89,17 +89,12 @@ fn carried<V: View>(
     child: Option<Message>,
 ) -> Result<Message, AllocError>
     requires child { IfSome child (Fits (shape_of old.now)) }
-    requires old_type { step.pair.old.index < length (shape_of old.now) }
     requires round { IsChoiceRound (sight_of (V.is_alike view.now) (V.least_differing view.now) old.now new.now) (shape_of old.now) (shape_of new.now) step.pair step.choice child }
     ensures fits { IfOk result (λ m. Fits (shape_of old.now) m) }
     ensures type_is { IfOk result (λ m. type_of m ≡ step.pair.old) }
     ensures reached { IfOk result (λ m. ReachedBy (sight_of (V.is_alike view.now) (V.least_differing view.now) old.now new.now) (shape_of old.now) (shape_of new.now) step.pair (message_of m) step.choice.cost) }
 {
-    match carry(alloc, view, old, new, step.pair, &step.choice, child)? {
-        Some(message) => Ok(message),
-        // The choice is the pair's, and the child the choice's.
-        None => unreachable!(),
-    }
+    carry(alloc, view, old, new, step.pair, &step.choice, child)
 }
 
 // The message of the first step's choice, built from the last step's out.

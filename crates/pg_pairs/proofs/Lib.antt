@@ -60,3 +60,4 @@ pub mod TakenItems
 pub mod CarryContents
 pub mod EdgeCosts
 pub mod EdgeLaws
+pub mod ChoicePlaces

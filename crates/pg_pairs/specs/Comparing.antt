@@ -26,6 +26,11 @@ use Rattle.pg_pairs.specs.Views.{alike_at}
 abbrev pub view_by : (EnumType → EnumType → ℤ → Bool) → Parts → Parts → View
 view_by alike old new = λ a b n. alike_at alike (enum_at old a) (enum_at new b) n
 
+-- a value as an item of a message
+abbrev pub value_item : Value → Item
+value_item (values.Msg child) = Msg (message_of child.value)
+value_item value = Plain (leaf_of value)
+
 module _ (alike : EnumType → EnumType → ℤ → Bool) (old new : Parts) where
   -- the new message shows what the old one means
   abbrev pub is_same : Kept → Kept → Bool
@@ -40,10 +45,6 @@ module _ (alike : EnumType → EnumType → ℤ → Bool) (old new : Parts) wher
   abbrev pub value_sought : TypeId → Value → Sought
   value_sought b (values.Msg child) = comparison.Kept (same (view_by alike old new) (shape_of old) (shape_of new) (type_of child.value) b (message_of child.value))
   value_sought b value = Alike (leaf_of value)
-
-  abbrev pub value_item : Value → Item
-  value_item (values.Msg child) = Msg (message_of child.value)
-  value_item value = Plain (leaf_of value)
 
   -- a leaf of an enum is alike by the view, any other by itself
   abbrev pub is_alike_leaf : Element → Element → Leaf → Bool

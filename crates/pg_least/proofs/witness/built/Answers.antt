@@ -1,7 +1,7 @@
 use Rattle.pg_schema.specs.Parts.{shape_of}
 use Rattle.pg_pairs.specs.Views.{sight_of}
 use Rattle.pg_least.specs.Descent.{first_step}
-use Rattle.pg_least.proofs.Descents.{innermost, last_round, last_step, next_round, next_there, round, type_there}
+use Rattle.pg_least.proofs.Descents.{innermost, last_round, next_round, round}
 use Rattle.pg_least.proofs.witness.built.Goals as goal
 
 pub carried-requires : goal.carried-requires
@@ -10,10 +10,8 @@ carried-requires g c =
     let (table, whole) = c.requires in
     let old = shape_of c.args.old.now in
     let new = shape_of c.args.new.now in
-    let step = last_step sight old new table c.args.steps.items c.args.last whole.way in
     record {
       child = tt;
-      old_type = type_there sight old new table c.args.last.pair c.args.last.choice step.among;
       round = last_round sight old new table c.args.steps.items c.args.last whole;
     }
 
@@ -31,7 +29,6 @@ carried-requires-in-Some g c =
     let first = first_step c.args.steps.items c.args.last in
     record {
       child = c.loop-step.invariant.fits;
-      old_type = next_there sight old new first c.in-Some.step c.pop.new.self.items c.loop-step.steps.items c.loop-step.message c.loop-step.invariant c.in-Some.ensures.items;
       round = next_round sight old new first c.in-Some.step c.pop.new.self.items c.loop-step.steps.items c.loop-step.message c.loop-step.invariant c.in-Some.ensures.items;
     }
 
