@@ -1,6 +1,8 @@
 //! The promises of `pg_pairs`, said again of calls of it: the edits of `must-fail` turn each answer, and every one must be refused.
 #![tactic(auto)]
 
+mod graph;
+
 ghost use Rattle.std.specs.Prelude.{◌≡◌, ◌↔◌, ◌⊎◌, ◌<◌, ◌≤◌, length, option_map, true, None, IsTrue, IfErr, IfOk, OnOk};
 ghost use Rattle.pg_schema.specs.Parts.{shape_of};
 ghost use Rattle.pg_dyn.specs.declared.error.DynError.TheVariants as errors;
@@ -17,6 +19,7 @@ ghost use Rattle.pg_pairs.specs.Gaps as gaps;
 ghost use Rattle.pg_pairs.specs.Laws.{ReachedBy};
 ghost use Rattle.pg_pairs.specs.Views.{sight_of};
 
+pub use graph::{base, edge_cost, edges, knows};
 use pg_dyn::{DynError, Message};
 use pg_pairs::{Choice, Gap, Numbers, Pair, Table, View};
 use pg_schema::{EnumType, Scalar, Schema};
