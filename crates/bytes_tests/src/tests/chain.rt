@@ -1,12 +1,12 @@
 //! A chain of types, each with the one before it in a field: its witness is far deeper than most readers go.
-use super::{line, table};
+use super::schema_of;
+use super::tables::{line, table};
 use pg_cert::{Bounds, Certificate, PairBound, Verdict, check};
 use pg_pairs::Pair;
 use pg_schema::{Schema, TypeId};
 use pg_wire::write_varint;
 use std::alloc::{AllocError, Global};
 use std::test::Fail;
-use tiny_schemas::schema;
 
 /// With the first type as many as a schema may have.
 const LINKS: u32 = 4_095;
@@ -18,7 +18,7 @@ fn chain(alloc: Global, first: &str) -> Result<Schema, Fail> {
         let types = format!(in alloc; "; M{link}: M{} n=1", link - 1)?;
         text.push_str(types.as_str())?;
     }
-    Ok(schema(alloc, text.as_str())?.ok_or("a schema")?)
+    schema_of(alloc, text.as_str())
 }
 
 // The bytes of a message with these bytes of a message in field 1.

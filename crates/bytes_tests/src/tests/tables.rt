@@ -1,15 +1,10 @@
-//! The tables and certificates that callers hold, and a chain of as many types as a schema may have. What the checker and texts answer
-//! stands in the rows of `answer_rows`.
-mod chain;
-
+//! The tables and certificates that callers hold. What the checker and texts answer stands in the rows of `answer_rows`.
+use super::M;
 use pg_cert::{Bounds, BoundsError, Certificate, PairBound};
 use pg_pairs::{Pair, Table};
 use pg_schema::TypeId;
 use std::alloc::{AllocError, Global};
 use std::test::Fail;
-
-/// The first type of a schema.
-const M: TypeId = TypeId { index: 0 };
 
 const ROOT: Pair = Pair { old: M, new: M };
 
@@ -19,12 +14,12 @@ const OTHER: Pair = Pair {
     new: TypeId { index: 0 },
 };
 
-fn line(pair: Pair, bound: Option<u32>) -> PairBound {
+pub(super) fn line(pair: Pair, bound: Option<u32>) -> PairBound {
     PairBound { pair, bound }
 }
 
 /// The table of these bounds.
-fn table(alloc: Global, bounds: &[PairBound]) -> Result<Bounds, Fail> {
+pub(super) fn table(alloc: Global, bounds: &[PairBound]) -> Result<Bounds, Fail> {
     match Bounds::new(alloc, bounds.to_vec(alloc)?) {
         Ok(table) => Ok(table),
         Err((BoundsError::Memory, _)) => Err(AllocError.into()),
