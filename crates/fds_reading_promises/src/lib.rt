@@ -12,15 +12,9 @@ ghost use Rattle.pg_fds.specs.Set.{fds};
 ghost use Rattle.pg_fds.specs.SetOrder.{in_set_order};
 ghost use Rattle.pg_fds.specs.Views.{parts_view};
 
-use memchr::memmem;
 use pg_fds::FdsError;
 use pg_schema::Schema;
 use std::alloc::Global;
-
-/// The first place where the part stands, or the start. Only edits ask for it.
-pub fn place_of(bytes: &[u8], part: &[u8]) -> usize {
-    memmem::find(bytes, part).unwrap_or(0)
-}
 
 /// What `read` answers: a schema that the set states.
 pub fn read(alloc: Global, bytes: &[u8]) -> Result<Schema, FdsError>
