@@ -1,15 +1,13 @@
 //! The promises of `pg_fds`, of what is written, said again of calls of it: the edits of `must-fail` turn each answer, and every one must be refused.
+//! Clauses that no edit here turns, such as what is read of the bytes, aren't said again.
 #![tactic(auto)]
 
-ghost use Rattle.std.specs.Prelude.{◌≡◌, ◌≤◌, ◌⊎◌, true, length, IfErr, IfOk};
+ghost use Rattle.std.specs.Prelude.{◌≡◌, ◌⊎◌, IfErr, IfOk};
 ghost use Rattle.pg_schema.specs.Parts.{shape_of};
 ghost use Rattle.pg_dyn.specs.declared.error.DynError.TheVariants as faults;
-ghost use Rattle.pg_dyn.specs.Encoding.{cap};
 ghost use Rattle.pg_fds.specs.declared.error.FdsError.TheVariants as errors;
-ghost use Rattle.pg_fds.specs.Again.{IsNotTooDeep, IsReadable, are_shallow};
 ghost use Rattle.pg_fds.specs.Descriptor.{descriptor_shape};
 ghost use Rattle.pg_fds.specs.DescriptorParts.{descriptor_parts};
-ghost use Rattle.pg_fds.specs.Reads.{fds_reads};
 ghost use Rattle.pg_fds.specs.Set.{fds};
 ghost use Rattle.pg_fds.specs.Views.{parts_view};
 ghost use Rattle.pg_fds.specs.Written.{HasNoSet};
@@ -37,15 +35,6 @@ pub fn write(alloc: Global, schema: &Schema) -> Result<Vec<u8>, FdsError>
     ensures { IfOk result (λ bytes. fds schema.now bytes.items) }
 {
     pg_fds::write(alloc, schema)
-}
-
-/// What `write` answers: what is read of the bytes.
-pub fn write_readable(alloc: Global, of: &Schema) -> Result<Vec<u8>, FdsError>
-    ensures short { IfOk result (λ bytes. length bytes.items ≤ cap) }
-    ensures stated { IfOk result (λ bytes. IsReadable of.now → fds_reads bytes.items of.now) }
-    ensures shallow { IfOk result (λ bytes. are_shallow of.now ≡ true → IsNotTooDeep bytes.items) }
-{
-    pg_fds::write(alloc, of)
 }
 
 /// What `write` refuses.

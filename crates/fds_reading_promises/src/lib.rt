@@ -1,45 +1,26 @@
 //! The promises of `pg_fds`, of what is read, said again of calls of it: the edits of `must-fail` turn each answer, and every one must be refused.
+//! Clauses that no edit here turns, such as which of the schemas that a set states is read, aren't said again.
 #![tactic(auto)]
 
-ghost use Rattle.std.specs.Prelude.{ℕ, ◌≡◌, ◌⊎◌, List, IfErr, IfOk};
-ghost use Rattle.pg_schema.specs.declared.parts.Parts.{Parts};
+ghost use Rattle.std.specs.Prelude.{ℕ, ◌≡◌, List, IfErr, IfOk};
 ghost use Rattle.pg_schema.specs.Sound.{IsSound};
-ghost use Rattle.pg_fds.specs.declared.error.FdsError.TheVariants as errors;
 ghost use Rattle.pg_fds.specs.InOrder.{StandInOrder};
-ghost use Rattle.pg_fds.specs.ReadAgain.{IsReadAgain, IsTooLong, MayRefuseAgain};
-ghost use Rattle.pg_fds.specs.Reads.{CanBeRead, IsHeld, fds_reads};
+ghost use Rattle.pg_fds.specs.ReadAgain.{IsReadAgain};
+ghost use Rattle.pg_fds.specs.Reads.{fds_reads};
 ghost use Rattle.pg_fds.specs.Refused.{MayRefuseSet, NoneIsStated};
 ghost use Rattle.pg_fds.specs.Set.{fds};
 ghost use Rattle.pg_fds.specs.SetOrder.{in_set_order};
 ghost use Rattle.pg_fds.specs.Views.{parts_view};
 
-use memchr::memmem;
 use pg_fds::FdsError;
 use pg_schema::Schema;
 use std::alloc::Global;
-
-/// The first place where the part stands, or the start. Only edits ask for it.
-pub fn place_of(bytes: &[u8], part: &[u8]) -> usize {
-    memmem::find(bytes, part).unwrap_or(0)
-}
 
 /// What `read` answers: a schema that the set states.
 pub fn read(alloc: Global, bytes: &[u8]) -> Result<Schema, FdsError>
     ensures { IfOk result (λ schema. fds_reads bytes.now schema) }
 {
     pg_fds::read(alloc, bytes)
-}
-
-/// What `read` answers: which of the schemas that the set states.
-pub fn read_alike(alloc: Global, set: &[u8]) -> Result<Schema, FdsError>
-    ensures sound { IfOk result IsSound }
-    ensures places { IfOk result (λ schema. StandInOrder schema) }
-    ensures same { IfOk result (λ schema. (parts : Parts) → IsHeld parts → fds_reads set.now parts
-        → parts_view schema ≡ parts_view (in_set_order parts)) }
-    ensures exact { IfOk result (λ schema. (parts : Parts) → CanBeRead parts → fds_reads set.now parts
-        → parts_view schema ≡ parts_view parts) }
-{
-    pg_fds::read(alloc, set)
 }
 
 /// What `read` refuses.
@@ -60,12 +41,4 @@ pub fn read_again(alloc: Global, schema: &Schema) -> Result<Schema, FdsError>
         → parts_view made ≡ parts_view schema.now) }
 {
     pg_fds::read_again(alloc, schema)
-}
-
-/// What `read_again` refuses.
-pub fn read_again_refused(alloc: Global, of: &Schema) -> Result<Schema, FdsError>
-    ensures refused { IfErr result (λ e. IsReadAgain of.now → (e ≡ errors.Memory) ⊎ IsTooLong of.now e) }
-    ensures told { IfErr result (MayRefuseAgain of.now) }
-{
-    pg_fds::read_again(alloc, of)
 }
