@@ -4,7 +4,8 @@
 usage: tools/prove.py [CRATE..]    ends with the gate's status, and with its last line, 'N passed, M failed'
 
 Where crates are named, the gate runs on a copy of these and of those that they stand on. Else the documents are compared first
-with the definitions and the pictures, and the program that was built is tried with each request for memory refused and on random inputs.
+with the definitions and the pictures, and what was built is tried afterwards: the program and the libraries' calls with each request for
+memory refused, and the program on random inputs.
 
 Lines of rt stand behind the seconds since the start. Behind them stand the processor seconds of each crate by kind: its proof, the
 second proof that its edits begin with (the seed), its edits, its tests, and what builds and runs programs. Without RT_JOBS as many
@@ -177,8 +178,8 @@ def documents_agree():
 
 
 def try_program():
-    """Returns which of the testers of the program that `rt ci` built passed: each request for memory refused, and random inputs."""
-    return [subprocess.run([f"tools/{it}"]).returncode == 0 for it in ("try_program_memory.py", "fuzz.py")]
+    """Returns which of the testers of what `rt ci` built passed: each request for memory refused, to the program and to calls, and random inputs."""
+    return [subprocess.run([f"tools/{it}"]).returncode == 0 for it in ("try_program_memory.py", "try_call_memory.py", "fuzz.py")]
 
 
 def counted(last, passed):
