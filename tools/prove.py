@@ -4,7 +4,8 @@
 usage: tools/prove.py [--anew] [CRATE..]    ends with the gate's status, and with its last line, 'N passed, M failed'
 
 Where crates are named, the gate runs on a copy of these and of those that they stand on. Else the documents are compared first
-with the definitions and the pictures, and the program that was built is tried with each request for memory refused and on random inputs.
+with the definitions and the pictures, and what was built is tried afterwards: the program and the libraries' calls with each request for
+memory refused, and the program on random inputs.
 What earlier runs on this machine passed is taken as it stands, as far as the kit keeps it; with --anew all is proved and tried again.
 
 Lines of rt stand behind the seconds since the start. Behind them stand the processor seconds of each crate by kind: its proof, the
@@ -22,6 +23,8 @@ import threading
 import time
 
 KINDS = ("proof", "seed", "edits", "tests", "programs")
+# What tries what was built: the program and the calls with each request for memory refused, and the program on random inputs.
+TESTERS = ("try_program_memory.py", "try_call_memory.py", "fuzz.py")
 TICKS = os.sysconf("SC_CLK_TCK")
 # How often processes are looked at, in seconds: what a process takes after the last look counts for no crate, but for the sum.
 PAUSE = 0.2
@@ -184,10 +187,9 @@ def documents_agree():
 
 
 def try_program():
-    """Runs the testers of the program that `rt ci` built side by side: each request for memory refused, and random inputs. Prints what
-    each said, in that order, and returns which passed."""
+    """Runs the testers of what `rt ci` built side by side. Prints what each said, in that order, and returns which passed."""
     how = {"stdin": subprocess.DEVNULL, "stdout": subprocess.PIPE, "stderr": subprocess.STDOUT, "text": True, "errors": "replace"}
-    testers = [subprocess.Popen([f"tools/{it}"], **how) for it in ("try_program_memory.py", "fuzz.py")]
+    testers = [subprocess.Popen([f"tools/{it}"], **how) for it in TESTERS]
     for tester in testers:
         print(tester.communicate()[0], end="", flush=True)
     return [it.returncode == 0 for it in testers]
