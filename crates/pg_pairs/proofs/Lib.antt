@@ -59,3 +59,4 @@ pub mod BreakSteps
 pub mod TakenItems
 pub mod CarryContents
 pub mod ChoicePlaces
+pub mod SameLengths
