@@ -61,3 +61,4 @@ pub mod CarryContents
 pub mod EdgeCosts
 pub mod EdgeLaws
 pub mod ChoicePlaces
+pub mod SameLengths
