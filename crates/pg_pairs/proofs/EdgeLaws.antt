@@ -44,9 +44,6 @@ key pair = pair.old.index * 4096 + pair.new.index
 AreSmall : Pair → Type 0
 AreSmall pair = (pair.old.index < 4096) × (pair.new.index < 4096)
 
-same_pair-refl : (p : Pair) → same_pair p p ≡ true
-same_pair-refl p = rw (eq-eqb p.old.index p.old.index refl, eq-eqb p.new.index p.new.index refl) refl
-
 same_places : (a b c d : ℕ) → b < 4096 → d < 4096 → a * 4096 + b ≡ c * 4096 + d → (a ≡ c) × (b ≡ d)
 same_places a b c d h k same = (omega arith, omega arith)
 
@@ -208,9 +205,6 @@ number_below shape is_shape type n f found = (each_at (IsField (length shape)) (
 
 more_than : (n k : ℕ) → n < k + with_length n
 more_than n k = let some = lengths_grow.3 n in omega arith
-
-more_in : (n k j : ℕ) → n < k + with_length (j + n)
-more_in n k j = let more = more_than (j + n) k in omega arith
 
 item_more : (f : FieldShape) (n : ℕ) → n < one_item f (with_length n)
 item_more f n = of f.number f.presence f.element f.oneof
