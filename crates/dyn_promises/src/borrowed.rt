@@ -2,8 +2,11 @@
 
 ghost use Rattle.std.specs.Prelude.{◌≡◌, ◌↔◌, [], map, IfOk, IfSome, IsTrue, MatchOption};
 ghost use Rattle.std.specs.List.{AllByRecursion};
+ghost use Rattle.pg_schema.specs.Shape.{IsShape, Shape};
 ghost use Rattle.pg_wire.specs.Reads.{seen_record};
 ghost use Rattle.pg_dyn.specs.Borrowed as borrowed;
+ghost use Rattle.pg_dyn.specs.Fits.{Fits};
+ghost use Rattle.pg_dyn.specs.PartsFit.{HoldsPart};
 ghost use Rattle.pg_dyn.specs.Kept.{IsPlain, ends, of_number, type_of, unknown_of};
 ghost use Rattle.pg_dyn.specs.Seen.{Rises};
 
@@ -31,6 +34,8 @@ pub fn get<'m, 'a>(message: &'m MessageRef<'a>, number: u32) -> Option<&'m Conte
     ensures content { MatchOption result (of_number number message.now ≡ [])
         (λ content. of_number number message.now ≡ borrowed.content_seen number content.now) }
     ensures filled { IfSome result (λ content. borrowed.IsFilled content.now) }
+    ensures fits { IfSome result (λ content. (shape : Shape) → IsShape shape → Fits shape message.now
+        → AllByRecursion (HoldsPart shape (type_of message.now)) (borrowed.content_seen number content.now)) }
 {
     message.get(number)
 }

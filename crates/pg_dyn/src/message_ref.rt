@@ -77,7 +77,10 @@ impl<'a> Model for MessageRef<'a> {
 
 impl<'a> MessageRef<'a> {
     ghost use Rattle.std.specs.List.{AllByRecursion};
+    ghost use Rattle.pg_schema.specs.Shape.{IsShape, Shape};
     ghost use Rattle.pg_wire.specs.Reads.{seen_record};
+    ghost use Rattle.pg_dyn.specs.Fits.{Fits};
+    ghost use Rattle.pg_dyn.specs.PartsFit.{HoldsPart};
     ghost use Rattle.pg_dyn.specs.Kept.{ends, type_of, of_number, unknown_of};
     ghost use Rattle.pg_dyn.specs.Seen.{Rises};
 
@@ -105,6 +108,8 @@ impl<'a> MessageRef<'a> {
         ensures content { MatchOption result (of_number number self.now ≡ [])
             (λ content. of_number number self.now ≡ borrowed.content_seen number content.now) }
         ensures filled { IfSome result (λ content. borrowed.IsFilled content.now) }
+        ensures fits { IfSome result (λ content. (shape : Shape) → IsShape shape → Fits shape self.now
+            → AllByRecursion (HoldsPart shape (type_of self.now)) (borrowed.content_seen number content.now)) }
     {
         let place = place_of(&self.fields, number);
         if place < self.fields.len() && self.fields[place].0 == number {

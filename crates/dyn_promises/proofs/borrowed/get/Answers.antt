@@ -6,3 +6,6 @@ returns-clause-content c = search rules
 
 pub returns-clause-filled : goal.returns-clause-filled
 returns-clause-filled c = search rules
+
+pub returns-clause-fits : goal.returns-clause-fits
+returns-clause-fits c = search rules

@@ -1,12 +1,17 @@
 -- The place of the number is that of its field, or one where none of it stands.
 use Rattle.std.proofs.Common.{◌≡◌, ◌<◌, ◌≢◌, ℕ, List, ◌∷◌, take, drop, length, map, sym, ap, subst, ◌∙◌, arith}
+use Rattle.std.specs.List.{AllByRecursion}
 use Rattle.pg_wire.specs.Reads.{seen_record}
 use Rattle.pg_dyn.specs.declared.message_ref.ContentRef.{ContentRef}
 use Rattle.pg_dyn.specs.Borrowed.{IsFilled}
-use Rattle.pg_dyn.specs.Kept.{of_number}
+use Rattle.pg_dyn.specs.Kept.{of_number, parts_of, type_of}
+use Rattle.pg_dyn.specs.Message.{is_of}
+use Rattle.pg_dyn.specs.PartsFit.{HoldsPart}
 use Rattle.pg_dyn.proofs.BorrowedParts.{found_field, of_number_none}
 use Rattle.pg_dyn.proofs.FieldListLaws.{AllBelow, AllFrom, apart_past_end, apart_there, none_there, same_at}
 use Rattle.pg_dyn.proofs.KeptParts.{found_fact}
+use Rattle.pg_dyn.proofs.Lists.{each_filtered}
+use Rattle.pg_dyn.proofs.PartsFit.{parts_hold}
 use Rattle.pg_dyn.proofs.message_ref.MessageRef.get.Goals.{else-place-len-via-then-place-len+else-index-number, else-place-len-via-else-place-len}
 use Rattle.pg_dyn.proofs.message_ref.MessageRef.get.Goals as goal
 
@@ -24,6 +29,12 @@ returns-then-index-number-clause-filled c =
     let a = c.self.inside in
     let place = c.place_of-place.result in
     found_fact (λ f. IsFilled f.1) a.fields.items place c.index-then-index-number.result.now (omega (arith, c.if-place-len.true, c.len.ensures, a.fields.ok.0)) c.self.invariant.filled c.index-then-index-number.ensures
+
+pub returns-then-index-number-clause-fits : goal.returns-then-index-number-clause-fits
+returns-then-index-number-clause-fits c shape is_shape fits =
+    let m = c.args.self.now in
+    subst (AllByRecursion (HoldsPart shape (type_of c.args.self.now))) (returns-then-index-number-clause-content c)
+    (each_filtered (HoldsPart shape (type_of m)) (is_of c.args.number) (parts_of m) (parts_hold shape m is_shape fits))
 
 pub returns-clause-content : goal.returns-clause-content
 returns-clause-content c =
