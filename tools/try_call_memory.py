@@ -40,8 +40,7 @@ Tests = collections.namedtuple("Tests", "call crate tests")
 
 CALLS = [
     Rows("lex", "text_rows", ["the escapes of control characters", "a character over two literals", "a float on the second line"]),
-    # A row of a tree says `no tokens` where `lex` lacks memory.
-    Rows("parse", "text_rows", ["each part of a message, one token a word", "streams both ways"], ["no tokens"]),
+    Rows("parse", "text_rows", ["each part of a message, one token a word", "streams both ways"]),
     Rows("link", "text_rows", ["a file that two files import", "a circle of three files", "two messages of one name", "an import of an import"]),
     Rows("resolve", "text_rows", ["uses of types in fields, maps and rpcs", "the first part of a dotted name decides", "a service as a type"]),
     Rows("build", "text_rows", ["the message types of two files", "the services of two files"]),
