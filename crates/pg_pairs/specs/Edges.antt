@@ -60,8 +60,7 @@ pub record ArePriced (old new : Shape) : Type 0 where
   pub bases_are_lengths : (sight : Sight) (pair : Pair) → IfSome (least_cost sight no_bounds old new pair) (λ cost. (1 ≤ cost) × (cost ≤ cap))
   pub costs_more : (edge : Edge) (bound : ℕ) → IfSome (edge_price old edge bound) (λ cost. (bound < cost) × (cost ≤ cap))
 
--- A choice of a pair under a table is one without bounds, or that of an edge at its child's bound: so the pair's least cost is the least
--- of its least cost without bounds and of what its edges cost under the table.
+-- A pair's least cost under a table is the least of its least cost without bounds and of what its edges cost under the table.
 abbrev pub LeastCostsByEdges : Type 0
 LeastCostsByEdges =
     (sight : Sight) (old new : Shape) (table : Table) → IsShape old → (pair : Pair) →

@@ -127,8 +127,8 @@ pub fn least_costs_are_exact()
     ensures { LeastCostsAreExact }
 {}
 
-/// A choice of a pair under a table is one without bounds, or that of an edge at its child's bound; so a pair's least
-/// cost is the least of its least cost without bounds and of what its edges cost at the bounds of their children.
+/// A pair's least cost under a table is the least of its least cost without bounds and of what its edges cost at the
+/// bounds of their children.
 pub fn least_costs_by_edges()
     ensures { LeastCostsByEdges }
 {}
