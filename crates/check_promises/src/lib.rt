@@ -3,6 +3,7 @@
 
 ghost use Rattle.std.specs.Prelude.{◌≡◌, IfErr, IfOk, OnOk};
 ghost use Rattle.pg_schema.specs.Sound.{IsSound};
+ghost use Rattle.pg_check.specs.Codes as codes;
 ghost use Rattle.pg_check.specs.Declares.{Declares};
 ghost use Rattle.pg_check.specs.Errors as spec;
 ghost use Rattle.pg_check.specs.PartErrors.{IsRefusedOf};
@@ -10,7 +11,7 @@ ghost use Rattle.pg_check.specs.Sources.{linked_sources};
 ghost use Rattle.pg_check.specs.declared.error.CheckError.TheVariants.{Memory};
 
 use pg_check::CheckError;
-use pg_link::Linked;
+use pg_link::{Linked, Place};
 use pg_schema::{Parts, Schema};
 use std::alloc::{AllocError, Global};
 
@@ -41,6 +42,20 @@ pub fn admit_refused(alloc: Global, bad: Parts) -> Result<Schema, CheckError>
     ensures { IfErr result (IsRefusedOf bad) }
 {
     pg_check::admit(alloc, bad)
+}
+
+/// What `CheckError::code` answers.
+pub fn code(error: &CheckError) -> u16
+    ensures { result ≡ codes.code_of error.now }
+{
+    error.code()
+}
+
+/// What `CheckError::place` answers.
+pub fn place(error: CheckError) -> Option<Place>
+    ensures { result ≡ codes.place_of error }
+{
+    error.place()
 }
 
 /// What `CheckError::from` answers of a refused growth. Only an edit uses the memory.

@@ -2,6 +2,7 @@
 #![tactic(auto)]
 
 ghost use Rattle.std.specs.Prelude.{◌≡◌, ◌≤◌, length, take, IfErr, IfOk};
+ghost use Rattle.pg_lex.specs.Codes.{code_of};
 ghost use Rattle.pg_lex.specs.Lexes.{lexes, max_len, Refuses, Rises, WordsAreSlices};
 ghost use Rattle.pg_lex.specs.Place.{line, column};
 ghost use Rattle.pg_lex.specs.Symbol.{placed};
@@ -45,6 +46,13 @@ pub fn place(text: &[u8], offset: usize) -> (usize, usize)
     ensures column { result.1 ≡ column (take offset text.now) }
 {
     pg_lex::place(text, offset)
+}
+
+/// What `LexError::code` answers.
+pub fn code(error: LexError) -> u16
+    ensures { result ≡ code_of error }
+{
+    error.code()
 }
 
 /// What `LexError::from` answers of a refused growth.

@@ -2,10 +2,12 @@
 #![tactic(auto)]
 
 mod counts;
+mod errors;
 mod linked;
 mod sources;
 
 pub use counts::{add, note, note_path, path_record, record, tally};
+pub use errors::{code, place_of_fault};
 pub use linked::{files, place, resolve, targets, targets_by_place};
 pub use sources::{
     folder, folder_read, link, link_below, link_error_of, link_error_of_failed, link_refused,

@@ -47,3 +47,4 @@ pub mod PlacedNames
 pub mod FreePackages
 pub mod SoundParts
 pub mod CountableParts
+pub mod RuleCodes

@@ -32,3 +32,5 @@ pub mod Errors
 pub mod PartFaults
 pub mod PartErrors
 pub mod BrokenParts
+pub mod Codes
+pub mod RuleCodes

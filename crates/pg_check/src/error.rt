@@ -62,6 +62,57 @@ pub enum CheckError {
     Memory,
 }
 
+impl CheckError {
+    ghost use Rattle.pg_check.specs.Codes.{code_of, place_of};
+
+    /// The number behind the E by which users know the error.
+    pub fn code(&self) -> u16
+        ensures { result ≡ code_of self.now }
+    {
+        match self {
+            CheckError::BadNumber(_) => 401,
+            CheckError::DuplicateNumber(_) => 402,
+            CheckError::ReservedNumber(_) => 403,
+            CheckError::ReservedName(_) => 404,
+            CheckError::RangeOverlap(_) => 405,
+            CheckError::JsonNameClash(_) => 406,
+            CheckError::BadMapKey(_) => 407,
+            CheckError::BadOneofMember(_) => 408,
+            CheckError::EnumFirstNotZero(_) => 409,
+            CheckError::EnumAlias(_) => 410,
+            CheckError::BadOption(_) => 411,
+            CheckError::PackedNotAllowed(_) => 412,
+            CheckError::TooManyTypes(_) => 413,
+            CheckError::EnumEmpty(_) => 414,
+            CheckError::BadParts(_) => 415,
+            CheckError::Memory => 1,
+        }
+    }
+
+    /// The place of the fault in a text. Bad parts stand in none.
+    pub fn place(self) -> Option<Place>
+        ensures { result ≡ place_of self }
+    {
+        match self {
+            CheckError::BadNumber(place)
+            | CheckError::DuplicateNumber(place)
+            | CheckError::ReservedNumber(place)
+            | CheckError::ReservedName(place)
+            | CheckError::RangeOverlap(place)
+            | CheckError::JsonNameClash(place)
+            | CheckError::BadMapKey(place)
+            | CheckError::BadOneofMember(place)
+            | CheckError::EnumFirstNotZero(place)
+            | CheckError::EnumAlias(place)
+            | CheckError::BadOption(place)
+            | CheckError::PackedNotAllowed(place)
+            | CheckError::TooManyTypes(place)
+            | CheckError::EnumEmpty(place) => Some(place),
+            CheckError::BadParts(_) | CheckError::Memory => None,
+        }
+    }
+}
+
 impl From<AllocError> for CheckError {
     ghost use Rattle.pg_check.specs.declared.error.CheckError.TheVariants.{Memory};
 

@@ -15,6 +15,7 @@ ghost use Rattle.pg_check.specs.MadeParts.{Source};
 ghost use Rattle.pg_check.specs.NamedParts.{NamedParts};
 ghost use Rattle.pg_check.specs.PartErrors.{IsFirstOf};
 ghost use Rattle.pg_check.specs.PartFaults.{parts_fault};
+ghost use Rattle.pg_check.specs.RuleCodes.{AreRuleCodes};
 ghost use Rattle.pg_check.specs.Sources.{linked_sources};
 ghost use Rattle.pg_check.specs.declared.error.CheckError.{CheckError};
 
@@ -62,4 +63,9 @@ pub fn named_parts()
 /// named is there, each type stands once and in its scope, and full names differ.
 pub fn linked_parts()
     ensures { (linked : LinkedFiles) (parts : Parts) → IsLinkedUp linked → Declares (linked_sources linked.files) parts → IsSound parts }
+{}
+
+/// The code in the fact that a rule is broken is the code of its error, of files and of parts alike.
+pub fn rule_codes()
+    ensures { AreRuleCodes }
 {}

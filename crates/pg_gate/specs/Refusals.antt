@@ -1,21 +1,16 @@
 -- The refusal that is printed for an error: its code, and where the fault is.
 use Rattle.std.specs.Prelude.{ℕ, Bool, true, false, nat_eq, Option, Some, None, option_map}
+use Rattle.pg_check.specs.Codes.{code_of as rule_code, place_of as rule_place}
 use Rattle.pg_check.specs.declared.error.CheckError.{CheckError}
-use Rattle.pg_check.specs.declared.error.CheckError.TheVariants as checks
 use Rattle.pg_dyn.specs.declared.error.DynError.{DynError}
 use Rattle.pg_dyn.specs.declared.error.DynError.TheVariants as messages
 use Rattle.pg_fds.specs.declared.error.FdsError.{FdsError}
 use Rattle.pg_fds.specs.declared.error.FdsError.TheVariants as sets
-use Rattle.pg_lex.specs.declared.error.LexError.{LexError}
-use Rattle.pg_lex.specs.declared.error.LexError.TheVariants as lex
+use Rattle.pg_link.specs.Codes.{code_of as link_code, place_of as link_place}
 use Rattle.pg_link.specs.declared.error.LinkError.{LinkError}
-use Rattle.pg_link.specs.declared.error.LinkError.TheVariants as links
 use Rattle.pg_link.specs.declared.error.Place.{Place}
-use Rattle.pg_syntax.specs.declared.error.SyntaxError.{SyntaxError}
-use Rattle.pg_syntax.specs.declared.error.SyntaxError.TheVariants as syntax
+use Rattle.pg_wire.specs.Codes.{code_of as wire_code}
 use Rattle.pg_wire.specs.Errors.{place_of}
-use Rattle.pg_wire.specs.declared.error.WireError.{WireError}
-use Rattle.pg_wire.specs.declared.error.WireError.TheVariants as wires
 use Rattle.pg_gate.specs.Call.{Request, compile, gate, show, verify}
 use Rattle.pg_gate.specs.declared.call_error.CallError.{CallError}
 use Rattle.pg_gate.specs.declared.call_error.CallError.TheVariants as calls
@@ -33,27 +28,6 @@ use Rattle.pg_gate.specs.declared.refusal.Location.TheVariants.{Nowhere, InPlace
 use Rattle.pg_gate.specs.declared.refusal.Refusal.{Refusal}
 use Rattle.pg_gate.specs.declared.told.Told.{Told}
 
-abbrev pub lex_code : LexError → ℕ
-lex_code lex.Memory = 1
-lex_code (lex.NotUtf8 at) = 101
-lex_code (lex.BadCharacter at) = 102
-lex_code (lex.OpenString at) = 103
-lex_code (lex.BadEscape at) = 104
-lex_code (lex.OpenComment at) = 105
-lex_code (lex.NumberTooLarge at) = 106
-lex_code (lex.FloatLiteral at) = 107
-lex_code (lex.FileTooLong at) = 108
-
-abbrev pub syntax_code : SyntaxError → ℕ
-syntax_code syntax.Memory = 1
-syntax_code (syntax.NotProto3 at) = 201
-syntax_code (syntax.Unexpected at) = 202
-syntax_code (syntax.Group at) = 203
-syntax_code (syntax.Extension at) = 204
-syntax_code (syntax.CustomOption at) = 205
-syntax_code (syntax.WeakImport at) = 206
-syntax_code (syntax.NestedTooDeep at) = 207
-
 -- a file as a whole, or a line and a column in it
 abbrev pub located_by : Bool → Place → Location
 located_by true place = InFile place.file
@@ -62,41 +36,16 @@ located_by false place = InPlace place
 abbrev pub located : Place → Location
 located place = located_by (nat_eq place.line 0) place
 
-abbrev pub told_at : ℕ → Place → Told
-told_at code place = record { code = code; location = located place }
+-- at a place of a text, or at none
+abbrev pub location_at : Option Place → Location
+location_at (Some place) = located place
+location_at None = Nowhere
 
 abbrev pub told_of_link : LinkError → Told
-told_of_link (links.MissingFile place) = told_at 301 place
-told_of_link (links.ImportCycle place) = told_at 302 place
-told_of_link (links.DuplicateImport place) = told_at 303 place
-told_of_link (links.DuplicateName place) = told_at 304 place
-told_of_link (links.UnknownName place) = told_at 305 place
-told_of_link (links.NotAType place) = told_at 306 place
-told_of_link (links.NotImported place) = told_at 307 place
-told_of_link (links.TooManyFiles place) = told_at 308 place
-told_of_link (links.SourceFailed place) = told_at 309 place
-told_of_link (links.Lex e place) = told_at (lex_code e) place
-told_of_link (links.Syntax e place) = told_at (syntax_code e) place
-told_of_link links.Memory = record { code = 1; location = Nowhere }
+told_of_link e = record { code = link_code e; location = location_at (link_place e) }
 
--- parts that are told bad have no place in a text
 abbrev pub told_of_check : CheckError → Told
-told_of_check (checks.BadNumber place) = told_at 401 place
-told_of_check (checks.DuplicateNumber place) = told_at 402 place
-told_of_check (checks.ReservedNumber place) = told_at 403 place
-told_of_check (checks.ReservedName place) = told_at 404 place
-told_of_check (checks.RangeOverlap place) = told_at 405 place
-told_of_check (checks.JsonNameClash place) = told_at 406 place
-told_of_check (checks.BadMapKey place) = told_at 407 place
-told_of_check (checks.BadOneofMember place) = told_at 408 place
-told_of_check (checks.EnumFirstNotZero place) = told_at 409 place
-told_of_check (checks.EnumAlias place) = told_at 410 place
-told_of_check (checks.BadOption place) = told_at 411 place
-told_of_check (checks.PackedNotAllowed place) = told_at 412 place
-told_of_check (checks.TooManyTypes place) = told_at 413 place
-told_of_check (checks.EnumEmpty place) = told_at 414 place
-told_of_check (checks.BadParts place) = record { code = 415; location = Nowhere }
-told_of_check checks.Memory = record { code = 1; location = Nowhere }
+told_of_check e = record { code = rule_code e; location = location_at (rule_place e) }
 
 -- a code alone
 abbrev pub told_alone : ℕ → Told
@@ -105,13 +54,6 @@ told_alone code = record { code = code; location = Nowhere }
 -- a code, and a byte of the whole input
 abbrev pub told_at_byte : ℕ → ℕ → Told
 told_at_byte code at = record { code = code; location = AtByte at }
-
-abbrev pub wire_code : WireError → ℕ
-wire_code (wires.VarintTooLong at) = 501
-wire_code (wires.Truncated at) = 502
-wire_code (wires.BadTag at) = 503
-wire_code (wires.Group at) = 504
-wire_code (wires.BadWireType at) = 505
 
 abbrev pub told_of_message : DynError → Told
 told_of_message messages.Memory = told_alone 1
@@ -132,7 +74,7 @@ told_of_set (sets.Bytes error) = told_of_message error
 told_of_set sets.NotProto3 = told_alone 702
 told_of_set sets.BadType = told_alone 703
 told_of_set sets.BadReference = told_alone 704
-told_of_set (sets.Rule error) = told_alone (told_of_check error).code
+told_of_set (sets.Rule error) = told_alone (rule_code error)
 
 abbrev pub told_of : Fault → Told
 told_of (faults.Link error) = told_of_link error

@@ -8,10 +8,7 @@ use crate::refusal::Location;
 use pg_check::CheckError;
 use pg_dyn::DynError;
 use pg_fds::FdsError;
-use pg_lex::LexError;
 use pg_link::{LinkError, Place};
-use pg_syntax::SyntaxError;
-use pg_wire::WireError;
 
 /// The code of want of memory, which is no refusal and never printed.
 const OUT_OF_MEMORY: u16 = 1;
@@ -21,9 +18,6 @@ const MISSING_FILE: u16 = 301;
 
 /// The code of a source that failed.
 pub(crate) const SOURCE_FAILED: u16 = 309;
-
-/// The code of parts that are none of a schema, which have no place in a text.
-const BAD_PARTS: u16 = 415;
 
 /// A refusal without its side.
 #[derive(Drop)]
@@ -43,12 +37,12 @@ fn located(place: Place) -> Location
     }
 }
 
-fn told_at(code: u16, place: Place) -> Told
-    ensures { result ≡ refusals.told_at code place }
+fn location_at(place: Option<Place>) -> Location
+    ensures { result ≡ refusals.location_at place }
 {
-    Told {
-        code,
-        location: located(place),
+    match place {
+        Some(place) => located(place),
+        None => Location::Nowhere,
     }
 }
 
@@ -72,54 +66,13 @@ fn told_at_byte(code: u16, at: usize) -> Told
     }
 }
 
-fn lex_code(error: LexError) -> u16
-    ensures { result ≡ refusals.lex_code error }
-{
-    match error {
-        LexError::Memory => OUT_OF_MEMORY,
-        LexError::NotUtf8 { .. } => 101,
-        LexError::BadCharacter { .. } => 102,
-        LexError::OpenString { .. } => 103,
-        LexError::BadEscape { .. } => 104,
-        LexError::OpenComment { .. } => 105,
-        LexError::NumberTooLarge { .. } => 106,
-        LexError::FloatLiteral { .. } => 107,
-        LexError::FileTooLong { .. } => 108,
-    }
-}
-
-fn syntax_code(error: SyntaxError) -> u16
-    ensures { result ≡ refusals.syntax_code error }
-{
-    match error {
-        SyntaxError::Memory => OUT_OF_MEMORY,
-        SyntaxError::NotProto3 { .. } => 201,
-        SyntaxError::Unexpected { .. } => 202,
-        SyntaxError::Group { .. } => 203,
-        SyntaxError::Extension { .. } => 204,
-        SyntaxError::CustomOption { .. } => 205,
-        SyntaxError::WeakImport { .. } => 206,
-        SyntaxError::NestedTooDeep { .. } => 207,
-    }
-}
-
 /// What is told of files that can't be linked.
 fn told_of_link(error: LinkError) -> Told
     ensures { result ≡ refusals.told_of_link error }
 {
-    match error {
-        LinkError::MissingFile(place) => told_at(MISSING_FILE, place),
-        LinkError::ImportCycle(place) => told_at(302, place),
-        LinkError::DuplicateImport(place) => told_at(303, place),
-        LinkError::DuplicateName(place) => told_at(304, place),
-        LinkError::UnknownName(place) => told_at(305, place),
-        LinkError::NotAType(place) => told_at(306, place),
-        LinkError::NotImported(place) => told_at(307, place),
-        LinkError::TooManyFiles(place) => told_at(308, place),
-        LinkError::SourceFailed(place) => told_at(SOURCE_FAILED, place),
-        LinkError::Lex(error, place) => told_at(lex_code(error), place),
-        LinkError::Syntax(error, place) => told_at(syntax_code(error), place),
-        LinkError::Memory => told_alone(OUT_OF_MEMORY),
+    Told {
+        code: error.code(),
+        location: location_at(error.place()),
     }
 }
 
@@ -127,35 +80,9 @@ fn told_of_link(error: LinkError) -> Told
 fn told_of_check(error: CheckError) -> Told
     ensures { result ≡ refusals.told_of_check error }
 {
-    match error {
-        CheckError::BadNumber(place) => told_at(401, place),
-        CheckError::DuplicateNumber(place) => told_at(402, place),
-        CheckError::ReservedNumber(place) => told_at(403, place),
-        CheckError::ReservedName(place) => told_at(404, place),
-        CheckError::RangeOverlap(place) => told_at(405, place),
-        CheckError::JsonNameClash(place) => told_at(406, place),
-        CheckError::BadMapKey(place) => told_at(407, place),
-        CheckError::BadOneofMember(place) => told_at(408, place),
-        CheckError::EnumFirstNotZero(place) => told_at(409, place),
-        CheckError::EnumAlias(place) => told_at(410, place),
-        CheckError::BadOption(place) => told_at(411, place),
-        CheckError::PackedNotAllowed(place) => told_at(412, place),
-        CheckError::TooManyTypes(place) => told_at(413, place),
-        CheckError::EnumEmpty(place) => told_at(414, place),
-        CheckError::BadParts(_) => told_alone(BAD_PARTS),
-        CheckError::Memory => told_alone(OUT_OF_MEMORY),
-    }
-}
-
-fn wire_code(error: WireError) -> u16
-    ensures { result ≡ refusals.wire_code error }
-{
-    match error {
-        WireError::VarintTooLong { .. } => 501,
-        WireError::Truncated { .. } => 502,
-        WireError::BadTag { .. } => 503,
-        WireError::Group { .. } => 504,
-        WireError::BadWireType { .. } => 505,
+    Told {
+        code: error.code(),
+        location: location_at(error.place()),
     }
 }
 
@@ -173,7 +100,7 @@ pub(crate) fn told_of_message(error: DynError) -> Told
         DynError::DuplicateKey => told_alone(606),
         DynError::TooLong => told_alone(607),
         DynError::TooDeep { at } => told_at_byte(608, at),
-        DynError::Wire(error) => told_at_byte(wire_code(error), error.at()),
+        DynError::Wire(error) => told_at_byte(error.code(), error.at()),
     }
 }
 
@@ -189,10 +116,7 @@ fn told_of_set(error: FdsError) -> Told
         FdsError::BadType => told_alone(703),
         FdsError::BadReference => told_alone(704),
         // Of parts that come from no text the place is none.
-        FdsError::Rule(error) => {
-            let told = told_of_check(error);
-            told_alone(told.code)
-        }
+        FdsError::Rule(error) => told_alone(error.code()),
     }
 }
 

@@ -66,6 +66,50 @@ pub enum LinkError {
     Memory,
 }
 
+impl LinkError {
+    ghost use Rattle.pg_link.specs.Codes.{code_of, place_of};
+
+    /// The number behind the E by which users know the error.
+    pub fn code(&self) -> u16
+        ensures { result ≡ code_of self.now }
+    {
+        match self {
+            LinkError::MissingFile(_) => 301,
+            LinkError::ImportCycle(_) => 302,
+            LinkError::DuplicateImport(_) => 303,
+            LinkError::DuplicateName(_) => 304,
+            LinkError::UnknownName(_) => 305,
+            LinkError::NotAType(_) => 306,
+            LinkError::NotImported(_) => 307,
+            LinkError::TooManyFiles(_) => 308,
+            LinkError::SourceFailed(_) => 309,
+            LinkError::Lex(error, _) => error.code(),
+            LinkError::Syntax(error, _) => error.code(),
+            LinkError::Memory => 1,
+        }
+    }
+
+    /// The place of the fault, but where memory was refused.
+    pub fn place(self) -> Option<Place>
+        ensures { result ≡ place_of self }
+    {
+        match self {
+            LinkError::MissingFile(place)
+            | LinkError::ImportCycle(place)
+            | LinkError::DuplicateImport(place)
+            | LinkError::DuplicateName(place)
+            | LinkError::UnknownName(place)
+            | LinkError::NotAType(place)
+            | LinkError::NotImported(place)
+            | LinkError::TooManyFiles(place)
+            | LinkError::SourceFailed(place)
+            | LinkError::Lex(_, place)
+            | LinkError::Syntax(_, place) => Some(place),
+            LinkError::Memory => None,
+        }
+    }
+}
+
 impl From<AllocError> for LinkError {
     ghost use Rattle.pg_link.specs.declared.error.LinkError.TheVariants.{Memory};
 

@@ -5,3 +5,4 @@ pub mod Proto3
 pub mod Views
 pub mod Due
 pub mod Refusals
+pub mod Codes

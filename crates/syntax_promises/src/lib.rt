@@ -3,6 +3,7 @@
 
 ghost use Rattle.std.specs.Prelude.{◌≡◌, string_bytes, IfErr, IfOk};
 ghost use Rattle.pg_lex.specs.Symbol.{placed};
+ghost use Rattle.pg_syntax.specs.Codes.{code_of};
 ghost use Rattle.pg_syntax.specs.Grammar.{Derives};
 ghost use Rattle.pg_syntax.specs.Proto3 as grammar;
 ghost use Rattle.pg_syntax.specs.Refusals.{Tells};
@@ -27,6 +28,13 @@ pub fn parse_refused(alloc: Global, bad: &[Token], end: usize) -> Result<FileTre
     ensures { IfErr result (λ e. Tells (grammar.file 64) end (placed bad.now) e) }
 {
     pg_syntax::parse(alloc, bad, end)
+}
+
+/// What `SyntaxError::code` answers.
+pub fn code(error: SyntaxError) -> u16
+    ensures { result ≡ code_of error }
+{
+    error.code()
 }
 
 /// What `Text::joined` answers.

@@ -3,6 +3,7 @@
 
 ghost use Rattle.std.specs.Prelude.{◌≡◌, ◌+◌, ◌^◌, ◌<◌, ◌≤◌, length, take, drop, IfOk};
 ghost use Rattle.std.specs.Iterator.{YieldsFirstBy};
+ghost use Rattle.pg_wire.specs.Codes.{code_of};
 ghost use Rattle.pg_wire.specs.Errors.{error_at, fault_of, place_of};
 ghost use Rattle.pg_wire.specs.Reads.{results, seen, value_at};
 ghost use Rattle.pg_wire.specs.Records.{tag};
@@ -11,6 +12,13 @@ ghost use Rattle.pg_wire.specs.Words as words;
 ghost use Rattle.pg_wire.specs.declared.record.WireType.{WireType};
 
 use pg_wire::{Record, Records, WireError};
+
+/// What `WireError::code` answers.
+pub fn code(error: WireError) -> u16
+    ensures { result ≡ code_of error }
+{
+    error.code()
+}
 
 /// What `WireError::at` answers.
 pub fn at(error: WireError) -> usize

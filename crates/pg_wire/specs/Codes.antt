@@ -1,0 +1,11 @@
+-- The number behind the E by which users know the error.
+use Rattle.std.specs.Prelude.{ℕ}
+use Rattle.pg_wire.specs.declared.error.WireError.{WireError}
+use Rattle.pg_wire.specs.declared.error.WireError.TheVariants as errors
+
+abbrev pub code_of : WireError → ℕ
+code_of (errors.VarintTooLong at) = 501
+code_of (errors.Truncated at) = 502
+code_of (errors.BadTag at) = 503
+code_of (errors.Group at) = 504
+code_of (errors.BadWireType at) = 505
