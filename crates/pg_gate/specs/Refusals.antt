@@ -26,7 +26,7 @@ use Rattle.pg_gate.specs.declared.error.Side.{Side}
 use Rattle.pg_gate.specs.declared.refusal.Location.{Location}
 use Rattle.pg_gate.specs.declared.refusal.Location.TheVariants.{Nowhere, InPlace, InFile, AtByte, AtPair, AtChoice}
 use Rattle.pg_gate.specs.declared.refusal.Refusal.{Refusal}
-use Rattle.pg_gate.specs.declared.told.Told.{Told}
+use Rattle.pg_gate.specs.declared.diagnostic.Diagnostic.{Diagnostic}
 
 -- a file as a whole, or a line and a column in it
 abbrev pub located_by : Bool → Place → Location
@@ -41,82 +41,82 @@ abbrev pub location_at : Option Place → Location
 location_at (Some place) = located place
 location_at None = Nowhere
 
-abbrev pub told_of_link : LinkError → Told
-told_of_link e = record { code = link_code e; location = location_at (link_place e) }
+abbrev pub diagnostic_of_link : LinkError → Diagnostic
+diagnostic_of_link e = record { code = link_code e; location = location_at (link_place e) }
 
-abbrev pub told_of_check : CheckError → Told
-told_of_check e = record { code = rule_code e; location = location_at (rule_place e) }
+abbrev pub diagnostic_of_check : CheckError → Diagnostic
+diagnostic_of_check e = record { code = rule_code e; location = location_at (rule_place e) }
 
 -- a code alone
-abbrev pub told_alone : ℕ → Told
-told_alone code = record { code = code; location = Nowhere }
+abbrev pub diagnostic_alone : ℕ → Diagnostic
+diagnostic_alone code = record { code = code; location = Nowhere }
 
 -- a code, and a byte of the whole input
-abbrev pub told_at_byte : ℕ → ℕ → Told
-told_at_byte code at = record { code = code; location = AtByte at }
+abbrev pub diagnostic_at_byte : ℕ → ℕ → Diagnostic
+diagnostic_at_byte code at = record { code = code; location = AtByte at }
 
-abbrev pub told_of_message : DynError → Told
-told_of_message messages.Memory = told_alone 1
-told_of_message messages.NoSuchField = told_alone 601
-told_of_message messages.WrongKind = told_alone 602
-told_of_message messages.OutOfRange = told_alone 603
-told_of_message (messages.NotUtf8 at) = told_at_byte 604 at
-told_of_message messages.OneofTwice = told_alone 605
-told_of_message messages.DuplicateKey = told_alone 606
-told_of_message messages.TooLong = told_alone 607
-told_of_message (messages.TooDeep at) = told_at_byte 608 at
-told_of_message (messages.Wire error) = told_at_byte (wire_code error) (place_of error)
+abbrev pub diagnostic_of_message : DynError → Diagnostic
+diagnostic_of_message messages.Memory = diagnostic_alone 1
+diagnostic_of_message messages.NoSuchField = diagnostic_alone 601
+diagnostic_of_message messages.WrongKind = diagnostic_alone 602
+diagnostic_of_message messages.OutOfRange = diagnostic_alone 603
+diagnostic_of_message (messages.NotUtf8 at) = diagnostic_at_byte 604 at
+diagnostic_of_message messages.OneofTwice = diagnostic_alone 605
+diagnostic_of_message messages.DuplicateKey = diagnostic_alone 606
+diagnostic_of_message messages.TooLong = diagnostic_alone 607
+diagnostic_of_message (messages.TooDeep at) = diagnostic_at_byte 608 at
+diagnostic_of_message (messages.Wire error) = diagnostic_at_byte (wire_code error) (place_of error)
 
 -- the code of what the codec of messages refuses, of the set itself, or of a rule that it breaks
-abbrev pub told_of_set : FdsError → Told
-told_of_set sets.Memory = told_alone 1
-told_of_set (sets.Bytes error) = told_of_message error
-told_of_set sets.NotProto3 = told_alone 702
-told_of_set sets.BadType = told_alone 703
-told_of_set sets.BadReference = told_alone 704
-told_of_set (sets.Rule error) = told_alone (rule_code error)
+abbrev pub diagnostic_of_set : FdsError → Diagnostic
+diagnostic_of_set sets.Memory = diagnostic_alone 1
+diagnostic_of_set (sets.Bytes error) = diagnostic_of_message error
+diagnostic_of_set sets.NotProto3 = diagnostic_alone 702
+diagnostic_of_set sets.BadType = diagnostic_alone 703
+diagnostic_of_set sets.BadReference = diagnostic_alone 704
+diagnostic_of_set (sets.Rule error) = diagnostic_alone (rule_code error)
 
-abbrev pub told_of : Fault → Told
-told_of (faults.Link error) = told_of_link error
-told_of (faults.Check error) = told_of_check error
-told_of (faults.Set error) = told_of_set error
+abbrev pub diagnostic_of : Fault → Diagnostic
+diagnostic_of (faults.Link error) = diagnostic_of_link error
+diagnostic_of (faults.Check error) = diagnostic_of_check error
+diagnostic_of (faults.Set error) = diagnostic_of_set error
 
-abbrev pub told_of_claim : ClaimFault → Told
-told_of_claim claims.BadText = told_alone 801
-told_of_claim claims.RootMissing = told_alone 802
-told_of_claim (claims.PairMissing names) = record { code = 803; location = AtPair names }
-told_of_claim (claims.BoundTooHigh names number case) = record { code = 804; location = AtChoice names number case }
-told_of_claim claims.WitnessNotWritten = told_alone 805
-told_of_claim claims.WitnessLength = told_alone 806
-told_of_claim claims.WitnessKeeps = told_alone 807
+abbrev pub diagnostic_of_claim : ClaimFault → Diagnostic
+diagnostic_of_claim claims.BadText = diagnostic_alone 801
+diagnostic_of_claim claims.RootMissing = diagnostic_alone 802
+diagnostic_of_claim (claims.PairMissing names) = record { code = 803; location = AtPair names }
+diagnostic_of_claim (claims.BoundTooHigh names number case) = record { code = 804; location = AtChoice names number case }
+diagnostic_of_claim claims.WitnessNotWritten = diagnostic_alone 805
+diagnostic_of_claim claims.WitnessLength = diagnostic_alone 806
+diagnostic_of_claim claims.WitnessKeeps = diagnostic_alone 807
 
--- a certificate that isn't given is told by its file
-abbrev pub told_of_certificate : CertificateFault → Told
-told_of_certificate (certificates.Missing file) = record { code = 301; location = InFile file }
-told_of_certificate (certificates.Failed file) = record { code = 309; location = InFile file }
-told_of_certificate (certificates.Refused fault) = told_of_claim fault
+-- a certificate that isn't given is reported by its file
+abbrev pub diagnostic_of_certificate : CertificateFault → Diagnostic
+diagnostic_of_certificate (certificates.Missing file) = record { code = 301; location = InFile file }
+diagnostic_of_certificate (certificates.Failed file) = record { code = 309; location = InFile file }
+diagnostic_of_certificate (certificates.Refused fault) = diagnostic_of_claim fault
 
--- what is told of no side
-abbrev pub refusal_alone : Told → Refusal
-refusal_alone told = record { side = None; code = told.code; location = told.location }
+-- what is reported of no side
+abbrev pub refusal_alone : Diagnostic → Refusal
+refusal_alone diagnostic = record { side = None; code = diagnostic.code; location = diagnostic.location }
 
-abbrev pub refusal_of_side : Side → Told → Refusal
-refusal_of_side side told = record { side = Some side; code = told.code; location = told.location }
+abbrev pub refusal_of_side : Side → Diagnostic → Refusal
+refusal_of_side side diagnostic = record { side = Some side; code = diagnostic.code; location = diagnostic.location }
 
 -- want of memory and a sink that failed aren't printed
 abbrev pub refusal_of_gate : GateError → Option Refusal
 refusal_of_gate Memory = None
-refusal_of_gate RootMissingOld = Some (refusal_alone (told_alone 901))
-refusal_of_gate RootMissingNew = Some (refusal_alone (told_alone 902))
-refusal_of_gate (Compile side fault) = Some (refusal_of_side side (told_of fault))
+refusal_of_gate RootMissingOld = Some (refusal_alone (diagnostic_alone 901))
+refusal_of_gate RootMissingNew = Some (refusal_alone (diagnostic_alone 902))
+refusal_of_gate (Compile side fault) = Some (refusal_of_side side (diagnostic_of fault))
 refusal_of_gate WriteFailed = None
-refusal_of_gate BadHex = Some (refusal_alone (told_alone 905))
+refusal_of_gate BadHex = Some (refusal_alone (diagnostic_alone 905))
 
--- the faults of a certificate and of bytes are told without a side
+-- the faults of a certificate and of bytes are reported without a side
 abbrev pub refusal_of : CallError → Option Refusal
 refusal_of (calls.Gate error) = refusal_of_gate error
-refusal_of (calls.Certificate fault) = Some (refusal_alone (told_of_certificate fault))
-refusal_of (calls.Bytes error) = Some (refusal_alone (told_of_message error))
+refusal_of (calls.Certificate fault) = Some (refusal_alone (diagnostic_of_certificate fault))
+refusal_of (calls.Bytes error) = Some (refusal_alone (diagnostic_of_message error))
 
 -- files that are compiled by themselves have no side
 abbrev pub without_side : Refusal → Refusal

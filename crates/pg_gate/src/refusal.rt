@@ -7,8 +7,11 @@ ghost use Rattle.pg_gate.specs.Text as spec;
 
 use crate::call::Call;
 use crate::call_error::{CallError, PairNames};
+use crate::diagnostic::{
+    Diagnostic, SOURCE_FAILED, diagnostic_alone, diagnostic_of, diagnostic_of_certificate,
+    diagnostic_of_message,
+};
 use crate::error::{GateError, Side};
-use crate::told::{SOURCE_FAILED, Told, told_alone, told_of, told_of_certificate, told_of_message};
 use pg_link::Place;
 use std::fmt;
 
@@ -71,24 +74,24 @@ impl Refusal {
 }
 
 /// The refusal of what has no side.
-fn refusal_alone(told: Told) -> Refusal
-    ensures { result ≡ refusals.refusal_alone told }
+fn refusal_alone(diagnostic: Diagnostic) -> Refusal
+    ensures { result ≡ refusals.refusal_alone diagnostic }
 {
     Refusal {
         side: None,
-        code: told.code,
-        location: told.location,
+        code: diagnostic.code,
+        location: diagnostic.location,
     }
 }
 
 /// The refusal of a side that does not compile.
-fn refusal_of_side(side: Side, told: Told) -> Refusal
-    ensures { result ≡ refusals.refusal_of_side side told }
+fn refusal_of_side(side: Side, diagnostic: Diagnostic) -> Refusal
+    ensures { result ≡ refusals.refusal_of_side side diagnostic }
 {
     Refusal {
         side: Some(side),
-        code: told.code,
-        location: told.location,
+        code: diagnostic.code,
+        location: diagnostic.location,
     }
 }
 
@@ -97,10 +100,10 @@ fn refusal_of_gate(error: GateError) -> Option<Refusal>
     ensures { result ≡ refusals.refusal_of_gate error }
 {
     match error {
-        GateError::Compile(side, fault) => Some(refusal_of_side(side, told_of(fault))),
-        GateError::RootMissingOld => Some(refusal_alone(told_alone(ROOT_MISSING_OLD))),
-        GateError::RootMissingNew => Some(refusal_alone(told_alone(ROOT_MISSING_NEW))),
-        GateError::BadHex => Some(refusal_alone(told_alone(BAD_HEX))),
+        GateError::Compile(side, fault) => Some(refusal_of_side(side, diagnostic_of(fault))),
+        GateError::RootMissingOld => Some(refusal_alone(diagnostic_alone(ROOT_MISSING_OLD))),
+        GateError::RootMissingNew => Some(refusal_alone(diagnostic_alone(ROOT_MISSING_NEW))),
+        GateError::BadHex => Some(refusal_alone(diagnostic_alone(BAD_HEX))),
         GateError::Memory | GateError::WriteFailed => None,
     }
 }
@@ -111,8 +114,8 @@ fn refusal_of(error: CallError) -> Option<Refusal>
 {
     match error {
         CallError::Gate(error) => refusal_of_gate(error),
-        CallError::Certificate(fault) => Some(refusal_alone(told_of_certificate(fault))),
-        CallError::Bytes(error) => Some(refusal_alone(told_of_message(error))),
+        CallError::Certificate(fault) => Some(refusal_alone(diagnostic_of_certificate(fault))),
+        CallError::Bytes(error) => Some(refusal_alone(diagnostic_of_message(error))),
     }
 }
 

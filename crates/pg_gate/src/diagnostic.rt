@@ -1,0 +1,178 @@
+//! What is reported of a fault: its code, and where it is.
+ghost use Rattle.std.specs.Prelude.{◌≡◌};
+ghost use Rattle.pg_gate.specs.Refusals as refusals;
+
+use crate::call_error::{CertificateFault, ClaimFault};
+use crate::error::Fault;
+use crate::refusal::Location;
+use pg_check::CheckError;
+use pg_dyn::DynError;
+use pg_fds::FdsError;
+use pg_link::{LinkError, Place};
+
+/// The code of want of memory, which is no refusal and never printed.
+const OUT_OF_MEMORY: u16 = 1;
+
+/// The code of a file that is not there.
+const MISSING_FILE: u16 = 301;
+
+/// The code of a source that failed.
+pub(crate) const SOURCE_FAILED: u16 = 309;
+
+/// A refusal without its side.
+#[derive(Drop)]
+pub(crate) struct Diagnostic {
+    pub code: u16,
+    pub location: Location,
+}
+
+/// Where a place is: a line and a column of its file, or the file as a whole.
+fn located(place: Place) -> Location
+    ensures { result ≡ refusals.located place }
+{
+    if place.line == 0 {
+        Location::InFile(place.file)
+    } else {
+        Location::InPlace(place)
+    }
+}
+
+fn location_at(place: Option<Place>) -> Location
+    ensures { result ≡ refusals.location_at place }
+{
+    match place {
+        Some(place) => located(place),
+        None => Location::Nowhere,
+    }
+}
+
+/// What is reported by its code alone.
+pub(crate) fn diagnostic_alone(code: u16) -> Diagnostic
+    ensures { result ≡ refusals.diagnostic_alone code }
+{
+    Diagnostic {
+        code,
+        location: Location::Nowhere,
+    }
+}
+
+/// What is reported of a byte.
+fn diagnostic_at_byte(code: u16, at: usize) -> Diagnostic
+    ensures { result ≡ refusals.diagnostic_at_byte code at }
+{
+    Diagnostic {
+        code,
+        location: Location::AtByte(at),
+    }
+}
+
+/// What is reported of files that can't be linked.
+fn diagnostic_of_link(error: LinkError) -> Diagnostic
+    ensures { result ≡ refusals.diagnostic_of_link error }
+{
+    Diagnostic {
+        code: error.code(),
+        location: location_at(error.place()),
+    }
+}
+
+/// What is reported of files that break a rule.
+fn diagnostic_of_check(error: CheckError) -> Diagnostic
+    ensures { result ≡ refusals.diagnostic_of_check error }
+{
+    Diagnostic {
+        code: error.code(),
+        location: location_at(error.place()),
+    }
+}
+
+/// What is reported of a message that can't be written or read.
+pub(crate) fn diagnostic_of_message(error: DynError) -> Diagnostic
+    ensures { result ≡ refusals.diagnostic_of_message error }
+{
+    match error {
+        DynError::Memory => diagnostic_alone(OUT_OF_MEMORY),
+        DynError::NoSuchField => diagnostic_alone(601),
+        DynError::WrongKind => diagnostic_alone(602),
+        DynError::OutOfRange => diagnostic_alone(603),
+        DynError::NotUtf8 { at } => diagnostic_at_byte(604, at),
+        DynError::OneofTwice => diagnostic_alone(605),
+        DynError::DuplicateKey => diagnostic_alone(606),
+        DynError::TooLong => diagnostic_alone(607),
+        DynError::TooDeep { at } => diagnostic_at_byte(608, at),
+        DynError::Wire(error) => diagnostic_at_byte(error.code(), error.at()),
+    }
+}
+
+/// What is reported of a set: the code of what the codec of messages refuses, of the set itself, or of a rule
+/// that it breaks.
+fn diagnostic_of_set(error: FdsError) -> Diagnostic
+    ensures { result ≡ refusals.diagnostic_of_set error }
+{
+    match error {
+        FdsError::Memory => diagnostic_alone(OUT_OF_MEMORY),
+        FdsError::Bytes(error) => diagnostic_of_message(error),
+        FdsError::NotProto3 => diagnostic_alone(702),
+        FdsError::BadType => diagnostic_alone(703),
+        FdsError::BadReference => diagnostic_alone(704),
+        // Of parts that come from no text the place is none.
+        FdsError::Rule(error) => diagnostic_alone(error.code()),
+    }
+}
+
+/// What is reported of a side.
+pub(crate) fn diagnostic_of(fault: Fault) -> Diagnostic
+    ensures { result ≡ refusals.diagnostic_of fault }
+{
+    match fault {
+        Fault::Link(error) => diagnostic_of_link(error),
+        Fault::Check(error) => diagnostic_of_check(error),
+        Fault::Set(error) => diagnostic_of_set(error),
+    }
+}
+
+/// What is reported of a certificate's bytes.
+fn diagnostic_of_claim(fault: ClaimFault) -> Diagnostic
+    ensures { result ≡ refusals.diagnostic_of_claim fault }
+{
+    match fault {
+        ClaimFault::BadText => diagnostic_alone(801),
+        ClaimFault::RootMissing => diagnostic_alone(802),
+        ClaimFault::PairMissing(names) => Diagnostic {
+            code: 803,
+            location: Location::AtPair(names),
+        },
+        ClaimFault::BoundTooHigh {
+            names,
+            number,
+            case,
+        } => Diagnostic {
+            code: 804,
+            location: Location::AtChoice {
+                names,
+                number,
+                case,
+            },
+        },
+        ClaimFault::WitnessNotWritten => diagnostic_alone(805),
+        ClaimFault::WitnessLength => diagnostic_alone(806),
+        ClaimFault::WitnessKeeps => diagnostic_alone(807),
+    }
+}
+
+/// What is reported of a certificate.
+pub(crate) fn diagnostic_of_certificate(fault: CertificateFault) -> Diagnostic
+    ensures { result ≡ refusals.diagnostic_of_certificate fault }
+{
+    match fault {
+        CertificateFault::Missing(file) => Diagnostic {
+            code: MISSING_FILE,
+            location: Location::InFile(file),
+        },
+        CertificateFault::Failed(file) => Diagnostic {
+            code: SOURCE_FAILED,
+            location: Location::InFile(file),
+        },
+        CertificateFault::Refused(fault) => diagnostic_of_claim(fault),
+    }
+}
