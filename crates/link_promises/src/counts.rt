@@ -2,45 +2,45 @@
 
 ghost use Rattle.std.specs.Prelude.{◌≡◌, ◌+◌, [], ◌∷◌, ◌++◌};
 
-use pg_link::{PathRecord, Record, Tally};
+use pg_link::{GhostBytes, GhostCount, GhostPaths};
 
-/// What `Tally::new` answers.
-pub fn tally() -> Tally
+/// What `GhostCount::new` answers.
+pub fn tally() -> GhostCount
     ensures { result.count ≡ 0 }
 {
-    Tally::new()
+    GhostCount::new()
 }
 
-/// What `Tally::add` does.
-pub fn add(tally: &mut Tally)
+/// What `GhostCount::add` does.
+pub fn add(tally: &mut GhostCount)
     ensures { tally.new.count ≡ tally.old.count + 1 }
 {
     tally.add();
 }
 
-/// What `Record::new` answers.
-pub fn record() -> Record
+/// What `GhostBytes::new` answers.
+pub fn record() -> GhostBytes
     ensures { result.bytes ≡ [] }
 {
-    Record::new()
+    GhostBytes::new()
 }
 
-/// What `Record::note` does.
-pub fn note(list: &mut Record, bytes: &[u8])
+/// What `GhostBytes::note` does.
+pub fn note(list: &mut GhostBytes, bytes: &[u8])
     ensures { list.new.bytes ≡ list.old.bytes ++ bytes.now }
 {
     list.note(bytes);
 }
 
-/// What `PathRecord::new` answers.
-pub fn path_record() -> PathRecord
+/// What `GhostPaths::new` answers.
+pub fn path_record() -> GhostPaths
     ensures { result.paths ≡ [] }
 {
-    PathRecord::new()
+    GhostPaths::new()
 }
 
-/// What `PathRecord::note` does.
-pub fn note_path(list: &mut PathRecord, path: &[u8])
+/// What `GhostPaths::note` does.
+pub fn note_path(list: &mut GhostPaths, path: &[u8])
     ensures { list.new.paths ≡ list.old.paths ++ path.now ∷ [] }
 {
     list.note(path);

@@ -14,7 +14,7 @@ use Rattle.pg_link.specs.Files.{File, Declared, kind_in, names_at, all_names, is
 use Rattle.pg_link.specs.Index.{sees_one, kind_seen, names_seen}
 use Rattle.pg_link.specs.Names.{Text, is_package}
 use Rattle.pg_link.specs.Outline.{file_names}
-use Rattle.pg_link.specs.Sights.{Marks}
+use Rattle.pg_link.specs.VisibleFiles.{Marks}
 use Rattle.pg_link.specs.Standing.{Standing, Bearer, bearers, first_of, Holds, NoneTwice, AllMayStand, MayStand, standing, standings, standings_from, all_standings, view}
 use Rattle.pg_link.specs.Walk.{Entry, outline, outlines}
 use Rattle.pg_link.proofs.MaskLaws.{none_some}
@@ -268,22 +268,22 @@ stands_of n (x ∷ es) s among = stands_by n x es s (sides (standings n x.1.tree
 
 -- ---- the index
 
-sees_any : (sight : List Bool) (bs : List Standing) → sees_one sight (map (λ (s : Standing). s.file) bs) ≡ list_any (λ (s : Standing). get_or sight s.file false) bs
-sees_any sight [] = refl
-sees_any sight (s ∷ bs) = or_else (get_or sight s.file false) (sees_one sight (map (λ (t : Standing). t.file) bs)) (list_any (λ (t : Standing). get_or sight t.file false) bs) (sees_any sight bs)
+sees_any : (visible : List Bool) (bs : List Standing) → sees_one visible (map (λ (s : Standing). s.file) bs) ≡ list_any (λ (s : Standing). get_or visible s.file false) bs
+sees_any visible [] = refl
+sees_any visible (s ∷ bs) = or_else (get_or visible s.file false) (sees_one visible (map (λ (t : Standing). t.file) bs)) (list_any (λ (t : Standing). get_or visible t.file false) bs) (sees_any visible bs)
   where
     or_else : (a b c : Bool) → b ≡ c → cond a true b ≡ (a || c)
     or_else true b c is = refl
     or_else false b c is = is
 
-seen_is : (sight : List Bool) (o : Option nameds.Named) (bs : List Standing) → option_map view o ≡ first_of bs
-    → option_and_then (kind_seen (Some sight)) o ≡ kind_by (λ s. get_or sight s.file false) bs
-seen_is sight None [] is = refl
-seen_is sight None (s ∷ more) is = absurd (none_some _ is)
-seen_is sight (Some n) [] is = absurd (none_some _ (sym is))
-seen_is sight (Some n) (s ∷ more) is =
+seen_is : (visible : List Bool) (o : Option nameds.Named) (bs : List Standing) → option_map view o ≡ first_of bs
+    → option_and_then (kind_seen (Some visible)) o ≡ kind_by (λ s. get_or visible s.file false) bs
+seen_is visible None [] is = refl
+seen_is visible None (s ∷ more) is = absurd (none_some _ is)
+seen_is visible (Some n) [] is = absurd (none_some _ (sym is))
+seen_is visible (Some n) (s ∷ more) is =
     let same = same_Some (view n) _ is in
-    ap (λ (b : Bearer). cond (sees_one sight b.files) (Some b.kind) None) same ∙ ap (λ (b : Bool). cond b (Some s.declared.kind) None) (sees_any sight (s ∷ more))
+    ap (λ (b : Bearer). cond (sees_one visible b.files) (Some b.kind) None) same ∙ ap (λ (b : Bool). cond b (Some s.declared.kind) None) (sees_any visible (s ∷ more))
 
 all_is : (o : Option nameds.Named) (bs : List Standing) → option_map view o ≡ first_of bs → option_and_then (kind_seen None) o ≡ kind_by (λ s. true) bs
 all_is None [] is = refl
@@ -314,13 +314,13 @@ its_standing es f d among has =
 turned : (a b : Text) → bytes_eq a b ≡ true → bytes_eq b a ≡ true
 turned a b is = text_same b a (sym (same_text a b is))
 
-pub seen_names : {S : Type 0} (index : HashMap (String Global) nameds.Named S) (es : List Entry) (ps : List Text) (sight : List Bool) → Holds index (all_standings es)
-    → NoneTwice (all_standings es) → Marks es ps sight → (full : Text) → names_seen index (Some sight) full ≡ names_at ps (outlines es) full
-seen_names index es ps sight holds once marks full =
+pub seen_names : {S : Type 0} (index : HashMap (String Global) nameds.Named S) (es : List Entry) (ps : List Text) (visible : List Bool) → Holds index (all_standings es)
+    → NoneTwice (all_standings es) → Marks es ps visible → (full : Text) → names_seen index (Some visible) full ≡ names_at ps (outlines es) full
+seen_names index es ps visible holds once marks full =
     let q = λ (f : File). is_path_of ps f.path in
     let bs = bearers (all_standings es) full in
-    let test = λ (s : Standing). get_or sight s.file false in
-    seen_is sight (get_by_text index full) bs (holds full)
+    let test = λ (s : Standing). get_or visible s.file false in
+    seen_is visible (get_by_text index full) bs (holds full)
     ∙ kinds_agree test bs (flat_map (λ (f : File). f.declared) (filter q (outlines es))) full
     (λ d among named.
     let f = flat_among (λ (x : File). x.declared) (filter q (outlines es)) d among in
@@ -335,7 +335,7 @@ seen_names index es ps sight holds once marks full =
     let h = filter_among (names_it full) (all_standings es) a among in
     let s = stands_of 0 es a h.0 in
     let number : a.file ≡ s.number = s.is_file ∙ omega arith in
-    let seen : q (outline s.entry) ≡ true = sym (marks s.number s.entry s.is_there) ∙ (ap (λ (k : ℕ). get_or sight k false) (sym number) ∙ pass) in (
+    let seen : q (outline s.entry) ≡ true = sym (marks s.number s.entry s.is_there) ∙ (ap (λ (k : ℕ). get_or visible k false) (sym number) ∙ pass) in (
       among_flat (λ (x : File). x.declared) (filter q (outlines es)) (outline s.entry) a.declared
           (among_filter q (outlines es) (outline s.entry) (among_outlines es s.number s.entry s.is_there) seen) s.declares,
       turned full a.declared.name h.1,

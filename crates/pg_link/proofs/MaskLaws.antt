@@ -14,7 +14,7 @@ use Rattle.pg_link.specs.declared.imports.ImportLine as made
 use Rattle.pg_link.specs.Files.{File, Import, Differ, is_path_of, paths_of, public_paths, handed_on}
 use Rattle.pg_link.specs.Imports.{line_of}
 use Rattle.pg_link.specs.Names.{Text}
-use Rattle.pg_link.specs.Sights.{Marks, IsMask, AreHanded, taken}
+use Rattle.pg_link.specs.VisibleFiles.{Marks, IsMask, AreHanded, taken}
 use Rattle.pg_link.specs.Walk.{Entry, outline, outlines, path_of}
 use Rattle.pg_link.proofs.PathLaws.{among_entries, any-reverse}
 use Rattle.pg_link.proofs.SightLaws.{same_text, text_same}

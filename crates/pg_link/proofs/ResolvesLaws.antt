@@ -61,9 +61,9 @@ goes_outwards names test part scope (suc n) within some none =
     rw (less, split) (sym (innermost-around names test part (texts (take n scope)) word.now none_there))
 
 -- what the index holds of a name that is seen
-pub is_borne : {S : Type 0} (index : HashMap (String Global) nameds.Named S) (sight : Option (List Bool)) (full name : Text) (named : nameds.Named)
-    → get_by_text index full ≡ Some named → is_seen sight (files_of named) ≡ true → full ≡ name → Some (name, named.kind) ≡ borne (names_seen index sight) full
-is_borne index sight full name named held seen same = rw (held, seen, same) refl
+pub is_borne : {S : Type 0} (index : HashMap (String Global) nameds.Named S) (visible : Option (List Bool)) (full name : Text) (named : nameds.Named)
+    → get_by_text index full ≡ Some named → is_seen visible (files_of named) ≡ true → full ≡ name → Some (name, named.kind) ≡ borne (names_seen index visible) full
+is_borne index visible full name named held seen same = rw (held, seen, same) refl
 
 pub same_bytes : (a b : Text) → bytes_eq a b ≡ true → a ≡ b
 same_bytes a b same = (bytes_eq-Decides a b).0 same

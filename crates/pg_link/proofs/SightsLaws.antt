@@ -9,7 +9,7 @@ use Rattle.pg_link.specs.Files.{File, Import, InOrder, Differ, is_path_of, paths
 use Rattle.pg_link.specs.Imports.{line_of}
 use Rattle.pg_link.specs.Names.{Text}
 use Rattle.pg_link.specs.Outline.{file_imports}
-use Rattle.pg_link.specs.Sights.{IsMask, AreMasks, AreHanded, AreSights, taken}
+use Rattle.pg_link.specs.VisibleFiles.{IsMask, AreMasks, AreHanded, AreVisibleFiles, taken}
 use Rattle.pg_link.specs.Walk.{Entry, outline, outlines, path_of}
 use Rattle.pg_link.proofs.MaskLaws.{none_some}
 use Rattle.pg_link.proofs.SightLaws.{Each, each_of, first_among, later_among, handed_on_is, seen_paths_is}
@@ -150,11 +150,11 @@ handed_more es old new v lines shown count i e order apart at own same number ma
 
 pub sights_more : (es : List Entry) (old new : List Mask) (v : Mask) (lines shown : List made.ImportLine) (count i : ℕ) (e : Entry)
     → InOrder (outlines es) → Differ (paths_of (outlines es)) → slice_get es i ≡ Some e → map line_of lines ≡ file_imports e.1.tree → shown ≡ lines
-    → count ≡ i → length old ≡ i → new ≡ old ++ v ∷ [] → AreSights es (map marks_in old)
+    → count ≡ i → length old ≡ i → new ≡ old ++ v ∷ [] → AreVisibleFiles es (map marks_in old)
     → ((a : Entry) → slice_get es count ≡ Some a → IsMask es (path_of a ∷ flat_map (handed_on (outlines es)) (taken true (map line_of shown))) v.items)
-    → AreSights es (map marks_in new)
+    → AreVisibleFiles es (map marks_in new)
 sights_more es old new v lines shown count i e order apart at own same number many is before mask =
-    subst (AreSights es) (sym (ap (map marks_in) is ∙ map-append marks_in old (v ∷ [])))
+    subst (AreVisibleFiles es) (sym (ap (map marks_in) is ∙ map-append marks_in old (v ∷ [])))
     (masks_more es (seen_paths (outlines es)) (map marks_in old) v.items before (λ a there.
     let here : slice_get es i ≡ Some a = counted es old i a many there in
     seen_mask es i a shown v.items order apart here (its_imports es i e a lines shown at here own same)

@@ -16,7 +16,7 @@ use Rattle.pg_link.specs.Files.{Declared, all_names, seen_paths, visible_names}
 use Rattle.pg_link.specs.Index.{names_seen}
 use Rattle.pg_link.specs.Names.{Text, Names}
 use Rattle.pg_link.specs.Outline.{file_names}
-use Rattle.pg_link.specs.Sights.{AreSights, IsMask, Marks}
+use Rattle.pg_link.specs.VisibleFiles.{AreVisibleFiles, IsMask, Marks}
 use Rattle.pg_link.specs.Standing.{IsNumbered, IsTwiceIn, Lists, NoneTwice, Standing, all_standings, declared_in, standing, standings, standings_from}
 use Rattle.pg_link.specs.Targets.{Resolution, all_declared, file_targets, target_in}
 use Rattle.pg_link.specs.Unresolved.{RefusesUse}
@@ -62,22 +62,22 @@ pub all_declared_are : (es : List Entry) → declared_in (all_standings es) ≡ 
 all_declared_are es = declared_from 0 es
 
 -- the names that are seen, as one
-pub visible_are : (index : indexes.Index) (es : List Entry) (e : Entry) (sight : List Bool) → Lists index (all_standings es) → NoneTwice (all_standings es)
-    → Marks es (seen_paths (outlines es) (path_of e)) sight → names_seen index.names (Some sight) ≡ visible_names (outlines es) (path_of e)
-visible_are index es e sight lists once marks = λ i full. seen_names index.names es (seen_paths (outlines es) (path_of e)) sight lists.0 once marks full i
+pub visible_are : (index : indexes.Index) (es : List Entry) (e : Entry) (visible : List Bool) → Lists index (all_standings es) → NoneTwice (all_standings es)
+    → Marks es (seen_paths (outlines es) (path_of e)) visible → names_seen index.names (Some visible) ≡ visible_names (outlines es) (path_of e)
+visible_are index es e visible lists once marks = λ i full. seen_names index.names es (seen_paths (outlines es) (path_of e)) visible lists.0 once marks full i
 
 pub all_are : (index : indexes.Index) (es : List Entry) → Lists index (all_standings es) → NoneTwice (all_standings es)
     → names_seen index.names None ≡ all_names (outlines es)
 all_are index es lists once = λ i full. known_names index.names es lists.0 once full i
 
-pub targets_are : (index : indexes.Index) (es : List Entry) (e : Entry) (sight : List Bool) (ts : List Target) → Lists index (all_standings es) → NoneTwice (all_standings es)
-    → Marks es (seen_paths (outlines es) (path_of e)) sight
-    → ((all : List Standing) → IsNumbered index all → map Some ts ≡ map (target_in (declared_in all) (names_seen index.names (Some sight))) (file_uses e.1.tree))
+pub targets_are : (index : indexes.Index) (es : List Entry) (e : Entry) (visible : List Bool) (ts : List Target) → Lists index (all_standings es) → NoneTwice (all_standings es)
+    → Marks es (seen_paths (outlines es) (path_of e)) visible
+    → ((all : List Standing) → IsNumbered index all → map Some ts ≡ map (target_in (declared_in all) (names_seen index.names (Some visible))) (file_uses e.1.tree))
     → map Some ts ≡ file_targets es e
-targets_are index es e sight ts lists once marks found =
+targets_are index es e visible ts lists once marks found =
     found (all_standings es) lists.1
-    ∙ (ap (λ (ds : List Declared). map (target_in ds (names_seen index.names (Some sight))) (file_uses e.1.tree)) (all_declared_are es)
-    ∙ ap (λ (names : Names). map (target_in (all_declared es) names) (file_uses e.1.tree)) (visible_are index es e sight lists once marks))
+    ∙ (ap (λ (ds : List Declared). map (target_in ds (names_seen index.names (Some visible))) (file_uses e.1.tree)) (all_declared_are es)
+    ∙ ap (λ (names : Names). map (target_in (all_declared es) names) (file_uses e.1.tree)) (visible_are index es e visible lists once marks))
 
 somes : (ts : List Target) → All IsSome (map Some ts)
 somes [] = λ k d within. absurd (omega arith)
@@ -118,11 +118,11 @@ split_file es i e at =
     ∙ (ap (λ (f : Entry). f ∷ drop (suc i) es) (get_or_from_slice_get es i e e at) ∙ ap (λ n. e ∷ drop n es) (sym (add-one i))))
 
 -- the first fault, in the file and among the files
-pub fault_is : (index : indexes.Index) (es : List Entry) (i : ℕ) (e : Entry) (sight : List Bool) (path : Text) (err : errors.LinkError) (ts : List (List Target)) → Lists index (all_standings es)
-    → NoneTwice (all_standings es) → Marks es (seen_paths (outlines es) (path_of e)) sight → slice_get es i ≡ Some e → map (map Some) ts ≡ map (file_targets es) (take i es) → path ≡ path_of e
-    → ((all : List Standing) → IsNumbered index all → IsUseFault (target_in (declared_in all) (names_seen index.names (Some sight))) (names_seen index.names (Some sight)) (names_seen index.names None)
+pub fault_is : (index : indexes.Index) (es : List Entry) (i : ℕ) (e : Entry) (visible : List Bool) (path : Text) (err : errors.LinkError) (ts : List (List Target)) → Lists index (all_standings es)
+    → NoneTwice (all_standings es) → Marks es (seen_paths (outlines es) (path_of e)) visible → slice_get es i ≡ Some e → map (map Some) ts ≡ map (file_targets es) (take i es) → path ≡ path_of e
+    → ((all : List Standing) → IsNumbered index all → IsUseFault (target_in (declared_in all) (names_seen index.names (Some visible))) (names_seen index.names (Some visible)) (names_seen index.names None)
     path e.1.bytes.items e.1.tree err) → IsUseFaultIn es err
-fault_is index es i e sight path err ts lists once marks at came same fault = record {
+fault_is index es i e visible path err ts lists once marks at came same fault = record {
   front = take i es;
   file = e;
   back = drop (i + 1) es;
@@ -131,8 +131,8 @@ fault_is index es i e sight path err ts lists once marks at came same fault = re
   fault =
       subst (λ (p : Text). IsUseFault (target_in (all_declared es) (visible_names (outlines es) (path_of e))) (visible_names (outlines es) (path_of e)) (all_names (outlines es)) p e.1.bytes.items e.1.tree err) same
       (subst (λ (names : Names). IsUseFault (target_in (all_declared es) (visible_names (outlines es) (path_of e))) (visible_names (outlines es) (path_of e)) names path e.1.bytes.items e.1.tree err) (all_are index es lists once)
-      (subst (λ (names : Names). IsUseFault (target_in (all_declared es) names) names (names_seen index.names None) path e.1.bytes.items e.1.tree err) (visible_are index es e sight lists once marks)
-      (subst (λ (ds : List Declared). IsUseFault (target_in ds (names_seen index.names (Some sight))) (names_seen index.names (Some sight)) (names_seen index.names None) path e.1.bytes.items e.1.tree err) (all_declared_are es)
+      (subst (λ (names : Names). IsUseFault (target_in (all_declared es) names) names (names_seen index.names None) path e.1.bytes.items e.1.tree err) (visible_are index es e visible lists once marks)
+      (subst (λ (ds : List Declared). IsUseFault (target_in ds (names_seen index.names (Some visible))) (names_seen index.names (Some visible)) (names_seen index.names None) path e.1.bytes.items e.1.tree err) (all_declared_are es)
       (fault (all_standings es) lists.1))));
 }
 
@@ -150,13 +150,13 @@ pub among_at : (es : List Entry) (i : ℕ) (e : Entry) → slice_get es i ≡ So
 among_at es i e at = (i, (slice_get_within es i e at, sym (get_or_from_slice_get es i e e at)))
 
 -- the marks that stand for a file
-pub its_marks : (es : List Entry) (sights : List (Vec Bool Global)) (i : ℕ) (e : Entry) (v : Vec Bool Global) (marks : List Bool)
-    → AreSights es (map (λ (m : Vec Bool Global). m.items) sights) → slice_get es i ≡ Some e → i < length sights → v ≡ get_or sights i v → marks ≡ v.items
+pub its_marks : (es : List Entry) (visible_files : List (Vec Bool Global)) (i : ℕ) (e : Entry) (v : Vec Bool Global) (marks : List Bool)
+    → AreVisibleFiles es (map (λ (m : Vec Bool Global). m.items) visible_files) → slice_get es i ≡ Some e → i < length visible_files → v ≡ get_or visible_files i v → marks ≡ v.items
     → Marks es (seen_paths (outlines es) (path_of e)) marks
-its_marks es sights i e v marks are at within is same =
+its_marks es visible_files i e v marks are at within is same =
     let m : IsMask es (seen_paths (outlines es) (path_of e)) marks =
-    are i marks e (slice_get-map (λ (m : Vec Bool Global). m.items) sights i
-    ∙ (ap (option_map (λ (m : Vec Bool Global). m.items)) (slice_get_read sights (length sights) i v refl within is) ∙ ap (λ (l : List Bool). Some l) (sym same))) at in
+    are i marks e (slice_get-map (λ (m : Vec Bool Global). m.items) visible_files i
+    ∙ (ap (option_map (λ (m : Vec Bool Global). m.items)) (slice_get_read visible_files (length visible_files) i v refl within is) ∙ ap (λ (l : List Bool). Some l) (sym same))) at in
     m.is_marked
 
 -- ---- no failure of a source

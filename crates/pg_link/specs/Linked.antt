@@ -7,7 +7,7 @@ use Rattle.pg_link.specs.declared.target.Target.{Target}
 use Rattle.pg_link.specs.Files.{Declared, Differ, InOrder, paths_of}
 use Rattle.pg_link.specs.Names.{Text}
 use Rattle.pg_link.specs.Outline.{file_names}
-use Rattle.pg_link.specs.Sights.{AreSights}
+use Rattle.pg_link.specs.VisibleFiles.{AreVisibleFiles}
 use Rattle.pg_link.specs.Standing.{Lists, NoneTwice, all_standings}
 use Rattle.pg_link.specs.Targets.{file_targets}
 use Rattle.pg_link.specs.Walk.{Entry, IsParsed, outlines, path_of}
@@ -35,11 +35,11 @@ pub record IsRead (files : List Entry) : Type 0 where
   pub few : length files ≤ 1024
 
 -- linked files, beside their index and what each of them sees
-pub record IsSettled (files : List Entry) (index : indexes.Index) (sights : List (List Bool)) (targets : List (List Target)) : Type 0 where
+pub record IsSettled (files : List Entry) (index : indexes.Index) (visible_files : List (List Bool)) (targets : List (List Target)) : Type 0 where
   pub linked : IsLinkedUp (record { files = files; targets = targets })
   pub lists : Lists index (all_standings files)
-  pub sight_length : length sights ≡ length files
-  pub are_sights : AreSights files sights
+  pub sight_length : length visible_files ≡ length files
+  pub are_sights : AreVisibleFiles files visible_files
 
 -- the full name, here without its dot, is declared in one of the files, at this line and column
 pub record IsDeclaredAt (files : List Entry) (full path : Text) (at_line at_column : ℕ) : Type 0 where

@@ -1,6 +1,6 @@
 ghost use Rattle.std.specs.Prelude.{◌≡◌, [], Some, true};
 
-use crate::{PathRecord, SourceError, Sources, Tally};
+use crate::{GhostCount, GhostPaths, SourceError, Sources};
 use std::alloc::Global;
 use std::fs::File;
 use std::io::{ErrorKind, Read};
@@ -18,8 +18,8 @@ const READ_LIMIT: usize = 2_147_483_647;
 #[derive(Drop)]
 pub struct Folder<'a, R> {
     files: &'a R,
-    failures: Tally,
-    reads: PathRecord,
+    failures: GhostCount,
+    reads: GhostPaths,
 }
 
 impl<'a, R: Files> Folder<'a, R> {
@@ -30,8 +30,8 @@ impl<'a, R: Files> Folder<'a, R> {
     {
         Folder {
             files,
-            failures: Tally::new(),
-            reads: PathRecord::new(),
+            failures: GhostCount::new(),
+            reads: GhostPaths::new(),
         }
     }
 

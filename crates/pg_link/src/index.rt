@@ -14,48 +14,48 @@ use std::alloc::{AllocError, Global};
 
 /// What a file sees: its own number, and for each file whether it sees it.
 #[derive(Clone, Copy)]
-pub(crate) struct Sight<'a> {
+pub(crate) struct Visible<'a> {
     pub own: usize,
     pub marks: &'a [bool],
 }
 
 /// Whether the file that sees is one of these, and sees itself.
-fn is_own(sight: Sight<'_>, files: &[usize]) -> bool
-    ensures { result ≡ true → spec.sees_one sight.entry.marks.now files.now ≡ true }
+fn is_own(visible: Visible<'_>, files: &[usize]) -> bool
+    ensures { result ≡ true → spec.sees_one visible.entry.marks.now files.now ≡ true }
 {
-    match files.binary_search(&sight.own) {
-        Ok(_) => sight.marks.get(sight.own).copied().unwrap_or(false),
+    match files.binary_search(&visible.own) {
+        Ok(_) => visible.marks.get(visible.own).copied().unwrap_or(false),
         Err(_) => false,
     }
 }
 
 /// Whether one of the files is seen. A part of a package may stand in all files, and mostly stands in the one that asks,
 /// so that is looked at first.
-fn sees_one(sight: Sight<'_>, files: &[usize]) -> bool
-    ensures { result ≡ spec.sees_one sight.entry.marks.now files.now }
+fn sees_one(visible: Visible<'_>, files: &[usize]) -> bool
+    ensures { result ≡ spec.sees_one visible.entry.marks.now files.now }
 {
-    if is_own(sight, files) {
+    if is_own(visible, files) {
         return true;
     }
     for file in files {
-        if sight.marks.get(*file).copied().unwrap_or(false) {
+        if visible.marks.get(*file).copied().unwrap_or(false) {
             return true;
         }
     }
     false
 }
 
-/// Whether one of the files that declare a name is seen. Without a sight all are.
-fn is_seen(sight: Option<Sight<'_>>, named: &Named) -> bool
-    ensures { result ≡ spec.is_seen (spec.sight_of sight.entry) (spec.files_of named.now) }
+/// Whether one of the files that declare a name is seen. Where no file looks, all are.
+fn is_seen(visible: Option<Visible<'_>>, named: &Named) -> bool
+    ensures { result ≡ spec.is_seen (spec.visible_of visible.entry) (spec.files_of named.now) }
 {
-    let Some(sight) = sight else {
+    let Some(visible) = visible else {
         return true;
     };
-    if sight.marks.get(named.file).copied().unwrap_or(false) {
+    if visible.marks.get(named.file).copied().unwrap_or(false) {
         return true;
     }
-    sees_one(sight, &named.others)
+    sees_one(visible, &named.others)
 }
 
 /// Whether the search for the first part of a name ends at this kind, by the parts behind it.
@@ -120,12 +120,12 @@ pub(crate) struct Index {
 
 impl Index {
     /// What bears the name in the files that are seen.
-    fn seen(&self, sight: Option<Sight<'_>>, full: &str) -> Option<(&str, &Named)>
-        ensures borne { option_map (λ f. (f.0.now, f.1.now.kind)) result ≡ resolves.borne (spec.names_seen self.now.names (spec.sight_of sight.entry)) full.now }
+    fn seen(&self, visible: Option<Visible<'_>>, full: &str) -> Option<(&str, &Named)>
+        ensures borne { option_map (λ f. (f.0.now, f.1.now.kind)) result ≡ resolves.borne (spec.names_seen self.now.names (spec.visible_of visible.entry)) full.now }
         ensures held { IfSome result (λ f. get_by_text self.now.names full.now ≡ Some f.1.now) }
     {
         let (name, named) = self.names.get_key_value(full)?;
-        if is_seen(sight, named) {
+        if is_seen(visible, named) {
             Some((name.as_str(), named))
         } else {
             None
@@ -133,10 +133,10 @@ impl Index {
     }
 
     /// Whether the search for the first part of a name ends at this full name.
-    fn ends(&self, sight: Option<Sight<'_>>, full: &str, parts: &[Name]) -> bool
-        ensures { result ≡ names.bears (spec.names_seen self.now.names (spec.sight_of sight.entry)) (resolves.sought_among (resolves.part_words parts.now)) full.now }
+    fn ends(&self, visible: Option<Visible<'_>>, full: &str, parts: &[Name]) -> bool
+        ensures { result ≡ names.bears (spec.names_seen self.now.names (spec.visible_of visible.entry)) (resolves.sought_among (resolves.part_words parts.now)) full.now }
     {
-        match self.seen(sight, full) {
+        match self.seen(visible, full) {
             Some((_, named)) => ends_at(named.kind, parts),
             None => false,
         }
@@ -146,20 +146,20 @@ impl Index {
     fn innermost(
         &self,
         alloc: Global,
-        sight: Option<Sight<'_>>,
+        visible: Option<Visible<'_>>,
         parts: &[Name],
         word: &str,
         scope: &[&str],
     ) -> Result<Option<String>, AllocError>
         ensures { IfOk result (λ outer. option_map string_bytes outer ≡ option_map names.called
-            (resolves.innermost (spec.names_seen self.now.names (spec.sight_of sight.entry))
+            (resolves.innermost (spec.names_seen self.now.names (spec.visible_of visible.entry))
             (resolves.sought_among (resolves.part_words parts.now)) (names.called (word.now ∷ [])) (spec.texts scope.now))) }
     {
         let mut full = called(alloc, scope)?;
         let mut len = scope.len();
         'scopes: loop {
             push_word(&mut full, word)?;
-            let ends = self.ends(sight, full.as_str(), parts);
+            let ends = self.ends(visible, full.as_str(), parts);
             pop_word(&mut full, word);
             if ends {
                 return Ok(Some(full));
@@ -176,36 +176,36 @@ impl Index {
     fn scope_of(
         &self,
         alloc: Global,
-        sight: Option<Sight<'_>>,
+        visible: Option<Visible<'_>>,
         scope: &[&str],
         name: &TypeName,
     ) -> Result<Option<String>, AllocError>
         ensures { IfOk result (λ outer. option_map (λ o. string_bytes o ++ resolves.written (resolves.reference name.now)) outer ≡ resolves.meant
-            (spec.names_seen self.now.names (spec.sight_of sight.entry)) (spec.texts scope.now) (resolves.reference name.now)) }
+            (spec.names_seen self.now.names (spec.visible_of visible.entry)) (spec.texts scope.now) (resolves.reference name.now)) }
     {
         if name.is_full {
             return Ok(Some(String::with_capacity(alloc, ROOM)?));
         }
         let path = &name.path;
-        self.innermost(alloc, sight, &path.more, path.first.text.as_str(), scope)
+        self.innermost(alloc, visible, &path.more, path.first.text.as_str(), scope)
     }
 
     /// What a name names in a scope, of the files that are seen.
     pub(crate) fn found(
         &self,
         alloc: Global,
-        sight: Option<Sight<'_>>,
+        visible: Option<Visible<'_>>,
         scope: &[&str],
         name: &TypeName,
     ) -> Result<Option<(&str, &Named)>, AllocError>
         ensures found { IfOk result (λ f. option_map (λ f. (f.0.now, f.1.now.kind)) f ≡ resolves.found
-            (spec.names_seen self.now.names (spec.sight_of sight.entry)) (spec.texts scope.now) (resolves.reference name.now)) }
+            (spec.names_seen self.now.names (spec.visible_of visible.entry)) (spec.texts scope.now) (resolves.reference name.now)) }
         ensures held { IfOk result (λ f. IfSome f (λ f. get_by_text self.now.names f.0.now ≡ Some f.1.now)) }
     {
-        let Some(mut full) = self.scope_of(alloc, sight, scope, name)? else {
+        let Some(mut full) = self.scope_of(alloc, visible, scope, name)? else {
             return Ok(None);
         };
         push_name(&mut full, name)?;
-        Ok(self.seen(sight, full.as_str()))
+        Ok(self.seen(visible, full.as_str()))
     }
 }

@@ -3,12 +3,12 @@ ghost use Rattle.std.specs.Prelude.{◌≡◌, ◌<◌, IfErr, IfNone, IfOk, IfS
 
 use crate::declaring::index_names;
 use crate::error::LinkError;
-use crate::index::{Index, Sight};
+use crate::index::{Index, Visible};
 use crate::looking::{first_place, is_behind_dot};
 use crate::resolve::Unresolved;
-use crate::sights::sights_of;
 use crate::target::Target;
 use crate::targets::all_targets;
+use crate::visible_files::visible_files_of;
 use crate::walk::SourceFile;
 use indexmap::IndexMap;
 use pg_syntax::tree::TypeName;
@@ -21,7 +21,7 @@ use std::marker::Model;
 pub struct Linked {
     files: IndexMap<String, SourceFile>,
     index: Index,
-    sights: Vec<Vec<bool>>,
+    visible_files: Vec<Vec<bool>>,
     targets: Vec<Vec<Target>>,
 }
 
@@ -37,7 +37,7 @@ impl Model for Linked {
 
     ghost view = { λ l. record { files = l.files.entries; targets = map (λ ts. ts.items) l.targets.items } };
 
-    ghost invariant = { λ l. IsSettled l.files.entries l.index (map (λ m. m.items) l.sights.items) (map (λ ts. ts.items) l.targets.items) };
+    ghost invariant = { λ l. IsSettled l.files.entries l.index (map (λ m. m.items) l.visible_files.items) (map (λ ts. ts.items) l.targets.items) };
 }
 
 impl Linked {
@@ -61,12 +61,12 @@ impl Linked {
         ensures fault { IfErr result (IsNameFault files.entries) }
     {
         let index = index_names(alloc, &files)?;
-        let sights = sights_of(alloc, &files)?;
-        let targets = all_targets(alloc, &files, &index, &sights)?;
+        let visible_files = visible_files_of(alloc, &files)?;
+        let targets = all_targets(alloc, &files, &index, &visible_files)?;
         Ok(Linked {
             files,
             index,
-            sights,
+            visible_files,
             targets,
         })
     }
@@ -114,11 +114,11 @@ impl Linked {
         ensures refused { IfErr result (λ why. (e : Entry) → slice_get self.now.files file ≡ Some e
             → Refuses (visible_names (outlines self.now.files) (path_of e)) (all_names (outlines self.now.files)) (texts scope.now) (reference name.now) why) }
     {
-        let sight = Sight {
+        let visible = Visible {
             own: file,
-            marks: &self.sights[file],
+            marks: &self.visible_files[file],
         };
-        self.index.resolve(alloc, sight, scope, name)
+        self.index.resolve(alloc, visible, scope, name)
     }
 
     /// Where a full name, given without its dot, is first declared.

@@ -4,7 +4,7 @@ ghost use Rattle.pg_link.specs.Index.{names_seen, texts};
 ghost use Rattle.pg_link.specs.Resolves.{Resolves, reference};
 ghost use Rattle.pg_link.specs.Unresolved.{Refuses, LeavesNone};
 
-use crate::index::{Index, Sight};
+use crate::index::{Index, Visible};
 use pg_syntax::tree::TypeName;
 use std::alloc::{AllocError, Global};
 use thiserror::Error;
@@ -38,16 +38,16 @@ impl Index {
     pub(crate) fn resolve(
         &self,
         alloc: Global,
-        sight: Sight<'_>,
+        visible: Visible<'_>,
         scope: &[&str],
         name: &TypeName,
     ) -> Result<&str, Unresolved>
-        ensures resolves { IfOk result (λ full. Resolves (names_seen self.now.names (Some sight.entry.marks.now)) (texts scope.now) (reference name.now) full.now) }
+        ensures resolves { IfOk result (λ full. Resolves (names_seen self.now.names (Some visible.entry.marks.now)) (texts scope.now) (reference name.now) full.now) }
         // Memory aside, a name is refused only where it resolves to none.
-        ensures refused { IfErr result (LeavesNone (names_seen self.now.names (Some sight.entry.marks.now)) (texts scope.now) (reference name.now)) }
-        ensures cause { IfErr result (Refuses (names_seen self.now.names (Some sight.entry.marks.now)) (names_seen self.now.names None) (texts scope.now) (reference name.now)) }
+        ensures refused { IfErr result (LeavesNone (names_seen self.now.names (Some visible.entry.marks.now)) (texts scope.now) (reference name.now)) }
+        ensures cause { IfErr result (Refuses (names_seen self.now.names (Some visible.entry.marks.now)) (names_seen self.now.names None) (texts scope.now) (reference name.now)) }
     {
-        match self.found(alloc, Some(sight), scope, name)? {
+        match self.found(alloc, Some(visible), scope, name)? {
             Some((full, named)) => {
                 if named.kind.is_type() {
                     Ok(full)

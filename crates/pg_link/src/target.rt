@@ -8,7 +8,7 @@ ghost use Rattle.pg_link.specs.Standing.{IsNumbered, Standing, declared_in, take
 ghost use Rattle.pg_link.specs.Targets.{target_in};
 ghost use Rattle.pg_link.specs.Unresolved.{Refuses, RefusesUse};
 
-use crate::index::{Index, Sight};
+use crate::index::{Index, Visible};
 use crate::names::{Kind, Named};
 use crate::resolve::Unresolved;
 use crate::uses::Site;
@@ -63,14 +63,14 @@ impl Index {
     pub(crate) fn target(
         &self,
         alloc: Global,
-        sight: Sight<'_>,
+        visible: Visible<'_>,
         site: &Site<'_>,
     ) -> Result<Target, Unresolved>
         ensures target { IfOk result (λ target. (all : List Standing) → IsNumbered self.now all
-            → target_in (declared_in all) (names_seen self.now.names (Some sight.entry.marks.now)) (use_of site.now) ≡ Some target) }
-        ensures refused { IfErr result (RefusesUse (names_seen self.now.names (Some sight.entry.marks.now)) (names_seen self.now.names None) (use_of site.now)) }
+            → target_in (declared_in all) (names_seen self.now.names (Some visible.entry.marks.now)) (use_of site.now) ≡ Some target) }
+        ensures refused { IfErr result (RefusesUse (names_seen self.now.names (Some visible.entry.marks.now)) (names_seen self.now.names None) (use_of site.now)) }
     {
-        match self.found(alloc, Some(sight), &site.scope, site.name)? {
+        match self.found(alloc, Some(visible), &site.scope, site.name)? {
             Some((_, named)) => match target_of(named, site.takes_enums) {
                 Some(target) => Ok(target),
                 None => Err(Unresolved::NotAType),

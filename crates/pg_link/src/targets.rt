@@ -1,14 +1,14 @@
 //! What the uses of all files resolve to.
 ghost use Rattle.std.specs.Prelude.{◌≡◌, IfErr, IfOk, List, None, Some, length, map};
 ghost use Rattle.pg_link.specs.Index.{names_seen};
-ghost use Rattle.pg_link.specs.Sights.{AreSights};
+ghost use Rattle.pg_link.specs.VisibleFiles.{AreVisibleFiles};
 ghost use Rattle.pg_link.specs.Standing.{IsNumbered, Lists, NoneTwice, Standing, all_standings, declared_in};
 ghost use Rattle.pg_link.specs.Targets.{file_targets, target_in};
 ghost use Rattle.pg_link.specs.UseFaults.{IsUseFault, IsUseFaultIn, Says};
 ghost use Rattle.pg_link.specs.Uses.{file_uses};
 
 use crate::error::{LinkError, place_in};
-use crate::index::{Index, Sight};
+use crate::index::{Index, Visible};
 use crate::resolve::Unresolved;
 use crate::target::Target;
 use crate::uses::uses_of;
@@ -35,20 +35,20 @@ fn use_fault(alloc: Global, path: &str, text: &[u8], at: usize, why: Unresolved)
 fn targets_of(
     alloc: Global,
     index: &Index,
-    sight: Sight<'_>,
+    visible: Visible<'_>,
     path: &str,
     file: &SourceFile,
 ) -> Result<Vec<Target>, LinkError>
     ensures found { IfOk result (λ targets. (all : List Standing) → IsNumbered index.now all
-        → map Some targets.items ≡ map (target_in (declared_in all) (names_seen index.now.names (Some sight.entry.marks.now))) (file_uses file.now.tree)) }
+        → map Some targets.items ≡ map (target_in (declared_in all) (names_seen index.now.names (Some visible.entry.marks.now))) (file_uses file.now.tree)) }
     // The fault is that of the first use that resolves to nothing.
     ensures fault { IfErr result (λ e. (all : List Standing) → IsNumbered index.now all
-        → IsUseFault (target_in (declared_in all) (names_seen index.now.names (Some sight.entry.marks.now))) (names_seen index.now.names (Some sight.entry.marks.now)) (names_seen index.now.names None) path.now file.now.bytes.items file.now.tree e) }
+        → IsUseFault (target_in (declared_in all) (names_seen index.now.names (Some visible.entry.marks.now))) (names_seen index.now.names (Some visible.entry.marks.now)) (names_seen index.now.names None) path.now file.now.bytes.items file.now.tree e) }
 {
     let sites = uses_of(alloc, &file.tree)?;
     let mut targets = Vec::new(alloc);
     for site in &sites {
-        match index.target(alloc, sight, site) {
+        match index.target(alloc, visible, site) {
             Ok(target) => targets.push(target)?,
             Err(why) => {
                 let at = site.name.span.from;
@@ -64,12 +64,12 @@ pub(crate) fn all_targets(
     alloc: Global,
     files: &IndexMap<String, SourceFile>,
     index: &Index,
-    sights: &[Vec<bool>],
+    visible_files: &[Vec<bool>],
 ) -> Result<Vec<Vec<Target>>, LinkError>
     requires lists { Lists index.now (all_standings files.now.entries) }
     requires once { NoneTwice (all_standings files.now.entries) }
-    requires sights { AreSights files.now.entries (map (λ m. m.items) sights.now) }
-    requires same_length { length sights.now ≡ length files.now.entries }
+    requires visible_files { AreVisibleFiles files.now.entries (map (λ m. m.items) visible_files.now) }
+    requires same_length { length visible_files.now ≡ length files.now.entries }
     ensures resolved { IfOk result (λ targets. map (map Some) (map (λ ts. ts.items) targets.items) ≡ map (file_targets files.now.entries) files.now.entries) }
     // The fault is that of the first use that resolves to nothing, in the order of the files.
     ensures fault { IfErr result (IsUseFaultIn files.now.entries) }
@@ -79,11 +79,11 @@ pub(crate) fn all_targets(
         let Some((path, file)) = files.get_index(number) else {
             continue;
         };
-        let sight = Sight {
+        let visible = Visible {
             own: number,
-            marks: &sights[number],
+            marks: &visible_files[number],
         };
-        let own = targets_of(alloc, index, sight, path.as_str(), file)?;
+        let own = targets_of(alloc, index, visible, path.as_str(), file)?;
         targets.push(own)?;
     }
     Ok(targets)

@@ -1,6 +1,6 @@
 ghost use Rattle.std.specs.Prelude.{◌≡◌, ◌+◌, Some};
 
-use pg_link::{PathRecord, SourceError, Sources, Tally};
+use pg_link::{GhostPaths, SourceError, Sources, GhostCount};
 use std::alloc::Global;
 
 /// A source that fails at its read of this number, counted from 1, and else gives what the one
@@ -10,8 +10,8 @@ pub struct FailingSource<S> {
     source: S,
     reads: u32,
     fails_at: u32,
-    failures: Tally,
-    asked: PathRecord,
+    failures: GhostCount,
+    asked: GhostPaths,
 }
 
 impl<S> FailingSource<S> {
@@ -20,8 +20,8 @@ impl<S> FailingSource<S> {
             source,
             reads: 0,
             fails_at,
-            failures: Tally::new(),
-            asked: PathRecord::new(),
+            failures: GhostCount::new(),
+            asked: GhostPaths::new(),
         }
     }
 }

@@ -19,8 +19,8 @@ sees_at marks (f ∷ files) (suc i) within is = by_first (get_or marks f false) 
 
 pub returns-in-Ok : goal.returns-in-Ok
 returns-in-Ok c = λ yes.
-    let marks : List Bool = c.args.sight.marks.now in
-    let own : ℕ = c.args.sight.own in
+    let marks : List Bool = c.args.visible.marks.now in
+    let own : ℕ = c.args.visible.own in
     let read : c.unwrap_or.result ≡ get_or marks own false =
     c.unwrap_or.ensures ∙ (ap (λ o. unwrap_or o false) c.copied.ensures ∙ c.get.ensures.lookup.4 (omega arith) false) in
     let there : get_or c.args.files.now c.in-Ok.field-0 0 ≡ own = same_number (get_or c.args.files.now c.in-Ok.field-0 0) own (c.in-Ok.ensures.ok 0) in

@@ -5,7 +5,7 @@ use Rattle.std.proofs.lemmas.Result.{err_from_is_err_and}
 use Rattle.std.specs.Global.{Global}
 use Rattle.pg_link.specs.declared.target.Target.{Target}
 use Rattle.pg_link.specs.Files.{seen_paths}
-use Rattle.pg_link.specs.Sights.{Marks}
+use Rattle.pg_link.specs.VisibleFiles.{Marks}
 use Rattle.pg_link.specs.Targets.{file_targets}
 use Rattle.pg_link.specs.Walk.{Entry, outlines, path_of}
 use Rattle.pg_link.proofs.UseFaultLaws.{fault_is, its_marks, no_memory, targets_are}
@@ -30,8 +30,8 @@ returns-in_err-own-clause-fault c =
     let i : ℕ = c.loop-number.number in
     let at : slice_get es i ≡ Some e = sym c.in-Some.ensures.entry in
     let marks : Marks es (seen_paths (outlines es) (path_of e)) c.deref.result.now =
-    its_marks es c.args.sights.now i e c.index-sights-number.result c.deref.result.now c.requires.sights at
-    (omega (arith, slice_get_within es i e at, c.requires.same_length)) c.index-sights-number.is c.deref.ensures.value in
+    its_marks es c.args.visible_files.now i e c.index-visible_files-number.result c.deref.result.now c.requires.visible_files at
+    (omega (arith, slice_get_within es i e at, c.requires.same_length)) c.index-visible_files-number.is c.deref.ensures.value in
     let p = err_from_is_err_and c.from_residual.result c.from_residual.ensures.1 in
     rw (p.1, p.2) (fault_is c.args.index.now es i e c.deref.result.now c.as_str.result.now c.in_err-own.field-0.0 (map (λ (t : Vec Target Global). t.items) c.loop-number.targets.items)
     c.requires.lists c.requires.once marks at c.loop-number.invariant c.as_str.ensures.value c.in_err-own.ensures.fault)
@@ -52,7 +52,7 @@ loop-number-preserved c =
     let i : ℕ = c.loop-number.number in
     let at : slice_get es i ≡ Some e = sym c.in-Some.ensures.entry in
     let marks : Marks es (seen_paths (outlines es) (path_of e)) c.deref.result.now =
-    its_marks es c.args.sights.now i e c.index-sights-number.result c.deref.result.now c.requires.sights at
-    (omega (arith, slice_get_within es i e at, c.requires.same_length)) c.index-sights-number.is c.deref.ensures.value in
+    its_marks es c.args.visible_files.now i e c.index-visible_files-number.result c.deref.result.now c.requires.visible_files at
+    (omega (arith, slice_get_within es i e at, c.requires.same_length)) c.index-visible_files-number.is c.deref.ensures.value in
     one_file es c.loop-number.targets.items c.push.new.self.items c.in_ok-own.own i e at c.in_ok-push.ensures.items
     (targets_are c.args.index.now es e c.deref.result.now c.in_ok-own.own.items c.requires.lists c.requires.once marks c.in_ok-own.ensures.found) c.loop-number.invariant

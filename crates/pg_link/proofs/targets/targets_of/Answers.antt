@@ -21,8 +21,8 @@ returns-in-Err-clause-fault c = λ all numbered.
     let splits : file_uses c.args.file.now.tree ≡ front ++ use_of x ∷ back =
     sym (ap (map use_of) c.deref-site-items.ensures.value ∙ c.in_ok-sites.ensures)
     ∙ (split_at use_of sites i x c.loop-site-test.true ∙ ap (λ (s : made.Site). front ++ use_of s ∷ back) (sym c.site-item.is)) in
-    let resolve : Resolution = target_in (declared_in all) (names_seen c.args.index.now.names (Some c.args.sight.marks.now)) in
-    use_refused resolve (names_seen c.args.index.now.names (Some c.args.sight.marks.now)) (names_seen c.args.index.now.names None) (use_of x) c.in-Err.why
+    let resolve : Resolution = target_in (declared_in all) (names_seen c.args.index.now.names (Some c.args.visible.marks.now)) in
+    use_refused resolve (names_seen c.args.index.now.names (Some c.args.visible.marks.now)) (names_seen c.args.index.now.names None) (use_of x) c.in-Err.why
     c.args.path.now c.args.file.now.bytes.items c.args.file.now.tree c.use_fault.result front back splits
     (all_resolve resolve front c.loop-site.targets.items (c.loop-site.invariant all numbered)) c.in-Err.ensures.refused
     (subst (λ (t : Text). Says c.in-Err.why c.args.path.now t (use_of x).at c.use_fault.result) c.deref.ensures.value c.use_fault.ensures)

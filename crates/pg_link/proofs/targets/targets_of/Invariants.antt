@@ -8,4 +8,4 @@ use Rattle.pg_link.proofs.targets.targets_of.Given as goal
 -- the uses so far have their targets
 abbrev pub invariant-loop-site : goal.invariant-loop-site
 invariant-loop-site l = (all : List Standing) → IsNumbered l.index all
-    → map Some l.targets.items ≡ map (target_in (declared_in all) (names_seen l.index.names (Some l.sight.marks.now))) (map use_of (take l.site-index l.site-items))
+    → map Some l.targets.items ≡ map (target_in (declared_in all) (names_seen l.index.names (Some l.visible.marks.now))) (map use_of (take l.site-index l.site-items))

@@ -1,6 +1,6 @@
 use Rattle.std.proofs.Common.{◌≡◌, ◌∷◌, ◌++◌, [], ◌∙◌, ◌+◌, ◌-◌, ◌≤◌, ◌≢◌, ℕ, List, ap, length, sym, subst, take, true, false, string_bytes, slice_index_or, arith}
 use Rattle.std.specs.Borrow.{Bor}
-use Rattle.pg_link.specs.Index.{texts, names_seen, sight_of}
+use Rattle.pg_link.specs.Index.{texts, names_seen, visible_of}
 use Rattle.pg_link.specs.Names.{Text, called, bears}
 use Rattle.pg_link.specs.Resolves.{sought_among, part_words}
 use Rattle.pg_link.proofs.ResolvesLaws.{called-more, ends_here, goes_outwards}
@@ -22,7 +22,7 @@ pop_word-requires-in-scopes c = (
 
 pub returns-then-ends : goal.returns-then-ends
 returns-then-ends c =
-    let names = names_seen c.args.self.now.names (sight_of c.args.sight) in
+    let names = names_seen c.args.self.now.names (visible_of c.args.visible) in
     let test = sought_among (part_words c.args.parts.now) in
     let part = called (c.args.word.now ∷ []) in
     let outer : Text = string_bytes c.scopes.full in
@@ -34,7 +34,7 @@ returns-then-ends c =
 
 pub scopes-preserved : goal.scopes-preserved
 scopes-preserved c =
-    let names = names_seen c.args.self.now.names (sight_of c.args.sight) in
+    let names = names_seen c.args.self.now.names (visible_of c.args.visible) in
     let test = sought_among (part_words c.args.parts.now) in
     let part = called (c.args.word.now ∷ []) in
     let none : bears names test (called (texts (take c.scopes.len c.args.scope.now)) ++ part) ≡ false =

@@ -1,5 +1,5 @@
 use Rattle.std.proofs.Common.{◌≡◌, ◌≤◌, ◌∷◌, [], take, length, string_bytes}
-use Rattle.pg_link.specs.Index.{texts, names_seen, sight_of}
+use Rattle.pg_link.specs.Index.{texts, names_seen, visible_of}
 use Rattle.pg_link.specs.Names.{called}
 use Rattle.pg_link.specs.Resolves.{innermost, sought_among, part_words}
 use Rattle.pg_link.proofs.index.Index.innermost.Given as goal
@@ -8,8 +8,8 @@ abbrev pub invariant-scopes : goal.invariant-scopes
 invariant-scopes l = record {
   within : l.len ≤ length l.scope;
   text : string_bytes l.full ≡ called (texts (take l.len l.scope));
-  same : innermost (names_seen l.self.names (sight_of l.sight)) (sought_among (part_words l.parts)) (called (l.word ∷ [])) (texts (take l.len l.scope))
-      ≡ innermost (names_seen l.self.names (sight_of l.sight)) (sought_among (part_words l.parts)) (called (l.word ∷ [])) (texts l.scope);
+  same : innermost (names_seen l.self.names (visible_of l.visible)) (sought_among (part_words l.parts)) (called (l.word ∷ [])) (texts (take l.len l.scope))
+      ≡ innermost (names_seen l.self.names (visible_of l.visible)) (sought_among (part_words l.parts)) (called (l.word ∷ [])) (texts l.scope);
 }
 
 abbrev pub decreases-scopes : goal.decreases-scopes

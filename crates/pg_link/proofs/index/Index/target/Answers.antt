@@ -26,7 +26,7 @@ is_found visible site scope o full n is some same =
 pub returns-in-Some-target_of-clause-target : goal.returns-in-Some-target_of-clause-target
 returns-in-Some-target_of-clause-target c = λ all numbers.
     let index : indexes.Index = c.args.self.now in
-    let visible : Names = names_seen index.names (Some c.args.sight.marks.now) in
+    let visible : Names = names_seen index.names (Some c.args.visible.marks.now) in
     let site : sites.Site = c.args.site.now in
     let is = is_found visible site c.deref-2.result.now c.in_ok-named.field-0 c.in-Some.field-0-0 c.in-Some.named c.in_ok-named.ensures.found c.in-Some.is (c.deref-2.ensures.value ∙ ap (λ (v : Vec (Bor Text) Global). v.items) c.deref.ensures) in
     let held : get_by_text index.names c.in-Some.field-0-0.now ≡ Some c.in-Some.named.now =
@@ -36,7 +36,7 @@ returns-in-Some-target_of-clause-target c = λ all numbers.
 pub returns-in-None-target_of-clause-refused : goal.returns-in-None-target_of-clause-refused
 returns-in-None-target_of-clause-refused c =
     let index : indexes.Index = c.args.self.now in
-    let visible : Names = names_seen index.names (Some c.args.sight.marks.now) in
+    let visible : Names = names_seen index.names (Some c.args.visible.marks.now) in
     let site : sites.Site = c.args.site.now in
     let is = is_found visible site c.deref-2.result.now c.in_ok-named.field-0 c.in-Some.field-0-0 c.in-Some.named c.in_ok-named.ensures.found c.in-Some.is (c.deref-2.ensures.value ∙ ap (λ (v : Vec (Bor Text) Global). v.items) c.deref.ensures) in
     no_target visible (use_of site) c.in-Some.field-0-0.now c.in-Some.named.now.kind c.in-Some.named.now.number is (sym c.in-None-target_of.ensures)

@@ -1,12 +1,12 @@
 use Rattle.std.proofs.Common.{◌∙◌, Bool, List, Vec, map, subst, sym}
 use Rattle.std.proofs.lemmas.List.{length-map}
 use Rattle.std.specs.Global.{Global}
-use Rattle.pg_link.specs.Sights.{AreSights}
+use Rattle.pg_link.specs.VisibleFiles.{AreVisibleFiles}
 use Rattle.pg_link.proofs.linked.Linked.of.Goals as goal
 
-pub all_targets-requires-clause-sights : goal.all_targets-requires-clause-sights
-all_targets-requires-clause-sights c =
-    subst (λ (ms : List (Vec Bool Global)). AreSights c.args.files.entries (map (λ (m : Vec Bool Global). m.items) ms)) (sym c.deref.ensures.value) c.in_ok-sights.ensures.sights
+pub all_targets-requires-clause-visible_files : goal.all_targets-requires-clause-visible_files
+all_targets-requires-clause-visible_files c =
+    subst (λ (ms : List (Vec Bool Global)). AreVisibleFiles c.args.files.entries (map (λ (m : Vec Bool Global). m.items) ms)) (sym c.deref.ensures.value) c.in_ok-visible_files.ensures.visible_files
 
 pub invariant_of-result : goal.invariant_of-result
 invariant_of-result c = record {
@@ -19,6 +19,6 @@ invariant_of-result c = record {
     resolved = c.in_ok-targets.ensures.resolved;
   };
   lists = (c.in_ok-index.ensures.holds, c.in_ok-index.ensures.numbered);
-  sight_length = length-map c.in_ok-sights.sights.items (λ (m : Vec Bool Global). m.items) ∙ c.in_ok-sights.ensures.same_length;
-  are_sights = c.in_ok-sights.ensures.sights;
+  sight_length = length-map c.in_ok-visible_files.visible_files.items (λ (m : Vec Bool Global). m.items) ∙ c.in_ok-visible_files.ensures.same_length;
+  are_sights = c.in_ok-visible_files.ensures.visible_files;
 }
