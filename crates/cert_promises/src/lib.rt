@@ -1,4 +1,5 @@
-//! The promises of `pg_cert`, said again of calls of it: the edits of `must-fail` turn each answer, and every one must be refused.
+//! The promises of `pg_cert`, said again of calls of it: the edits of `must-fail` turn each answer,
+//! and every one must be refused.
 #![tactic(auto)]
 
 ghost use Rattle.std.specs.Prelude.{◌≡◌, ◌⊎◌, length, nat_eq, slice_get, string_bytes, option_map, true, false, IfErr, IfOk, OnOk};
@@ -25,11 +26,16 @@ pub fn check(
     new: &Schema,
     certificate: &Certificate,
 ) -> Result<Verdict, CertError>
-    ensures holds { OnOk result (Holds by_numbers (shape_of old.now) (shape_of new.now) certificate.now) }
+    ensures holds { OnOk result (Holds by_numbers (shape_of old.now)
+        (shape_of new.now) certificate.now) }
     ensures verdict { IfOk result (λ verdict. verdict ≡ verdict_of certificate.now) }
-    ensures says { IfOk result (λ verdict. Says by_numbers (shape_of old.now) (shape_of new.now) certificate.now verdict) }
-    ensures first_fault { IfErr result (λ e. (e ≡ errors.Memory) ⊎ IsFirstFault by_numbers (shape_of old.now) (shape_of new.now) certificate.now e) }
-    ensures refused { IfErr result (λ e. (e ≡ errors.Memory) ⊎ ¬ (Holds by_numbers (shape_of old.now) (shape_of new.now) certificate.now)) }
+    ensures says { IfOk result (λ verdict. Says by_numbers (shape_of old.now)
+        (shape_of new.now) certificate.now verdict) }
+    ensures first_fault { IfErr result
+        (λ e. (e ≡ errors.Memory) ⊎ IsFirstFault by_numbers (shape_of old.now)
+        (shape_of new.now) certificate.now e) }
+    ensures refused { IfErr result (λ e. (e ≡ errors.Memory)
+        ⊎ ¬ (Holds by_numbers (shape_of old.now) (shape_of new.now) certificate.now)) }
 {
     pg_cert::check(alloc, old, new, certificate)
 }
@@ -42,8 +48,11 @@ pub fn from_text(
     bytes: &[u8],
 ) -> Result<Certificate, CertError>
     ensures certifies { IfOk result (λ c. spec.Certifies old.now new.now bytes.now c) }
-    ensures alone { IfOk result (λ c. (claim : Claim) → spec.Certifies old.now new.now bytes.now claim → c ≡ claim) }
-    ensures refused { IfErr result (λ e. (e ≡ errors.Memory) ⊎ ((e ≡ errors.BadText) × ((claim : Claim) → ¬ (spec.Certifies old.now new.now bytes.now claim)))) }
+    ensures alone { IfOk result (λ c. (claim : Claim)
+        → spec.Certifies old.now new.now bytes.now claim → c ≡ claim) }
+    ensures refused { IfErr result (λ e. (e ≡ errors.Memory)
+        ⊎ ((e ≡ errors.BadText) × ((claim : Claim)
+        → ¬ (spec.Certifies old.now new.now bytes.now claim)))) }
 {
     pg_cert::from_text(alloc, old, new, bytes)
 }
@@ -56,7 +65,8 @@ pub fn to_text(
     certificate: &Certificate,
 ) -> Result<String, AllocError>
     requires { spec.IsClaimOf old.now new.now certificate.now }
-    ensures { IfOk result (λ text. spec.Certifies old.now new.now (string_bytes text) certificate.now) }
+    ensures { IfOk result (λ text. spec.Certifies old.now new.now
+        (string_bytes text) certificate.now) }
 {
     pg_cert::to_text(alloc, old, new, certificate)
 }
@@ -67,9 +77,15 @@ pub fn certificate(
     bounds: Bounds,
     witness: Option<Vec<u8>>,
 ) -> Result<Certificate, (Bounds, Option<Vec<u8>>)>
-    ensures claim { IfOk result (λ c. c ≡ record { root = root; bounds = bounds; witness = option_map (λ bytes. bytes.items) witness }) }
+    ensures claim { IfOk result (λ c. c
+        ≡ record {
+          root = root;
+          bounds = bounds;
+          witness = option_map (λ bytes. bytes.items) witness;
+        }) }
     ensures back { IfErr result (λ refused. refused ≡ (bounds, witness)) }
-    ensures empty { IfErr result (λ _. is_witness (option_map (λ bytes. bytes.items) witness) ≡ false) }
+    ensures empty { IfErr result (λ _. is_witness (option_map (λ bytes. bytes.items) witness)
+        ≡ false) }
 {
     Certificate::new(root, bounds, witness)
 }
@@ -103,7 +119,8 @@ pub fn table(alloc: Global, bounds: Vec<PairBound>) -> Result<Bounds, (BoundsErr
     ensures table { IfOk result (λ table. table ≡ bounds.items) }
     ensures checked { IfOk result (λ table. are_bounds table ≡ true) }
     ensures back { IfErr result (λ refused. refused.1 ≡ bounds) }
-    ensures broken { IfErr result (λ refused. refused.0 ≡ Invariant → are_bounds bounds.items ≡ false) }
+    ensures broken { IfErr result (λ refused. refused.0 ≡ Invariant
+        → are_bounds bounds.items ≡ false) }
 {
     Bounds::new(alloc, bounds)
 }

@@ -1,5 +1,6 @@
-//! The promises of `pg_gate::gate_files`, said again of calls of it: the edits of `must-fail` turn each answer, and every one must be refused.
-//! Clauses that no edit here turns, such as what a source's reads leave, aren't said again.
+//! The promises of `pg_gate::gate_files`, said again of calls of it: the edits of `must-fail` turn
+//! each answer, and every one must be refused. Clauses that no edit here turns, such as what a
+//! source's reads leave, aren't said again.
 #![tactic(auto)]
 
 ghost use Rattle.std.specs.Prelude.{◌≡◌, ◌+◌, codes, IfErr, IfOk};
@@ -21,8 +22,8 @@ pub fn gate_files<S: Sources, T: Sources>(
     new_roots: &[&str],
     root: &str,
 ) -> Result<Answer, GateError>
-    // The answer is that of texts and sets that the sources may give, and so is each refusal. A fault of the new side
-    // comes only where the old side has a schema.
+    // The answer is that of texts and sets that the sources may give, and so is each refusal. A
+    // fault of the new side comes only where the old side has a schema.
     ensures answer { IfOk result (IsAnswerOfFiles root.now
         (world (S.may_give old.old) (S.may_lack old.old) (codes ".") (paths_of old_roots.now))
         (world (T.may_give new.old) (T.may_lack new.old) (codes ".") (paths_of new_roots.now))) }

@@ -1,4 +1,5 @@
-//! Sources and sinks that fail or go slowly, the runs of the program over them, and the calls of the gate by themselves.
+//! Sources and sinks that fail or go slowly, the runs of the program over them, and the calls of
+//! the gate by themselves.
 #![tactic(auto)]
 
 #[cfg(test)]

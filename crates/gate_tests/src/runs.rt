@@ -1,5 +1,5 @@
-//! Runs of the program over files in memory, one of each subcommand at least, and what they print. `run` is called at one place:
-//! each call of it takes the prover long, for its contract.
+//! Runs of the program over files in memory, one of each subcommand at least, and what they print.
+//! `run` is called at one place: each call of it takes the prover long, for its contract.
 use pg_gate::{Buffer, GateError, Sink, Sources, run};
 use pg_link::Listed;
 use std::alloc::{AllocError, Global};

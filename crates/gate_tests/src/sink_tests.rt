@@ -1,4 +1,5 @@
-//! Sinks that take little, or fail, and memory that is refused: of each subcommand, of refusals and of usage.
+//! Sinks that take little, or fail, and memory that is refused: of each subcommand, of refusals and
+//! of usage.
 use crate::runs::{CALLS, buffer, run_files};
 use crate::{FailingSink, OneByte};
 use pg_gate::GateError;
@@ -84,7 +85,8 @@ fn keeps_to_memory(rt: HostRuntime) {
     }
 }
 
-/// Help is said whole, or memory is told and the sink left alone, where any one request may be refused.
+/// Help is said whole, or memory is told and the sink left alone, where any one request may be
+/// refused.
 #[test]
 fn keeps_to_memory_in_help(rt: HostRuntime) {
     let Ok(mut sink) = buffer(rt.alloc()) else {

@@ -5,8 +5,8 @@ use pg_link::Listed;
 use std::process::Abort;
 use std::test::Fail;
 
-/// Words, the read of the old and of the new side that fails, counted from 1 (0 for none), and what is printed: the file that
-/// couldn't be read, whoever imports it.
+/// Words, the read of the old and of the new side that fails, counted from 1 (0 for none), and what
+/// is printed: the file that couldn't be read, whoever imports it.
 static FAILING: [(&[&str], u64, u64, &str); 12] = [
     (
         &["gate", "--old=m.proto", "--new=u.proto", "--type=M"],

@@ -29,7 +29,8 @@ pub fn files<'a>(linked: &'a Linked, _other: &'a Linked) -> &'a IndexMap<String,
 pub fn targets(linked: &Linked, file: usize) -> &[Target]
     requires { file < length linked.now.files }
     ensures targets { slice_get linked.now.targets file ≡ Some result.now }
-    ensures resolved { (e : Entry) → slice_get linked.now.files file ≡ Some e → map Some result.now ≡ file_targets linked.now.files e }
+    ensures resolved { (e : Entry) → slice_get linked.now.files file ≡ Some e
+        → map Some result.now ≡ file_targets linked.now.files e }
 {
     linked.targets(file)
 }
@@ -57,16 +58,20 @@ pub fn resolve<'a>(
 ) -> Result<&'a str, LinkError>
     requires { file < length linked.now.files }
     ensures resolves { IfOk result (λ full. (e : Entry) → slice_get linked.now.files file ≡ Some e
-        → Resolves (visible_names (outlines linked.now.files) (path_of e)) (texts scope.now) (reference name.now) (46 ∷ full.now)) }
+        → Resolves (visible_names (outlines linked.now.files) (path_of e)) (texts scope.now)
+        (reference name.now) (46 ∷ full.now)) }
     ensures refused { IfErr result (λ error. (e : Entry) → slice_get linked.now.files file ≡ Some e
-        → IsNoName (visible_names (outlines linked.now.files) (path_of e)) (all_names (outlines linked.now.files)) (texts scope.now) (reference name.now) (path_of e) error) }
+        → IsNoName (visible_names (outlines linked.now.files) (path_of e))
+        (all_names (outlines linked.now.files)) (texts scope.now) (reference name.now)
+        (path_of e) error) }
 {
     linked.resolve(alloc, file, scope, name)
 }
 
 /// What `Linked::place` answers.
 pub fn place<'a>(linked: &'a Linked, full_name: &str) -> Option<(&'a str, usize, usize)>
-    ensures place { IfSome result (λ p. IsDeclaredAt linked.now.files full_name.now p.0.now p.1 p.2) }
+    ensures place { IfSome result (λ p.
+        IsDeclaredAt linked.now.files full_name.now p.0.now p.1 p.2) }
     ensures absent { IfNone result (IsDeclaredNowhere linked.now.files full_name.now) }
 {
     linked.place(full_name)

@@ -18,11 +18,16 @@ use std::rt::Files;
 
 /// What `link` answers.
 pub fn link<S: Sources>(alloc: Global, source: &mut S, roots: &[&str]) -> Result<Linked, LinkError>
-    ensures linked { IfOk result (λ linked. spec.IsLinked (spec.world (S.may_give source.old) (S.may_lack source.old) (codes ".") (texts roots.now)) linked.files) }
+    ensures linked { IfOk result (λ linked.
+        spec.IsLinked (spec.world (S.may_give source.old) (S.may_lack source.old) (codes ".")
+        (texts roots.now)) linked.files) }
     ensures settled { IfOk result IsLinkedUp }
-    ensures refused { IfErr result (LinkRefuses (spec.world (S.may_give source.old) (S.may_lack source.old) (codes ".") (texts roots.now))) }
+    ensures refused { IfErr result (LinkRefuses
+        (spec.world (S.may_give source.old) (S.may_lack source.old) (codes ".")
+        (texts roots.now))) }
     ensures reads_apart { ReadsApart (S.reads source.old) (S.reads source.new) }
-    ensures reads_each { IfOk result (λ linked. ReadsEach (codes ".") (S.reads source.old) (S.reads source.new) linked.files) }
+    ensures reads_each { IfOk result
+        (λ linked. ReadsEach (codes ".") (S.reads source.old) (S.reads source.new) linked.files) }
     ensures counted { S.failures source.new ≡ S.failures source.old + spec.failures_of result }
     ensures same_given { S.may_give source.new ≡ S.may_give source.old }
     ensures same_lacked { S.may_lack source.new ≡ S.may_lack source.old }
@@ -37,10 +42,13 @@ pub fn link_below<S: Sources>(
     folder: &str,
     roots: &[&str],
 ) -> Result<Linked, LinkError>
-    ensures linked { IfOk result (λ linked. spec.IsLinked (spec.world (S.may_give source.old) (S.may_lack source.old) folder.now (texts roots.now)) linked.files) }
+    ensures linked { IfOk result (λ linked.
+        spec.IsLinked (spec.world (S.may_give source.old) (S.may_lack source.old) folder.now
+        (texts roots.now)) linked.files) }
     ensures settled { IfOk result IsLinkedUp }
     ensures reads_apart { ReadsApart (S.reads source.old) (S.reads source.new) }
-    ensures reads_each { IfOk result (λ linked. ReadsEach folder.now (S.reads source.old) (S.reads source.new) linked.files) }
+    ensures reads_each { IfOk result
+        (λ linked. ReadsEach folder.now (S.reads source.old) (S.reads source.new) linked.files) }
     ensures counted { S.failures source.new ≡ S.failures source.old + spec.failures_of result }
     ensures same_given { S.may_give source.new ≡ S.may_give source.old }
     ensures same_lacked { S.may_lack source.new ≡ S.may_lack source.old }
@@ -55,7 +63,8 @@ pub fn link_refused<S: Sources>(
     folder: &str,
     bad: &[&str],
 ) -> Result<Linked, LinkError>
-    ensures { IfErr result (LinkRefuses (spec.world (S.may_give source.old) (S.may_lack source.old) folder.now (texts bad.now))) }
+    ensures { IfErr result (LinkRefuses
+        (spec.world (S.may_give source.old) (S.may_lack source.old) folder.now (texts bad.now))) }
 {
     pg_link::link_below(alloc, source, folder, bad)
 }
@@ -67,11 +76,15 @@ pub fn read_file<S: Sources>(
     folder: &str,
     path: &str,
 ) -> Result<Vec<u8>, LinkError>
-    ensures given { IfOk result (λ bytes. IsTrue (S.may_give source.old (path_below folder.now path.now) bytes.items)) }
-    ensures fault { IfErr result (spec.IsReadFault (S.may_lack source.old) folder.now None path.now) }
+    ensures given { IfOk result (λ bytes.
+        IsTrue (S.may_give source.old (path_below folder.now path.now) bytes.items)) }
+    ensures fault { IfErr result (spec.IsReadFault
+        (S.may_lack source.old) folder.now None path.now) }
     ensures counted { S.failures source.new ≡ S.failures source.old + spec.failures_of result }
-    ensures asked { OnOk result (S.reads source.new ≡ also (path_below folder.now path.now ∷ []) (S.reads source.old)) }
-    ensures asked_once { AtMostOne (path_below folder.now path.now) (S.reads source.old) (S.reads source.new) }
+    ensures asked { OnOk result (S.reads source.new
+        ≡ also (path_below folder.now path.now ∷ []) (S.reads source.old)) }
+    ensures asked_once { AtMostOne (path_below folder.now path.now) (S.reads source.old)
+        (S.reads source.new) }
     ensures same_given { S.may_give source.new ≡ S.may_give source.old }
     ensures same_lacked { S.may_lack source.new ≡ S.may_lack source.old }
 {
@@ -100,7 +113,8 @@ pub fn folder_read<R: Files>(
     path: &str,
 ) -> Result<Vec<u8>, SourceError>
     ensures counted { source.new.failures.count ≡ source.old.failures.count + failures_in result }
-    ensures asked { Some source.new.reads.paths ≡ also (path.now ∷ []) (Some source.old.reads.paths) }
+    ensures asked { Some source.new.reads.paths
+        ≡ also (path.now ∷ []) (Some source.old.reads.paths) }
 {
     source.read(alloc, path)
 }
@@ -108,7 +122,8 @@ pub fn folder_read<R: Files>(
 /// What `Listed::read` answers: the clauses of `Sources`, of a list.
 pub fn listed_read(list: &mut Listed<'_>, alloc: Global, path: &str) -> Result<Vec<u8>, SourceError>
     ensures given { IfOk result (λ bytes. IsTrue (gives list.old.files.now path.now bytes.items)) }
-    ensures lacked { IsErrOf result SourceError.Missing → IsTrue (lacks list.old.files.now path.now) }
+    ensures lacked { IsErrOf result SourceError.Missing
+        → IsTrue (lacks list.old.files.now path.now) }
     ensures counted { 0 ≡ 0 + failures_in result }
     ensures same_given { gives list.new.files.now ≡ gives list.old.files.now }
     ensures same_lacked { lacks list.new.files.now ≡ lacks list.old.files.now }
@@ -137,7 +152,8 @@ pub fn link_error_of(_alloc: Global, error: AllocError) -> LinkError
     LinkError::from(error)
 }
 
-/// What `LinkError::from` answers of a refused growth that hands back a value. Only an edit uses the memory.
+/// What `LinkError::from` answers of a refused growth that hands back a value. Only an edit uses
+/// the memory.
 pub fn link_error_of_failed<T: Drop>(_alloc: Global, failed: AllocFailed<T>) -> LinkError
     ensures { result ≡ link_errors.Memory }
 {

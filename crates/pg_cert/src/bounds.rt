@@ -65,7 +65,8 @@ fn is_bound(bound: Option<u32>) -> bool
 
 // The entries of distinct pairs with bounds in range; `None` where the bounds aren't so.
 fn entries_of(alloc: Global, bounds: &[PairBound]) -> Result<Entries, BoundsError>
-    ensures ok { IfOk result (λ entries. (map bound_of entries.entries ≡ bounds.now) × (are_bounds bounds.now ≡ true)) }
+    ensures ok { IfOk result (λ entries. (map bound_of entries.entries ≡ bounds.now)
+        × (are_bounds bounds.now ≡ true)) }
     ensures broken { IfErr result (λ e. e ≡ Invariant → are_bounds bounds.now ≡ false) }
 {
     let mut entries = IndexMap::new(alloc);
@@ -86,8 +87,8 @@ fn entries_of(alloc: Global, bounds: &[PairBound]) -> Result<Entries, BoundsErro
 impl Bounds {
     /// The table of these bounds, in this order.
     ///
-    /// Refused, the list comes back: `Memory` where memory was refused, `Invariant` only where a pair
-    /// stands twice or a number isn't from 1 to 2,147,483,647.
+    /// Refused, the list comes back: `Memory` where memory was refused, `Invariant` only where a
+    /// pair stands twice or a number isn't from 1 to 2,147,483,647.
     pub fn new(
         alloc: Global,
         bounds: Vec<PairBound>,
@@ -95,7 +96,8 @@ impl Bounds {
         ensures table { IfOk result (λ table. table ≡ bounds.items) }
         ensures checked { IfOk result (λ table. are_bounds table ≡ true) }
         ensures back { IfErr result (λ refused. refused.1 ≡ bounds) }
-        ensures broken { IfErr result (λ refused. refused.0 ≡ Invariant → are_bounds bounds.items ≡ false) }
+        ensures broken { IfErr result
+            (λ refused. refused.0 ≡ Invariant → are_bounds bounds.items ≡ false) }
     {
         match entries_of(alloc, &bounds) {
             Ok(entries) => Ok(Bounds { entries }),
@@ -132,8 +134,8 @@ impl Bounds {
         })
     }
 
-    /// Sets the bound of the pair at the place, counted from 0; where there are not so many, the table
-    /// stays as it is. The bound is 'none' or from 1 to 2,147,483,647.
+    /// Sets the bound of the pair at the place, counted from 0; where there are not so many, the
+    /// table stays as it is. The bound is 'none' or from 1 to 2,147,483,647.
     pub fn set_bound(&mut self, at: usize, bound: Option<u32>)
         requires { is_bound bound ≡ true }
         ensures { self.new ≡ with_bound self.old at bound }

@@ -25,9 +25,14 @@ impl Model for Certificate {
 
     ghost Value = { Claim };
 
-    ghost view = { λ c. record { root = c.root; bounds = c.bounds; witness = option_map (λ bytes. bytes.items) c.witness } };
+    ghost view = { λ c. record {
+      root = c.root;
+      bounds = c.bounds;
+      witness = option_map (λ bytes. bytes.items) c.witness;
+    } };
 
-    ghost invariant = { λ c. (are_bounds c.bounds ≡ true) × (is_witness (option_map (λ bytes. bytes.items) c.witness) ≡ true) };
+    ghost invariant = { λ c. (are_bounds c.bounds ≡ true)
+        × (is_witness (option_map (λ bytes. bytes.items) c.witness) ≡ true) };
 }
 
 // What holds of every slice of bytes.
@@ -39,16 +44,22 @@ fn lend(bytes: &[u8]) -> &[u8]
 }
 
 impl Certificate {
-    /// The certificate of these parts. A witness has at least one byte; without one, the bounds and the
-    /// witness come back.
+    /// The certificate of these parts. A witness has at least one byte; without one, the bounds and
+    /// the witness come back.
     pub fn new(
         root: Pair,
         bounds: Bounds,
         witness: Option<Vec<u8>>,
     ) -> Result<Certificate, (Bounds, Option<Vec<u8>>)>
-        ensures claim { IfOk result (λ c. c ≡ record { root = root; bounds = bounds; witness = option_map (λ bytes. bytes.items) witness }) }
+        ensures claim { IfOk result (λ c. c
+            ≡ record {
+              root = root;
+              bounds = bounds;
+              witness = option_map (λ bytes. bytes.items) witness;
+            }) }
         ensures back { IfErr result (λ refused. refused ≡ (bounds, witness)) }
-        ensures empty { IfErr result (λ _. is_witness (option_map (λ bytes. bytes.items) witness) ≡ false) }
+        ensures empty { IfErr result
+            (λ _. is_witness (option_map (λ bytes. bytes.items) witness) ≡ false) }
     {
         // What holds of every table.
         bounds.len();

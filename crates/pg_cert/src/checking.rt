@@ -31,7 +31,8 @@ fn missing_child(
     bounds: &Bounds,
     pair: Pair,
 ) -> Result<Option<Pair>, AllocError>
-    ensures { IfOk result (λ found. found ≡ missing_child (shape_of old.now) (shape_of new.now) (bound_in bounds.now) pair) }
+    ensures { IfOk result (λ found. found
+        ≡ missing_child (shape_of old.now) (shape_of new.now) (bound_in bounds.now) pair) }
 {
     let children = children(alloc, old, new, pair)?;
     Ok(
@@ -60,7 +61,8 @@ fn choices(
     bounds: &Bounds,
     pair: Pair,
 ) -> Result<Vec<Choice>, AllocError>
-    ensures { IfOk result (λ found. found.items ≡ choices by_numbers (bound_in bounds.now) (shape_of old.now) (shape_of new.now) pair) }
+    ensures { IfOk result (λ found. found.items
+        ≡ choices by_numbers (bound_in bounds.now) (shape_of old.now) (shape_of new.now) pair) }
 {
     numbers_are_alike();
     options(alloc, &Numbers, old, new, pair, bounds)
@@ -74,7 +76,9 @@ fn is_cheapest_within(
     bounds: &Bounds,
     line: PairBound,
 ) -> Result<bool, AllocError>
-    ensures { IfOk result (λ within. within ≡ true → cheaper_choice by_numbers (shape_of old.now) (shape_of new.now) (bound_in bounds.now) line ≡ None) }
+    ensures { IfOk result (λ within. within ≡ true
+        → cheaper_choice by_numbers (shape_of old.now) (shape_of new.now) (bound_in bounds.now) line
+        ≡ None) }
 {
     numbers_are_alike();
     cheapest_is_least();
@@ -92,7 +96,9 @@ fn first_cheaper(
     bounds: &Bounds,
     line: PairBound,
 ) -> Result<Option<Choice>, AllocError>
-    ensures { IfOk result (λ found. found ≡ cheaper_choice by_numbers (shape_of old.now) (shape_of new.now) (bound_in bounds.now) line) }
+    ensures { IfOk result (λ found. found
+        ≡ cheaper_choice by_numbers (shape_of old.now) (shape_of new.now)
+        (bound_in bounds.now) line) }
 {
     let choices = choices(alloc, old, new, bounds, line.pair)?;
     Ok(
@@ -103,8 +109,8 @@ fn first_cheaper(
     )
 }
 
-// The first choice of the pair that costs less than its bound. All are listed only where there is one: of fields that meet
-// in one oneof there are as many as pairs of them.
+// The first choice of the pair that costs less than its bound. All are listed only where there is
+// one: of fields that meet in one oneof there are as many as pairs of them.
 fn cheaper_choice(
     alloc: Global,
     old: &Schema,
@@ -112,7 +118,9 @@ fn cheaper_choice(
     bounds: &Bounds,
     line: PairBound,
 ) -> Result<Option<Choice>, AllocError>
-    ensures { IfOk result (λ found. found ≡ cheaper_choice by_numbers (shape_of old.now) (shape_of new.now) (bound_in bounds.now) line) }
+    ensures { IfOk result (λ found. found
+        ≡ cheaper_choice by_numbers (shape_of old.now) (shape_of new.now)
+        (bound_in bounds.now) line) }
 {
     if is_cheapest_within(alloc, old, new, bounds, line)? {
         return Ok(None);
@@ -129,8 +137,10 @@ fn check_pair(
     line: PairBound,
 ) -> Result<(), CertError>
     ensures { MatchResult result
-        (λ _. pair_fault by_numbers (shape_of old.now) (shape_of new.now) (bound_in bounds.now) line ≡ None)
-        (λ e. (e ≡ errors.Memory) ⊎ (pair_fault by_numbers (shape_of old.now) (shape_of new.now) (bound_in bounds.now) line ≡ Some e)) }
+        (λ _. pair_fault by_numbers (shape_of old.now) (shape_of new.now) (bound_in bounds.now) line
+        ≡ None)
+        (λ e. (e ≡ errors.Memory) ⊎ (pair_fault by_numbers (shape_of old.now) (shape_of new.now)
+        (bound_in bounds.now) line ≡ Some e)) }
 {
     if let Some(pair) = missing_child(alloc, old, new, bounds, line.pair)? {
         return Err(CertError::PairMissing { pair });
@@ -148,8 +158,10 @@ fn check_pair(
 // Whether each pair is as a table that covers has it; the first fault else.
 fn check_pairs(alloc: Global, old: &Schema, new: &Schema, bounds: &Bounds) -> Result<(), CertError>
     ensures { MatchResult result
-        (λ _. first_pair_fault by_numbers (shape_of old.now) (shape_of new.now) (bound_in bounds.now) bounds.now ≡ None)
-        (λ e. (e ≡ errors.Memory) ⊎ (first_pair_fault by_numbers (shape_of old.now) (shape_of new.now) (bound_in bounds.now) bounds.now ≡ Some e)) }
+        (λ _. first_pair_fault by_numbers (shape_of old.now) (shape_of new.now)
+        (bound_in bounds.now) bounds.now ≡ None)
+        (λ e. (e ≡ errors.Memory) ⊎ (first_pair_fault by_numbers (shape_of old.now)
+        (shape_of new.now) (bound_in bounds.now) bounds.now ≡ Some e)) }
 {
     for at in 0..bounds.len() {
         if let Some(line) = bounds.get(at) {
@@ -169,7 +181,8 @@ fn check_table(
 ) -> Result<(), CertError>
     ensures { MatchResult result
         (λ _. first_fault by_numbers (shape_of old.now) (shape_of new.now) bounds.now root ≡ None)
-        (λ e. (e ≡ errors.Memory) ⊎ (first_fault by_numbers (shape_of old.now) (shape_of new.now) bounds.now root ≡ Some e)) }
+        (λ e. (e ≡ errors.Memory) ⊎ (first_fault by_numbers (shape_of old.now)
+        (shape_of new.now) bounds.now root ≡ Some e)) }
 {
     if bounds.bound(root).is_none() {
         return Err(CertError::RootMissing);
@@ -187,26 +200,32 @@ fn bound_verdict(bound: Option<Option<u32>>) -> Verdict
     }
 }
 
-/// Whether what the certificate claims holds: its table covers its root, and its witness, where there is
-/// one, is what the old writer writes of a message without unknown records, has just as many bytes as the
-/// root's bound says, and breaks. With a witness it answers `Breaks`; without one `Compatible` where the
-/// root's bound is 'none', and else `AtLeast` that number. Messages are read at any depth.
+/// Whether what the certificate claims holds: its table covers its root, and its witness, where
+/// there is one, is what the old writer writes of a message without unknown records, has just as
+/// many bytes as the root's bound says, and breaks. With a witness it answers `Breaks`; without one
+/// `Compatible` where the root's bound is 'none', and else `AtLeast` that number. Messages are read
+/// at any depth.
 ///
-/// The errors are, in this order, `RootMissing`; then pair by pair in the table's order `PairMissing`
-/// with the first child that the table lacks, and `BoundTooHigh` with the pair's first choice, by
-/// number, case and part, that costs less than the bound; then `WitnessNotWritten`, `WitnessLength` and
-/// `WitnessKeeps`; and `Memory` where memory was refused.
+/// The errors are, in this order, `RootMissing`; then pair by pair in the table's order
+/// `PairMissing` with the first child that the table lacks, and `BoundTooHigh` with the pair's
+/// first choice, by number, case and part, that costs less than the bound; then
+/// `WitnessNotWritten`, `WitnessLength` and `WitnessKeeps`; and `Memory` where memory was refused.
 pub fn check(
     alloc: Global,
     old: &Schema,
     new: &Schema,
     certificate: &Certificate,
 ) -> Result<Verdict, CertError>
-    ensures holds { OnOk result (Holds by_numbers (shape_of old.now) (shape_of new.now) certificate.now) }
+    ensures holds { OnOk result (Holds by_numbers (shape_of old.now)
+        (shape_of new.now) certificate.now) }
     ensures verdict { IfOk result (λ verdict. verdict ≡ verdict_of certificate.now) }
-    ensures says { IfOk result (λ verdict. Says by_numbers (shape_of old.now) (shape_of new.now) certificate.now verdict) }
-    ensures first_fault { IfErr result (λ e. (e ≡ errors.Memory) ⊎ IsFirstFault by_numbers (shape_of old.now) (shape_of new.now) certificate.now e) }
-    ensures refused { IfErr result (λ e. (e ≡ errors.Memory) ⊎ ¬ (Holds by_numbers (shape_of old.now) (shape_of new.now) certificate.now)) }
+    ensures says { IfOk result (λ verdict. Says by_numbers (shape_of old.now)
+        (shape_of new.now) certificate.now verdict) }
+    ensures first_fault { IfErr result
+        (λ e. (e ≡ errors.Memory) ⊎ IsFirstFault by_numbers (shape_of old.now)
+        (shape_of new.now) certificate.now e) }
+    ensures refused { IfErr result (λ e. (e ≡ errors.Memory)
+        ⊎ ¬ (Holds by_numbers (shape_of old.now) (shape_of new.now) certificate.now)) }
 {
     // What holds of every schema and every view, and what a table without fault shows.
     old.parts();

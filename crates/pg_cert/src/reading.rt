@@ -33,7 +33,9 @@ fn place_of(text: &[u8], byte: u8) -> Option<usize>
 // The word before the first such byte, and what stands behind this.
 fn cut(text: &[u8], byte: u8) -> Option<(&[u8], &[u8])>
     ensures shorter { IfSome result (λ parts. length parts.1.now < length text.now) }
-    ensures found { (word rest : List ℕ) → lacks byte word ≡ true → text.now ≡ word ++ byte ∷ rest → option_map {U = List ℕ × List ℕ} (λ parts. (parts.0.now, parts.1.now)) result ≡ Some (word, rest) }
+    ensures found { (word rest : List ℕ) → lacks byte word ≡ true → text.now ≡ word ++ byte ∷ rest
+        → option_map {U = List ℕ × List ℕ} (λ parts. (parts.0.now, parts.1.now)) result
+        ≡ Some (word, rest) }
 {
     match place_of(text, byte) {
         Some(at) => Some((&text[..at], &text[at + 1..])),
@@ -44,7 +46,8 @@ fn cut(text: &[u8], byte: u8) -> Option<(&[u8], &[u8])>
 // The type of that name.
 fn named(schema: &Schema, word: &[u8]) -> Option<TypeId>
     ensures there { IfSome result (λ id. id.index < length schema.now.types.items) }
-    ensures found { (id : TypeId) → id.index < length schema.now.types.items → word.now ≡ spec.names_of schema.now id → result ≡ Some id }
+    ensures found { (id : TypeId) → id.index < length schema.now.types.items
+        → word.now ≡ spec.names_of schema.now id → result ≡ Some id }
 {
     match str::from_utf8(word) {
         Ok(name) => schema.message(name),
@@ -57,7 +60,10 @@ fn read_name<'a>(schema: &Schema, text: &'a [u8], blank: u8) -> Option<(TypeId, 
     requires { IsBlank blank }
     ensures shorter { IfSome result (λ parts. length parts.1.now < length text.now) }
     ensures there { IfSome result (λ parts. parts.0.index < length schema.now.types.items) }
-    ensures found { (id : TypeId) (rest : List ℕ) → id.index < length schema.now.types.items → text.now ≡ spec.names_of schema.now id ++ blank ∷ rest → option_map {U = TypeId × List ℕ} (λ parts. (parts.0, parts.1.now)) result ≡ Some (id, rest) }
+    ensures found { (id : TypeId) (rest : List ℕ) → id.index < length schema.now.types.items
+        → text.now ≡ spec.names_of schema.now id ++ blank ∷ rest
+        → option_map {U = TypeId × List ℕ} (λ parts. (parts.0, parts.1.now)) result
+        ≡ Some (id, rest) }
 {
     // What holds of every schema.
     schema.parts();
@@ -66,13 +72,17 @@ fn read_name<'a>(schema: &Schema, text: &'a [u8], blank: u8) -> Option<(TypeId, 
     Some((id, rest))
 }
 
-// The types of a pair, whose names stand in front with a space between and that blank behind them, and
-// what stands behind this.
+// The types of a pair, whose names stand in front with a space between and that blank behind them,
+// and what stands behind this.
 fn read_pair<'a>(old: &Schema, new: &Schema, text: &'a [u8], blank: u8) -> Option<(Pair, &'a [u8])>
     requires { IsBlank blank }
     ensures shorter { IfSome result (λ parts. length parts.1.now < length text.now) }
     ensures there { IfSome result (λ parts. spec.IsPairOf old.now new.now parts.0) }
-    ensures found { (pair : Pair) (rest : List ℕ) → spec.IsPairOf old.now new.now pair → text.now ≡ spec.names_of old.now pair.old ++ 32 ∷ (spec.names_of new.now pair.new ++ blank ∷ rest) → option_map {U = Pair × List ℕ} (λ parts. (parts.0, parts.1.now)) result ≡ Some (pair, rest) }
+    ensures found { (pair : Pair) (rest : List ℕ) → spec.IsPairOf old.now new.now pair
+        → text.now ≡ spec.names_of old.now pair.old ++ 32
+        ∷ (spec.names_of new.now pair.new ++ blank ∷ rest)
+        → option_map {U = Pair × List ℕ} (λ parts. (parts.0, parts.1.now)) result
+        ≡ Some (pair, rest) }
 {
     let (first, behind) = read_name(old, text, b' ')?;
     let (second, rest) = read_name(new, behind, blank)?;
@@ -85,7 +95,8 @@ fn read_pair<'a>(old: &Schema, new: &Schema, text: &'a [u8], blank: u8) -> Optio
 
 // The bound that a word says.
 fn bound_of(word: &[u8]) -> Option<Option<u32>>
-    ensures { (bound : Option ℕ) → is_bound bound ≡ true → word.now ≡ spec.bound_word bound → result ≡ Some bound }
+    ensures { (bound : Option ℕ) → is_bound bound ≡ true → word.now ≡ spec.bound_word bound
+        → result ≡ Some bound }
 {
     if word == b"none".as_slice() {
         return Some(None);
@@ -102,7 +113,10 @@ fn bound_of(word: &[u8]) -> Option<Option<u32>>
 // The bound in front, which ends its line, and what stands behind this.
 fn read_bound(text: &[u8]) -> Option<(Option<u32>, &[u8])>
     ensures shorter { IfSome result (λ parts. length parts.1.now < length text.now) }
-    ensures found { (bound : Option ℕ) (rest : List ℕ) → is_bound bound ≡ true → text.now ≡ spec.bound_word bound ++ 10 ∷ rest → option_map {U = Option ℕ × List ℕ} (λ parts. (parts.0, parts.1.now)) result ≡ Some (bound, rest) }
+    ensures found { (bound : Option ℕ) (rest : List ℕ) → is_bound bound ≡ true
+        → text.now ≡ spec.bound_word bound ++ 10 ∷ rest
+        → option_map {U = Option ℕ × List ℕ} (λ parts. (parts.0, parts.1.now)) result
+        ≡ Some (bound, rest) }
 {
     let (word, rest) = cut(text, b'\n')?;
     let bound = bound_of(word)?;
@@ -112,16 +126,23 @@ fn read_bound(text: &[u8]) -> Option<(Option<u32>, &[u8])>
 // What stands behind that front.
 fn after<'a>(text: &'a [u8], front: &[u8]) -> Option<&'a [u8]>
     ensures only { IfSome result (λ rest. text.now ≡ front.now ++ rest.now) }
-    ensures found { (rest : List ℕ) → text.now ≡ front.now ++ rest → option_copied result ≡ Some rest }
+    ensures found { (rest : List ℕ) → text.now ≡ front.now ++ rest
+        → option_copied result ≡ Some rest }
 {
     text.strip_prefix(front)
 }
 
-// The pair and its bound in a line whose first word is read already, and what stands behind the line.
+// The pair and its bound in a line whose first word is read already, and what stands behind the
+// line.
 fn read_line<'a>(old: &Schema, new: &Schema, text: &'a [u8]) -> Option<(PairBound, &'a [u8])>
     ensures shorter { IfSome result (λ parts. length parts.1.now < length text.now) }
     ensures there { IfSome result (λ parts. spec.IsPairOf old.now new.now parts.0.pair) }
-    ensures found { (line : PairBound) (rest : List ℕ) → spec.IsPairOf old.now new.now line.pair → is_bound line.bound ≡ true → text.now ≡ spec.names_of old.now line.pair.old ++ 32 ∷ (spec.names_of new.now line.pair.new ++ 32 ∷ (spec.bound_word line.bound ++ 10 ∷ rest)) → option_map {U = PairBound × List ℕ} (λ parts. (parts.0, parts.1.now)) result ≡ Some (line, rest) }
+    ensures found { (line : PairBound) (rest : List ℕ) → spec.IsPairOf old.now new.now line.pair
+        → is_bound line.bound ≡ true
+        → text.now ≡ spec.names_of old.now line.pair.old ++ 32
+        ∷ (spec.names_of new.now line.pair.new ++ 32 ∷ (spec.bound_word line.bound ++ 10 ∷ rest))
+        → option_map {U = PairBound × List ℕ} (λ parts. (parts.0, parts.1.now)) result
+        ≡ Some (line, rest) }
 {
     let (pair, behind) = read_pair(old, new, text, b' ')?;
     let (bound, rest) = read_bound(behind)?;
@@ -135,9 +156,12 @@ fn read_lines<'a>(
     new: &Schema,
     text: &'a [u8],
 ) -> Result<(Vec<PairBound>, &'a [u8]), CertError>
-    ensures there { IfOk result (λ parts. AllByRecursion (λ (b : PairBound). spec.IsPairOf old.now new.now b.pair) parts.0.items) }
-    ensures found { (bounds : List PairBound) (later : List ℕ) → IsRest old.now new.now text.now bounds later →
-        MatchResult result (λ parts. (parts.0.items ≡ bounds) × (parts.1.now ≡ later)) (λ e. e ≡ errors.Memory) }
+    ensures there { IfOk result (λ parts. AllByRecursion
+        (λ (b : PairBound). spec.IsPairOf old.now new.now b.pair) parts.0.items) }
+    ensures found { (bounds : List PairBound) (later : List ℕ)
+        → IsRest old.now new.now text.now bounds later →
+        MatchResult result (λ parts. (parts.0.items ≡ bounds) × (parts.1.now ≡ later))
+        (λ e. e ≡ errors.Memory) }
 {
     let mut bounds = Vec::new(alloc);
     let mut left = text;
@@ -163,8 +187,10 @@ fn hex_fault(error: FromHexError) -> CertError
 
 // The witness that a word says.
 fn witness_of(alloc: Global, word: &[u8]) -> Result<Option<Vec<u8>>, CertError>
-    ensures { (witness : Option (List ℕ)) → AreBytes witness → word.now ≡ spec.witness_word witness →
-        MatchResult result (λ found. option_map (λ bytes. bytes.items) found ≡ witness) (λ e. e ≡ errors.Memory) }
+    ensures { (witness : Option (List ℕ)) → AreBytes witness → word.now ≡ spec.witness_word witness
+        →
+        MatchResult result (λ found. option_map (λ bytes. bytes.items) found ≡ witness)
+        (λ e. e ≡ errors.Memory) }
 {
     if word == b"none".as_slice() {
         return Ok(None);
@@ -178,7 +204,8 @@ fn witness_of(alloc: Global, word: &[u8]) -> Result<Option<Vec<u8>>, CertError>
 // The witness in the last lines.
 fn read_last(alloc: Global, text: &[u8]) -> Result<Option<Vec<u8>>, CertError>
     ensures { (witness : Option (List ℕ)) → AreBytes witness → text.now ≡ spec.last_text witness →
-        MatchResult result (λ found. option_map (λ bytes. bytes.items) found ≡ witness) (λ e. e ≡ errors.Memory) }
+        MatchResult result (λ found. option_map (λ bytes. bytes.items) found ≡ witness)
+        (λ e. e ≡ errors.Memory) }
 {
     let Some(words) = after(text, b"witness ") else {
         return Err(CertError::BadText);
@@ -207,8 +234,14 @@ fn certificate_of(
     bounds: Bounds,
     witness: Option<Vec<u8>>,
 ) -> Result<Certificate, CertError>
-    ensures claim { IfOk result (λ c. c ≡ record { root = root; bounds = bounds; witness = option_map (λ bytes. bytes.items) witness }) }
-    ensures empty { IfErr result (λ _. is_witness (option_map (λ bytes. bytes.items) witness) ≡ false) }
+    ensures claim { IfOk result (λ c. c
+        ≡ record {
+          root = root;
+          bounds = bounds;
+          witness = option_map (λ bytes. bytes.items) witness;
+        }) }
+    ensures empty { IfErr result (λ _. is_witness (option_map (λ bytes. bytes.items) witness)
+        ≡ false) }
 {
     match Certificate::new(root, bounds, witness) {
         Ok(certificate) => Ok(certificate),
@@ -219,7 +252,8 @@ fn certificate_of(
 // The parts of a certificate that the text spells, if it spells one.
 fn read(alloc: Global, old: &Schema, new: &Schema, text: &[u8]) -> Result<Certificate, CertError>
     ensures of_schemas { IfOk result (λ c. spec.IsClaimOf old.now new.now c) }
-    ensures found { (claim : Claim) → spec.Certifies old.now new.now text.now claim → MatchResult result (λ c. c ≡ claim) (λ e. e ≡ errors.Memory) }
+    ensures found { (claim : Claim) → spec.Certifies old.now new.now text.now claim
+        → MatchResult result (λ c. c ≡ claim) (λ e. e ≡ errors.Memory) }
 {
     let Some(words) = after(text, b"protogate-certificate 1\nroot ") else {
         return Err(CertError::BadText);
@@ -233,11 +267,12 @@ fn read(alloc: Global, old: &Schema, new: &Schema, text: &[u8]) -> Result<Certif
     certificate_of(root, bounds, witness)
 }
 
-/// The certificate that the bytes spell, for two schemas (docs/CERTIFICATES.md). There is one at most,
-/// and one text for each certificate: what is read is written again and must be the same bytes.
+/// The certificate that the bytes spell, for two schemas (docs/CERTIFICATES.md). There is one at
+/// most, and one text for each certificate: what is read is written again and must be the same
+/// bytes.
 ///
-/// Refused with `BadText` only where the bytes are no certificate's text for these schemas, and with
-/// `Memory` where memory was refused.
+/// Refused with `BadText` only where the bytes are no certificate's text for these schemas, and
+/// with `Memory` where memory was refused.
 pub fn from_text(
     alloc: Global,
     old: &Schema,
@@ -245,8 +280,11 @@ pub fn from_text(
     bytes: &[u8],
 ) -> Result<Certificate, CertError>
     ensures certifies { IfOk result (λ c. spec.Certifies old.now new.now bytes.now c) }
-    ensures alone { IfOk result (λ c. (claim : Claim) → spec.Certifies old.now new.now bytes.now claim → c ≡ claim) }
-    ensures refused { IfErr result (λ e. (e ≡ errors.Memory) ⊎ ((e ≡ errors.BadText) × ((claim : Claim) → ¬ (spec.Certifies old.now new.now bytes.now claim)))) }
+    ensures alone { IfOk result (λ c. (claim : Claim)
+        → spec.Certifies old.now new.now bytes.now claim → c ≡ claim) }
+    ensures refused { IfErr result (λ e. (e ≡ errors.Memory)
+        ⊎ ((e ≡ errors.BadText) × ((claim : Claim)
+        → ¬ (spec.Certifies old.now new.now bytes.now claim)))) }
 {
     let certificate = match read(alloc, old, new, bytes) {
         Ok(certificate) => certificate,

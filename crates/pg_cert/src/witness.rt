@@ -23,7 +23,8 @@ fn encoded(alloc: Global, old: &Schema, message: &Message) -> Result<Option<Vec<
     requires { Fits (shape_of old.now) message.now }
     ensures { IfOk result (λ found. MatchOption found
         (cap < length (enc (shape_of old.now) (type_of message.now) (message_of message.now)))
-        (λ bytes. (bytes.items ≡ enc (shape_of old.now) (type_of message.now) (message_of message.now)) × (length bytes.items ≤ cap))) }
+        (λ bytes. (bytes.items ≡ enc (shape_of old.now) (type_of message.now)
+        (message_of message.now)) × (length bytes.items ≤ cap))) }
 {
     match encode(alloc, old, message) {
         Ok(bytes) => Ok(Some(bytes)),
@@ -34,8 +35,8 @@ fn encoded(alloc: Global, old: &Schema, message: &Message) -> Result<Option<Vec<
     }
 }
 
-// The message without unknown records that the old writer writes as those bytes, at any depth; `None` where it
-// writes none so.
+// The message without unknown records that the old writer writes as those bytes, at any depth;
+// `None` where it writes none so.
 fn read_back(
     alloc: Global,
     old: &Schema,
@@ -85,8 +86,12 @@ fn written_breaks(
     message: &Message,
 ) -> Result<bool, AllocError>
     requires fits { Fits (shape_of old.now) message.now }
-    requires room { length (enc (shape_of old.now) (type_of message.now) (message_of message.now)) ≤ cap }
-    ensures { IfOk result (λ so. IsTrue so ↔ ((type_of message.now ≡ root.old) × Breaks by_numbers.alike (shape_of old.now) (shape_of new.now) root.old root.new (message_of message.now))) }
+    requires room { length (enc (shape_of old.now) (type_of message.now) (message_of message.now))
+        ≤ cap }
+    ensures { IfOk result (λ so. IsTrue so
+        ↔ ((type_of message.now ≡ root.old)
+        × Breaks by_numbers.alike (shape_of old.now) (shape_of new.now) root.old root.new
+        (message_of message.now))) }
 {
     numbers_are_alike();
     match breaks(alloc, &Numbers, old, new, root, message) {
@@ -97,9 +102,10 @@ fn written_breaks(
     }
 }
 
-/// Whether the bytes are a witness of the pair of root types whose bound that is: the old writer writes them of a
-/// message without unknown records, which breaks, and the bound is their number. The error is the first of
-/// `WitnessNotWritten`, `WitnessLength` and `WitnessKeeps` that is there, or `Memory`.
+/// Whether the bytes are a witness of the pair of root types whose bound that is: the old writer
+/// writes them of a message without unknown records, which breaks, and the bound is their number.
+/// The error is the first of `WitnessNotWritten`, `WitnessLength` and `WitnessKeeps` that is there,
+/// or `Memory`.
 pub(crate) fn check_witness(
     alloc: Global,
     old: &Schema,
@@ -111,7 +117,8 @@ pub(crate) fn check_witness(
     requires { is_witness (Some bytes.now) ≡ true }
     ensures { MatchResult result
         (λ _. IsWitnessed by_numbers (shape_of old.now) (shape_of new.now) root bound bytes.now)
-        (λ e. (e ≡ errors.Memory) ⊎ WitnessFault by_numbers (shape_of old.now) (shape_of new.now) root bound bytes.now e) }
+        (λ e. (e ≡ errors.Memory) ⊎ WitnessFault by_numbers (shape_of old.now)
+        (shape_of new.now) root bound bytes.now e) }
 {
     // What holds of every schema, and of what a type writes.
     old.parts();

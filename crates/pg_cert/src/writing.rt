@@ -13,7 +13,8 @@ use std::alloc::{AllocError, Global};
 
 // A space and the full name of the type.
 fn push_name(text: &mut String, schema: &Schema, id: TypeId) -> Result<(), AllocError>
-    ensures { OnOk result (string_bytes text.new ≡ string_bytes text.old ++ spec.spaced_word (spec.names_of schema.now id)) }
+    ensures { OnOk result (string_bytes text.new
+        ≡ string_bytes text.old ++ spec.spaced_word (spec.names_of schema.now id)) }
 {
     text.push_str(" ")?;
     match schema.message_type(id) {
@@ -24,7 +25,9 @@ fn push_name(text: &mut String, schema: &Schema, id: TypeId) -> Result<(), Alloc
 
 // The names of both types, each behind a space.
 fn push_pair(text: &mut String, old: &Schema, new: &Schema, pair: Pair) -> Result<(), AllocError>
-    ensures { OnOk result (string_bytes text.new ≡ string_bytes text.old ++ spec.pair_words (spec.names_of old.now) (spec.names_of new.now) pair) }
+    ensures { OnOk result (string_bytes text.new
+        ≡ string_bytes text.old ++ spec.pair_words (spec.names_of old.now)
+        (spec.names_of new.now) pair) }
 {
     push_name(text, old, pair.old)?;
     push_name(text, new, pair.new)
@@ -32,7 +35,8 @@ fn push_pair(text: &mut String, old: &Schema, new: &Schema, pair: Pair) -> Resul
 
 // A bound behind a space, and the line's end.
 fn push_bound(text: &mut String, bound: Option<u32>) -> Result<(), AllocError>
-    ensures { OnOk result (string_bytes text.new ≡ string_bytes text.old ++ spec.spaced (spec.bound_word bound ∷ [])) }
+    ensures { OnOk result (string_bytes text.new
+        ≡ string_bytes text.old ++ spec.spaced (spec.bound_word bound ∷ [])) }
 {
     match bound {
         Some(bytes) => {
@@ -52,7 +56,9 @@ fn push_line(
     new: &Schema,
     line: PairBound,
 ) -> Result<(), AllocError>
-    ensures { OnOk result (string_bytes text.new ≡ string_bytes text.old ++ spec.line_of (spec.bound_words (spec.names_of old.now) (spec.names_of new.now) line)) }
+    ensures { OnOk result (string_bytes text.new
+        ≡ string_bytes text.old ++ spec.line_of
+        (spec.bound_words (spec.names_of old.now) (spec.names_of new.now) line)) }
 {
     text.push_str("pair")?;
     push_pair(text, old, new, line.pair)?;
@@ -66,7 +72,9 @@ fn push_lines(
     new: &Schema,
     bounds: &Bounds,
 ) -> Result<(), AllocError>
-    ensures { OnOk result (string_bytes text.new ≡ string_bytes text.old ++ spec.lines_text (spec.names_of old.now) (spec.names_of new.now) bounds.now) }
+    ensures { OnOk result (string_bytes text.new
+        ≡ string_bytes text.old ++ spec.lines_text (spec.names_of old.now)
+        (spec.names_of new.now) bounds.now) }
 {
     for at in 0..bounds.len() {
         if let Some(line) = bounds.get(at) {
@@ -78,7 +86,8 @@ fn push_lines(
 
 // The line of the witness, and the last one.
 fn push_last(alloc: Global, text: &mut String, witness: Option<&[u8]>) -> Result<(), AllocError>
-    ensures { OnOk result (string_bytes text.new ≡ string_bytes text.old ++ spec.last_text (option_copied witness.entry)) }
+    ensures { OnOk result (string_bytes text.new
+        ≡ string_bytes text.old ++ spec.last_text (option_copied witness.entry)) }
 {
     text.push_str("witness ")?;
     match witness {
@@ -88,7 +97,8 @@ fn push_last(alloc: Global, text: &mut String, witness: Option<&[u8]>) -> Result
     text.push_str("\nend\n")
 }
 
-/// The text of the certificate, whose pairs are pairs of the two schemas' types (docs/CERTIFICATES.md).
+/// The text of the certificate, whose pairs are pairs of the two schemas' types
+/// (docs/CERTIFICATES.md).
 ///
 /// Refused only where memory is.
 pub fn to_text(
@@ -98,7 +108,8 @@ pub fn to_text(
     certificate: &Certificate,
 ) -> Result<String, AllocError>
     requires { spec.IsClaimOf old.now new.now certificate.now }
-    ensures { IfOk result (λ text. spec.Certifies old.now new.now (string_bytes text) certificate.now) }
+    ensures { IfOk result (λ text. spec.Certifies old.now new.now
+        (string_bytes text) certificate.now) }
 {
     let mut text = String::from_str(alloc, "protogate-certificate 1\nroot")?;
     push_pair(&mut text, old, new, certificate.root())?;

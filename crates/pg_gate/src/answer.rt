@@ -90,13 +90,13 @@ pub fn gate(alloc: Global, old: &Schema, new: &Schema, root: &str) -> Result<Ans
     }
 }
 
-/// The same over two sources: the schemas are those of the texts at these paths and of all that they
-/// import, each read once, the old side first. A side of one path that doesn't end in `.proto` is the
-/// descriptor set there, and its schema the one that the set states.
+/// The same over two sources: the schemas are those of the texts at these paths and of all that
+/// they import, each read once, the old side first. A side of one path that doesn't end in `.proto`
+/// is the descriptor set there, and its schema the one that the set states.
 ///
-/// Refused are want of memory (`Memory`); a side with its first fault (`Compile`): what its texts can't
-/// be linked for, or the first rule of the language that they break, at its place, or what its set is
-/// refused for; and a missing root, as `gate` refuses it.
+/// Refused are want of memory (`Memory`); a side with its first fault (`Compile`): what its texts
+/// can't be linked for, or the first rule of the language that they break, at its place, or what
+/// its set is refused for; and a missing root, as `gate` refuses it.
 pub fn gate_files<S: Sources, T: Sources>(
     alloc: Global,
     old: &mut S,
@@ -105,8 +105,8 @@ pub fn gate_files<S: Sources, T: Sources>(
     new_roots: &[&str],
     root: &str,
 ) -> Result<Answer, GateError>
-    // The answer is that of texts and sets that the sources may give, and so is each refusal. A fault of the new side
-    // comes only where the old side has a schema.
+    // The answer is that of texts and sets that the sources may give, and so is each refusal. A
+    // fault of the new side comes only where the old side has a schema.
     ensures answer { IfOk result (IsAnswerOfFiles root.now
         (world (S.may_give old.old) (S.may_lack old.old) (codes ".") (paths_of old_roots.now))
         (world (T.may_give new.old) (T.may_lack new.old) (codes ".") (paths_of new_roots.now))) }

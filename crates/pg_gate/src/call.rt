@@ -3,7 +3,8 @@
 /// The words of a command line, as they are meant.
 #[derive(Debug, Drop)]
 pub enum Call<'a> {
-    /// The descriptor set of the texts at these paths below the folder, and of all that they import.
+    /// The descriptor set of the texts at these paths below the folder, and of all that they
+    /// import.
     Compile {
         dir: &'a str,
         files: Vec<&'a str>,
@@ -16,8 +17,8 @@ pub enum Call<'a> {
         certificate_only: bool,
         both: bool,
     },
-    /// The message that the bytes of this word are read as, by the type of this full name in the text or the
-    /// descriptor set of this path below the folder.
+    /// The message that the bytes of this word are read as, by the type of this full name in the
+    /// text or the descriptor set of this path below the folder.
     Show {
         dir: &'a str,
         file: &'a str,
@@ -31,8 +32,8 @@ pub enum Call<'a> {
     },
 }
 
-/// The folders and the files of the old and the new side. A file is a text where its path ends in `.proto`, and else a
-/// descriptor set.
+/// The folders and the files of the old and the new side. A file is a text where its path ends in
+/// `.proto`, and else a descriptor set.
 #[derive(Clone, Copy, Debug)]
 pub struct Sides<'a> {
     pub old_dir: &'a str,

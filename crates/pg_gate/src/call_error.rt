@@ -20,7 +20,8 @@ pub(crate) enum ClaimFault {
     RootMissing,
     /// E803: the table lacks this pair, a child of one that it has.
     PairMissing(PairNames),
-    /// E804: a message of the pair that breaks by the case at the number is shorter than the bound says.
+    /// E804: a message of the pair that breaks by the case at the number is shorter than the bound
+    /// says.
     BoundTooHigh {
         names: PairNames,
         number: u32,
@@ -51,8 +52,8 @@ pub(crate) enum CallError {
     Gate(GateError),
     /// E301, E309, E801 to E807: a certificate is not taken.
     Certificate(CertificateFault),
-    /// E501 to E505, E604, E607, E608: bytes that are to be shown aren't read as a message, or the message has
-    /// no encoding.
+    /// E501 to E505, E604, E607, E608: bytes that are to be shown aren't read as a message, or the
+    /// message has no encoding.
     Bytes(DynError),
 }
 

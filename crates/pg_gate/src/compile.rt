@@ -22,10 +22,12 @@ fn files_of<S: Sources>(
     folder: &str,
     paths: &[&str],
 ) -> Result<Linked, GateError>
-    ensures linked { IfOk result (λ linked. IsLinked (world (S.may_give source.old) (S.may_lack source.old)
+    ensures linked { IfOk result (λ linked.
+        IsLinked (world (S.may_give source.old) (S.may_lack source.old)
         folder.now (paths_of paths.now)) linked.files) }
     ensures settled { IfOk result IsLinkedUp }
-    ensures refused { IfErr result (IsErrorOf (IsOfLink (world (S.may_give source.old) (S.may_lack source.old)
+    ensures refused { IfErr result (IsErrorOf
+        (IsOfLink (world (S.may_give source.old) (S.may_lack source.old)
         folder.now (paths_of paths.now))) side) }
     ensures counted { S.failures source.new ≡ S.failures source.old + source_failures result }
     ensures same_given { S.may_give source.new ≡ S.may_give source.old }
@@ -50,7 +52,8 @@ fn schema_of(alloc: Global, side: Side, linked: &Linked) -> Result<Schema, GateE
     }
 }
 
-/// A side that compiled: its schema, and the files that declare it, where these are kept. A descriptor set has none.
+/// A side that compiled: its schema, and the files that declare it, where these are kept. A
+/// descriptor set has none.
 #[derive(Drop)]
 pub(crate) struct Compiled {
     pub schema: Schema,
@@ -72,7 +75,8 @@ impl Compiled {
     }
 }
 
-/// The schema of texts with their files: those at these paths below the folder, and all that they import.
+/// The schema of texts with their files: those at these paths below the folder, and all that they
+/// import.
 pub(crate) fn compile_texts<S: Sources>(
     alloc: Global,
     source: &mut S,
@@ -80,9 +84,11 @@ pub(crate) fn compile_texts<S: Sources>(
     folder: &str,
     paths: &[&str],
 ) -> Result<Compiled, GateError>
-    ensures compiled { IfOk result (λ compiled. IsCompiled (world (S.may_give source.old) (S.may_lack source.old)
+    ensures compiled { IfOk result (λ compiled.
+        IsCompiled (world (S.may_give source.old) (S.may_lack source.old)
         folder.now (paths_of paths.now)) compiled.schema) }
-    ensures refused { IfErr result (IsErrorOf (IsFaultOf (world (S.may_give source.old) (S.may_lack source.old)
+    ensures refused { IfErr result (IsErrorOf
+        (IsFaultOf (world (S.may_give source.old) (S.may_lack source.old)
         folder.now (paths_of paths.now))) side) }
     ensures counted { S.failures source.new ≡ S.failures source.old + source_failures result }
     ensures same_given { S.may_give source.new ≡ S.may_give source.old }
@@ -96,7 +102,8 @@ pub(crate) fn compile_texts<S: Sources>(
     })
 }
 
-/// The schema of the texts at these paths below the folder, and of all that they import. The files themselves are dropped.
+/// The schema of the texts at these paths below the folder, and of all that they import. The files
+/// themselves are dropped.
 pub(crate) fn schema_of_texts<S: Sources>(
     alloc: Global,
     source: &mut S,
@@ -104,9 +111,11 @@ pub(crate) fn schema_of_texts<S: Sources>(
     folder: &str,
     paths: &[&str],
 ) -> Result<Schema, GateError>
-    ensures compiled { IfOk result (IsCompiled (world (S.may_give source.old) (S.may_lack source.old)
+    ensures compiled { IfOk result (IsCompiled
+        (world (S.may_give source.old) (S.may_lack source.old)
         folder.now (paths_of paths.now))) }
-    ensures refused { IfErr result (IsErrorOf (IsFaultOf (world (S.may_give source.old) (S.may_lack source.old)
+    ensures refused { IfErr result (IsErrorOf
+        (IsFaultOf (world (S.may_give source.old) (S.may_lack source.old)
         folder.now (paths_of paths.now))) side) }
     ensures counted { S.failures source.new ≡ S.failures source.old + source_failures result }
     ensures same_given { S.may_give source.new ≡ S.may_give source.old }
@@ -124,8 +133,10 @@ fn compile_set<S: Sources>(
     folder: &str,
     path: &str,
 ) -> Result<Compiled, GateError>
-    ensures stated { IfOk result (λ compiled. IsRead (S.may_give source.old) folder.now path.now compiled.schema) }
-    ensures refused { IfErr result (IsErrorOf (IsFaultOfRead (S.may_give source.old) (S.may_lack source.old)
+    ensures stated { IfOk result (λ compiled.
+        IsRead (S.may_give source.old) folder.now path.now compiled.schema) }
+    ensures refused { IfErr result (IsErrorOf
+        (IsFaultOfRead (S.may_give source.old) (S.may_lack source.old)
         folder.now path.now) side) }
     ensures counted { S.failures source.new ≡ S.failures source.old + source_failures result }
     ensures same_given { S.may_give source.new ≡ S.may_give source.old }
@@ -138,7 +149,8 @@ fn compile_set<S: Sources>(
     })
 }
 
-/// A side's schema with its files: the set at its path, or else the texts at its paths and all that they import.
+/// A side's schema with its files: the set at its path, or else the texts at its paths and all that
+/// they import.
 pub(crate) fn compile_files<S: Sources>(
     alloc: Global,
     source: &mut S,
@@ -146,9 +158,11 @@ pub(crate) fn compile_files<S: Sources>(
     folder: &str,
     paths: &[&str],
 ) -> Result<Compiled, GateError>
-    ensures compiled { IfOk result (λ compiled. IsSide (world (S.may_give source.old) (S.may_lack source.old)
+    ensures compiled { IfOk result (λ compiled.
+        IsSide (world (S.may_give source.old) (S.may_lack source.old)
         folder.now (paths_of paths.now)) compiled.schema) }
-    ensures refused { IfErr result (IsSideError (world (S.may_give source.old) (S.may_lack source.old)
+    ensures refused { IfErr result (IsSideError
+        (world (S.may_give source.old) (S.may_lack source.old)
         folder.now (paths_of paths.now)) side) }
     ensures counted { S.failures source.new ≡ S.failures source.old + source_failures result }
     ensures same_given { S.may_give source.new ≡ S.may_give source.old }
@@ -170,7 +184,8 @@ pub(crate) fn compile<S: Sources>(
 ) -> Result<Schema, GateError>
     ensures compiled { IfOk result (IsSide (world (S.may_give source.old) (S.may_lack source.old)
         folder.now (paths_of paths.now))) }
-    ensures refused { IfErr result (IsSideError (world (S.may_give source.old) (S.may_lack source.old)
+    ensures refused { IfErr result (IsSideError
+        (world (S.may_give source.old) (S.may_lack source.old)
         folder.now (paths_of paths.now)) side) }
     ensures counted { S.failures source.new ≡ S.failures source.old + source_failures result }
     ensures same_given { S.may_give source.new ≡ S.may_give source.old }

@@ -104,8 +104,8 @@ pub(crate) fn diagnostic_of_message(error: DynError) -> Diagnostic
     }
 }
 
-/// What is reported of a set: the code of what the codec of messages refuses, of the set itself, or of a rule
-/// that it breaks.
+/// What is reported of a set: the code of what the codec of messages refuses, of the set itself, or
+/// of a rule that it breaks.
 fn diagnostic_of_set(error: FdsError) -> Diagnostic
     ensures { result ≡ refusals.diagnostic_of_set error }
 {

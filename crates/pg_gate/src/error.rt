@@ -18,14 +18,15 @@ pub enum Side {
 /// Why a side does not compile.
 #[derive(Debug, PartialEq, Eq, Drop, Error)]
 pub enum Fault {
-    /// Its texts can't be linked, or its descriptor set isn't there: by the code of that fault, at its place.
+    /// Its texts can't be linked, or its descriptor set isn't there: by the code of that fault, at
+    /// its place.
     #[error("{0}")]
     Link(LinkError),
     /// They break a rule of the language: by its code, at its place.
     #[error("{0}")]
     Check(CheckError),
-    /// Its descriptor set is refused, or what its texts declare has none: by the code of the codec of messages, of the
-    /// set, or of the rule that it breaks.
+    /// Its descriptor set is refused, or what its texts declare has none: by the code of the codec
+    /// of messages, of the set, or of the rule that it breaks.
     #[error("{0}")]
     Set(FdsError),
 }
@@ -42,13 +43,15 @@ pub enum GateError {
     /// E902: the new schema has none.
     #[error("the new schema has no such message type")]
     RootMissingNew,
-    /// E903: a side does not compile. Of files that are compiled by themselves the side is the old one.
+    /// E903: a side does not compile. Of files that are compiled by themselves the side is the old
+    /// one.
     #[error("the {0} side does not compile: {1}")]
     Compile(Side, Fault),
     /// E904: the sink failed.
     #[error("the output could not be written")]
     WriteFailed,
-    /// E905: a word that stands for bytes has an odd number of hexadecimal digits, or another character.
+    /// E905: a word that stands for bytes has an odd number of hexadecimal digits, or another
+    /// character.
     #[error("no hexadecimal digits, two a byte")]
     BadHex,
 }

@@ -37,14 +37,16 @@ struct Asked<'a> {
     both: bool,
 }
 
-/// What is told of an answer with this certificate: its witness's bytes and steps, where it has one.
+/// What is told of an answer with this certificate: its witness's bytes and steps, where it has
+/// one.
 fn told(
     alloc: Global,
     old: &Compiled,
     new: &Compiled,
     certificate: &Certificate,
 ) -> Result<Finding, AllocError>
-    requires { IsSearched by_numbers (shape_of old.now.schema) (shape_of new.now.schema) certificate.now.root certificate.now }
+    requires { IsSearched by_numbers (shape_of old.now.schema)
+        (shape_of new.now.schema) certificate.now.root certificate.now }
     ensures { IfOk result (TellsAnswer old.now.schema new.now.schema certificate.now) }
 {
     match certificate.witness() {
@@ -80,7 +82,8 @@ fn finding_of(
     certificate: &Certificate,
     certificate_only: bool,
 ) -> Result<Finding, AllocError>
-    requires searched { IsSearched by_numbers (shape_of old.now.schema) (shape_of new.now.schema) certificate.now.root certificate.now }
+    requires searched { IsSearched by_numbers (shape_of old.now.schema)
+        (shape_of new.now.schema) certificate.now.root certificate.now }
     requires claim { IsClaimOf old.now.schema new.now.schema certificate.now }
     ensures { IfOk result (Tells old.now.schema new.now.schema certificate.now certificate_only) }
 {
@@ -99,7 +102,8 @@ fn one_way(
     root: &str,
     certificate_only: bool,
 ) -> Result<Finding, GateError>
-    ensures found { IfOk result (IsFindingOf old.now.schema new.now.schema root.now certificate_only) }
+    ensures found { IfOk result (IsFindingOf old.now.schema new.now.schema root.now
+        certificate_only) }
     ensures refused { IfErr result (IsRefusedRoot old.now.schema new.now.schema root.now) }
 {
     // What holds of every schema.
@@ -110,7 +114,8 @@ fn one_way(
     Ok(finding)
 }
 
-/// What the gate answers of two sides that compiled: for the certificate alone, or in one direction or both.
+/// What the gate answers of two sides that compiled: for the certificate alone, or in one direction
+/// or both.
 fn between(
     alloc: Global,
     old: &Compiled,
@@ -119,7 +124,8 @@ fn between(
     certificate_only: bool,
     both: bool,
 ) -> Result<Reply, GateError>
-    ensures found { IfOk result (IsGateReply old.now.schema new.now.schema root.now certificate_only both) }
+    ensures found { IfOk result (IsGateReply old.now.schema new.now.schema root.now certificate_only
+        both) }
     ensures refused { IfErr result (IsRefusedRoot old.now.schema new.now.schema root.now) }
 {
     let forward = one_way(alloc, old, new, root, certificate_only)?;
@@ -140,7 +146,8 @@ fn find<S: Sources, T: Sources>(
     ensures found { IfOk result (λ reply. Between
         (world (S.may_give old.old) (S.may_lack old.old) asked.now.sides.now.old_dir.now (asked.now.sides.now.old.now ∷ []))
         (world (T.may_give new.old) (T.may_lack new.old) asked.now.sides.now.new_dir.now (asked.now.sides.now.new.now ∷ []))
-        (λ a b. IsGateReply a b asked.now.root.now asked.now.certificate_only asked.now.both reply)) }
+        (λ a b. IsGateReply a b asked.now.root.now asked.now.certificate_only asked.now.both
+        reply)) }
     ensures refused { IfErr result (IsGateError asked.now.root.now
         (world (S.may_give old.old) (S.may_lack old.old) asked.now.sides.now.old_dir.now (asked.now.sides.now.old.now ∷ []))
         (world (T.may_give new.old) (T.may_lack new.old) asked.now.sides.now.new_dir.now (asked.now.sides.now.new.now ∷ []))) }

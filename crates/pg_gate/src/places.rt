@@ -1,5 +1,6 @@
-//! Where the fields of a side are declared: found for all steps of a witness by one pass over the files, so that long ways take no
-//! more than linear time. `Linked::place` goes by all names, and counts its text from the first byte, at each call.
+//! Where the fields of a side are declared: found for all steps of a witness by one pass over the
+//! files, so that long ways take no more than linear time. `Linked::place` goes by all names, and
+//! counts its text from the first byte, at each call.
 
 use crate::cursor::Cursor;
 use pg_link::{Linked, Place};
@@ -83,7 +84,8 @@ fn add_parts(
     Ok(())
 }
 
-/// Puts the fields of a message type to the others, where they are wanted, and those of the types in it.
+/// Puts the fields of a message type to the others, where they are wanted, and those of the types
+/// in it.
 #[cycle(messages)]
 fn add_message(finder: &mut Finder<'_>, message: &Message) -> Result<(), AllocError> {
     let id = finder.next;
@@ -117,7 +119,8 @@ pub(crate) struct Places<'a> {
 }
 
 impl Places<'_> {
-    /// Where the field of that number is declared in the type. `None` where it isn't there, or the type wasn't wanted.
+    /// Where the field of that number is declared in the type. `None` where it isn't there, or the
+    /// type wasn't wanted.
     pub(crate) fn place(
         &self,
         alloc: Global,
@@ -138,7 +141,8 @@ impl Places<'_> {
     }
 }
 
-/// The places of the fields of those message types at whose numbers `wanted` has `true`, by one pass over the files.
+/// The places of the fields of those message types at whose numbers `wanted` has `true`, by one
+/// pass over the files.
 pub(crate) fn places_of<'a>(
     alloc: Global,
     files: &'a Linked,

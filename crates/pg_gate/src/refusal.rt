@@ -95,7 +95,8 @@ fn refusal_of_side(side: Side, diagnostic: Diagnostic) -> Refusal
     }
 }
 
-/// The refusal that is printed for an error of the gate. Want of memory and a sink that failed have none.
+/// The refusal that is printed for an error of the gate. Want of memory and a sink that failed have
+/// none.
 fn refusal_of_gate(error: GateError) -> Option<Refusal>
     ensures { result ≡ refusals.refusal_of_gate error }
 {

@@ -29,7 +29,8 @@ pub enum Reply {
 pub enum Finding {
     /// No message breaks.
     Compatible,
-    /// The bytes of a message that breaks, and the fields on its path, root first. None that breaks has fewer.
+    /// The bytes of a message that breaks, and the fields on its path, root first. None that breaks
+    /// has fewer.
     Breaks { witness: Vec<u8>, steps: Vec<Step> },
     /// The text of the certificate, and whether a message breaks.
     Certified { text: String, breaks: bool },

@@ -39,8 +39,10 @@ fn bytes_of<S: Sources>(
     folder: &str,
     path: &str,
 ) -> Result<Vec<u8>, GateError>
-    ensures given { IfOk result (λ bytes. IsTrue (S.may_give source.old (path_below folder.now path.now) bytes.items)) }
-    ensures refused { IfErr result (IsErrorOf (IsGivenFault (S.may_lack source.old) folder.now path.now) side) }
+    ensures given { IfOk result (λ bytes.
+        IsTrue (S.may_give source.old (path_below folder.now path.now) bytes.items)) }
+    ensures refused { IfErr result (IsErrorOf
+        (IsGivenFault (S.may_lack source.old) folder.now path.now) side) }
     ensures counted { S.failures source.new ≡ S.failures source.old + source_failures result }
     ensures same_given { S.may_give source.new ≡ S.may_give source.old }
     ensures same_lacked { S.may_lack source.new ≡ S.may_lack source.old }
@@ -73,7 +75,8 @@ pub(crate) fn read_set<S: Sources>(
     path: &str,
 ) -> Result<Schema, GateError>
     ensures stated { IfOk result (IsRead (S.may_give source.old) folder.now path.now) }
-    ensures refused { IfErr result (IsErrorOf (IsFaultOfRead (S.may_give source.old) (S.may_lack source.old)
+    ensures refused { IfErr result (IsErrorOf
+        (IsFaultOfRead (S.may_give source.old) (S.may_lack source.old)
         folder.now path.now) side) }
     ensures counted { S.failures source.new ≡ S.failures source.old + source_failures result }
     ensures same_given { S.may_give source.new ≡ S.may_give source.old }

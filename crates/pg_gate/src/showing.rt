@@ -36,7 +36,8 @@ fn lines_of(
     bytes: &[u8],
 ) -> Result<String, CallError>
     requires { type_id.index < length (shape_of schema.now) }
-    ensures shown { IfOk result (λ text. IsReadAs schema.now type_id bytes.now (string_bytes text)) }
+    ensures shown { IfOk result (λ text. IsReadAs schema.now type_id bytes.now
+        (string_bytes text)) }
     ensures refused { IfErr result (IsUnread schema.now type_id bytes.now) }
 {
     match show(alloc, schema, type_id, bytes) {
@@ -58,7 +59,8 @@ fn shown_by(alloc: Global, schema: &Schema, root: &str, word: &str) -> Result<St
     lines_of(alloc, schema, type_id, &bytes)
 }
 
-/// The same by the type of the text or the set at this path below the folder, or of what a text imports.
+/// The same by the type of the text or the set at this path below the folder, or of what a text
+/// imports.
 pub(crate) fn shown<S: Sources>(
     alloc: Global,
     source: &mut S,
@@ -72,7 +74,8 @@ pub(crate) fn shown<S: Sources>(
         (λ schema. IsShown schema root.now word.now (string_bytes text))) }
     ensures refused { IfErr result (IsShowError
         (world (S.may_give source.old) (S.may_lack source.old) folder.now (file.now ∷ [])) root.now word.now) }
-    ensures counted { S.failures source.new ≡ S.failures source.old + call_failures Side.Old result }
+    ensures counted { S.failures source.new
+        ≡ S.failures source.old + call_failures Side.Old result }
     ensures same_given { S.may_give source.new ≡ S.may_give source.old }
     ensures same_lacked { S.may_lack source.new ≡ S.may_lack source.old }
 {

@@ -61,7 +61,8 @@ fn named_field(
     id: TypeId,
     number: u32,
 ) -> Result<NamedField, AllocError>
-    ensures { IfOk result (λ field. string_bytes field.name ≡ spec.field_name schema.now id number) }
+    ensures { IfOk result (λ field. string_bytes field.name
+        ≡ spec.field_name schema.now id number) }
 {
     Ok(NamedField {
         name: field_name(alloc, schema, id, number)?,
@@ -77,7 +78,8 @@ fn step_of(
     pair: Pair,
     number: u32,
 ) -> Result<Step, AllocError>
-    ensures { IfOk result (λ step. spec.named step ≡ spec.named_at old.entry.schema.now new.entry.schema.now pair number) }
+    ensures { IfOk result (λ step. spec.named step
+        ≡ spec.named_at old.entry.schema.now new.entry.schema.now pair number) }
 {
     Ok(Step {
         number,
@@ -94,7 +96,8 @@ fn add_steps(
     new: Side<'_>,
     stage: pg_least::Step,
 ) -> Result<(), AllocError>
-    ensures { OnOk result (map spec.named steps.new.items ≡ map spec.named steps.old.items ++ spec.steps_by old.entry.schema.now new.entry.schema.now stage) }
+    ensures { OnOk result (map spec.named steps.new.items ≡ map spec.named steps.old.items
+        ++ spec.steps_by old.entry.schema.now new.entry.schema.now stage) }
 {
     let choice = stage.choice;
     steps.push(step_of(alloc, old, new, stage.pair, choice.number)?)?;
@@ -111,7 +114,8 @@ fn steps_by(
     new: Side<'_>,
     way: &[pg_least::Step],
 ) -> Result<Vec<Step>, AllocError>
-    ensures { IfOk result (λ steps. map spec.named steps.items ≡ flat_map (spec.steps_by old.entry.schema.now new.entry.schema.now) way.now) }
+    ensures { IfOk result (λ steps. map spec.named steps.items
+        ≡ flat_map (spec.steps_by old.entry.schema.now new.entry.schema.now) way.now) }
 {
     let mut steps = Vec::new(alloc);
     for stage in way {
@@ -160,9 +164,11 @@ pub(crate) fn steps(
     new: &Compiled,
     certificate: &Certificate,
 ) -> Result<Vec<Step>, AllocError>
-    requires searched { IsSearched by_numbers (shape_of old.now.schema) (shape_of new.now.schema) certificate.now.root certificate.now }
+    requires searched { IsSearched by_numbers (shape_of old.now.schema)
+        (shape_of new.now.schema) certificate.now.root certificate.now }
     requires breaks { is_some certificate.now.witness ≡ true }
-    ensures { IfOk result (λ steps. spec.AreSteps old.now.schema new.now.schema certificate.now steps.items) }
+    ensures { IfOk result (λ steps. spec.AreSteps old.now.schema new.now.schema certificate.now
+        steps.items) }
 {
     let way = way(alloc, &old.schema, &new.schema, certificate)?;
     let old_types = types_on(alloc, old.schema.parts().types.len(), &way, true)?;

@@ -6,8 +6,8 @@ ghost use Rattle.pg_gate.specs.Text as spec;
 use pg_cert::Verdict;
 use std::fmt;
 
-/// What a certificate that holds shows of its root types: the full name of the old one, the verdict, and
-/// how many bytes the witness has, where there is one.
+/// What a certificate that holds shows of its root types: the full name of the old one, the
+/// verdict, and how many bytes the witness has, where there is one.
 #[derive(Debug, Drop)]
 pub struct Verified {
     pub name: String,
@@ -16,7 +16,8 @@ pub struct Verified {
 }
 
 impl Verified {
-    /// 0 where no message breaks, 1 where one does, and 5 where it is only said how many bytes one has at least.
+    /// 0 where no message breaks, 1 where one does, and 5 where it is only said how many bytes one
+    /// has at least.
     pub(crate) fn status(&self) -> u8
         ensures { result ≡ verdict_status self.now.verdict }
     {

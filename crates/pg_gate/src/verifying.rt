@@ -26,7 +26,8 @@ use std::alloc::{AllocError, Global};
 fn read<S: Sources>(alloc: Global, source: &mut S, path: &str) -> Result<Vec<u8>, CallError>
     ensures given { IfOk result (λ bytes. IsTrue (S.may_give source.old path.now bytes.items)) }
     ensures refused { IfErr result (IsUngiven (S.may_lack source.old) path.now) }
-    ensures counted { S.failures source.new ≡ S.failures source.old + call_failures Side.Old result }
+    ensures counted { S.failures source.new
+        ≡ S.failures source.old + call_failures Side.Old result }
     ensures same_given { S.may_give source.new ≡ S.may_give source.old }
     ensures same_lacked { S.may_lack source.new ≡ S.may_lack source.old }
 {
@@ -126,10 +127,13 @@ fn checked(
     new: &Schema,
     certificate: &Certificate,
 ) -> Result<Verdict, CallError>
-    ensures holds { OnOk result (Holds by_numbers (shape_of old.now) (shape_of new.now) certificate.now) }
+    ensures holds { OnOk result (Holds by_numbers (shape_of old.now)
+        (shape_of new.now) certificate.now) }
     ensures verdict { IfOk result (λ verdict. verdict ≡ verdict_of certificate.now) }
-    ensures says { IfOk result (Says by_numbers (shape_of old.now) (shape_of new.now) certificate.now) }
-    ensures refused { IfErr result (λ error. (bytes : List ℕ) → Certifies old.now new.now bytes certificate.now
+    ensures says { IfOk result (Says by_numbers (shape_of old.now)
+        (shape_of new.now) certificate.now) }
+    ensures refused { IfErr result (λ error. (bytes : List ℕ)
+        → Certifies old.now new.now bytes certificate.now
         → spec.IsClaimError old.now new.now bytes error) }
 {
     match check(alloc, old, new, certificate) {
@@ -165,7 +169,8 @@ fn held(alloc: Global, old: &Schema, new: &Schema, bytes: &[u8]) -> Result<Findi
     }))
 }
 
-/// What the certificate shows of the two sides. It is asked of the old source, after both sides compiled.
+/// What the certificate shows of the two sides. It is asked of the old source, after both sides
+/// compiled.
 pub(crate) fn verify<S: Sources, T: Sources>(
     alloc: Global,
     sides: &Sides<'_>,

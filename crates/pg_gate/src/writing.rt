@@ -17,9 +17,11 @@ pub(crate) fn written<S: Sources>(
     folder: &str,
     paths: &[&str],
 ) -> Result<Vec<u8>, GateError>
-    ensures written { IfOk result (λ bytes. IsSetOf (world (S.may_give source.old) (S.may_lack source.old)
+    ensures written { IfOk result (λ bytes.
+        IsSetOf (world (S.may_give source.old) (S.may_lack source.old)
         folder.now (paths_of paths.now)) bytes.items) }
-    ensures refused { IfErr result (IsErrorOf (IsFaultOfSet (world (S.may_give source.old) (S.may_lack source.old)
+    ensures refused { IfErr result (IsErrorOf
+        (IsFaultOfSet (world (S.may_give source.old) (S.may_lack source.old)
         folder.now (paths_of paths.now))) Side.Old) }
     ensures counted { S.failures source.new ≡ S.failures source.old + source_failures result }
     ensures same_given { S.may_give source.new ≡ S.may_give source.old }

@@ -12,7 +12,8 @@ use pg_syntax::tree::{
 };
 use std::alloc::{AllocError, Global};
 
-/// A name that a file declares, in full and with a dot in front, and the first byte of the word that declares it.
+/// A name that a file declares, in full and with a dot in front, and the first byte of the word
+/// that declares it.
 #[derive(Debug, Drop)]
 pub(crate) struct DeclaredName {
     pub name: String,
@@ -39,7 +40,9 @@ fn declare(
     kind: Kind,
     name: &Name,
 ) -> Result<(), AllocError>
-    ensures { OnOk result (map outline.declared_of names.new.items ≡ map outline.declared_of names.old.items ++ spec.declared scope.now kind (outline.word name.now) ∷ []) }
+    ensures { OnOk result (map outline.declared_of names.new.items
+        ≡ map outline.declared_of names.old.items
+        ++ spec.declared scope.now kind (outline.word name.now) ∷ []) }
 {
     let at = name.span.from;
     let name = within(alloc, scope, name.text.as_str())?;
@@ -54,7 +57,9 @@ fn add_enum_part(
     scope: &str,
     part: &EnumPart,
 ) -> Result<(), AllocError>
-    ensures { OnOk result (map outline.declared_of names.new.items ≡ map outline.declared_of names.old.items ++ spec.names_in scope.now (outline.of_enum_part part.now spec.Done)) }
+    ensures { OnOk result (map outline.declared_of names.new.items
+        ≡ map outline.declared_of names.old.items
+        ++ spec.names_in scope.now (outline.of_enum_part part.now spec.Done)) }
 {
     match part {
         EnumPart::Value(value) => declare(alloc, names, scope, Kind::Value, &value.name),
@@ -71,7 +76,9 @@ fn add_enum_parts(
     scope: &str,
     parts: &[EnumPart],
 ) -> Result<(), AllocError>
-    ensures { OnOk result (map outline.declared_of names.new.items ≡ map outline.declared_of names.old.items ++ spec.names_in scope.now (outline.all_of outline.of_enum_part parts.now spec.Done)) }
+    ensures { OnOk result (map outline.declared_of names.new.items
+        ≡ map outline.declared_of names.old.items
+        ++ spec.names_in scope.now (outline.all_of outline.of_enum_part parts.now spec.Done)) }
 {
     for part in parts {
         add_enum_part(alloc, names, scope, part)?;
@@ -86,16 +93,19 @@ fn add_enum(
     scope: &str,
     enumeration: &Enum,
 ) -> Result<(), AllocError>
-    ensures { OnOk result (map outline.declared_of names.new.items ≡ map outline.declared_of names.old.items ++ spec.names_in scope.now (outline.of_enum enumeration.now spec.Done)) }
+    ensures { OnOk result (map outline.declared_of names.new.items
+        ≡ map outline.declared_of names.old.items
+        ++ spec.names_in scope.now (outline.of_enum enumeration.now spec.Done)) }
 {
     declare(alloc, names, scope, Kind::Enum, &enumeration.name)?;
     add_enum_parts(alloc, names, scope, &enumeration.parts)
 }
 
-/// Puts a letter of the name of a map's entries behind the text: `_` is dropped, and a letter that begins a part is
-/// upper case.
+/// Puts a letter of the name of a map's entries behind the text: `_` is dropped, and a letter that
+/// begins a part is upper case.
 fn push_entry_letter(text: &mut String, begins: bool, letter: char) -> Result<(), AllocError>
-    ensures { OnOk result (string_bytes text.new ≡ string_bytes text.old ++ spec.entry_character begins letter) }
+    ensures { OnOk result (string_bytes text.new
+        ≡ string_bytes text.old ++ spec.entry_character begins letter) }
 {
     if letter == '_' {
         return Ok(());
@@ -128,7 +138,9 @@ fn add_map(
     scope: &str,
     field: &MapField,
 ) -> Result<(), AllocError>
-    ensures { OnOk result (map outline.declared_of names.new.items ≡ map outline.declared_of names.old.items ++ spec.names_in scope.now (spec.MapField (outline.word field.now.name) spec.Done)) }
+    ensures { OnOk result (map outline.declared_of names.new.items
+        ≡ map outline.declared_of names.old.items
+        ++ spec.names_in scope.now (spec.MapField (outline.word field.now.name) spec.Done)) }
 {
     declare(alloc, names, scope, Kind::Field, &field.name)?;
     let entry = entry_name(alloc, field.name.text.as_str())?;
@@ -149,7 +161,9 @@ fn add_oneof_part(
     scope: &str,
     part: &OneofPart,
 ) -> Result<(), AllocError>
-    ensures { OnOk result (map outline.declared_of names.new.items ≡ map outline.declared_of names.old.items ++ spec.names_in scope.now (outline.of_oneof_part part.now spec.Done)) }
+    ensures { OnOk result (map outline.declared_of names.new.items
+        ≡ map outline.declared_of names.old.items
+        ++ spec.names_in scope.now (outline.of_oneof_part part.now spec.Done)) }
 {
     match part {
         OneofPart::Field(field) => declare(alloc, names, scope, Kind::Field, &field.name),
@@ -166,7 +180,9 @@ fn add_oneof_parts(
     scope: &str,
     parts: &[OneofPart],
 ) -> Result<(), AllocError>
-    ensures { OnOk result (map outline.declared_of names.new.items ≡ map outline.declared_of names.old.items ++ spec.names_in scope.now (outline.all_of outline.of_oneof_part parts.now spec.Done)) }
+    ensures { OnOk result (map outline.declared_of names.new.items
+        ≡ map outline.declared_of names.old.items
+        ++ spec.names_in scope.now (outline.all_of outline.of_oneof_part parts.now spec.Done)) }
 {
     for part in parts {
         add_oneof_part(alloc, names, scope, part)?;
@@ -181,7 +197,9 @@ fn add_oneof(
     scope: &str,
     oneof: &Oneof,
 ) -> Result<(), AllocError>
-    ensures { OnOk result (map outline.declared_of names.new.items ≡ map outline.declared_of names.old.items ++ spec.names_in scope.now (outline.of_oneof oneof.now spec.Done)) }
+    ensures { OnOk result (map outline.declared_of names.new.items
+        ≡ map outline.declared_of names.old.items
+        ++ spec.names_in scope.now (outline.of_oneof oneof.now spec.Done)) }
 {
     declare(alloc, names, scope, Kind::Oneof, &oneof.name)?;
     add_oneof_parts(alloc, names, scope, &oneof.parts)
@@ -194,7 +212,9 @@ fn add_service_part(
     scope: &str,
     part: &ServicePart,
 ) -> Result<(), AllocError>
-    ensures { OnOk result (map outline.declared_of names.new.items ≡ map outline.declared_of names.old.items ++ spec.names_in scope.now (outline.of_service_part part.now spec.Done)) }
+    ensures { OnOk result (map outline.declared_of names.new.items
+        ≡ map outline.declared_of names.old.items
+        ++ spec.names_in scope.now (outline.of_service_part part.now spec.Done)) }
 {
     match part {
         ServicePart::Rpc(rpc) => declare(alloc, names, scope, Kind::Method, &rpc.name),
@@ -210,7 +230,9 @@ fn add_service_parts(
     scope: &str,
     parts: &[ServicePart],
 ) -> Result<(), AllocError>
-    ensures { OnOk result (map outline.declared_of names.new.items ≡ map outline.declared_of names.old.items ++ spec.names_in scope.now (outline.all_of outline.of_service_part parts.now spec.Done)) }
+    ensures { OnOk result (map outline.declared_of names.new.items
+        ≡ map outline.declared_of names.old.items
+        ++ spec.names_in scope.now (outline.all_of outline.of_service_part parts.now spec.Done)) }
 {
     for part in parts {
         add_service_part(alloc, names, scope, part)?;
@@ -225,7 +247,9 @@ fn add_service(
     scope: &str,
     service: &Service,
 ) -> Result<(), AllocError>
-    ensures { OnOk result (map outline.declared_of names.new.items ≡ map outline.declared_of names.old.items ++ spec.names_in scope.now (outline.of_service service.now spec.Done)) }
+    ensures { OnOk result (map outline.declared_of names.new.items
+        ≡ map outline.declared_of names.old.items
+        ++ spec.names_in scope.now (outline.of_service service.now spec.Done)) }
 {
     declare(alloc, names, scope, Kind::Service, &service.name)?;
     let inner = within(alloc, scope, service.name.text.as_str())?;
@@ -240,7 +264,9 @@ fn add_part(
     scope: &str,
     part: &Part,
 ) -> Result<(), AllocError>
-    ensures { OnOk result (map outline.declared_of names.new.items ≡ map outline.declared_of names.old.items ++ spec.names_in scope.now (outline.of_part part.now spec.Done)) }
+    ensures { OnOk result (map outline.declared_of names.new.items
+        ≡ map outline.declared_of names.old.items
+        ++ spec.names_in scope.now (outline.of_part part.now spec.Done)) }
 {
     match part {
         Part::Message(message) => {
@@ -265,7 +291,9 @@ fn add_parts(
     scope: &str,
     parts: &[Part],
 ) -> Result<(), AllocError>
-    ensures { OnOk result (map outline.declared_of names.new.items ≡ map outline.declared_of names.old.items ++ spec.names_in scope.now (outline.all_of outline.of_part parts.now spec.Done)) }
+    ensures { OnOk result (map outline.declared_of names.new.items
+        ≡ map outline.declared_of names.old.items
+        ++ spec.names_in scope.now (outline.all_of outline.of_part parts.now spec.Done)) }
 {
     for part in parts {
         add_part(alloc, names, scope, part)?;
@@ -281,7 +309,9 @@ fn add_message(
     scope: &str,
     message: &Message,
 ) -> Result<(), AllocError>
-    ensures { OnOk result (map outline.declared_of names.new.items ≡ map outline.declared_of names.old.items ++ spec.names_in scope.now (outline.of_message message.now spec.Done)) }
+    ensures { OnOk result (map outline.declared_of names.new.items
+        ≡ map outline.declared_of names.old.items
+        ++ spec.names_in scope.now (outline.of_message message.now spec.Done)) }
 {
     declare(alloc, names, scope, Kind::Message, &message.name)?;
     let inner = within(alloc, scope, message.name.text.as_str())?;
@@ -295,7 +325,9 @@ fn add_statement(
     scope: &str,
     statement: &Statement,
 ) -> Result<(), AllocError>
-    ensures { OnOk result (map outline.declared_of names.new.items ≡ map outline.declared_of names.old.items ++ spec.names_in scope.now (outline.of_statement statement.now spec.Done)) }
+    ensures { OnOk result (map outline.declared_of names.new.items
+        ≡ map outline.declared_of names.old.items
+        ++ spec.names_in scope.now (outline.of_statement statement.now spec.Done)) }
 {
     match statement {
         Statement::Message(message) => add_message(alloc, names, scope, message),
@@ -314,7 +346,9 @@ fn add_statements(
     scope: &str,
     statements: &[Statement],
 ) -> Result<(), AllocError>
-    ensures { OnOk result (map outline.declared_of names.new.items ≡ map outline.declared_of names.old.items ++ spec.names_in scope.now (outline.all_of outline.of_statement statements.now spec.Done)) }
+    ensures { OnOk result (map outline.declared_of names.new.items
+        ≡ map outline.declared_of names.old.items
+        ++ spec.names_in scope.now (outline.all_of outline.of_statement statements.now spec.Done)) }
 {
     for statement in statements {
         add_statement(alloc, names, scope, statement)?;
@@ -329,8 +363,11 @@ fn add_package_part(
     scope: &mut String,
     word: &Name,
 ) -> Result<(), AllocError>
-    ensures declared { OnOk result (map outline.declared_of names.new.items ≡ map outline.declared_of names.old.items ++ spec.declared (string_bytes scope.old) kinds.Package (outline.word word.now) ∷ []) }
-    ensures inner { OnOk result (string_bytes scope.new ≡ spec.within (string_bytes scope.old) (string_bytes word.now.text)) }
+    ensures declared { OnOk result (map outline.declared_of names.new.items
+        ≡ map outline.declared_of names.old.items
+        ++ spec.declared (string_bytes scope.old) kinds.Package (outline.word word.now) ∷ []) }
+    ensures inner { OnOk result (string_bytes scope.new
+        ≡ spec.within (string_bytes scope.old) (string_bytes word.now.text)) }
 {
     declare(alloc, names, scope.as_str(), Kind::Package, word)?;
     push_word(scope, word.text.as_str())
@@ -338,7 +375,8 @@ fn add_package_part(
 
 /// The scope in a package.
 fn package_scope(alloc: Global, dotted: &Dotted) -> Result<String, AllocError>
-    ensures { IfOk result (λ scope. string_bytes scope ≡ spec.package_scope (outline.dotted_words dotted.now)) }
+    ensures { IfOk result (λ scope. string_bytes scope
+        ≡ spec.package_scope (outline.dotted_words dotted.now)) }
 {
     let mut scope = String::new(alloc);
     push_word(&mut scope, dotted.first.text.as_str())?;
@@ -354,7 +392,9 @@ fn add_package(
     names: &mut Vec<DeclaredName>,
     dotted: &Dotted,
 ) -> Result<(), AllocError>
-    ensures { OnOk result (map outline.declared_of names.new.items ≡ map outline.declared_of names.old.items ++ spec.package_names [] (outline.dotted_words dotted.now)) }
+    ensures { OnOk result (map outline.declared_of names.new.items
+        ≡ map outline.declared_of names.old.items
+        ++ spec.package_names [] (outline.dotted_words dotted.now)) }
 {
     let mut scope = String::new(alloc);
     add_package_part(alloc, names, &mut scope, &dotted.first)?;
@@ -369,7 +409,8 @@ pub(crate) fn declared_names(
     alloc: Global,
     file: &FileTree,
 ) -> Result<Vec<DeclaredName>, AllocError>
-    ensures { IfOk result (λ names. map outline.declared_of names.items ≡ outline.file_names file.now) }
+    ensures { IfOk result (λ names. map outline.declared_of names.items
+        ≡ outline.file_names file.now) }
 {
     let mut names = Vec::new(alloc);
     let Some(packaged) = &file.packaged else {

@@ -16,7 +16,8 @@ use std::alloc::{AllocError, Global};
 
 /// What stands under a name that this file declares first.
 fn first(alloc: Global, file: usize, declared: &DeclaredName, number: usize) -> Named
-    ensures added { spec.view result ≡ spec.added (spec.standing file (declared_of declared.now)) None }
+    ensures added { spec.view result
+        ≡ spec.added (spec.standing file (declared_of declared.now)) None }
     ensures number { result.number ≡ number }
 {
     Named {
@@ -30,7 +31,8 @@ fn first(alloc: Global, file: usize, declared: &DeclaredName, number: usize) -> 
 
 /// What stands under a name once this file declares it too.
 fn again(alloc: Global, file: usize, named: &Named, number: usize) -> Result<Named, AllocError>
-    ensures added { IfOk result (λ n. (d : Declared) → spec.view n ≡ spec.added (spec.standing file d) (Some (spec.view named.now))) }
+    ensures added { IfOk result (λ n. (d : Declared)
+        → spec.view n ≡ spec.added (spec.standing file d) (Some (spec.view named.now))) }
     ensures number { IfOk result (λ n. n.number ≡ number) }
 {
     let mut others = Vec::from_slice(alloc, &named.others)?;
@@ -66,8 +68,11 @@ impl Index {
     /// Counts one more that is declared as this, whose name stands at this place.
     fn count(&mut self, kind: Kind, place: usize) -> Result<(), AllocError>
         ensures names { OnOk result (self.new.names ≡ self.old.names) }
-        ensures messages { OnOk result (length self.new.messages.items ≡ length self.old.messages.items + spec.one_if (is_message kind)) }
-        ensures enums { OnOk result (length self.new.enums.items ≡ length self.old.enums.items + spec.one_if (is_enum kind)) }
+        ensures messages { OnOk result
+            (length self.new.messages.items
+            ≡ length self.old.messages.items + spec.one_if (is_message kind)) }
+        ensures enums { OnOk result (length self.new.enums.items
+            ≡ length self.old.enums.items + spec.one_if (is_enum kind)) }
     {
         match kind {
             Kind::Message => self.messages.push(place)?,
@@ -85,7 +90,8 @@ impl Index {
         declared: &DeclaredName,
         number: usize,
     ) -> Result<Option<Named>, AllocError>
-        ensures joins { IfOk result (λ n. spec.Joins self.now.names (spec.standing file (declared_of declared.now)) n) }
+        ensures joins { IfOk result (λ n. spec.Joins self.now.names
+            (spec.standing file (declared_of declared.now)) n) }
         ensures number { IfOk result (λ n. IfSome n (λ named. named.number ≡ number)) }
     {
         match self.names.get(declared.name.as_str()) {
@@ -107,7 +113,8 @@ impl Index {
         file: usize,
         declared: DeclaredName,
     ) -> Result<bool, AllocError>
-        ensures { IfOk result (λ may. spec.Adds self.old self.new (spec.standing file (declared_of declared)) may) }
+        ensures { IfOk result (λ may. spec.Adds self.old self.new
+            (spec.standing file (declared_of declared)) may) }
     {
         let kind = declared.kind;
         let number = self.next_number(kind);
@@ -130,8 +137,11 @@ impl Index {
         path: &str,
         file: &SourceFile,
     ) -> Result<(), LinkError>
-        ensures holds { OnOk result (spec.AddsAll self.old self.new (spec.standings number file.now.tree)) }
-        ensures twice { IfErr result (spec.IsTwice self.old number path.now file.now.bytes.items (spec.standings number file.now.tree)) }
+        ensures holds { OnOk result (spec.AddsAll self.old self.new
+            (spec.standings number file.now.tree)) }
+        ensures twice { IfErr result
+            (spec.IsTwice self.old number path.now file.now.bytes.items
+            (spec.standings number file.now.tree)) }
     {
         let names = declared_names(alloc, &file.tree)?;
         for declared in names {
@@ -145,19 +155,22 @@ impl Index {
     }
 }
 
-/// The names of all files, by their full names and in the order in which they are declared. `files` stand in the order
-/// in which their names are looked at; each is numbered by its place.
+/// The names of all files, by their full names and in the order in which they are declared. `files`
+/// stand in the order in which their names are looked at; each is numbered by its place.
 ///
-/// E304 where a name is declared twice, and not both times as a part of a package: at the later of the two.
+/// E304 where a name is declared twice, and not both times as a part of a package: at the later of
+/// the two.
 pub(crate) fn index_names(
     alloc: Global,
     files: &IndexMap<String, SourceFile>,
 ) -> Result<Index, LinkError>
     // The index holds just the names that the files declare, and none stands twice.
-    ensures holds { IfOk result (λ index. spec.Holds index.names (spec.all_standings files.now.entries)) }
+    ensures holds { IfOk result (λ index. spec.Holds index.names
+        (spec.all_standings files.now.entries)) }
     ensures once { OnOk result (spec.NoneTwice (spec.all_standings files.now.entries)) }
     // Each message type and enum has its number.
-    ensures numbered { IfOk result (λ index. spec.IsNumbered index (spec.all_standings files.now.entries)) }
+    ensures numbered { IfOk result (λ index. spec.IsNumbered index
+        (spec.all_standings files.now.entries)) }
     // A name is refused only where it is the first that stands twice, at its place.
     ensures twice { IfErr result (spec.IsTwiceIn files.now.entries) }
 {

@@ -7,8 +7,8 @@ use pg_syntax::SyntaxError;
 use std::alloc::{AllocError, AllocFailed, Global};
 use thiserror::Error;
 
-/// A place in a file. The line and the column, which counts bytes, are from 1; both are 0 where the file as a whole
-/// is meant.
+/// A place in a file. The line and the column, which counts bytes, are from 1; both are 0 where the
+/// file as a whole is meant.
 #[derive(Debug, PartialEq, Eq, Drop)]
 pub struct Place {
     pub file: String,
@@ -16,7 +16,8 @@ pub struct Place {
     pub column: usize,
 }
 
-/// The place of a byte of the file's text, which may be its end. Fails only where memory is refused.
+/// The place of a byte of the file's text, which may be its end. Fails only where memory is
+/// refused.
 pub fn place_in(alloc: Global, file: &str, text: &[u8], at: usize) -> Result<Place, AllocError>
     ensures { IfOk result (λ place. spec.IsPlace place file.now text.now at) }
 {
@@ -37,19 +38,22 @@ pub enum LinkError {
     /// E303: a file imports one path twice. At the second import.
     #[error("the file imports one path twice")]
     DuplicateImport(Place),
-    /// E304: a name stands twice, and not both times as a part of a package. At the later of the two.
+    /// E304: a name stands twice, and not both times as a part of a package. At the later of the
+    /// two.
     #[error("the name is declared twice")]
     DuplicateName(Place),
     /// E305: a type's name that names nothing in its scope, in whichever files.
     #[error("the name is unknown")]
     UnknownName(Place),
-    /// E306: a name of what is neither a message type nor an enum, or of an enum where an rpc takes or returns it.
+    /// E306: a name of what is neither a message type nor an enum, or of an enum where an rpc takes
+    /// or returns it.
     #[error("the name is neither a message type nor an enum")]
     NotAType(Place),
     /// E307: a name of a type in a file that isn't imported.
     #[error("the name stands in a file that isn't imported")]
     NotImported(Place),
-    /// E308: more than 1,024 files. At the import of the first beyond, or for a root the file's name alone.
+    /// E308: more than 1,024 files. At the import of the first beyond, or for a root the file's
+    /// name alone.
     #[error("more than 1,024 files")]
     TooManyFiles(Place),
     /// E309: the source failed to give the file.

@@ -20,7 +20,8 @@ fn add_import(
     lines: &mut Vec<ImportLine>,
     statement: &Statement,
 ) -> Result<(), AllocError>
-    ensures { OnOk result (map line_of lines.new.items ≡ map line_of lines.old.items ++ imports_in statement.now) }
+    ensures { OnOk result (map line_of lines.new.items ≡ map line_of lines.old.items
+        ++ imports_in statement.now) }
 {
     match statement {
         Statement::Import(import) => {
@@ -47,7 +48,8 @@ fn add_imports(
     lines: &mut Vec<ImportLine>,
     statements: &[Statement],
 ) -> Result<(), AllocError>
-    ensures { OnOk result (map line_of lines.new.items ≡ map line_of lines.old.items ++ flat_map imports_in statements.now) }
+    ensures { OnOk result (map line_of lines.new.items ≡ map line_of lines.old.items
+        ++ flat_map imports_in statements.now) }
 {
     for statement in statements {
         add_import(alloc, lines, statement)?;

@@ -29,8 +29,8 @@ fn is_own(visible: Visible<'_>, files: &[usize]) -> bool
     }
 }
 
-/// Whether one of the files is seen. A part of a package may stand in all files, and mostly stands in the one that asks,
-/// so that is looked at first.
+/// Whether one of the files is seen. A part of a package may stand in all files, and mostly stands
+/// in the one that asks, so that is looked at first.
 fn sees_one(visible: Visible<'_>, files: &[usize]) -> bool
     ensures { result ≡ spec.sees_one visible.entry.marks.now files.now }
 {
@@ -70,7 +70,8 @@ fn ends_at(kind: Kind, parts: &[Name]) -> bool
 
 /// Puts a dot and the word behind the text.
 pub(crate) fn push_word(text: &mut String, word: &str) -> Result<(), AllocError>
-    ensures { OnOk result (string_bytes text.new ≡ string_bytes text.old ++ names.called (word.now ∷ [])) }
+    ensures { OnOk result (string_bytes text.new
+        ≡ string_bytes text.old ++ names.called (word.now ∷ [])) }
 {
     text.push_str(".")?;
     text.push_str(word)
@@ -93,14 +94,16 @@ fn called(alloc: Global, words: &[&str]) -> Result<String, AllocError>
 /// Takes a dot and the word behind it away from the end of the text.
 fn pop_word(text: &mut String, word: &str)
     requires { (front : List ℕ) × (string_bytes text.old ≡ front ++ names.called (word.now ∷ [])) }
-    ensures { (front : List ℕ) → string_bytes text.old ≡ front ++ names.called (word.now ∷ []) → string_bytes text.new ≡ front }
+    ensures { (front : List ℕ) → string_bytes text.old ≡ front ++ names.called (word.now ∷ [])
+        → string_bytes text.new ≡ front }
 {
     text.truncate(text.len() - word.len() - 1);
 }
 
 /// Puts a name behind the text, as it would be written behind a dot.
 fn push_name(text: &mut String, name: &TypeName) -> Result<(), AllocError>
-    ensures { OnOk result (string_bytes text.new ≡ string_bytes text.old ++ resolves.written (resolves.reference name.now)) }
+    ensures { OnOk result (string_bytes text.new
+        ≡ string_bytes text.old ++ resolves.written (resolves.reference name.now)) }
 {
     push_word(text, name.path.first.text.as_str())?;
     for part in &name.path.more {
@@ -109,8 +112,8 @@ fn push_name(text: &mut String, name: &TypeName) -> Result<(), AllocError>
     Ok(())
 }
 
-/// The names of all files, in the order in which they were first declared, and the places among them of the message types
-/// and of the enums.
+/// The names of all files, in the order in which they were first declared, and the places among
+/// them of the message types and of the enums.
 #[derive(Debug, Drop)]
 pub(crate) struct Index {
     pub names: IndexMap<String, Named, TextKeys>,
@@ -121,7 +124,9 @@ pub(crate) struct Index {
 impl Index {
     /// What bears the name in the files that are seen.
     fn seen(&self, visible: Option<Visible<'_>>, full: &str) -> Option<(&str, &Named)>
-        ensures borne { option_map (λ f. (f.0.now, f.1.now.kind)) result ≡ resolves.borne (spec.names_seen self.now.names (spec.visible_of visible.entry)) full.now }
+        ensures borne { option_map (λ f. (f.0.now, f.1.now.kind)) result
+            ≡ resolves.borne (spec.names_seen self.now.names (spec.visible_of visible.entry))
+            full.now }
         ensures held { IfSome result (λ f. get_by_text self.now.names full.now ≡ Some f.1.now) }
     {
         let (name, named) = self.names.get_key_value(full)?;
@@ -134,7 +139,9 @@ impl Index {
 
     /// Whether the search for the first part of a name ends at this full name.
     fn ends(&self, visible: Option<Visible<'_>>, full: &str, parts: &[Name]) -> bool
-        ensures { result ≡ names.bears (spec.names_seen self.now.names (spec.visible_of visible.entry)) (resolves.sought_among (resolves.part_words parts.now)) full.now }
+        ensures { result ≡ names.bears
+            (spec.names_seen self.now.names (spec.visible_of visible.entry))
+            (resolves.sought_among (resolves.part_words parts.now)) full.now }
     {
         match self.seen(visible, full) {
             Some((_, named)) => ends_at(named.kind, parts),
@@ -172,7 +179,8 @@ impl Index {
         }
     }
 
-    /// The full name of the scope in which a name is looked up: it is that of no words where the name has a dot in front.
+    /// The full name of the scope in which a name is looked up: it is that of no words where the
+    /// name has a dot in front.
     fn scope_of(
         &self,
         alloc: Global,
@@ -180,7 +188,9 @@ impl Index {
         scope: &[&str],
         name: &TypeName,
     ) -> Result<Option<String>, AllocError>
-        ensures { IfOk result (λ outer. option_map (λ o. string_bytes o ++ resolves.written (resolves.reference name.now)) outer ≡ resolves.meant
+        ensures { IfOk result (λ outer. option_map
+            (λ o. string_bytes o ++ resolves.written (resolves.reference name.now)) outer
+            ≡ resolves.meant
             (spec.names_seen self.now.names (spec.visible_of visible.entry)) (spec.texts scope.now) (resolves.reference name.now)) }
     {
         if name.is_full {
@@ -198,9 +208,11 @@ impl Index {
         scope: &[&str],
         name: &TypeName,
     ) -> Result<Option<(&str, &Named)>, AllocError>
-        ensures found { IfOk result (λ f. option_map (λ f. (f.0.now, f.1.now.kind)) f ≡ resolves.found
+        ensures found { IfOk result (λ f. option_map (λ f. (f.0.now, f.1.now.kind)) f
+            ≡ resolves.found
             (spec.names_seen self.now.names (spec.visible_of visible.entry)) (spec.texts scope.now) (resolves.reference name.now)) }
-        ensures held { IfOk result (λ f. IfSome f (λ f. get_by_text self.now.names f.0.now ≡ Some f.1.now)) }
+        ensures held { IfOk result (λ f. IfSome f
+            (λ f. get_by_text self.now.names f.0.now ≡ Some f.1.now)) }
     {
         let Some(mut full) = self.scope_of(alloc, visible, scope, name)? else {
             return Ok(None);

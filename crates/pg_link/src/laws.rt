@@ -4,18 +4,20 @@ ghost use Rattle.pg_link.specs.Files.{SeenPathsAreSeen};
 ghost use Rattle.pg_link.specs.SmallFiles.{SmallFiles};
 ghost use Rattle.pg_link.specs.Standing.{NoneTwiceIsOnce};
 
-/// No name stands twice, as the names are looked at one by one, exactly where of any two that are one both are parts of
-/// packages.
+/// No name stands twice, as the names are looked at one by one, exactly where of any two that are
+/// one both are parts of packages.
 pub fn none_twice_is_once_per_name()
     ensures { NoneTwiceIsOnce }
 {}
 
-/// What names name on small files, which names small files declare and which they may not, and what map entries are called.
+/// What names name on small files, which names small files declare and which they may not, and what
+/// map entries are called.
 pub fn small_files()
     ensures { SmallFiles }
 {}
 
-/// Of files of which each stands before those that it imports, the paths that are computed are those that a file sees.
+/// Of files of which each stands before those that it imports, the paths that are computed are
+/// those that a file sees.
 pub fn seen_paths_are_seen()
     ensures { SeenPathsAreSeen }
 {}

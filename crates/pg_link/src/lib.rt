@@ -1,5 +1,5 @@
-//! The files of a schema and the names in them: the source that files are read from, the imports, and what a
-//! type name names.
+//! The files of a schema and the names in them: the source that files are read from, the imports,
+//! and what a type name names.
 #![tactic(auto)]
 
 mod below;

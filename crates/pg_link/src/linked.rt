@@ -15,8 +15,8 @@ use pg_syntax::tree::TypeName;
 use std::alloc::Global;
 use std::marker::Model;
 
-/// Files whose imports, names and uses are settled. Contracts see the files, each behind those that it imports, and
-/// for each what its uses of type names resolve to.
+/// Files whose imports, names and uses are settled. Contracts see the files, each behind those that
+/// it imports, and for each what its uses of type names resolve to.
 #[derive(Debug, Drop)]
 pub struct Linked {
     files: IndexMap<String, SourceFile>,
@@ -35,9 +35,13 @@ impl Model for Linked {
 
     ghost coded = { Prim.hlevel (codes, part.the_row.coded) };
 
-    ghost view = { λ l. record { files = l.files.entries; targets = map (λ ts. ts.items) l.targets.items } };
+    ghost view = { λ l. record {
+      files = l.files.entries;
+      targets = map (λ ts. ts.items) l.targets.items;
+    } };
 
-    ghost invariant = { λ l. IsSettled l.files.entries l.index (map (λ m. m.items) l.visible_files.items) (map (λ ts. ts.items) l.targets.items) };
+    ghost invariant = { λ l. IsSettled l.files.entries l.index
+        (map (λ m. m.items) l.visible_files.items) (map (λ ts. ts.items) l.targets.items) };
 }
 
 impl Linked {
@@ -79,13 +83,14 @@ impl Linked {
         &self.files
     }
 
-    /// What the uses of type names in a file resolve to, in the order of its text: the types of fields and of members of
-    /// oneofs, keys and values of maps, what rpcs take and return. Scalar words in fields and maps are no uses. The file is
-    /// given by its number.
+    /// What the uses of type names in a file resolve to, in the order of its text: the types of
+    /// fields and of members of oneofs, keys and values of maps, what rpcs take and return. Scalar
+    /// words in fields and maps are no uses. The file is given by its number.
     pub fn targets(&self, file: usize) -> &[Target]
         requires { file < length self.now.files }
         ensures targets { slice_get self.now.targets file ≡ Some result.now }
-        ensures resolved { (e : Entry) → slice_get self.now.files file ≡ Some e → map Some result.now ≡ file_targets self.now.files e }
+        ensures resolved { (e : Entry) → slice_get self.now.files file ≡ Some e
+            → map Some result.now ≡ file_targets self.now.files e }
     {
         &self.targets[file]
     }
@@ -100,7 +105,8 @@ impl Linked {
         }
     }
 
-    /// The full name that a name means in a scope of a file, with a dot in front, or why there is none.
+    /// The full name that a name means in a scope of a file, with a dot in front, or why there is
+    /// none.
     pub(crate) fn look_up(
         &self,
         alloc: Global,
@@ -110,9 +116,11 @@ impl Linked {
     ) -> Result<&str, Unresolved>
         requires { file < length self.now.files }
         ensures resolves { IfOk result (λ full. (e : Entry) → slice_get self.now.files file ≡ Some e
-            → Resolves (visible_names (outlines self.now.files) (path_of e)) (texts scope.now) (reference name.now) full.now) }
+            → Resolves (visible_names (outlines self.now.files) (path_of e)) (texts scope.now)
+            (reference name.now) full.now) }
         ensures refused { IfErr result (λ why. (e : Entry) → slice_get self.now.files file ≡ Some e
-            → Refuses (visible_names (outlines self.now.files) (path_of e)) (all_names (outlines self.now.files)) (texts scope.now) (reference name.now) why) }
+            → Refuses (visible_names (outlines self.now.files) (path_of e))
+            (all_names (outlines self.now.files)) (texts scope.now) (reference name.now) why) }
     {
         let visible = Visible {
             own: file,
@@ -123,7 +131,8 @@ impl Linked {
 
     /// Where a full name, given without its dot, is first declared.
     pub(crate) fn declared_at(&self, full_name: &str) -> Option<(&str, usize, usize)>
-        ensures place { IfSome result (λ p. IsDeclaredAt self.now.files full_name.now p.0.now p.1 p.2) }
+        ensures place { IfSome result
+            (λ p. IsDeclaredAt self.now.files full_name.now p.0.now p.1 p.2) }
         ensures absent { IfNone result (IsDeclaredNowhere self.now.files full_name.now) }
     {
         for number in 0..self.index.names.len() {

@@ -47,7 +47,8 @@ pub(crate) fn first_place<'a>(
     files: &'a IndexMap<String, SourceFile>,
     named: &Named,
 ) -> Option<(&'a str, usize, usize)>
-    ensures place { IfSome result (λ p. IsFirstPlace files.now.entries (files_of named.now) named.now.at p.0.now p.1 p.2) }
+    ensures place { IfSome result (λ p. IsFirstPlace files.now.entries
+        (files_of named.now) named.now.at p.0.now p.1 p.2) }
     ensures absent { IfNone result (HasFirst files.now.entries (files_of named.now) → ⊥) }
 {
     let (path, file) = files.get_index(named.file)?;
@@ -75,14 +76,16 @@ fn name_fault(alloc: Global, path: &str, why: Unresolved) -> LinkError
     }
 }
 
-/// What these uses resolve to, by the byte at which each begins; the first of those that begin at one.
+/// What these uses resolve to, by the byte at which each begins; the first of those that begin at
+/// one.
 fn by_place(
     alloc: Global,
     sites: &[Site<'_>],
     targets: &[Target],
 ) -> Result<BTreeMap<usize, Target>, AllocError>
     requires { length sites.now ≡ length targets.now }
-    ensures { IfOk result (λ found. (resolve : Resolution) → map Some targets.now ≡ map resolve (map use_of sites.now)
+    ensures { IfOk result (λ found. (resolve : Resolution)
+        → map Some targets.now ≡ map resolve (map use_of sites.now)
         → (at : ℕ) → get nat_cmp found at ≡ resolved_at resolve (map use_of sites.now) at) }
 {
     let mut found = BTreeMap::new(alloc);
@@ -95,8 +98,8 @@ fn by_place(
 }
 
 impl Linked {
-    /// What the uses of type names in a file resolve to, by the byte at which each name begins. The file is given by its
-    /// number. Fails only where memory is refused.
+    /// What the uses of type names in a file resolve to, by the byte at which each name begins. The
+    /// file is given by its number. Fails only where memory is refused.
     pub fn targets_by_place(
         &self,
         alloc: Global,
@@ -113,11 +116,12 @@ impl Linked {
         by_place(alloc, &sites, self.targets(file))
     }
 
-    /// The full name, without a dot in front, of the message type or enum that a name names in a scope of a file. The
-    /// file is given by its number, the scope by its words.
+    /// The full name, without a dot in front, of the message type or enum that a name names in a
+    /// scope of a file. The file is given by its number, the scope by its words.
     ///
-    /// E305 where nothing that is seen has what it names and no file has a type of that name, E306 where it names what is
-    /// neither, E307 where a file has such a type that this one doesn't see; line and column are 0.
+    /// E305 where nothing that is seen has what it names and no file has a type of that name, E306
+    /// where it names what is neither, E307 where a file has such a type that this one doesn't see;
+    /// line and column are 0.
     pub fn resolve(
         &self,
         alloc: Global,
@@ -127,9 +131,13 @@ impl Linked {
     ) -> Result<&str, LinkError>
         requires { file < length self.now.files }
         ensures resolves { IfOk result (λ full. (e : Entry) → slice_get self.now.files file ≡ Some e
-            → Resolves (visible_names (outlines self.now.files) (path_of e)) (texts scope.now) (reference name.now) (46 ∷ full.now)) }
-        ensures refused { IfErr result (λ error. (e : Entry) → slice_get self.now.files file ≡ Some e
-            → IsNoName (visible_names (outlines self.now.files) (path_of e)) (all_names (outlines self.now.files)) (texts scope.now) (reference name.now) (path_of e) error) }
+            → Resolves (visible_names (outlines self.now.files) (path_of e)) (texts scope.now)
+            (reference name.now) (46 ∷ full.now)) }
+        ensures refused { IfErr result
+            (λ error. (e : Entry) → slice_get self.now.files file ≡ Some e
+            → IsNoName (visible_names (outlines self.now.files) (path_of e))
+            (all_names (outlines self.now.files)) (texts scope.now) (reference name.now)
+            (path_of e) error) }
     {
         match self.look_up(alloc, file, scope, name) {
             Ok(full) => Ok(behind_dot(full)),
@@ -137,10 +145,12 @@ impl Linked {
         }
     }
 
-    /// The file, line and column of a word that declares a full name, which is given without a dot in front: a part of
-    /// packages may have several. `None` where no file declares it. It takes no memory, and goes by the names one by one.
+    /// The file, line and column of a word that declares a full name, which is given without a dot
+    /// in front: a part of packages may have several. `None` where no file declares it. It takes no
+    /// memory, and goes by the names one by one.
     pub fn place(&self, full_name: &str) -> Option<(&str, usize, usize)>
-        ensures place { IfSome result (λ p. IsDeclaredAt self.now.files full_name.now p.0.now p.1 p.2) }
+        ensures place { IfSome result
+            (λ p. IsDeclaredAt self.now.files full_name.now p.0.now p.1 p.2) }
         ensures absent { IfNone result (IsDeclaredNowhere self.now.files full_name.now) }
     {
         self.declared_at(full_name)

@@ -81,7 +81,8 @@ pub(crate) fn tree_of(alloc: Global, path: &str, text: &[u8]) -> Result<FileTree
     }
 }
 
-/// The place at which a path is asked for: the literal of the import, or the file as a whole where it is a root.
+/// The place at which a path is asked for: the literal of the import, or the file as a whole where
+/// it is a root.
 pub(crate) fn asked_at(
     alloc: Global,
     asking: Option<Asking<'_>>,
@@ -99,7 +100,8 @@ pub(crate) fn asked_at(
     }
 }
 
-/// The text of a file. Where the source fails, the place is the file as a whole, whoever asks for it.
+/// The text of a file. Where the source fails, the place is the file as a whole, whoever asks for
+/// it.
 pub(crate) fn text_of<S: Sources>(
     alloc: Global,
     source: &mut S,
@@ -107,15 +109,20 @@ pub(crate) fn text_of<S: Sources>(
     path: &str,
     asking: Option<Asking<'_>>,
 ) -> Result<Vec<u8>, LinkError>
-    ensures given { IfOk result (λ bytes. IsTrue (S.may_give source.old (path_below folder.now path.now) bytes.items)) }
-    ensures fault { IfErr result (spec.IsReadFault (S.may_lack source.old) folder.now asking.entry path.now) }
+    ensures given { IfOk result (λ bytes.
+        IsTrue (S.may_give source.old (path_below folder.now path.now) bytes.items)) }
+    ensures fault { IfErr result (spec.IsReadFault
+        (S.may_lack source.old) folder.now asking.entry path.now) }
     ensures counted { S.failures source.new ≡ S.failures source.old + spec.failures_of result }
-    ensures asked { OnOk result (S.reads source.new ≡ also (path_below folder.now path.now ∷ []) (S.reads source.old)) }
-    ensures asked_once { AtMostOne (path_below folder.now path.now) (S.reads source.old) (S.reads source.new) }
+    ensures asked { OnOk result (S.reads source.new
+        ≡ also (path_below folder.now path.now ∷ []) (S.reads source.old)) }
+    ensures asked_once { AtMostOne (path_below folder.now path.now) (S.reads source.old)
+        (S.reads source.new) }
     ensures same_given { S.may_give source.new ≡ S.may_give source.old }
     ensures same_lacked { S.may_lack source.new ≡ S.may_lack source.old }
 {
-    // Made before the read, so that a failure of the source is told even where no more memory is there.
+    // Made before the read, so that a failure of the source is told even where no more memory is
+    // there.
     let file = String::from_str(alloc, path)?;
     match read_below(alloc, source, folder, path) {
         Ok(bytes) => Ok(bytes),
@@ -129,12 +136,15 @@ pub(crate) fn text_of<S: Sources>(
     }
 }
 
-/// The bytes of the file `FOLDER/PATH`, or of `PATH` where the folder is `.`, as `link_below` reads a root.
+/// The bytes of the file `FOLDER/PATH`, or of `PATH` where the folder is `.`, as `link_below` reads
+/// a root.
 ///
 /// # Errors
 ///
-/// The source then stands as its reads left it, and its count of failures rose by one where it failed.
-/// - `LinkError::MissingFile` (E301), at the file as a whole (`PATH`, line 0, column 0), where the source doesn't have it.
+/// The source then stands as its reads left it, and its count of failures rose by one where it
+/// failed.
+/// - `LinkError::MissingFile` (E301), at the file as a whole (`PATH`, line 0, column 0), where the
+///   source doesn't have it.
 /// - `LinkError::SourceFailed` (E309), at the file as a whole, where the source failed.
 /// - `LinkError::Memory` (E001): no memory is left.
 pub fn read_file<S: Sources>(
@@ -143,11 +153,15 @@ pub fn read_file<S: Sources>(
     folder: &str,
     path: &str,
 ) -> Result<Vec<u8>, LinkError>
-    ensures given { IfOk result (λ bytes. IsTrue (S.may_give source.old (path_below folder.now path.now) bytes.items)) }
-    ensures fault { IfErr result (spec.IsReadFault (S.may_lack source.old) folder.now None path.now) }
+    ensures given { IfOk result (λ bytes.
+        IsTrue (S.may_give source.old (path_below folder.now path.now) bytes.items)) }
+    ensures fault { IfErr result (spec.IsReadFault
+        (S.may_lack source.old) folder.now None path.now) }
     ensures counted { S.failures source.new ≡ S.failures source.old + spec.failures_of result }
-    ensures asked { OnOk result (S.reads source.new ≡ also (path_below folder.now path.now ∷ []) (S.reads source.old)) }
-    ensures asked_once { AtMostOne (path_below folder.now path.now) (S.reads source.old) (S.reads source.new) }
+    ensures asked { OnOk result (S.reads source.new
+        ≡ also (path_below folder.now path.now ∷ []) (S.reads source.old)) }
+    ensures asked_once { AtMostOne (path_below folder.now path.now) (S.reads source.old)
+        (S.reads source.new) }
     ensures same_given { S.may_give source.new ≡ S.may_give source.old }
     ensures same_lacked { S.may_lack source.new ≡ S.may_lack source.old }
 {

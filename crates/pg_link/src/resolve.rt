@@ -33,8 +33,8 @@ impl From<AllocError> for Unresolved {
 }
 
 impl Index {
-    /// The full name of the message type or enum that a name names in a scope, by the names in the files that
-    /// are seen.
+    /// The full name of the message type or enum that a name names in a scope, by the names in the
+    /// files that are seen.
     pub(crate) fn resolve(
         &self,
         alloc: Global,
@@ -42,10 +42,16 @@ impl Index {
         scope: &[&str],
         name: &TypeName,
     ) -> Result<&str, Unresolved>
-        ensures resolves { IfOk result (λ full. Resolves (names_seen self.now.names (Some visible.entry.marks.now)) (texts scope.now) (reference name.now) full.now) }
+        ensures resolves { IfOk result
+            (λ full. Resolves (names_seen self.now.names (Some visible.entry.marks.now))
+            (texts scope.now) (reference name.now) full.now) }
         // Memory aside, a name is refused only where it resolves to none.
-        ensures refused { IfErr result (LeavesNone (names_seen self.now.names (Some visible.entry.marks.now)) (texts scope.now) (reference name.now)) }
-        ensures cause { IfErr result (Refuses (names_seen self.now.names (Some visible.entry.marks.now)) (names_seen self.now.names None) (texts scope.now) (reference name.now)) }
+        ensures refused { IfErr result
+            (LeavesNone (names_seen self.now.names (Some visible.entry.marks.now)) (texts scope.now)
+            (reference name.now)) }
+        ensures cause { IfErr result
+            (Refuses (names_seen self.now.names (Some visible.entry.marks.now))
+            (names_seen self.now.names None) (texts scope.now) (reference name.now)) }
     {
         match self.found(alloc, Some(visible), scope, name)? {
             Some((full, named)) => {

@@ -15,8 +15,8 @@ use crate::uses::Site;
 use pg_syntax::tree::TypeName;
 use std::alloc::Global;
 
-/// A message type or an enum, by its number: how many message types (enums) are declared before it, in all files in
-/// their order.
+/// A message type or an enum, by its number: how many message types (enums) are declared before it,
+/// in all files in their order.
 #[derive(Clone, Copy, Debug, PartialEq, Eq)]
 pub enum Target {
     Message(usize),
@@ -44,7 +44,8 @@ impl Index {
     /// Why a name isn't found in the files that are seen.
     pub(crate) fn unseen(&self, alloc: Global, scope: &[&str], name: &TypeName) -> Unresolved
         ensures { (visible : Names) → found visible (texts scope.now) (reference name.now) ≡ None
-            → Refuses visible (names_seen self.now.names None) (texts scope.now) (reference name.now) result }
+            → Refuses visible (names_seen self.now.names None) (texts scope.now)
+            (reference name.now) result }
     {
         match self.found(alloc, None, scope, name) {
             Ok(Some((_, named))) => {
@@ -67,8 +68,11 @@ impl Index {
         site: &Site<'_>,
     ) -> Result<Target, Unresolved>
         ensures target { IfOk result (λ target. (all : List Standing) → IsNumbered self.now all
-            → target_in (declared_in all) (names_seen self.now.names (Some visible.entry.marks.now)) (use_of site.now) ≡ Some target) }
-        ensures refused { IfErr result (RefusesUse (names_seen self.now.names (Some visible.entry.marks.now)) (names_seen self.now.names None) (use_of site.now)) }
+            → target_in (declared_in all) (names_seen self.now.names (Some visible.entry.marks.now))
+            (use_of site.now) ≡ Some target) }
+        ensures refused { IfErr result
+            (RefusesUse (names_seen self.now.names (Some visible.entry.marks.now))
+            (names_seen self.now.names None) (use_of site.now)) }
     {
         match self.found(alloc, Some(visible), &site.scope, site.name)? {
             Some((_, named)) => match target_of(named, site.takes_enums) {

@@ -40,10 +40,15 @@ fn targets_of(
     file: &SourceFile,
 ) -> Result<Vec<Target>, LinkError>
     ensures found { IfOk result (λ targets. (all : List Standing) → IsNumbered index.now all
-        → map Some targets.items ≡ map (target_in (declared_in all) (names_seen index.now.names (Some visible.entry.marks.now))) (file_uses file.now.tree)) }
+        → map Some targets.items ≡ map
+        (target_in (declared_in all) (names_seen index.now.names (Some visible.entry.marks.now)))
+        (file_uses file.now.tree)) }
     // The fault is that of the first use that resolves to nothing.
     ensures fault { IfErr result (λ e. (all : List Standing) → IsNumbered index.now all
-        → IsUseFault (target_in (declared_in all) (names_seen index.now.names (Some visible.entry.marks.now))) (names_seen index.now.names (Some visible.entry.marks.now)) (names_seen index.now.names None) path.now file.now.bytes.items file.now.tree e) }
+        → IsUseFault (target_in (declared_in all)
+        (names_seen index.now.names (Some visible.entry.marks.now)))
+        (names_seen index.now.names (Some visible.entry.marks.now))
+        (names_seen index.now.names None) path.now file.now.bytes.items file.now.tree e) }
 {
     let sites = uses_of(alloc, &file.tree)?;
     let mut targets = Vec::new(alloc);
@@ -68,9 +73,11 @@ pub(crate) fn all_targets(
 ) -> Result<Vec<Vec<Target>>, LinkError>
     requires lists { Lists index.now (all_standings files.now.entries) }
     requires once { NoneTwice (all_standings files.now.entries) }
-    requires visible_files { AreVisibleFiles files.now.entries (map (λ m. m.items) visible_files.now) }
+    requires visible_files { AreVisibleFiles files.now.entries
+        (map (λ m. m.items) visible_files.now) }
     requires same_length { length visible_files.now ≡ length files.now.entries }
-    ensures resolved { IfOk result (λ targets. map (map Some) (map (λ ts. ts.items) targets.items) ≡ map (file_targets files.now.entries) files.now.entries) }
+    ensures resolved { IfOk result (λ targets. map (map Some) (map (λ ts. ts.items) targets.items)
+        ≡ map (file_targets files.now.entries) files.now.entries) }
     // The fault is that of the first use that resolves to nothing, in the order of the files.
     ensures fault { IfErr result (IsUseFaultIn files.now.entries) }
 {

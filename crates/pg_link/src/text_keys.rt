@@ -5,8 +5,9 @@ use crate::walk::SourceFile;
 use indexmap::IndexMap;
 use std::hash::{BuildHasher, DefaultHasher, Hasher};
 
-/// Hashes each name behind the texts of all files. So names that collide can't be sought before the texts are written that
-/// hold them: another name makes other texts, and by these all names hash otherwise. No clause speaks of hashes.
+/// Hashes each name behind the texts of all files. So names that collide can't be sought before the
+/// texts are written that hold them: another name makes other texts, and by these all names hash
+/// otherwise. No clause speaks of hashes.
 #[derive(Clone, Copy, Debug)]
 pub(crate) struct TextKeys {
     texts: DefaultHasher,

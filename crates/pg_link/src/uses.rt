@@ -13,8 +13,8 @@ use pg_syntax::tree::{
 use std::alloc::{AllocError, Global};
 use std::rc::Rc;
 
-/// A type name that is used, with the words of its scope, which the uses in one scope share, and whether an enum may stand
-/// there.
+/// A type name that is used, with the words of its scope, which the uses in one scope share, and
+/// whether an enum may stand there.
 #[derive(Drop)]
 pub(crate) struct Site<'a> {
     pub scope: Rc<Vec<&'a str>>,
@@ -46,8 +46,9 @@ fn is_scalar_word(word: &str) -> bool
     }
 }
 
-/// Whether the type name of a field or map is one of the 15 scalar words. It then names no message type and no enum; with
-/// a dot in front or among them it always does (proto3 language guide, "Scalar Value Types").
+/// Whether the type name of a field or map is one of the 15 scalar words. It then names no message
+/// type and no enum; with a dot in front or among them it always does (proto3 language guide,
+/// "Scalar Value Types").
 pub(crate) fn is_scalar(name: &TypeName) -> bool
     ensures { result ≡ spec.is_scalar (reference name.now) }
 {
@@ -65,7 +66,8 @@ fn add_use<'a>(
     name: &'a TypeName,
     takes_enums: bool,
 ) -> Result<(), AllocError>
-    ensures { OnOk result (map use_of uses.new.items ≡ map use_of uses.old.items ++ spec.use_in (texts scope.now.value.items) takes_enums name.now ∷ []) }
+    ensures { OnOk result (map use_of uses.new.items ≡ map use_of uses.old.items
+        ++ spec.use_in (texts scope.now.value.items) takes_enums name.now ∷ []) }
 {
     let scope = scope.clone()?;
     uses.push(Site {
@@ -83,7 +85,8 @@ fn add_field<'a>(
     scope: &Rc<Vec<&'a str>>,
     name: &'a TypeName,
 ) -> Result<(), AllocError>
-    ensures { OnOk result (map use_of uses.new.items ≡ map use_of uses.old.items ++ spec.field_uses (texts scope.now.value.items) name.now) }
+    ensures { OnOk result (map use_of uses.new.items ≡ map use_of uses.old.items
+        ++ spec.field_uses (texts scope.now.value.items) name.now) }
 {
     if is_scalar(name) {
         return Ok(());
@@ -98,7 +101,8 @@ fn add_map<'a>(
     scope: &Rc<Vec<&'a str>>,
     field: &'a MapField,
 ) -> Result<(), AllocError>
-    ensures { OnOk result (map use_of uses.new.items ≡ map use_of uses.old.items ++ spec.map_uses (texts scope.now.value.items) field.now) }
+    ensures { OnOk result (map use_of uses.new.items ≡ map use_of uses.old.items
+        ++ spec.map_uses (texts scope.now.value.items) field.now) }
 {
     add_field(alloc, uses, scope, &*field.key)?;
     add_field(alloc, uses, scope, &field.value)
@@ -111,7 +115,8 @@ fn add_oneof_part<'a>(
     scope: &Rc<Vec<&'a str>>,
     part: &'a OneofPart,
 ) -> Result<(), AllocError>
-    ensures { OnOk result (map use_of uses.new.items ≡ map use_of uses.old.items ++ spec.oneof_part_uses (texts scope.now.value.items) part.now) }
+    ensures { OnOk result (map use_of uses.new.items ≡ map use_of uses.old.items
+        ++ spec.oneof_part_uses (texts scope.now.value.items) part.now) }
 {
     match part {
         OneofPart::Field(field) => add_field(alloc, uses, scope, &field.type_name),
@@ -128,7 +133,8 @@ fn add_oneof<'a>(
     scope: &Rc<Vec<&'a str>>,
     oneof: &'a Oneof,
 ) -> Result<(), AllocError>
-    ensures { OnOk result (map use_of uses.new.items ≡ map use_of uses.old.items ++ spec.oneof_uses (texts scope.now.value.items) oneof.now) }
+    ensures { OnOk result (map use_of uses.new.items ≡ map use_of uses.old.items
+        ++ spec.oneof_uses (texts scope.now.value.items) oneof.now) }
 {
     for part in &oneof.parts {
         add_oneof_part(alloc, uses, scope, part)?;
@@ -143,7 +149,8 @@ fn add_rpc<'a>(
     scope: &Rc<Vec<&'a str>>,
     rpc: &'a Rpc,
 ) -> Result<(), AllocError>
-    ensures { OnOk result (map use_of uses.new.items ≡ map use_of uses.old.items ++ spec.rpc_uses (texts scope.now.value.items) rpc.now) }
+    ensures { OnOk result (map use_of uses.new.items ≡ map use_of uses.old.items
+        ++ spec.rpc_uses (texts scope.now.value.items) rpc.now) }
 {
     add_use(alloc, uses, scope, &rpc.input.type_name, false)?;
     add_use(alloc, uses, scope, &rpc.output.type_name, false)
@@ -156,7 +163,8 @@ fn add_service_part<'a>(
     scope: &Rc<Vec<&'a str>>,
     part: &'a ServicePart,
 ) -> Result<(), AllocError>
-    ensures { OnOk result (map use_of uses.new.items ≡ map use_of uses.old.items ++ spec.service_part_uses (texts scope.now.value.items) part.now) }
+    ensures { OnOk result (map use_of uses.new.items ≡ map use_of uses.old.items
+        ++ spec.service_part_uses (texts scope.now.value.items) part.now) }
 {
     match part {
         ServicePart::Rpc(rpc) => add_rpc(alloc, uses, scope, rpc),
@@ -171,7 +179,8 @@ fn inner<'a>(
     scope: &Rc<Vec<&'a str>>,
     word: &'a str,
 ) -> Result<Rc<Vec<&'a str>>, AllocError>
-    ensures { IfOk result (λ inner. texts inner.value.items ≡ texts scope.now.value.items ++ word.now ∷ []) }
+    ensures { IfOk result (λ inner. texts inner.value.items ≡ texts scope.now.value.items
+        ++ word.now ∷ []) }
 {
     let mut words = Vec::from_slice(alloc, scope)?;
     words.push(word)?;
@@ -185,7 +194,8 @@ fn add_service_parts<'a>(
     scope: &Rc<Vec<&'a str>>,
     parts: &'a [ServicePart],
 ) -> Result<(), AllocError>
-    ensures { OnOk result (map use_of uses.new.items ≡ map use_of uses.old.items ++ flat_map (spec.service_part_uses (texts scope.now.value.items)) parts.now) }
+    ensures { OnOk result (map use_of uses.new.items ≡ map use_of uses.old.items
+        ++ flat_map (spec.service_part_uses (texts scope.now.value.items)) parts.now) }
 {
     for part in parts {
         add_service_part(alloc, uses, scope, part)?;
@@ -200,7 +210,8 @@ fn add_service<'a>(
     scope: &Rc<Vec<&'a str>>,
     service: &'a Service,
 ) -> Result<(), AllocError>
-    ensures { OnOk result (map use_of uses.new.items ≡ map use_of uses.old.items ++ spec.service_uses (texts scope.now.value.items) service.now) }
+    ensures { OnOk result (map use_of uses.new.items ≡ map use_of uses.old.items
+        ++ spec.service_uses (texts scope.now.value.items) service.now) }
 {
     let words = inner(alloc, scope, service.name.text.as_str())?;
     add_service_parts(alloc, uses, &words, &service.parts)
@@ -214,7 +225,8 @@ fn add_part<'a>(
     scope: &Rc<Vec<&'a str>>,
     part: &'a Part,
 ) -> Result<(), AllocError>
-    ensures { OnOk result (map use_of uses.new.items ≡ map use_of uses.old.items ++ spec.part_uses (texts scope.now.value.items) part.now) }
+    ensures { OnOk result (map use_of uses.new.items ≡ map use_of uses.old.items
+        ++ spec.part_uses (texts scope.now.value.items) part.now) }
 {
     match part {
         Part::Message(message) => {
@@ -239,7 +251,8 @@ fn add_parts<'a>(
     scope: &Rc<Vec<&'a str>>,
     parts: &'a [Part],
 ) -> Result<(), AllocError>
-    ensures { OnOk result (map use_of uses.new.items ≡ map use_of uses.old.items ++ flat_map (spec.part_uses (texts scope.now.value.items)) parts.now) }
+    ensures { OnOk result (map use_of uses.new.items ≡ map use_of uses.old.items
+        ++ flat_map (spec.part_uses (texts scope.now.value.items)) parts.now) }
 {
     for part in parts {
         add_part(alloc, uses, scope, part)?;
@@ -255,7 +268,8 @@ fn add_message<'a>(
     scope: &Rc<Vec<&'a str>>,
     message: &'a Message,
 ) -> Result<(), AllocError>
-    ensures { OnOk result (map use_of uses.new.items ≡ map use_of uses.old.items ++ spec.message_uses (texts scope.now.value.items) message.now) }
+    ensures { OnOk result (map use_of uses.new.items ≡ map use_of uses.old.items
+        ++ spec.message_uses (texts scope.now.value.items) message.now) }
 {
     let words = inner(alloc, scope, message.name.text.as_str())?;
     add_parts(alloc, uses, &words, &message.parts)
@@ -268,7 +282,8 @@ fn add_statement<'a>(
     scope: &Rc<Vec<&'a str>>,
     statement: &'a Statement,
 ) -> Result<(), AllocError>
-    ensures { OnOk result (map use_of uses.new.items ≡ map use_of uses.old.items ++ spec.statement_uses (texts scope.now.value.items) statement.now) }
+    ensures { OnOk result (map use_of uses.new.items ≡ map use_of uses.old.items
+        ++ spec.statement_uses (texts scope.now.value.items) statement.now) }
 {
     match statement {
         Statement::Message(message) => add_message(alloc, uses, scope, message),
@@ -287,7 +302,8 @@ fn add_statements<'a>(
     scope: &Rc<Vec<&'a str>>,
     statements: &'a [Statement],
 ) -> Result<(), AllocError>
-    ensures { OnOk result (map use_of uses.new.items ≡ map use_of uses.old.items ++ flat_map (spec.statement_uses (texts scope.now.value.items)) statements.now) }
+    ensures { OnOk result (map use_of uses.new.items ≡ map use_of uses.old.items
+        ++ flat_map (spec.statement_uses (texts scope.now.value.items)) statements.now) }
 {
     for statement in statements {
         add_statement(alloc, uses, scope, statement)?;
@@ -297,7 +313,8 @@ fn add_statements<'a>(
 
 /// The words of a package.
 fn words_of(alloc: Global, dotted: &Dotted) -> Result<Vec<&str>, AllocError>
-    ensures { IfOk result (λ words. texts words.items ≡ map (λ w. w.text) (outline.dotted_words dotted.now)) }
+    ensures { IfOk result (λ words. texts words.items
+        ≡ map (λ w. w.text) (outline.dotted_words dotted.now)) }
 {
     let mut words = Vec::new(alloc);
     words.push(dotted.first.text.as_str())?;

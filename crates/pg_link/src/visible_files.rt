@@ -15,7 +15,8 @@ use std::alloc::{AllocError, Global};
 fn mark_all(marks: &mut Vec<bool>, other: &[bool])
     requires { length marks.old.items ≡ length other.now }
     ensures same_length { length marks.new.items ≡ length marks.old.items }
-    ensures both { (k : ℕ) → get_or marks.new.items k false ≡ (get_or marks.old.items k false || get_or other.now k false) }
+    ensures both { (k : ℕ) → get_or marks.new.items k false
+        ≡ (get_or marks.old.items k false || get_or other.now k false) }
 {
     for index in 0..other.len() {
         marks[index] |= other[index];
@@ -37,7 +38,8 @@ fn one_mark(alloc: Global, count: usize, at: usize) -> Result<Vec<bool>, AllocEr
 fn number_of(files: &IndexMap<String, SourceFile>, count: usize, path: &str) -> usize
     requires { is_path_of (paths_of (outlines (take count files.now.entries))) path.now ≡ true }
     ensures before { result < count }
-    ensures file { (e : Entry) × (slice_get files.now.entries result ≡ Some e) × (path_of e ≡ path.now) }
+    ensures file { (e : Entry) × (slice_get files.now.entries result ≡ Some e)
+        × (path_of e ≡ path.now) }
 {
     files.get_index_of(path).unwrap_or(0)
 }
@@ -50,10 +52,13 @@ fn add_import(
     path: &str,
 )
     requires ready { spec.AreHanded files.now.entries (map (λ m. m.items) handed.now) }
-    requires there { is_path_of (paths_of (outlines (take (length handed.now) files.now.entries))) path.now ≡ true }
+    requires there { is_path_of (paths_of (outlines (take (length handed.now) files.now.entries)))
+        path.now ≡ true }
     requires same_length { length marks.old.items ≡ length files.now.entries }
     ensures same_length { length marks.new.items ≡ length marks.old.items }
-    ensures marked { (paths : List (List ℕ)) → spec.Marks files.now.entries paths marks.old.items → spec.Marks files.now.entries (paths ++ handed_on (outlines files.now.entries) path.now) marks.new.items }
+    ensures marked { (paths : List (List ℕ)) → spec.Marks files.now.entries paths marks.old.items
+        → spec.Marks files.now.entries (paths ++ handed_on (outlines files.now.entries) path.now)
+        marks.new.items }
 {
     let other = &handed[number_of(files, handed.len(), path)];
     mark_all(marks, other);
@@ -75,11 +80,14 @@ fn add_line(
     all: bool,
 )
     requires ready { spec.AreHanded files.now.entries (map (λ m. m.items) handed.now) }
-    requires there { is_path_of (paths_of (outlines (take (length handed.now) files.now.entries))) (line_of line.now).path ≡ true }
+    requires there { is_path_of (paths_of (outlines (take (length handed.now) files.now.entries)))
+        (line_of line.now).path ≡ true }
     requires same_length { length marks.old.items ≡ length files.now.entries }
     ensures same_length { length marks.new.items ≡ length marks.old.items }
     ensures marked { (paths : List (List ℕ)) → spec.Marks files.now.entries paths marks.old.items
-        → spec.Marks files.now.entries (paths ++ flat_map (handed_on (outlines files.now.entries)) (spec.taken all (line_of line.now ∷ []))) marks.new.items }
+        → spec.Marks files.now.entries
+        (paths ++ flat_map (handed_on (outlines files.now.entries))
+        (spec.taken all (line_of line.now ∷ []))) marks.new.items }
 {
     if !is_taken(line, all) {
         return;
@@ -96,11 +104,15 @@ fn add_imports(
     all: bool,
 )
     requires ready { spec.AreHanded files.now.entries (map (λ m. m.items) handed.now) }
-    requires there { All (λ l. is_path_of (paths_of (outlines (take (length handed.now) files.now.entries))) (line_of l).path ≡ true) lines.now }
+    requires there { All (λ l. is_path_of
+        (paths_of (outlines (take (length handed.now) files.now.entries))) (line_of l).path ≡ true)
+        lines.now }
     requires same_length { length marks.old.items ≡ length files.now.entries }
     ensures same_length { length marks.new.items ≡ length marks.old.items }
     ensures marked { (paths : List (List ℕ)) → spec.Marks files.now.entries paths marks.old.items
-        → spec.Marks files.now.entries (paths ++ flat_map (handed_on (outlines files.now.entries)) (spec.taken all (map line_of lines.now))) marks.new.items }
+        → spec.Marks files.now.entries
+        (paths ++ flat_map (handed_on (outlines files.now.entries))
+        (spec.taken all (map line_of lines.now))) marks.new.items }
 {
     for line in lines {
         add_line(files, handed, marks, line, all);
@@ -118,25 +130,33 @@ fn marks_of(
     requires ready { spec.AreHanded files.now.entries (map (λ m. m.items) handed.now) }
     requires within { length handed.now < length files.now.entries }
     requires apart { Differ (paths_of (outlines files.now.entries)) }
-    requires there { All (λ l. is_path_of (paths_of (outlines (take (length handed.now) files.now.entries))) (line_of l).path ≡ true) lines.now }
-    ensures { IfOk result (λ marks. (e : Entry) → slice_get files.now.entries (length handed.now) ≡ Some e
-        → spec.IsMask files.now.entries (path_of e ∷ flat_map (handed_on (outlines files.now.entries)) (spec.taken all (map line_of lines.now))) marks.items) }
+    requires there { All (λ l. is_path_of
+        (paths_of (outlines (take (length handed.now) files.now.entries))) (line_of l).path ≡ true)
+        lines.now }
+    ensures { IfOk result (λ marks. (e : Entry)
+        → slice_get files.now.entries (length handed.now) ≡ Some e
+        → spec.IsMask files.now.entries
+        (path_of e ∷ flat_map (handed_on (outlines files.now.entries))
+        (spec.taken all (map line_of lines.now))) marks.items) }
 {
     let mut marks = one_mark(alloc, files.len(), handed.len())?;
     add_imports(files, handed, &mut marks, lines, all);
     Ok(marks)
 }
 
-/// For each file, by its number, which files it sees: itself, its imports, and onwards by `import public`. `files` stand
-/// behind those that they import.
+/// For each file, by its number, which files it sees: itself, its imports, and onwards by `import
+/// public`. `files` stand behind those that they import.
 pub(crate) fn visible_files_of(
     alloc: Global,
     files: &IndexMap<String, SourceFile>,
 ) -> Result<Vec<Vec<bool>>, AllocError>
     requires in_order { InOrder (outlines files.now.entries) }
     requires apart { Differ (paths_of (outlines files.now.entries)) }
-    ensures same_length { IfOk result (λ visible_files. length visible_files.items ≡ length files.now.entries) }
-    ensures visible_files { IfOk result (λ visible_files. spec.AreVisibleFiles files.now.entries (map (λ m. m.items) visible_files.items)) }
+    ensures same_length { IfOk result
+        (λ visible_files. length visible_files.items ≡ length files.now.entries) }
+    ensures visible_files { IfOk result
+        (λ visible_files. spec.AreVisibleFiles files.now.entries
+        (map (λ m. m.items) visible_files.items)) }
 {
     let mut handed = Vec::new(alloc);
     let mut visible_files = Vec::new(alloc);

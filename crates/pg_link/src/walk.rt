@@ -45,7 +45,8 @@ impl Walk {
     /// Notes that the imports of a file are followed from here on.
     fn begin(&mut self, alloc: Global, path: &str) -> Result<(), LinkError>
         requires { is_path_of (spec.open_paths self.old) path.now ≡ false }
-        ensures opened { OnOk result (spec.open_paths self.new ≡ path.now ∷ spec.open_paths self.old) }
+        ensures opened { OnOk result
+            (spec.open_paths self.new ≡ path.now ∷ spec.open_paths self.old) }
         ensures same { OnOk result (spec.entries self.new ≡ spec.entries self.old) }
         ensures failure { IfErr result (λ e. e ≡ error.Memory) }
     {
@@ -56,9 +57,11 @@ impl Walk {
 
     /// Keeps a file whose imports were followed.
     fn end(&mut self, alloc: Global, path: &str, file: SourceFile) -> Result<(), LinkError>
-        ensures opened { OnOk result ((p : List ℕ) (ps : List (List ℕ)) → spec.open_paths self.old ≡ p ∷ ps → spec.open_paths self.new ≡ ps) }
+        ensures opened { OnOk result ((p : List ℕ) (ps : List (List ℕ))
+            → spec.open_paths self.old ≡ p ∷ ps → spec.open_paths self.new ≡ ps) }
         ensures comes { OnOk result (spec.ComesLast self.old self.new path.now file) }
-        ensures grows { OnOk result (length (spec.entries self.old) ≤ length (spec.entries self.new)) }
+        ensures grows { OnOk result (length (spec.entries self.old)
+            ≤ length (spec.entries self.new)) }
         ensures failure { IfErr result (λ e. e ≡ error.Memory) }
     {
         let path = String::from_str(alloc, path)?;
@@ -67,8 +70,8 @@ impl Walk {
         Ok(())
     }
 
-    /// Whether the next import may be followed: its path is none of those before it in the file, and none whose
-    /// imports are still followed.
+    /// Whether the next import may be followed: its path is none of those before it in the file,
+    /// and none whose imports are still followed.
     fn check(
         &self,
         alloc: Global,
@@ -77,9 +80,13 @@ impl Walk {
         path: &str,
     ) -> Result<(), LinkError>
         ensures closed { OnOk result (is_path_of (spec.open_paths self.now) path.now ≡ false) }
-        ensures first { OnOk result (is_path_of (map string_bytes before.old.keys) path.now ≡ false) }
-        ensures noted { OnOk result (map string_bytes before.new.keys ≡ map string_bytes before.old.keys ++ path.now ∷ []) }
-        ensures fault { IfErr result (spec.IsImportFault (spec.open_paths self.now) (map string_bytes before.old.keys) asking.entry path.now) }
+        ensures first { OnOk result (is_path_of (map string_bytes before.old.keys) path.now
+            ≡ false) }
+        ensures noted { OnOk result (map string_bytes before.new.keys
+            ≡ map string_bytes before.old.keys ++ path.now ∷ []) }
+        ensures fault { IfErr result
+            (spec.IsImportFault (spec.open_paths self.now)
+            (map string_bytes before.old.keys) asking.entry path.now) }
     {
         let seen = String::from_str(alloc, path)?;
         if !before.insert(seen)? {
@@ -104,9 +111,17 @@ fn visit<S: Sources>(
     walk: &mut Walk,
 ) -> Result<(), LinkError>
     requires { is_path_of (spec.open_paths walk.old) path.now ≡ false }
-    ensures sound { OnOk result ((roots : List (List ℕ)) → spec.Follows (spec.world (S.may_give source.old) (S.may_lack source.old) folder.now roots) walk.old asking.entry path.now → spec.IsSound (spec.world (S.may_give source.old) (S.may_lack source.old) folder.now roots) (spec.open_paths walk.old) (spec.entries walk.new)) }
+    ensures sound { OnOk result ((roots : List (List ℕ))
+        → spec.Follows (spec.world (S.may_give source.old) (S.may_lack source.old) folder.now roots)
+        walk.old asking.entry path.now
+        → spec.IsSound (spec.world (S.may_give source.old) (S.may_lack source.old) folder.now roots)
+        (spec.open_paths walk.old) (spec.entries walk.new)) }
     // Each refusal comes only where what it names is there, at its place.
-    ensures refused { IfErr result (λ e. (roots : List (List ℕ)) → spec.Follows (spec.world (S.may_give source.old) (S.may_lack source.old) folder.now roots) walk.old asking.entry path.now → spec.Refuses (spec.world (S.may_give source.old) (S.may_lack source.old) folder.now roots) e) }
+    ensures refused { IfErr result (λ e. (roots : List (List ℕ))
+        → spec.Follows (spec.world (S.may_give source.old) (S.may_lack source.old) folder.now roots)
+        walk.old asking.entry path.now
+        → spec.Refuses (spec.world (S.may_give source.old) (S.may_lack source.old) folder.now roots)
+        e) }
     ensures opened { OnOk result (spec.open_paths walk.new ≡ spec.open_paths walk.old) }
     ensures has { OnOk result (spec.has_path walk.new path.now ≡ true) }
     ensures kept { OnOk result (spec.Keeps walk.old walk.new) }
@@ -116,7 +131,8 @@ fn visit<S: Sources>(
     ensures grows { OnOk result (length (spec.entries walk.old) ≤ length (spec.entries walk.new)) }
     // Whatever is answered, the source was asked for no path twice, and for none that was begun.
     ensures reads_new { ReadsNew folder.now (S.reads source.old) (S.reads source.new) walk.old }
-    ensures reads_all { OnOk result (ReadsAll folder.now (S.reads source.old) (S.reads source.new) walk.old walk.new) }
+    ensures reads_all { OnOk result (ReadsAll folder.now (S.reads source.old)
+        (S.reads source.new) walk.old walk.new) }
     ensures counted { S.failures source.new ≡ S.failures source.old + spec.failures_of result }
     ensures same_given { S.may_give source.new ≡ S.may_give source.old }
     ensures same_lacked { S.may_lack source.new ≡ S.may_lack source.old }
@@ -149,26 +165,34 @@ fn visit<S: Sources>(
     Ok(())
 }
 
-/// Reads the roots below the folder, and all that they import, each path once. Imports are followed depth first,
-/// in the order of their statements; a file's own text is looked at before its imports. The files stand in the order
-/// in which their imports were done with: each behind those that it imports.
+/// Reads the roots below the folder, and all that they import, each path once. Imports are followed
+/// depth first, in the order of their statements; a file's own text is looked at before its
+/// imports. The files stand in the order in which their imports were done with: each behind those
+/// that it imports.
 ///
-/// E301 to E303, E308 and E309 are answered, and the faults of the texts, at the place at which `LinkError` has them.
+/// E301 to E303, E308 and E309 are answered, and the faults of the texts, at the place at which
+/// `LinkError` has them.
 pub(crate) fn follow_imports<S: Sources>(
     alloc: Global,
     source: &mut S,
     folder: &str,
     roots: &[&str],
 ) -> Result<Walk, LinkError>
-    // Each text that is kept is one that the source may give for its path, each tree is that of its text, each root and
-    // import is among the files, each path once, and no other is; no file imports one twice, none is on a circle, and
-    // 1,024 is the most.
-    ensures linked { IfOk result (λ walk. spec.IsLinked (spec.world (S.may_give source.old) (S.may_lack source.old) folder.now (texts roots.now)) (spec.entries walk)) }
+    // Each text that is kept is one that the source may give for its path, each tree is that of its
+    // text, each root and import is among the files, each path once, and no other is; no file
+    // imports one twice, none is on a circle, and 1,024 is the most.
+    ensures linked { IfOk result (λ walk.
+        spec.IsLinked (spec.world (S.may_give source.old) (S.may_lack source.old) folder.now
+        (texts roots.now)) (spec.entries walk)) }
     // Each refusal comes only where what it names is there, at its place.
-    ensures refused { IfErr result (spec.Refuses (spec.world (S.may_give source.old) (S.may_lack source.old) folder.now (texts roots.now))) }
-    // Whatever is answered, the source was asked for no path twice; and where all is read, for just the paths of the files.
+    ensures refused { IfErr result (spec.Refuses
+        (spec.world (S.may_give source.old) (S.may_lack source.old) folder.now (texts roots.now))) }
+    // Whatever is answered, the source was asked for no path twice; and where all is read, for just
+    // the paths of the files.
     ensures reads_apart { ReadsApart (S.reads source.old) (S.reads source.new) }
-    ensures reads_each { IfOk result (λ walk. ReadsEach folder.now (S.reads source.old) (S.reads source.new) (spec.entries walk)) }
+    ensures reads_each { IfOk result
+        (λ walk. ReadsEach folder.now (S.reads source.old) (S.reads source.new)
+        (spec.entries walk)) }
     // A failure of the source is told as one, and nothing else is.
     ensures counted { S.failures source.new ≡ S.failures source.old + spec.failures_of result }
     ensures same_given { S.may_give source.new ≡ S.may_give source.old }

@@ -86,7 +86,8 @@ fn push_oneof_names(
     oneofs: &[String],
 ) -> Result<(), AllocError>
     ensures { OnOk result (map string_bytes names.new.items
-        ≡ map string_bytes names.old.items ++ map (within scope.now) (map string_bytes oneofs.now)) }
+        ≡ map string_bytes names.old.items
+        ++ map (within scope.now) (map string_bytes oneofs.now)) }
 {
     for oneof in oneofs {
         names.push(within(alloc, scope, oneof)?)?;
@@ -155,7 +156,8 @@ fn push_values_of(
     id: EnumId,
 ) -> Result<(), AllocError>
     ensures { OnOk result (map string_bytes names.new.items
-        ≡ map string_bytes names.old.items ++ map (within scope.now) (values_of (slice_get enums.now id.index))) }
+        ≡ map string_bytes names.old.items
+        ++ map (within scope.now) (values_of (slice_get enums.now id.index))) }
 {
     match enums.get(id.index as usize) {
         Some(enum_type) => push_value_names(alloc, names, scope, &enum_type.values),
@@ -172,7 +174,8 @@ fn push_values_at(
     ids: &[EnumId],
 ) -> Result<(), AllocError>
     ensures { OnOk result (map string_bytes names.new.items
-        ≡ map string_bytes names.old.items ++ map (within scope.now) (values_at enums.now ids.now)) }
+        ≡ map string_bytes names.old.items
+        ++ map (within scope.now) (values_at enums.now ids.now)) }
 {
     for id in ids {
         push_values_of(alloc, names, scope, enums, *id)?;
@@ -232,7 +235,8 @@ fn push_all_type_names(
 /// Puts the full names of the enums behind the others.
 fn push_enum_names(names: &mut Vec<String>, enums: &[EnumType]) -> Result<(), AllocError>
     ensures { OnOk result (map string_bytes names.new.items
-        ≡ map string_bytes names.old.items ++ map (λ (e : EnumType). string_bytes e.name) enums.now) }
+        ≡ map string_bytes names.old.items
+        ++ map (λ (e : EnumType). string_bytes e.name) enums.now) }
 {
     for enum_type in enums {
         names.push(enum_type.name.clone()?)?;

@@ -257,7 +257,8 @@ pub(crate) fn are_message_types(
     message_types: &[MessageType],
     enums: usize,
 ) -> Result<bool, AllocError>
-    ensures { IfOk result (λ b. b ≡ list_all (is_message_type (length message_types.now) enums) message_types.now) }
+    ensures { IfOk result (λ b. b ≡ list_all
+        (is_message_type (length message_types.now) enums) message_types.now) }
 {
     for message_type in message_types {
         if !is_message_type(alloc, message_type, message_types.len(), enums)? {

@@ -31,7 +31,8 @@ fn push_byte(text: &mut String, byte: u8) -> Result<(), AllocError>
 /// No part of the package is in the set.
 fn is_free(alloc: Global, set: &BTreeSet<String>, path: &[u8]) -> Result<bool, AllocError>
     requires { list_all is_ascii path.now ≡ true }
-    ensures { IfOk result (λ b. (names : List (List ℕ)) → IsSetOf names set.now → b ≡ is_free_of names path.now) }
+    ensures { IfOk result (λ b. (names : List (List ℕ)) → IsSetOf names set.now
+        → b ≡ is_free_of names path.now) }
 {
     let mut front = String::new(alloc);
     for byte in path {
@@ -50,7 +51,8 @@ pub(crate) fn are_free(
     files: &[File],
 ) -> Result<bool, AllocError>
     requires { list_all is_file files.now ≡ true }
-    ensures { IfOk result (λ b. (names : List (List ℕ)) → IsSetOf names set.now → b ≡ are_free_of names files.now) }
+    ensures { IfOk result (λ b. (names : List (List ℕ)) → IsSetOf names set.now
+        → b ≡ are_free_of names files.now) }
 {
     for file in files {
         if !is_free(alloc, set, file.package.as_bytes())? {

@@ -15,7 +15,8 @@ pub(crate) fn set_of(
     alloc: Global,
     texts: &[String],
 ) -> Result<Option<BTreeSet<String>>, AllocError>
-    ensures distinct { IfOk result (λ set. is_some set ≡ are_distinct (map string_bytes texts.now)) }
+    ensures distinct { IfOk result (λ set. is_some set
+        ≡ are_distinct (map string_bytes texts.now)) }
     ensures held { IfOk result (λ found. IfSome found (IsSetOf (map string_bytes texts.now))) }
 {
     let mut set = BTreeSet::new(alloc);
@@ -30,7 +31,8 @@ pub(crate) fn set_of(
 
 /// None of the texts is in the set.
 pub(crate) fn holds_none(set: &BTreeSet<String>, texts: &[String]) -> bool
-    ensures { result ≡ list_all (λ text. not (contains_text set.now (string_bytes text))) texts.now }
+    ensures { result ≡ list_all (λ text. not (contains_text set.now (string_bytes text)))
+        texts.now }
 {
     for text in texts {
         if set.contains(text.as_str()) {
@@ -46,7 +48,8 @@ pub(crate) fn are_named_once(
     names: &[String],
     reserved: &[String],
 ) -> Result<bool, AllocError>
-    ensures { IfOk result (λ b. b ≡ are_named_once (map string_bytes names.now) (map string_bytes reserved.now)) }
+    ensures { IfOk result (λ b. b ≡ are_named_once (map string_bytes names.now)
+        (map string_bytes reserved.now)) }
 {
     match set_of(alloc, names)? {
         Some(set) => Ok(holds_none(&set, reserved)),

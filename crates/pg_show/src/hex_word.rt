@@ -8,13 +8,14 @@ use crate::error::HexError;
 use hex::FromHexError;
 use std::alloc::{AllocError, Global};
 
-/// The bytes of a word of hexadecimal digits: two digits a byte, in either case. `-` and the empty word are no
-/// bytes.
+/// The bytes of a word of hexadecimal digits: two digits a byte, in either case. `-` and the empty
+/// word are no bytes.
 ///
 /// The errors are `BadHex`, for an odd number of digits or another character, and `Memory`.
 pub fn bytes_of_hex(alloc: Global, word: &str) -> Result<Vec<u8>, HexError>
     ensures bytes { IfOk result (λ bytes. spec.bytes_in word.now ≡ Some bytes.items) }
-    ensures refused { IfErr result (λ e. (e ≡ Memory) ⊎ ((e ≡ BadHex) × (spec.bytes_in word.now ≡ None))) }
+    ensures refused { IfErr result (λ e. (e ≡ Memory)
+        ⊎ ((e ≡ BadHex) × (spec.bytes_in word.now ≡ None))) }
 {
     if word == "-" {
         return Ok(Vec::new(alloc));

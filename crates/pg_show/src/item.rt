@@ -56,7 +56,8 @@ fn push_int(text: &mut String, number: i128) -> Result<(), AllocError>
 
 // Adds bytes as digits alone.
 fn push_digits(alloc: Global, text: &mut String, bytes: &[u8]) -> Result<(), AllocError>
-    ensures { OnOk result (string_bytes text.new ≡ string_bytes text.old ++ encode_lower bytes.now) }
+    ensures { OnOk result (string_bytes text.new
+        ≡ string_bytes text.old ++ encode_lower bytes.now) }
 {
     text.push_str(hex::encode(alloc, bytes)?.as_str())
 }
@@ -68,7 +69,8 @@ pub(crate) fn push_item(
     element: Element,
     value: &Value,
 ) -> Result<(), AllocError>
-    ensures { OnOk result (string_bytes text.new ≡ string_bytes text.old ++ spec.item element (leaf_of value.now)) }
+    ensures { OnOk result (string_bytes text.new
+        ≡ string_bytes text.old ++ spec.item element (leaf_of value.now)) }
 {
     match value {
         Value::Int(number) => {
@@ -96,7 +98,8 @@ pub(crate) fn push_key(
     text: &mut String,
     key: Option<&Value>,
 ) -> Result<(), AllocError>
-    ensures { OnOk result (string_bytes text.new ≡ string_bytes text.old ++ spec.key_words (option_map leaf_of (option_copied key.entry))) }
+    ensures { OnOk result (string_bytes text.new
+        ≡ string_bytes text.old ++ spec.key_words (option_map leaf_of (option_copied key.entry))) }
 {
     let Some(key) = key else {
         return Ok(());

@@ -67,7 +67,9 @@ fn further_in(alloc: Global, indent: &str) -> Result<String, AllocError>
 
 // Adds the front of a line, up to the item.
 fn push_front(text: &mut String, row: &Row<'_>, key: Option<&Value>) -> Result<(), AllocError>
-    ensures { OnOk result (string_bytes text.new ≡ string_bytes text.old ++ front row.now.indent.now row.now.number row.now.name.now (option_map leaf_of (option_copied key.entry))) }
+    ensures { OnOk result (string_bytes text.new
+        ≡ string_bytes text.old ++ front row.now.indent.now row.now.number row.now.name.now
+        (option_map leaf_of (option_copied key.entry))) }
 {
     let mut buffer = Buffer::new();
     text.push_str(row.indent)?;
@@ -85,7 +87,8 @@ fn push_unknown(
     indent: &str,
     unknown: &[UnknownRecord],
 ) -> Result<(), AllocError>
-    ensures { OnOk result (string_bytes text.new ≡ string_bytes text.old ++ flat_map (record_line indent.now) unknown.now) }
+    ensures { OnOk result (string_bytes text.new
+        ≡ string_bytes text.old ++ flat_map (record_line indent.now) unknown.now) }
 {
     for found in unknown {
         text.push_str(indent)?;
@@ -104,7 +107,9 @@ fn push_value(
     key: Option<&Value>,
     value: &Value,
 ) -> Result<(), AllocError>
-    ensures { OnOk result (string_bytes text.new ≡ string_bytes text.old ++ value_lines row.now.schema.now row.now.indent.now row.now.number row.now.name.now row.now.element (option_map leaf_of (option_copied key.entry)) value.now) }
+    ensures { OnOk result (string_bytes text.new
+        ≡ string_bytes text.old ++ value_lines row.now.schema.now row.now.indent.now row.now.number
+        row.now.name.now row.now.element (option_map leaf_of (option_copied key.entry)) value.now) }
 {
     push_front(text, row, key)?;
     match value {
@@ -129,7 +134,10 @@ fn push_value(
 // Adds the lines of the items of a list.
 #[cycle(lines)]
 fn push_list(text: &mut String, row: &Row<'_>, values: &[Value]) -> Result<(), AllocError>
-    ensures { OnOk result (string_bytes text.new ≡ string_bytes text.old ++ flat_map (value_lines row.now.schema.now row.now.indent.now row.now.number row.now.name.now row.now.element None) values.now) }
+    ensures { OnOk result (string_bytes text.new
+        ≡ string_bytes text.old ++ flat_map
+        (value_lines row.now.schema.now row.now.indent.now row.now.number row.now.name.now
+        row.now.element None) values.now) }
 {
     for value in values {
         push_value(text, row, None, value)?;
@@ -144,7 +152,10 @@ fn push_entries(
     row: &Row<'_>,
     entries: &[(Value, Value)],
 ) -> Result<(), AllocError>
-    ensures { OnOk result (string_bytes text.new ≡ string_bytes text.old ++ flat_map (entry_lines row.now.schema.now row.now.indent.now row.now.number row.now.name.now row.now.element) entries.now) }
+    ensures { OnOk result (string_bytes text.new
+        ≡ string_bytes text.old ++ flat_map
+        (entry_lines row.now.schema.now row.now.indent.now row.now.number row.now.name.now
+        row.now.element) entries.now) }
 {
     for (key, value) in entries {
         push_value(text, row, Some(key), value)?;
@@ -160,7 +171,9 @@ fn push_content(
     number: u32,
     content: &Content,
 ) -> Result<(), AllocError>
-    ensures { OnOk result (string_bytes text.new ≡ string_bytes text.old ++ content_lines level.now.schema.now level.now.type_id level.now.indent.now (number, content.now)) }
+    ensures { OnOk result (string_bytes text.new
+        ≡ string_bytes text.old ++ content_lines level.now.schema.now level.now.type_id
+        level.now.indent.now (number, content.now)) }
 {
     let row = Row {
         alloc: level.alloc,
@@ -177,15 +190,17 @@ fn push_content(
     }
 }
 
-/// Adds the lines of a message: of each field by rising number, of the messages inside further in, and then of
-/// the unknown records.
+/// Adds the lines of a message: of each field by rising number, of the messages inside further in,
+/// and then of the unknown records.
 #[cycle(lines)]
 pub(crate) fn push_message(
     text: &mut String,
     level: &Level<'_>,
     message: &Message,
 ) -> Result<(), AllocError>
-    ensures { OnOk result (string_bytes text.new ≡ string_bytes text.old ++ message_lines level.now.schema.now level.now.type_id level.now.indent.now message.now) }
+    ensures { OnOk result (string_bytes text.new
+        ≡ string_bytes text.old ++ message_lines level.now.schema.now level.now.type_id
+        level.now.indent.now message.now) }
 {
     for (number, content) in message.contents() {
         push_content(text, level, *number, content)?;

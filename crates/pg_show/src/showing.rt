@@ -24,17 +24,18 @@ fn push_again(alloc: Global, text: &mut String, bytes: &[u8]) -> Result<(), Allo
     text.push_str("\n")
 }
 
-/// The message that bytes are read as, by the type, which the schema has, as text: a line for each item, by rising
-/// number and in a map by rising key; of a message inside its own lines, two spaces further in; the unknown
-/// records; and at the end the message's encoding.
+/// The message that bytes are read as, by the type, which the schema has, as text: a line for each
+/// item, by rising number and in a map by rising key; of a message inside its own lines, two spaces
+/// further in; the unknown records; and at the end the message's encoding.
 ///
-/// A line is `NUMBER NAME ITEM`, in a map `NUMBER NAME key ITEM value ITEM`. `ITEM` is `int` and the number in
-/// decimal (a bool is 0 or 1, an enum's value its number), `f32` and `f64` with the bits as a number of 8 and 16
-/// hexadecimal digits, `text` and `bytes` with their bytes, or `msg`. The other lines are `unknown` with all bytes
-/// of a record, and `again` with the encoding. Bytes are two digits each, in lower case, and no bytes are `-`.
+/// A line is `NUMBER NAME ITEM`, in a map `NUMBER NAME key ITEM value ITEM`. `ITEM` is `int` and
+/// the number in decimal (a bool is 0 or 1, an enum's value its number), `f32` and `f64` with the
+/// bits as a number of 8 and 16 hexadecimal digits, `text` and `bytes` with their bytes, or `msg`.
+/// The other lines are `unknown` with all bytes of a record, and `again` with the encoding. Bytes
+/// are two digits each, in lower case, and no bytes are `-`.
 ///
-/// The errors are those of `decode`, with the limit of 100 levels; `TooLong`, only where the message's encoding has
-/// more than 2,147,483,647 bytes; and `Memory`.
+/// The errors are those of `decode`, with the limit of 100 levels; `TooLong`, only where the
+/// message's encoding has more than 2,147,483,647 bytes; and `Memory`.
 pub fn show(
     alloc: Global,
     schema: &Schema,
@@ -42,8 +43,11 @@ pub fn show(
     bytes: &[u8],
 ) -> Result<String, DynError>
     requires type_id { type_id.index < length (shape_of schema.now) }
-    ensures text { IfOk result (λ text. Shows (names_of schema.now) (shape_of schema.now) type_id bytes.now (string_bytes text)) }
-    ensures within { OnOk result ((place : ℕ) → TooDeepIn (shape_of schema.now) most_levels (fields (shape_of schema.now) type_id) bytes.now place → ⊥) }
+    ensures text { IfOk result (λ text. Shows (names_of schema.now)
+        (shape_of schema.now) type_id bytes.now (string_bytes text)) }
+    ensures within { OnOk result ((place : ℕ)
+        → TooDeepIn (shape_of schema.now) most_levels
+        (fields (shape_of schema.now) type_id) bytes.now place → ⊥) }
     ensures refused { IfErr result (Refuses (shape_of schema.now) type_id bytes.now) }
 {
     let message = decode(alloc, schema, type_id, bytes, MOST_LEVELS)?;

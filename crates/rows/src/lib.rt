@@ -1,4 +1,5 @@
-//! What the programs that answer rows share: how a row is cut into its parts, and how it spells bytes.
+//! What the programs that answer rows share: how a row is cut into its parts, and how it spells
+//! bytes.
 #![tactic(auto)]
 
 mod files;
@@ -11,7 +12,8 @@ pub use repeats::{number_of, unrolled};
 pub use spelled::{bytes_of, spelling};
 pub use texts::{text_of, with_word};
 
-/// The part of a row in front of the first ` | `, and what stands behind it: nothing where there is none.
+/// The part of a row in front of the first ` | `, and what stands behind it: nothing where there is
+/// none.
 pub fn cut(row: &str) -> (&str, &str) {
     row.split_once(" | ").unwrap_or((row, ""))
 }

@@ -34,8 +34,8 @@ fn put_piece(alloc: Global, out: &mut String, piece: &str) -> Result<(), AllocEr
     out.push_str(behind)
 }
 
-/// The row with each `<<FROM TO TEXT>>` in it replaced by the text once for each number from `FROM` up to `TO`, without `TO`, each `#`
-/// in the text being the number.
+/// The row with each `<<FROM TO TEXT>>` in it replaced by the text once for each number from `FROM`
+/// up to `TO`, without `TO`, each `#` in the text being the number.
 pub fn unrolled(alloc: Global, row: &str) -> Result<String, AllocError> {
     let (front, rest) = row.split_once("<<").unwrap_or((row, ""));
     let mut out = String::from_str(alloc, front)?;

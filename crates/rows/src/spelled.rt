@@ -22,8 +22,9 @@ fn escaped(behind: &[u8]) -> (u8, usize) {
     }
 }
 
-/// The bytes that the text spells: `\n`, `\r` and `\t` as in Rust, `\x` with two lower case digits for any byte, and a backslash before
-/// any other byte for that byte. So what `escape_ascii` prints of bytes spells them again.
+/// The bytes that the text spells: `\n`, `\r` and `\t` as in Rust, `\x` with two lower case digits
+/// for any byte, and a backslash before any other byte for that byte. So what `escape_ascii` prints
+/// of bytes spells them again.
 pub fn bytes_of(alloc: Global, text: &str) -> Result<Vec<u8>, AllocError> {
     let mut bytes = Vec::new(alloc);
     let mut skip = 0;
@@ -43,7 +44,8 @@ pub fn bytes_of(alloc: Global, text: &str) -> Result<Vec<u8>, AllocError> {
     Ok(bytes)
 }
 
-/// The spelling of bytes: what is no printable ASCII character is escaped, and so are quotes and backslashes.
+/// The spelling of bytes: what is no printable ASCII character is escaped, and so are quotes and
+/// backslashes.
 pub fn spelling(alloc: Global, bytes: &[u8]) -> Result<String, AllocError> {
     format!(in alloc; "{}", bytes.escape_ascii())
 }

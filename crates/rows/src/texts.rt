@@ -2,7 +2,8 @@
 use crate::spelled::bytes_of;
 use std::alloc::{AllocError, Global};
 
-/// The bytes of a file that the text spells: a `~` at its head stands for the line `syntax = "proto3";`.
+/// The bytes of a file that the text spells: a `~` at its head stands for the line `syntax =
+/// "proto3";`.
 pub fn text_of(alloc: Global, spelled: &str) -> Result<Vec<u8>, AllocError> {
     match spelled.strip_prefix('~') {
         Some(behind) => bytes_of(

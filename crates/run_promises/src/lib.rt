@@ -1,5 +1,6 @@
-//! The promises of `pg_gate::run`, said again of calls of it: the edits of `must-fail` turn each answer, and every one must be refused.
-//! Clauses that no edit here turns, such as what a source's reads leave, aren't said again.
+//! The promises of `pg_gate::run`, said again of calls of it: the edits of `must-fail` turn each
+//! answer, and every one must be refused. Clauses that no edit here turns, such as what a source's
+//! reads leave, aren't said again.
 #![tactic(auto)]
 
 ghost use Rattle.std.specs.Prelude.{◌≡◌, ◌≢◌, None, IfOk};

@@ -1,4 +1,5 @@
-//! The promises of `pg_schema`, said again of calls of it: the edits of `must-fail` turn each answer, and every one must be refused.
+//! The promises of `pg_schema`, said again of calls of it: the edits of `must-fail` turn each
+//! answer, and every one must be refused.
 #![tactic(auto)]
 
 ghost use Rattle.std.specs.Prelude.{◌≡◌, ◌<◌, ◌↔◌, Some, length, map, option_map, IsTrue, IfOk, IfErr, IfSome, OnOk};
@@ -49,7 +50,8 @@ pub fn has(schema: &Schema, id: TypeId) -> bool
 
 /// What `Schema::message` answers.
 pub fn message(schema: &Schema, name: &str) -> Option<TypeId>
-    ensures { (id : TypeId) → (result ≡ Some id) ↔ (name_at schema.now.types.items id ≡ Some name.now) }
+    ensures { (id : TypeId) → (result ≡ Some id)
+        ↔ (name_at schema.now.types.items id ≡ Some name.now) }
 {
     schema.message(name)
 }
@@ -57,7 +59,8 @@ pub fn message(schema: &Schema, name: &str) -> Option<TypeId>
 /// What `Schema::message_type` answers.
 pub fn message_type(schema: &Schema, id: TypeId) -> Option<&MessageType>
     ensures exact { option_copied result ≡ type_at schema.now id }
-    ensures fields { IfSome result (λ t. map field_shape t.now.fields.items ≡ fields (shape_of schema.now) id) }
+    ensures fields { IfSome result (λ t. map field_shape t.now.fields.items
+        ≡ fields (shape_of schema.now) id) }
 {
     schema.message_type(id)
 }
@@ -72,7 +75,8 @@ pub fn enum_type(schema: &Schema, id: EnumId) -> Option<&EnumType>
 /// What `Schema::field` answers.
 pub fn field(schema: &Schema, id: TypeId, number: u32) -> Option<&Field>
     ensures exact { option_copied result ≡ field_of schema.now id number }
-    ensures shape { option_map field_shape (option_copied result) ≡ field_at (fields (shape_of schema.now) id) number }
+    ensures shape { option_map field_shape (option_copied result)
+        ≡ field_at (fields (shape_of schema.now) id) number }
 {
     schema.field(id, number)
 }

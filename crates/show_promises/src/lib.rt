@@ -1,4 +1,5 @@
-//! The promises of `pg_show`, said again of calls of it: the edits of `must-fail` turn each answer, and every one must be refused.
+//! The promises of `pg_show`, said again of calls of it: the edits of `must-fail` turn each answer,
+//! and every one must be refused.
 #![tactic(auto)]
 
 ghost use Rattle.std.specs.Prelude.{◌≡◌, ◌<◌, ◌⊎◌, ℕ, length, None, Some, IfErr, IfOk, OnOk, string_bytes};
@@ -22,8 +23,11 @@ pub fn show(
     bytes: &[u8],
 ) -> Result<String, DynError>
     requires type_id { type_id.index < length (shape_of schema.now) }
-    ensures text { IfOk result (λ text. Shows (names_of schema.now) (shape_of schema.now) type_id bytes.now (string_bytes text)) }
-    ensures within { OnOk result ((place : ℕ) → TooDeepIn (shape_of schema.now) most_levels (fields (shape_of schema.now) type_id) bytes.now place → ⊥) }
+    ensures text { IfOk result (λ text. Shows (names_of schema.now)
+        (shape_of schema.now) type_id bytes.now (string_bytes text)) }
+    ensures within { OnOk result ((place : ℕ)
+        → TooDeepIn (shape_of schema.now) most_levels
+        (fields (shape_of schema.now) type_id) bytes.now place → ⊥) }
     ensures refused { IfErr result (Refuses (shape_of schema.now) type_id bytes.now) }
 {
     pg_show::show(alloc, schema, type_id, bytes)
@@ -32,7 +36,8 @@ pub fn show(
 /// What `bytes_of_hex` answers.
 pub fn bytes_of_hex(alloc: Global, word: &str) -> Result<Vec<u8>, HexError>
     ensures bytes { IfOk result (λ bytes. spec.bytes_in word.now ≡ Some bytes.items) }
-    ensures refused { IfErr result (λ e. (e ≡ Memory) ⊎ ((e ≡ BadHex) × (spec.bytes_in word.now ≡ None))) }
+    ensures refused { IfErr result (λ e. (e ≡ Memory)
+        ⊎ ((e ≡ BadHex) × (spec.bytes_in word.now ≡ None))) }
 {
     pg_show::bytes_of_hex(alloc, word)
 }
