@@ -1,62 +1,17 @@
 //! The calls of the gate by themselves, beside the runs of the program.
 use pg_gate::{Answer, GateError, Side, gate, gate_files};
 use pg_link::Listed;
-use pg_schema::{
-    Element, Field, FieldOptions, File, MessageOptions, MessageType, Parts, PartsError, Presence,
-    Scalar, Schema, TypeId,
-};
+use pg_schema::Schema;
 use std::alloc::{AllocError, Global};
 use std::process::Abort;
 use std::test::Fail;
+use tiny_schemas::schema;
 
-/// The parts that `message M { SCALAR a = 1; }` declares.
-fn parts_of(alloc: Global, scalar: Scalar) -> Result<Parts, AllocError> {
-    let field = Field {
-        number: 1,
-        name: String::from_str(alloc, "a")?,
-        presence: Presence::Implicit,
-        element: Element::Scalar(scalar),
-        oneof: None,
-        json_name: String::from_str(alloc, "a")?,
-        states_optional: false,
-        options: FieldOptions {
-            packed: None,
-            deprecated: None,
-        },
-    };
-    let message_type = MessageType {
-        name: String::from_str(alloc, "M")?,
-        fields: vec![in alloc; field]?,
-        declared: vec![in alloc; 1]?,
-        oneofs: Vec::new(alloc),
-        nested_types: Vec::new(alloc),
-        nested_enums: Vec::new(alloc),
-        reserved_numbers: Vec::new(alloc),
-        reserved_names: Vec::new(alloc),
-        options: MessageOptions { deprecated: None },
-    };
-    let file = File {
-        name: String::from_str(alloc, "m.proto")?,
-        package: String::new(alloc),
-        imports: Vec::new(alloc),
-        types: vec![in alloc; TypeId { index: 0 }]?,
-        enums: Vec::new(alloc),
-        services: Vec::new(alloc),
-        options: Vec::new(alloc),
-    };
-    Ok(Parts {
-        files: vec![in alloc; file]?,
-        types: vec![in alloc; message_type]?,
-        enums: Vec::new(alloc),
-        services: Vec::new(alloc),
-    })
-}
-
-fn schema_of(alloc: Global, scalar: Scalar) -> Result<Schema, Fail> {
-    match Schema::from_parts(alloc, parts_of(alloc, scalar)?) {
-        Ok(schema) => Ok(schema),
-        Err((PartsError::Memory, _)) => Err(Fail::from(AllocError)),
-        Err((PartsError::Invariant, _)) => Err(Fail::from("the parts make no schema")),
+/// The schema that the line says.
+fn schema_of(alloc: Global, line: &str) -> Result<Schema, Fail> {
+    match schema(alloc, line)? {
+        Some(schema) => Ok(schema),
+        None => Err(Fail::from("the line says no schema")),
     }
 }
 
@@ -85,11 +40,15 @@ static MINUS_ONE: [u8; 11] = [
     0x08, 0xff, 0xff, 0xff, 0xff, 0xff, 0xff, 0xff, 0xff, 0xff, 0x01,
 ];
 
-/// The answer on schemas of a field of these types.
+const SIGNED: &str = "M: int32 a=1";
+
+const UNSIGNED: &str = "M: uint32 a=1";
+
+/// The answer on the schemas that these lines say.
 fn answer_of(
     alloc: Global,
-    old: Scalar,
-    new: Scalar,
+    old: &str,
+    new: &str,
     root: &str,
 ) -> Result<Result<Answer, GateError>, Fail> {
     let old = schema_of(alloc, old)?;
@@ -100,16 +59,16 @@ fn answer_of(
 #[test]
 fn a_gate_answers_one_of_two(rt: HostRuntime) -> Result<(), Fail> {
     let alloc = rt.alloc();
-    let breaking = answer_of(alloc, Scalar::Int32, Scalar::Uint32, "M")?;
+    let breaking = answer_of(alloc, SIGNED, UNSIGNED, "M")?;
     assert!(rt; breaks(&breaking, &MINUS_ONE));
-    let same = answer_of(alloc, Scalar::Int32, Scalar::Int32, "M")?;
+    let same = answer_of(alloc, SIGNED, SIGNED, "M")?;
     assert!(rt; is_compatible(&same));
     Ok(())
 }
 
 #[test]
 fn a_gate_refuses_a_missing_root(rt: HostRuntime) -> Result<(), Fail> {
-    let missing = answer_of(rt.alloc(), Scalar::Int32, Scalar::Uint32, "N")?;
+    let missing = answer_of(rt.alloc(), SIGNED, UNSIGNED, "N")?;
     assert!(rt; matches!(missing, Err(GateError::RootMissingOld)));
     Ok(())
 }

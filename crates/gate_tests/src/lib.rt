@@ -1,11 +1,15 @@
 //! Sources and sinks that fail or go slowly, the runs of the program over them, and the calls of
-//! the gate by themselves.
+//! the gate by themselves. All of it stands in tests: what a library of its own held would be
+//! proved twice.
 #![tactic(auto)]
 
 #[cfg(test)]
 mod call_tests;
+#[cfg(test)]
 mod failing_sink;
+#[cfg(test)]
 mod failing_source;
+#[cfg(test)]
 mod one_byte;
 #[cfg(test)]
 mod runs;
@@ -14,6 +18,9 @@ mod sink_tests;
 #[cfg(test)]
 mod source_tests;
 
-pub use failing_sink::FailingSink;
-pub use failing_source::FailingSource;
-pub use one_byte::OneByte;
+#[cfg(test)]
+use failing_sink::FailingSink;
+#[cfg(test)]
+use failing_source::FailingSource;
+#[cfg(test)]
+use one_byte::OneByte;
