@@ -6,28 +6,28 @@ use thiserror::Error;
 #[derive(Clone, Copy, Debug, PartialEq, Eq, Drop, Error)]
 pub enum CertError {
     /// E001: memory was refused.
-    #[error("out of memory")]
+    #[error("Out of memory.")]
     Memory,
     /// E801: the bytes are no certificate's text for these schemas.
-    #[error("no certificate of these schemas")]
+    #[error("The text is not a certificate of these schemas.")]
     BadText,
     /// E802: the table lacks the root.
-    #[error("no bound of the root")]
+    #[error("The certificate has no bound for the root.")]
     RootMissing,
     /// E803: the table lacks this child of a pair that it has.
-    #[error("no bound of a child")]
+    #[error("The certificate has no bound for a child of a pair.")]
     PairMissing { pair: Pair },
     /// E804: a message that breaks by the case at the number is shorter than the pair's bound says.
-    #[error("a bound too high at field {number}, case {case}")]
+    #[error("The bound is too high: a shorter message breaks at field {number} by case {case}.")]
     BoundTooHigh { pair: Pair, number: u32, case: u8 },
     /// E805: no message of the old root without unknown records encodes to the witness.
-    #[error("a witness that the old writer never writes")]
+    #[error("The old writer never writes the witness.")]
     WitnessNotWritten,
     /// E806: the witness has not as many bytes as the root's bound says.
-    #[error("a witness of another length than the bound")]
+    #[error("The length of the witness is not the bound of the root.")]
     WitnessLength,
     /// E807: the witness doesn't break.
-    #[error("a witness that is kept")]
+    #[error("The witness does not break.")]
     WitnessKeeps,
 }
 

@@ -13,52 +13,52 @@ use thiserror::Error;
 #[derive(Debug, PartialEq, Eq, Drop, Error)]
 pub enum CheckError {
     /// E401: the number of a field, a value or a reserved item is none that may stand.
-    #[error("the number may not stand")]
+    #[error("The number of the field, value or reserved item is out of range.")]
     BadNumber(Place),
     /// E402: a field has the number of another.
-    #[error("the field number is used twice")]
+    #[error("The field number has already been used in this message.")]
     DuplicateNumber(Place),
     /// E403: a field or value has a reserved number.
-    #[error("the number is reserved")]
+    #[error("The number is reserved.")]
     ReservedNumber(Place),
     /// E404: a field or value has a reserved name.
-    #[error("the name is reserved")]
+    #[error("The name is reserved.")]
     ReservedName(Place),
     /// E405: a reserved range falls, or has a number of another.
-    #[error("the reserved range falls or overlaps another")]
+    #[error("The reserved range ends before it begins, or overlaps another.")]
     RangeOverlap(Place),
     /// E406: two fields of a message have one JSON name.
-    #[error("the JSON name is used twice")]
+    #[error("The JSON name of the field conflicts with that of another field.")]
     JsonNameClash(Place),
     /// E407: a map's key is of no integral type, bool or string.
-    #[error("the type may not be a map's key")]
+    #[error("Keys of map fields cannot be float, double, bytes, message or enum types.")]
     BadMapKey(Place),
     /// E408: a oneof has no member, or one that is a map, `repeated` or `optional`.
-    #[error("the oneof has no member, or one that may not be")]
+    #[error("A oneof must have at least one field, and none that is a map, repeated or optional.")]
     BadOneofMember(Place),
     /// E409: an enum's first value isn't 0.
-    #[error("the first value is not 0")]
+    #[error("The first enum value must be zero in proto3.")]
     EnumFirstNotZero(Place),
     /// E410: two values have one number without `allow_alias`.
-    #[error("the value's number is used twice")]
+    #[error("The number is used by another value of the enum, which does not set allow_alias.")]
     EnumAlias(Place),
     /// E411: an option is unknown, of a wrong kind, or given twice.
-    #[error("the option is unknown, of a wrong kind, or given twice")]
+    #[error("The option is unknown, has a value of the wrong kind, or was already set.")]
     BadOption(Place),
     /// E412: `packed = true` stands on a field that can't be packed.
-    #[error("the field can't be packed")]
+    #[error("[packed = true] can only be specified for repeated primitive fields.")]
     PackedNotAllowed(Place),
     /// E413: there are more than 4,096 message types.
-    #[error("more than 4,096 message types")]
+    #[error("There are more than 4,096 message types.")]
     TooManyTypes(Place),
     /// E414: an enum has no value.
-    #[error("the enum has no value")]
+    #[error("Enums must contain at least one value.")]
     EnumEmpty(Place),
     /// E415: the parts break a rule of schemas that none of the others names.
-    #[error("the parts make no schema")]
+    #[error("The parts make no schema.")]
     BadParts(Place),
     /// E001: a growth was refused. It may come in place of any other.
-    #[error("out of memory")]
+    #[error("Out of memory.")]
     Memory,
 }
 

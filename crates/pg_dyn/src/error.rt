@@ -6,32 +6,32 @@ use thiserror::Error;
 #[derive(Clone, Copy, Debug, PartialEq, Eq, Drop, Error)]
 pub enum DynError {
     /// E001: memory was refused.
-    #[error("out of memory")]
+    #[error("Out of memory.")]
     Memory,
     /// E601: the message type has no field of the number.
-    #[error("no such field")]
+    #[error("The message type has no such field.")]
     NoSuchField,
     /// E602: a content isn't of its field's kind, or holds a message that isn't one of its type.
-    #[error("an item of a wrong kind")]
+    #[error("The item is of the wrong kind.")]
     WrongKind,
     /// E603: an integer is out of the range of its field's type.
-    #[error("a number out of range")]
+    #[error("The number is out of range.")]
     OutOfRange,
     /// E604: the bytes of a text aren't UTF-8. In bytes that are read, `at` is the first byte of the record that
     /// holds the text; of contents that are set, the length of the longest front of the text that is UTF-8.
-    #[error("a text that isn't UTF-8")]
+    #[error("The string is not UTF-8.")]
     NotUtf8 { at: usize },
     /// E605: two contents are of one field, or of two members of one oneof.
-    #[error("two members of a oneof, or a field twice")]
+    #[error("A field or a oneof is set twice.")]
     OneofTwice,
     /// E606: two entries of a map have one key.
-    #[error("a key twice")]
+    #[error("The map has a key twice.")]
     DuplicateKey,
     /// E607: the encoding has more than 2,147,483,647 bytes.
-    #[error("an encoding of more than 2147483647 bytes")]
+    #[error("The encoding has more than 2,147,483,647 bytes.")]
     TooLong,
     /// E608: a message stands deeper than the limit; `at` is the first byte of its record, and 0 for the root.
-    #[error("a message nested too deep at byte {at}")]
+    #[error("The message at byte {at} is nested too deep.")]
     TooDeep { at: usize },
     /// E501 to E505: the bytes aren't those of records.
     #[error(transparent)]

@@ -9,20 +9,20 @@ use thiserror::Error;
 #[derive(Debug, PartialEq, Eq, Drop, Error)]
 pub enum FdsError {
     /// E001: memory was refused.
-    #[error("out of memory")]
+    #[error("Out of memory.")]
     Memory,
     /// E701: what the codec of messages refuses, with its own code.
     #[error(transparent)]
     Bytes(DynError),
     /// E702: a file of the set isn't proto3.
-    #[error("a file isn't proto3")]
+    #[error("A file of the set is not proto3.")]
     NotProto3,
     /// E703: a field has no type, or a code of a type or a label that isn't taken.
-    #[error("a type or label that isn't taken")]
+    #[error("A field of the set has an unsupported type or label.")]
     BadType,
     /// E704: an import or a name isn't in the set, stands twice or is of another kind, imports go round, a
     /// place is none, or an `optional` field or an entry type hasn't its form.
-    #[error("a bad reference in the set")]
+    #[error("The set has an invalid reference.")]
     BadReference,
     /// E705: what the set declares breaks a rule of the language, by the rule's error at no place.
     #[error(transparent)]

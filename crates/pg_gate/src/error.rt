@@ -35,24 +35,24 @@ pub enum Fault {
 #[derive(Debug, PartialEq, Eq, Drop, Error)]
 pub enum GateError {
     /// E001: memory was refused.
-    #[error("out of memory")]
+    #[error("Out of memory.")]
     Memory,
     /// E901: the old schema has no message type of the root's name.
-    #[error("the old schema has no such message type")]
+    #[error("The old schema has no such message type.")]
     RootMissingOld,
     /// E902: the new schema has none.
-    #[error("the new schema has no such message type")]
+    #[error("The new schema has no such message type.")]
     RootMissingNew,
     /// E903: a side does not compile. Of files that are compiled by themselves the side is the old
     /// one.
-    #[error("the {0} side does not compile: {1}")]
+    #[error("The {0} side does not compile: {1}")]
     Compile(Side, Fault),
     /// E904: the sink failed.
-    #[error("the output could not be written")]
+    #[error("The output could not be written.")]
     WriteFailed,
     /// E905: a word that stands for bytes has an odd number of hexadecimal digits, or another
     /// character.
-    #[error("no hexadecimal digits, two a byte")]
+    #[error("The word is not pairs of hexadecimal digits.")]
     BadHex,
 }
 

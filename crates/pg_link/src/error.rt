@@ -30,34 +30,34 @@ pub fn place_in(alloc: Global, file: &str, text: &[u8], at: usize) -> Result<Pla
 #[derive(Debug, PartialEq, Eq, Drop, Error)]
 pub enum LinkError {
     /// E301: there is no file of a path, at the literal of its import or for a root as a whole.
-    #[error("there is no such file")]
+    #[error("The file was not found.")]
     MissingFile(Place),
     /// E302: a file imports itself, if only by way of others. At the import that closes the circle.
-    #[error("the file imports itself, if only by way of others")]
+    #[error("The file recursively imports itself.")]
     ImportCycle(Place),
     /// E303: a file imports one path twice. At the second import.
-    #[error("the file imports one path twice")]
+    #[error("The import was listed twice.")]
     DuplicateImport(Place),
     /// E304: a name stands twice, and not both times as a part of a package. At the later of the
     /// two.
-    #[error("the name is declared twice")]
+    #[error("The name is already defined.")]
     DuplicateName(Place),
     /// E305: a type's name that names nothing in its scope, in whichever files.
-    #[error("the name is unknown")]
+    #[error("The type is not defined.")]
     UnknownName(Place),
     /// E306: a name of what is neither a message type nor an enum, or of an enum where an rpc takes
     /// or returns it.
-    #[error("the name is neither a message type nor an enum")]
+    #[error("The name is not a type.")]
     NotAType(Place),
     /// E307: a name of a type in a file that isn't imported.
-    #[error("the name stands in a file that isn't imported")]
+    #[error("The type is defined in a file that is not imported.")]
     NotImported(Place),
     /// E308: more than 1,024 files. At the import of the first beyond, or for a root the file's
     /// name alone.
-    #[error("more than 1,024 files")]
+    #[error("There are more than 1,024 files.")]
     TooManyFiles(Place),
     /// E309: the source failed to give the file.
-    #[error("the file could not be read")]
+    #[error("The file could not be read.")]
     SourceFailed(Place),
     /// E101 to E108: a text has no tokens.
     #[error("{0}")]
@@ -66,7 +66,7 @@ pub enum LinkError {
     #[error("{0}")]
     Syntax(SyntaxError, Place),
     /// E001: a growth was refused. It may come in place of any other.
-    #[error("out of memory")]
+    #[error("Out of memory.")]
     Memory,
 }
 

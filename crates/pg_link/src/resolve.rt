@@ -12,13 +12,13 @@ use thiserror::Error;
 /// Why a name doesn't resolve.
 #[derive(Clone, Copy, Debug, PartialEq, Eq, Error)]
 pub(crate) enum Unresolved {
-    #[error("the name is unknown")]
+    #[error("The type is not defined.")]
     UnknownName,
-    #[error("the name is neither a message type nor an enum")]
+    #[error("The name is not a type.")]
     NotAType,
-    #[error("the name stands in a file that isn't imported")]
+    #[error("The type is defined in a file that is not imported.")]
     NotImported,
-    #[error("out of memory")]
+    #[error("Out of memory.")]
     Memory,
 }
 

@@ -5,9 +5,9 @@ use thiserror::Error;
 #[derive(Clone, Copy, Debug, PartialEq, Eq, Drop, Error)]
 pub enum HexError {
     /// E001: memory was refused.
-    #[error("out of memory")]
+    #[error("Out of memory.")]
     Memory,
     /// E905: the word has an odd number of digits, or another character.
-    #[error("no hexadecimal digits, two a byte")]
+    #[error("The word is not pairs of hexadecimal digits.")]
     BadHex,
 }
