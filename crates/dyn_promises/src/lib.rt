@@ -2,11 +2,13 @@
 #![tactic(auto)]
 
 pub mod borrowed;
+mod errors;
 mod messages;
 mod reading;
 mod words;
 mod writing;
 
+pub use errors::{at, code};
 pub use messages::{contents, empty, fits, get, is_plain, put, set, type_id, unknown, whole};
 pub use reading::{decode, decode_unlimited};
 pub use words::{complement_64, element_wire_type};

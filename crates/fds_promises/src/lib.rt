@@ -6,6 +6,7 @@ ghost use Rattle.std.specs.Prelude.{◌≡◌, ◌⊎◌, IfErr, IfOk};
 ghost use Rattle.pg_schema.specs.Parts.{shape_of};
 ghost use Rattle.pg_dyn.specs.declared.error.DynError.TheVariants as faults;
 ghost use Rattle.pg_fds.specs.declared.error.FdsError.TheVariants as errors;
+ghost use Rattle.pg_fds.specs.Codes as codes;
 ghost use Rattle.pg_fds.specs.Descriptor.{descriptor_shape};
 ghost use Rattle.pg_fds.specs.DescriptorParts.{descriptor_parts};
 ghost use Rattle.pg_fds.specs.Set.{fds};
@@ -20,6 +21,20 @@ use std::alloc::{AllocError, Global};
 /// The first place where the part stands, or the start. Only edits ask for it.
 pub fn place_of(bytes: &[u8], part: &[u8]) -> usize {
     memmem::find(bytes, part).unwrap_or(0)
+}
+
+/// What `FdsError::code` answers.
+pub fn code(error: &FdsError) -> u16
+    ensures { result ≡ codes.code_of error.now }
+{
+    error.code()
+}
+
+/// What `FdsError::at` answers.
+pub fn at(error: &FdsError) -> Option<usize>
+    ensures { result ≡ codes.place_of error.now }
+{
+    error.at()
 }
 
 /// What `descriptor_schema` answers.

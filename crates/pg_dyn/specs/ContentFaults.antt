@@ -8,6 +8,7 @@ use Rattle.pg_schema.specs.declared.field.Element.TheVariants as elements
 use Rattle.pg_schema.specs.declared.field.Presence.{Presence}
 use Rattle.pg_schema.specs.declared.field.Presence.TheVariants as presences
 use Rattle.pg_schema.specs.Shape.{Shape, FieldShape, fields, field_at}
+use Rattle.pg_wire.specs.Codes.{code_of as wire_code}
 use Rattle.pg_dyn.specs.declared.error.DynError.{DynError}
 use Rattle.pg_dyn.specs.declared.error.DynError.TheVariants as errors
 use Rattle.pg_dyn.specs.declared.message.Content.{Content}
@@ -117,7 +118,7 @@ code errors.OneofTwice = 605
 code errors.DuplicateKey = 606
 code errors.TooLong = 607
 code (errors.TooDeep at) = 608
-code (errors.Wire e) = 609
+code (errors.Wire e) = wire_code e
 
 -- of what is wrong, the error has the lowest code
 abbrev pub IsLowest : (DynError → Type 0) → DynError → Type 0

@@ -41,9 +41,10 @@ pub enum DynError {
 impl DynError {
     ghost use Rattle.std.specs.Prelude.{◌≡◌};
     ghost use Rattle.pg_dyn.specs.ContentFaults.{code};
+    ghost use Rattle.pg_dyn.specs.Places.{place_of};
 
-    // The number after the E by which users know the error.
-    pub(crate) fn code(self) -> u16
+    /// The number behind the E by which users know the error.
+    pub fn code(self) -> u16
         ensures { result ≡ code self }
     {
         match self {
@@ -56,7 +57,24 @@ impl DynError {
             DynError::DuplicateKey => 606,
             DynError::TooLong => 607,
             DynError::TooDeep { .. } => 608,
-            DynError::Wire(_) => 609,
+            DynError::Wire(error) => error.code(),
+        }
+    }
+
+    /// The byte that the error names, if it names one.
+    pub fn at(self) -> Option<usize>
+        ensures { result ≡ place_of self }
+    {
+        match self {
+            DynError::NotUtf8 { at } | DynError::TooDeep { at } => Some(at),
+            DynError::Wire(error) => Some(error.at()),
+            DynError::Memory
+            | DynError::NoSuchField
+            | DynError::WrongKind
+            | DynError::OutOfRange
+            | DynError::OneofTwice
+            | DynError::DuplicateKey
+            | DynError::TooLong => None,
         }
     }
 }

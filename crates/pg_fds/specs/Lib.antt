@@ -41,3 +41,4 @@ pub mod PlaceExamples
 pub mod SetOrder
 pub mod SetOrderLaws
 pub mod TextOrder
+pub mod Codes

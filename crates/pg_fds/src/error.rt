@@ -29,6 +29,40 @@ pub enum FdsError {
     Rule(CheckError),
 }
 
+impl FdsError {
+    ghost use Rattle.std.specs.Prelude.{◌≡◌};
+    ghost use Rattle.pg_fds.specs.Codes.{code_of, place_of};
+
+    /// The number behind the E by which users know the error: of the bytes of a set, and of a rule
+    /// that it breaks, the one that says what is wrong there.
+    pub fn code(&self) -> u16
+        ensures { result ≡ code_of self.now }
+    {
+        match self {
+            FdsError::Memory => 1,
+            FdsError::Bytes(error) => error.code(),
+            FdsError::NotProto3 => 702,
+            FdsError::BadType => 703,
+            FdsError::BadReference => 704,
+            FdsError::Rule(error) => error.code(),
+        }
+    }
+
+    /// The byte of the set that the error names, if it names one.
+    pub fn at(&self) -> Option<usize>
+        ensures { result ≡ place_of self.now }
+    {
+        match self {
+            FdsError::Bytes(error) => error.at(),
+            FdsError::Memory
+            | FdsError::NotProto3
+            | FdsError::BadType
+            | FdsError::BadReference
+            | FdsError::Rule(_) => None,
+        }
+    }
+}
+
 impl<T: Drop> From<AllocFailed<T>> for FdsError {
     ghost use Rattle.std.specs.Prelude.{◌≡◌};
     ghost use Rattle.pg_fds.specs.declared.error.FdsError.TheVariants.{Memory};

@@ -2,15 +2,14 @@
 use Rattle.std.specs.Prelude.{ℕ, Bool, true, false, nat_eq, Option, Some, None, option_map}
 use Rattle.pg_check.specs.Codes.{code_of as rule_code, place_of as rule_place}
 use Rattle.pg_check.specs.declared.error.CheckError.{CheckError}
+use Rattle.pg_dyn.specs.ContentFaults.{code as message_code}
+use Rattle.pg_dyn.specs.Places.{place_of as message_place}
 use Rattle.pg_dyn.specs.declared.error.DynError.{DynError}
-use Rattle.pg_dyn.specs.declared.error.DynError.TheVariants as messages
+use Rattle.pg_fds.specs.Codes.{code_of as set_code, place_of as set_place}
 use Rattle.pg_fds.specs.declared.error.FdsError.{FdsError}
-use Rattle.pg_fds.specs.declared.error.FdsError.TheVariants as sets
 use Rattle.pg_link.specs.Codes.{code_of as link_code, place_of as link_place}
 use Rattle.pg_link.specs.declared.error.LinkError.{LinkError}
 use Rattle.pg_link.specs.declared.error.Place.{Place}
-use Rattle.pg_wire.specs.Codes.{code_of as wire_code}
-use Rattle.pg_wire.specs.Errors.{place_of}
 use Rattle.pg_gate.specs.Call.{Request, compile, gate, show, verify}
 use Rattle.pg_gate.specs.declared.call_error.CallError.{CallError}
 use Rattle.pg_gate.specs.declared.call_error.CallError.TheVariants as calls
@@ -51,30 +50,17 @@ diagnostic_of_check e = record { code = rule_code e; location = location_at (rul
 abbrev pub diagnostic_alone : ℕ → Diagnostic
 diagnostic_alone code = record { code = code; location = Nowhere }
 
--- a code, and a byte of the whole input
-abbrev pub diagnostic_at_byte : ℕ → ℕ → Diagnostic
-diagnostic_at_byte code at = record { code = code; location = AtByte at }
+-- a byte of the whole input, or none
+abbrev pub location_of : Option ℕ → Location
+location_of (Some at) = AtByte at
+location_of None = Nowhere
 
 abbrev pub diagnostic_of_message : DynError → Diagnostic
-diagnostic_of_message messages.Memory = diagnostic_alone 1
-diagnostic_of_message messages.NoSuchField = diagnostic_alone 601
-diagnostic_of_message messages.WrongKind = diagnostic_alone 602
-diagnostic_of_message messages.OutOfRange = diagnostic_alone 603
-diagnostic_of_message (messages.NotUtf8 at) = diagnostic_at_byte 604 at
-diagnostic_of_message messages.OneofTwice = diagnostic_alone 605
-diagnostic_of_message messages.DuplicateKey = diagnostic_alone 606
-diagnostic_of_message messages.TooLong = diagnostic_alone 607
-diagnostic_of_message (messages.TooDeep at) = diagnostic_at_byte 608 at
-diagnostic_of_message (messages.Wire error) = diagnostic_at_byte (wire_code error) (place_of error)
+diagnostic_of_message e = record { code = message_code e; location = location_of (message_place e) }
 
 -- the code of what the codec of messages refuses, of the set itself, or of a rule that it breaks
 abbrev pub diagnostic_of_set : FdsError → Diagnostic
-diagnostic_of_set sets.Memory = diagnostic_alone 1
-diagnostic_of_set (sets.Bytes error) = diagnostic_of_message error
-diagnostic_of_set sets.NotProto3 = diagnostic_alone 702
-diagnostic_of_set sets.BadType = diagnostic_alone 703
-diagnostic_of_set sets.BadReference = diagnostic_alone 704
-diagnostic_of_set (sets.Rule error) = diagnostic_alone (rule_code error)
+diagnostic_of_set e = record { code = set_code e; location = location_of (set_place e) }
 
 abbrev pub diagnostic_of : Fault → Diagnostic
 diagnostic_of (faults.Link error) = diagnostic_of_link error

@@ -10,9 +10,6 @@ use pg_dyn::DynError;
 use pg_fds::FdsError;
 use pg_link::{LinkError, Place};
 
-/// The code of want of memory, which is no refusal and never printed.
-const OUT_OF_MEMORY: u16 = 1;
-
 /// The code of a file that is not there.
 const MISSING_FILE: u16 = 301;
 
@@ -56,13 +53,13 @@ pub(crate) fn diagnostic_alone(code: u16) -> Diagnostic
     }
 }
 
-/// What is reported of a byte.
-fn diagnostic_at_byte(code: u16, at: usize) -> Diagnostic
-    ensures { result ≡ refusals.diagnostic_at_byte code at }
+/// A byte, or none.
+fn location_of(at: Option<usize>) -> Location
+    ensures { result ≡ refusals.location_of at }
 {
-    Diagnostic {
-        code,
-        location: Location::AtByte(at),
+    match at {
+        Some(at) => Location::AtByte(at),
+        None => Location::Nowhere,
     }
 }
 
@@ -90,33 +87,19 @@ fn diagnostic_of_check(error: CheckError) -> Diagnostic
 pub(crate) fn diagnostic_of_message(error: DynError) -> Diagnostic
     ensures { result ≡ refusals.diagnostic_of_message error }
 {
-    match error {
-        DynError::Memory => diagnostic_alone(OUT_OF_MEMORY),
-        DynError::NoSuchField => diagnostic_alone(601),
-        DynError::WrongKind => diagnostic_alone(602),
-        DynError::OutOfRange => diagnostic_alone(603),
-        DynError::NotUtf8 { at } => diagnostic_at_byte(604, at),
-        DynError::OneofTwice => diagnostic_alone(605),
-        DynError::DuplicateKey => diagnostic_alone(606),
-        DynError::TooLong => diagnostic_alone(607),
-        DynError::TooDeep { at } => diagnostic_at_byte(608, at),
-        DynError::Wire(error) => diagnostic_at_byte(error.code(), error.at()),
+    Diagnostic {
+        code: error.code(),
+        location: location_of(error.at()),
     }
 }
 
-/// What is reported of a set: the code of what the codec of messages refuses, of the set itself, or
-/// of a rule that it breaks.
+/// What is reported of a set. A rule that it breaks has no place in a text.
 fn diagnostic_of_set(error: FdsError) -> Diagnostic
     ensures { result ≡ refusals.diagnostic_of_set error }
 {
-    match error {
-        FdsError::Memory => diagnostic_alone(OUT_OF_MEMORY),
-        FdsError::Bytes(error) => diagnostic_of_message(error),
-        FdsError::NotProto3 => diagnostic_alone(702),
-        FdsError::BadType => diagnostic_alone(703),
-        FdsError::BadReference => diagnostic_alone(704),
-        // Of parts that come from no text the place is none.
-        FdsError::Rule(error) => diagnostic_alone(error.code()),
+    Diagnostic {
+        code: error.code(),
+        location: location_of(error.at()),
     }
 }
 

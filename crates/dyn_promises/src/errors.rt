@@ -1,0 +1,21 @@
+//! The codes and places of errors.
+
+ghost use Rattle.std.specs.Prelude.{◌≡◌};
+ghost use Rattle.pg_dyn.specs.ContentFaults as faults;
+ghost use Rattle.pg_dyn.specs.Places.{place_of};
+
+use pg_dyn::DynError;
+
+/// What `DynError::code` answers.
+pub fn code(error: DynError) -> u16
+    ensures { result ≡ faults.code error }
+{
+    error.code()
+}
+
+/// What `DynError::at` answers.
+pub fn at(error: DynError) -> Option<usize>
+    ensures { result ≡ place_of error }
+{
+    error.at()
+}
