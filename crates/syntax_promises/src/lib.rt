@@ -1,4 +1,5 @@
-//! The promises of `pg_syntax`, said again of calls of it: the edits of `must-fail` turn each answer, and every one must be refused.
+//! The promises of `pg_syntax`, said again of calls of it: the edits of `must-fail` turn each
+//! answer, and every one must be refused.
 #![tactic(auto)]
 
 ghost use Rattle.std.specs.Prelude.{◌≡◌, string_bytes, IfErr, IfOk};
@@ -17,7 +18,8 @@ use std::alloc::{AllocError, Global};
 
 /// What `parse` answers: the tree.
 pub fn parse(alloc: Global, tokens: &[Token], end: usize) -> Result<FileTree, SyntaxError>
-    ensures tree { IfOk result (λ file. Derives (grammar.file 64) (view.file file) × Stands (view.file file) (placed tokens.now)) }
+    ensures tree { IfOk result (λ file. Derives (grammar.file 64) (view.file file)
+        × Stands (view.file file) (placed tokens.now)) }
     ensures spelled { IfOk result (λ file. spell (view.file file) ≡ symbols (placed tokens.now)) }
 {
     pg_syntax::parse(alloc, tokens, end)
@@ -39,7 +41,8 @@ pub fn code(error: SyntaxError) -> u16
 
 /// What `Text::joined` answers.
 pub fn joined(alloc: Global, text: &Text) -> Result<String, AllocError>
-    ensures { IfOk result (λ joined. string_bytes joined ≡ grammar.joined (spell (view.text text.now))) }
+    ensures { IfOk result (λ joined. string_bytes joined
+        ≡ grammar.joined (spell (view.text text.now))) }
 {
     text.joined(alloc)
 }

@@ -1,16 +1,21 @@
 //! Prints an answer for each row of standard input, by its second part:
-//! - `WHAT | tokens | TEXT`: the tokens of the text with their places, or the code and the place of what it is refused with.
+//! - `WHAT | tokens | TEXT`: the tokens of the text with their places, or the code and the place of
+//!   what it is refused with.
 //! - `WHAT | tokens | TEXT | OFFSET`: the place of that byte.
-//! - `WHAT | tree | TEXT`: the first statement behind the syntax, where it is a message or a service, else `taken`, or the refusal.
-//! - `WHAT | tree | TEXT | WORD`: that for the text with the word in front of each token in turn, and behind the last.
-//! - `WHAT | links | FILES`: the files, each with what its uses of types resolve to, or the refusal; `links::options` says what else may
-//!   stand behind the files.
-//! - `WHAT | parts | CALL | PIECES`: what `admit` or `from_parts` makes of parts that come from no text, which `parts::pieces` spells;
-//!   with `json_name` a name's default JSON name, and with `packable` whether a type's lists may be packed.
+//! - `WHAT | tree | TEXT`: the first statement behind the syntax, where it is a message or a
+//!   service, else `taken`, or the refusal.
+//! - `WHAT | tree | TEXT | WORD`: that for the text with the word in front of each token in turn,
+//!   and behind the last.
+//! - `WHAT | links | FILES`: the files, each with what its uses of types resolve to, or the
+//!   refusal; `links::options` says what else may !   stand behind the files.
+//! - `WHAT | parts | CALL | PIECES`: what `admit` or `from_parts` makes of parts that come from no
+//!   text, which `parts::pieces` spells; !   with `json_name` a name's default JSON name, and with
+//!   `packable` whether a type's lists may be packed.
 //! - `WHAT | folder | PATH`: whether the folder of the system gives a file, misses it or fails.
-//! - `WHAT | schema | FILES`: `taken`, or the refusal; with `| types`, `| enums`, `| services` or `| files` what the schema has of these,
-//!   and with `| count` how many message types it has; with `| message NAME`, `| has PLACE`, `| type PLACE`, `| field PLACE NUMBER` and
-//!   `| enum PLACE` what these calls of the schema answer.
+//! - `WHAT | schema | FILES`: `taken`, or the refusal; with `| types`, `| enums`, `| services` or
+//!   `| files` what the schema has of these, !   and with `| count` how many message types it has;
+//!   with `| message NAME`, `| has PLACE`, `| type PLACE`, `| field PLACE NUMBER` and !   `| enum
+//!   PLACE` what these calls of the schema answer.
 //!
 //! `rows` says how texts and files are spelled.
 #![tactic(auto)]

@@ -28,7 +28,8 @@ fn made(alloc: Global, parts: Parts) -> Result<String, AllocError> {
     }
 }
 
-/// What is printed of the row: `admit | PIECES`, `from_parts | PIECES`, `json_name | NAME` or `packable | TYPE`.
+/// What is printed of the row: `admit | PIECES`, `from_parts | PIECES`, `json_name | NAME` or
+/// `packable | TYPE`.
 pub fn answer(alloc: Global, input: &str) -> Result<String, AllocError> {
     let (call, spelled) = cut(input);
     match call {

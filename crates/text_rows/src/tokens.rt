@@ -60,8 +60,8 @@ fn place_of(alloc: Global, text: &[u8], offset: u32) -> Result<String, AllocErro
     format!(in alloc; "{line}:{column}")
 }
 
-/// The tokens of a text with their places, or the code and the place of what it is refused with; with an offset behind it the place of
-/// that byte.
+/// The tokens of a text with their places, or the code and the place of what it is refused with;
+/// with an offset behind it the place of that byte.
 pub fn answer(alloc: Global, input: &str) -> Result<String, AllocError> {
     let (spelled, offset) = cut(input);
     let text = text_of(alloc, spelled)?;

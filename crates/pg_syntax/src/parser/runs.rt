@@ -9,7 +9,8 @@ use std::alloc::AllocError;
 impl EmptyStatements {
     /// Puts others behind these.
     fn join(&mut self, others: EmptyStatements) -> Result<(), AllocError>
-        ensures { OnOk result (view.nodes (view.empties self.new) ≡ view.nodes (view.empties self.old) ++ view.nodes (view.empties others)) }
+        ensures { OnOk result (view.nodes (view.empties self.new)
+            ≡ view.nodes (view.empties self.old) ++ view.nodes (view.empties others)) }
     {
         let mut more = others.more;
         self.more.push(others.first)?;
@@ -20,7 +21,8 @@ impl EmptyStatements {
 
 /// Puts a part of a message behind the others.
 pub fn add_part(parts: &mut Vec<Part>, part: Part) -> Result<(), AllocError>
-    ensures { OnOk result (view.all_nodes view.part parts.new.items ≡ view.all_nodes view.part parts.old.items ++ view.nodes (view.part part)) }
+    ensures { OnOk result (view.all_nodes view.part parts.new.items
+        ≡ view.all_nodes view.part parts.old.items ++ view.nodes (view.part part)) }
 {
     let Part::Empty(others) = part else {
         return Ok(parts.push(part)?);
@@ -40,7 +42,8 @@ pub fn add_part(parts: &mut Vec<Part>, part: Part) -> Result<(), AllocError>
 
 /// Puts a part of a oneof behind the others.
 pub fn add_oneof_part(parts: &mut Vec<OneofPart>, part: OneofPart) -> Result<(), AllocError>
-    ensures { OnOk result (view.all_nodes view.oneof_part parts.new.items ≡ view.all_nodes view.oneof_part parts.old.items ++ view.nodes (view.oneof_part part)) }
+    ensures { OnOk result (view.all_nodes view.oneof_part parts.new.items
+        ≡ view.all_nodes view.oneof_part parts.old.items ++ view.nodes (view.oneof_part part)) }
 {
     let OneofPart::Empty(others) = part else {
         return Ok(parts.push(part)?);
@@ -60,7 +63,8 @@ pub fn add_oneof_part(parts: &mut Vec<OneofPart>, part: OneofPart) -> Result<(),
 
 /// Puts a part of an enum behind the others.
 pub fn add_enum_part(parts: &mut Vec<EnumPart>, part: EnumPart) -> Result<(), AllocError>
-    ensures { OnOk result (view.all_nodes view.enum_part parts.new.items ≡ view.all_nodes view.enum_part parts.old.items ++ view.nodes (view.enum_part part)) }
+    ensures { OnOk result (view.all_nodes view.enum_part parts.new.items
+        ≡ view.all_nodes view.enum_part parts.old.items ++ view.nodes (view.enum_part part)) }
 {
     let EnumPart::Empty(others) = part else {
         return Ok(parts.push(part)?);
@@ -80,7 +84,8 @@ pub fn add_enum_part(parts: &mut Vec<EnumPart>, part: EnumPart) -> Result<(), Al
 
 /// Puts a part of an rpc behind the others.
 pub fn add_rpc_part(parts: &mut Vec<RpcPart>, part: RpcPart) -> Result<(), AllocError>
-    ensures { OnOk result (view.all_nodes view.rpc_part parts.new.items ≡ view.all_nodes view.rpc_part parts.old.items ++ view.nodes (view.rpc_part part)) }
+    ensures { OnOk result (view.all_nodes view.rpc_part parts.new.items
+        ≡ view.all_nodes view.rpc_part parts.old.items ++ view.nodes (view.rpc_part part)) }
 {
     let RpcPart::Empty(others) = part else {
         return Ok(parts.push(part)?);
@@ -100,7 +105,8 @@ pub fn add_rpc_part(parts: &mut Vec<RpcPart>, part: RpcPart) -> Result<(), Alloc
 
 /// Puts a part of a service behind the others.
 pub fn add_service_part(parts: &mut Vec<ServicePart>, part: ServicePart) -> Result<(), AllocError>
-    ensures { OnOk result (view.all_nodes view.service_part parts.new.items ≡ view.all_nodes view.service_part parts.old.items ++ view.nodes (view.service_part part)) }
+    ensures { OnOk result (view.all_nodes view.service_part parts.new.items
+        ≡ view.all_nodes view.service_part parts.old.items ++ view.nodes (view.service_part part)) }
 {
     let ServicePart::Empty(others) = part else {
         return Ok(parts.push(part)?);
@@ -123,7 +129,9 @@ pub fn add_statement(
     statements: &mut Vec<Statement>,
     statement: Statement,
 ) -> Result<(), AllocError>
-    ensures { OnOk result (view.all_nodes view.statement statements.new.items ≡ view.all_nodes view.statement statements.old.items ++ view.nodes (view.statement statement)) }
+    ensures { OnOk result (view.all_nodes view.statement statements.new.items
+        ≡ view.all_nodes view.statement statements.old.items
+        ++ view.nodes (view.statement statement)) }
 {
     let Statement::Empty(others) = statement else {
         return Ok(statements.push(statement)?);

@@ -1,6 +1,6 @@
 ghost use Rattle.std.specs.Prelude.{◌≡◌, ◌+◌, Some};
 
-use pg_link::{GhostPaths, SourceError, Sources, GhostCount};
+use pg_link::{GhostCount, GhostPaths, SourceError, Sources};
 use std::alloc::Global;
 
 /// A source that fails at its read of this number, counted from 1, and else gives what the one

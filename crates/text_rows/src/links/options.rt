@@ -13,7 +13,8 @@ pub struct Options<'a> {
     pub names: &'a str,
     /// `read PATH PATH ..`: the files that are read in turn and printed, where none is linked.
     pub reads: &'a str,
-    /// `targets`, `resolve WORD WORD ..` or `at OFFSET`: what else the files are asked (`links::asked`).
+    /// `targets`, `resolve WORD WORD ..` or `at OFFSET`: what else the files are asked
+    /// (`links::asked`).
     pub asked: &'a str,
 }
 

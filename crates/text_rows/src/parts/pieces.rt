@@ -1,11 +1,14 @@
-//! Pieces of parts, `PIECE; PIECE`, in an order that rules may forbid. Each is added to the file, to the message type or the enum that
-//! came last, or to that type's last field:
+//! Pieces of parts, `PIECE; PIECE`, in an order that rules may forbid. Each is added to the file,
+//! to the message type or the enum that came last, or to that type's last field:
 //!
-//! - `package NAME`, `import PATH`, `mode` (`optimize_for = CODE_SIZE`), `option NUMBER` (of the value `true`), and `top PLACE`,
-//!   `top_enum PLACE` and `top_service PLACE` for what stands in no other type;
-//! - `type NAME`, `oneof NAME`, `reserved FIRST LAST`, `reserved_name NAME`, `inner PLACE`, `inner_enum PLACE`, `deprecated_type`;
-//! - `field NUMBER NAME PRESENCE TYPE`, `member NUMBER NAME` (an `int32` of the first oneof), `json NAME`, `packed` and `unpacked` (that
-//!   option), `deprecated`, `in_oneof`, `unstated` (without the word `optional`);
+//! - `package NAME`, `import PATH`, `mode` (`optimize_for = CODE_SIZE`), `option NUMBER` (of the
+//!   value `true`), and `top PLACE`, !   `top_enum PLACE` and `top_service PLACE` for what stands
+//!   in no other type;
+//! - `type NAME`, `oneof NAME`, `reserved FIRST LAST`, `reserved_name NAME`, `inner PLACE`,
+//!   `inner_enum PLACE`, `deprecated_type`;
+//! - `field NUMBER NAME PRESENCE TYPE`, `member NUMBER NAME` (an `int32` of the first oneof), `json
+//!   NAME`, `packed` and `unpacked` (that !   option), `deprecated`, `in_oneof`, `unstated`
+//!   (without the word `optional`);
 //! - `enum NAME`, `value NAME NUMBER`, `range FIRST LAST`, `alias`;
 //! - `service NAME`.
 use super::enums::{add_to_enum, enum_type};

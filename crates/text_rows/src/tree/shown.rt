@@ -1,6 +1,7 @@
 //! The first statement of a file, as far as rows show it.
 use pg_syntax::tree::{
-    Argument, EmptyStatements, Field, FileTree, Label, Message, Part, Rpc, Service, ServicePart, Statement, TypeName,
+    Argument, EmptyStatements, Field, FileTree, Label, Message, Part, Rpc, Service, ServicePart,
+    Statement, TypeName,
 };
 use std::alloc::{AllocError, Global};
 
