@@ -24,19 +24,19 @@ use Rattle.pg_gate.specs.Call.{Request, compile, gate, show, verify}
 use Rattle.pg_gate.specs.Files.{IsFaultOfSide, IsSide, IsSideError}
 use Rattle.pg_gate.specs.Grants.{Between, Counted, Grants, IsAnswerOfFiles, IsErrorFor, IsFindingOf, IsGateError, IsGateReply, IsReplyFor, IsSidesError, IsSidesFault, Seen, Tells}
 use Rattle.pg_gate.specs.Refusals.{refusal_for, refusal_of}
-use Rattle.pg_gate.specs.declared.call_error.CallError.{CallError}
-use Rattle.pg_gate.specs.declared.call_error.CallError.TheVariants as calls
+use Rattle.pg_gate.specs.declared.call.error.CallError.{CallError}
+use Rattle.pg_gate.specs.declared.call.error.CallError.TheVariants as calls
 use Rattle.pg_gate.specs.declared.error.Side.TheVariants as sides
-use Rattle.pg_gate.specs.declared.refusal.Refusal.{Refusal}
+use Rattle.pg_gate.specs.declared.print.refusal.Refusal.{Refusal}
 use Rattle.pg_link.specs.Walk.{World}
-use Rattle.pg_gate.specs.declared.answer.Answer.{Answer}
-use Rattle.pg_gate.specs.declared.answer.Answer.TheVariants as answers
+use Rattle.pg_gate.specs.declared.answer.gate.Answer.{Answer}
+use Rattle.pg_gate.specs.declared.answer.gate.Answer.TheVariants as answers
 use Rattle.pg_gate.specs.declared.error.GateError.{GateError}
 use Rattle.pg_gate.specs.declared.error.GateError.TheVariants as errors
-use Rattle.pg_gate.specs.declared.reply.Finding.{Finding}
-use Rattle.pg_gate.specs.declared.reply.Finding.TheVariants as findings
-use Rattle.pg_gate.specs.declared.reply.Reply.{Reply}
-use Rattle.pg_gate.specs.declared.reply.Reply.TheVariants as replies
+use Rattle.pg_gate.specs.declared.print.reply.Finding.{Finding}
+use Rattle.pg_gate.specs.declared.print.reply.Finding.TheVariants as findings
+use Rattle.pg_gate.specs.declared.print.reply.Reply.{Reply}
+use Rattle.pg_gate.specs.declared.print.reply.Reply.TheVariants as replies
 use Rattle.pg_gate.specs.Failures.{failures_at, failures_by}
 use Rattle.pg_gate.specs.declared.error.Side.{Side}
 use Rattle.pg_gate.proofs.ErrorLemmas.{error-weaker, none_counted, of_none}

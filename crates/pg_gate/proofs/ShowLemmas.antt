@@ -11,8 +11,8 @@ use Rattle.pg_gate.specs.Failures.{call_failures_at}
 use Rattle.pg_gate.specs.Files.{IsFaultOfSide, IsSide, IsSideError}
 use Rattle.pg_gate.specs.Grants.{IsShowError, OfSide}
 use Rattle.pg_gate.specs.Showing.{IsBadWord, IsReadAs, IsRefused, IsRefusedWord, IsShowFault, IsShown, IsUnread, IsUnspelled}
-use Rattle.pg_gate.specs.declared.call_error.CallError.{CallError}
-use Rattle.pg_gate.specs.declared.call_error.CallError.TheVariants as calls
+use Rattle.pg_gate.specs.declared.call.error.CallError.{CallError}
+use Rattle.pg_gate.specs.declared.call.error.CallError.TheVariants as calls
 use Rattle.pg_gate.specs.declared.error.GateError.{GateError}
 use Rattle.pg_gate.specs.declared.error.Side.{Side}
 use Rattle.pg_gate.specs.declared.error.Side.TheVariants as sides

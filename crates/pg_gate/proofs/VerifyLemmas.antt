@@ -24,12 +24,12 @@ use Rattle.pg_gate.specs.Failures.{call_failures_at}
 use Rattle.pg_gate.specs.Files.{IsSide}
 use Rattle.pg_gate.specs.Grants.{IsSidesFault, IsUngiven, IsVerified, IsVerifyError}
 use Rattle.pg_gate.specs.Verified.{HasFirstFault, IsClaimError, IsHeldBy, IsToldOf}
-use Rattle.pg_gate.specs.declared.call_error.CallError.{CallError}
-use Rattle.pg_gate.specs.declared.call_error.CallError.TheVariants as calls
-use Rattle.pg_gate.specs.declared.call_error.CertificateFault.TheVariants as certificates
+use Rattle.pg_gate.specs.declared.call.error.CallError.{CallError}
+use Rattle.pg_gate.specs.declared.call.error.CallError.TheVariants as calls
+use Rattle.pg_gate.specs.declared.call.error.CertificateFault.TheVariants as certificates
 use Rattle.pg_gate.specs.declared.error.Side.{Side}
 use Rattle.pg_gate.specs.declared.error.Side.TheVariants as sides
-use Rattle.pg_gate.specs.declared.reply.Finding.{Finding}
+use Rattle.pg_gate.specs.declared.print.reply.Finding.{Finding}
 use Rattle.pg_gate.proofs.ErrorLemmas.{memory_is, of_memory, of_refused}
 use Rattle.pg_link.specs.Walk.{World}
 

@@ -20,8 +20,8 @@ use Rattle.pg_cert.specs.Bounds.{bound_in}
 use Rattle.pg_cert.specs.Certificate.{Claim, Holds}
 use Rattle.pg_least.specs.Exact.{IsSearched}
 use Rattle.pg_gate.specs.Errors.{IsError}
-use Rattle.pg_gate.specs.declared.answer.Answer.{Answer}
-use Rattle.pg_gate.specs.declared.answer.Answer.TheVariants as answers
+use Rattle.pg_gate.specs.declared.answer.gate.Answer.{Answer}
+use Rattle.pg_gate.specs.declared.answer.gate.Answer.TheVariants as answers
 use Rattle.pg_gate.specs.declared.error.GateError.{GateError}
 
 -- the message type of that full name

@@ -11,24 +11,24 @@ use Rattle.pg_gate.specs.Errors.{IsCallError, IsError, IsMemory}
 use Rattle.pg_gate.specs.Failures.{call_failures_at}
 use Rattle.pg_gate.specs.Files.{IsErrorOf, IsFaultOfSet, IsFaultOfSide, IsSetOf, IsSide}
 use Rattle.pg_gate.specs.Answer.{IsAnswer, IsBroken, IsCompatible, Lacks, certificate_of}
-use Rattle.pg_gate.specs.declared.answer.Answer.{Answer}
+use Rattle.pg_gate.specs.declared.answer.gate.Answer.{Answer}
 use Rattle.pg_gate.specs.Refusals.{refusal_for}
 use Rattle.pg_gate.specs.Showing.{IsBadWord, IsRefusedWord, IsShown}
 use Rattle.pg_gate.specs.Steps.{AreSteps}
 use Rattle.pg_gate.specs.Verified.{IsClaimFault, IsHeldBy}
-use Rattle.pg_gate.specs.declared.call_error.CallError.{CallError}
-use Rattle.pg_gate.specs.declared.call_error.CertificateFault.{CertificateFault}
-use Rattle.pg_gate.specs.declared.call_error.CertificateFault.TheVariants as certificates
+use Rattle.pg_gate.specs.declared.call.error.CallError.{CallError}
+use Rattle.pg_gate.specs.declared.call.error.CertificateFault.{CertificateFault}
+use Rattle.pg_gate.specs.declared.call.error.CertificateFault.TheVariants as certificates
 use Rattle.pg_gate.specs.declared.error.Fault.{Fault}
 use Rattle.pg_gate.specs.declared.error.GateError.{GateError}
 use Rattle.pg_gate.specs.declared.error.Side.{Side}
 use Rattle.pg_gate.specs.declared.error.Side.TheVariants as sides
-use Rattle.pg_gate.specs.declared.refusal.Refusal.{Refusal}
-use Rattle.pg_gate.specs.declared.reply.Finding.{Finding}
-use Rattle.pg_gate.specs.declared.reply.Finding.TheVariants as findings
-use Rattle.pg_gate.specs.declared.reply.Reply.{Reply}
-use Rattle.pg_gate.specs.declared.reply.Reply.TheVariants as replies
-use Rattle.pg_gate.specs.declared.step.Step.{Step}
+use Rattle.pg_gate.specs.declared.print.refusal.Refusal.{Refusal}
+use Rattle.pg_gate.specs.declared.print.reply.Finding.{Finding}
+use Rattle.pg_gate.specs.declared.print.reply.Finding.TheVariants as findings
+use Rattle.pg_gate.specs.declared.print.reply.Reply.{Reply}
+use Rattle.pg_gate.specs.declared.print.reply.Reply.TheVariants as replies
+use Rattle.pg_gate.specs.declared.answer.step.Step.{Step}
 
 -- ---- sides
 

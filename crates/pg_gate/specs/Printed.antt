@@ -5,11 +5,11 @@ use Rattle.pg_cert.specs.declared.verdict.Verdict.{Verdict}
 use Rattle.pg_cert.specs.declared.verdict.Verdict.TheVariants as verdicts
 use Rattle.pg_gate.specs.Call.{Request, compile, gate, show, verify}
 use Rattle.pg_gate.specs.Text.{both_of, finding_of, refusal_of}
-use Rattle.pg_gate.specs.declared.refusal.Refusal.{Refusal}
-use Rattle.pg_gate.specs.declared.reply.Finding.{Finding}
-use Rattle.pg_gate.specs.declared.reply.Finding.TheVariants as finding
-use Rattle.pg_gate.specs.declared.reply.Reply.{Reply}
-use Rattle.pg_gate.specs.declared.reply.Reply.TheVariants as reply
+use Rattle.pg_gate.specs.declared.print.refusal.Refusal.{Refusal}
+use Rattle.pg_gate.specs.declared.print.reply.Finding.{Finding}
+use Rattle.pg_gate.specs.declared.print.reply.Finding.TheVariants as finding
+use Rattle.pg_gate.specs.declared.print.reply.Reply.{Reply}
+use Rattle.pg_gate.specs.declared.print.reply.Reply.TheVariants as reply
 
 -- ---- statuses
 

@@ -11,21 +11,21 @@ use Rattle.pg_link.specs.Codes.{code_of as link_code, place_of as link_place}
 use Rattle.pg_link.specs.declared.error.LinkError.{LinkError}
 use Rattle.pg_link.specs.declared.error.Place.{Place}
 use Rattle.pg_gate.specs.Call.{Request, compile, gate, show, verify}
-use Rattle.pg_gate.specs.declared.call_error.CallError.{CallError}
-use Rattle.pg_gate.specs.declared.call_error.CallError.TheVariants as calls
-use Rattle.pg_gate.specs.declared.call_error.CertificateFault.{CertificateFault}
-use Rattle.pg_gate.specs.declared.call_error.CertificateFault.TheVariants as certificates
-use Rattle.pg_gate.specs.declared.call_error.ClaimFault.{ClaimFault}
-use Rattle.pg_gate.specs.declared.call_error.ClaimFault.TheVariants as claims
+use Rattle.pg_gate.specs.declared.call.error.CallError.{CallError}
+use Rattle.pg_gate.specs.declared.call.error.CallError.TheVariants as calls
+use Rattle.pg_gate.specs.declared.call.error.CertificateFault.{CertificateFault}
+use Rattle.pg_gate.specs.declared.call.error.CertificateFault.TheVariants as certificates
+use Rattle.pg_gate.specs.declared.call.error.ClaimFault.{ClaimFault}
+use Rattle.pg_gate.specs.declared.call.error.ClaimFault.TheVariants as claims
 use Rattle.pg_gate.specs.declared.error.Fault.{Fault}
 use Rattle.pg_gate.specs.declared.error.Fault.TheVariants as faults
 use Rattle.pg_gate.specs.declared.error.GateError.{GateError}
 use Rattle.pg_gate.specs.declared.error.GateError.TheVariants.{Memory, RootMissingOld, RootMissingNew, Compile, WriteFailed, BadHex}
 use Rattle.pg_gate.specs.declared.error.Side.{Side}
-use Rattle.pg_gate.specs.declared.refusal.Location.{Location}
-use Rattle.pg_gate.specs.declared.refusal.Location.TheVariants.{Nowhere, InPlace, InFile, AtByte, AtPair, AtChoice}
-use Rattle.pg_gate.specs.declared.refusal.Refusal.{Refusal}
-use Rattle.pg_gate.specs.declared.diagnostic.Diagnostic.{Diagnostic}
+use Rattle.pg_gate.specs.declared.print.refusal.Location.{Location}
+use Rattle.pg_gate.specs.declared.print.refusal.Location.TheVariants.{Nowhere, InPlace, InFile, AtByte, AtPair, AtChoice}
+use Rattle.pg_gate.specs.declared.print.refusal.Refusal.{Refusal}
+use Rattle.pg_gate.specs.declared.print.diagnostic.Diagnostic.{Diagnostic}
 
 -- a file as a whole, or a line and a column in it
 abbrev pub located_by : Bool → Place → Location

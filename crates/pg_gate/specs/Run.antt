@@ -5,7 +5,7 @@ use Rattle.pg_gate.specs.Call.{Request, call_of}
 use Rattle.pg_gate.specs.Printed.{printed}
 use Rattle.pg_gate.specs.declared.error.GateError.{GateError}
 use Rattle.pg_gate.specs.declared.error.GateError.TheVariants.{Memory, RootMissingOld, RootMissingNew, Compile, WriteFailed, BadHex}
-use Rattle.pg_gate.specs.declared.reply.Reply.{Reply}
+use Rattle.pg_gate.specs.declared.print.reply.Reply.{Reply}
 
 -- the sink took what the words' call prints, with an answer granted to it, and nothing else
 pub record Prints (granted : Request → Reply → Type 0) (words : List Text) (status : ℕ) (old new : Text) : Type 0 where

@@ -12,7 +12,7 @@ use Rattle.pg_show.specs.Hex.{bytes_in}
 use Rattle.pg_show.specs.Shown.{Refuses, Shows, most_levels, names_of}
 use Rattle.pg_gate.specs.Answer.{IsNamed, Lacks}
 use Rattle.pg_gate.specs.Errors.{IsCallError, IsError, IsMemory}
-use Rattle.pg_gate.specs.declared.call_error.CallError.{CallError}
+use Rattle.pg_gate.specs.declared.call.error.CallError.{CallError}
 use Rattle.pg_gate.specs.declared.error.GateError.{GateError}
 
 -- the text is that of the message that the bytes are read as by the type, and no message in it stands too deep

@@ -15,7 +15,7 @@ use Rattle.pg_schema.specs.declared.field.Field.{Field}
 use Rattle.pg_schema.specs.declared.field.TypeId.{TypeId}
 use Rattle.pg_schema.specs.declared.parts.Parts.{Parts}
 use Rattle.pg_schema.specs.Parts.{field_of, shape_of}
-use Rattle.pg_gate.specs.declared.step.Step.{Step}
+use Rattle.pg_gate.specs.declared.answer.step.Step.{Step}
 
 -- a field by its number, and by its full names in the old and in the new type
 pub record NamedStep : Type 0 where

@@ -9,14 +9,14 @@ use Rattle.pg_cert.specs.declared.verdict.Verdict.TheVariants as verdicts
 use Rattle.pg_link.specs.declared.error.Place.{Place}
 use Rattle.pg_gate.specs.declared.error.Side.{Side}
 use Rattle.pg_gate.specs.declared.error.Side.TheVariants as side
-use Rattle.pg_gate.specs.declared.refusal.Location.{Location}
-use Rattle.pg_gate.specs.declared.refusal.Location.TheVariants as location
-use Rattle.pg_gate.specs.declared.refusal.Refusal.{Refusal}
-use Rattle.pg_gate.specs.declared.reply.Finding.{Finding}
-use Rattle.pg_gate.specs.declared.reply.Finding.TheVariants as finding
-use Rattle.pg_gate.specs.declared.step.NamedField.{NamedField}
-use Rattle.pg_gate.specs.declared.step.Step.{Step}
-use Rattle.pg_gate.specs.declared.verified.Verified.{Verified}
+use Rattle.pg_gate.specs.declared.print.refusal.Location.{Location}
+use Rattle.pg_gate.specs.declared.print.refusal.Location.TheVariants as location
+use Rattle.pg_gate.specs.declared.print.refusal.Refusal.{Refusal}
+use Rattle.pg_gate.specs.declared.print.reply.Finding.{Finding}
+use Rattle.pg_gate.specs.declared.print.reply.Finding.TheVariants as finding
+use Rattle.pg_gate.specs.declared.answer.step.NamedField.{NamedField}
+use Rattle.pg_gate.specs.declared.answer.step.Step.{Step}
+use Rattle.pg_gate.specs.declared.answer.verified.Verified.{Verified}
 
 -- the end of a line
 abbrev pub line_end : Text

@@ -13,17 +13,17 @@ use Rattle.pg_schema.specs.Parts.{shape_of}
 use Rattle.pg_schema.specs.declared.parts.Parts.{Parts}
 use Rattle.pg_gate.specs.Answer.{IsNamed}
 use Rattle.pg_gate.specs.Errors.{IsCallError, IsMemory}
-use Rattle.pg_gate.specs.declared.call_error.CallError.{CallError}
-use Rattle.pg_gate.specs.declared.call_error.CallError.TheVariants as calls
-use Rattle.pg_gate.specs.declared.call_error.CertificateFault.{CertificateFault}
-use Rattle.pg_gate.specs.declared.call_error.CertificateFault.TheVariants as certificates
-use Rattle.pg_gate.specs.declared.call_error.ClaimFault.{ClaimFault}
-use Rattle.pg_gate.specs.declared.call_error.ClaimFault.TheVariants as claims
-use Rattle.pg_gate.specs.declared.call_error.PairNames.{PairNames}
+use Rattle.pg_gate.specs.declared.call.error.CallError.{CallError}
+use Rattle.pg_gate.specs.declared.call.error.CallError.TheVariants as calls
+use Rattle.pg_gate.specs.declared.call.error.CertificateFault.{CertificateFault}
+use Rattle.pg_gate.specs.declared.call.error.CertificateFault.TheVariants as certificates
+use Rattle.pg_gate.specs.declared.call.error.ClaimFault.{ClaimFault}
+use Rattle.pg_gate.specs.declared.call.error.ClaimFault.TheVariants as claims
+use Rattle.pg_gate.specs.declared.call.error.PairNames.{PairNames}
 use Rattle.pg_gate.specs.declared.error.GateError.TheVariants as gates
-use Rattle.pg_gate.specs.declared.reply.Finding.{Finding}
-use Rattle.pg_gate.specs.declared.reply.Finding.TheVariants as findings
-use Rattle.pg_gate.specs.declared.verified.Verified.{Verified}
+use Rattle.pg_gate.specs.declared.print.reply.Finding.{Finding}
+use Rattle.pg_gate.specs.declared.print.reply.Finding.TheVariants as findings
+use Rattle.pg_gate.specs.declared.answer.verified.Verified.{Verified}
 
 -- ---- what holds
 

@@ -1,5 +1,8 @@
 //! What a command line calls for.
 
+pub(crate) mod command_line;
+pub(crate) mod error;
+
 /// The words of a command line, as they are meant.
 #[derive(Debug, Drop)]
 pub enum Call<'a> {

@@ -1,6 +1,6 @@
 //! Why there is no answer.
 
-use crate::sink::SinkError;
+use crate::print::sink::SinkError;
 use pg_check::CheckError;
 use pg_fds::FdsError;
 use pg_link::LinkError;

@@ -7,11 +7,10 @@ ghost use Rattle.pg_gate.specs.Grants.{Grants, seen};
 ghost use Rattle.pg_gate.specs.Printed.{root_of};
 ghost use Rattle.pg_gate.specs.Run.{Begins, IsRunError, Prints, failures_in};
 
-use crate::call::Call;
-use crate::command_line;
+use crate::answer::dispatch::answer;
+use crate::call::{Call, command_line};
 use crate::error::GateError;
-use crate::finding::answer;
-use crate::sink::{Sink, write_all};
+use crate::print::sink::{Sink, write_all};
 use clap::error::ErrorKind;
 use pg_link::Sources;
 use std::alloc::Global;

@@ -1,0 +1,56 @@
+use Rattle.std.proofs.Common.{◌≡◌, ◌∙◌, ◌+◌, ap, arith, codes, subst, sym}
+use Rattle.std.proofs.lemmas.Result.{IfErr-weaker, IfOk-weaker}
+use Rattle.pg_link.specs.Walk.{world}
+use Rattle.pg_gate.specs.Failures.{failures_at}
+use Rattle.pg_gate.specs.Files.{paths_of}
+use Rattle.pg_gate.specs.Grants.{IsGateError}
+use Rattle.pg_gate.specs.declared.error.GateError.{GateError}
+use Rattle.pg_gate.specs.declared.error.Side.TheVariants as sides
+use Rattle.pg_gate.proofs.AnswerLemmas.{answer_of_files, of_sides, refused_of_files, root_uncounted}
+use Rattle.pg_gate.proofs.CallLemmas.{IfErr-IsErrAnd}
+use Rattle.pg_gate.proofs.ErrorLemmas.{passed_on}
+use Rattle.pg_gate.proofs.answer.gate.gate_files.Goals as goal
+
+pub returns-in_err-both-clause-refused : goal.returns-in_err-both-clause-refused
+returns-in_err-both-clause-refused g c =
+    let old = world (g.S.Sources.may_give c.args.old.now) (g.S.Sources.may_lack c.args.old.now) (codes ".") (paths_of c.args.old_roots.now) in
+    let new = world (g.T.Sources.may_give c.args.new.now) (g.T.Sources.may_lack c.args.new.now) (codes ".") (paths_of c.args.new_roots.now) in
+    let error : GateError = c.in_err-both.field-0.0 in
+    IfErr-IsErrAnd c.from_residual.result (λ e. e ≡ error) (λ e. IsGateError c.args.root.now old new e) c.from_residual.ensures.1
+    (λ e same. subst (λ e. IsGateError c.args.root.now old new e) (sym same) (of_sides c.args.root.now old new error c.in_err-both.ensures.refused))
+
+pub returns-in_err-both-clause-old_counted : goal.returns-in_err-both-clause-old_counted
+returns-in_err-both-clause-old_counted g c =
+    let told = passed_on c.from_residual.result (failures_at sides.Old) c.in_err-both.field-0.0 c.from_residual.ensures.1 in
+    c.in_err-both.ensures.old_counted ∙ ap (λ n. g.S.Sources.failures c.args.old.now + n) (sym told)
+
+pub returns-in_err-both-clause-new_counted : goal.returns-in_err-both-clause-new_counted
+returns-in_err-both-clause-new_counted g c =
+    let told = passed_on c.from_residual.result (failures_at sides.New) c.in_err-both.field-0.0 c.from_residual.ensures.1 in
+    c.in_err-both.ensures.new_counted ∙ ap (λ n. g.T.Sources.failures c.args.new.now + n) (sym told)
+
+pub returns-clause-answer : goal.returns-clause-answer
+returns-clause-answer g c =
+    let old = world (g.S.Sources.may_give c.args.old.now) (g.S.Sources.may_lack c.args.old.now) (codes ".") (paths_of c.args.old_roots.now) in
+    let new = world (g.T.Sources.may_give c.args.new.now) (g.T.Sources.may_lack c.args.new.now) (codes ".") (paths_of c.args.new_roots.now) in
+    let both = c.in_ok-both.both in
+    IfOk-weaker c.gate.result _ _ (λ answer is. answer_of_files c.args.root.now old new both.old.schema both.new.schema c.in_ok-both.ensures.old_compiled c.in_ok-both.ensures.new_compiled answer is) c.gate.ensures.answer
+
+pub returns-clause-refused : goal.returns-clause-refused
+returns-clause-refused g c =
+    let old = world (g.S.Sources.may_give c.args.old.now) (g.S.Sources.may_lack c.args.old.now) (codes ".") (paths_of c.args.old_roots.now) in
+    let new = world (g.T.Sources.may_give c.args.new.now) (g.T.Sources.may_lack c.args.new.now) (codes ".") (paths_of c.args.new_roots.now) in
+    let both = c.in_ok-both.both in
+    IfErr-weaker c.gate.result _ _ (λ error is. refused_of_files c.args.root.now old new both.old.schema both.new.schema c.in_ok-both.ensures.old_compiled c.in_ok-both.ensures.new_compiled error is) c.gate.ensures.refused
+
+pub returns-clause-old_counted : goal.returns-clause-old_counted
+returns-clause-old_counted g c =
+    let both = c.in_ok-both.both in
+    let none = root_uncounted both.old.schema both.new.schema c.args.root.now sides.Old c.gate.result c.gate.ensures.refused in
+    omega (arith, none, c.in_ok-both.ensures.old_counted)
+
+pub returns-clause-new_counted : goal.returns-clause-new_counted
+returns-clause-new_counted g c =
+    let both = c.in_ok-both.both in
+    let none = root_uncounted both.old.schema both.new.schema c.args.root.now sides.New c.gate.result c.gate.ensures.refused in
+    omega (arith, none, c.in_ok-both.ensures.new_counted)

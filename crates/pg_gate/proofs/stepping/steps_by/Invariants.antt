@@ -1,9 +1,0 @@
-use Rattle.std.proofs.Common.{◌≡◌, ◌++◌, map, drop}
-use Rattle.std.specs.List.{flat_map}
-use Rattle.pg_gate.specs.Steps.{named, steps_by}
-use Rattle.pg_gate.proofs.stepping.steps_by.Given as goal
-
--- the steps so far, and those of the choices that are left, are those of all
-abbrev pub invariant-loop-stage : goal.invariant-loop-stage
-invariant-loop-stage l =
-    map named l.steps.items ++ flat_map (steps_by l.old.schema.now l.new.schema.now) (drop l.stage-index l.way) ≡ flat_map (steps_by l.old.schema.now l.new.schema.now) l.way

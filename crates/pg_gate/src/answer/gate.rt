@@ -1,0 +1,135 @@
+//! The gate: whether a reader of the new type sees all that a writer of the old one writes.
+ghost use Rattle.std.specs.Prelude.{◌≡◌, ◌+◌, Err, codes, IfErr, IfOk};
+ghost use Rattle.pg_gate.specs.Answer.{AreRoots, IsAnswer, IsRefusedRoot, Lacks, certificate_of};
+ghost use Rattle.pg_gate.specs.Failures.{side_failures};
+ghost use Rattle.pg_gate.specs.Files.{paths_of};
+ghost use Rattle.pg_gate.specs.Grants.{IsAnswerOfFiles, IsGateError};
+ghost use Rattle.pg_gate.specs.declared.error.GateError.TheVariants as errors;
+ghost use Rattle.pg_link.specs.Walk.{world};
+
+use crate::answer::both_sides::{SideFiles, compile_both};
+use crate::error::{GateError, Side};
+use pg_cert::Certificate;
+use pg_dyn::Message;
+use pg_least::{Found, find};
+use pg_link::Sources;
+use pg_pairs::Pair;
+use pg_schema::Schema;
+use std::alloc::Global;
+
+/// What the gate says of two message types, with the certificate that shows it.
+#[derive(Drop)]
+pub enum Answer {
+    /// No message breaks: of each message that the old writer encodes the new reader sees the same
+    /// values in the fields of both types, and gives back all others.
+    Compatible(Certificate),
+    /// A message of the old type that breaks, without unknown records. No message that breaks has
+    /// fewer bytes.
+    Breaks {
+        witness: Message,
+        certificate: Certificate,
+    },
+}
+
+impl Answer {
+    /// The certificate.
+    pub(crate) fn certificate(&self) -> &Certificate
+        ensures { result.now ≡ certificate_of self.now }
+    {
+        match self {
+            Answer::Compatible(certificate) => certificate,
+            Answer::Breaks { certificate, .. } => certificate,
+        }
+    }
+}
+
+/// The old and the new message type of the full name.
+fn roots(old: &Schema, new: &Schema, root: &str) -> Result<Pair, GateError>
+    ensures named { IfOk result (AreRoots old.now new.now root.now) }
+    ensures old_missing { Lacks old.now root.now → result ≡ Err errors.RootMissingOld }
+    ensures new_missing { (Lacks old.now root.now → ⊥) → Lacks new.now root.now
+        → result ≡ Err errors.RootMissingNew }
+    ensures refused { IfErr result (IsRefusedRoot old.now new.now root.now) }
+{
+    let Some(old_root) = old.message(root) else {
+        return Err(GateError::RootMissingOld);
+    };
+    let Some(new_root) = new.message(root) else {
+        return Err(GateError::RootMissingNew);
+    };
+    Ok(Pair {
+        old: old_root,
+        new: new_root,
+    })
+}
+
+/// Whether the new reader sees all that the old writer writes, for the message types of this full
+/// name: that it does, or a message of the old type that breaks, of which none has fewer bytes;
+/// either with the certificate of the two types, which a checker takes.
+///
+/// Refused are want of memory (`Memory`), an old schema without the name (`RootMissingOld`), and
+/// else a new one without it (`RootMissingNew`).
+pub fn gate(alloc: Global, old: &Schema, new: &Schema, root: &str) -> Result<Answer, GateError>
+    ensures answer { IfOk result (IsAnswer old.now new.now root.now) }
+    ensures old_missing { Lacks old.now root.now → result ≡ Err errors.RootMissingOld }
+    ensures new_missing { (Lacks old.now root.now → ⊥) → Lacks new.now root.now
+        → result ≡ Err errors.RootMissingNew }
+    ensures refused { IfErr result (IsRefusedRoot old.now new.now root.now) }
+{
+    let pair = roots(old, new, root)?;
+    let Found {
+        certificate,
+        witness,
+    } = find(alloc, old, new, pair)?;
+    match witness {
+        Some(witness) => Ok(Answer::Breaks {
+            witness,
+            certificate,
+        }),
+        None => Ok(Answer::Compatible(certificate)),
+    }
+}
+
+/// The same over two sources: the schemas are those of the texts at these paths and of all that
+/// they import, each read once, the old side first. A side of one path that doesn't end in `.proto`
+/// is the descriptor set there, and its schema the one that the set states.
+///
+/// Refused are want of memory (`Memory`); a side with its first fault (`Compile`): what its texts
+/// can't be linked for, or the first rule of the language that they break, at its place, or what
+/// its set is refused for; and a missing root, as `gate` refuses it.
+pub fn gate_files<S: Sources, T: Sources>(
+    alloc: Global,
+    old: &mut S,
+    new: &mut T,
+    old_roots: &[&str],
+    new_roots: &[&str],
+    root: &str,
+) -> Result<Answer, GateError>
+    // The answer is that of texts and sets that the sources may give, and so is each refusal. A
+    // fault of the new side comes only where the old side has a schema.
+    ensures answer { IfOk result (IsAnswerOfFiles root.now
+        (world (S.may_give old.old) (S.may_lack old.old) (codes ".") (paths_of old_roots.now))
+        (world (T.may_give new.old) (T.may_lack new.old) (codes ".") (paths_of new_roots.now))) }
+    ensures refused { IfErr result (IsGateError root.now
+        (world (S.may_give old.old) (S.may_lack old.old) (codes ".") (paths_of old_roots.now))
+        (world (T.may_give new.old) (T.may_lack new.old) (codes ".") (paths_of new_roots.now))) }
+    // A source failed once where that is what its side is refused for, and never else.
+    ensures old_counted { S.failures old.new ≡ S.failures old.old + side_failures Side.Old result }
+    ensures new_counted { T.failures new.new ≡ T.failures new.old + side_failures Side.New result }
+    // The sources' reads leave what they may give and lack.
+    ensures old_given { S.may_give old.new ≡ S.may_give old.old }
+    ensures old_lacked { S.may_lack old.new ≡ S.may_lack old.old }
+    ensures new_given { T.may_give new.new ≡ T.may_give new.old }
+    ensures new_lacked { T.may_lack new.new ≡ T.may_lack new.old }
+{
+    let old_files = SideFiles {
+        folder: ".",
+        paths: old_roots,
+    };
+    let new_files = SideFiles {
+        folder: ".",
+        paths: new_roots,
+    };
+    let both = compile_both(alloc, &old_files, &new_files, false, old, new)?;
+    gate(alloc, &both.old.schema, &both.new.schema, root)
+}

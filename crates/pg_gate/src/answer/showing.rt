@@ -1,0 +1,84 @@
+//! What is shown of bytes.
+ghost use Rattle.std.specs.Prelude.{◌≡◌, ◌+◌, ◌<◌, [], ◌∷◌, length, Some, IfErr, IfOk, string_bytes};
+ghost use Rattle.pg_schema.specs.Parts.{shape_of};
+ghost use Rattle.pg_show.specs.Hex.{bytes_in};
+ghost use Rattle.pg_link.specs.Walk.{world};
+ghost use Rattle.pg_gate.specs.Failures.{call_failures};
+ghost use Rattle.pg_gate.specs.Grants.{IsShowError, OfSide};
+ghost use Rattle.pg_gate.specs.Showing.{IsReadAs, IsShowFault, IsShown, IsUnread, IsUnspelled};
+
+use crate::answer::compile::compile;
+use crate::call::error::CallError;
+use crate::error::{GateError, Side};
+use pg_dyn::DynError;
+use pg_link::Sources;
+use pg_schema::{Schema, TypeId};
+use pg_show::{HexError, bytes_of_hex, show};
+use std::alloc::Global;
+
+/// The bytes of the word.
+fn bytes_of(alloc: Global, word: &str) -> Result<Vec<u8>, GateError>
+    ensures bytes { IfOk result (λ bytes. bytes_in word.now ≡ Some bytes.items) }
+    ensures refused { IfErr result (IsUnspelled word.now) }
+{
+    match bytes_of_hex(alloc, word) {
+        Ok(bytes) => Ok(bytes),
+        Err(HexError::Memory) => Err(GateError::Memory),
+        Err(HexError::BadHex) => Err(GateError::BadHex),
+    }
+}
+
+/// The lines of the message that the bytes are read as by the type.
+fn lines_of(
+    alloc: Global,
+    schema: &Schema,
+    type_id: TypeId,
+    bytes: &[u8],
+) -> Result<String, CallError>
+    requires { type_id.index < length (shape_of schema.now) }
+    ensures shown { IfOk result (λ text. IsReadAs schema.now type_id bytes.now
+        (string_bytes text)) }
+    ensures refused { IfErr result (IsUnread schema.now type_id bytes.now) }
+{
+    match show(alloc, schema, type_id, bytes) {
+        Ok(text) => Ok(text),
+        Err(DynError::Memory) => Err(CallError::Gate(GateError::Memory)),
+        Err(error) => Err(CallError::Bytes(error)),
+    }
+}
+
+/// The same by the type of this full name, of the bytes of the word.
+fn shown_by(alloc: Global, schema: &Schema, root: &str, word: &str) -> Result<String, CallError>
+    ensures shown { IfOk result (λ text. IsShown schema.now root.now word.now (string_bytes text)) }
+    ensures refused { IfErr result (IsShowFault schema.now root.now word.now) }
+{
+    let Some(type_id) = schema.message(root) else {
+        return Err(CallError::Gate(GateError::RootMissingOld));
+    };
+    let bytes = bytes_of(alloc, word)?;
+    lines_of(alloc, schema, type_id, &bytes)
+}
+
+/// The same by the type of the text or the set at this path below the folder, or of what a text
+/// imports.
+pub(crate) fn shown<S: Sources>(
+    alloc: Global,
+    source: &mut S,
+    folder: &str,
+    file: &str,
+    root: &str,
+    word: &str,
+) -> Result<String, CallError>
+    ensures shown { IfOk result (λ text. OfSide
+        (world (S.may_give source.old) (S.may_lack source.old) folder.now (file.now ∷ []))
+        (λ schema. IsShown schema root.now word.now (string_bytes text))) }
+    ensures refused { IfErr result (IsShowError
+        (world (S.may_give source.old) (S.may_lack source.old) folder.now (file.now ∷ [])) root.now word.now) }
+    ensures counted { S.failures source.new
+        ≡ S.failures source.old + call_failures Side.Old result }
+    ensures same_given { S.may_give source.new ≡ S.may_give source.old }
+    ensures same_lacked { S.may_lack source.new ≡ S.may_lack source.old }
+{
+    let schema = compile(alloc, source, Side::Old, folder, &[file])?;
+    shown_by(alloc, &schema, root, word)
+}

@@ -1,0 +1,205 @@
+//! What a certificate shows of two sides.
+ghost use Rattle.std.specs.Prelude.{◌≡◌, ◌+◌, List, ℕ, [], ◌∷◌, IfErr, IfOk, IsTrue, OnOk, string_bytes};
+ghost use Rattle.pg_cert.specs.Certificate.{Holds, verdict_of};
+ghost use Rattle.pg_cert.specs.Laws.{Says};
+ghost use Rattle.pg_cert.specs.Text.{Certifies, names_of};
+ghost use Rattle.pg_pairs.specs.Sight.{by_numbers};
+ghost use Rattle.pg_link.specs.Walk.{world};
+ghost use Rattle.pg_schema.specs.Parts.{shape_of};
+ghost use Rattle.pg_gate.specs.Failures.{call_failures};
+ghost use Rattle.pg_gate.specs.Grants.{IsUngiven, IsVerified, IsVerifyError};
+ghost use Rattle.pg_gate.specs.Verified as spec;
+
+use crate::answer::both_sides::{SideFiles, compile_both};
+use crate::answer::verified::Verified;
+use crate::call::Sides;
+use crate::call::error::{CallError, CertificateFault, ClaimFault, PairNames};
+use crate::error::{GateError, Side};
+use crate::print::reply::Finding;
+use pg_cert::{CertError, Certificate, Verdict, check, from_text};
+use pg_link::{SourceError, Sources};
+use pg_pairs::Pair;
+use pg_schema::{Schema, TypeId};
+use std::alloc::{AllocError, Global};
+
+/// The bytes of the certificate, for which the source is asked by its path as it stands.
+fn read<S: Sources>(alloc: Global, source: &mut S, path: &str) -> Result<Vec<u8>, CallError>
+    ensures given { IfOk result (λ bytes. IsTrue (S.may_give source.old path.now bytes.items)) }
+    ensures refused { IfErr result (IsUngiven (S.may_lack source.old) path.now) }
+    ensures counted { S.failures source.new
+        ≡ S.failures source.old + call_failures Side.Old result }
+    ensures same_given { S.may_give source.new ≡ S.may_give source.old }
+    ensures same_lacked { S.may_lack source.new ≡ S.may_lack source.old }
+{
+    // A fault is told by the path; room for it is taken before the source can fail.
+    let file = String::from_str(alloc, path)?;
+    match source.read(alloc, path) {
+        Ok(bytes) => Ok(bytes),
+        Err(SourceError::Missing) => Err(CallError::Certificate(CertificateFault::Missing(file))),
+        Err(SourceError::Failed) => Err(CallError::Certificate(CertificateFault::Failed(file))),
+        Err(SourceError::Memory) => Err(CallError::Gate(GateError::Memory)),
+    }
+}
+
+/// The full name of the type.
+pub(crate) fn name_of(alloc: Global, schema: &Schema, id: TypeId) -> Result<String, AllocError>
+    ensures { IfOk result (λ name. string_bytes name ≡ names_of schema.now id) }
+{
+    match schema.message_type(id) {
+        Some(message_type) => String::from_str(alloc, message_type.name.as_str()),
+        None => Ok(String::new(alloc)),
+    }
+}
+
+/// The full names of the pair's types.
+fn pair_names(
+    alloc: Global,
+    old: &Schema,
+    new: &Schema,
+    pair: Pair,
+) -> Result<PairNames, AllocError>
+    ensures { IfOk result (spec.AreNames old.now new.now pair) }
+{
+    Ok(PairNames {
+        old: name_of(alloc, old, pair.old)?,
+        new: name_of(alloc, new, pair.new)?,
+    })
+}
+
+/// The refusal of a certificate's bytes.
+fn refused(fault: ClaimFault) -> CallError
+    ensures { result ≡ spec.refused fault }
+{
+    CallError::Certificate(CertificateFault::Refused(fault))
+}
+
+/// What is told of a checker's error.
+fn error_of(
+    alloc: Global,
+    old: &Schema,
+    new: &Schema,
+    error: CertError,
+) -> Result<CallError, AllocError>
+    ensures { IfOk result (spec.IsToldOf old.now new.now error) }
+{
+    match error {
+        CertError::Memory => Ok(CallError::Gate(GateError::Memory)),
+        CertError::BadText => Ok(refused(ClaimFault::BadText)),
+        CertError::RootMissing => Ok(refused(ClaimFault::RootMissing)),
+        CertError::PairMissing { pair } => {
+            let names = pair_names(alloc, old, new, pair)?;
+            Ok(refused(ClaimFault::PairMissing(names)))
+        }
+        CertError::BoundTooHigh { pair, number, case } => {
+            let names = pair_names(alloc, old, new, pair)?;
+            Ok(refused(ClaimFault::BoundTooHigh {
+                names,
+                number,
+                case,
+            }))
+        }
+        CertError::WitnessNotWritten => Ok(refused(ClaimFault::WitnessNotWritten)),
+        CertError::WitnessLength => Ok(refused(ClaimFault::WitnessLength)),
+        CertError::WitnessKeeps => Ok(refused(ClaimFault::WitnessKeeps)),
+    }
+}
+
+/// The certificate that the bytes spell.
+fn spelled(
+    alloc: Global,
+    old: &Schema,
+    new: &Schema,
+    bytes: &[u8],
+) -> Result<Certificate, CallError>
+    ensures certifies { IfOk result (Certifies old.now new.now bytes.now) }
+    ensures refused { IfErr result (spec.IsClaimError old.now new.now bytes.now) }
+{
+    match from_text(alloc, old, new, bytes) {
+        Ok(certificate) => Ok(certificate),
+        Err(error) => Err(error_of(alloc, old, new, error)?),
+    }
+}
+
+/// The verdict of the certificate, if it holds.
+fn checked(
+    alloc: Global,
+    old: &Schema,
+    new: &Schema,
+    certificate: &Certificate,
+) -> Result<Verdict, CallError>
+    ensures holds { OnOk result (Holds by_numbers (shape_of old.now)
+        (shape_of new.now) certificate.now) }
+    ensures verdict { IfOk result (λ verdict. verdict ≡ verdict_of certificate.now) }
+    ensures says { IfOk result (Says by_numbers (shape_of old.now)
+        (shape_of new.now) certificate.now) }
+    ensures refused { IfErr result (λ error. (bytes : List ℕ)
+        → Certifies old.now new.now bytes certificate.now
+        → spec.IsClaimError old.now new.now bytes error) }
+{
+    match check(alloc, old, new, certificate) {
+        Ok(verdict) => Ok(verdict),
+        Err(error) => Err(error_of(alloc, old, new, error)?),
+    }
+}
+
+/// How many bytes the witness has, where there is one.
+fn witness_length(certificate: &Certificate) -> usize
+    ensures { result ≡ spec.witness_length certificate.now.witness }
+{
+    match certificate.witness() {
+        Some(bytes) => bytes.len(),
+        None => 0,
+    }
+}
+
+/// What the certificate of these bytes shows of two schemas.
+fn held(alloc: Global, old: &Schema, new: &Schema, bytes: &[u8]) -> Result<Finding, CallError>
+    ensures found { IfOk result (spec.IsHeldBy old.now new.now bytes.now) }
+    ensures refused { IfErr result (spec.IsClaimError old.now new.now bytes.now) }
+{
+    let certificate = spelled(alloc, old, new, bytes)?;
+    let verdict = checked(alloc, old, new, &certificate)?;
+    let root = certificate.root();
+    let name = name_of(alloc, old, root.old)?;
+    let length = witness_length(&certificate);
+    Ok(Finding::Verified(Verified {
+        name,
+        verdict,
+        length,
+    }))
+}
+
+/// What the certificate shows of the two sides. It is asked of the old source, after both sides
+/// compiled.
+pub(crate) fn verify<S: Sources, T: Sources>(
+    alloc: Global,
+    sides: &Sides<'_>,
+    certificate: &str,
+    old: &mut S,
+    new: &mut T,
+) -> Result<Finding, CallError>
+    ensures found { IfOk result (IsVerified certificate.now
+        (world (S.may_give old.old) (S.may_lack old.old) sides.now.old_dir.now (sides.now.old.now ∷ []))
+        (world (T.may_give new.old) (T.may_lack new.old) sides.now.new_dir.now (sides.now.new.now ∷ []))) }
+    ensures refused { IfErr result (IsVerifyError certificate.now
+        (world (S.may_give old.old) (S.may_lack old.old) sides.now.old_dir.now (sides.now.old.now ∷ []))
+        (world (T.may_give new.old) (T.may_lack new.old) sides.now.new_dir.now (sides.now.new.now ∷ []))) }
+    ensures old_counted { S.failures old.new ≡ S.failures old.old + call_failures Side.Old result }
+    ensures new_counted { T.failures new.new ≡ T.failures new.old + call_failures Side.New result }
+    ensures old_given { S.may_give old.new ≡ S.may_give old.old }
+    ensures old_lacked { S.may_lack old.new ≡ S.may_lack old.old }
+    ensures new_given { T.may_give new.new ≡ T.may_give new.old }
+    ensures new_lacked { T.may_lack new.new ≡ T.may_lack new.old }
+{
+    let old_files = SideFiles {
+        folder: sides.old_dir,
+        paths: &[sides.old],
+    };
+    let new_files = SideFiles {
+        folder: sides.new_dir,
+        paths: &[sides.new],
+    };
+    let both = compile_both(alloc, &old_files, &new_files, false, old, new)?;
+    let bytes = read(alloc, old, certificate)?;
+    held(alloc, &both.old.schema, &both.new.schema, &bytes)
+}

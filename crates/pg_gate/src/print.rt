@@ -1,0 +1,10 @@
+//! How an answer is printed.
+
+pub(crate) mod buffer;
+pub(crate) mod diagnostic;
+pub(crate) mod hex;
+pub(crate) mod refusal;
+pub(crate) mod reply;
+pub(crate) mod sink;
+pub(crate) mod standard_output;
+pub(crate) mod writing;

@@ -1,0 +1,153 @@
+//! What a call is answered, its text and its status.
+ghost use Rattle.std.specs.Prelude.{◌≡◌, Some, IfOk};
+ghost use Rattle.pg_gate.specs.Text as spec;
+ghost use Rattle.pg_gate.specs.Printed.{either_status, finding_status, status_of, text_of};
+
+use crate::answer::step::{Step, Steps};
+use crate::answer::verified::Verified;
+use crate::print::hex::Hex;
+use crate::print::refusal::Refusal;
+use std::alloc::{AllocError, Global};
+use std::fmt;
+
+/// What a call is answered.
+#[derive(Debug, Drop)]
+pub enum Reply {
+    /// The bytes of a descriptor set.
+    Set(Vec<u8>),
+    /// The lines of a message.
+    Shown(String),
+    /// What is found in the one direction that is asked for.
+    Found(Finding),
+    /// What is found forward, and with the sides exchanged.
+    Both { forward: Finding, backward: Finding },
+    Refused(Refusal),
+}
+
+/// What is found for a call, as it is printed.
+#[derive(Debug, Drop)]
+pub enum Finding {
+    /// No message breaks.
+    Compatible,
+    /// The bytes of a message that breaks, and the fields on its path, root first. None that breaks
+    /// has fewer.
+    Breaks { witness: Vec<u8>, steps: Vec<Step> },
+    /// The text of the certificate, and whether a message breaks.
+    Certified { text: String, breaks: bool },
+    /// What a certificate shows.
+    Verified(Verified),
+}
+
+/// What is found of the types of this name. A certificate names its own.
+#[derive(Clone, Copy)]
+pub struct Report<'a> {
+    pub root: &'a str,
+    pub finding: &'a Finding,
+}
+
+/// 1 where a message breaks in either direction, and else 0.
+fn either(forward: u8, backward: u8) -> u8
+    ensures { result ≡ either_status forward backward }
+{
+    if forward == 1 || backward == 1 { 1 } else { 0 }
+}
+
+impl Reply {
+    /// The status with which a program ends that prints it.
+    pub fn status(&self) -> u8
+        ensures { result ≡ status_of self.now }
+    {
+        match self {
+            Reply::Set(_) | Reply::Shown(_) => 0,
+            Reply::Found(finding) => finding.status(),
+            Reply::Both { forward, backward } => either(forward.status(), backward.status()),
+            Reply::Refused(refusal) => refusal.status(),
+        }
+    }
+
+    /// Its text, for the root types of this name.
+    pub fn into_text(self, alloc: Global, root: &str) -> Result<Vec<u8>, AllocError>
+        ensures { IfOk result (λ text. text.items ≡ text_of root.now self) }
+    {
+        let text = match self {
+            Reply::Set(bytes) => return Ok(bytes),
+            Reply::Shown(text) => text,
+            Reply::Found(finding) => {
+                let report = Report {
+                    root,
+                    finding: &finding,
+                };
+                format!(in alloc; "{report}")?
+            }
+            Reply::Both { forward, backward } => {
+                let forward = Report {
+                    root,
+                    finding: &forward,
+                };
+                let backward = Report {
+                    root,
+                    finding: &backward,
+                };
+                format!(in alloc; "forward\n{forward}backward\n{backward}")?
+            }
+            Reply::Refused(refusal) => format!(in alloc; "{refusal}")?,
+        };
+        Ok(text.into_bytes())
+    }
+}
+
+/// What a program prints, and the status with which it ends.
+#[derive(Drop)]
+pub(crate) struct Output {
+    pub text: Vec<u8>,
+    pub status: u8,
+}
+
+impl Reply {
+    /// Its text and its status.
+    pub(crate) fn into_output(self, alloc: Global, root: &str) -> Result<Output, AllocError>
+        ensures text { IfOk result (λ output. output.text.items ≡ text_of root.now self) }
+        ensures status { IfOk result (λ output. output.status ≡ status_of self) }
+    {
+        let status = self.status();
+        Ok(Output {
+            text: self.into_text(alloc, root)?,
+            status,
+        })
+    }
+}
+
+impl Finding {
+    /// 0 where no message breaks, and else 1; of a certificate its verdict's.
+    fn status(&self) -> u8
+        ensures { result ≡ finding_status self.now }
+    {
+        match self {
+            Finding::Compatible => 0,
+            Finding::Breaks { .. } => 1,
+            Finding::Certified { breaks, .. } => if *breaks { 1 } else { 0 },
+            Finding::Verified(verified) => verified.status(),
+        }
+    }
+}
+
+impl fmt::Display for Report<'_> {
+    ghost output = { λ it. Some (spec.finding_of it.root.now it.finding.now) };
+
+    fn fmt<W: fmt::Write>(&self, f: &mut fmt::Formatter<W>) -> fmt::Result {
+        let root = self.root;
+        match self.finding {
+            Finding::Compatible => writeln!(f, "compatible {root}"),
+            Finding::Breaks { witness, steps } => {
+                let length = witness.len();
+                let witness = Hex(witness);
+                let steps = Steps(steps);
+                writeln!(f, "breaks {root} {length}")?;
+                writeln!(f, "witness {witness}")?;
+                write!(f, "{steps}")
+            }
+            Finding::Certified { text, .. } => write!(f, "{text}"),
+            Finding::Verified(verified) => write!(f, "{verified}"),
+        }
+    }
+}
