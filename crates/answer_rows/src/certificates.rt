@@ -1,7 +1,8 @@
 //! Certificates.
+use crate::searches::list_of;
 use crate::shown;
-use crate::spelled::{hex_bytes, pair_of, table_of};
-use pg_cert::{Bounds, CertError, Certificate, check, from_text, to_text};
+use crate::spelled::{bounds_of, hex_bytes, pair_of, table_of};
+use pg_cert::{Bounds, BoundsError, CertError, Certificate, PairBound, check, from_text, to_text};
 use pg_pairs::Pair;
 use pg_schema::Schema;
 use rows::{bytes_of, cut};
@@ -55,6 +56,31 @@ pub(crate) fn check_parts(
     match table_of(alloc, bounds)? {
         Some(table) => check_claim(alloc, old, new, pair_of(root), table, witness),
         None => String::from_str(alloc, "no table"),
+    }
+}
+
+// The bounds that came back.
+fn back(alloc: Global, bounds: &[PairBound]) -> Result<String, AllocError> {
+    let mut list = String::new(alloc);
+    for bound in bounds {
+        let bound = shown::bound(alloc, bound)?;
+        shown::add(&mut list, bound.as_str())?;
+    }
+    Ok(list)
+}
+
+/// `table | BOUNDS`: the bounds of the table that they make; or why they make none, and the bounds that came back.
+pub(crate) fn table(alloc: Global, words: &str) -> Result<String, AllocError> {
+    match Bounds::new(alloc, bounds_of(alloc, words)?) {
+        Ok(table) => list_of(alloc, &table),
+        Err((BoundsError::Memory, bounds)) => {
+            let back = back(alloc, &bounds)?;
+            format!(in alloc; "Memory {back}")
+        }
+        Err((BoundsError::Invariant, bounds)) => {
+            let back = back(alloc, &bounds)?;
+            format!(in alloc; "no table {back}")
+        }
     }
 }
 

@@ -58,6 +58,9 @@ pub(crate) fn answer(alloc: Global, row: &str) -> Result<String, AllocError> {
     if call == "drawn" {
         return drawn::drawn_bounds(alloc, words);
     }
+    if call == "table" {
+        return certificates::table(alloc, words);
+    }
     let (old, words) = cut(words);
     let (new, words) = cut(words);
     match schemas(alloc, old, new)? {

@@ -43,7 +43,8 @@ fn bound_of(text: &str) -> PairBound {
     }
 }
 
-fn bounds_of(alloc: Global, text: &str) -> Result<Vec<PairBound>, AllocError> {
+/// The bounds that the text spells.
+pub(crate) fn bounds_of(alloc: Global, text: &str) -> Result<Vec<PairBound>, AllocError> {
     let mut bounds = Vec::new(alloc);
     for bound in text.split(", ") {
         if bound.contains(' ') {

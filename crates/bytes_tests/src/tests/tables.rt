@@ -27,37 +27,6 @@ pub(super) fn table(alloc: Global, bounds: &[PairBound]) -> Result<Bounds, Fail>
     }
 }
 
-/// Whether the bounds are no table, and come back.
-fn is_refused(alloc: Global, bounds: &[PairBound]) -> Result<bool, Fail> {
-    match Bounds::new(alloc, bounds.to_vec(alloc)?) {
-        Ok(_) => Ok(false),
-        Err((BoundsError::Memory, _)) => Err(AllocError.into()),
-        Err((BoundsError::Invariant, back)) => Ok(back.as_slice() == bounds),
-    }
-}
-
-#[test]
-fn bounds_that_are_no_table(rt: HostRuntime) -> Result<(), Fail> {
-    let alloc = rt.alloc();
-    assert!(rt; is_refused(alloc, &[line(ROOT, None), line(ROOT, Some(2))])?);
-    for bound in [0, 2_147_483_648] {
-        assert!(rt; is_refused(alloc, &[line(ROOT, Some(bound))])?);
-    }
-    assert!(rt; !is_refused(alloc, &[line(ROOT, Some(2_147_483_647)), line(OTHER, None)])?);
-    Ok(())
-}
-
-// Where memory is refused the bounds come back. `tools/try_memory.sh` refuses each growth in turn.
-#[test]
-fn memory_for_bounds(rt: HostRuntime) -> Result<(), Fail> {
-    let bounds = vec![in rt.alloc(); line(ROOT, Some(11))]?;
-    if let Err((error, back)) = Bounds::new(rt.alloc(), bounds) {
-        assert_eq!(rt; error, BoundsError::Memory);
-        assert_eq!(rt; back.len(), 1);
-    }
-    Ok(())
-}
-
 // Whether the table has the two pairs with these bounds, and no other.
 fn has(table: &Bounds, root: Option<u32>, other: Option<u32>) -> bool {
     let missing = Pair {
