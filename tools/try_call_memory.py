@@ -52,6 +52,7 @@ CALLS = [
     Rows("set", "bytes_rows", ["equal keys among others come back in their order"], ["Memory {3:1 1:0 3:0 2:1} -"]),
     Rows("set", "bytes_rows", ["a map that is set by falling keys is written by rising ones"], ["Memory 7 -", "Memory {3:1 1:0} 1007"]),
     Rows("set", "bytes_rows", ["the second member is written alone"], ["Memory 7 -"]),
+    Rows("set", "bytes_rows", ["a text and bytes are one key"], ["Memory 7 -", "Memory {'k:# #6b:#} 1007"]),
     Rows("whole", "bytes_rows", ["messages in a list, a map and a field, and an explicit zero", "a map by falling keys is written by rising ones"]),
     Rows("decode", "bytes_rows", ["what is read holds the variant of its field"]),
     Rows("encode", "bytes_rows", ["a copy of all shapes and of unknown records", "what a type with the fields 4 doesn't have"]),
@@ -60,8 +61,11 @@ CALLS = [
     Rows("carry, breaks", "answer_rows", ["message of a map whose key int32 becomes fixed32", "lists, texts and a child are kept"]),
     Rows("search", "answer_rows", ["search of four steps down to no change", "search of a bound that falls"]),
     Rows("way", "answer_rows", ["way of four steps down"]),
+    Rows("Bounds::new", "answer_rows", ["bounds of two pairs make a table"], ["Memory 0 0 2147483647, 1 0 none"]),
+    Rows("Bounds::new", "answer_rows", ["a pair twice makes no table"], ["Memory 0 0 none, 0 0 2"]),
     Rows("check", "answer_rows", ["a witness that is longer than the bound", "a child is missing"]),
     Rows("to_text, from_text", "answer_rows", ["a text of two pairs without a witness", "a text of a witness of all letters"]),
+    Rows("read, write, read_again", "fds_rows", ["protoc's set of m.proto", "protoc's set of oneofs.proto", "refused: a front"]),
 ]
 
 

@@ -251,6 +251,11 @@ compare "a full device" "status 3" "$(said_on_full_device compile --dir examples
 compare "a full device, of help" "status 3" "$(said_on_full_device --help)"
 compare "a word that isn't UTF-8" "$(echo 'error: invalid UTF-8 was detected in one or more arguments' && echo 'status 4')" \
     "$(said_by gate "$(printf '\377')")"
+mkdir -- "$room/circle" "$room/circle/b.proto" "$room/circle/c.proto" || exit 3
+printf 'syntax = "proto3";\nimport "b.proto";\n' >"$room/circle/a.proto" || exit 3
+compare "a folder in the place of a file" "$(echo 'refused E309 c.proto' && echo 'status 3')" "$(said_by compile --dir "$room/circle" c.proto)"
+compare "a folder in the place of a file that is imported" "$(echo 'refused E309 b.proto' && echo 'status 3')" \
+    "$(said_by compile --dir "$room/circle" a.proto)"
 try_memory
 compare "a slow program" "status 0" "$(make_slow_program; echo "status $?")"
 compare "an installed program" "status 4" "$("slow/o'clock/bin/protogate" relay; echo "status $?")"

@@ -2,9 +2,7 @@
 use crate::searches::list_of;
 use crate::shown;
 use crate::spelled::{bounds_of, hex_bytes, pair_of, table_of};
-use pg_cert::{
-    Bounds, BoundsError, CertError, Certificate, PairBound, check, from_text, to_text,
-};
+use pg_cert::{Bounds, BoundsError, CertError, Certificate, PairBound, check, from_text, to_text};
 use pg_pairs::Pair;
 use pg_schema::Schema;
 use rows::{bytes_of, cut};
@@ -71,7 +69,8 @@ fn back(alloc: Global, bounds: &[PairBound]) -> Result<String, AllocError> {
     Ok(list)
 }
 
-/// `table | BOUNDS`: the bounds of the table that they make; or why they make none, and the bounds that came back.
+/// `table | BOUNDS`: the bounds of the table that they make; or why they make none, and the bounds
+/// that came back.
 pub(crate) fn table(alloc: Global, words: &str) -> Result<String, AllocError> {
     match Bounds::new(alloc, bounds_of(alloc, words)?) {
         Ok(table) => list_of(alloc, &table),
@@ -102,7 +101,8 @@ fn read_text(
     format!(in alloc; "{verdict} | {}", again.as_bytes().escape_ascii())
 }
 
-/// `text | OLD | NEW | TEXT`: why the text is none, or what the checker says of its certificate and the text that is written of it.
+/// `text | OLD | NEW | TEXT`: why the text is none, or what the checker says of its certificate and
+/// the text that is written of it.
 pub(crate) fn text(
     alloc: Global,
     old: &Schema,
@@ -131,7 +131,8 @@ fn bad_fronts(
     Ok(count)
 }
 
-/// `fronts | OLD | NEW | TEXT`: how many fronts of the text are no certificate's text, of how many there are.
+/// `fronts | OLD | NEW | TEXT`: how many fronts of the text are no certificate's text, of how many
+/// there are.
 pub(crate) fn fronts(
     alloc: Global,
     old: &Schema,

@@ -13,7 +13,7 @@ const UNSIGNED: &[u8] =
     b"\x0a\x24\x0a\x07m.proto\x22\x11\x0a\x01M\x12\x0c\x0a\x01a\x18\x01\x20\x01\x28\x0dR\x01ab\x06proto3";
 
 /// The files of either side.
-pub(crate) static FILES: [(&str, &[u8]); 15] = [
+pub(crate) static FILES: [(&str, &[u8]); 19] = [
     (
         "m.proto",
         b"syntax = \"proto3\";\nmessage M { int32 a = 1; }\n",
@@ -55,6 +55,18 @@ pub(crate) static FILES: [(&str, &[u8]); 15] = [
         "e/b.proto",
         b"syntax = \"proto3\";\npackage p;\nmessage N { sint32 s = 3; }\n",
     ),
+    // Two files that import each other.
+    ("r/a.proto", b"syntax = \"proto3\";\nimport \"b.proto\";\n"),
+    ("r/b.proto", b"syntax = \"proto3\";\nimport \"a.proto\";\n"),
+    // A file of one name on both sides.
+    (
+        "old/m.proto",
+        b"syntax = \"proto3\";\nmessage M { int32 a = 1; }\n",
+    ),
+    (
+        "new/m.proto",
+        b"syntax = \"proto3\";\nmessage M { uint32 a = 1; }\n",
+    ),
     ("o.pb", ONE),
     ("n.pb", UNSIGNED),
     (
@@ -68,7 +80,7 @@ pub(crate) static FILES: [(&str, &[u8]); 15] = [
 ];
 
 /// Words, what is printed, and the status.
-pub(crate) static CALLS: [(&[&str], &str, u8); 15] = [
+pub(crate) static CALLS: [(&[&str], &str, u8); 16] = [
     (
         &["compile", "m.proto"],
         "\x0a\x24\x0a\x07m.proto\x22\x11\x0a\x01M\x12\x0c\x0a\x01a\x18\x01\x20\x01\x28\x05R\x01ab\x06proto3",
@@ -109,6 +121,18 @@ pub(crate) static CALLS: [(&[&str], &str, u8); 15] = [
         &["gate", "--old=m.proto", "--new=m.proto", "--type=M"],
         "compatible M\n",
         0,
+    ),
+    (
+        &[
+            "gate",
+            "--old-dir=old",
+            "--new-dir=new",
+            "--old=m.proto",
+            "--new=m.proto",
+            "--type=M",
+        ],
+        "breaks M 11\nwitness 08ffffffffffffffffff01\nstep 1 M.a m.proto:2:19 M.a m.proto:2:20\n",
+        1,
     ),
     (
         &[

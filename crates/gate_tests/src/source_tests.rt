@@ -7,7 +7,7 @@ use std::test::Fail;
 
 /// Words, the read of the old and of the new side that fails, counted from 1 (0 for none), and what
 /// is printed: the file that couldn't be read, whoever imports it.
-static FAILING: [(&[&str], u64, u64, &str); 12] = [
+static FAILING: [(&[&str], u64, u64, &str); 14] = [
     (
         &["gate", "--old=m.proto", "--new=u.proto", "--type=M"],
         1,
@@ -64,6 +64,19 @@ static FAILING: [(&[&str], u64, u64, &str); 12] = [
     ),
     (
         &["compile", "--dir=d", "a.proto"],
+        2,
+        0,
+        "refused E309 b.proto\n",
+    ),
+    // A failure comes before what the files would break.
+    (
+        &["compile", "--dir=r", "a.proto"],
+        1,
+        0,
+        "refused E309 a.proto\n",
+    ),
+    (
+        &["compile", "--dir=r", "a.proto"],
         2,
         0,
         "refused E309 b.proto\n",
