@@ -95,12 +95,19 @@ file_words text file h =
     let short = h.short in
     omega (arith, same, long, short)
 
+-- the nodes of a tree in front of others
+nodes_words : (t : Tree) (ts : List Tree) → words_in (view.row (view.nodes t ++ ts)) ≡ words_in t + words_in (view.row ts)
+nodes_words Empty ts = refl
+nodes_words (Leaf s) ts = refl
+nodes_words (Both t u) ts = let others : words_in (view.row (view.nodes u ++ ts)) ≡ words_in u + words_in (view.row ts) = nodes_words u ts in omega (arith, others)
+nodes_words (At span t) ts = refl
+
 -- ---- enums
 
 mutual
   part_enums : (scope : List ℕ) (p : Part) → length (enums_in scope p) ≤ words_in (view.part p)
   part_enums scope (parts.Empty span) = omega arith
-  part_enums scope (parts.Message' name shape row span) = let inner : length (row_enums (full_name scope name) row) ≤ words_in (view.part_row row) = row_enums_few (full_name scope name) row in omega (arith, inner)
+  part_enums scope (parts.Message' name shape row span) = let inner : length (row_enums (full_name scope name) row) ≤ words_in (view.row (view.part_nodes row)) = row_enums_few (full_name scope name) row in omega (arith, inner)
   part_enums scope (parts.Enum e) = omega arith
   part_enums scope (parts.Oneof o) = omega arith
   part_enums scope (parts.Option o) = omega arith
@@ -108,39 +115,42 @@ mutual
   part_enums scope (parts.Map m) = omega arith
   part_enums scope (parts.Field f) = omega arith
 
-  row_enums_few : {m : _} (scope : List ℕ) (row : Row_of-Part m) → length (row_enums scope row) ≤ words_in (view.part_row row)
+  row_enums_few : {m : _} (scope : List ℕ) (row : Row_of-Part m) → length (row_enums scope row) ≤ words_in (view.row (view.part_nodes row))
   row_enums_few scope end_of-Part = omega arith
   row_enums_few scope (more_of-Part p rest) =
       let first = part_enums scope p in
       let others = row_enums_few scope rest in
       let both : length (enums_in scope p ++ row_enums scope rest) ≡ length (enums_in scope p) + length (row_enums scope rest) = length-append (enums_in scope p) (row_enums scope rest) in
-      omega (arith, first, others, both)
+      let joined : words_in (view.row (view.nodes (view.part p) ++ view.part_nodes rest)) ≡ words_in (view.part p) + words_in (view.row (view.part_nodes rest)) = nodes_words (view.part p) (view.part_nodes rest) in
+      omega (arith, first, others, both, joined)
 
-body_enums : (scope : List ℕ) (ps : List Part) → length (flat_map (enums_in scope) ps) ≤ words_in (view.rows view.part ps)
+body_enums : (scope : List ℕ) (ps : List Part) → length (flat_map (enums_in scope) ps) ≤ words_in (view.runs view.part ps)
 body_enums scope [] = omega arith
 body_enums scope (p ∷ ps) =
     let first = part_enums scope p in
     let others = body_enums scope ps in
     let both : length (enums_in scope p ++ flat_map (enums_in scope) ps) ≡ length (enums_in scope p) + length (flat_map (enums_in scope) ps) = length-append (enums_in scope p) (flat_map (enums_in scope) ps) in
-    omega (arith, first, others, both)
+    let joined : words_in (view.row (view.nodes (view.part p) ++ view.all_nodes view.part ps)) ≡ words_in (view.part p) + words_in (view.row (view.all_nodes view.part ps)) = nodes_words (view.part p) (view.all_nodes view.part ps) in
+    omega (arith, first, others, both, joined)
 
 enums_few : (scope : List ℕ) (s : tree.Statement.Statement) → length (statement_enums scope s) ≤ words_in (view.statement s)
 enums_few scope (statements.Empty span) = omega arith
 enums_few scope (statements.Import i) = omega arith
 enums_few scope (statements.Option o) = omega arith
-enums_few scope (statements.Message m) = let inner : length (flat_map (enums_in (full_name scope m.name)) m.parts.items) ≤ words_in (view.rows view.part m.parts.items) = body_enums (full_name scope m.name) m.parts.items in omega (arith, inner)
+enums_few scope (statements.Message m) = let inner : length (flat_map (enums_in (full_name scope m.name)) m.parts.items) ≤ words_in (view.runs view.part m.parts.items) = body_enums (full_name scope m.name) m.parts.items in omega (arith, inner)
 enums_few scope (statements.Enum e) = omega arith
 enums_few scope (statements.Service s) = omega arith
 
-all_enums_few : (scope : List ℕ) (ss : List tree.Statement.Statement) → length (all_enums scope ss) ≤ words_in (view.rows view.statement ss)
+all_enums_few : (scope : List ℕ) (ss : List tree.Statement.Statement) → length (all_enums scope ss) ≤ words_in (view.runs view.statement ss)
 all_enums_few scope [] = omega arith
 all_enums_few scope (s ∷ ss) =
     let first = enums_few scope s in
     let others = all_enums_few scope ss in
     let both : length (statement_enums scope s ++ all_enums scope ss) ≡ length (statement_enums scope s) + length (all_enums scope ss) = length-append (statement_enums scope s) (all_enums scope ss) in
-    omega (arith, first, others, both)
+    let joined : words_in (view.row (view.nodes (view.statement s) ++ view.all_nodes view.statement ss)) ≡ words_in (view.statement s) + words_in (view.row (view.all_nodes view.statement ss)) = nodes_words (view.statement s) (view.all_nodes view.statement ss) in
+    omega (arith, first, others, both, joined)
 
-behind_words : (p : Option tree.Packaged.Packaged) → words_in (view.rows view.statement (statements_behind p)) ≤ words_in (view.perhaps view.packaged p)
+behind_words : (p : Option tree.Packaged.Packaged) → words_in (view.runs view.statement (statements_behind p)) ≤ words_in (view.perhaps view.packaged p)
 behind_words None = omega arith
 behind_words (Some p) = omega arith
 
@@ -164,13 +174,14 @@ services_few targets scope (statements.Message m) = omega arith
 services_few targets scope (statements.Enum e) = omega arith
 services_few targets scope (statements.Service s) = omega arith
 
-all_services_few : (targets : ℕ → Option Target) (scope : List ℕ) (ss : List tree.Statement.Statement) → length (made_services targets scope ss) ≤ words_in (view.rows view.statement ss)
+all_services_few : (targets : ℕ → Option Target) (scope : List ℕ) (ss : List tree.Statement.Statement) → length (made_services targets scope ss) ≤ words_in (view.runs view.statement ss)
 all_services_few targets scope [] = omega arith
 all_services_few targets scope (s ∷ ss) =
     let first = services_few targets scope s in
     let others = all_services_few targets scope ss in
     let both : length (service_in targets scope s ++ made_services targets scope ss) ≡ length (service_in targets scope s) + length (made_services targets scope ss) = length-append (service_in targets scope s) (made_services targets scope ss) in
-    omega (arith, first, others, both)
+    let joined : words_in (view.row (view.nodes (view.statement s) ++ view.all_nodes view.statement ss)) ≡ words_in (view.statement s) + words_in (view.row (view.all_nodes view.statement ss)) = nodes_words (view.statement s) (view.all_nodes view.statement ss) in
+    omega (arith, first, others, both, joined)
 
 file_services_few : (s : Source) → length (file_services s) ≤ words_in (view.file s.tree)
 file_services_few s =

@@ -15,7 +15,7 @@ use Rattle.pg_check.specs.MadeServices.{MadeMethod, MadeService, made_methods, m
 use Rattle.pg_check.specs.Outline.{Enum, Message, all_enums, all_messages, dotted_more, enums_in, file_enums, file_messages, full_name, messages_in, package_in, package_of, row_enums, row_list, row_messages, statement_enums, statement_messages, statements_behind}
 use Rattle.pg_check.proofs.NamedOnce.{weight}
 use Rattle.pg_check.proofs.Totals.{total, total_joined}
-use Rattle.pg_check.proofs.WordTrees.{IsGood, rows_good}
+use Rattle.pg_check.proofs.WordTrees.{IsGood, nodes_good, runs_good}
 use Rattle.pg_check.proofs.WordedFiles.{IsGoodFile, IsGoodPart, IsGoodStatement}
 use Rattle.pg_syntax.specs.declared.tree as tree
 use Rattle.pg_syntax.specs.declared.tree.EnumPart.TheVariants as enum_parts
@@ -180,12 +180,13 @@ module _ (f : Text → ℕ) where
         let name : f (linked_within (behind_dot scope) (string_bytes d.name.text)) ≡ inside scope (string_bytes d.name.text) = name_is scope (string_bytes d.name.text) in
         omega (arith, name)
 
-    row_is : {n : _} (scope : List ℕ) (row : Row_of-Part n) → IsGood (view.part_row row)
+    row_is : {n : _} (scope : List ℕ) (row : Row_of-Part n) → IsGood (view.row (view.part_nodes row))
         → all (names_in (behind_dot scope) (of_row row)) ≡ (total of_message_type (row_messages scope row) + total of_enum_type (row_enums scope row)) + total (inside scope) (flat_map part_names (row_list row))
     row_is scope end_of-Part h = refl
     row_is scope (more_of-Part p rest) h =
-        let one = part_is scope p (of_row rest) h.0 in
-        let others = row_is scope rest h.1 in
+        let good = nodes_good (view.part p) (view.part_nodes rest) h in
+        let one = part_is scope p (of_row rest) good.0 in
+        let others = row_is scope rest good.1 in
         let messages : total of_message_type (messages_in scope p ++ row_messages scope rest) ≡ total of_message_type (messages_in scope p) + total of_message_type (row_messages scope rest) = total_joined of_message_type (messages_in scope p) (row_messages scope rest) in
         let enum_types : total of_enum_type (enums_in scope p ++ row_enums scope rest) ≡ total of_enum_type (enums_in scope p) + total of_enum_type (row_enums scope rest) = total_joined of_enum_type (enums_in scope p) (row_enums scope rest) in
         let names : total (inside scope) (part_names p ++ flat_map part_names (row_list rest)) ≡ total (inside scope) (part_names p) + total (inside scope) (flat_map part_names (row_list rest)) = total_joined (inside scope) (part_names p) (flat_map part_names (row_list rest)) in
@@ -212,7 +213,7 @@ module _ (f : Text → ℕ) where
       let inner = names_in (linked_within (behind_dot scope) (string_bytes m.name.text)) (all_of of_part m.parts.items Done) in
       let of_name : f (linked_within (behind_dot scope) (string_bytes m.name.text)) ≡ counts full = name_is scope (string_bytes m.name.text) in
       let of_inner : all inner ≡ (total of_message_type (flat_map (messages_in full) m.parts.items) + total of_enum_type (flat_map (enums_in full) m.parts.items)) + total (inside full) (flat_map part_names m.parts.items) =
-      ap (λ t. all (names_in t (all_of of_part m.parts.items Done))) (scope_is scope (string_bytes m.name.text) h.1.0) ∙ body_is full m.parts.items (rows_good view.part m.parts.items h.1.1.1.0) in
+      ap (λ t. all (names_in t (all_of of_part m.parts.items Done))) (scope_is scope (string_bytes m.name.text) h.1.0) ∙ body_is full m.parts.items (runs_good view.part m.parts.items h.1.1.1.0) in
       let both : all (inner ++ names_in (behind_dot scope) rest) ≡ all inner + all (names_in (behind_dot scope) rest) = total_joined (weight f) inner (names_in (behind_dot scope) rest) in
       omega (arith, of_name, of_inner, both)
   statement_is targets scope (statements.Enum e) rest h = let one = enum_is scope e rest in omega (arith, one)

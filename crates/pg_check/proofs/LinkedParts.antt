@@ -50,7 +50,7 @@ use Rattle.pg_check.proofs.KeptFiles.{all_joined, enums_are, source_enums, tree_
 use Rattle.pg_check.proofs.Moved.{all_moved, all_weaker, pairs_weaker, pairs_of_map}
 use Rattle.pg_check.proofs.NamedTypes.{IfFits, at_fits, enum_count, message_count, some_message}
 use Rattle.pg_check.proofs.NoneLaws.{and_both, and_left, and_right}
-use Rattle.pg_check.proofs.WordTrees.{file_good, rows_good}
+use Rattle.pg_check.proofs.WordTrees.{file_good, runs_good}
 use Rattle.pg_check.proofs.WordedFiles.{IsGoodEnum, IsGoodEnumPart, IsGoodFile, IsGoodMessage, IsGoodServicePart, IsGoodStatement, good_file, is_word_member, members_worded, oneofs_worded}
 use Rattle.pg_syntax.specs.declared.tree as tree
 use Rattle.pg_syntax.specs.declared.tree.EnumPart.TheVariants as enum_parts
@@ -153,7 +153,7 @@ module _ (types enums : ℕ) (targets : ℕ → Option Target) (fit : AllFit typ
   services_fit scope (statements.Enum e ∷ ss) h k = services_fit scope ss h.1 k.1
   services_fit scope (statements.Service s ∷ ss) h k =
       and_both (is_made_service types (made_service targets scope s)) (list_all (is_made_service types) (made_services targets scope ss))
-      (methods_fit s.parts.items (rows_good view.service_part s.parts.items h.0.1.1.1.0) k.0) (services_fit scope ss h.1 k.1)
+      (methods_fit s.parts.items (runs_good view.service_part s.parts.items h.0.1.1.1.0) k.0) (services_fit scope ss h.1 k.1)
 
 -- ---- uses that are resolved
 

@@ -107,6 +107,17 @@ pub rows_good : {X : Type 0} (to_tree : X → Tree) (xs : List X) → IsGood (vi
 rows_good to_tree [] h = tt
 rows_good to_tree (x ∷ xs) h = (h.0, rows_good to_tree xs h.1)
 
+-- the nodes of a tree in front of others
+pub nodes_good : (t : Tree) (ts : List Tree) → IsGood (view.row (view.nodes t ++ ts)) → IsGood t × IsGood (view.row ts)
+nodes_good Empty ts h = h
+nodes_good (Leaf s) ts h = h
+nodes_good (Both t u) ts h = let others = nodes_good u ts h.1 in ((h.0, others.0), others.1)
+nodes_good (At span t) ts h = h
+
+pub runs_good : {X : Type 0} (to_tree : X → Tree) (xs : List X) → IsGood (view.runs to_tree xs) → AllByRecursion (λ x. IsGood (to_tree x)) xs
+runs_good to_tree [] h = tt
+runs_good to_tree (x ∷ xs) h = let both = nodes_good (to_tree x) (view.all_nodes to_tree xs) h in (both.0, runs_good to_tree xs both.1)
+
 labelled_good : (l : Option Label) (t : Tree) → IsGood (view.labelled l t) → IsGood t
 labelled_good None t h = h
 labelled_good (Some l) t h = h.1

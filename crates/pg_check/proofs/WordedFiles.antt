@@ -10,7 +10,7 @@ use Rattle.pg_check.specs.MadeMessages.{oneof_in, oneofs}
 use Rattle.pg_check.specs.Members.{Member, members_from, members_in, name_of, oneof_members, oneofs_in}
 use Rattle.pg_check.specs.Outline.{Enum, Message, all_enums, all_messages, an_enum, dotted, dotted_more, enums_in, file_enums, file_messages, full_name, messages_in, package_in, package_of, row_enums, row_list, row_messages, statement_enums, statement_messages, statements_behind}
 use Rattle.pg_check.proofs.NoneLaws.{and_both, and_left, and_right}
-use Rattle.pg_check.proofs.WordTrees.{IsGood, IsGoodName, field_name_good, map_name_good, rows_good}
+use Rattle.pg_check.proofs.WordTrees.{IsGood, IsGoodName, field_name_good, map_name_good, nodes_good, rows_good, runs_good}
 use Rattle.pg_syntax.specs.declared.tree as tree
 use Rattle.pg_syntax.specs.declared.tree.OneofPart.TheVariants as oneof_parts
 use Rattle.pg_syntax.specs.declared.tree.Part.{Part, Row_of-Part, end_of-Part, more_of-Part}
@@ -55,7 +55,7 @@ members_worded place (p ∷ ps) h =
     one (parts.Empty span) k = refl
     one (parts.Message' name shape row span) k = refl
     one (parts.Enum e) k = refl
-    one (parts.Oneof o) k = oneof_members_worded place o.parts.items (rows_good view.oneof_part o.parts.items k.1.1.1.0)
+    one (parts.Oneof o) k = oneof_members_worded place o.parts.items (runs_good view.oneof_part o.parts.items k.1.1.1.0)
     one (parts.Option o) k = refl
     one (parts.Reserved r) k = refl
     one (parts.Map m) k = and_both (is_word (string_bytes m.name.text)) true (map_name_good m k) refl
@@ -94,9 +94,9 @@ some_within [] [] h = absurd (false≢true h)
 some_within [] (c ∷ cs) h = omega arith
 some_within (b ∷ bs) w h = omega arith
 
-row_good : {m : _} (row : Row_of-Part m) → IsGood (view.part_row row) → AllByRecursion IsGoodPart (row_list row)
+row_good : {m : _} (row : Row_of-Part m) → IsGood (view.row (view.part_nodes row)) → AllByRecursion IsGoodPart (row_list row)
 row_good end_of-Part h = tt
-row_good (more_of-Part p rest) h = (h.0, row_good rest h.1)
+row_good (more_of-Part p rest) h = let both = nodes_good (view.part p) (view.part_nodes rest) h in (both.0, row_good rest both.1)
 
 mutual
   part_messages_good : (scope : List ℕ) (p : Part) → IsGoodPart p → AllByRecursion IsGoodMessage (messages_in scope p)
@@ -110,10 +110,11 @@ mutual
   part_messages_good scope (parts.Map m) h = tt
   part_messages_good scope (parts.Field f) h = tt
 
-  row_messages_good : {m : _} (scope : List ℕ) (row : Row_of-Part m) → IsGood (view.part_row row) → AllByRecursion IsGoodMessage (row_messages scope row)
+  row_messages_good : {m : _} (scope : List ℕ) (row : Row_of-Part m) → IsGood (view.row (view.part_nodes row)) → AllByRecursion IsGoodMessage (row_messages scope row)
   row_messages_good scope end_of-Part h = tt
   row_messages_good scope (more_of-Part p rest) h =
-      joined_all IsGoodMessage (messages_in scope p) (row_messages scope rest) (part_messages_good scope p h.0) (row_messages_good scope rest h.1)
+      let both = nodes_good (view.part p) (view.part_nodes rest) h in
+      joined_all IsGoodMessage (messages_in scope p) (row_messages scope rest) (part_messages_good scope p both.0) (row_messages_good scope rest both.1)
 
 body_messages_good : (scope : List ℕ) (ps : List Part) → AllByRecursion IsGoodPart ps → AllByRecursion IsGoodMessage (flat_map (messages_in scope) ps)
 body_messages_good scope [] h = tt
@@ -124,7 +125,7 @@ messages_good scope (statements.Empty span) h = tt
 messages_good scope (statements.Import i) h = tt
 messages_good scope (statements.Option o) h = tt
 messages_good scope (statements.Message m) h =
-    let body : AllByRecursion IsGoodPart m.parts.items = rows_good view.part m.parts.items h.1.1.1.0 in
+    let body : AllByRecursion IsGoodPart m.parts.items = runs_good view.part m.parts.items h.1.1.1.0 in
     (record { name = h.1.0; some = some_within scope (string_bytes m.name.text) h.1.0; is_full = refl; body = body }, body_messages_good (full_name scope m.name) m.parts.items body)
 messages_good scope (statements.Enum e) h = tt
 messages_good scope (statements.Service s) h = tt
@@ -141,7 +142,7 @@ pub record IsGoodEnum (e : Enum) : Type 0 where
   pub body : AllByRecursion IsGoodEnumPart e.tree.parts.items
 
 enum_good : (scope : List ℕ) (e : tree.Enum.Enum) → IsGood (view.enumeration e) → AllByRecursion IsGoodEnum (an_enum scope e)
-enum_good scope e h = (record { name = h.1.0; is_full = refl; body = rows_good view.enum_part e.parts.items h.1.1.1.0 }, tt)
+enum_good scope e h = (record { name = h.1.0; is_full = refl; body = runs_good view.enum_part e.parts.items h.1.1.1.0 }, tt)
 
 mutual
   part_enums_good : (scope : List ℕ) (p : Part) → IsGoodPart p → AllByRecursion IsGoodEnum (enums_in scope p)
@@ -154,9 +155,11 @@ mutual
   part_enums_good scope (parts.Map m) h = tt
   part_enums_good scope (parts.Field f) h = tt
 
-  row_enums_good : {m : _} (scope : List ℕ) (row : Row_of-Part m) → IsGood (view.part_row row) → AllByRecursion IsGoodEnum (row_enums scope row)
+  row_enums_good : {m : _} (scope : List ℕ) (row : Row_of-Part m) → IsGood (view.row (view.part_nodes row)) → AllByRecursion IsGoodEnum (row_enums scope row)
   row_enums_good scope end_of-Part h = tt
-  row_enums_good scope (more_of-Part p rest) h = joined_all IsGoodEnum (enums_in scope p) (row_enums scope rest) (part_enums_good scope p h.0) (row_enums_good scope rest h.1)
+  row_enums_good scope (more_of-Part p rest) h =
+      let both = nodes_good (view.part p) (view.part_nodes rest) h in
+      joined_all IsGoodEnum (enums_in scope p) (row_enums scope rest) (part_enums_good scope p both.0) (row_enums_good scope rest both.1)
 
 body_enums_good : (scope : List ℕ) (ps : List Part) → AllByRecursion IsGoodPart ps → AllByRecursion IsGoodEnum (flat_map (enums_in scope) ps)
 body_enums_good scope [] h = tt
@@ -166,7 +169,7 @@ enums_good : (scope : List ℕ) (s : tree.Statement.Statement) → IsGoodStateme
 enums_good scope (statements.Empty span) h = tt
 enums_good scope (statements.Import i) h = tt
 enums_good scope (statements.Option o) h = tt
-enums_good scope (statements.Message m) h = body_enums_good (full_name scope m.name) m.parts.items (rows_good view.part m.parts.items h.1.1.1.0)
+enums_good scope (statements.Message m) h = body_enums_good (full_name scope m.name) m.parts.items (runs_good view.part m.parts.items h.1.1.1.0)
 enums_good scope (statements.Enum e) h = enum_good scope e h
 enums_good scope (statements.Service s) h = tt
 
@@ -254,7 +257,7 @@ package_good (Some p) h =
 
 behind_good : (p : Option tree.Packaged.Packaged) → IsGood (view.perhaps view.packaged p) → AllByRecursion IsGoodStatement (statements_behind p)
 behind_good None h = tt
-behind_good (Some p) h = rows_good view.statement p.statements.items h.1
+behind_good (Some p) h = runs_good view.statement p.statements.items h.1
 
 -- ---- files
 
@@ -268,7 +271,7 @@ pub record IsGoodFile (file : tree.FileTree.FileTree) : Type 0 where
 
 pub good_file : (file : tree.FileTree.FileTree) → IsGood (view.file file) → IsGoodFile file
 good_file file h =
-    let front : AllByRecursion IsGoodStatement file.statements.items = rows_good view.statement file.statements.items h.1.1.0 in
+    let front : AllByRecursion IsGoodStatement file.statements.items = runs_good view.statement file.statements.items h.1.1.0 in
     let behind : AllByRecursion IsGoodStatement (statements_behind file.packaged) = behind_good file.packaged h.1.1.1 in
     let scope = package_of file in
     record {

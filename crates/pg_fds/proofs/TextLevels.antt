@@ -8,13 +8,13 @@ use Rattle.pg_schema.specs.Words.{is_word, is_word_byte}
 use Rattle.pg_schema.proofs.PairLemmas.{and_left, and_right}
 use Rattle.pg_dyn.proofs.Lists.{each-append}
 use Rattle.pg_check.specs.Outline.{Message, all_messages, file_messages, full_name, messages_in, package_of, row_messages, statement_messages, statements_behind}
-use Rattle.pg_check.proofs.WordTrees.{IsGood}
+use Rattle.pg_check.proofs.WordTrees.{IsGood, nodes_good}
 use Rattle.pg_syntax.specs.declared.tree as tree
 use Rattle.pg_syntax.specs.declared.tree.Part.{Part, Row_of-Part, end_of-Part, more_of-Part}
 use Rattle.pg_syntax.specs.declared.tree.Part.TheVariants as parts
 use Rattle.pg_syntax.specs.declared.tree.Statement.TheVariants as statements
 use Rattle.pg_syntax.specs.Grammar.{Grammar, Derives, Row}
-use Rattle.pg_syntax.specs.Tree.{Tree, Empty, At, Both}
+use Rattle.pg_syntax.specs.Tree.{Tree, Empty, Leaf, At, Both}
 use Rattle.pg_syntax.specs.Views as view
 use Rattle.pg_syntax.specs.Proto3 as grammar
 use Rattle.pg_lex.specs.declared.token.Span.{Span}
@@ -109,14 +109,25 @@ unfolding grammar.message
 has_left zero span name open_mark parts close_mark h = absurd h
 has_left (suc left) span name open_mark parts close_mark h = record { left = left; is = omega arith; derives = h.1.1.1.0 }
 
+-- each node of the tree is one that the grammar derives
+abbrev AreNodes : Grammar → Tree → Type 0
+AreNodes g t = Row (Derives g) (view.row (view.nodes t))
+
+-- the nodes of a tree in front of others
+nodes_derived : (g : Grammar) (t : Tree) (ts : List Tree) → Row (Derives g) (view.row (view.nodes t ++ ts)) → AreNodes g t × Row (Derives g) (view.row ts)
+nodes_derived g Empty ts h = ((h.0, tt), h.1)
+nodes_derived g (Leaf s) ts h = ((h.0, tt), h.1)
+nodes_derived g (Both t u) ts h = let others = nodes_derived g u ts h.1 in ((h.0, others.0), others.1)
+nodes_derived g (At span t) ts h = ((h.0, tt), h.1)
+
 -- with so many words in the scope and so many levels left
 mutual
   part_levelled : (depth top : ℕ) (scope : List ℕ) (p : Part) → words_in scope + depth ≤ top → IsGood (view.part p)
-      → Derives (grammar.part_in (grammar.message depth)) (view.part p) → AreLevelled top (messages_in scope p)
+      → AreNodes (grammar.part_in (grammar.message depth)) (view.part p) → AreLevelled top (messages_in scope p)
   part_levelled depth top scope (parts.Empty span) fits h d = tt
   part_levelled depth top scope (parts.Message' name shape row span) fits h d =
       let below : words_in (full_name scope name) ≡ words_in scope + 1 = word_within scope (string_bytes name.text) h.1.0 in
-      let inner : HasLeft depth (view.part_row row) = has_left depth span _ _ _ _ (nested_derives (grammar.message depth) span _ d) in (
+      let inner : HasLeft depth (view.row (view.part_nodes row)) = has_left depth span _ _ _ _ (nested_derives (grammar.message depth) span _ d.0) in (
         record { below = below; shallow = omega (arith, below, fits, inner.is) },
         row_levelled inner.left top (full_name scope name) row (omega (arith, below, fits, inner.is)) h.1.1.1.0 inner.derives,
       )
@@ -127,30 +138,34 @@ mutual
   part_levelled depth top scope (parts.Map m) fits h d = tt
   part_levelled depth top scope (parts.Field f) fits h d = tt
 
-  row_levelled : {m : _} (depth top : ℕ) (scope : List ℕ) (row : Row_of-Part m) → words_in scope + depth ≤ top → IsGood (view.part_row row)
-      → Row (Derives (grammar.part_in (grammar.message depth))) (view.part_row row) → AreLevelled top (row_messages scope row)
+  row_levelled : {m : _} (depth top : ℕ) (scope : List ℕ) (row : Row_of-Part m) → words_in scope + depth ≤ top → IsGood (view.row (view.part_nodes row))
+      → Row (Derives (grammar.part_in (grammar.message depth))) (view.row (view.part_nodes row)) → AreLevelled top (row_messages scope row)
   row_levelled depth top scope end_of-Part fits h d = tt
   row_levelled depth top scope (more_of-Part p rest) fits h d =
+      let good = nodes_good (view.part p) (view.part_nodes rest) h in
+      let derived = nodes_derived (grammar.part_in (grammar.message depth)) (view.part p) (view.part_nodes rest) d in
       each-append (IsLevelled top) (messages_in scope p) (row_messages scope rest)
-      (part_levelled depth top scope p fits h.0 d.0) (row_levelled depth top scope rest fits h.1 d.1)
+      (part_levelled depth top scope p fits good.0 derived.0) (row_levelled depth top scope rest fits good.1 derived.1)
 
-body_levelled : (depth top : ℕ) (scope : List ℕ) (ps : List Part) → words_in scope + depth ≤ top → IsGood (view.rows view.part ps)
-    → Row (Derives (grammar.part_in (grammar.message depth))) (view.rows view.part ps) → AreLevelled top (flat_map (messages_in scope) ps)
+body_levelled : (depth top : ℕ) (scope : List ℕ) (ps : List Part) → words_in scope + depth ≤ top → IsGood (view.runs view.part ps)
+    → Row (Derives (grammar.part_in (grammar.message depth))) (view.runs view.part ps) → AreLevelled top (flat_map (messages_in scope) ps)
 body_levelled depth top scope [] fits h d = tt
 body_levelled depth top scope (p ∷ ps) fits h d =
+    let good = nodes_good (view.part p) (view.all_nodes view.part ps) h in
+    let derived = nodes_derived (grammar.part_in (grammar.message depth)) (view.part p) (view.all_nodes view.part ps) d in
     each-append (IsLevelled top) (messages_in scope p) (flat_map (messages_in scope) ps)
-    (part_levelled depth top scope p fits h.0 d.0) (body_levelled depth top scope ps fits h.1 d.1)
+    (part_levelled depth top scope p fits good.0 derived.0) (body_levelled depth top scope ps fits good.1 derived.1)
 
 -- ---- files
 
 statement_levelled : (depth top : ℕ) (scope : List ℕ) (s : tree.Statement.Statement) → words_in scope + depth ≤ top → IsGood (view.statement s)
-    → Derives (grammar.statement depth) (view.statement s) → AreLevelled top (statement_messages scope s)
+    → AreNodes (grammar.statement depth) (view.statement s) → AreLevelled top (statement_messages scope s)
 statement_levelled depth top scope (statements.Empty span) fits h d = tt
 statement_levelled depth top scope (statements.Import i) fits h d = tt
 statement_levelled depth top scope (statements.Option o) fits h d = tt
 statement_levelled depth top scope (statements.Message m) fits h d =
     let below : words_in (full_name scope m.name) ≡ words_in scope + 1 = word_within scope (string_bytes m.name.text) h.1.0 in
-    let inner : HasLeft depth (view.rows view.part m.parts.items) = has_left depth m.span _ _ _ _ (stated_derives depth m.span _ d) in (
+    let inner : HasLeft depth (view.runs view.part m.parts.items) = has_left depth m.span _ _ _ _ (stated_derives depth m.span _ d.0) in (
       record { below = below; shallow = omega (arith, below, fits, inner.is) },
       body_levelled inner.left top (full_name scope m.name) m.parts.items (omega (arith, below, fits, inner.is)) h.1.1.1.0 inner.derives,
     )
@@ -158,11 +173,13 @@ statement_levelled depth top scope (statements.Enum e) fits h d = tt
 statement_levelled depth top scope (statements.Service s) fits h d = tt
 
 statements_levelled : (depth top : ℕ) (scope : List ℕ) (ss : List tree.Statement.Statement) → words_in scope + depth ≤ top
-    → IsGood (view.rows view.statement ss) → Row (Derives (grammar.statement depth)) (view.rows view.statement ss) → AreLevelled top (all_messages scope ss)
+    → IsGood (view.runs view.statement ss) → Row (Derives (grammar.statement depth)) (view.runs view.statement ss) → AreLevelled top (all_messages scope ss)
 statements_levelled depth top scope [] fits h d = tt
 statements_levelled depth top scope (s ∷ ss) fits h d =
+    let good = nodes_good (view.statement s) (view.all_nodes view.statement ss) h in
+    let derived = nodes_derived (grammar.statement depth) (view.statement s) (view.all_nodes view.statement ss) d in
     each-append (IsLevelled top) (statement_messages scope s) (all_messages scope ss)
-    (statement_levelled depth top scope s fits h.0 d.0) (statements_levelled depth top scope ss fits h.1 d.1)
+    (statement_levelled depth top scope s fits good.0 derived.0) (statements_levelled depth top scope ss fits good.1 derived.1)
 
 behind_levelled : (depth top : ℕ) (scope : List ℕ) (p : Option tree.Packaged.Packaged) → words_in scope + depth ≤ top
     → IsGood (view.perhaps view.packaged p) → (view.perhaps view.packaged p ≡ Empty) ⊎ Derives (grammar.packaged depth) (view.perhaps view.packaged p)

@@ -8,7 +8,7 @@ use Rattle.pg_syntax.specs.Tree.{Tree, Empty, Leaf, Both, At, spell, symbols}
 use Rattle.pg_syntax.specs.Grammar.{Class, is_in, Look, looks, look_of, Grammar, Row, One, Seq, Pick, Optional, Many, Node, Unless, Refused, Checked, Closed, Derives}
 use Rattle.pg_syntax.specs.Reading.{Point, Outcome, ◌>>=◌, fault, next_in, first_of, one_of, repeated, instead, read}
 use Rattle.pg_syntax.specs.Due.{Due, Behind}
-use Rattle.pg_syntax.proofs.Check.{check, at_least, least}
+use Rattle.pg_syntax.proofs.Check.{check}
 use Rattle.pg_syntax.proofs.Classes.{and_parts}
 use Rattle.pg_syntax.proofs.Trees.{symbols-append, stands_spell}
 use Rattle.pg_syntax.proofs.Law.{Found, bind_err, refuted}

@@ -1,4 +1,5 @@
 pub mod Rows
+pub mod Runs
 pub mod Check
 pub mod Classes
 pub mod Trees

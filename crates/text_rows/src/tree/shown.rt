@@ -1,6 +1,6 @@
 //! The first statement of a file, as far as rows show it.
 use pg_syntax::tree::{
-    Argument, Field, FileTree, Label, Message, Part, Rpc, Service, ServicePart, Statement, TypeName,
+    Argument, EmptyStatements, Field, FileTree, Label, Message, Part, Rpc, Service, ServicePart, Statement, TypeName,
 };
 use std::alloc::{AllocError, Global};
 
@@ -33,9 +33,18 @@ fn field(alloc: Global, field: &Field) -> Result<String, AllocError> {
     )
 }
 
+// A `;` for each of them.
+fn empties(alloc: Global, run: &EmptyStatements) -> Result<String, AllocError> {
+    let mut out = String::from_str(alloc, ";")?;
+    for _ in &run.more {
+        out.push_str(", ;")?;
+    }
+    Ok(out)
+}
+
 fn part(alloc: Global, part: &Part) -> Result<String, AllocError> {
     match part {
-        Part::Empty(_) => String::from_str(alloc, ";"),
+        Part::Empty(run) => empties(alloc, run),
         Part::Message(_) => String::from_str(alloc, "message"),
         Part::Enum(_) => String::from_str(alloc, "enum"),
         Part::Oneof(_) => String::from_str(alloc, "oneof"),
