@@ -1,22 +1,19 @@
 //! The promises of `pg_fds`, said again of calls of it: the edits of `must-fail` turn each answer, and every one must be refused.
 #![tactic(auto)]
 
-ghost use Rattle.std.specs.Prelude.{ℕ, ◌≡◌, ◌≤◌, ◌⊎◌, List, true, length, IfErr, IfOk};
+ghost use Rattle.std.specs.Prelude.{ℕ, ◌≡◌, ◌⊎◌, List, true, IfErr, IfOk};
 ghost use Rattle.pg_schema.specs.declared.parts.Parts.{Parts};
 ghost use Rattle.pg_schema.specs.Parts.{shape_of};
 ghost use Rattle.pg_schema.specs.Sound.{IsSound};
 ghost use Rattle.pg_dyn.specs.declared.error.DynError.TheVariants as faults;
-ghost use Rattle.pg_dyn.specs.Encoding.{cap};
 ghost use Rattle.pg_fds.specs.declared.error.FdsError.TheVariants as errors;
 ghost use Rattle.pg_fds.specs.Again.{IsNotTooDeep, IsReadable, are_shallow};
 ghost use Rattle.pg_fds.specs.Descriptor.{descriptor_shape};
 ghost use Rattle.pg_fds.specs.DescriptorParts.{descriptor_parts};
-ghost use Rattle.pg_fds.specs.InOrder.{StandInOrder};
 ghost use Rattle.pg_fds.specs.ReadAgain.{IsReadAgain, IsTooLong, MayRefuseAgain};
-ghost use Rattle.pg_fds.specs.Reads.{CanBeRead, IsHeld, fds_reads};
+ghost use Rattle.pg_fds.specs.Reads.{IsHeld, fds_reads};
 ghost use Rattle.pg_fds.specs.Refused.{MayRefuseSet, NoneIsStated};
 ghost use Rattle.pg_fds.specs.Set.{fds};
-ghost use Rattle.pg_fds.specs.SetOrder.{in_set_order};
 ghost use Rattle.pg_fds.specs.Views.{parts_view};
 ghost use Rattle.pg_fds.specs.Written.{HasNoSet};
 
@@ -41,7 +38,6 @@ pub fn write(alloc: Global, schema: &Schema) -> Result<Vec<u8>, FdsError>
 
 /// What `write` answers: what is read of the bytes.
 pub fn write_readable(alloc: Global, of: &Schema) -> Result<Vec<u8>, FdsError>
-    ensures short { IfOk result (λ bytes. length bytes.items ≤ cap) }
     ensures stated { IfOk result (λ bytes. IsReadable of.now → fds_reads bytes.items of.now) }
     ensures shallow { IfOk result (λ bytes. are_shallow of.now ≡ true → IsNotTooDeep bytes.items) }
 {
@@ -65,10 +61,7 @@ pub fn read(alloc: Global, bytes: &[u8]) -> Result<Schema, FdsError>
 /// What `read` answers: which of the schemas that the set states.
 pub fn read_alike(alloc: Global, set: &[u8]) -> Result<Schema, FdsError>
     ensures sound { IfOk result IsSound }
-    ensures places { IfOk result (λ schema. StandInOrder schema) }
     ensures same { IfOk result (λ schema. (parts : Parts) → IsHeld parts → fds_reads set.now parts
-        → parts_view schema ≡ parts_view (in_set_order parts)) }
-    ensures exact { IfOk result (λ schema. (parts : Parts) → CanBeRead parts → fds_reads set.now parts
         → parts_view schema ≡ parts_view parts) }
 {
     pg_fds::read(alloc, set)
@@ -86,10 +79,7 @@ pub fn read_refused(alloc: Global, bad: &[u8]) -> Result<Schema, FdsError>
 pub fn read_again(alloc: Global, schema: &Schema) -> Result<Schema, FdsError>
     ensures stated { IfOk result (λ made. (bytes : List ℕ) → fds schema.now bytes → fds_reads bytes made) }
     ensures sound { IfOk result IsSound }
-    ensures places { IfOk result (λ made. StandInOrder made) }
-    ensures same { IfOk result (λ made. IsReadAgain schema.now → parts_view made ≡ parts_view (in_set_order schema.now)) }
-    ensures exact { IfOk result (λ made. IsReadAgain schema.now → StandInOrder schema.now
-        → parts_view made ≡ parts_view schema.now) }
+    ensures same { IfOk result (λ made. IsReadAgain schema.now → parts_view made ≡ parts_view schema.now) }
 {
     pg_fds::read_again(alloc, schema)
 }

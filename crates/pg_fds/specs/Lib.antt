@@ -38,6 +38,4 @@ pub mod Again
 pub mod ReadAgain
 pub mod ReadExamples
 pub mod PlaceExamples
-pub mod SetOrder
-pub mod SetOrderLaws
 pub mod TextOrder

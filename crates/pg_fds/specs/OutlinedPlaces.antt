@@ -44,9 +44,9 @@ behind_type depth scope counts m = record {
   services = counts.services;
 }
 
--- where the first of what is inside a message type stands
-abbrev pub inside_type : Counts → Counts
-inside_type counts = record { types = counts.types + 1; enums = counts.enums; services = counts.services }
+-- where the first of what stands inside a message type, behind its enums
+abbrev pub inside_type : Counts → Message → Counts
+inside_type counts m = record { types = counts.types + 1; enums = counts.enums + length (children_at 4 m); services = counts.services }
 
 -- the places of message types, nested less deep than that, without those inside them
 abbrev pub places_of_types : (depth : ℕ) → (scope : List ℕ) → Counts → List Message → List ℕ
@@ -75,9 +75,9 @@ abbrev pub placed_with : (depth : ℕ) → (inside : List ℕ → Counts → Lis
 placed_with depth inside scope counts m =
     record {
       named = row_in scope m;
-      types = places_of_types depth (full_name scope m) (inside_type counts) (inner_types m);
-      enums = places_from (counts.enums + length (enum_rows depth (full_name scope m) (inner_types m))) (length (children_at 4 m));
-    } ∷ inside (full_name scope m) (inside_type counts) (inner_types m)
+      types = places_of_types depth (full_name scope m) (inside_type counts m) (inner_types m);
+      enums = places_from counts.enums (length (children_at 4 m));
+    } ∷ inside (full_name scope m) (inside_type counts m) (inner_types m)
 
 abbrev pub placed_types : (depth : ℕ) → (scope : List ℕ) → Counts → List Message → List PlacedType
 placed_types zero scope counts ms = []
@@ -107,11 +107,15 @@ placed_file o = record {
   services = service_places o.services.items;
 }
 
+-- where the first of its message types stands, behind its enums
+abbrev pub inside_file : Counts → Message → Counts
+inside_file counts m = record { types = counts.types; enums = counts.enums + length (children_at 5 m); services = counts.services }
+
 abbrev pub file_places : (depth : ℕ) → Counts → Message → PlacedFile
 file_places depth counts m = record {
   message = m;
-  types = places_of_types depth (text_at 2 m) counts (children_at 4 m);
-  enums = places_from (counts.enums + length (enum_rows depth (text_at 2 m) (children_at 4 m))) (length (children_at 5 m));
+  types = places_of_types depth (text_at 2 m) (inside_file counts m) (children_at 4 m);
+  enums = places_from counts.enums (length (children_at 5 m));
   services = places_from counts.services (length (children_at 6 m));
 }
 
@@ -120,4 +124,4 @@ placed_files depth counts ms = each_from (behind_file depth) (λ c m. file_place
 
 -- the message types of the files
 abbrev pub types_of_files : (depth : ℕ) → Counts → List Message → List PlacedType
-types_of_files depth counts ms = each_from (behind_file depth) (λ c m. placed_types depth (text_at 2 m) c (children_at 4 m)) counts ms
+types_of_files depth counts ms = each_from (behind_file depth) (λ c m. placed_types depth (text_at 2 m) (inside_file c m) (children_at 4 m)) counts ms

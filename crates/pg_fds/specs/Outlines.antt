@@ -43,9 +43,9 @@ abbrev pub type_rows : (depth : ℕ) → (scope : List ℕ) → List Message →
 type_rows zero scope ms = []
 type_rows (suc depth) scope ms = flat_map (rows_of_type (type_rows depth) scope) ms
 
--- the enums of the types inside a message type, and then its own
+-- the enums of a message type, and then those of the types inside it
 abbrev pub rows_of_enums : (inside : List ℕ → List Message → List Row) → (scope : List ℕ) → Message → List Row
-rows_of_enums inside scope m = inside (full_name scope m) (filter is_no_entry (children_at 3 m)) ++ rows_in (full_name scope m) (children_at 4 m)
+rows_of_enums inside scope m = rows_in (full_name scope m) (children_at 4 m) ++ inside (full_name scope m) (filter is_no_entry (children_at 3 m))
 
 -- the enums in message types, nested less deep than that
 abbrev pub enum_rows : (depth : ℕ) → (scope : List ℕ) → List Message → List Row
@@ -58,7 +58,7 @@ abbrev pub file_types : (depth : ℕ) → Message → List Row
 file_types depth m = type_rows depth (text_at 2 m) (children_at 4 m)
 
 abbrev pub file_enums : (depth : ℕ) → Message → List Row
-file_enums depth m = enum_rows depth (text_at 2 m) (children_at 4 m) ++ rows_in (text_at 2 m) (children_at 5 m)
+file_enums depth m = rows_in (text_at 2 m) (children_at 5 m) ++ enum_rows depth (text_at 2 m) (children_at 4 m)
 
 abbrev pub file_services : Message → List Row
 file_services m = rows_in (text_at 2 m) (children_at 6 m)

@@ -52,9 +52,11 @@ pub record StatesFiles (skips : Bool) (kept : List Message) (parts : Parts) : Ty
   pub behind : AreBehind [] parts.files.items
   pub order : IsPostOrder skips (map importer_of kept) (map file_name parts.files.items)
 
--- the message of a set states the schema of these parts
-abbrev pub States : Message → Parts → Type 0
-States set parts = StatesFiles (skips set) (kept_files set) parts
+-- The message of a set states the schema of these parts: its files do, and message types, enums and services are numbered in the order
+-- of a schema.
+pub record States (set : Message) (parts : Parts) : Type 0 where
+  pub files : StatesFiles (skips set) (kept_files set) parts
+  pub places : StandInOrder parts
 
 -- the bytes are a set that states the schema
 abbrev pub fds_reads : List ℕ → Parts → Type 0
@@ -66,7 +68,7 @@ pub record IsHeld (parts : Parts) : Type 0 where
   pub few_enums : length parts.enums.items ≤ 2 ^ 32
   pub few_services : length parts.services.items ≤ 2 ^ 32
 
--- the same, standing in order, as each schema does that is read
+-- the same, numbered in that order
 pub record CanBeRead (parts : Parts) : Type 0 where
   pub sound : IsSound parts
   pub places : StandInOrder parts

@@ -1,5 +1,5 @@
 -- The set of files that a schema's all give, `FileDescriptorSet` of descriptor.proto.
-use Rattle.std.specs.Prelude.{◌≡◌, ℕ, suc, List, [], ◌∷◌, ◌++◌, map, flat_map, length, codes, Option, Some, None, slice_get, if◌then◌else◌}
+use Rattle.std.specs.Prelude.{◌≡◌, ℕ, suc, List, [], ◌∷◌, ◌++◌, map, flat_map, length, codes, Option, Some, None, slice_get, if◌then◌else◌, ◌≤◌}
 use Rattle.std.specs.String.{string_bytes}
 use Rattle.pg_schema.specs.declared.file.File.{File}
 use Rattle.pg_schema.specs.declared.file.Import.{Import}
@@ -13,7 +13,7 @@ use Rattle.pg_schema.specs.declared.service.Service.{Service}
 use Rattle.pg_schema.specs.declared.service.ServiceId.{ServiceId}
 use Rattle.pg_schema.specs.Scopes.{type_name}
 use Rattle.pg_dyn.specs.Message.{Message, message_from}
-use Rattle.pg_dyn.specs.Encoding.{enc}
+use Rattle.pg_dyn.specs.Encoding.{cap, enc}
 use Rattle.pg_schema.specs.declared.parts.Parts.{Parts}
 use Rattle.pg_fds.specs.Places.{Declared, declared_in}
 use Rattle.pg_fds.specs.Descriptor.{descriptor_shape, file_set}
@@ -77,6 +77,6 @@ file_items all f =
 abbrev pub set_message : Parts → Message
 set_message parts = message_from (children 1 (map (file_items (declared_in parts)) parts.files.items)) []
 
--- the bytes are a set of the schema's files
+-- the bytes are a set of the schema's files, no longer than an encoding may be
 abbrev pub fds : Parts → List ℕ → Type 0
-fds parts bytes = bytes ≡ enc descriptor_shape file_set (set_message parts)
+fds parts bytes = (bytes ≡ enc descriptor_shape file_set (set_message parts)) × (length bytes ≤ cap)

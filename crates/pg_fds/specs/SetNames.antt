@@ -38,10 +38,10 @@ member_names full m = full_names full (children_at 2 m) ++ full_names full (real
 abbrev pub own_names : (full : List ℕ) → Message → List (List ℕ)
 own_names full m = full ∷ member_names full m ++ full_names full (filter is_entry (children_at 3 m))
 
--- with those of the types inside it and of its enums
+-- with those of its enums and of the types inside it
 abbrev pub type_names : (inside : List ℕ → List Message → List (List ℕ)) → (scope : List ℕ) → Message → List (List ℕ)
 type_names inside scope m =
-    own_names (full_name scope m) m ++ inside (full_name scope m) (filter is_no_entry (children_at 3 m)) ++ enums_names (full_name scope m) (children_at 4 m)
+    own_names (full_name scope m) m ++ enums_names (full_name scope m) (children_at 4 m) ++ inside (full_name scope m) (filter is_no_entry (children_at 3 m))
 
 -- those of message types nested less deep than that
 abbrev pub types_names : (depth : ℕ) → (scope : List ℕ) → List Message → List (List ℕ)
@@ -58,7 +58,7 @@ services_names scope ms = flat_map (service_names scope) ms
 -- those of a file, with message types nested less deep than that
 abbrev pub file_names : (depth : ℕ) → Message → List (List ℕ)
 file_names depth m =
-    types_names depth (text_at 2 m) (children_at 4 m) ++ enums_names (text_at 2 m) (children_at 5 m) ++ services_names (text_at 2 m) (children_at 6 m)
+    enums_names (text_at 2 m) (children_at 5 m) ++ types_names depth (text_at 2 m) (children_at 4 m) ++ services_names (text_at 2 m) (children_at 6 m)
 
 abbrev pub files_names : (depth : ℕ) → List Message → List (List ℕ)
 files_names depth ms = flat_map (file_names depth) ms

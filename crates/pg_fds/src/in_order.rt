@@ -89,8 +89,8 @@ fn inner_enums(
         let Some(declared) = source.message_type(*id) else {
             return Err(Unstated::Reference);
         };
-        let own = inner_enums(source, depth - 1, declared.nested_types.as_slice(), end)?;
-        end = enums(declared.nested_enums.as_slice(), own)?;
+        let own = enums(declared.nested_enums.as_slice(), end)?;
+        end = inner_enums(source, depth - 1, declared.nested_types.as_slice(), own)?;
     }
     Ok(end)
 }
@@ -116,8 +116,8 @@ fn all_enums(source: &Schema, files: &[File]) -> Result<usize, Unstated>
 {
     let mut end = 0;
     for file in files {
-        let own = inner_enums(source, MOST_DEEP, file.types.as_slice(), end)?;
-        end = enums(file.enums.as_slice(), own)?;
+        let own = enums(file.enums.as_slice(), end)?;
+        end = inner_enums(source, MOST_DEEP, file.types.as_slice(), own)?;
     }
     Ok(end)
 }

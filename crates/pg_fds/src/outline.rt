@@ -9,7 +9,7 @@ ghost use Rattle.pg_dyn.specs.Kept.{message_of};
 ghost use Rattle.pg_fds.specs.declared.error.Unstated.TheVariants.{Memory};
 ghost use Rattle.pg_fds.specs.Lent.{lent};
 ghost use Rattle.pg_fds.specs.Outlines.{AreEnumsNamed, AreTypesNamed, IsTypeNamed, MayDeclare, MayPlace, NameOneofs, NamesOneofs, enum_rows, file_enums, file_services, file_types, files_at, row, row_in, rows_in, type_row, type_rows};
-ghost use Rattle.pg_fds.specs.OutlinedPlaces.{PlacedType, counts_of, file_places, no_counts, placed_file, placed_files, placed_type, placed_types, places_of_types, types_of_files, without_inside};
+ghost use Rattle.pg_fds.specs.OutlinedPlaces.{PlacedType, counts_of, file_places, inside_file, no_counts, placed_file, placed_files, placed_type, placed_types, places_of_types, types_of_files, without_inside};
 ghost use Rattle.pg_fds.specs.Said.{children_at, text_at};
 ghost use Rattle.pg_fds.specs.SetNames.{Declares, WantsMemory, enum_names, enums_names, file_names, member_names, own_names, service_names, services_names, types_names};
 ghost use Rattle.pg_fds.specs.StatesTypes.{is_entry};
@@ -350,14 +350,14 @@ impl<'a> Outline<'a> {
             let full = full_name(alloc, scope, own_name)?;
             let name = full.as_str();
             let id = self.outline_type(alloc, name, message)?;
+            let enums_inside = children(alloc, message, 4)?;
+            let own_enums = enums_inside.as_slice();
+            let enums = outline_enums(alloc, &mut self.names, &mut self.enums, name, own_enums)?;
             let all_inside = children(alloc, message, 3)?;
             let inside = all_inside.as_slice();
             let declared = types_of(alloc, inside)?;
             let own = declared.as_slice();
             let types = self.outline_types(alloc, depth - 1, name, own)?;
-            let enums_inside = children(alloc, message, 4)?;
-            let own_enums = enums_inside.as_slice();
-            let enums = outline_enums(alloc, &mut self.names, &mut self.enums, name, own_enums)?;
             self.place_inside(id, types, enums);
             ids.push(id)?;
         }
@@ -377,7 +377,7 @@ impl<'a> Outline<'a> {
         ensures files { OnOk result (map placed_file self.new.files.items
             ≡ map placed_file self.old.files.items ++ file_places depth (counts_of self.old) (message_of message.now) ∷ []) }
         ensures placed { OnOk result (map placed_type self.new.types.items
-            ≡ map placed_type self.old.types.items ++ placed_types depth (text_at 2 (message_of message.now)) (counts_of self.old) (children_at 4 (message_of message.now))) }
+            ≡ map placed_type self.old.types.items ++ placed_types depth (text_at 2 (message_of message.now)) (inside_file (counts_of self.old) (message_of message.now)) (children_at 4 (message_of message.now))) }
         ensures named { OnOk result (AreTypesNamed self.old.names (map type_row self.old.types.items)
             → AreTypesNamed self.new.names (map type_row self.new.types.items)) }
         ensures enums_named { OnOk result (AreEnumsNamed self.old.names (map row self.old.enums.items)
@@ -393,10 +393,10 @@ impl<'a> Outline<'a> {
         let types_inside = children(alloc, message, 4)?;
         let own_types = types_inside.as_slice();
         without_entries(alloc, own_types)?;
-        let types = self.outline_types(alloc, depth, scope, own_types)?;
         let enums_inside = children(alloc, message, 5)?;
         let own_enums = enums_inside.as_slice();
         let enums = outline_enums(alloc, &mut self.names, &mut self.enums, scope, own_enums)?;
+        let types = self.outline_types(alloc, depth, scope, own_types)?;
         let services_inside = children(alloc, message, 6)?;
         let own_services = services_inside.as_slice();
         let services = outline_services(

@@ -4,11 +4,5 @@ use Rattle.fds_promises.proofs.read_alike.Goals as goal
 pub returns-clause-sound : goal.returns-clause-sound
 returns-clause-sound c = search rules
 
-pub returns-clause-places : goal.returns-clause-places
-returns-clause-places c = search rules
-
 pub returns-clause-same : goal.returns-clause-same
 returns-clause-same c = search rules
-
-pub returns-clause-exact : goal.returns-clause-exact
-returns-clause-exact c = search rules

@@ -1,9 +1,6 @@
 use Rattle.std.proofs.Common.{rules}
 use Rattle.fds_promises.proofs.write_readable.Goals as goal
 
-pub returns-clause-short : goal.returns-clause-short
-returns-clause-short c = search rules
-
 pub returns-clause-stated : goal.returns-clause-stated
 returns-clause-stated c = search rules
 
