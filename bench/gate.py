@@ -1,11 +1,13 @@
 #!/usr/bin/env python3
 """Writes pairs of proto3 files whose message types refer to each other, for the gate.
 
-usage: gate.py FOLDER
+usage: gate.py FOLDER [TYPES]
 
-In each folder below it are old.proto and new.proto. The first three differ in one field of one type, far from the root M0:
-graph   4,096 types in one graph, 15 fields each (about 1.1 MB)
-chain   4,096 types, each with one field of the next
+In each folder below it are old.proto and new.proto. But for the last two they differ in one field of one type. TYPES is 4,096.
+graph   so many types in one graph, 15 fields each (about 1.1 MB)
+chain   so many types, each with one field of the next; the last one differs
+front   the chain; the first one differs
+circle  so many types, each with one field of the next in a circle, which goes to and fro in the order of the search's table
 mesh    64 types, each with a field of every type
 same    the graph, unchanged
 oneof   one type of 6,000 fields that come into one oneof of the new side
@@ -13,7 +15,7 @@ oneof   one type of 6,000 fields that come into one oneof of the new side
 import os
 import sys
 
-TYPES = 4096
+TYPES = int(sys.argv[2]) if len(sys.argv) > 2 else 4096
 MESH = 64
 ONEOF = 6000
 SCALARS = ["int32", "string", "bool", "double", "bytes", "uint64", "fixed32"]
@@ -39,6 +41,18 @@ def chain(number, _side):
         yield f"  M{number + 1} next = 1;\n"
 
 
+def circle(number, _side):
+    """The first type has a field of every other one, so that these stand in the table by number; they refer to each other from both
+    ends in turn, 1, 4095, 2, 4094 and so on to the middle, and from there to 1."""
+    if number == 0:
+        for other in range(1, TYPES):
+            yield f"  M{other} to{other} = {other};\n"
+    elif number == TYPES // 2:
+        yield "  M1 next = 1;\n"
+    else:
+        yield f"  M{TYPES - number + (1 if number > TYPES // 2 else 0)} next = 1;\n"
+
+
 def mesh(number, _side):
     for other in range(MESH):
         yield f"  M{other} to{other} = {other + 1};\n"
@@ -53,29 +67,31 @@ def oneof(_number, side):
         yield "  }\n"
 
 
-def write(folder, side, types, fields, changed):
+def write(folder, side, types, fields, changed_at):
     with open(os.path.join(folder, f"{side}.proto"), "w") as text:
         text.write('syntax = "proto3";\n')
         for number in range(types):
             text.write(f"message M{number} {{\n")
             text.writelines(fields(number, side))
-            if number == types - 1:
-                text.write(leaf(side if changed else "old"))
+            if number == changed_at:
+                text.write(leaf(side))
             text.write("}\n")
 
 
 def main():
-    for name, types, fields, changed in [
-        ("graph", TYPES, graph, True),
-        ("chain", TYPES, chain, True),
-        ("mesh", MESH, mesh, True),
-        ("same", TYPES, graph, False),
-        ("oneof", 1, oneof, False),
+    for name, types, fields, changed_at in [
+        ("graph", TYPES, graph, TYPES - 1),
+        ("chain", TYPES, chain, TYPES - 1),
+        ("front", TYPES, chain, 0),
+        ("circle", TYPES, circle, TYPES // 2),
+        ("mesh", MESH, mesh, MESH - 1),
+        ("same", TYPES, graph, None),
+        ("oneof", 1, oneof, None),
     ]:
         folder = os.path.join(sys.argv[1], name)
         os.makedirs(folder, exist_ok=True)
         for side in ("old", "new"):
-            write(folder, side, types, fields, changed)
+            write(folder, side, types, fields, changed_at)
 
 
 main()

@@ -2,8 +2,7 @@
 """Makes rows of crates/bytes_rows: byte strings, and what python3-protobuf (its C++ core) reads and writes again.
 
 Run `/usr/bin/python3 tools/decode_rows.py` at the top of the repository. It writes the lines of crates/bytes_rows/stdin and stdout that
-begin with `another runtime` anew, behind the others, which are written by hand, and crates/bytes_tests/src/tests/pair_rows.rt, which then
-wants `rt fmt`. The rows are always the same. Those of APART are what this repository and that runtime make of bytes otherwise by choice,
+begin with `another runtime` anew, behind the others, which are written by hand. The rows are always the same. Those of APART are what this repository and that runtime make of bytes otherwise by choice,
 each with its reason; all others leave it out.
 """
 import random
@@ -394,6 +393,12 @@ class Lines:
         for place, data in enumerate(rows, 1):
             self.add(": %s, %d" % (what, place), "again " + spelled(data), spelled(again(kind, data)))
 
+    def add_copies(self, what, kind, rows):
+        """Byte strings that the runtime takes, and what it writes again, which is what is written of a copy."""
+        taken = [(data, again(kind, data)) for data in rows]
+        for place, (data, back) in enumerate([it for it in taken if it[1] is not None], 1):
+            self.add(": copies of %s, %d" % (what, place), "copy " + spelled(data), spelled(back))
+
     def add_groups(self, kind, groups):
         """Groups of byte strings in hexadecimal, each with what it shows."""
         for what, words in groups:
@@ -417,23 +422,6 @@ class Lines:
 def spelled(data):
     """How a row spells bytes, and that they are refused."""
     return "refused" if data is None else data.hex() or "-"
-
-
-def literal(data):
-    return 'b"' + "".join("\\x%02x" % b for b in data) + '"'
-
-
-def write_pairs(path, kind, text, rows):
-    """The rows that a test reads with memory refused, those that are read, and their type."""
-    rows = [(data, again(kind, data)) for data in rows]
-    rows = [(data, back) for data, back in rows if back is not None]
-    with open(path, "w", encoding="utf-8") as out:
-        print("//! Made by tools/decode_rows.py: bytes, and those that python3-protobuf writes again.", file=out)
-        print('\npub(super) const TYPE: &str =\n    "%s";' % text, file=out)
-        print("\npub(super) static ROWS: [(&[u8], &[u8]); %d] = [" % len(rows), file=out)
-        for data, back in rows:
-            print("    (%s, %s)," % (literal(data), literal(back)), file=out)
-        print("];", file=out)
 
 
 NINE = "80" * 9
@@ -570,7 +558,7 @@ def main():
     lines.add_type("P", text)
     pairs = made_rows(kind, pair_records, 8, 22, longest=300)
     lines.add_rows("many oneofs", kind, pairs)
-    write_pairs("crates/bytes_tests/src/tests/pair_rows.rt", kind, text, pairs)
+    lines.add_copies("many oneofs", kind, pairs)
     kind, text = entry_schema()
     lines.add_type("T", text)
     lines.add_rows("entries without a key or a value, in both orders, twice, and between others", kind, each_entry())

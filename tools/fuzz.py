@@ -17,7 +17,7 @@ just what docs/USAGE.md and docs/REFUSALS.md say of that subcommand and status. 
 - message: `show` of what was written again shows the same, and the same bytes again
 
 An input that fails is written to a folder below FOLDER (./fuzz-failures), with its files and the commands of its runs, and is printed
-with the command that tries it again. The last line counts the inputs of each kind, how many of them were accepted and how many
+at the end with the command that tries it again, by number and kind, however many processes there were. The last line counts the inputs of each kind, how many of them were accepted and how many
 refused, the failures and the seconds. The status is 1 where an input failed.
 """
 import argparse
@@ -293,16 +293,17 @@ def write_failure(room, folder, kind, number):
 
 
 def try_one(room, options, seeds, kind, number, counts):
-    """Tries the input of a kind and number, and counts what came of it."""
+    """Tries the input of a kind and number, counts what came of it, and returns what to print where it fails."""
     room.clear()
     try:
         is_accepted = TRIES[kind](room, random.Random(f"{options.seed} {kind} {number}"), seeds)
         counts[kind, "accepted" if is_accepted else "refused"] += 1
+        return ""
     except Failure as failure:
         counts[kind, "failed"] += 1
         kept = write_failure(room, options.folder, kind, number)
         again = [os.path.realpath(__file__), "--seed", str(options.seed), "--only", f"{kind}:{number}", options.program]
-        print(f"{kind} {number}: {failure}\n  kept in {kept}\n  again: {shlex.join(again)}", flush=True)
+        return f"{kind} {number}: {failure}\n  kept in {kept}\n  again: {shlex.join(again)}"
 
 
 def inputs_of(options, share):
@@ -314,16 +315,18 @@ def inputs_of(options, share):
 
 
 def try_share(options, seeds, share):
-    """Tries a share of the inputs until the time is over, and returns its counts."""
-    room, counts = Room(options.program), collections.Counter()
+    """Tries a share of the inputs until the time is over. Returns its counts, and what to print of each failure behind its place in the order."""
+    room, counts, failures = Room(options.program), collections.Counter(), []
     try:
         for kind, number in inputs_of(options, share):
-            if time.time() > options.end or sum(it for key, it in counts.items() if key[1] == "failed") >= MOST_FAILURES:
+            if time.time() > options.end or len(failures) >= MOST_FAILURES:
                 break
-            try_one(room, options, seeds, kind, number, counts)
+            failure = try_one(room, options, seeds, kind, number, counts)
+            if failure:
+                failures.append((number, KINDS.index(kind), failure))
     finally:
         room.remove()
-    return counts
+    return counts, failures
 
 
 def made_seeds(program, seeds):
@@ -366,7 +369,10 @@ def main():
     seeds["set"] += sets
     seeds["certificate"] += certificates
     with multiprocessing.get_context("fork").Pool(options.jobs) as pool:
-        counts = sum(pool.starmap(try_share, [(options, seeds, share) for share in range(options.jobs)], 1), collections.Counter())
+        shares = pool.starmap(try_share, [(options, seeds, share) for share in range(options.jobs)], 1)
+    counts = sum((it for it, _ in shares), collections.Counter())
+    for _, _, failure in sorted(it for _, failures in shares for it in failures):
+        print(failure)
     parts = [f"{kind} {sum(counts[kind, it] for it in ('accepted', 'refused', 'failed'))} inputs: {counts[kind, 'accepted']} accepted, "
              f"{counts[kind, 'refused']} refused" for kind in KINDS]
     failed = sum(counts[kind, "failed"] for kind in KINDS)

@@ -1,10 +1,12 @@
 #!/usr/bin/env python3
 """Runs the gate (`rt ci`: each proof, the edits that must be refused, the tests and the programs) and tells what it cost.
 
-usage: tools/prove.py [CRATE..]    ends with the gate's status, and with its last line, 'N passed, M failed'
+usage: tools/prove.py [--anew] [CRATE..]    ends with the gate's status, and with its last line, 'N passed, M failed'
 
 Where crates are named, the gate runs on a copy of these and of those that they stand on. Else the documents are compared first
-with the definitions and the pictures, and the program that was built is tried with each request for memory refused and on random inputs.
+with the definitions and the pictures, and what was built is tried afterwards: the program and the libraries' calls with each request for
+memory refused, and the program on random inputs.
+What earlier runs on this machine passed is taken as it stands, as far as the kit keeps it; with --anew all is proved and tried again.
 
 Lines of rt stand behind the seconds since the start. Behind them stand the processor seconds of each crate by kind: its proof, the
 second proof that its edits begin with (the seed), its edits, its tests, and what builds and runs programs. Without RT_JOBS as many
@@ -21,6 +23,8 @@ import threading
 import time
 
 KINDS = ("proof", "seed", "edits", "tests", "programs")
+# What tries what was built: the program and the calls with each request for memory refused, and the program on random inputs.
+TESTERS = ("try_program_memory.py", "try_call_memory.py", "fuzz.py")
 TICKS = os.sysconf("SC_CLK_TCK")
 # How often processes are looked at, in seconds: what a process takes after the last look counts for no crate, but for the sum.
 PAUSE = 0.2
@@ -135,6 +139,12 @@ def below(names):
     return found
 
 
+def takes_names():
+    """Returns whether the kit's `rt ci` takes names of crates, and runs on a copy of its own."""
+    told = subprocess.run(["rt", "help"], stdin=subprocess.DEVNULL, capture_output=True, text=True, errors="replace", check=False)
+    return "rt ci NAME" in told.stdout + told.stderr
+
+
 def copy_of(lines, room):
     """Makes a repository of the crates of these lines."""
     for name in lines:
@@ -154,11 +164,11 @@ def pass_on(lines, begun):
     return held
 
 
-def prove(folder):
-    """Runs `rt ci` on the repository in this folder, and returns its status and its last line."""
+def prove(folder, words):
+    """Runs `rt ci` with these words on the repository in this folder, and returns its status and its last line."""
     begun, how = time.time(), {"stdout": subprocess.PIPE, "stderr": subprocess.STDOUT, "text": True, "errors": "replace"}
     env = {"RT_JOBS": str(lanes()), **os.environ}
-    run = subprocess.Popen(["rt", "ci"], cwd=folder, stdin=subprocess.DEVNULL, env=env, **how)
+    run = subprocess.Popen(["rt", "ci", *words], cwd=folder, stdin=subprocess.DEVNULL, env=env, **how)
     costs = Costs(run.pid)
     watch = threading.Thread(target=costs.watch)
     watch.start()
@@ -177,8 +187,12 @@ def documents_agree():
 
 
 def try_program():
-    """Returns which of the testers of the program that `rt ci` built passed: each request for memory refused, and random inputs."""
-    return [subprocess.run([f"tools/{it}"]).returncode == 0 for it in ("try_program_memory.py", "fuzz.py")]
+    """Runs the testers of what `rt ci` built side by side. Prints what each said, in that order, and returns which passed."""
+    how = {"stdin": subprocess.DEVNULL, "stdout": subprocess.PIPE, "stderr": subprocess.STDOUT, "text": True, "errors": "replace"}
+    testers = [subprocess.Popen([f"tools/{it}"], **how) for it in TESTERS]
+    for tester in testers:
+        print(tester.communicate()[0], end="", flush=True)
+    return [it.returncode == 0 for it in testers]
 
 
 def counted(last, passed):
@@ -187,31 +201,40 @@ def counted(last, passed):
     return f"{int(found[1]) + sum(passed)} passed, {int(found[2]) + len(passed) - sum(passed)} failed"
 
 
-def prove_all():
+def prove_all(flags):
     if not documents_agree():
         print("the documents say something else than the repository\n0 passed, 1 failed")
         return 1
-    status, last = prove(".")
+    status, last = prove(".", flags)
     sys.stdout.flush()
     passed = try_program() if status == 0 else []
     print(counted(last, passed) if passed else last)
     return status or 1 - all(passed)
 
 
-def prove_named(names):
+def prove_named(names, flags):
     """Runs `rt ci` on a copy of these crates and of those that they stand on."""
     lines = below(names)
     unknown = [it for it in names if it not in lines]
     if unknown:
         print(f"crates.txt has no {', '.join(unknown)}", file=sys.stderr)
         return 2
-    with tempfile.TemporaryDirectory(prefix="protogate-gate-") as room:
-        copy_of(lines, room)
-        status, last = prove(room)
+    if takes_names():
+        status, last = prove(".", [*names, *flags])
+    else:
+        with tempfile.TemporaryDirectory(prefix="protogate-gate-") as room:
+            copy_of(lines, room)
+            status, last = prove(room, flags)
     print(last)
     return status
 
 
+def main():
+    names = [it for it in sys.argv[1:] if it != "--anew"]
+    flags = ["--anew"] * ("--anew" in sys.argv)
+    return prove_named(names, flags) if names else prove_all(flags)
+
+
 if __name__ == "__main__":
     os.chdir(os.path.dirname(os.path.dirname(os.path.realpath(__file__))))
-    sys.exit(prove_named(sys.argv[1:]) if sys.argv[1:] else prove_all())
+    sys.exit(main())

@@ -13,18 +13,14 @@ no request of a call was told. Wants cc, for the library that refuses (tools/ref
 """
 import argparse
 import collections
-import itertools
 import multiprocessing
 import os
-import resource
-import subprocess
 import sys
 import tempfile
 import time
 
-ROOT = os.path.dirname(os.path.dirname(os.path.abspath(__file__)))
-# How many seconds a run may take.
-LIMIT = 20
+sys.dont_write_bytecode = True
+from refusing import ROOT, ask_for_stack, build_library, line_of, runs_of  # noqa: E402
 
 Call = collections.namedtuple("Call", "what words old new certificate status said")
 
@@ -80,14 +76,6 @@ def write(path, text):
         file.write(text)
 
 
-def run(program, library, call, turn, folder):
-    """Runs a call with the request of that turn refused, none at turn 0. Returns its status, what it printed, and its faults."""
-    env = {**os.environ, "REFUSE_MEMORY": str(turn), "LD_PRELOAD": library}
-    how = {"cwd": folder, "env": env, "stdin": subprocess.DEVNULL, "capture_output": True, "timeout": LIMIT, "check": False}
-    ended = subprocess.run([program, *call.words.split()], **how)
-    return ended.returncode, ended.stdout, ended.stderr
-
-
 def kind_of(call, status, said, turn):
     """Returns what a run did: it answered, it told that memory was refused, or it was wrong."""
     answer = call.said if isinstance(call.said, bytes) else call.said.encode()
@@ -96,22 +84,17 @@ def kind_of(call, status, said, turn):
     return "told" if turn and (status, said) == (3, b"refused E001\n") else "wrong"
 
 
-def runs_of(program, library, call, folder):
-    """Runs a call whole, as turn 0, then with each request refused in turn until a run meets none, and gives what each printed."""
+def put_files(call, folder):
     for path, text in (("old/m.proto", call.old), ("new/m.proto", call.new), ("./c", call.certificate)):
         write(os.path.join(folder, path), text)
-    for turn in itertools.count():
-        status, said, faults = run(program, library, call, turn, folder)
-        if b"no such growth" in faults:
-            return
-        yield turn, status, said, faults
 
 
 def try_call(program, library, call):
     """Refuses each request of a call in turn, prints what came of it, and returns the counts of refused, told, answered and wrong."""
     counts, lines = collections.Counter(), []
     with tempfile.TemporaryDirectory(prefix="protogate-memory-") as folder:
-        for turn, status, said, faults in runs_of(program, library, call, folder):
+        put_files(call, folder)
+        for turn, status, said, faults in runs_of(library, [program, *call.words.split()], folder):
             kind = kind_of(call, status, said, turn)
             counts["refused"] += turn > 0
             counts[kind] += turn > 0 or kind == "wrong"
@@ -119,10 +102,6 @@ def try_call(program, library, call):
                 lines.append(f"{call.what}, request {turn}: status {status}, {said[:200]!r}, {faults[:200]!r}")
     print("\n".join([*lines, f"{call.what}: " + line_of(counts)]), flush=True)
     return counts
-
-
-def line_of(counts):
-    return "{refused} requests refused, {told} told, {answered} answered, {wrong} wrong".format_map(counts)
 
 
 def options_of():
@@ -136,12 +115,9 @@ def main():
     options, begun = options_of(), time.time()
     if not os.access(options.program, os.X_OK):
         sys.exit(f"no program: {options.program}")
-    hard = resource.getrlimit(resource.RLIMIT_STACK)[1]
-    resource.setrlimit(resource.RLIMIT_STACK, (hard, hard))
+    ask_for_stack()
     with tempfile.TemporaryDirectory(prefix="protogate-memory-") as room:
-        library = os.path.join(room, "refuse.so")
-        source = os.path.join(ROOT, "tools/refuse_memory.c")
-        subprocess.run(["cc", "-O2", "-shared", "-fPIC", "-o", library, source, "-ldl"], check=True)
+        library = build_library(room)
         with multiprocessing.get_context("fork").Pool(options.jobs) as pool:
             found = pool.starmap(try_call, [(options.program, library, call) for call in CALLS], 1)
     print(f"{len(CALLS)} calls: {line_of(sum(found, collections.Counter()))}; {time.time() - begun:.0f} seconds")

@@ -9,6 +9,7 @@
 mod certificates;
 mod changed;
 mod choices;
+mod drawn;
 mod gaps;
 mod messages;
 mod row;

@@ -1,7 +1,13 @@
 //! The messages of choices, and messages that break.
+ghost use Rattle.std.specs.Prelude.{IfOk, IfSome};
+ghost use Rattle.pg_schema.specs.Parts.{shape_of};
+ghost use Rattle.pg_pairs.specs.Carried.{IsChoiceOf};
+ghost use Rattle.pg_pairs.specs.Views.{sight_of};
+
 use crate::spelled::{choice_of, hex_bytes, number_at, pair_of, table_of};
+use pg_cert::Bounds;
 use pg_dyn::{DynError, Message, decode, encode, fits};
-use pg_pairs::{Choice, Pair, View, breaks, carry, cheapest};
+use pg_pairs::{Choice, Pair, View, breaks, carry, cheapest, choice_child, options};
 use pg_schema::{Schema, TypeId};
 use rows::cut;
 use std::alloc::{AllocError, Global};
@@ -67,35 +73,48 @@ fn read_words(alloc: Global, schema: &Schema, words: &str) -> Result<Option<Mess
     read(alloc, schema, TypeId { index }, &bytes)
 }
 
-// The choice's message round no child.
-fn carry_alone<V: View>(
+// The choice, if it is one of the pair's under the table.
+fn chosen<V: View>(
     alloc: Global,
     view: &V,
     old: &Schema,
     new: &Schema,
     pair: Pair,
-    choice: &Choice,
-) -> Result<Option<Message>, AllocError> {
-    if !old.has(pair.old) {
-        return Ok(None);
+    table: &Bounds,
+    wanted: &Choice,
+) -> Result<Option<Choice>, AllocError>
+    ensures { IfOk result (λ found. IfSome found (IsChoiceOf (sight_of (V.is_alike view.now) (V.least_differing view.now) old.now new.now) (shape_of old.now) (shape_of new.now) pair)) }
+{
+    for choice in &options(alloc, view, old, new, pair, table)? {
+        if choice == wanted {
+            return Ok(Some(*choice));
+        }
     }
-    carry(alloc, view, old, new, pair, choice, None)
+    Ok(None)
 }
 
-// The choice's message round that child.
-fn carry_round<V: View>(
+// The choice's message round the child, where this is a child of the choice.
+fn carried<V: View>(
     alloc: Global,
     view: &V,
     old: &Schema,
     new: &Schema,
     pair: Pair,
     choice: &Choice,
-    child: Message,
-) -> Result<Option<Message>, AllocError> {
-    if !old.has(pair.old) || !fits(old, &child) {
-        return Ok(None);
+    child: Option<Message>,
+) -> Result<Option<Message>, AllocError>
+    requires { IsChoiceOf (sight_of (V.is_alike view.now) (V.least_differing view.now) old.now new.now) (shape_of old.now) (shape_of new.now) pair choice.now }
+{
+    match (choice_child(old, new, pair, choice), child) {
+        (None, None) => Ok(Some(carry(alloc, view, old, new, pair, choice, None)?)),
+        (Some(wanted), Some(child)) => {
+            if child.type_id() != wanted.old || !fits(old, &child) {
+                return Ok(None);
+            }
+            Ok(Some(carry(alloc, view, old, new, pair, choice, Some(child))?))
+        }
+        _ => Ok(None),
     }
-    carry(alloc, view, old, new, pair, choice, Some(child))
 }
 
 // What is shown of the choice's message: its bytes, whether it breaks, and what it costs.
@@ -105,9 +124,13 @@ fn with_verdict<V: View>(
     old: &Schema,
     new: &Schema,
     pair: Pair,
+    table: &Bounds,
     choice: &Choice,
 ) -> Result<String, AllocError> {
-    let Some(message) = carry_alone(alloc, view, old, new, pair, choice)? else {
+    let Some(choice) = chosen(alloc, view, old, new, pair, table, choice)? else {
+        return String::from_str(alloc, "no choice");
+    };
+    let Some(message) = carried(alloc, view, old, new, pair, &choice, None)? else {
         return String::from_str(alloc, "no message");
     };
     let verdict = verdict(alloc, view, old, new, pair, &message)?;
@@ -129,31 +152,35 @@ pub(crate) fn message<V: View>(
         return String::from_str(alloc, "no table");
     };
     match cheapest(alloc, view, old, new, pair, &table)? {
-        Some(choice) => with_verdict(alloc, view, old, new, pair, &choice),
+        Some(choice) => with_verdict(alloc, view, old, new, pair, &table, &choice),
         None => String::from_str(alloc, "none"),
     }
 }
 
+// The same of `CHOICE [| TYPE | BYTES]`.
 fn carry_words<V: View>(
     alloc: Global,
     view: &V,
     old: &Schema,
     new: &Schema,
     pair: Pair,
+    table: &Bounds,
     words: &str,
 ) -> Result<Option<Message>, AllocError> {
     let (choice, child) = cut(words);
-    let choice = choice_of(choice);
-    if child.is_empty() {
-        return carry_alone(alloc, view, old, new, pair, &choice);
-    }
-    match read_words(alloc, old, child)? {
-        Some(child) => carry_round(alloc, view, old, new, pair, &choice, child),
-        None => Ok(None),
-    }
+    let Some(choice) = chosen(alloc, view, old, new, pair, table, &choice_of(choice))? else {
+        return Ok(None);
+    };
+    let child = if child.is_empty() {
+        None
+    } else {
+        read_words(alloc, old, child)?
+    };
+    carried(alloc, view, old, new, pair, &choice, child)
 }
 
-/// `carry | OLD | NEW | PAIR | CHOICE [| TYPE | BYTES]`: the choice's message round the child that the bytes spell, if one is given.
+/// `carry | OLD | NEW | PAIR | BOUNDS | CHOICE [| TYPE | BYTES]`: the message of a choice that the pair has under the bounds, round
+/// the child that the bytes spell, if one is given.
 pub(crate) fn carry_choice<V: View>(
     alloc: Global,
     view: &V,
@@ -162,7 +189,11 @@ pub(crate) fn carry_choice<V: View>(
     words: &str,
 ) -> Result<String, AllocError> {
     let (pair, words) = cut(words);
-    match carry_words(alloc, view, old, new, pair_of(pair), words)? {
+    let (bounds, words) = cut(words);
+    let Some(table) = table_of(alloc, bounds)? else {
+        return String::from_str(alloc, "no table");
+    };
+    match carry_words(alloc, view, old, new, pair_of(pair), &table, words)? {
         Some(message) => spelled(alloc, old, &message),
         None => String::from_str(alloc, "none"),
     }

@@ -1,6 +1,6 @@
 //! Which call a row is of.
 use crate::changed::Changed;
-use crate::{certificates, choices, gaps, messages, searches, sight};
+use crate::{certificates, choices, drawn, gaps, messages, searches, sight};
 use pg_pairs::{Numbers, View};
 use pg_schema::Schema;
 use rows::cut;
@@ -41,6 +41,7 @@ fn between(
         "fronts" => certificates::fronts(alloc, old, new, words),
         "search" => searches::search_pair(alloc, old, new, words),
         "way" => searches::way_down(alloc, old, new, words),
+        "counts" => searches::counts(alloc, old, new, words),
         _ => match call.strip_prefix("changed ") {
             Some(call) => seen(alloc, &Changed, call, old, new, words),
             None => seen(alloc, &Numbers, call, old, new, words),
@@ -53,6 +54,9 @@ pub(crate) fn answer(alloc: Global, row: &str) -> Result<String, AllocError> {
     let (call, words) = cut(row);
     if call == "gaps" {
         return gaps::gaps(alloc, words);
+    }
+    if call == "drawn" {
+        return drawn::drawn_bounds(alloc, words);
     }
     let (old, words) = cut(words);
     let (new, words) = cut(words);

@@ -5,13 +5,13 @@ use crate::shown;
 use crate::shown::add;
 use crate::spelled::{pair_of, table_of};
 use pg_cert::Bounds;
-use pg_least::{Found, Step, find, search, way};
+use pg_least::{Found, Step, find, search, search_counted, way};
 use pg_pairs::Pair;
 use pg_schema::Schema;
 use std::alloc::{AllocError, Global};
 
-// The bounds in the table's order.
-fn list_of(alloc: Global, bounds: &Bounds) -> Result<String, AllocError> {
+/// The bounds in the table's order.
+pub(crate) fn list_of(alloc: Global, bounds: &Bounds) -> Result<String, AllocError> {
     let mut list = String::new(alloc);
     for at in 0..bounds.len() {
         if let Some(line) = bounds.get(at) {
@@ -52,7 +52,7 @@ fn witness_of(alloc: Global, old: &Schema, found: &Found) -> Result<String, Allo
 
 // What is found beside the certificate.
 fn beside(alloc: Global, old: &Schema, new: &Schema, root: Pair) -> Result<String, AllocError> {
-    if !old.has(root.old) {
+    if !old.has(root.old) || !new.has(root.new) {
         return String::from_str(alloc, "no such type");
     }
     let found = find(alloc, old, new, root)?;
@@ -68,7 +68,7 @@ pub(crate) fn search_pair(
     words: &str,
 ) -> Result<String, AllocError> {
     let root = pair_of(words);
-    if !old.has(root.old) {
+    if !old.has(root.old) || !new.has(root.new) {
         return String::from_str(alloc, "no such type");
     }
     let certificate = search(alloc, old, new, root)?;
@@ -97,7 +97,7 @@ pub(crate) fn way_down(
     words: &str,
 ) -> Result<String, AllocError> {
     let root = pair_of(words);
-    if !old.has(root.old) {
+    if !old.has(root.old) || !new.has(root.new) {
         return String::from_str(alloc, "no such type");
     }
     let certificate = search(alloc, old, new, root)?;
@@ -106,4 +106,19 @@ pub(crate) fn way_down(
     }
     let steps = way(alloc, old, new, &certificate)?;
     steps_of(alloc, &steps)
+}
+
+/// `counts | OLD | NEW | ROOT`: the pairs whose bound is a number, the edges whose child's bound is one, and the pairs.
+pub(crate) fn counts(
+    alloc: Global,
+    old: &Schema,
+    new: &Schema,
+    words: &str,
+) -> Result<String, AllocError> {
+    let root = pair_of(words);
+    if !old.has(root.old) || !new.has(root.new) {
+        return String::from_str(alloc, "no such type");
+    }
+    let (_, work) = search_counted(alloc, old, new, root)?;
+    format!(in alloc; "{} {} {}", work.settled, work.relaxed, work.opened)
 }

@@ -42,7 +42,7 @@ fn rewritten(alloc: Global, schema: &Schema, bytes: &[u8]) -> Result<String, Dyn
 // The same, or `refused` where the bytes have a fault, whichever it is.
 fn again(alloc: Global, schema: &Schema, bytes: &[u8]) -> Result<String, DynError> {
     match rewritten(alloc, schema, bytes) {
-        Err(DynError::Wire(_) | DynError::NotUtf8 { at: Some(_) } | DynError::TooDeep { .. }) => {
+        Err(DynError::Wire(_) | DynError::NotUtf8 { .. } | DynError::TooDeep { .. }) => {
             text(alloc, "refused")
         }
         found => found,

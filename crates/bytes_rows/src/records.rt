@@ -1,7 +1,7 @@
 //! What `pg_wire` makes of bytes and of numbers.
 use crate::contents::word;
 use pg_dyn::DynError;
-use pg_show::bytes_of_hex;
+use pg_show::{HexError, bytes_of_hex};
 use pg_wire::{
     Record, Records, WireError, read_varint, tag_len, unzigzag, varint_len, write_varint, zigzag,
 };
@@ -72,6 +72,7 @@ fn place(alloc: Global, bytes: &[u8]) -> Result<String, AllocError> {
 
 fn of_bytes(alloc: Global, call: &str, bytes: &[u8]) -> Result<String, AllocError> {
     match call {
+        "hex" => word(alloc, bytes),
         "varint" => varint(alloc, bytes),
         "records" => records(alloc, bytes),
         "fault" => fault(alloc, bytes),
@@ -118,13 +119,14 @@ fn of_number(alloc: Global, call: &str, input: &str) -> Result<String, AllocErro
     }
 }
 
-/// What a call of `pg_wire` makes of bytes or of a number.
+/// What a call of `pg_wire` makes of bytes or of a number; `hex` gives back the bytes that `pg_show` reads a word as.
 pub(crate) fn answer_of_wire(alloc: Global, call: &str, input: &str) -> Result<String, DynError> {
     if matches!(call, "write" | "length" | "tag" | "zigzag") {
         return Ok(of_number(alloc, call, input)?);
     }
     match bytes_of_hex(alloc, input) {
         Ok(bytes) => Ok(of_bytes(alloc, call, &bytes)?),
-        Err(_) => Ok(String::from_str(alloc, "no hexadecimal")?),
+        Err(HexError::Memory) => Err(DynError::Memory),
+        Err(HexError::BadHex) => Ok(String::from_str(alloc, "no hexadecimal")?),
     }
 }

@@ -1,18 +1,24 @@
-//! What the rows of `bytes_rows` don't show of `pg_dyn` and `pg_show`: refused memory, large messages, and words of any kind.
+//! What rows don't show: large messages, tables and certificates that callers hold, and a chain of as many types as a schema may have.
+mod chain;
 mod large;
-mod memory;
-mod pair_rows;
-mod setting;
-mod shapes;
-mod showing;
+mod tables;
 
 use pg_dyn::{Content, DynError, Message, decode, encode, fits};
 use pg_schema::{Schema, TypeId};
 use std::alloc::Global;
-use std::process::Abort;
+use std::test::Fail;
+use tiny_schemas::schema;
 
 /// The first type of a schema.
 const M: TypeId = TypeId { index: 0 };
+
+/// The schema that the line says.
+fn schema_of(alloc: Global, line: &str) -> Result<Schema, Fail> {
+    match schema(alloc, line)? {
+        Some(schema) => Ok(schema),
+        None => Err(Fail::from("the line says no schema")),
+    }
+}
 
 /// The message that the bytes are read as, by the first type of the schema.
 fn read(alloc: Global, schema: &Schema, bytes: &[u8]) -> Result<Message, DynError> {
@@ -53,14 +59,6 @@ fn whole(
         return Err(DynError::TooLong);
     }
     Message::whole(alloc, schema, M, contents)
-}
-
-/// Asserts that these are the bytes, or memory was refused.
-fn is_or_lacks_memory(rt: &impl Abort, found: Result<Vec<u8>, DynError>, wanted: &[u8]) {
-    match found {
-        Ok(found) => assert_eq!(rt; found.as_slice(), wanted),
-        Err(error) => assert_eq!(rt; error, DynError::Memory),
-    }
 }
 
 #[test]

@@ -1,6 +1,7 @@
 //! The promises of `pg_dyn`, said again of calls of it: the edits of `must-fail` turn each answer, and every one must be refused.
 #![tactic(auto)]
 
+pub mod borrowed;
 mod messages;
 mod reading;
 mod words;

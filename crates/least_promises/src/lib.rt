@@ -3,6 +3,7 @@
 
 ghost use Rattle.std.specs.Prelude.{◌≡◌, ◌<◌, true, is_some, length, IfOk};
 ghost use Rattle.pg_schema.specs.Parts.{shape_of};
+ghost use Rattle.pg_pairs.specs.Edges.{edges};
 ghost use Rattle.pg_pairs.specs.Sight.{by_numbers};
 ghost use Rattle.pg_cert.specs.Bounds.{bound_in};
 ghost use Rattle.pg_least.specs.Descent.{IsWay};
@@ -18,6 +19,7 @@ use std::alloc::{AllocError, Global};
 /// What `find` answers.
 pub fn find(alloc: Global, old: &Schema, new: &Schema, root: Pair) -> Result<Found, AllocError>
     requires old_type { root.old.index < length (shape_of old.now) }
+    requires new_type { root.new.index < length (shape_of new.now) }
     ensures searched { IfOk result (λ found. IsSearched by_numbers (shape_of old.now) (shape_of new.now) root found.certificate) }
     ensures witness { IfOk result (λ found. IsBesideClaim by_numbers (shape_of old.now) (shape_of new.now) found.certificate found.witness) }
 {
@@ -32,9 +34,26 @@ pub fn search(
     root: Pair,
 ) -> Result<Certificate, AllocError>
     requires old_type { root.old.index < length (shape_of old.now) }
+    requires new_type { root.new.index < length (shape_of new.now) }
     ensures { IfOk result (λ certificate. IsSearched by_numbers (shape_of old.now) (shape_of new.now) root certificate) }
 {
     pg_least::search(alloc, old, new, root)
+}
+
+/// What `search_counted` answers.
+pub fn search_counted(
+    alloc: Global,
+    old: &Schema,
+    new: &Schema,
+    root: Pair,
+) -> Result<(Certificate, Work), AllocError>
+    requires old_type { root.old.index < length (shape_of old.now) }
+    requires new_type { root.new.index < length (shape_of new.now) }
+    ensures searched { IfOk result (λ found. IsSearched by_numbers (shape_of old.now) (shape_of new.now) root found.0) }
+    ensures counted { IfOk result (λ found. IsCounted (edges (shape_of old.now) (shape_of new.now)) found.0.bounds found.1) }
+{
+    let (certificate, work) = pg_least::search_counted(alloc, old, new, root)?;
+    Ok((certificate, work))
 }
 
 /// What `way` answers.

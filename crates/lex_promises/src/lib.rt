@@ -7,18 +7,36 @@ ghost use Rattle.pg_lex.specs.Place.{line, column};
 ghost use Rattle.pg_lex.specs.Symbol.{placed};
 ghost use Rattle.pg_lex.specs.declared.error.LexError.TheVariants.{Memory};
 
-use pg_lex::{LexError, Token};
+use pg_lex::{Kind, LexError, Span, Token};
 use std::alloc::{AllocError, AllocFailed, Global};
 
-/// What `lex` answers.
+/// What `lex` answers: the tokens.
 pub fn lex(alloc: Global, text: &[u8]) -> Result<Vec<Token<'_>>, LexError>
-    ensures tokens { IfOk result (λ tokens. lexes text.now (placed tokens.items)) }
-    ensures refused { IfErr result (λ e. Refuses e text.now) }
-    ensures rise { IfOk result (λ tokens. Rises 0 (placed tokens.items)) }
-    ensures words { IfOk result (λ tokens. WordsAreSlices text.now (placed tokens.items)) }
-    ensures short { IfOk result (λ tokens. length text.now ≤ max_len) }
+    ensures { IfOk result (λ tokens. lexes text.now (placed tokens.items)) }
 {
     pg_lex::lex(alloc, text)
+}
+
+/// What `lex` answers: where the tokens stand.
+pub fn lex_places(alloc: Global, of: &[u8]) -> Result<Vec<Token<'_>>, LexError>
+    ensures rise { IfOk result (λ tokens. Rises 0 (placed tokens.items)) }
+    ensures words { IfOk result (λ tokens. WordsAreSlices of.now (placed tokens.items)) }
+{
+    pg_lex::lex(alloc, of)
+}
+
+/// What `lex` answers: how long a text it takes.
+pub fn lex_short(alloc: Global, long: &[u8]) -> Result<Vec<Token<'_>>, LexError>
+    ensures { IfOk result (λ tokens. length long.now ≤ max_len) }
+{
+    pg_lex::lex(alloc, long)
+}
+
+/// What `lex` refuses.
+pub fn lex_refused(alloc: Global, bad: &[u8]) -> Result<Vec<Token<'_>>, LexError>
+    ensures { IfErr result (λ e. Refuses e bad.now) }
+{
+    pg_lex::lex(alloc, bad)
 }
 
 /// What `place` answers.

@@ -1,7 +1,9 @@
 //! The promises of `pg_pairs`, said again of calls of it: the edits of `must-fail` turn each answer, and every one must be refused.
 #![tactic(auto)]
 
-ghost use Rattle.std.specs.Prelude.{◌≡◌, ◌↔◌, ◌⊎◌, ◌<◌, ◌≤◌, length, option_map, true, None, IsTrue, IfErr, IfOk, IfSome, OnOk};
+mod graph;
+
+ghost use Rattle.std.specs.Prelude.{◌≡◌, ◌↔◌, ◌⊎◌, ◌<◌, ◌≤◌, length, option_map, true, None, IsTrue, IfErr, IfOk, OnOk};
 ghost use Rattle.pg_schema.specs.Parts.{shape_of};
 ghost use Rattle.pg_dyn.specs.declared.error.DynError.TheVariants as errors;
 ghost use Rattle.pg_dyn.specs.Breaking.{Breaks};
@@ -10,7 +12,6 @@ ghost use Rattle.pg_dyn.specs.Fits.{Fits};
 ghost use Rattle.pg_dyn.specs.Kept.{message_of, type_of};
 ghost use Rattle.pg_pairs.specs.Among.{IsAmong};
 ghost use Rattle.pg_pairs.specs.Carried as carried;
-ghost use Rattle.pg_pairs.specs.CarriedItems.{IsChoiceRound};
 ghost use Rattle.pg_pairs.specs.Cheapest as least;
 ghost use Rattle.pg_pairs.specs.Choices.{Table, choices};
 ghost use Rattle.pg_pairs.specs.Covering as covering;
@@ -18,6 +19,7 @@ ghost use Rattle.pg_pairs.specs.Gaps as gaps;
 ghost use Rattle.pg_pairs.specs.Laws.{ReachedBy};
 ghost use Rattle.pg_pairs.specs.Views.{sight_of};
 
+pub use graph::{base, edge_cost, edges, knows};
 use pg_dyn::{DynError, Message};
 use pg_pairs::{Choice, Gap, Numbers, Pair, Table, View};
 use pg_schema::{EnumType, Scalar, Schema};
@@ -49,16 +51,16 @@ pub fn carry<V: View>(
     pair: Pair,
     choice: &Choice,
     child: Option<Message>,
-) -> Result<Option<Message>, AllocError>
-    requires child { IfSome child (Fits (shape_of old.now)) }
-    requires old_type { pair.old.index < length (shape_of old.now) }
-    ensures fits { IfOk result (λ found. IfSome found (λ m. Fits (shape_of old.now) m)) }
-    ensures type_is { IfOk result (λ found. IfSome found (λ m. type_of m ≡ pair.old)) }
-    ensures reached { IfOk result (λ found. IfSome found (λ m. (table : Table) →
+) -> Result<Message, AllocError>
+    requires choice { carried.IsChoiceOf (sight_of (V.is_alike view.now) (V.least_differing view.now) old.now new.now) (shape_of old.now) (shape_of new.now) pair choice.now }
+    requires child { carried.ChildGiven (shape_of old.now) (carried.choice_child (shape_of old.now) (shape_of new.now) pair choice.now) child }
+    ensures fits { IfOk result (λ m. Fits (shape_of old.now) m) }
+    ensures type_is { IfOk result (λ m. type_of m ≡ pair.old) }
+    ensures made { IfOk result (λ m. message_of m ≡ carried.carried (sight_of (V.is_alike view.now) (V.least_differing view.now) old.now new.now) (shape_of old.now) (shape_of new.now) pair choice.now (option_map message_of child)) }
+    ensures reached { IfOk result (λ m. (table : Table) →
         IsAmong choice.now (choices (sight_of (V.is_alike view.now) (V.least_differing view.now) old.now new.now) table (shape_of old.now) (shape_of new.now) pair)
         → carried.ChildReached (sight_of (V.is_alike view.now) (V.least_differing view.now) old.now new.now) (shape_of old.now) (shape_of new.now) table (carried.choice_child (shape_of old.now) (shape_of new.now) pair choice.now) (option_map message_of child)
-        → ReachedBy (sight_of (V.is_alike view.now) (V.least_differing view.now) old.now new.now) (shape_of old.now) (shape_of new.now) pair (message_of m) choice.now.cost)) }
-    ensures none { IfOk result (λ found. found ≡ None → IsChoiceRound (sight_of (V.is_alike view.now) (V.least_differing view.now) old.now new.now) (shape_of old.now) (shape_of new.now) pair choice.now child → ⊥) }
+        → ReachedBy (sight_of (V.is_alike view.now) (V.least_differing view.now) old.now new.now) (shape_of old.now) (shape_of new.now) pair (message_of m) choice.now.cost) }
 {
     pg_pairs::carry(alloc, view, old, new, pair, choice, child)
 }

@@ -4,7 +4,7 @@ ghost use Rattle.pg_cert.specs.Laws.{CoversWithoutFault, OneSpelling, VerdictsAr
 ghost use Rattle.pg_cert.specs.Worked.{WorkedCertificates};
 ghost use Rattle.pg_cert.specs.WorkedTexts.{WorkedTexts};
 
-use pg_dyn::{reads_again, self_compatible, worked_examples};
+use pg_dyn::laws::{reads_again, self_compatible, worked_examples};
 use pg_pairs::{covering_bounds, none_is_compatible};
 
 /// Small certificates that hold, and faults of others.

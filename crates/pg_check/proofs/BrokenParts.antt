@@ -15,7 +15,7 @@ use Rattle.pg_check.specs.declared.fault.Rule.{Rule}
 use Rattle.pg_check.specs.declared.fault.Rule.TheVariants as rules
 use Rattle.pg_check.specs.declared.numbers.Keyed.{Keyed}
 use Rattle.pg_check.specs.declared.numbers.Numbers.{Numbers}
-use Rattle.pg_check.specs.BrokenParts.{BreaksEnumType, BreaksFilePart, BreaksFirst, BreaksType, IsFirstBrokenPart, KeepsEnumType, KeepsType, alias, bad_map_key, bad_number, bad_oneof_member, bad_option, duplicate_number, first_not_zero, in_enum, in_file, in_type, item_beyond, item_falling, items_of, items_overlapping, json_name_clash, keys_of, no_value, option_again, packed_not_allowed, reserved_name, reserved_number, reserved_value_name, reserved_value_number, too_many_types, value_item_beyond, value_item_falling, value_items, value_items_overlapping, value_keys}
+use Rattle.pg_check.specs.BrokenParts.{BreaksEnumType, BreaksFilePart, BreaksFirst, BreaksType, IsFirstBrokenPart, KeepsAll, KeepsEnumType, KeepsFilePart, KeepsType, alias, bad_map_key, bad_number, bad_oneof_member, bad_option, duplicate_number, first_not_zero, in_enum, in_file, in_type, item_beyond, item_falling, items_of, items_overlapping, json_name_clash, keys_of, no_value, option_again, packed_not_allowed, reserved_name, reserved_number, reserved_value_name, reserved_value_number, too_many_types, value_item_beyond, value_item_falling, value_items, value_items_overlapping, value_keys}
 use Rattle.pg_check.specs.Enums as enums
 use Rattle.pg_check.specs.Errors.{error_of}
 use Rattle.pg_check.specs.Faults.{broken, broken_at, earlier, first_fault, or_else, order}
@@ -332,6 +332,13 @@ file_part_meets f place =
     (test_meets B place rules.BadOption (list_any faults.is_bad_option f.options.items) bad_option)
     (rule_meets B place rules.BadOption (numbers.first_twice (map faults.option_key f.options.items)) _ (of_same faults.option_key (λ o. refl) f.options.items) option_again)
 
+file_part_found : (f : File) (place : Place) (error : CheckError) (c : ℕ) → BreaksFilePart f place error c → IsFound (faults.file_fault f) 0 c
+file_part_found f place error c (bad_option h) =
+    found_left (faults.told rules.BadOption (list_any faults.is_bad_option f.options.items)) _ 0 411 (test_found rules.BadOption (list_any faults.is_bad_option f.options.items) h)
+file_part_found f place error c (option_again h) =
+    found_right (faults.told rules.BadOption (list_any faults.is_bad_option f.options.items)) _ 0 411
+    (rule_found rules.BadOption (numbers.first_twice (map faults.option_key f.options.items)) _ (of_same faults.option_key (λ o. refl) f.options.items) h)
+
 code_low : (declared code other : ℕ) → declared ≡ 0 → IsNotAfter declared code 0 other → code ≤ other
 code_low declared code other zero (inl h) = absurd (omega (arith, h))
 code_low declared code other zero (inr h) = h.1
@@ -344,6 +351,9 @@ type_keeps t none place e c b = subst (λ o. IsFound o 0 c) none (type_found t p
 
 enum_type_keeps : (e : EnumType) → faults.enum_fault e ≡ None → KeepsEnumType e
 enum_type_keeps e none place error c b = subst (λ o. IsFound o 0 c) none (enum_type_found e place error c b)
+
+file_part_keeps : (f : File) → faults.file_fault f ≡ None → KeepsFilePart f
+file_part_keeps f none place error c b = subst (λ o. IsFound o 0 c) none (file_part_found f place error c b)
 
 all_keep : {X : Type 0} (P Q : X → Type 0) → ((x : X) → P x → Q x) → (xs : List X) → AllByRecursion P xs → AllByRecursion Q xs
 all_keep P Q k [] h = tt
@@ -377,8 +387,8 @@ enums_meet parts place small types =
 files_meet : (parts : Parts) (place : Place) → length parts.types.items ≤ 4096 → AllByRecursion KeepsType parts.types.items → AllByRecursion KeepsEnumType parts.enums.items
     → Meets (Tells parts place) (first_fault faults.file_fault parts.files.items)
 files_meet parts place small types enumerations =
-    first_meets (Tells parts place) faults.file_fault (λ f. faults.file_fault f ≡ None) (λ f h. h) parts.files.items
-    (λ x behind f h. in_file x (error_of f.rule place) (order f.rule) small types enumerations (file_part_meets x place f h).1)
+    first_meets (Tells parts place) faults.file_fault KeepsFilePart file_part_keeps parts.files.items
+    (λ x behind f h. in_file x (error_of f.rule place) (order f.rule) small types enumerations behind (file_part_meets x place f h).1)
 
 parts_meet : (parts : Parts) (place : Place) → Meets (Tells parts place) (faults.parts_fault parts)
 parts_meet parts place = by (not (nat_le (length parts.types.items) 4096)) refl
@@ -403,3 +413,25 @@ reported_part parts e h = record {
   is_nowhere = h.is_nowhere;
   breaks = subst (BreaksFirst parts h.place) (sym h.is) (parts_meet parts h.place h.fault h.is_first);
 }
+
+-- ---- parts that no rule is told of
+
+or_none : (a b : Option Fault) → or_else a b ≡ None → (a ≡ None) × (b ≡ None)
+or_none None b h = (refl, h)
+or_none (Some f) b h = absurd (cc)
+
+told_none : (rule : Rule) (b : Bool) → faults.told rule b ≡ None → b ≡ false
+told_none rule true h = absurd (cc)
+told_none rule false h = refl
+
+pub none_broken : (parts : Parts) → faults.parts_fault parts ≡ None → KeepsAll parts
+none_broken parts none =
+    let (of_types, others) = or_none (faults.types_fault parts.types.items) _ none in
+    let (of_count, each_type) = or_none (faults.told rules.TooManyTypes (not (nat_le (length parts.types.items) 4096))) (first_fault faults.message_fault parts.types.items) of_types in
+    let (each_enum, each_file) = or_none (first_fault faults.enum_fault parts.enums.items) (first_fault faults.file_fault parts.files.items) others in
+    record {
+      few_types = few (length parts.types.items) (told_none rules.TooManyTypes (not (nat_le (length parts.types.items) 4096)) of_count);
+      types = all_keep _ KeepsType type_keeps parts.types.items ((first_fault_none faults.message_fault parts.types.items).0 each_type);
+      enums = all_keep _ KeepsEnumType enum_type_keeps parts.enums.items ((first_fault_none faults.enum_fault parts.enums.items).0 each_enum);
+      files = all_keep _ KeepsFilePart file_part_keeps parts.files.items ((first_fault_none faults.file_fault parts.files.items).0 each_file);
+    }

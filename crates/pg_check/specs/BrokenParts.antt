@@ -72,6 +72,9 @@ pub data BreaksFilePart (f : File) (place : Place) : CheckError → (code : ℕ)
   bad_option : list_any faults.is_bad_option f.options.items ≡ true → BreaksFilePart f place (errors.BadOption place) 411
   option_again : are_apart numbers.is_same (map faults.option_key f.options.items) ≡ false → BreaksFilePart f place (errors.BadOption place) 411
 
+abbrev pub KeepsFilePart : File → Type 0
+KeepsFilePart f = (place : Place) (e : CheckError) (code : ℕ) → BreaksFilePart f place e code → ⊥
+
 -- ---- all parts
 
 -- More message types than may be come first; then of the message types, the enums and the files the first that breaks a rule, and of
@@ -84,7 +87,14 @@ pub data BreaksFirst (parts : Parts) (place : Place) : CheckError → Type 0 whe
       IsBehind KeepsEnumType parts.enums.items n →
       BreaksEnumType n place e code → ((other : CheckError) (c : ℕ) → BreaksEnumType n place other c → code ≤ c) → BreaksFirst parts place e
   in_file : (f : File) (e : CheckError) (code : ℕ) → length parts.types.items ≤ 4096 → AllByRecursion KeepsType parts.types.items →
-      AllByRecursion KeepsEnumType parts.enums.items → BreaksFilePart f place e code → BreaksFirst parts place e
+      AllByRecursion KeepsEnumType parts.enums.items → IsBehind KeepsFilePart parts.files.items f → BreaksFilePart f place e code → BreaksFirst parts place e
+
+-- No part breaks a rule, and there are no more message types than may be.
+pub record KeepsAll (parts : Parts) : Type 0 where
+  pub few_types : length parts.types.items ≤ 4096
+  pub types : AllByRecursion KeepsType parts.types.items
+  pub enums : AllByRecursion KeepsEnumType parts.enums.items
+  pub files : AllByRecursion KeepsFilePart parts.files.items
 
 -- the error names the first rule that the parts break, at no place
 pub record IsFirstBrokenPart (parts : Parts) (e : CheckError) : Type 0 where

@@ -13,11 +13,14 @@ use Rattle.pg_check.specs.Enums as enums
 use Rattle.pg_check.specs.Faults.{broken_at, earlier, option_fault}
 use Rattle.pg_check.specs.Files.{too_many}
 use Rattle.pg_check.specs.MadeNumbers.{field_number, value_number}
+use Rattle.pg_check.specs.Members as members
 use Rattle.pg_check.specs.Messages as messages
 use Rattle.pg_check.specs.Names as names
 use Rattle.pg_check.specs.Numbers.{rank, is_field_number}
-use Rattle.pg_check.specs.Options.{OptionAt, an_option, first_bad, is_of, is_of_kind, option_named}
+use Rattle.pg_check.specs.declared.options.Owner.{Owner}
+use Rattle.pg_check.specs.Options.{OptionAt, an_option, first_bad, in_brackets, in_line, is_of, is_of_kind, option_named}
 use Rattle.pg_check.specs.Outline.{Message}
+use Rattle.pg_check.specs.ReservedItems.{numbers_of}
 use Rattle.pg_check.specs.Types.{is_key_scalar, is_packable, scalar_of}
 use Rattle.pg_syntax.specs.declared.tree as tree
 use Rattle.pg_syntax.specs.declared.tree.Value.TheVariants as values
@@ -83,3 +86,15 @@ pub record WorkedRules : Type 0 where
   -- of so many message types none is one too many, and of more the one behind them is
   pub so_many_types : (left : ℕ) (ms : List Message) → length ms ≤ left → too_many left ms ≡ None
   pub one_type_more : (ms : List Message) (m : Message) (more : List Message) → too_many (length ms) (ms ++ m ∷ more) ≡ Some m.name.span.from
+  -- fields, maps and values stand at their names; reserved items at their first token; options in brackets at their first word, and
+  -- as statements at the word `option`
+  pub field_place : (f : tree.Field.Field) (o : Option ℕ) → members.place_of (members.Plain f o) ≡ f.name.span.from
+  pub map_place : (m : tree.MapField.MapField) (o : Option ℕ) → members.place_of (members.Mapped m o) ≡ m.name.span.from
+  pub number_place : (m : members.Member) → (members.key_of m).at ≡ members.place_of m
+  pub name_place : (m : members.Member) → (members.named m).at ≡ members.place_of m
+  pub json_name_place : (m : members.Member) → (members.json_named m).at ≡ members.place_of m
+  pub value_place : (v : tree.EnumValue.EnumValue) → (enums.key_of v).at ≡ v.name.span.from
+  pub value_name_place : (v : tree.EnumValue.EnumValue) → (enums.name_of v).at ≡ v.name.span.from
+  pub item_place : (highest : ℕ) (r : tree.Range.Range) → (numbers_of highest r).at ≡ r.span.from
+  pub bracket_place : (owner : Owner) (s : tree.Setting.Setting) → (in_brackets owner s).at ≡ s.span.from
+  pub statement_place : (owner : Owner) (o : tree.OptionLine.OptionLine) → (in_line owner o).at ≡ o.span.from

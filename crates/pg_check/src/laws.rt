@@ -4,7 +4,7 @@ ghost use Rattle.std.specs.Prelude.{◌≡◌, ◌↔◌, List, None};
 ghost use Rattle.pg_schema.specs.Sound.{IsSound};
 ghost use Rattle.pg_schema.specs.declared.parts.Parts.{Parts};
 ghost use Rattle.pg_link.specs.Linked.{IsLinkedUp, LinkedFiles};
-ghost use Rattle.pg_check.specs.BrokenParts.{IsFirstBrokenPart};
+ghost use Rattle.pg_check.specs.BrokenParts.{IsFirstBrokenPart, KeepsAll};
 ghost use Rattle.pg_check.specs.BrokenRules.{IsFirstBroken};
 ghost use Rattle.pg_check.specs.Declares.{Declares, first_broken};
 ghost use Rattle.pg_check.specs.Errors.{IsTold};
@@ -14,6 +14,7 @@ ghost use Rattle.pg_check.specs.KeptParts.{KeptParts};
 ghost use Rattle.pg_check.specs.MadeParts.{Source};
 ghost use Rattle.pg_check.specs.NamedParts.{NamedParts};
 ghost use Rattle.pg_check.specs.PartErrors.{IsFirstOf};
+ghost use Rattle.pg_check.specs.PartFaults.{parts_fault};
 ghost use Rattle.pg_check.specs.Sources.{linked_sources};
 ghost use Rattle.pg_check.specs.declared.error.CheckError.{CheckError};
 
@@ -37,9 +38,11 @@ pub fn reported_rules()
 {}
 
 /// An error of parts that come from no text names the first rule that they break, at no place: of the
-/// message types, the enums and the files the first that breaks one, and of it the lowest code.
+/// message types, the enums and the files the first that breaks one, and of it the lowest code. Where
+/// no rule is told of them, they break none.
 pub fn reported_part_rules()
-    ensures { (parts : Parts) (e : CheckError) → IsFirstOf parts e → IsFirstBrokenPart parts e }
+    ensures first { (parts : Parts) (e : CheckError) → IsFirstOf parts e → IsFirstBrokenPart parts e }
+    ensures none { (parts : Parts) → parts_fault parts ≡ None → KeepsAll parts }
 {}
 
 /// The parts of files that keep to the rules keep to them too, as far as these go: numbers, reserved

@@ -1,5 +1,5 @@
 -- Going over the records of bytes, of a message or of an entry, in search of a fault.
-use Rattle.std.proofs.Common.{◌≡◌, ℕ, suc, ◌+◌, ◌<◌, ◌≤◌, ◌^◌, List, [], ◌∷◌, ◌++◌, length, Some, true, None, Result, Ok, Err, refl, ap, sym, subst, ◌∙◌, arith, length-append}
+use Rattle.std.proofs.Common.{◌≡◌, ℕ, suc, ◌+◌, ◌<◌, ◌≤◌, ◌^◌, List, [], ◌∷◌, ◌++◌, length, true, Result, Ok, Err, refl, ap, sym, subst, ◌∙◌, arith, length-append}
 use Rattle.std.specs.List.{AllByRecursion}
 use Rattle.pg_schema.specs.Shape.{Shape, FieldShape}
 use Rattle.pg_wire.specs.declared.error.WireError.{WireError}
@@ -12,7 +12,7 @@ use Rattle.pg_dyn.specs.declared.error.DynError.TheVariants as errors
 use Rattle.pg_dyn.specs.Decoding.{all_readable, dec}
 use Rattle.pg_dyn.specs.Faults.{Code, Wire, NotUtf8, IsFront, FaultIn, FaultOf, no_record}
 use Rattle.pg_dyn.specs.Faults as faults
-use Rattle.pg_dyn.specs.TooDeep.{TooDeepIn, TooDeepOf, the_root}
+use Rattle.pg_dyn.specs.TooDeep.{TooDeepIn, TooDeepOf}
 use Rattle.pg_dyn.specs.TooDeep as deep
 use Rattle.pg_dyn.specs.Steps.{RefusedBy, RefusedIn, RefusedRecord, Taken, IsShallowRecord, IsShallowIn}
 use Rattle.pg_dyn.proofs.BodiesByFields.{shallow_from_records}
@@ -26,8 +26,7 @@ module _ (HasPart HasWhole : Code → ℕ → Type 0) (IsPartDeep IsWholeDeep : 
   pub refused_on : ((code : Code) (p : ℕ) → HasPart code p → HasWhole code (k + p)) → ((p : ℕ) → IsPartDeep p → IsWholeDeep (k + p)) → (e : DynError)
       → RefusedBy HasPart IsPartDeep at e → RefusedBy HasWhole IsWholeDeep base e
   refused_on fault too_deep errors.Memory h = tt
-  refused_on fault too_deep (errors.NotUtf8 None) h = absurd h
-  refused_on fault too_deep (errors.NotUtf8 (Some x)) h = (k + h.0, let e = h.1 in omega arith, fault NotUtf8 h.0 h.2)
+  refused_on fault too_deep (errors.NotUtf8 x) h = (k + h.0, let e = h.1 in omega arith, fault NotUtf8 h.0 h.2)
   refused_on fault too_deep (errors.TooDeep x) h = (k + h.0, let e = h.1 in omega arith, too_deep h.0 h.2)
   refused_on fault too_deep (errors.Wire x) h = (k + h.0, let e = h.1 in omega arith, fault (Wire (fault_of x)) h.0 h.2)
   refused_on fault too_deep errors.NoSuchField h = absurd h

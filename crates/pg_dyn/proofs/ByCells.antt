@@ -20,7 +20,7 @@ use Rattle.pg_dyn.proofs.Lists.{all_some-map, each_weaker, each_of_all, each_swa
 use Rattle.pg_dyn.proofs.Splitting.{each_found, field_records_none, found_number, records_of_number, records_of_no_number, takes_number}
 use Rattle.pg_dyn.proofs.Belonging.{fields-IsType}
 use Rattle.pg_dyn.proofs.ReadSplits.{reading_of, field_split}
-use Rattle.pg_dyn.proofs.MessageReadsOn.{content_none}
+use Rattle.pg_dyn.proofs.RecordsRead.{content_none}
 use Rattle.pg_dyn.proofs.Depth.{dec_is}
 use Rattle.pg_dyn.proofs.ByField.{records_are, kept_from, kept_gives}
 

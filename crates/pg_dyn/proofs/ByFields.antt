@@ -28,7 +28,7 @@ use Rattle.pg_dyn.proofs.GoodRecords.{known_is, same_found}
 use Rattle.pg_dyn.proofs.ItemLeaves.{item_is_key}
 use Rattle.pg_dyn.proofs.KeptParts.{own_content, other_content}
 use Rattle.pg_dyn.proofs.Lists.{each-append, each_weaker, filter-append', filter_all, filter_none, flat_map-append', list_any_at}
-use Rattle.pg_dyn.proofs.MessageReadsOn.{assembled}
+use Rattle.pg_dyn.proofs.RecordsRead.{assembled}
 use Rattle.pg_dyn.proofs.Order.{NeverFalls, never_falls, of_each, of_each_is, places-parts}
 use Rattle.pg_dyn.proofs.ReadSplits.{parts-message_from}
 use Rattle.pg_dyn.proofs.ReplacingLaws.{all_seen, fields_from, filter-part_item, message_of-kept_from}

@@ -24,10 +24,10 @@ use Rattle.pg_dyn.specs.Message.{Bytes, Item, Leaf, Msg, Part}
 use Rattle.pg_dyn.specs.Optional.{all_some, joined}
 use Rattle.pg_dyn.specs.Seen.{item_seen}
 use Rattle.pg_dyn.specs.Steps.{FieldReads, IsShallow, IsShallowIn, item_of, part_of}
-use Rattle.pg_dyn.specs.TooDeep.{TooDeepIn, TooDeepOf}
+use Rattle.pg_dyn.specs.TooDeep.{TooDeepOf}
 use Rattle.pg_dyn.specs.TooDeep as deep
 use Rattle.pg_dyn.proofs.BodiesByFields.{OneAt, bodies_of, one_at, one_holds}
-use Rattle.pg_dyn.proofs.DecodesOn.{content_plain, one_body, readable_child, readable_is}
+use Rattle.pg_dyn.proofs.PlainFields.{content_plain, one_body, readable_child, readable_is}
 use Rattle.pg_dyn.proofs.Joining.{is_some_found}
 use Rattle.pg_dyn.proofs.Lists.{all_some-map, each-append, each_weaker, flat_map-map, joined-map_single}
 use Rattle.pg_dyn.proofs.ShallowRecords.{body_shallow}

@@ -1,8 +1,9 @@
 -- What a test of one content tells.
-use Rattle.std.proofs.Common.{Bool, Vec, Global, IsOk, IfErr, ◌≡◌, ℕ, ℤ, ◌<◌, ◌≤◌, ◌⊎◌, ⊎_elim, List, [], ◌∷◌, map, flat_map, Result, Ok, Err, Option, Some, None, true, false, inl, inr, refl, sym, subst, ◌∙◌, arith}
+use Rattle.std.proofs.Common.{Bool, Vec, Global, IsOk, IfErr, ◌≡◌, ℕ, ℤ, ◌<◌, ◌≤◌, ◌⊎◌, ⊎_elim, List, [], ◌∷◌, map, flat_map, Result, Ok, Err, Option, Some, None, true, inl, inr, refl, sym, subst, ◌∙◌, arith}
 use Rattle.std.specs.Prelude.{⊤}
 use Rattle.std.specs.List.{AllByRecursion}
 use Rattle.std.specs.Str.{is_utf8}
+use Rattle.std.proofs.lemmas.Str.{IsUtf8-from_is_utf8, utf8_valid_len-IsUtf8, utf8_valid_len-IsValidUpTo}
 use Rattle.pg_schema.specs.declared.field.Scalar.{Scalar}
 use Rattle.pg_schema.specs.declared.field.Scalar.TheVariants.{Int32}
 use Rattle.pg_schema.specs.declared.field.TypeId.{TypeId}
@@ -31,7 +32,7 @@ use Rattle.pg_dyn.proofs.LowestFault.{NoneEarly, none_any, told_so}
 
 module _ (F : DynError → Type 0) where
   pub lowest : (e : DynError) → F e → code e ≤ 605 → (F errors.Memory → ⊥) → (601 < code e → F errors.NoSuchField → ⊥) → (602 < code e → F errors.WrongKind → ⊥) → (603 < code e → F errors.OutOfRange → ⊥)
-      → (604 < code e → (at : Option ℕ) → F (errors.NotUtf8 at) → ⊥) → IsLowest F e
+      → (604 < code e → (at : ℕ) → F (errors.NotUtf8 at) → ⊥) → IsLowest F e
   lowest e h most memory number kind range text = (h, below)
     where
       below : (other : DynError) → code other < code e → F other → ⊥
@@ -71,13 +72,13 @@ of_integer s (values.Text x) h = absurd h
 of_integer s (values.Bytes x) h = absurd h
 of_integer s (values.Msg x) h = absurd h
 
-of_text : (s : Scalar) (v : Value) → IsNoText s v → IsKindOf (scalar_form s) v × (IsOutOfRange s v → ⊥)
-of_text s (values.Int x) h = absurd h
-of_text s (values.F32 x) h = absurd h
-of_text s (values.F64 x) h = absurd h
-of_text s (values.Text x) h = absurd h
-of_text s (values.Bytes x) h = (subst (λ f. IsKindOf f (values.Bytes x)) (sym h.0) tt, λ k. k)
-of_text s (values.Msg x) h = absurd h
+of_text : (s : Scalar) (v : Value) (at : ℕ) → IsNoText s at v → IsKindOf (scalar_form s) v × (IsOutOfRange s v → ⊥)
+of_text s (values.Int x) at h = absurd h
+of_text s (values.F32 x) at h = absurd h
+of_text s (values.F64 x) at h = absurd h
+of_text s (values.Text x) at h = absurd h
+of_text s (values.Bytes x) at h = (subst (λ f. IsKindOf f (values.Bytes x)) (sym h.0) tt, λ k. k)
+of_text s (values.Msg x) at h = absurd h
 
 -- an item of the scalar has none of these
 
@@ -138,21 +139,23 @@ range_of_item s (values.Text x) h out = out
 range_of_item s (values.Bytes x) h out = out
 range_of_item s (values.Msg x) h out = out
 
-text_of_item : (s : Scalar) (v : Value) → IsItemOf s v → IsNoText s v → ⊥
-text_of_item s (values.Int x) h none = none
-text_of_item s (values.F32 x) h none = none
-text_of_item s (values.F64 x) h none = none
-text_of_item s (values.Text x) h none = none
-text_of_item s (values.Bytes bytes) h none = absurd (let text : is_utf8 bytes.items ≡ true = subst (λ f. InRange f (leaf_of (values.Bytes bytes))) none.0 h in let not_text : is_utf8 bytes.items ≡ false = none.1 in cc)
-text_of_item s (values.Msg x) h none = none
+text_of_item : (s : Scalar) (v : Value) (at : ℕ) → IsItemOf s v → IsNoText s at v → ⊥
+text_of_item s (values.Int x) at h none = none
+text_of_item s (values.F32 x) at h none = none
+text_of_item s (values.F64 x) at h none = none
+text_of_item s (values.Text x) at h none = none
+text_of_item s (values.Bytes bytes) at h none =
+    let text : is_utf8 bytes.items ≡ true = subst (λ f. InRange f (leaf_of (values.Bytes bytes))) none.0 h in
+    let whole = utf8_valid_len-IsUtf8 bytes.items (IsUtf8-from_is_utf8 bytes.items text) in
+    absurd (omega (arith, none.1.short, whole, utf8_valid_len-IsValidUpTo bytes.items at none.1))
+text_of_item s (values.Msg x) at h none = none
 
 -- An item, and what is wrong with it.
 
 pub no_scalar_fault : (s : Scalar) (v : Value) → IsItemOf s v → (e : DynError) → IsFaultOf s v e → ⊥
 no_scalar_fault s v item errors.WrongKind k = k (kind_of_item s v item)
 no_scalar_fault s v item errors.OutOfRange k = range_of_item s v item k
-no_scalar_fault s v item (errors.NotUtf8 None) k = text_of_item s v item k
-no_scalar_fault s v item (errors.NotUtf8 (Some at)) k = k
+no_scalar_fault s v item (errors.NotUtf8 at) k = text_of_item s v at item k
 no_scalar_fault s v item errors.Memory k = k
 no_scalar_fault s v item errors.NoSuchField k = k
 no_scalar_fault s v item errors.OneofTwice k = k
@@ -165,9 +168,8 @@ scalar_lowest : (s : Scalar) (v : Value) (e : DynError) → IsFaultOf s v e → 
 scalar_lowest s v errors.WrongKind k = (lowest (IsFaultOf s v) errors.WrongKind k (omega arith) (λ x. x) (λ low x. x) (λ low x. omega arith) (λ low x. omega arith) (λ low at x. omega arith), omega arith)
 scalar_lowest s v errors.OutOfRange k =
     (lowest (IsFaultOf s v) errors.OutOfRange k (omega arith) (λ x. x) (λ low x. x) (λ low x. x (of_integer s v k)) (λ low x. omega arith) (λ low at x. omega arith), omega arith)
-scalar_lowest s v (errors.NotUtf8 None) k =
-    (lowest (IsFaultOf s v) (errors.NotUtf8 None) k (omega arith) (λ x. x) (λ low x. x) (λ low x. x (of_text s v k).0) (λ low x. (of_text s v k).1 x) (λ low at x. omega arith), omega arith)
-scalar_lowest s v (errors.NotUtf8 (Some at)) k = absurd k
+scalar_lowest s v (errors.NotUtf8 at) k =
+    (lowest (IsFaultOf s v) (errors.NotUtf8 at) k (omega arith) (λ x. x) (λ low x. x) (λ low x. x (of_text s v at k).0) (λ low x. (of_text s v at k).1 x) (λ low other x. omega arith), omega arith)
 scalar_lowest s v errors.Memory k = absurd k
 scalar_lowest s v errors.NoSuchField k = absurd k
 scalar_lowest s v errors.OneofTwice k = absurd k
@@ -185,15 +187,14 @@ told_scalar s v (Err e) fits fault = scalar_lowest s v e fault
 abbrev IsOfItem : DynError → Type 0
 IsOfItem errors.WrongKind = ⊤
 IsOfItem errors.OutOfRange = ⊤
-IsOfItem (errors.NotUtf8 None) = ⊤
+IsOfItem (errors.NotUtf8 at) = ⊤
 IsOfItem e = ⊥
 
 module _ (shape : Shape) where
   scalar_error : (s : Scalar) (v : Value) (e : DynError) → IsFaultOf s v e → IsOfItem e
   scalar_error s v errors.WrongKind k = tt
   scalar_error s v errors.OutOfRange k = tt
-  scalar_error s v (errors.NotUtf8 None) k = tt
-  scalar_error s v (errors.NotUtf8 (Some at)) k = k
+  scalar_error s v (errors.NotUtf8 at) k = tt
   scalar_error s v errors.Memory k = k
   scalar_error s v errors.NoSuchField k = k
   scalar_error s v errors.OneofTwice k = k
@@ -207,8 +208,7 @@ module _ (shape : Shape) where
   item_error (elements.Enum n) v e k = scalar_error Int32 v e k
   item_error (elements.Message t) v errors.WrongKind k = tt
   item_error (elements.Message t) v errors.OutOfRange k = tt
-  item_error (elements.Message t) v (errors.NotUtf8 None) k = tt
-  item_error (elements.Message t) v (errors.NotUtf8 (Some at)) k = k
+  item_error (elements.Message t) v (errors.NotUtf8 at) k = tt
   item_error (elements.Message t) v errors.Memory k = k
   item_error (elements.Message t) v errors.NoSuchField k = k
   item_error (elements.Message t) v errors.OneofTwice k = k
@@ -290,8 +290,7 @@ module _ (shape : Shape) (f : FieldShape) (c : Content) where
   to_field : (e : DynError) → HasItemFault shape f c e → FieldFault shape f c e
   to_field errors.WrongKind k = inr k
   to_field errors.OutOfRange k = k
-  to_field (errors.NotUtf8 None) k = k
-  to_field (errors.NotUtf8 (Some at)) k = any_error shape (items_in f c) (errors.NotUtf8 (Some at)) k
+  to_field (errors.NotUtf8 at) k = k
   to_field errors.Memory k = any_error shape (items_in f c) errors.Memory k
   to_field errors.NoSuchField k = any_error shape (items_in f c) errors.NoSuchField k
   to_field errors.OneofTwice k = any_error shape (items_in f c) errors.OneofTwice k
@@ -304,8 +303,7 @@ module _ (shape : Shape) (f : FieldShape) (c : Content) where
     from_field : (e : DynError) → code e < 605 → FieldFault shape f c e → HasItemFault shape f c e
     from_field errors.WrongKind early k = ⊎_elim (λ none. absurd (none has)) (λ h. h) k
     from_field errors.OutOfRange early k = k
-    from_field (errors.NotUtf8 None) early k = k
-    from_field (errors.NotUtf8 (Some at)) early k = absurd k
+    from_field (errors.NotUtf8 at) early k = k
     from_field errors.Memory early k = absurd k
     from_field errors.NoSuchField early k = absurd k
     from_field errors.OneofTwice early k = absurd k

@@ -30,11 +30,11 @@ use Rattle.pg_dyn.specs.ReadingOn.{IsNoMessage}
 use Rattle.pg_dyn.specs.ScalarItems.{IsItemOf}
 use Rattle.pg_dyn.specs.Seen.{leaf_of}
 use Rattle.pg_dyn.specs.Steps.{FieldReads, IsShallow, IsShallowIn, IsShallowRecord, Taken, item_of}
-use Rattle.pg_dyn.specs.TooDeep.{TooDeepIn, TooDeepOf}
+use Rattle.pg_dyn.specs.TooDeep.{TooDeepOf}
 use Rattle.pg_dyn.specs.TooDeep as deep
 use Rattle.pg_dyn.proofs.BodiesByFields.{bodies_of, records_shallow, seen_at, shallow_from_records}
 use Rattle.pg_dyn.proofs.ChildrenByFields as children
-use Rattle.pg_dyn.proofs.DecodesOn.{no_child}
+use Rattle.pg_dyn.proofs.PlainFields.{no_child}
 use Rattle.pg_dyn.proofs.Faulty.{entry_records_of}
 use Rattle.pg_dyn.proofs.FieldKinds.{message_clash}
 use Rattle.pg_dyn.proofs.ItemLeaves.{item_is_key, key_seen}

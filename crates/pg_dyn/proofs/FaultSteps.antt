@@ -15,7 +15,7 @@ use Rattle.pg_dyn.specs.declared.error.DynError.TheVariants as errors
 use Rattle.pg_dyn.specs.Coding.{Text, form, form_wire, element_at, leaf_in, scalar_form}
 use Rattle.pg_dyn.specs.Content.{same_wire, is_accepted, is_unknown, leaves_in, packed_leaves}
 use Rattle.pg_dyn.specs.Decoding.{is_child, all_readable, dec}
-use Rattle.pg_dyn.specs.Faults.{Code, Wire, NotUtf8, FaultIn, FaultOf, body_start}
+use Rattle.pg_dyn.specs.Faults.{Wire, NotUtf8, FaultIn, FaultOf, body_start}
 use Rattle.pg_dyn.specs.Faults as faults
 use Rattle.pg_dyn.specs.FaultSteps.{ItemReads}
 use Rattle.pg_dyn.specs.Held.{read_as}
@@ -26,7 +26,7 @@ use Rattle.pg_dyn.specs.TooDeep.{TooDeepIn, TooDeepOf}
 use Rattle.pg_dyn.specs.TooDeep as deep
 use Rattle.pg_dyn.proofs.Ahead.{refused_on}
 use Rattle.pg_dyn.proofs.TypeFields.{takes_it}
-use Rattle.pg_dyn.proofs.DecodesOn.{readable_is, no_child}
+use Rattle.pg_dyn.proofs.PlainFields.{readable_is, no_child}
 use Rattle.pg_dyn.proofs.FieldKinds.{form_as, packable_no_message}
 use Rattle.pg_dyn.proofs.GoodRecords.{read_by_field, read_unknown}
 use Rattle.pg_dyn.proofs.ShallowRecords.{body_shallow, scalar_shallow}
@@ -61,7 +61,7 @@ item_reads shape e r own there child f no_map is =
 
 pub text_refused : (shape : Shape) (levels : ℕ) (f : FieldShape) (r : WireRecord) (at : ℕ) (e : DynError) (s : Scalar) → is_map f.presence ≡ false
     → form f.element ≡ scalar_form s
-    → (e ≡ errors.NotUtf8 (Some at)) × (scalar_form s ≡ Text) × (is_utf8 r.body ≡ false) → RefusedOf shape levels f r at e
+    → (e ≡ errors.NotUtf8 at) × (scalar_form s ≡ Text) × (is_utf8 r.body ≡ false) → RefusedOf shape levels f r at e
 text_refused shape levels f r at e s no_map same h =
     subst (RefusedOf shape levels f r at) (sym h.0) (0, omega arith, faults.not_text f r no_map (same ∙ h.1) h.2)
 
@@ -72,16 +72,16 @@ pub record ScalarChecked (shape : Shape) (levels : ℕ) (e : Element) (r : WireR
   pub err : IfErr result (RefusedItem shape levels e r at)
   pub not_memory : IfErr result (λ x. x ≡ errors.Memory → ⊥)
 
-not_text : (error : DynError) (at : ℕ) → error ≡ errors.NotUtf8 (Some at) → error ≡ errors.Memory → ⊥
+not_text : (error : DynError) (at : ℕ) → error ≡ errors.NotUtf8 at → error ≡ errors.Memory → ⊥
 not_text error at is memory = of (sym memory ∙ is)
   where
-    of : errors.Memory ≡ errors.NotUtf8 (Some at) → ⊥
+    of : errors.Memory ≡ errors.NotUtf8 at → ⊥
     of h = cc
 
 pub scalar_checked : (shape : Shape) (levels : ℕ) (e : Element) (r : WireRecord) (at : ℕ) (result : Result ⊤ DynError) (s : Scalar) → IsNoMessage e
     → s ≡ read_as e → is_own e r ≡ true
     → OnOk result (is_some (leaf_in (scalar_form s) r.body) ≡ true)
-    → IfErr result (λ x. (x ≡ errors.NotUtf8 (Some at)) × (scalar_form s ≡ Text) × (is_utf8 r.body ≡ false))
+    → IfErr result (λ x. (x ≡ errors.NotUtf8 at) × (scalar_form s ≡ Text) × (is_utf8 r.body ≡ false))
     → ScalarChecked shape levels e r at result
 scalar_checked shape levels e r at (Ok x) s scalar is own ok err =
     let same : scalar_form s ≡ form e = ap scalar_form is ∙ sym (form_as e) in

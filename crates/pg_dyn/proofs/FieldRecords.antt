@@ -11,7 +11,7 @@ use Rattle.pg_dyn.specs.Decoding.{dec}
 use Rattle.pg_dyn.specs.Message.{Leaf}
 use Rattle.pg_dyn.specs.ReadingOn.{IsNoMessage}
 use Rattle.pg_dyn.specs.Steps.{FieldReads}
-use Rattle.pg_dyn.proofs.DecodesOn.{own_is, readable_is, no_child}
+use Rattle.pg_dyn.proofs.PlainFields.{own_is, readable_is, no_child}
 use Rattle.pg_wire.specs.declared.record.WireType.{WireType}
 use Rattle.pg_dyn.specs.ScalarItems.{HasShape}
 

@@ -7,6 +7,7 @@ use Rattle.pg_schema.specs.Shape.{FieldShape, field_at}
 use Rattle.pg_dyn.specs.declared.message.Content.{Content}
 use Rattle.pg_dyn.specs.declared.message.Value.{Value}
 use Rattle.pg_dyn.specs.declared.message.Value.TheVariants as values
+use Rattle.pg_dyn.specs.KeyOrder.{Rise}
 use Rattle.pg_dyn.specs.Message.{Leaf, Int, F32, F64, Bytes, key_cmp}
 use Rattle.pg_dyn.specs.Seen.{IsKey, leaf_of}
 use Rattle.pg_dyn.specs.ContentFits.{are_rivals_by, AreApart, KeysRise, NoneRivals}
@@ -40,26 +41,36 @@ other_default (values.Bytes x) w key int text bytes = absurd (bytes x refl)
 other_default (values.Msg x) w key int text bytes = absurd key
 
 -- keys rise where each is below the next
+module _ {A : Type 0} (key : A → Leaf) where
+  abbrev pub IsUnder : A → A → Type 0
+  IsUnder a b = key_cmp (key a) (key b) ≡ Less
+
+  pub rise_from : (es : List A) → ((k : ℕ) (d e : A) → suc k < length es → IsUnder (get_or es k d) (get_or es (suc k) e)) → Rise key es
+  rise_from [] h = tt
+  rise_from (e ∷ []) h = (tt, tt)
+  rise_from (e ∷ f ∷ es) h =
+      let rest = rise_from (f ∷ es) (λ k c d inside. h (suc k) c d (omega arith)) in
+      let first : IsUnder e f = h 0 e f (omega arith) in
+      ((first, below es rest.0 first), rest)
+    where
+      below : (xs : List A) → AllByRecursion (λ (x : A). IsUnder f x) xs → IsUnder e f → AllByRecursion (λ (x : A). IsUnder e x) xs
+      below [] k first' = tt
+      below (x ∷ xs) k first' = (key_trans (key e) (key f) (key x) first' k.0, below xs k.1 first')
+
+  pub rise_at : (es : List A) (k : ℕ) (d e : A) → suc k < length es → Rise key es → IsUnder (get_or es k d) (get_or es (suc k) e)
+  rise_at [] k d e inside h = absurd (omega arith)
+  rise_at (x ∷ []) k d e inside h = absurd (omega arith)
+  rise_at (x ∷ y ∷ es) zero d e inside h = h.0.0
+  rise_at (x ∷ y ∷ es) (suc k) d e inside h = rise_at (y ∷ es) k d e (omega arith) h.1
+
 abbrev pub IsBelow : Value × Value → Value × Value → Type 0
 IsBelow a b = key_cmp (leaf_of a.0) (leaf_of b.0) ≡ Less
 
 pub rises_from : (es : List (Value × Value)) → ((k : ℕ) (d e : Value × Value) → suc k < length es → IsBelow (get_or es k d) (get_or es (suc k) e)) → KeysRise es
-rises_from [] h = tt
-rises_from (e ∷ []) h = (tt, tt)
-rises_from (e ∷ f ∷ es) h =
-    let rest = rises_from (f ∷ es) (λ k c d inside. h (suc k) c d (omega arith)) in
-    let first : IsBelow e f = h 0 e f (omega arith) in
-    ((first, below es rest.0 first), rest)
-  where
-    below : (xs : List (Value × Value)) → AllByRecursion (λ (x : Value × Value). IsBelow f x) xs → IsBelow e f → AllByRecursion (λ (x : Value × Value). IsBelow e x) xs
-    below [] k first' = tt
-    below (x ∷ xs) k first' = (key_trans (leaf_of e.0) (leaf_of f.0) (leaf_of x.0) first' k.0, below xs k.1 first')
+rises_from es h = rise_from (λ (e : Value × Value). leaf_of e.0) es h
 
 pub adjacent : (es : List (Value × Value)) (k : ℕ) (d e : Value × Value) → suc k < length es → KeysRise es → IsBelow (get_or es k d) (get_or es (suc k) e)
-adjacent [] k d e inside h = absurd (omega arith)
-adjacent (x ∷ []) k d e inside h = absurd (omega arith)
-adjacent (x ∷ y ∷ es) zero d e inside h = h.0.0
-adjacent (x ∷ y ∷ es) (suc k) d e inside h = adjacent (y ∷ es) k d e (omega arith) h.1
+adjacent es k d e inside h = rise_at (λ (e : Value × Value). leaf_of e.0) es k d e inside h
 
 -- Members of one oneof.
 
@@ -96,7 +107,10 @@ same_default [] i d e inside = absurd (omega arith)
 same_default (x ∷ xs) zero d e inside = refl
 same_default (x ∷ xs) (suc i) d e inside = same_default xs i d e (omega arith)
 
+pub fact_at : {A : Type 0} (P : A → Type 0) (xs : List A) (i : ℕ) (d : A) → i < length xs → AllByRecursion P xs → P (get_or xs i d)
+fact_at P [] i d inside h = absurd (omega arith)
+fact_at P (x ∷ xs) zero d inside h = h.0
+fact_at P (x ∷ xs) (suc i) d inside h = fact_at P xs i d (omega arith) h.1
+
 pub key_at : (es : List (Value × Value)) (i : ℕ) (d : Value × Value) → i < length es → AllByRecursion (λ (e : Value × Value). IsKey e.0) es → IsKey (get_or es i d).0
-key_at [] i d inside h = absurd (omega arith)
-key_at (e ∷ es) zero d inside h = h.0
-key_at (e ∷ es) (suc i) d inside h = key_at es i d (omega arith) h.1
+key_at es i d inside h = fact_at (λ (e : Value × Value). IsKey e.0) es i d inside h

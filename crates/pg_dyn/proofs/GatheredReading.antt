@@ -24,7 +24,7 @@ use Rattle.pg_dyn.proofs.Gathered.{all_counted, each_by_number, known_counted, k
 use Rattle.pg_dyn.proofs.GoodRecords.{IsGood, each_good, good_each, good_unknown}
 use Rattle.pg_dyn.proofs.Joining.{each_after_last}
 use Rattle.pg_dyn.proofs.Lists.{each-filter, each-map, each_filtered, each_of_all, each_unfiltered, each_weaker, map_same}
-use Rattle.pg_dyn.proofs.MessageReadsOn.{built, pieces_of}
+use Rattle.pg_dyn.proofs.RecordsRead.{built, pieces_of}
 use Rattle.pg_dyn.proofs.ReadSplits.{parts-message_from}
 use Rattle.pg_dyn.proofs.ReplacingLaws.{all_seen, fields_from, message_of-kept_from}
 use Rattle.pg_dyn.proofs.Splitting.{each_found, found_number}

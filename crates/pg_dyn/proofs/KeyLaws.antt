@@ -21,7 +21,7 @@ use Rattle.pg_dyn.specs.ContentFits.{KeysRise}
 use Rattle.pg_dyn.specs.KeyOrder.{AreAlike, IsNumber, IsText, number_in, rank_cmp, ranks_below}
 use Rattle.pg_dyn.specs.Message.{Leaf, Int, F32, F64, Bytes, key_cmp, leaf_eq}
 use Rattle.pg_dyn.specs.Seen.{IsKey, leaf_of}
-use Rattle.pg_dyn.proofs.FitsSteps.{IsBelow, rises_from, same_default}
+use Rattle.pg_dyn.proofs.FitsSteps.{IsBelow, fact_at, rises_from, same_default}
 use Rattle.pg_dyn.proofs.Leaves.{same_leaf, leaf_eq_self}
 
 -- The order is one.
@@ -173,23 +173,18 @@ alike_keys es h =
     ⊎_elim (λ n. each_to (λ (e : Value × Value). IsNumber e.0) (λ (e : Value × Value). IsKey e.0) (λ e. number_key e.0) es n)
     (λ t. each_to (λ (e : Value × Value). IsText e.0) (λ (e : Value × Value). IsKey e.0) (λ e. text_key e.0) es t) h
 
-at_place : {A : Type 0} (P : A → Type 0) (xs : List A) (i : ℕ) (d : A) → i < length xs → AllByRecursion P xs → P (get_or xs i d)
-at_place P [] i d inside h = absurd (omega arith)
-at_place P (x ∷ xs) zero d inside h = h.0
-at_place P (x ∷ xs) (suc i) d inside h = at_place P xs i d (omega arith) h.1
-
 from_places : {A : Type 0} (P : A → Type 0) (xs : List A) → ((k : ℕ) (d : A) → k < length xs → P (get_or xs k d)) → AllByRecursion P xs
 from_places P [] h = tt
 from_places P (x ∷ xs) h = (h 0 x (omega arith), from_places P xs (λ k d inside. h (suc k) d (omega arith)))
 
 pub alike_at : (es : List (Value × Value)) (i j : ℕ) (d e : Value × Value) → i < length es → j < length es → AreAlike es → AreSame (leaf_of (get_or es i d).0) (leaf_of (get_or es j e).0)
 alike_at es i j d e inside there h =
-    ⊎_elim (λ n. number_same (get_or es i d).0 (get_or es j e).0 (at_place (λ (x : Value × Value). IsNumber x.0) es i d inside n) (at_place (λ (x : Value × Value). IsNumber x.0) es j e there n))
-    (λ t. text_same (get_or es i d).0 (get_or es j e).0 (at_place (λ (x : Value × Value). IsText x.0) es i d inside t) (at_place (λ (x : Value × Value). IsText x.0) es j e there t)) h
+    ⊎_elim (λ n. number_same (get_or es i d).0 (get_or es j e).0 (fact_at (λ (x : Value × Value). IsNumber x.0) es i d inside n) (fact_at (λ (x : Value × Value). IsNumber x.0) es j e there n))
+    (λ t. text_same (get_or es i d).0 (get_or es j e).0 (fact_at (λ (x : Value × Value). IsText x.0) es i d inside t) (fact_at (λ (x : Value × Value). IsText x.0) es j e there t)) h
 
 -- what holds of each holds of each in another order
 pub each_moved : {A : Type 0} (P : A → Type 0) (xs ys : List A) → IsPermutation xs ys → AllByRecursion P xs → AllByRecursion P ys
-each_moved P xs ys moved h = from_places P ys (All-permutation P xs ys moved (λ k d inside. at_place P xs k d inside h))
+each_moved P xs ys moved h = from_places P ys (All-permutation P xs ys moved (λ k d inside. fact_at P xs k d inside h))
 
 pub alike_moved : (es fs : List (Value × Value)) → IsPermutation es fs → AreAlike es → AreAlike fs
 alike_moved es fs moved h =

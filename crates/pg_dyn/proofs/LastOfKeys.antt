@@ -4,6 +4,7 @@ use Rattle.std.specs.Prelude.{⊤}
 use Rattle.std.specs.List.{AllByRecursion}
 use Rattle.std.specs.declared.cmp.Ordering.{Ordering}
 use Rattle.std.specs.declared.cmp.Ordering.TheVariants.{Less, Equal, Greater}
+use Rattle.pg_dyn.specs.KeyOrder.{Rise}
 use Rattle.pg_dyn.specs.Message.{Leaf, Int, F32, F64, Bytes, key_cmp, leaf_eq}
 use Rattle.pg_dyn.specs.Optional.{last_of}
 use Rattle.pg_dyn.proofs.EntryPlaces.{less_from_above}
@@ -60,10 +61,6 @@ module _ {A : Type 0} (key : A → Leaf) where
   abbrev pub IsUnder : A → A → Type 0
   IsUnder a b = key_cmp (key a) (key b) ≡ Less
 
-  abbrev pub Rise : List A → Type 0
-  Rise [] = ⊤
-  Rise (x ∷ xs) = AllByRecursion (IsUnder x) xs × Rise xs
-
   abbrev pub OfKind : Bool → List A → Type 0
   OfKind b xs = AllByRecursion (λ x. IsOfKind b (key x)) xs
 
@@ -84,11 +81,11 @@ module _ {A : Type 0} (key : A → Leaf) where
   under_both : (e x : A) (xs : List A) → IsUnder e x → AllByRecursion (IsUnder x) xs → AllByRecursion (IsUnder e) xs
   under_both e x xs is h = each_weaker (IsUnder x) (IsUnder e) (λ y k. key_trans (key e) (key x) (key y) is k) xs h
 
-  pub rise_placed : (b : Bool) (e : A) (xs : List A) → IsOfKind b (key e) → OfKind b xs → Rise xs → Rise (place e xs)
+  pub rise_placed : (b : Bool) (e : A) (xs : List A) → IsOfKind b (key e) → OfKind b xs → Rise key xs → Rise key (place e xs)
   rise_placed b e [] one kind rise = (tt, tt)
   rise_placed b e (x ∷ xs) one kind rise = of (key_cmp (key e) (key x)) refl (rise_placed b e xs one kind.1 rise.1)
     where
-      of : (o : Ordering) → key_cmp (key e) (key x) ≡ o → Rise (place e xs) → Rise (place e (x ∷ xs))
+      of : (o : Ordering) → key_cmp (key e) (key x) ≡ o → Rise key (place e xs) → Rise key (place e (x ∷ xs))
       of Less is rest = rw is ((is, under_both e x xs is rise.0), rise)
       of Equal is rest = rw is (under_same b e x xs one kind.0 is rise.0, rise.1)
       of Greater is rest = rw is (each_placed (IsUnder x) e xs (less_from_above (key e) (key x) is) rise.0, rest)
@@ -97,7 +94,7 @@ module _ {A : Type 0} (key : A → Leaf) where
   kind_all b before [] h i = h
   kind_all b before (e ∷ es) h i = kind_all b (place e before) es (each_placed (λ x. IsOfKind b (key x)) e before i.0 h) i.1
 
-  pub rise_all : (b : Bool) (before es : List A) → OfKind b before → OfKind b es → Rise before → Rise (placed before es)
+  pub rise_all : (b : Bool) (before es : List A) → OfKind b before → OfKind b es → Rise key before → Rise key (placed before es)
   rise_all b before [] h i rise = rise
   rise_all b before (e ∷ es) h i rise = rise_all b (place e before) es (each_placed (λ x. IsOfKind b (key x)) e before i.0 h) i.1 (rise_placed b e before i.0 h rise)
 
@@ -118,7 +115,7 @@ module _ {A : Type 0} (key : A → Leaf) where
       cases_bool true = inl refl
       cases_bool false = inr refl
 
-  pub placed_one : (b : Bool) (k : Leaf) (e : A) (xs : List A) → IsOfKind b (key e) → OfKind b xs → Rise xs → filter (has_key k) (place e xs) ≡ cond (has_key k e) (e ∷ []) (filter (has_key k) xs)
+  pub placed_one : (b : Bool) (k : Leaf) (e : A) (xs : List A) → IsOfKind b (key e) → OfKind b xs → Rise key xs → filter (has_key k) (place e xs) ≡ cond (has_key k e) (e ∷ []) (filter (has_key k) xs)
   placed_one b k e [] one kind rise = refl
   placed_one b k e (x ∷ xs) one kind rise = of (has_key k e) refl (key_cmp (key e) (key x)) refl (placed_one b k e xs one kind.1 rise.1)
     where
@@ -150,7 +147,7 @@ module _ {A : Type 0} (key : A → Leaf) where
   or_before before [] = before
   or_before before (x ∷ xs) = last_of (x ∷ xs)
 
-  pub placed_all : (b : Bool) (k : Leaf) (before es : List A) → OfKind b before → OfKind b es → Rise before → filter (has_key k) (placed before es) ≡ or_before (filter (has_key k) before) (filter (has_key k) es)
+  pub placed_all : (b : Bool) (k : Leaf) (before es : List A) → OfKind b before → OfKind b es → Rise key before → filter (has_key k) (placed before es) ≡ or_before (filter (has_key k) before) (filter (has_key k) es)
   placed_all b k before [] h i rise = refl
   placed_all b k before (e ∷ es) h i rise =
       placed_all b k (place e before) es (each_placed (λ x. IsOfKind b (key x)) e before i.0 h) i.1 (rise_placed b e before i.0 h rise)
@@ -196,7 +193,7 @@ module _ {A : Type 0} (key : A → Leaf) where
   not_in_under : (x : A) (ys : List A) → AllByRecursion (IsUnder x) ys → StandsIn x ys → ⊥
   not_in_under x ys below h = key_less_self (key x) (one_in (IsUnder x) x ys below h)
 
-  pub same_rising : (xs ys : List A) → Rise xs → Rise ys → ((z : A) → StandsIn z xs → StandsIn z ys) → ((z : A) → StandsIn z ys → StandsIn z xs) → xs ≡ ys
+  pub same_rising : (xs ys : List A) → Rise key xs → Rise key ys → ((z : A) → StandsIn z xs → StandsIn z ys) → ((z : A) → StandsIn z ys → StandsIn z xs) → xs ≡ ys
   same_rising [] [] rise up to back = refl
   same_rising [] (y ∷ ys) rise up to back = absurd (back y (inl refl))
   same_rising (x ∷ xs) [] rise up to back = absurd (to x (inl refl))
@@ -214,7 +211,7 @@ module _ {A : Type 0} (key : A → Leaf) where
       λ z h. ⊎_elim (λ same. absurd (not_in_under y ys up.0 (subst (λ w. StandsIn w ys) (same ∙ heads) h))) (λ k. k) (back z (inr h)) in
       ap₂ (λ w ws. w ∷ ws) heads (same_rising xs ys rise.1 up.1 rest_to rest_back)
 
-  pub same_by_keys : (b : Bool) (xs ys : List A) → OfKind b xs → OfKind b ys → Rise xs → Rise ys → ((z : A) → IsOfKind b (key z) → filter (has_key (key z)) xs ≡ filter (has_key (key z)) ys) → xs ≡ ys
+  pub same_by_keys : (b : Bool) (xs ys : List A) → OfKind b xs → OfKind b ys → Rise key xs → Rise key ys → ((z : A) → IsOfKind b (key z) → filter (has_key (key z)) xs ≡ filter (has_key (key z)) ys) → xs ≡ ys
   same_by_keys b xs ys kx ky rise up same =
       same_rising xs ys rise up
       (λ z h. filtered_stands (has_key (key z)) z ys (subst (StandsIn z) (same z (one_in (λ x. IsOfKind b (key x)) z xs kx h)) (stands_filtered (has_key (key z)) z xs (leaf_eq_self (key z)) h)))

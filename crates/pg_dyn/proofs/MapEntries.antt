@@ -16,7 +16,8 @@ use Rattle.pg_dyn.specs.Content.{by_key, entry_in, entry_part, key_field, leaves
 use Rattle.pg_dyn.specs.FieldLaws.{EntriesRise, LastOfEachKey}
 use Rattle.pg_dyn.specs.Message.{Bytes, Leaf, key_cmp, leaf_eq}
 use Rattle.pg_dyn.specs.Optional.{all_some, first_or, joined, last_of}
-use Rattle.pg_dyn.proofs.LastOfKeys.{IsOfKind, OfKind, Rise, last_placed, place, placed, rise_all}
+use Rattle.pg_dyn.specs.KeyOrder.{Rise}
+use Rattle.pg_dyn.proofs.LastOfKeys.{IsOfKind, OfKind, last_placed, place, placed, rise_all}
 use Rattle.pg_dyn.proofs.Lists.{and_then_some, each-append, option_map_some}
 use Rattle.pg_dyn.proofs.ReadSplits.{Gives, all_some_gives}
 

@@ -1,9 +1,9 @@
 -- Members of oneofs among contents by rising numbers.
-use Rattle.std.proofs.Common.{◌≡◌, ℕ, option_and_then, ◌<◌, ◌≤◌, List, [], ◌∷◌, length, filter, Bool, true, false, cond, not, ◌&&◌, Option, Some, None, refl, ap, ap₂, sym, ◌∙◌, arith, true≢false, eq-eqb, ne_eqb}
+use Rattle.std.proofs.Common.{◌≡◌, ℕ, option_and_then, ◌<◌, ◌≤◌, List, [], ◌∷◌, length, Bool, true, false, cond, not, ◌&&◌, Option, Some, None, refl, ap, ap₂, sym, ◌∙◌, arith, true≢false, eq-eqb, ne_eqb}
 use Rattle.pg_schema.specs.Shape.{FieldShape, field_at}
 use Rattle.pg_dyn.specs.declared.message.Content.{Content}
 use Rattle.pg_dyn.specs.Content.{same_oneof, is_rival}
-use Rattle.pg_dyn.specs.ContentFaults.{is_in_oneof}
+use Rattle.pg_dyn.specs.ContentFaults.{is_in_oneof, members}
 use Rattle.pg_dyn.specs.ContentFits.{AreApart, NoneRivals}
 use Rattle.pg_dyn.specs.Seen.{Rises}
 use Rattle.pg_dyn.proofs.Lists.{filter_none, each_weaker, each_both}
@@ -11,9 +11,6 @@ use Rattle.pg_dyn.proofs.Splitting.{found_number}
 use Rattle.pg_dyn.proofs.WholeFaults.{same_some}
 
 module _ (fs : List FieldShape) where
-  abbrev members : ℕ → List (ℕ × Content) → List (ℕ × Content)
-  members o cs = filter (λ (c : ℕ × Content). is_in_oneof fs o c.0) cs
-
   in_oneof : (n o : ℕ) → is_in_oneof fs o n ≡ true → (f : FieldShape) × (field_at fs n ≡ Some f) × (f.oneof ≡ Some o)
   in_oneof n o h = of (field_at fs n) refl h
     where
@@ -38,13 +35,13 @@ module _ (fs : List FieldShape) where
           absurd (true≢false (sym (rivals_in f g o is_f is_g low) ∙ apart f g found there))
 
   -- of contents that are no rivals each oneof has one member at most
-  pub each_once : (cs : List (ℕ × Content)) → Rises cs → NoneRivals fs cs → (o : ℕ) → length (members o cs) ≤ 1
+  pub each_once : (cs : List (ℕ × Content)) → Rises cs → NoneRivals fs cs → (o : ℕ) → length (members fs o cs) ≤ 1
   each_once [] rises apart o = omega arith
   each_once (c ∷ cs) rises apart o = of (is_in_oneof fs o c.0) refl (each_once cs rises.1 apart.1 o)
     where
-      of : (b : Bool) → is_in_oneof fs o c.0 ≡ b → length (members o cs) ≤ 1 → length (cond b (c ∷ members o cs) (members o cs)) ≤ 1
+      of : (b : Bool) → is_in_oneof fs o c.0 ≡ b → length (members fs o cs) ≤ 1 → length (cond b (c ∷ members fs o cs) (members fs o cs)) ≤ 1
       of true e rest =
-          let none : members o cs ≡ [] =
+          let none : members fs o cs ≡ [] =
           filter_none (λ (l : ℕ × Content). is_in_oneof fs o l.0) cs
           (each_weaker (λ (l : ℕ × Content). (c.0 < l.0) × AreApart fs c.0 l.0) (λ (l : ℕ × Content). is_in_oneof fs o l.0 ≡ false) (λ l k. apart_in c.0 l.0 o k.0 k.1 e) cs
           (each_both (λ (l : ℕ × Content). c.0 < l.0) (λ (l : ℕ × Content). AreApart fs c.0 l.0) cs rises.0 apart.0)) in

@@ -27,7 +27,7 @@ use Rattle.pg_dyn.proofs.ReadSplits.{reading_of, field_split, no_field_split, un
 use Rattle.pg_dyn.proofs.Depth.{dec_is}
 use Rattle.pg_dyn.proofs.ByField as ByField
 use Rattle.pg_dyn.proofs.ByCells as ByCells
-use Rattle.pg_dyn.proofs.MessageReadsOn.{content_none}
+use Rattle.pg_dyn.proofs.RecordsRead.{content_none}
 use Rattle.pg_dyn.proofs.ItemLeaves.{item_is_key}
 use Rattle.pg_dyn.proofs.ReplacingLaws.{content_number, type_of-kept_onto, unknown-message_of, type_of-with_parts, type_of-without_rivals}
 use Rattle.pg_dyn.proofs.SelfSame.{plain_unknown}

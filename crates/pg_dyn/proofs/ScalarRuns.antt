@@ -30,7 +30,7 @@ use Rattle.pg_dyn.specs.Seen.{IsKey, item_seen, leaf_of}
 use Rattle.pg_dyn.specs.Steps.{FieldReads, HeldFits, IsShallow, item_of, part_of, parts_held}
 use Rattle.pg_dyn.proofs.FieldKinds.{form_as, lists_no_map}
 use Rattle.pg_dyn.proofs.FieldRecords.{own_leaves, packable_of, reads_scalar, row_leaves, shape_of_body}
-use Rattle.pg_dyn.proofs.DecodesOn.{readable_is}
+use Rattle.pg_dyn.proofs.PlainFields.{readable_is}
 use Rattle.pg_dyn.proofs.EntryByParts.{item_as}
 use Rattle.pg_dyn.proofs.Fields.{field_of}
 use Rattle.pg_dyn.proofs.ItemLeaves.{item_is_key, zero_of_key, key_seen}

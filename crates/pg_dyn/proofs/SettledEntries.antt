@@ -10,13 +10,13 @@ use Rattle.pg_dyn.specs.declared.message.Value.TheVariants as values
 use Rattle.pg_dyn.specs.ContentFits.{KeysRise}
 use Rattle.pg_dyn.specs.Settled.{settled_entries}
 use Rattle.pg_dyn.specs.Held.{with_entry}
-use Rattle.pg_dyn.specs.KeyOrder.{AreAlike, IsNumber, IsText, ranks_below, rank_cmp}
+use Rattle.pg_dyn.specs.KeyOrder.{AreAlike, IsNumber, IsText, Rise, ranks_below, rank_cmp}
 use Rattle.pg_dyn.specs.Message.{Leaf, key_cmp, leaf_eq}
 use Rattle.pg_dyn.specs.Optional.{last_of}
 use Rattle.pg_dyn.specs.Seen.{IsKey, leaf_of}
 use Rattle.pg_dyn.proofs.KeyLaws.{alike_keys, each_moved, equal_leaves, rank_total}
 use Rattle.pg_dyn.proofs.Leaves.{leaf_eq_self, same_leaf}
-use Rattle.pg_dyn.proofs.LastOfKeys.{IsOfKind, OfKind, Rise, has_key, kind_all, last_placed, none_of_key, place, placed, placed_alike, rise_all, rise_placed, same_by_keys, same_kind}
+use Rattle.pg_dyn.proofs.LastOfKeys.{IsOfKind, OfKind, has_key, kind_all, last_placed, none_of_key, place, placed, placed_alike, rise_all, rise_placed, same_by_keys, same_kind}
 use Rattle.pg_dyn.proofs.Lists.{each_weaker, each-append}
 
 abbrev Entry : Type 0
@@ -40,14 +40,6 @@ fold_is_placed before (e ∷ es) = fold_is_placed (with_entry e.0 e.1 before) es
 
 settled_is_placed : (es : List Entry) → settled_entries es ≡ placed key [] es
 settled_is_placed es = fold_is_placed [] es
-
-rise_is : (es : List Entry) → KeysRise es → Rise key es
-rise_is [] h = tt
-rise_is (e ∷ es) h = (h.0, rise_is es h.1)
-
-is_rise : (es : List Entry) → Rise key es → KeysRise es
-is_rise [] h = tt
-is_rise (e ∷ es) h = (h.0, is_rise es h.1)
 
 -- Keys of one kind.
 
@@ -75,7 +67,7 @@ kind_of es h =
 -- What settled entries are.
 
 pub settled_rise : (es : List Entry) → AreAlike es → KeysRise (settled_entries es)
-settled_rise es alike = let (b, kind) = kind_of es alike in is_rise (settled_entries es) (subst (Rise key) (sym (settled_is_placed es)) (rise_all key b [] es tt kind tt))
+settled_rise es alike = let (b, kind) = kind_of es alike in subst (Rise key) (sym (settled_is_placed es)) (rise_all key b [] es tt kind tt)
 
 each_with : (P : Entry → Type 0) (e : Entry) (es : List Entry) → P e → AllByRecursion P es → AllByRecursion P (with_entry e.0 e.1 es)
 each_with P e [] one h = (one, tt)
@@ -125,8 +117,8 @@ pub rising_stay : (es : List Entry) → AreAlike es → KeysRise es → settled_
 rising_stay es alike rise =
     let (b, kind) = kind_of es alike in
     settled_is_placed es
-    ∙ same_by_keys key b (placed key [] es) es (kind_all key b [] es tt kind) kind (rise_all key b [] es tt kind tt) (rise_is es rise)
-    (λ z k. last_placed key b (leaf_of z.0) es kind ∙ at_most (leaf_of z.0) es (rise_is es rise))
+    ∙ same_by_keys key b (placed key [] es) es (kind_all key b [] es tt kind) kind (rise_all key b [] es tt kind tt) rise
+    (λ z k. last_placed key b (leaf_of z.0) es kind ∙ at_most (leaf_of z.0) es rise)
 
 -- Sorted entries settle alike, where those of one key keep their order.
 
@@ -183,7 +175,7 @@ alike_parts xs ys h =
     each_split P (z ∷ zs) k = let (a, b) = each_split P zs k.1 in ((k.0, a), b)
 
 pub rises_with : (e : Entry) (es : List Entry) → AreAlike (e ∷ es) → KeysRise es → KeysRise (with_entry e.0 e.1 es)
-rises_with e es alike rise = let (b, kind) = kind_of (e ∷ es) alike in is_rise (with_entry e.0 e.1 es) (subst (Rise key) (sym (with_is_place e es)) (rise_placed key b e es kind.0 kind.1 (rise_is es rise)))
+rises_with e es alike rise = let (b, kind) = kind_of (e ∷ es) alike in subst (Rise key) (sym (with_is_place e es)) (rise_placed key b e es kind.0 kind.1 rise)
 
 pub record SettlesTo (all before rest : List Entry) : Type 0 where
   pub alike : AreAlike (before ++ rest)

@@ -1,5 +1,5 @@
 -- Where a message stands deeper than a limit, the bytes are at least as many: each message inside another has a byte more around it.
-use Rattle.std.proofs.Common.{◌≡◌, ◌≢◌, ℕ, suc, ◌≤◌, ◌<◌, List, ◌++◌, length, Some, None, refl, ap, sym, arith, length-append}
+use Rattle.std.proofs.Common.{◌≡◌, ◌≢◌, ℕ, suc, ◌≤◌, ◌<◌, List, ◌++◌, length, None, refl, ap, sym, arith, length-append}
 use Rattle.pg_schema.specs.declared.field.TypeId.{TypeId}
 use Rattle.pg_schema.specs.Shape.{Shape, FieldShape, fields}
 use Rattle.pg_wire.specs.Errors.{fault_of, place_of}
@@ -37,8 +37,7 @@ module _ (shape : Shape) where
 -- What is refused within a limit above the length, memory aside, has no reading.
 pub refused_unread : (shape : Shape) (type : TypeId) (limit : ℕ) (bytes : List ℕ) (e : DynError) → length bytes < limit → e ≢ errors.Memory → MayRefuse shape type limit bytes e → None ≡ dec shape type bytes
 refused_unread shape type limit bytes errors.Memory short other h = absurd (other refl)
-refused_unread shape type limit bytes (errors.NotUtf8 (Some at)) short other h = sym (dec_of_fault shape type bytes NotUtf8 at h)
-refused_unread shape type limit bytes (errors.NotUtf8 None) short other h = absurd h
+refused_unread shape type limit bytes (errors.NotUtf8 at) short other h = sym (dec_of_fault shape type bytes NotUtf8 at h)
 refused_unread shape type limit bytes (errors.TooDeep at) short other h = absurd (let long = deep_bytes shape limit (fields shape type) bytes at h in omega arith)
 refused_unread shape type limit bytes (errors.Wire e) short other h = sym (dec_of_fault shape type bytes (Wire (fault_of e)) (place_of e) h)
 refused_unread shape type limit bytes errors.NoSuchField short other h = absurd h

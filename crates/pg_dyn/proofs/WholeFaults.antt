@@ -1,7 +1,6 @@
 -- What may be told of a row of contents.
-use Rattle.std.proofs.Common.{◌≡◌, ◌≢◌, ℕ, option_and_then, zero, suc, ◌<◌, ◌≤◌, List, [], ◌∷◌, length, filter, flat_map, get_or, nat_eq, Bool, true, false, cond, not, ◌&&◌, Option, Some, None, inl, inr, refl, ap, ◌∙◌, arith, eq-eqb, ne_eqb}
+use Rattle.std.proofs.Common.{◌≡◌, ℕ, option_and_then, ◌<◌, ◌≤◌, List, [], ◌∷◌, length, filter, flat_map, nat_eq, Bool, true, false, cond, not, ◌&&◌, Option, Some, None, inl, inr, refl, ap, ◌∙◌, arith, eq-eqb, ne_eqb}
 use Rattle.std.specs.List.{AllByRecursion}
-use Rattle.std.specs.List.Sorted.{IsNonDecreasingBy}
 use Rattle.std.proofs.lemmas.Bool.{eqb-true}
 use Rattle.pg_schema.specs.declared.field.TypeId.{TypeId}
 use Rattle.pg_schema.specs.declared.parts.Parts.{Parts}
@@ -14,9 +13,9 @@ use Rattle.pg_dyn.specs.Content.{same_oneof, is_rival}
 use Rattle.pg_dyn.specs.Kept.{Kept}
 use Rattle.pg_dyn.specs.Seen.{Rises}
 use Rattle.pg_dyn.specs.ContentFits.{AreApart, NoneRivals}
-use Rattle.pg_dyn.specs.ContentFaults.{AnyOf, ContentFault, ContentsFault, HasFieldTwice, HasKeyTwice, is_in_oneof, code, IsLowest, HasNoFault, MayRefuseFor}
+use Rattle.pg_dyn.specs.ContentFaults.{AnyOf, ContentFault, ContentsFault, HasFieldTwice, HasKeyTwice, is_in_oneof, members, code, IsLowest, HasNoFault, MayRefuseFor}
 use Rattle.pg_dyn.specs.Setting.{settled_parts, IsWhole}
-use Rattle.pg_dyn.specs.Told.{count_of, TakesContent}
+use Rattle.pg_dyn.specs.Told.{TakesContent}
 use Rattle.pg_dyn.proofs.Lists.{filter_none, each_weaker, each_both}
 use Rattle.pg_dyn.proofs.ContentChecks.{lowest, taken_once, takes_early}
 use Rattle.pg_dyn.proofs.SetSteps.{may_refuse}
@@ -36,42 +35,6 @@ rising_once (x ∷ xs) n h = of (nat_eq x.0 n) refl (rising_once xs n h.1)
         omega (arith, ap length none)
     of false e rest = rest
 
--- numbers that don't fall, of which no neighbours are equal, stand once each
-abbrev Climbs : List ℕ → Type 0
-Climbs [] = Unit {0}
-Climbs (x ∷ xs) = AllByRecursion (λ y. x < y) xs × Climbs xs
-
-climbs_once : (xs : List ℕ) (n : ℕ) → Climbs xs → count_of n xs ≤ 1
-climbs_once [] n h = omega arith
-climbs_once (x ∷ xs) n h = of (nat_eq x n) refl (climbs_once xs n h.1)
-  where
-    of : (b : Bool) → nat_eq x n ≡ b → count_of n xs ≤ 1 → length (cond b (x ∷ filter (λ y. nat_eq y n) xs) (filter (λ y. nat_eq y n) xs)) ≤ 1
-    of true e rest =
-        let none : filter (λ y. nat_eq y n) xs ≡ [] = filter_none (λ y. nat_eq y n) xs (each_weaker (λ y. x < y) (λ y. nat_eq y n ≡ false) (λ y above. ne_eqb y n (λ k. let same = eqb-true x n e in absurd (omega arith))) xs h.0) in
-        omega (arith, ap length none)
-    of false e rest = rest
-
-from_places : (P : ℕ → Type 0) (ys : List ℕ) → ((k d : ℕ) → k < length ys → P (get_or ys k d)) → AllByRecursion P ys
-from_places P [] h = tt
-from_places P (y ∷ ys) h = (h 0 y (omega arith), from_places P ys (λ k d inside. h (suc k) d (omega arith)))
-
-over : (a b c : ℕ) → a ≤ b → a ≢ b → b ≤ c → a < c
-over a b c le other then = omega (arith, other)
-
-climbs : (ys : List ℕ) → IsNonDecreasingBy (λ x. x) ys → ((k d : ℕ) → suc k < length ys → get_or ys k d ≢ get_or ys (suc k) d) → Climbs ys
-climbs [] o a = tt
-climbs (y ∷ ys) o a = (
-  from_places (λ z. y < z) ys
-      (λ k d inside.
-      let next : get_or ys zero d ≤ get_or ys k d = o (suc zero) (suc k) d (omega arith) (omega arith) in
-      let first : y ≤ get_or ys zero d = o zero (suc zero) d (omega arith) (omega arith) in
-      over y (get_or ys zero d) (get_or ys k d) first (a zero d (omega arith)) next),
-  climbs ys (λ i j d le inside. o (suc i) (suc j) d (omega arith) (omega arith)) (λ k d inside. a (suc k) d (omega arith)),
-)
-
-pub none_twice : (xs : List ℕ) → IsNonDecreasingBy (λ x. x) xs → ((k d : ℕ) → suc k < length xs → get_or xs k d ≢ get_or xs (suc k) d) → (n : ℕ) → count_of n xs ≤ 1
-none_twice xs order apart n = climbs_once xs n (climbs xs order apart)
-
 -- Members of one oneof.
 
 pub same_some : (a b : Option ℕ) → same_oneof a b ≡ true → (o : ℕ) × (a ≡ Some o) × (b ≡ Some o)
@@ -84,27 +47,24 @@ first_true true b h = refl
 first_true false b h = absurd (cc)
 
 module _ (fs : List FieldShape) where
-  abbrev members : ℕ → List (ℕ × Content) → List (ℕ × Content)
-  members o cs = filter (λ (c : ℕ × Content). is_in_oneof fs o c.0) cs
-
   member_of : (n o : ℕ) (f : FieldShape) → field_at fs n ≡ Some f → f.oneof ≡ Some o → is_in_oneof fs o n ≡ true
   member_of n o f found is = ap (λ (x : Option FieldShape). same_oneof (option_and_then (λ (g : FieldShape). g.oneof) x) (Some o)) found ∙ ap (λ (x : Option ℕ). same_oneof x (Some o)) is ∙ eq-eqb o o refl
 
-  two_of : (o : ℕ) (c : ℕ × Content) (cs : List (ℕ × Content)) → is_in_oneof fs o c.0 ≡ true → 0 < length (members o cs) → 1 < length (members o (c ∷ cs))
+  two_of : (o : ℕ) (c : ℕ × Content) (cs : List (ℕ × Content)) → is_in_oneof fs o c.0 ≡ true → 0 < length (members fs o cs) → 1 < length (members fs o (c ∷ cs))
   two_of o c cs first some = of (is_in_oneof fs o c.0) first
     where
-      of : (b : Bool) → b ≡ true → 1 < length (cond b (c ∷ members o cs) (members o cs))
+      of : (b : Bool) → b ≡ true → 1 < length (cond b (c ∷ members fs o cs) (members fs o cs))
       of true e = omega (arith, some)
       of false e = absurd (cc)
 
-  fewer : (o : ℕ) (c : ℕ × Content) (cs : List (ℕ × Content)) → length (members o (c ∷ cs)) ≤ 1 → length (members o cs) ≤ 1
+  fewer : (o : ℕ) (c : ℕ × Content) (cs : List (ℕ × Content)) → length (members fs o (c ∷ cs)) ≤ 1 → length (members fs o cs) ≤ 1
   fewer o c cs one = of (is_in_oneof fs o c.0) one
     where
-      of : (b : Bool) → length (cond b (c ∷ members o cs) (members o cs)) ≤ 1 → length (members o cs) ≤ 1
+      of : (b : Bool) → length (cond b (c ∷ members fs o cs) (members fs o cs)) ≤ 1 → length (members fs o cs) ≤ 1
       of true k = omega arith
       of false k = k
 
-  apart_from : (c l : ℕ × Content) (cs : List (ℕ × Content)) → ((o : ℕ) → length (members o (c ∷ cs)) ≤ 1) → StandsIn l cs → AreApart fs c.0 l.0
+  apart_from : (c l : ℕ × Content) (cs : List (ℕ × Content)) → ((o : ℕ) → length (members fs o (c ∷ cs)) ≤ 1) → StandsIn l cs → AreApart fs c.0 l.0
   apart_from c l cs once there f g found at = of (is_rival f g) refl
     where
       of : (b : Bool) → is_rival f g ≡ b → is_rival f g ≡ false
@@ -117,11 +77,11 @@ module _ (fs : List FieldShape) where
           absurd (omega (arith, many, few))
 
   -- contents of which no two are in one oneof are no rivals
-  pub no_rivals_from : (cs : List (ℕ × Content)) → ((o : ℕ) → length (members o cs) ≤ 1) → NoneRivals fs cs
+  pub no_rivals_from : (cs : List (ℕ × Content)) → ((o : ℕ) → length (members fs o cs) ≤ 1) → NoneRivals fs cs
   no_rivals_from [] once = tt
   no_rivals_from (c ∷ cs) once = (all_in (λ (l : ℕ × Content). AreApart fs c.0 l.0) cs (λ l there. apart_from c l cs once there), no_rivals_from cs (λ o. fewer o c cs (once o)))
 
-  pub once : (cs : List (ℕ × Content)) → ((n : ℕ) → length (filter (of_field n) cs) ≤ 1) → ((o : ℕ) → length (members o cs) ≤ 1) → HasFieldTwice fs cs → ⊥
+  pub once : (cs : List (ℕ × Content)) → ((n : ℕ) → length (filter (of_field n) cs) ≤ 1) → ((o : ℕ) → length (members fs o cs) ≤ 1) → HasFieldTwice fs cs → ⊥
   once cs each apart (inl (n, two)) = let one = each n in omega arith
   once cs each apart (inr (o, two)) = let one = apart o in omega arith
 

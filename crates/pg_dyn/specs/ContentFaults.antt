@@ -80,7 +80,7 @@ HasKeyTwice (contents.Map es) = HasEntryTwice es.items
 abbrev pub FieldFault : Shape → FieldShape → Content → DynError → Type 0
 FieldFault shape f content errors.WrongKind = (HasPresence f.presence content → ⊥) ⊎ HasItemFault shape f content errors.WrongKind
 FieldFault shape f content errors.OutOfRange = HasItemFault shape f content errors.OutOfRange
-FieldFault shape f content (errors.NotUtf8 None) = HasItemFault shape f content (errors.NotUtf8 None)
+FieldFault shape f content (errors.NotUtf8 at) = HasItemFault shape f content (errors.NotUtf8 at)
 FieldFault shape f content errors.DuplicateKey = HasKeyTwice content
 FieldFault shape f content e = ⊥
 
@@ -92,6 +92,10 @@ ContentFault shape type number content e = (f : FieldShape) × (field_at (fields
 -- two contents are of one number, or of members of one oneof
 abbrev pub is_in_oneof : List FieldShape → ℕ → ℕ → Bool
 is_in_oneof fs oneof number = same_oneof (option_and_then (λ f. f.oneof) (field_at fs number)) (Some oneof)
+
+-- the contents of members of a oneof
+abbrev pub members : List FieldShape → ℕ → List (ℕ × Content) → List (ℕ × Content)
+members fs oneof cs = filter (λ (c : ℕ × Content). is_in_oneof fs oneof c.0) cs
 
 abbrev pub HasFieldTwice : List FieldShape → List (ℕ × Content) → Type 0
 HasFieldTwice fs cs =

@@ -1,7 +1,6 @@
 -- Contents that fit their fields, one by one (proto3 language guide, "Field Presence", "Oneof", "Maps").
 use Rattle.std.specs.Prelude.{◌≡◌, ℕ, ◌<◌, ⊤, Bool, false, List, [], ◌∷◌, length, Option, Some, None}
 use Rattle.std.specs.List.{AllByRecursion}
-use Rattle.std.specs.declared.cmp.Ordering.TheVariants.{Less}
 use Rattle.pg_schema.specs.declared.field.TypeId.{TypeId}
 use Rattle.pg_schema.specs.declared.field.Scalar.TheVariants.{Int32}
 use Rattle.pg_schema.specs.declared.field.Element.{Element}
@@ -14,7 +13,8 @@ use Rattle.pg_dyn.specs.declared.message.Content.{Content}
 use Rattle.pg_dyn.specs.declared.message.Content.TheVariants as contents
 use Rattle.pg_dyn.specs.declared.message.Value.{Value}
 use Rattle.pg_dyn.specs.declared.message.Value.TheVariants as values
-use Rattle.pg_dyn.specs.Message.{is_zero, key_cmp}
+use Rattle.pg_dyn.specs.KeyOrder.{Rise}
+use Rattle.pg_dyn.specs.Message.{is_zero}
 use Rattle.pg_dyn.specs.Kept.{type_of}
 use Rattle.pg_dyn.specs.Seen.{leaf_of}
 use Rattle.pg_dyn.specs.Content.{is_rival}
@@ -36,8 +36,7 @@ ItemFits shape (elements.Message t) value = ⊥
 
 -- each key is below all later ones
 abbrev pub KeysRise : List (Value × Value) → Type 0
-KeysRise [] = ⊤
-KeysRise (e ∷ es) = AllByRecursion (λ (x : Value × Value). key_cmp (leaf_of e.0) (leaf_of x.0) ≡ Less) es × KeysRise es
+KeysRise es = Rise (λ (e : Value × Value). leaf_of e.0) es
 
 -- the content has the shape of the presence, each item is one of the element, and an implicit field holds no zero
 abbrev pub ContentFits : Shape → Presence → Element → Content → Type 0

@@ -1,16 +1,22 @@
 -- The order by which a map's entries are sorted, and by which equal keys stand side by side: numbers by value, texts by bytes.
-use Rattle.std.specs.Prelude.{ℤ, pos, ⊤, ◌⊎◌, List, Bool}
+use Rattle.std.specs.Prelude.{◌≡◌, ℤ, pos, ⊤, ◌⊎◌, List, [], ◌∷◌, Bool}
 use Rattle.std.specs.List.{AllByRecursion}
 use Rattle.std.specs.declared.cmp.Ordering.{Ordering}
+use Rattle.std.specs.declared.cmp.Ordering.TheVariants.{Less}
 use Rattle.std.specs.Ordering.{int_cmp, nat_cmp, ordering_then, is_lt}
 use Rattle.std.specs.Cmp.Lexicographic.{slice_cmp}
 use Rattle.pg_dyn.specs.declared.message.Content.{Content}
 use Rattle.pg_dyn.specs.declared.message.Content.TheVariants as contents
 use Rattle.pg_dyn.specs.declared.message.Value.{Value}
 use Rattle.pg_dyn.specs.declared.message.Value.TheVariants as values
-use Rattle.pg_dyn.specs.Message.{Leaf, Int}
+use Rattle.pg_dyn.specs.Message.{Leaf, Int, key_cmp}
 use Rattle.pg_dyn.specs.Content.{leaf_bytes}
 use Rattle.pg_dyn.specs.Seen.{leaf_of}
+
+-- each key is below all later ones, whatever else an entry holds
+abbrev pub Rise : {A : Type 0} → (A → Leaf) → List A → Type 0
+Rise key [] = ⊤
+Rise {A} key (x ∷ xs) = AllByRecursion (λ (y : A). key_cmp (key x) (key y) ≡ Less) xs × Rise key xs
 
 -- the number of a key, which is 0 of a text
 abbrev pub number_in : Leaf → ℤ

@@ -6,7 +6,7 @@ use Rattle.pg_schema.specs.declared.field.Element.{Element}
 use Rattle.pg_schema.specs.declared.field.Element.TheVariants as elements
 use Rattle.pg_schema.specs.declared.field.Presence.{Presence}
 use Rattle.pg_schema.specs.declared.field.Presence.TheVariants as presences
-use Rattle.pg_schema.specs.Shape.{Shape, FieldShape, IsShape, PresenceFits, fields, field_at}
+use Rattle.pg_schema.specs.Shape.{Shape, FieldShape, IsShape, fields, field_at}
 use Rattle.pg_wire.specs.declared.record.WireType.TheVariants.{Len}
 use Rattle.pg_wire.specs.Records.{WireRecord, written}
 use Rattle.pg_dyn.specs.Message.{Leaf, Message, Part, ends, holds, nests, is_of}
@@ -14,7 +14,7 @@ use Rattle.pg_dyn.specs.Coding.{body, form}
 use Rattle.pg_dyn.specs.Bodies.{IsNestedLeaf, IsReadAs, entry_body, record_with}
 use Rattle.pg_dyn.specs.Belonging.{IsMessage, KeyFits, MayBeZero, MayFollow}
 use Rattle.pg_dyn.specs.Comparison.{View, cells, writes}
-use Rattle.pg_dyn.specs.Content.{content, is_rival, same_oneof}
+use Rattle.pg_dyn.specs.Content.{is_rival, same_oneof}
 use Rattle.pg_dyn.specs.Writing.{key_of}
 use Rattle.pg_dyn.specs.Encoding.{cap, child_type, enc, encoded_parts}
 
@@ -69,13 +69,6 @@ Ordered p (q ∷ qs) = AllByRecursion (λ r. MayFollow p q.key r.key) qs × Orde
 -- bodies of a length that a varint can say
 abbrev pub ShortBodies : List WireRecord → Type 0
 ShortBodies rs = AllByRecursion (λ r. length r.body < 2 ^ 64) rs
-
--- The content of a field is read from the records of its parts, whichever element's writer made their bodies.
-abbrev pub ContentsRead : Type 0
-ContentsRead =
-    (f : FieldShape) (key_body item_body : Leaf → List ℕ) (ps : List (Part Leaf)) → PresenceFits f.presence f.element f.oneof →
-    AllByRecursion (FitsFrom key_body item_body f.number f.presence f.element) ps → Ordered f.presence ps →
-    ShortBodies (records_with key_body item_body f ps) → content f (records_with key_body item_body f ps) ≡ Some ps
 
 -- The parts of a field fit it, and stand in order.
 abbrev pub OwnPartsFit : Type 0

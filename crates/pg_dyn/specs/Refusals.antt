@@ -1,5 +1,5 @@
 -- When bytes may be refused, and with what (this profile's choice).
-use Rattle.std.specs.Prelude.{ℕ, ⊤, List, Some, None}
+use Rattle.std.specs.Prelude.{ℕ, ⊤, List}
 use Rattle.pg_schema.specs.declared.field.TypeId.{TypeId}
 use Rattle.pg_schema.specs.Shape.{Shape, fields}
 use Rattle.pg_wire.specs.Errors.{fault_of, place_of}
@@ -11,8 +11,7 @@ use Rattle.pg_dyn.specs.TooDeep.{TooDeepIn}
 -- memory was refused, or what the error names stands at its place
 abbrev pub MayRefuse : Shape → TypeId → ℕ → List ℕ → DynError → Type 0
 MayRefuse shape type limit bytes errors.Memory = ⊤
-MayRefuse shape type limit bytes (errors.NotUtf8 (Some at)) = FaultIn shape (fields shape type) bytes NotUtf8 at
-MayRefuse shape type limit bytes (errors.NotUtf8 None) = ⊥
+MayRefuse shape type limit bytes (errors.NotUtf8 at) = FaultIn shape (fields shape type) bytes NotUtf8 at
 MayRefuse shape type limit bytes (errors.TooDeep at) = TooDeepIn shape limit (fields shape type) bytes at
 MayRefuse shape type limit bytes (errors.Wire e) = FaultIn shape (fields shape type) bytes (Wire (fault_of e)) (place_of e)
 MayRefuse shape type limit bytes errors.NoSuchField = ⊥

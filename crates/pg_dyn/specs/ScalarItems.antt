@@ -1,6 +1,6 @@
 -- Items of scalar fields, as the program holds them.
-use Rattle.std.specs.Prelude.{◌≡◌, ℕ, ⊤, List, length, None, false}
-use Rattle.std.specs.Str.{is_utf8}
+use Rattle.std.specs.Prelude.{◌≡◌, ℕ, ⊤, List, length}
+use Rattle.std.specs.Str.{IsValidUpTo}
 use Rattle.pg_schema.specs.declared.field.Scalar.{Scalar}
 use Rattle.pg_schema.specs.declared.field.Scalar.TheVariants as scalars
 use Rattle.pg_wire.specs.declared.record.WireType.{WireType}
@@ -54,14 +54,14 @@ abbrev pub IsOutOfRange : Scalar → Value → Type 0
 IsOutOfRange s (values.Int n) = IsInteger (scalar_form s) × (IsIntegerOf (scalar_form s) n → ⊥)
 IsOutOfRange s value = ⊥
 
--- bytes that are no text, for a text
-abbrev pub IsNoText : Scalar → Value → Type 0
-IsNoText s (values.Bytes bytes) = (scalar_form s ≡ Text) × (is_utf8 bytes.items ≡ false)
-IsNoText s value = ⊥
+-- bytes for a text of which just the first so many are the longest front that is UTF-8
+abbrev pub IsNoText : Scalar → ℕ → Value → Type 0
+IsNoText s at (values.Bytes bytes) = (scalar_form s ≡ Text) × IsValidUpTo bytes.items at
+IsNoText s at value = ⊥
 
 -- What is wrong with an item, by the error: its kind; of a right kind the number's range; the bytes of a text.
 abbrev pub IsFaultOf : Scalar → Value → DynError → Type 0
 IsFaultOf s value errors.WrongKind = IsKindOf (scalar_form s) value → ⊥
 IsFaultOf s value errors.OutOfRange = IsOutOfRange s value
-IsFaultOf s value (errors.NotUtf8 None) = IsNoText s value
+IsFaultOf s value (errors.NotUtf8 at) = IsNoText s at value
 IsFaultOf s value e = ⊥

@@ -43,8 +43,7 @@ HeldFits shape f (Some content) = ContentFits shape f.presence f.element content
 -- Why reading is refused: memory was, or what the error names stands that many bytes behind a place.
 abbrev pub RefusedBy : (Code → ℕ → Type 0) → (ℕ → Type 0) → ℕ → DynError → Type 0
 RefusedBy HasFault IsDeep at errors.Memory = ⊤
-RefusedBy HasFault IsDeep at (errors.NotUtf8 (Some there)) = (place : ℕ) × (there ≡ at + place) × HasFault NotUtf8 place
-RefusedBy HasFault IsDeep at (errors.NotUtf8 None) = ⊥
+RefusedBy HasFault IsDeep at (errors.NotUtf8 there) = (place : ℕ) × (there ≡ at + place) × HasFault NotUtf8 place
 RefusedBy HasFault IsDeep at (errors.TooDeep there) = (place : ℕ) × (there ≡ at + place) × IsDeep place
 RefusedBy HasFault IsDeep at (errors.Wire e) = (place : ℕ) × (place_of e ≡ at + place) × HasFault (Wire (fault_of e)) place
 RefusedBy HasFault IsDeep at errors.NoSuchField = ⊥

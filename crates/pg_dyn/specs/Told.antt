@@ -1,6 +1,6 @@
 -- What a test of contents tells: nothing, or of what is wrong the error of the lowest code. A key that stands twice is told by a test of
 -- its own, since two contents of one oneof are told before it.
-use Rattle.std.specs.Prelude.{◌≡◌, ℕ, ◌<◌, ◌⊎◌, Bool, false, List, length, filter, nat_eq, Some, Result, Ok, Err}
+use Rattle.std.specs.Prelude.{◌≡◌, ℕ, ◌<◌, ◌⊎◌, Bool, false, length, nat_eq, Some, Result, Ok, Err}
 use Rattle.std.specs.List.{AllByRecursion}
 use Rattle.pg_schema.specs.declared.field.TypeId.{TypeId}
 use Rattle.pg_schema.specs.declared.field.Scalar.{Scalar}
@@ -64,7 +64,3 @@ is_nothing presence (contents.Map es) = nat_eq (length es.items) 0
 -- the content of a number is one of its field, but for keys twice
 abbrev pub TakesContent : Shape → TypeId → ℕ × Content → Type 0
 TakesContent shape type c = (f : FieldShape) × IsTaken shape type c.0 c.1 f
-
--- how often a number stands in a list
-abbrev pub count_of : ℕ → List ℕ → ℕ
-count_of n xs = length (filter (λ x. nat_eq x n) xs)

@@ -1,6 +1,6 @@
-ghost use Rattle.std.specs.Prelude.{◌≡◌, ◌↔◌, ◌⊎◌, ◌<◌, ◌≤◌, false, None, IfErr, IfOk, IsOk, IsTrue};
+ghost use Rattle.std.specs.Prelude.{◌≡◌, ◌↔◌, ◌⊎◌, ℕ, ◌<◌, ◌≤◌, IfErr, IfOk, IsOk, IsTrue};
 ghost use Rattle.std.specs.List.{AllByRecursion};
-ghost use Rattle.std.specs.Str.{is_utf8};
+ghost use Rattle.std.specs.Str.{IsValidUpTo};
 ghost use Rattle.pg_schema.specs.Invariant.{IsSchema};
 ghost use Rattle.pg_schema.specs.Parts.{field_shape, shape_of};
 ghost use Rattle.pg_dyn.specs.declared.error.DynError.TheVariants as errors;
@@ -61,12 +61,16 @@ fn is_double(scalar: Scalar, bits: u64) -> bool
 // Whether bytes are an item of the scalar: any are bytes, and UTF-8 is a text.
 fn check_bytes(scalar: Scalar, bytes: &[u8]) -> Result<(), DynError>
     ensures fits { IsOk result ↔ InRange (scalar_form scalar) (Bytes bytes.now) }
-    ensures fault { IfErr result (λ e. ((e ≡ errors.WrongKind) × (HoldsBytes (scalar_form scalar) → ⊥)) ⊎ ((e ≡ errors.NotUtf8 None) × (scalar_form scalar ≡ Text) × (is_utf8 bytes.now ≡ false))) }
+    ensures fault { IfErr result (λ e. ((e ≡ errors.WrongKind) × (HoldsBytes (scalar_form scalar) → ⊥)) ⊎ ((at : ℕ) × (e ≡ errors.NotUtf8 at) × (scalar_form scalar ≡ Text) × IsValidUpTo bytes.now at)) }
 {
     match scalar {
         Scalar::Bytes => Ok(()),
-        Scalar::String if simdutf8::is_utf8(bytes) => Ok(()),
-        Scalar::String => Err(DynError::NotUtf8 { at: None }),
+        Scalar::String => match simdutf8::compat::from_utf8(bytes) {
+            Ok(_) => Ok(()),
+            Err(error) => Err(DynError::NotUtf8 {
+                at: error.valid_up_to(),
+            }),
+        },
         _ => Err(DynError::WrongKind),
     }
 }

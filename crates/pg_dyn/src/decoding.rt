@@ -12,6 +12,7 @@ use crate::error::DynError;
 use crate::faults::find_fault;
 use crate::message::Message;
 use crate::reading::read_message;
+use crate::reading::stop::Stop;
 use pg_schema::{Schema, TypeId};
 use std::alloc::Global;
 
@@ -45,10 +46,13 @@ pub fn decode(
     schema.parts();
     match read_message(alloc, schema, type_id, bytes, limit - 1) {
         Ok(message) => Ok(message),
-        Err(_) => {
+        Err(stop) => {
             // The first fault in the bytes is told; where they have none, memory was refused.
             find_fault(schema, type_id, bytes, 0, limit - 1)?;
-            Err(DynError::Memory)
+            match stop {
+                Stop::Memory => Err(DynError::Memory),
+                Stop::Fault => unreachable!(),
+            }
         }
     }
 }

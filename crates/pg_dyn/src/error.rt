@@ -18,9 +18,9 @@ pub enum DynError {
     #[error("a number out of range")]
     OutOfRange,
     /// E604: the bytes of a text aren't UTF-8. In bytes that are read, `at` is the first byte of the record that
-    /// holds the text.
+    /// holds the text; of contents that are set, the length of the longest front of the text that is UTF-8.
     #[error("a text that isn't UTF-8")]
-    NotUtf8 { at: Option<usize> },
+    NotUtf8 { at: usize },
     /// E605: two contents are of one field, or of two members of one oneof.
     #[error("two members of a oneof, or a field twice")]
     OneofTwice,

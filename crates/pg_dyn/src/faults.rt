@@ -37,12 +37,12 @@ fn body_place(found: &Record<'_>, at: usize) -> usize
 // Refuses a text that isn't UTF-8, whose record stands at that place.
 fn check_scalar(scalar: Scalar, found: &Record<'_>, at: usize) -> Result<(), DynError>
     ensures readable { OnOk result (is_some (leaf_in (scalar_form scalar) found.now.body.now) ≡ true) }
-    ensures err { IfErr result (λ e. (e ≡ errors.NotUtf8 (Some at)) × (scalar_form scalar ≡ Text) × (is_utf8 found.now.body.now ≡ false)) }
+    ensures err { IfErr result (λ e. (e ≡ errors.NotUtf8 at) × (scalar_form scalar ≡ Text) × (is_utf8 found.now.body.now ≡ false)) }
 {
     match scalar {
         Scalar::String => match simdutf8::compat::from_utf8(found.body) {
             Ok(_) => Ok(()),
-            Err(_) => Err(DynError::NotUtf8 { at: Some(at) }),
+            Err(_) => Err(DynError::NotUtf8 { at }),
         },
         _ => Ok(()),
     }

@@ -8,7 +8,7 @@ use crate::message::Content;
 use std::alloc::AllocError;
 
 /// How many fields have lower numbers. A number above all is found at once.
-pub(crate) fn place_of(fields: &[(u32, Content)], number: u32) -> usize
+pub(crate) fn place_of<C>(fields: &[(u32, C)], number: u32) -> usize
     requires { Rises fields.now }
     ensures inside { result ≤ length fields.now }
     ensures below { AllByRecursion (λ f. f.0 < number) (take result fields.now) }

@@ -16,7 +16,7 @@ use crate::check::{check_content, lower};
 use crate::error::DynError;
 use crate::keys::check_keys;
 use crate::message::{Content, Message};
-use crate::oneofs::{has_twice, sorted_oneofs};
+use crate::oneofs::each_oneof_once;
 use pg_schema::{Schema, TypeId};
 use std::alloc::Global;
 
@@ -165,8 +165,7 @@ impl Message {
         if has_number_twice(&sorted) {
             return Err(DynError::OneofTwice);
         }
-        let oneofs = sorted_oneofs(alloc, schema, type_id, &sorted)?;
-        if has_twice(&oneofs) {
+        if !each_oneof_once(schema, type_id, &sorted) {
             return Err(DynError::OneofTwice);
         }
         check_all_keys(alloc, schema, type_id, &sorted)?;

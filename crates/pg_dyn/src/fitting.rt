@@ -166,8 +166,7 @@ impl Message {
                 return false;
             }
         }
-        let alloc = *self.fields.allocator();
-        if !none_rivals(alloc, schema, self.type_id, &self.fields) {
+        if !none_rivals(schema, self.type_id, &self.fields) {
             return false;
         }
         unknown_fit(schema, self.type_id, &self.unknown)
@@ -178,8 +177,6 @@ impl Message {
 /// type, of that field's shape and not empty, each item in its range, each text UTF-8, at most one member of each
 /// oneof, no zero in a field without presence, each message inside one of its field's type, and no unknown record
 /// that a field accepts (proto3 language guide, "Field Presence", "Oneof", "Unknown Fields").
-///
-/// It takes memory to look at oneofs; where that is refused it takes longer, and answers the same.
 pub fn fits(schema: &Schema, message: &Message) -> bool
     ensures { IsTrue result ↔ Fits (shape_of schema.now) message.now }
 {

@@ -34,7 +34,8 @@ use crate::places::SET;
 use crate::said::{MOST_DEEP, children};
 use crate::set_states::{kept, skips, states_files};
 use pg_check::{CheckError, admit};
-use pg_dyn::{DynError, Message, decode, faults_are_real};
+use pg_dyn::laws::faults_are_real;
+use pg_dyn::{DynError, Message, decode};
 use pg_schema::{Parts, Schema};
 use std::alloc::Global;
 

@@ -14,13 +14,13 @@ use Rattle.pg_cert.specs.Bounds.{are_bounds, bound_in, is_bound}
 use Rattle.pg_least.specs.declared.arcs.Arc.{Arc}
 use Rattle.pg_least.specs.Exact.{pairs_of}
 use Rattle.pg_least.specs.Graphs.{IsArc, arcs_by, arcs_to_numbers}
-use Rattle.pg_least.specs.Least.{IsLeastBound, cost_under, edges_to_numbers, least_of, lesser_cost, lines}
+use Rattle.pg_pairs.specs.LeastOf.{cost_under, least_of, lesser_cost}
+use Rattle.pg_least.specs.Least.{IsLeastBound, edges_to_numbers, lines}
 use Rattle.pg_least.specs.Places.{IsPlaced}
 use Rattle.pg_least.specs.Relaxing.{IsBalanced, cost_at, offer}
-use Rattle.pg_least.specs.Settled.{unbounded}
-use Rattle.pg_least.proofs.Falling.{found_at, place_of}
+use Rattle.pg_least.proofs.Listed.{found_at, place_of}
 use Rattle.pg_least.proofs.Placing.{among_each}
-use Rattle.pg_least.proofs.Unbounded.{once_bounds}
+use Rattle.pg_least.proofs.Unbounded.{once_bounds, unbounded}
 
 -- The least of some costs.
 
@@ -232,19 +232,19 @@ module _ (edges : Pair → List Edge) (base : Pair → Option ℕ) (price : Edge
           by false none rest = rw none rest
 
 -- A cost that is balanced is one that a message may have.
-pub costs_are_bounds : (price : Edge → ℕ → Option ℕ) (arcs : List Arc) (bases costs : List (Option ℕ)) → ((i : ℕ) → IfSome (cost_at bases i) (λ n. (1 ≤ n) × (n ≤ cap))) → ((a : Arc) (bound : ℕ) → IsAmong a arcs → IfSome (price a.edge bound) (λ n. (bound < n) × (n ≤ cap))) → IsBalanced (arcs_by price) arcs bases costs → AllByRecursion (λ o. is_bound o ≡ true) costs
+pub costs_are_bounds : (price : Edge → ℕ → Option ℕ) (arcs : List Arc) (bases costs : List (Option ℕ)) → ((i : ℕ) → IfSome (cost_at bases i) (λ n. (1 ≤ n) × (n ≤ cap))) → ((a : Arc) (bound : ℕ) → 1 ≤ bound → IsAmong a arcs → IfSome (price a.edge bound) (λ n. (bound < n) × (n ≤ cap))) → IsBalanced (arcs_by price) arcs bases costs → AllByRecursion (λ o. is_bound o ≡ true) costs
 costs_are_bounds price arcs bases costs base_small price_small balanced = each costs (λ i. small i (cost_at costs i) refl)
   where
     small : (i : ℕ) (o : Option ℕ) → cost_at costs i ≡ o → is_bound o ≡ true
     small i None is = refl
-    small i (Some c) is = ⊎_elim (λ base. of c (subst (λ p. IfSome p (λ n. (1 ≤ n) × (n ≤ cap))) base (base_small i))) (λ (a, among, from, cost). by a c among (cost_at costs a.child) cost) (balanced.offered i c is)
+    small i (Some c) is = ⊎_elim (λ base. of c (subst (λ p. IfSome p (λ n. (1 ≤ n) × (n ≤ cap))) base (base_small i))) (λ (a, among, from, cost). by a c among (cost_at costs a.child) (λ b h. balanced.numbers a.child b h) cost) (balanced.offered i c is)
       where
         of : (c : ℕ) → (1 ≤ c) × (c ≤ cap) → is_bound (Some c) ≡ true
         of c (low, high) = rw (le-leb 1 c low, le-leb c cap high) refl
 
-        by : (a : Arc) (c : ℕ) → IsAmong a arcs → (o : Option ℕ) → option_and_then (price a.edge) o ≡ Some c → is_bound (Some c) ≡ true
-        by a c among None h = absurd (cc)
-        by a c among (Some b) h = let (above, high) = subst (λ p. IfSome p (λ n. (b < n) × (n ≤ cap))) h (price_small a b among) in of c (omega arith, high)
+        by : (a : Arc) (c : ℕ) → IsAmong a arcs → (o : Option ℕ) → ((b : ℕ) → o ≡ Some b → 1 ≤ b) → option_and_then (price a.edge) o ≡ Some c → is_bound (Some c) ≡ true
+        by a c among None some h = absurd (cc)
+        by a c among (Some b) some h = let (above, high) = subst (λ p. IfSome p (λ n. (b < n) × (n ≤ cap))) h (price_small a b (some b refl) among) in of c (omega arith, high)
 
     each : (cs : List (Option ℕ)) → ((i : ℕ) → is_bound (cost_at cs i) ≡ true) → AllByRecursion (λ o. is_bound o ≡ true) cs
     each [] h = tt

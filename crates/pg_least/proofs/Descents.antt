@@ -10,8 +10,7 @@ use Rattle.pg_dyn.specs.Kept.{Kept, message_of, type_of}
 use Rattle.pg_pairs.specs.declared.choice.Choice.{Choice}
 use Rattle.pg_pairs.specs.declared.choice.Pair.{Pair}
 use Rattle.pg_pairs.specs.Sight.{Sight}
-use Rattle.pg_pairs.specs.Carried.{ChildReached, ChildThere, choice_child}
-use Rattle.pg_pairs.specs.CarriedItems.{IsChoiceRound, IsOfPair}
+use Rattle.pg_pairs.specs.Carried.{ChildReached, ChildThere, choice_child, IsChoiceRound, IsOfPair}
 use Rattle.pg_pairs.specs.Cheapest.{cheapest, IsCheapest, CheapestIsLeast}
 use Rattle.pg_pairs.specs.Choices.{Table, number_for, all_choices, affordable, choices}
 use Rattle.pg_pairs.specs.Covering.{IsWithin}

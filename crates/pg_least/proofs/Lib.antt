@@ -2,7 +2,7 @@ pub mod Descents
 pub mod Claims
 pub mod Grown
 pub mod Reaching
-pub mod Falling
+pub mod Listed
 pub mod Unbounded
 pub mod Lists
 pub mod Steps
@@ -10,3 +10,4 @@ pub mod Placing
 pub mod Tables
 pub mod Bounding
 pub mod OneSolution
+pub mod Exactness

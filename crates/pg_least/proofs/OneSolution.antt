@@ -4,7 +4,8 @@ use Rattle.pg_pairs.specs.declared.choice.Pair.{Pair}
 use Rattle.pg_pairs.specs.declared.edge.Edge.{Edge}
 use Rattle.pg_pairs.specs.Among.{IsAmong}
 use Rattle.pg_pairs.specs.Choices.{Table, number_for}
-use Rattle.pg_least.specs.Least.{AllLeast, OneSolution, cost_under, least_of, lesser_cost}
+use Rattle.pg_pairs.specs.LeastOf.{cost_under, least_of, lesser_cost}
+use Rattle.pg_least.specs.Least.{AllLeast, HasNumbers, OneSolution}
 use Rattle.pg_least.proofs.Bounding.{among_map, map_among}
 
 abbrev AtMost : Option ℕ → ℕ → Type 0
@@ -57,14 +58,14 @@ number_is table p n h = of (table p) h
 
 module _ (edges : Pair → List Edge) (base : Pair → Option ℕ) (price : Edge → ℕ → Option ℕ) where
   abbrev Dearer : Table → Type 0
-  Dearer s = (pair : Pair) (edge : Edge) (bound cost : ℕ) → is_some (s pair) ≡ true → IsAmong edge (edges pair) → price edge bound ≡ Some cost → bound < cost
+  Dearer s = (pair : Pair) (edge : Edge) (bound cost : ℕ) → is_some (s pair) ≡ true → IsAmong edge (edges pair) → 1 ≤ bound → price edge bound ≡ Some cost → bound < cost
 
   abbrev Below : Table → Table → ℕ → Type 0
   Below s t n = (p : Pair) → number_for s p ≡ Some n → AtMost (number_for t p) n
 
   -- what a table's bound comes from, another table has too, if they agree on smaller numbers
-  step : (s t : Table) → ((pair : Pair) → is_some (s pair) ≡ is_some (t pair)) → Dearer s → AllLeast edges base price s → AllLeast edges base price t → (n : ℕ) → ((m : ℕ) → m < n → Below s t m × Below t s m) → Below s t n
-  step s t same dearer least_s least_t n before p is =
+  step : (s t : Table) → ((pair : Pair) → is_some (s pair) ≡ is_some (t pair)) → HasNumbers s → Dearer s → AllLeast edges base price s → AllLeast edges base price t → (n : ℕ) → ((m : ℕ) → m < n → Below s t m × Below t s m) → Below s t n
+  step s t same some dearer least_s least_t n before p is =
       let here = number_is s p n is in
       let (bound, there) = other (t p) (sym (same p) ∙ ap is_some here) in
       let (m, least, below) = least_below (base p ∷ map (cost_under price t) (edges p)) n (moved here (least_among (base p ∷ map (cost_under price s) (edges p)) n (sym (least_s p (Some n) here)))) in
@@ -77,7 +78,7 @@ module _ (edges : Pair → List Edge) (base : Pair → Option ℕ) (price : Edge
       by_edge : (e : Edge) → IsAmong e (edges p) → s p ≡ Some (Some n) → (o : Option ℕ) → number_for s e.child ≡ o → option_and_then (price e) o ≡ Some n → cost_under price t e ≡ Some n
       by_edge e among here None none h = absurd (cc)
       by_edge e among here (Some m) child h =
-          let above = dearer p e m n (ap is_some here) among h in
+          let above = dearer p e m n (ap is_some here) among (some e.child m (number_is s e.child m child)) h in
           let (l, child_t, low) = (before m above).0 e.child child in
           let (k, child_s, lower) = (before l (omega arith)).1 e.child child_t in
           let both : k ≡ m = some_one (sym child_s ∙ child) in
@@ -90,15 +91,15 @@ module _ (edges : Pair → List Edge) (base : Pair → Option ℕ) (price : Edge
           (λ by. let (e, among, cost) = among_map (cost_under price s) (Some n) (edges p) by in
           inr (subst (λ o. IsAmong o (map (cost_under price t) (edges p))) (by_edge e among here (number_for s e.child) refl cost) (map_among (cost_under price t) e (edges p) among))) h
 
-  module _ (s t : Table) (same : (pair : Pair) → is_some (s pair) ≡ is_some (t pair)) (dearer : Dearer s) (least_s : AllLeast edges base price s) (least_t : AllLeast edges base price t) where
+  module _ (s t : Table) (same : (pair : Pair) → is_some (s pair) ≡ is_some (t pair)) (some_s : HasNumbers s) (some_t : HasNumbers t) (dearer : Dearer s) (least_s : AllLeast edges base price s) (least_t : AllLeast edges base price t) where
     dearer_t : Dearer t
     dearer_t pair edge bound cost there = dearer pair edge bound cost (same pair ∙ there)
 
     all_below : (top n : ℕ) → n < top → Below s t n × Below t s n
     all_below zero n h = absurd (omega arith)
     all_below (suc top) n h = (
-      step s t same dearer least_s least_t n (λ m less. all_below top m (omega arith)),
-      step t s (λ p. sym (same p)) dearer_t least_t least_s n (λ m less. let both = all_below top m (omega arith) in (both.1, both.0)),
+      step s t same some_s dearer least_s least_t n (λ m less. all_below top m (omega arith)),
+      step t s (λ p. sym (same p)) some_t dearer_t least_t least_s n (λ m less. let both = all_below top m (omega arith) in (both.1, both.0)),
     )
 
     agree : (p : Pair) → s p ≡ t p
@@ -125,4 +126,4 @@ module _ (edges : Pair → List Edge) (base : Pair → Option ℕ) (price : Edge
             ap (λ x. Some (Some x)) one
 
 pub one_solution : OneSolution
-one_solution edges base price s t same dearer least_s least_t = agree edges base price s t same dearer least_s least_t
+one_solution edges base price s t same some_s some_t dearer least_s least_t = agree edges base price s t same some_s some_t dearer least_s least_t

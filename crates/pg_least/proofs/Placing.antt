@@ -6,7 +6,7 @@ use Rattle.pg_pairs.specs.declared.edge.Edge.{Edge}
 use Rattle.pg_least.specs.declared.arcs.Arc.{Arc}
 use Rattle.pg_pairs.specs.Among.{IsAmong}
 use Rattle.pg_pairs.specs.LeastCosts.{IsNoMore}
-use Rattle.pg_least.specs.Relaxing.{IsBalanced, Stands, cost_at, is_set, offer, waits}
+use Rattle.pg_least.specs.Relaxing.{AreNumbers, IsBalanced, Stands, cost_at, is_set, offer, waits}
 use Rattle.pg_least.specs.Graphs.{IsArc, arcs_by, arcs_to, arcs_to_settled, arcs_to_numbers, left}
 use Rattle.pg_least.proofs.Steps.{no_more-same, place_cases, not_both}
 
@@ -108,9 +108,9 @@ module _ (settled : List Bool) (at : ℕ) (within : at < length settled) (fresh 
       (three a.child)
 
 -- At the start nothing is settled, and all costs wait.
-pub at_start : (price : Edge → ℕ → Option ℕ) (arcs : List Arc) (costs : List (Option ℕ)) (settled : List Bool) (n : ℕ) (heap : List (Reverse (ℕ × ℕ))) → settled ≡ replicate n false → ((i c : ℕ) → cost_at costs i ≡ Some c → waits heap c i ≡ true)
+pub at_start : (price : Edge → ℕ → Option ℕ) (arcs : List Arc) (costs : List (Option ℕ)) (settled : List Bool) (n : ℕ) (heap : List (Reverse (ℕ × ℕ))) → settled ≡ replicate n false → ((i c : ℕ) → cost_at costs i ≡ Some c → waits heap c i ≡ true) → AreNumbers costs
     → Stands (arcs_by price) arcs costs [] costs settled heap 0
-at_start price arcs costs settled n heap none waiting = record {
+at_start price arcs costs settled n heap none waiting numbers = record {
   below_base = λ i. no_more-same (cost_at costs i);
   done_settled = λ a among. absurd among;
   below_offers = λ a among. absurd among;
@@ -118,6 +118,7 @@ at_start price arcs costs settled n heap none waiting = record {
   low = λ i h. absurd (not_both h (fresh i));
   high = λ k d within. omega arith;
   live = λ i c is open_i. waiting i c is;
+  numbers = numbers;
 }
   where
     fresh : (i : ℕ) → is_set settled i ≡ false
@@ -157,6 +158,7 @@ module _ (price : Edge → ℕ → Option ℕ) (arcs done : List Arc) (bases cos
     below_base = s.below_base;
     below_offers = λ a among. of a among (cost_at costs a.child) refl;
     offered = λ i c is. ⊎_elim (λ base. inl base) (λ (a, among, from, child, cost). inr (a, among, from, cost)) (s.offered i c is);
+    numbers = s.numbers;
   }
     where
       of : (a : Arc) → IsAmong a arcs → (o : Option ℕ) → cost_at costs a.child ≡ o → IsNoMore (cost_at costs a.from) (offer (arcs_by price) costs a)

@@ -91,6 +91,7 @@ module _ {A : Type 0} (g : Arcs A) (arcs : List A) (bases : List (Option ℕ)) w
     offered = s.offered;
     low = s.low;
     high = All-tail (λ (e : Entry). level ≤ e.0.0) (entry cost at) left (All-permutation (λ (e : Entry). level ≤ e.0.0) heap (entry cost at ∷ left) moved s.high);
+    numbers = s.numbers;
     live = λ i c is fresh. ⊎_elim (λ same. absurd (stale (subst (λ k. is_set settled k ≡ false) (sym same.1) fresh) (subst₂ (λ k d. cost_at costs k ≡ Some d) (sym same.1) (sym same.0) is))) (λ later. later) (left_waits heap left cost at moved c i (s.live i c is fresh));
   }
 
@@ -104,6 +105,7 @@ module _ {A : Type 0} (g : Arcs A) (arcs : List A) (bases : List (Option ℕ)) w
     offered = λ i c h. ⊎_elim (λ base. inl base) (λ (a, among, from, child, price). inr (a, among, from, still (g.child a) child, price)) (s.offered i c h);
     low = λ i h. ⊎_elim (λ same. (cost, ap (cost_at costs) same ∙ is, omega arith)) (λ apart. let (c, here, below) = s.low i (sym (get_or-set_other settled at i true false apart) ∙ h) in (c, here, let up = above in omega arith)) (place_cases i at);
     high = All-tail (λ (e : Entry). cost ≤ e.0.0) (entry cost at) left (All-permutation (λ (e : Entry). cost ≤ e.0.0) heap (entry cost at ∷ left) taken.moved taken.least);
+    numbers = s.numbers;
     live = λ i c here fresh. ⊎_elim (λ same. absurd (not_both (subst (λ k. is_set (set settled at true) k ≡ true) same.1 now_set) fresh)) (λ later. later) (left_waits heap left cost at taken.moved c i (s.live i c here (was_open i fresh)));
   }
     where
@@ -141,6 +143,7 @@ module _ {A : Type 0} (g : Arcs A) (arcs : List A) (bases : List (Option ℕ)) w
       low = s.low;
       high = s.high;
       live = s.live;
+      numbers = s.numbers;
     }
 
     -- the place costs less from now on
@@ -193,6 +196,9 @@ module _ {A : Type 0} (g : Arcs A) (arcs : List A) (bases : List (Option ℕ)) w
             (λ other. offered_stays i d (s.offered i d (sym (lower_other i other) ∙ is))) (place_cases i (g.from a));
         low = λ i h. let (d, here, below) = s.low i h in (d, settled_stay i h ∙ here, below);
         high = All-permutation (λ (e : Entry). level ≤ e.0.0) (entry c (g.from a) ∷ heap) more pushed (All-cons (λ (e : Entry). level ≤ e.0.0) (entry c (g.from a)) heap (let up = dearer c price in omega arith) s.high);
+        numbers = λ i d is. ⊎_elim
+            (λ same. let cost : c ≡ d = some_same (sym lower_here ∙ ap (cost_at lower) (sym same) ∙ is) in let up = dearer c price in omega arith)
+            (λ other. s.numbers i d (sym (lower_other i other) ∙ is)) (place_cases i (g.from a));
         live = λ i d is fresh. ⊎_elim
             (λ same. let cost : c ≡ d = some_same (sym lower_here ∙ ap (cost_at lower) (sym same) ∙ is) in subst₂ (λ k e. waits more e k ≡ true) (sym same) cost (pushed_itself heap more c (g.from a) pushed))
             (λ other. pushed_waits heap more c (g.from a) pushed d i (s.live i d (sym (lower_other i other) ∙ is) fresh)) (place_cases i (g.from a));

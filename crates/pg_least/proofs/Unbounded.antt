@@ -2,9 +2,12 @@
 use Rattle.std.proofs.Common.{◌≡◌, List, [], ◌∷◌, map, filter, Bool, true, false, not, None, refl, subst}
 use Rattle.pg_pairs.specs.declared.choice.Pair.{Pair}
 use Rattle.pg_pairs.specs.Covering.{same_pair, distinct}
+use Rattle.pg_cert.specs.declared.bounds.PairBound.{PairBound}
 use Rattle.pg_cert.specs.Bounds.{bound_in, are_bounds}
-use Rattle.pg_least.specs.Settled.{unbounded}
-use Rattle.pg_least.proofs.Falling.{first_once}
+use Rattle.pg_least.proofs.Listed.{first_once}
+
+abbrev pub unbounded : Pair → PairBound
+unbounded pair = record { pair = pair; bound = None }
 
 -- a pair that isn't in a list isn't in a part of it
 absent_filter : (test : Pair → Bool) (p : Pair) (qs : List Pair) → bound_in (map unbounded qs) p ≡ None → bound_in (map unbounded (filter test qs)) p ≡ None

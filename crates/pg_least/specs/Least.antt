@@ -1,29 +1,15 @@
 -- The least bounds of a graph.
-use Rattle.std.specs.Prelude.{◌≡◌, ℕ, ◌+◌, ◌<◌, true, nat_le, List, [], ◌∷◌, length, map, filter, flat_map, is_some, if◌then◌else◌, Option, Some, None, option_and_then}
+use Rattle.std.specs.Prelude.{◌≡◌, ℕ, ◌+◌, ◌<◌, ◌≤◌, true, List, [], ◌∷◌, length, map, filter, flat_map, is_some, Option, Some}
 use Rattle.pg_pairs.specs.declared.choice.Pair.{Pair}
 use Rattle.pg_pairs.specs.declared.edge.Edge.{Edge}
 use Rattle.pg_pairs.specs.declared.work.Work.{Work}
 use Rattle.pg_pairs.specs.Among.{IsAmong}
 use Rattle.pg_pairs.specs.Choices.{Table, number_for}
+use Rattle.pg_pairs.specs.LeastOf.{cost_under, least_of}
 use Rattle.pg_pairs.specs.Reached.{IsReachedInOrder}
 use Rattle.pg_cert.specs.declared.bounds.PairBound.{PairBound}
 use Rattle.pg_cert.specs.Bounds.{bound_in}
 use Rattle.pg_least.specs.Exact.{pairs_of}
-
--- the lesser of two costs; 'none' is more than every number
-abbrev pub lesser_cost : Option ℕ → Option ℕ → Option ℕ
-lesser_cost None o = o
-lesser_cost (Some m) None = Some m
-lesser_cost (Some m) (Some n) = if nat_le m n then Some m else Some n
-
--- the least of these costs; none where there is none
-abbrev pub least_of : List (Option ℕ) → Option ℕ
-least_of [] = None
-least_of (o ∷ os) = lesser_cost o (least_of os)
-
--- what an edge costs at the bound of its child
-abbrev pub cost_under : (Edge → ℕ → Option ℕ) → Table → Edge → Option ℕ
-cost_under price table edge = option_and_then (price edge) (number_for table edge.child)
 
 -- the bound is the least of the pair's base and of what its edges cost at their children's bounds
 abbrev pub IsLeastBound : (Pair → List Edge) → (Pair → Option ℕ) → (Edge → ℕ → Option ℕ) → Table → Pair → Option ℕ → Type 0
@@ -57,9 +43,13 @@ opened_by n work = record { settled = work.settled; relaxed = work.relaxed; open
 abbrev pub AllLeast : (Pair → List Edge) → (Pair → Option ℕ) → (Edge → ℕ → Option ℕ) → Table → Type 0
 AllLeast edges base price table = (pair : Pair) (bound : Option ℕ) → table pair ≡ Some bound → IsLeastBound edges base price table pair bound
 
--- Where edges cost more than the bounds of their children, two such tables of the same pairs are the same.
+-- the table's numbers are above 0
+abbrev pub HasNumbers : Table → Type 0
+HasNumbers table = (pair : Pair) (n : ℕ) → table pair ≡ Some (Some n) → 1 ≤ n
+
+-- Where edges cost more than bounds above 0, two such tables of the same pairs, with numbers above 0, are the same.
 abbrev pub OneSolution : Type 0
 OneSolution =
-    (edges : Pair → List Edge) (base : Pair → Option ℕ) (price : Edge → ℕ → Option ℕ) (s t : Table) → ((pair : Pair) → is_some (s pair) ≡ is_some (t pair)) →
-    ((pair : Pair) (edge : Edge) (bound cost : ℕ) → is_some (s pair) ≡ true → IsAmong edge (edges pair) → price edge bound ≡ Some cost → bound < cost) →
+    (edges : Pair → List Edge) (base : Pair → Option ℕ) (price : Edge → ℕ → Option ℕ) (s t : Table) → ((pair : Pair) → is_some (s pair) ≡ is_some (t pair)) → HasNumbers s → HasNumbers t →
+    ((pair : Pair) (edge : Edge) (bound cost : ℕ) → is_some (s pair) ≡ true → IsAmong edge (edges pair) → 1 ≤ bound → price edge bound ≡ Some cost → bound < cost) →
     AllLeast edges base price s → AllLeast edges base price t → (pair : Pair) → s pair ≡ t pair

@@ -1,5 +1,4 @@
 pub mod Pairs
-pub mod Settled
 pub mod Exact
 pub mod Descent
 pub mod Queues

@@ -2,9 +2,8 @@
 use Rattle.std.specs.Prelude.{◌≡◌, ℕ, nat_eq, List, Bool, ◌&&◌}
 use Rattle.std.specs.HashSet.{HashSet, contains}
 use Rattle.std.specs.List.{AllByRecursion, list_any}
-use Rattle.pg_schema.specs.Shape.{Shape}
 use Rattle.pg_pairs.specs.declared.choice.Pair.{Pair}
-use Rattle.pg_pairs.specs.Covering.{children, same_pair}
+use Rattle.pg_pairs.specs.Covering.{same_pair}
 use Rattle.pg_pairs.specs.Among.{IsAmong}
 
 abbrev pub has_pair : List Pair → Pair → Bool
@@ -20,6 +19,3 @@ AreSeen pairs seen = (p : Pair) → contains same_indices seen (p.old.index, p.n
 -- each pair's children stand in the list too
 abbrev pub AreClosed : (Pair → List Pair) → List Pair → Type 0
 AreClosed children pairs = AllByRecursion (λ (p : Pair). AllByRecursion (λ (c : Pair). IsAmong c pairs) (children p)) pairs
-
-abbrev pub IsClosed : Shape → Shape → List Pair → Type 0
-IsClosed old new = AreClosed (children old new)

@@ -31,6 +31,10 @@ abbrev pub IsOffered : {A : Type 0} → Arcs A → List A → List (Option ℕ) 
 IsOffered {A} g arcs bases costs settled i c =
     (cost_at bases i ≡ Some c) ⊎ ((a : A) × IsAmong a arcs × (g.from a ≡ i) × (is_set settled (g.child a) ≡ true) × (offer g costs a ≡ Some c))
 
+-- costs are above 0
+abbrev pub AreNumbers : List (Option ℕ) → Type 0
+AreNumbers costs = (i c : ℕ) → cost_at costs i ≡ Some c → 1 ≤ c
+
 pub record Stands {A : Type 0} (g : Arcs A) (arcs : List A) (bases : List (Option ℕ)) (done : List A) (costs : List (Option ℕ)) (settled : List Bool) (heap : List (Reverse (ℕ × ℕ))) (level : ℕ) : Type 0 where
   pub below_base : (i : ℕ) → IsNoMore (cost_at costs i) (cost_at bases i)
   pub done_settled : (a : A) → IsAmong a done → is_set settled (g.child a) ≡ true
@@ -39,6 +43,7 @@ pub record Stands {A : Type 0} (g : Arcs A) (arcs : List A) (bases : List (Optio
   pub low : (i : ℕ) → is_set settled i ≡ true → (c : ℕ) × (cost_at costs i ≡ Some c) × (c ≤ level)
   pub high : All (λ e. level ≤ e.0.0) heap
   pub live : (i c : ℕ) → cost_at costs i ≡ Some c → is_set settled i ≡ false → waits heap c i ≡ true
+  pub numbers : AreNumbers costs
 
 -- the number is less; every number is less than 'none'
 abbrev pub IsLess : ℕ → Option ℕ → Type 0
@@ -51,8 +56,9 @@ IsRelaxed at None costs heap lower more = (lower ≡ costs) × (more ≡ heap)
 IsRelaxed at (Some c) costs heap lower more =
     (IsNoMore (cost_at costs at) (Some c) × (lower ≡ costs) × (more ≡ heap)) ⊎ (IsLess c (cost_at costs at) × (lower ≡ set costs at (Some c)) × IsOneMore heap c at more)
 
--- Each cost is the least of its place's base and of what its arcs cost under these costs; none where there is none.
+-- Each cost is above 0, and the least of its place's base and of what its arcs cost under these costs; none where there is none.
 pub record IsBalanced {A : Type 0} (g : Arcs A) (arcs : List A) (bases costs : List (Option ℕ)) : Type 0 where
   pub below_base : (i : ℕ) → IsNoMore (cost_at costs i) (cost_at bases i)
   pub below_offers : (a : A) → IsAmong a arcs → IsNoMore (cost_at costs (g.from a)) (offer g costs a)
   pub offered : (i c : ℕ) → cost_at costs i ≡ Some c → (cost_at bases i ≡ Some c) ⊎ ((a : A) × IsAmong a arcs × (g.from a ≡ i) × (offer g costs a ≡ Some c))
+  pub numbers : AreNumbers costs

@@ -7,7 +7,7 @@ ghost use Rattle.pg_cert.specs.Bounds.{is_bound};
 ghost use Rattle.pg_least.specs.Least.{IsCounted, IsSettled, lines, opened_by};
 
 use crate::arcs::{arcs_of, turned};
-use crate::reached::reached_in;
+use crate::reached::reached;
 use crate::relaxing::settle_all;
 use pg_cert::{Bounds, BoundsError, PairBound};
 use pg_pairs::{Pair, Prices, Work};
@@ -83,7 +83,7 @@ pub fn settle<G: Prices>(alloc: Global, graph: &G, root: Pair) -> Result<(Bounds
         relaxed: 0,
         opened: 0,
     };
-    let pairs = reached_in(alloc, graph, root)?;
+    let pairs = reached(alloc, graph, root)?;
     let mut costs = bases_of(alloc, graph, &pairs, &mut work)?;
     let arcs = arcs_of(alloc, graph, &pairs)?;
     let lists = turned(alloc, &arcs, pairs.len())?;

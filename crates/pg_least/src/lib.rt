@@ -8,9 +8,8 @@ mod queue;
 mod reached;
 mod relaxing;
 mod searching;
-mod settling;
 mod witness;
 
 pub use least_bounds::settle;
-pub use searching::{Found, find, search};
+pub use searching::{Found, find, search, search_counted};
 pub use witness::{Step, way};

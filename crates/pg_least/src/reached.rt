@@ -2,13 +2,11 @@
 
 ghost use Rattle.std.specs.Prelude.{◌≡◌, ◌++◌, true, IfOk, OnOk};
 ghost use Rattle.std.specs.List.{AllByRecursion};
-ghost use Rattle.pg_schema.specs.Parts.{shape_of};
-ghost use Rattle.pg_pairs.specs.Covering.{children, distinct};
+ghost use Rattle.pg_pairs.specs.Covering.{distinct};
 ghost use Rattle.pg_pairs.specs.Reached.{IsReachedInOrder};
-ghost use Rattle.pg_least.specs.Pairs.{AreClosed, AreSeen, IsClosed};
+ghost use Rattle.pg_least.specs.Pairs.{AreClosed, AreSeen};
 
-use pg_pairs::{Pair, Prices, children, one_pair_more};
-use pg_schema::Schema;
+use pg_pairs::{Pair, Prices, one_pair_more};
 use std::alloc::{AllocError, Global};
 use std::collections::HashSet;
 
@@ -32,37 +30,11 @@ fn add_unseen(
     Ok(())
 }
 
-/// The root, then the children of each pair in turn, each pair once, where it was first seen.
+/// The root, which the graph knows, then the children of each pair in turn, each pair once, where it was first seen. The
+/// graph knows them all.
 ///
 /// Refused only where memory is.
-pub(crate) fn reached(
-    alloc: Global,
-    old: &Schema,
-    new: &Schema,
-    root: Pair,
-) -> Result<Vec<Pair>, AllocError>
-    ensures in_order { IfOk result (λ pairs. IsReachedInOrder (children (shape_of old.now) (shape_of new.now)) root pairs.items) }
-    ensures once { IfOk result (λ pairs. distinct pairs.items ≡ pairs.items) }
-    ensures closed { IfOk result (λ pairs. IsClosed (shape_of old.now) (shape_of new.now) pairs.items) }
-{
-    one_pair_more();
-    let mut pairs = Vec::new(alloc);
-    let mut seen = HashSet::new(alloc);
-    add_unseen(&mut pairs, &mut seen, &[root])?;
-    for at in 0..usize::MAX {
-        let Some(pair) = pairs.get(at).copied() else {
-            break;
-        };
-        let found = children(alloc, old, new, pair)?;
-        add_unseen(&mut pairs, &mut seen, &found)?;
-    }
-    Ok(pairs)
-}
-
-/// The same of a graph that knows the root. It knows them all.
-///
-/// Refused only where memory is.
-pub(crate) fn reached_in<G: Prices>(
+pub(crate) fn reached<G: Prices>(
     alloc: Global,
     graph: &G,
     root: Pair,

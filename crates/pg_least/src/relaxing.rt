@@ -7,7 +7,7 @@ ghost use Rattle.pg_pairs.specs.Works.{relaxed_more};
 ghost use Rattle.pg_least.specs.declared.arcs.Arc.{Arc};
 ghost use Rattle.pg_pairs.specs.Among.{IsAmong};
 ghost use Rattle.pg_pairs.specs.LeastCosts.{IsNoMore};
-ghost use Rattle.pg_least.specs.Relaxing.{Arcs, IsBalanced, IsLess, IsRelaxed, Stands, cost_at, is_set, waits};
+ghost use Rattle.pg_least.specs.Relaxing.{Arcs, AreNumbers, IsBalanced, IsLess, IsRelaxed, Stands, cost_at, is_set, waits};
 ghost use Rattle.pg_least.specs.Graphs.{IsArc, IsTurned, arcs_by, arcs_to_numbers, relaxed_by};
 
 use crate::arcs::Arc;
@@ -127,6 +127,7 @@ pub(crate) fn settle_all<G: Prices>(
     requires long { length turned.now ≡ length costs.old }
     requires turned { IsTurned arcs.now turned.now }
     requires arcs { AllByRecursion (IsArc (G.is_known graph.now) (G.edges_of graph.now) (length costs.old)) arcs.now }
+    requires numbers { AreNumbers costs.old }
     requires room { work.old.relaxed + length arcs.now < 2 ^ 64 }
     ensures balanced { OnOk result (IsBalanced (arcs_by (G.price_of graph.now)) arcs.now costs.old costs.new) }
     ensures counted { OnOk result (work.new ≡ relaxed_by (length (arcs_to_numbers arcs.now costs.new)) work.old) }

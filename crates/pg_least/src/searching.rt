@@ -6,17 +6,22 @@ ghost use Rattle.pg_dyn.specs.Encoding.{cap, enc};
 ghost use Rattle.pg_dyn.specs.Fits.{Fits};
 ghost use Rattle.pg_dyn.specs.Kept.{message_of, type_of};
 ghost use Rattle.pg_pairs.specs.Choices.{number_for};
+ghost use Rattle.pg_pairs.specs.Edges.{edges};
 ghost use Rattle.pg_pairs.specs.Sight.{by_numbers};
+ghost use Rattle.pg_pairs.specs.Views.{sight_of};
 ghost use Rattle.pg_cert.specs.Bounds.{bound_in};
 ghost use Rattle.pg_least.specs.Descent.{IsTableOf};
 ghost use Rattle.pg_least.specs.Exact.{IsBesideClaim, IsSearched};
+ghost use Rattle.pg_least.specs.Least.{IsCounted};
 
-use crate::reached::reached;
-use crate::settling::settled;
+use crate::least_bounds::settle;
 use crate::witness::witness;
 use pg_cert::{Bounds, Certificate};
 use pg_dyn::{DynError, Message, encode};
-use pg_pairs::{Pair, Table, exact_is_least, none_is_compatible, numbers_sight};
+use pg_pairs::{
+    Numbers, Pair, Priced, Table, View, Work, exact_is_least, least_costs_are_exact,
+    least_costs_by_edges, none_is_compatible, numbers_are_alike, sees,
+};
 use pg_schema::Schema;
 use std::alloc::{AllocError, Global};
 
@@ -42,26 +47,28 @@ fn written(alloc: Global, schema: &Schema, message: &Message) -> Result<Vec<u8>,
 }
 
 // The certificate of a root whose bound is a number.
-fn broken(
+fn broken<V: View>(
     alloc: Global,
+    view: &V,
     old: &Schema,
     new: &Schema,
     root: Pair,
     bounds: Bounds,
 ) -> Result<Found, AllocError>
-    requires table { IsTableOf by_numbers (shape_of old.now) (shape_of new.now) root bounds }
+    requires table { IsTableOf (sight_of (V.is_alike view.now) (V.least_differing view.now) old.now new.now) (shape_of old.now) (shape_of new.now) root bounds }
     requires number { is_some (number_for (bound_in bounds) root) ≡ true }
-    ensures searched { IfOk result (λ found. IsSearched by_numbers (shape_of old.now) (shape_of new.now) root found.certificate) }
-    ensures witness { IfOk result (λ found. IsBesideClaim by_numbers (shape_of old.now) (shape_of new.now) found.certificate found.witness) }
+    ensures searched { IfOk result (λ found. IsSearched (sight_of (V.is_alike view.now) (V.least_differing view.now) old.now new.now) (shape_of old.now) (shape_of new.now) root found.certificate) }
+    ensures witness { IfOk result (λ found. IsBesideClaim (sight_of (V.is_alike view.now) (V.least_differing view.now) old.now new.now) (shape_of old.now) (shape_of new.now) found.certificate found.witness) }
+    ensures bounds { IfOk result (λ found. found.certificate.bounds ≡ bounds) }
 {
     // What holds of every schema, every view and every table.
     old.parts();
     new.parts();
-    numbers_sight();
+    sees(view, old, new);
     exact_is_least();
     none_is_compatible();
     bounds.len();
-    let message = witness(alloc, old, new, &bounds, root)?;
+    let message = witness(alloc, view, old, new, &bounds, root)?;
     let bytes = written(alloc, old, &message)?;
     match Certificate::new(root, bounds, Some(bytes)) {
         Ok(certificate) => Ok(Found {
@@ -74,16 +81,17 @@ fn broken(
 }
 
 // The certificate of a root that no message breaks.
-fn unbroken(old: &Schema, new: &Schema, root: Pair, bounds: Bounds) -> Found
-    requires table { IsTableOf by_numbers (shape_of old.now) (shape_of new.now) root bounds }
+fn unbroken<V: View>(view: &V, old: &Schema, new: &Schema, root: Pair, bounds: Bounds) -> Found
+    requires table { IsTableOf (sight_of (V.is_alike view.now) (V.least_differing view.now) old.now new.now) (shape_of old.now) (shape_of new.now) root bounds }
     requires none { is_some (number_for (bound_in bounds) root) ≡ false }
-    ensures searched { IsSearched by_numbers (shape_of old.now) (shape_of new.now) root result.certificate }
-    ensures witness { IsBesideClaim by_numbers (shape_of old.now) (shape_of new.now) result.certificate result.witness }
+    ensures searched { IsSearched (sight_of (V.is_alike view.now) (V.least_differing view.now) old.now new.now) (shape_of old.now) (shape_of new.now) root result.certificate }
+    ensures witness { IsBesideClaim (sight_of (V.is_alike view.now) (V.least_differing view.now) old.now new.now) (shape_of old.now) (shape_of new.now) result.certificate result.witness }
+    ensures bounds { result.certificate.bounds ≡ bounds }
 {
     // What holds of every schema and every view.
     old.parts();
     new.parts();
-    numbers_sight();
+    sees(view, old, new);
     exact_is_least();
     none_is_compatible();
     match Certificate::new(root, bounds, None) {
@@ -96,26 +104,104 @@ fn unbroken(old: &Schema, new: &Schema, root: Pair, bounds: Bounds) -> Found
     }
 }
 
+// The certificate of a root with that table.
+fn certified<V: View>(
+    alloc: Global,
+    view: &V,
+    old: &Schema,
+    new: &Schema,
+    root: Pair,
+    bounds: Bounds,
+) -> Result<Found, AllocError>
+    requires { IsTableOf (sight_of (V.is_alike view.now) (V.least_differing view.now) old.now new.now) (shape_of old.now) (shape_of new.now) root bounds }
+    ensures searched { IfOk result (λ found. IsSearched (sight_of (V.is_alike view.now) (V.least_differing view.now) old.now new.now) (shape_of old.now) (shape_of new.now) root found.certificate) }
+    ensures witness { IfOk result (λ found. IsBesideClaim (sight_of (V.is_alike view.now) (V.least_differing view.now) old.now new.now) (shape_of old.now) (shape_of new.now) found.certificate found.witness) }
+    ensures bounds { IfOk result (λ found. found.certificate.bounds ≡ bounds) }
+{
+    match bounds.bound(root) {
+        Some(Some(_)) => broken(alloc, view, old, new, root, bounds),
+        _ => Ok(unbroken(view, old, new, root, bounds)),
+    }
+}
+
+// The table of the pair under the view, least first, with the work that it took.
+fn settled<V: View>(
+    alloc: Global,
+    view: &V,
+    old: &Schema,
+    new: &Schema,
+    root: Pair,
+) -> Result<(Bounds, Work), AllocError>
+    requires old_type { root.old.index < length (shape_of old.now) }
+    requires new_type { root.new.index < length (shape_of new.now) }
+    ensures table { IfOk result (λ found. IsTableOf (sight_of (V.is_alike view.now) (V.least_differing view.now) old.now new.now) (shape_of old.now) (shape_of new.now) root found.0) }
+    ensures counted { IfOk result (λ found. IsCounted (edges (shape_of old.now) (shape_of new.now)) found.0 found.1) }
+{
+    // What holds of every schema, and of all choices.
+    old.parts();
+    least_costs_are_exact();
+    least_costs_by_edges();
+    let graph = Priced::new(view, old, new);
+    settle(alloc, &graph, root)
+}
+
+// What a search finds under the view, with the work that its table took.
+fn find_with<V: View>(
+    alloc: Global,
+    view: &V,
+    old: &Schema,
+    new: &Schema,
+    root: Pair,
+) -> Result<(Found, Work), AllocError>
+    requires old_type { root.old.index < length (shape_of old.now) }
+    requires new_type { root.new.index < length (shape_of new.now) }
+    ensures searched { IfOk result (λ found. IsSearched (sight_of (V.is_alike view.now) (V.least_differing view.now) old.now new.now) (shape_of old.now) (shape_of new.now) root found.0.certificate) }
+    ensures witness { IfOk result (λ found. IsBesideClaim (sight_of (V.is_alike view.now) (V.least_differing view.now) old.now new.now) (shape_of old.now) (shape_of new.now) found.0.certificate found.0.witness) }
+    ensures counted { IfOk result (λ found. IsCounted (edges (shape_of old.now) (shape_of new.now)) found.0.certificate.bounds found.1) }
+{
+    let (bounds, work) = settled(alloc, view, old, new, root)?;
+    let found = certified(alloc, view, old, new, root, bounds)?;
+    Ok((found, work))
+}
+
 /// The certificate of a pair of types: the bounds of all pairs that it leads to, each the length of the
 /// shortest message of its pair that breaks, or 'none' where no message does; and where the pair's own
-/// bound is a number, a breaking message of just so many bytes. The pair's old type has to be one of the old schema.
+/// bound is a number, a breaking message of just so many bytes. Both types of the pair have to be there.
 ///
 /// Refused only where memory is.
 pub fn find(alloc: Global, old: &Schema, new: &Schema, root: Pair) -> Result<Found, AllocError>
     requires old_type { root.old.index < length (shape_of old.now) }
+    requires new_type { root.new.index < length (shape_of new.now) }
     ensures searched { IfOk result (λ found. IsSearched by_numbers (shape_of old.now) (shape_of new.now) root found.certificate) }
     ensures witness { IfOk result (λ found. IsBesideClaim by_numbers (shape_of old.now) (shape_of new.now) found.certificate found.witness) }
 {
-    let pairs = reached(alloc, old, new, root)?;
-    let bounds = settled(alloc, old, new, &pairs)?;
-    match bounds.bound(root) {
-        Some(Some(_)) => broken(alloc, old, new, root, bounds),
-        _ => Ok(unbroken(old, new, root, bounds)),
-    }
+    numbers_are_alike();
+    let (found, _) = find_with(alloc, &Numbers, old, new, root)?;
+    Ok(found)
 }
 
-/// The certificate that `find` answers of a pair of types, without the message beside it. The pair's old type has to be
-/// one of the old schema.
+/// The certificate that `find` answers of a pair of types, and the work that its bounds took: the pairs whose bound is a
+/// number, the edges whose child's bound is one, and the pairs. Both types of the pair have to be there.
+///
+/// Refused only where memory is.
+pub fn search_counted(
+    alloc: Global,
+    old: &Schema,
+    new: &Schema,
+    root: Pair,
+) -> Result<(Certificate, Work), AllocError>
+    requires old_type { root.old.index < length (shape_of old.now) }
+    requires new_type { root.new.index < length (shape_of new.now) }
+    ensures searched { IfOk result (λ found. IsSearched by_numbers (shape_of old.now) (shape_of new.now) root found.0) }
+    ensures counted { IfOk result (λ found. IsCounted (edges (shape_of old.now) (shape_of new.now)) found.0.bounds found.1) }
+{
+    numbers_are_alike();
+    let (found, work) = find_with(alloc, &Numbers, old, new, root)?;
+    Ok((found.certificate, work))
+}
+
+/// The certificate that `find` answers of a pair of types, without the message beside it. Both types of the pair have to
+/// be there.
 ///
 /// Refused only where memory is.
 pub fn search(
@@ -125,8 +211,9 @@ pub fn search(
     root: Pair,
 ) -> Result<Certificate, AllocError>
     requires old_type { root.old.index < length (shape_of old.now) }
+    requires new_type { root.new.index < length (shape_of new.now) }
     ensures { IfOk result (λ certificate. IsSearched by_numbers (shape_of old.now) (shape_of new.now) root certificate) }
 {
-    let found = find(alloc, old, new, root)?;
-    Ok(found.certificate)
+    let (certificate, _) = search_counted(alloc, old, new, root)?;
+    Ok(certificate)
 }

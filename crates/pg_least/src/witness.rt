@@ -1,13 +1,14 @@
 //! The messages that bounds tell of.
 
-ghost use Rattle.std.specs.Prelude.{◌≡◌, ◌<◌, ℕ, length, true, is_some, Some, IfOk, IfSome};
+ghost use Rattle.std.specs.Prelude.{◌≡◌, ℕ, true, is_some, Some, IfOk, IfSome};
 ghost use Rattle.pg_schema.specs.Parts.{shape_of};
 ghost use Rattle.pg_dyn.specs.Fits.{Fits};
 ghost use Rattle.pg_dyn.specs.Kept.{message_of, type_of};
-ghost use Rattle.pg_pairs.specs.CarriedItems.{IsChoiceRound};
+ghost use Rattle.pg_pairs.specs.Carried.{IsChoiceRound};
 ghost use Rattle.pg_pairs.specs.Choices.{Table, number_for};
 ghost use Rattle.pg_pairs.specs.Laws.{ReachedBy};
 ghost use Rattle.pg_pairs.specs.Sight.{by_numbers};
+ghost use Rattle.pg_pairs.specs.Views.{sight_of};
 ghost use Rattle.pg_cert.specs.Bounds.{bound_in};
 ghost use Rattle.pg_least.specs.Descent.{IsExactTable, IsStep, IsWay, IsWholeWay, first_step};
 ghost use Rattle.pg_least.specs.Exact.{IsSearched};
@@ -15,8 +16,8 @@ ghost use Rattle.pg_least.specs.Exact.{IsSearched};
 use pg_cert::{Bounds, Certificate};
 use pg_dyn::Message;
 use pg_pairs::{
-    Choice, Numbers, Pair, carry, cheapest, cheapest_is_least, choice_child, each_child_costs_less,
-    numbers_are_alike, numbers_sight,
+    Choice, Numbers, Pair, View, carry, cheapest, cheapest_is_least, choice_child,
+    each_child_costs_less, numbers_are_alike, sees,
 };
 use pg_schema::Schema;
 use std::alloc::{AllocError, Global};
@@ -29,93 +30,90 @@ pub struct Step {
 }
 
 // The step by the cheapest choice of a pair whose bound is a number.
-fn step_at(
+fn step_at<V: View>(
     alloc: Global,
+    view: &V,
     old: &Schema,
     new: &Schema,
     bounds: &Bounds,
     pair: Pair,
 ) -> Result<Step, AllocError>
-    requires exact { IsExactTable by_numbers (shape_of old.now) (shape_of new.now) (bound_in bounds.now) }
+    requires exact { IsExactTable (sight_of (V.is_alike view.now) (V.least_differing view.now) old.now new.now) (shape_of old.now) (shape_of new.now) (bound_in bounds.now) }
     requires number { is_some (number_for (bound_in bounds.now) pair) ≡ true }
     ensures pair { IfOk result (λ step. step.pair ≡ pair) }
-    ensures step { IfOk result (λ step. IsStep by_numbers (shape_of old.now) (shape_of new.now) (bound_in bounds.now) step) }
+    ensures step { IfOk result (λ step. IsStep (sight_of (V.is_alike view.now) (V.least_differing view.now) old.now new.now) (shape_of old.now) (shape_of new.now) (bound_in bounds.now) step) }
 {
     // The cheapest choice costs what an exact bound says.
     cheapest_is_least();
-    numbers_are_alike();
-    match cheapest(alloc, &Numbers, old, new, pair, bounds)? {
+    match cheapest(alloc, view, old, new, pair, bounds)? {
         Some(choice) => Ok(Step { pair, choice }),
         None => unreachable!(),
     }
 }
 
 // The steps from a pair down, and the last of them, whose choice has no child.
-fn steps_down(
+fn steps_down<V: View>(
     alloc: Global,
+    view: &V,
     old: &Schema,
     new: &Schema,
     bounds: &Bounds,
     pair: Pair,
 ) -> Result<(Vec<Step>, Step), AllocError>
-    requires exact { IsExactTable by_numbers (shape_of old.now) (shape_of new.now) (bound_in bounds.now) }
+    requires exact { IsExactTable (sight_of (V.is_alike view.now) (V.least_differing view.now) old.now new.now) (shape_of old.now) (shape_of new.now) (bound_in bounds.now) }
     requires number { is_some (number_for (bound_in bounds.now) pair) ≡ true }
     ensures first { IfOk result (λ steps. (first_step steps.0.items steps.1).pair ≡ pair) }
-    ensures whole { IfOk result (λ steps. IsWholeWay by_numbers (shape_of old.now) (shape_of new.now) (bound_in bounds.now) steps.0.items steps.1) }
+    ensures whole { IfOk result (λ steps. IsWholeWay (sight_of (V.is_alike view.now) (V.least_differing view.now) old.now new.now) (shape_of old.now) (shape_of new.now) (bound_in bounds.now) steps.0.items steps.1) }
 {
     // What holds of every schema and every view, so that the costs fall.
     old.parts();
     new.parts();
-    numbers_sight();
+    sees(view, old, new);
     each_child_costs_less();
     let mut steps = Vec::new(alloc);
-    let mut last = step_at(alloc, old, new, bounds, pair)?;
+    let mut last = step_at(alloc, view, old, new, bounds, pair)?;
     while let Some(child) = choice_child(old, new, last.pair, &last.choice) {
         steps.push(last)?;
-        last = step_at(alloc, old, new, bounds, child)?;
+        last = step_at(alloc, view, old, new, bounds, child)?;
     }
     Ok((steps, last))
 }
 
 // The message of a step's choice, round that of the choice's child. Refused only where memory is.
-fn carried(
+fn carried<V: View>(
     alloc: Global,
+    view: &V,
     old: &Schema,
     new: &Schema,
     step: Step,
     child: Option<Message>,
 ) -> Result<Message, AllocError>
     requires child { IfSome child (Fits (shape_of old.now)) }
-    requires old_type { step.pair.old.index < length (shape_of old.now) }
-    requires round { IsChoiceRound by_numbers (shape_of old.now) (shape_of new.now) step.pair step.choice child }
+    requires round { IsChoiceRound (sight_of (V.is_alike view.now) (V.least_differing view.now) old.now new.now) (shape_of old.now) (shape_of new.now) step.pair step.choice child }
     ensures fits { IfOk result (λ m. Fits (shape_of old.now) m) }
     ensures type_is { IfOk result (λ m. type_of m ≡ step.pair.old) }
-    ensures reached { IfOk result (λ m. ReachedBy by_numbers (shape_of old.now) (shape_of new.now) step.pair (message_of m) step.choice.cost) }
+    ensures reached { IfOk result (λ m. ReachedBy (sight_of (V.is_alike view.now) (V.least_differing view.now) old.now new.now) (shape_of old.now) (shape_of new.now) step.pair (message_of m) step.choice.cost) }
 {
-    numbers_are_alike();
-    match carry(alloc, &Numbers, old, new, step.pair, &step.choice, child)? {
-        Some(message) => Ok(message),
-        // The choice is the pair's, and the child the choice's.
-        None => unreachable!(),
-    }
+    carry(alloc, view, old, new, step.pair, &step.choice, child)
 }
 
 // The message of the first step's choice, built from the last step's out.
-fn built(
+fn built<V: View>(
     alloc: Global,
+    view: &V,
     old: &Schema,
     new: &Schema,
     mut steps: Vec<Step>,
     last: Step,
 ) -> Result<Message, AllocError>
-    requires { (table : Table) × IsWholeWay by_numbers (shape_of old.now) (shape_of new.now) table steps.items last }
+    requires { (table : Table) × IsWholeWay (sight_of (V.is_alike view.now) (V.least_differing view.now) old.now new.now) (shape_of old.now) (shape_of new.now) table steps.items last }
     ensures fits { IfOk result (λ m. Fits (shape_of old.now) m) }
     ensures type_is { IfOk result (λ m. type_of m ≡ (first_step steps.items last).pair.old) }
-    ensures reached { IfOk result (λ m. ReachedBy by_numbers (shape_of old.now) (shape_of new.now) (first_step steps.items last).pair (message_of m) (first_step steps.items last).choice.cost) }
+    ensures reached { IfOk result (λ m. ReachedBy (sight_of (V.is_alike view.now) (V.least_differing view.now) old.now new.now) (shape_of old.now) (shape_of new.now) (first_step steps.items last).pair (message_of m) (first_step steps.items last).choice.cost) }
 {
-    let mut message = carried(alloc, old, new, last, None)?;
+    let mut message = carried(alloc, view, old, new, last, None)?;
     while let Some(step) = steps.pop() {
-        message = carried(alloc, old, new, step, Some(message))?;
+        message = carried(alloc, view, old, new, step, Some(message))?;
     }
     Ok(message)
 }
@@ -124,21 +122,22 @@ fn built(
 /// bytes as the pair's bound says, which is a number.
 ///
 /// Refused only where memory is.
-pub(crate) fn witness(
+pub(crate) fn witness<V: View>(
     alloc: Global,
+    view: &V,
     old: &Schema,
     new: &Schema,
     bounds: &Bounds,
     pair: Pair,
 ) -> Result<Message, AllocError>
-    requires exact { IsExactTable by_numbers (shape_of old.now) (shape_of new.now) (bound_in bounds.now) }
+    requires exact { IsExactTable (sight_of (V.is_alike view.now) (V.least_differing view.now) old.now new.now) (shape_of old.now) (shape_of new.now) (bound_in bounds.now) }
     requires number { is_some (number_for (bound_in bounds.now) pair) ≡ true }
     ensures fits { IfOk result (λ m. Fits (shape_of old.now) m) }
     ensures type_is { IfOk result (λ m. type_of m ≡ pair.old) }
-    ensures reached { IfOk result (λ m. (bytes : ℕ) → bound_in bounds.now pair ≡ Some (Some bytes) → ReachedBy by_numbers (shape_of old.now) (shape_of new.now) pair (message_of m) bytes) }
+    ensures reached { IfOk result (λ m. (bytes : ℕ) → bound_in bounds.now pair ≡ Some (Some bytes) → ReachedBy (sight_of (V.is_alike view.now) (V.least_differing view.now) old.now new.now) (shape_of old.now) (shape_of new.now) pair (message_of m) bytes) }
 {
-    let (steps, last) = steps_down(alloc, old, new, bounds, pair)?;
-    built(alloc, old, new, steps, last)
+    let (steps, last) = steps_down(alloc, view, old, new, bounds, pair)?;
+    built(alloc, view, old, new, steps, last)
 }
 
 /// The way of the witness of a certificate that a search answers: from the root by the cheapest choice of each pair to
@@ -156,7 +155,15 @@ pub fn way(
     requires breaks { is_some certificate.now.witness ≡ true }
     ensures { IfOk result (λ steps. IsWay by_numbers (shape_of old.now) (shape_of new.now) (bound_in certificate.now.bounds) certificate.now.root steps.items) }
 {
-    let (mut steps, last) = steps_down(alloc, old, new, certificate.bounds(), certificate.root())?;
+    numbers_are_alike();
+    let (mut steps, last) = steps_down(
+        alloc,
+        &Numbers,
+        old,
+        new,
+        certificate.bounds(),
+        certificate.root(),
+    )?;
     steps.push(last)?;
     Ok(steps)
 }

@@ -9,6 +9,7 @@ use crate::declares::{DeclaredName, declared_names};
 use crate::error::{LinkError, place_in};
 use crate::index::Index;
 use crate::names::{Kind, Named};
+use crate::text_keys::TextKeys;
 use crate::walk::SourceFile;
 use indexmap::IndexMap;
 use std::alloc::{AllocError, Global};
@@ -161,7 +162,7 @@ pub(crate) fn index_names(
     ensures twice { IfErr result (spec.IsTwiceIn files.now.entries) }
 {
     let mut index = Index {
-        names: IndexMap::new(alloc),
+        names: IndexMap::with_hasher(alloc, TextKeys::of(files)),
         messages: Vec::new(alloc),
         enums: Vec::new(alloc),
     };

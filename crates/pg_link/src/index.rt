@@ -7,6 +7,7 @@ ghost use Rattle.pg_link.specs.Names as names;
 ghost use Rattle.pg_link.specs.Resolves as resolves;
 
 use crate::names::{Kind, Named};
+use crate::text_keys::TextKeys;
 use indexmap::IndexMap;
 use pg_syntax::tree::{Name, TypeName};
 use std::alloc::{AllocError, Global};
@@ -112,7 +113,7 @@ fn push_name(text: &mut String, name: &TypeName) -> Result<(), AllocError>
 /// and of the enums.
 #[derive(Debug, Drop)]
 pub(crate) struct Index {
-    pub names: IndexMap<String, Named>,
+    pub names: IndexMap<String, Named, TextKeys>,
     pub messages: Vec<usize>,
     pub enums: Vec<usize>,
 }

@@ -24,6 +24,7 @@ mod sources;
 mod tally;
 mod target;
 mod targets;
+mod text_keys;
 mod uses;
 mod walk;
 

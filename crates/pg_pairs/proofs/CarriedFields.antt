@@ -10,7 +10,7 @@ use Rattle.pg_schema.specs.declared.field.Presence.{Presence}
 use Rattle.pg_schema.specs.declared.field.Presence.TheVariants as presences
 use Rattle.pg_schema.specs.Shape.{Shape, FieldShape, PresenceFits, IsShape, fields, field_at, is_packable, is_singular}
 use Rattle.pg_wire.specs.Records.{tag}
-use Rattle.pg_dyn.specs.Message.{Leaf, Message, ends, holds, nests}
+use Rattle.pg_dyn.specs.Message.{Leaf, Message, ends, holds, nests, with_part}
 use Rattle.pg_dyn.specs.Coding.{form, form_wire, zero_leaf, InRange}
 use Rattle.pg_dyn.specs.Encoding.{cap}
 use Rattle.pg_dyn.specs.Belonging.{KeyFits}
@@ -23,7 +23,7 @@ use Rattle.pg_pairs.specs.Gaps.{body_length, gap_item}
 use Rattle.pg_pairs.specs.Costs.{with_length, least_body, nonzero_body, entry_cost, one_item, least_content}
 use Rattle.pg_pairs.specs.Choices.{Table, choice, choice_of, zero_counts, unlike_cost, gap_body, child_body, singular_cost, plain_choices, map_choices, field_choices}
 use Rattle.pg_pairs.specs.Laws.{ReachedBy}
-use Rattle.pg_pairs.specs.Carried.{nonzero_leaf, far_leaf, apart_leaf, apart_item, item_by, least_part, part_onto, alone, leaf_alone, child_alone, lost_onto, key_alone, value_alone, carried_field, field_child, ChildReached, ChildThere}
+use Rattle.pg_pairs.specs.Carried.{nonzero_leaf, far_leaf, apart_leaf, apart_item, item_by, least_part, alone, leaf_alone, child_alone, lost_onto, key_alone, value_alone, carried_field, field_child, ChildReached, ChildThere}
 use Rattle.pg_pairs.proofs.GapItems.{IsLeafy, implicit_leafy, leafy_like}
 use Rattle.pg_pairs.proofs.Likeness.{like_wire}
 use Rattle.pg_pairs.proofs.AcrossPlain.{IsNoMap, IsUnpacked}
@@ -191,14 +191,14 @@ module _ (sight : Sight) (law : IsSight sight) (old new : Shape) (shape_old : Is
     -- two items, of which one is read
     two_items : like e d ≡ true → field_at (fields old pair.old) number ≡ Some (at_old (presences.Repeated false)) → field_at (fields new pair.new) number ≡ Some (at_new presences.Explicit) → (cost : ℕ) → Some (2 * least_content (at_old (presences.Repeated false))) ≡ Some cost → Carries (presences.Repeated false) presences.Explicit 4 0 cost
     two_items is_like found at cost h =
-        childless (part_onto number None (item_by (λ x. zero_leaf x) e) (alone number None (item_by (λ x. zero_leaf x) e))) cost
-        (λ small. subst (ReachedBy sight old new pair (part_onto number None (item_by (λ x. zero_leaf x) e) (alone number None (item_by (λ x. zero_leaf x) e)))) least (of (leaf_or_message e) (subst (λ n. n ≤ cap) (sym least) small)))
+        childless (with_part number None (item_by (λ x. zero_leaf x) e) (alone number None (item_by (λ x. zero_leaf x) e))) cost
+        (λ small. subst (ReachedBy sight old new pair (with_part number None (item_by (λ x. zero_leaf x) e) (alone number None (item_by (λ x. zero_leaf x) e)))) least (of (leaf_or_message e) (subst (λ n. n ≤ cap) (sym least) small)))
       where
         least : 2 * least_content (at_old (presences.Repeated false)) ≡ cost
         least = same_cost (2 * least_content (at_old (presences.Repeated false))) cost h
 
         two : Element → Message
-        two x = part_onto number None (item_by (λ y. zero_leaf y) x) (alone number None (item_by (λ y. zero_leaf y) x))
+        two x = with_part number None (item_by (λ y. zero_leaf y) x) (alone number None (item_by (λ y. zero_leaf y) x))
 
         of : IsLeafy e ⊎ ((s : TypeId) × (e ≡ elements.Message s)) → 2 * least_content (at_old (presences.Repeated false)) ≤ cap → ReachedBy sight old new pair (two e) (2 * least_content (at_old (presences.Repeated false)))
         of (inl leafy) few =

@@ -4,14 +4,14 @@ use Rattle.pg_schema.specs.declared.field.TypeId.{TypeId}
 use Rattle.pg_schema.specs.declared.field.Element.{Element}
 use Rattle.pg_schema.specs.declared.field.Element.TheVariants as elements
 use Rattle.pg_schema.specs.declared.field.Presence.TheVariants as presences
-use Rattle.pg_dyn.specs.Message.{Leaf, Message, holds}
+use Rattle.pg_dyn.specs.Message.{Leaf, Message, holds, with_part}
 use Rattle.pg_dyn.specs.Coding.{Form, form}
 use Rattle.pg_pairs.specs.Sight.{Sight, IsSight}
 use Rattle.pg_pairs.specs.Likeness.{like}
 use Rattle.pg_pairs.specs.Gaps.{body_length, IsLeastUnseen, IsGapItem, gap_item}
 use Rattle.pg_pairs.specs.Costs.{with_length}
 use Rattle.pg_pairs.specs.Choices.{Table, number_for, gap_body, child_body}
-use Rattle.pg_pairs.specs.Carried.{nonzero_leaf, item_by, least_part_of, part_onto, child_pair}
+use Rattle.pg_pairs.specs.Carried.{nonzero_leaf, item_by, least_part_of, child_pair}
 use Rattle.pg_pairs.proofs.GapItems.{IsLeafy, gap_item_is}
 use Rattle.pg_wire.proofs.PublicLaws.{lengths_grow}
 use Rattle.pg_dyn.proofs.Lists.{option_map_some}
@@ -48,13 +48,13 @@ leafy_childless (elements.Scalar s) d leafy = refl
 leafy_childless (elements.Enum s) d leafy = refl
 
 -- an item of leaves is a leaf
-pub leaf_part : (leaf : Form → Leaf) (e : Element) → IsLeafy e → (number : ℕ) (key : Option Leaf) (later : Message) → part_onto number key (item_by leaf e) later ≡ holds number key (leaf (form e)) later
+pub leaf_part : (leaf : Form → Leaf) (e : Element) → IsLeafy e → (number : ℕ) (key : Option Leaf) (later : Message) → with_part number key (item_by leaf e) later ≡ holds number key (leaf (form e)) later
 leaf_part leaf (elements.Message s) leafy number key later = absurd leafy
 leaf_part leaf (elements.Scalar s) leafy number key later = refl
 leaf_part leaf (elements.Enum s) leafy number key later = refl
 
 -- an implicit field's least item isn't zero
-pub implicit_least : (number : ℕ) (e : Element) (later : Message) → least_part_of number presences.Implicit e later ≡ part_onto number None (item_by nonzero_leaf e) later
+pub implicit_least : (number : ℕ) (e : Element) (later : Message) → least_part_of number presences.Implicit e later ≡ with_part number None (item_by nonzero_leaf e) later
 implicit_least number (elements.Message s) later = refl
 implicit_least number (elements.Scalar s) later = refl
 implicit_least number (elements.Enum s) later = refl

@@ -1,5 +1,6 @@
 -- A field takes the content of each of its choices.
-use Rattle.std.proofs.Common.{◌≡◌, ◌≤◌, ℕ, [], length, Bool, true, false, not, ◌&&◌, nat_eq, if◌then◌else◌, Option, Some, None, option_map, is_some, refl, ap, ap₂, ◌∙◌, subst, arith, eq-eqb}
+use Rattle.std.proofs.Common.{◌≡◌, ◌≤◌, ℕ, [], length, Bool, true, false, not, ◌&&◌, nat_eq, if◌then◌else◌, Option, Some, None, IfSome, option_map, is_some, ◌⊎◌, inl, inr, ⊎_elim, refl, ap, ap₂, sym, ◌∙◌, subst, arith, eq-eqb, eqb-true}
+use Rattle.std.proofs.lemmas.Bool.{and_parts, or_cases}
 use Rattle.pg_schema.specs.declared.field.Element.{Element}
 use Rattle.pg_schema.specs.declared.field.Element.TheVariants as elements
 use Rattle.pg_schema.specs.declared.field.Presence.{Presence}
@@ -11,18 +12,21 @@ use Rattle.pg_dyn.specs.Message.{Leaf, Item, Plain, Msg, Message, ends}
 use Rattle.pg_dyn.specs.Belonging.{KeyFits}
 use Rattle.pg_dyn.specs.Coding.{form, zero_leaf}
 use Rattle.pg_dyn.specs.Encoding.{enc}
+use Rattle.pg_dyn.specs.Fits.{Fits}
 use Rattle.pg_dyn.specs.Kept.{Kept, message_of, type_of}
 use Rattle.pg_pairs.specs.declared.choice.Choice.{Choice}
 use Rattle.pg_pairs.specs.declared.choice.Pair.{Pair}
 use Rattle.pg_pairs.specs.Sight.{Sight, IsSight}
 use Rattle.pg_pairs.specs.Gaps.{gap_item}
-use Rattle.pg_pairs.specs.Choices.{Table, zero_counts}
+use Rattle.pg_pairs.specs.Choices.{Table, zero_counts, choices}
 use Rattle.pg_pairs.specs.Laws.{ReachedBy}
-use Rattle.pg_pairs.specs.Carried.{apart_leaf, apart_item, item_by, alone, leaf_alone, child_alone, lost_onto, key_of, key_alone, value_alone, entry_message, carried_field, carried_two, carried_of, carried, child_pair, has_child, field_child, child_of, choice_child, ChildReached}
-use Rattle.pg_pairs.specs.CarriedItems.{is_child_of, has_value, has_entry, has_content, IsOfPair, IsChoiceRound}
+use Rattle.pg_pairs.specs.Among.{IsAmong}
+use Rattle.pg_pairs.specs.Carried.{apart_leaf, apart_item, item_by, alone, leaf_alone, child_alone, lost_onto, key_of, key_alone, value_alone, entry_message, carried_field, carried_two, carried_of, carried, child_pair, has_child, field_child, child_of, choice_child, ChildGiven, ChildReached}
+use Rattle.pg_pairs.specs.CarriedItems.{is_child_of, has_value, has_entry, has_content}
 use Rattle.pg_pairs.proofs.LeastCosts.{choice_some}
 use Rattle.pg_pairs.proofs.Messages.{one_found}
-use Rattle.pg_pairs.proofs.Reached.{choices_carried}
+use Rattle.pg_pairs.proofs.ChoicePlaces.{IsPlaced}
+use Rattle.pg_pairs.proofs.Reached.{choice_known, choices_carried}
 use Rattle.pg_dyn.proofs.PublicLaws.{fields_are_found, own_contents}
 use Rattle.pg_dyn.proofs.Lists.{each_at}
 
@@ -128,33 +132,68 @@ module _ (sight : Sight) (old new : Shape) (pair : Pair) (cost : ℕ) (some : 1 
 pub element_there : (shape : Shape) → IsShape shape → (type : TypeId) (n : ℕ) (f : FieldShape) → field_at (fields shape type) n ≡ Some f → ElementFits (length shape) f.element
 element_there shape is_shape type n f found = (each_at (IsField (length shape)) (fields shape type) n f found (fields_are_found.0 shape type is_shape).each).element_fits
 
--- the child of a choice is of the field's type
-child_typed : (sight : Sight) (old new : Shape) (table : Table) (b : Bool) (e d : Element) (m : Kept) → IsOfPair (if b then child_pair e d else None) (Some m) → ChildReached sight old new table (if b then child_pair e d else None) (Some (message_of m)) → is_child_of e (Some m) ≡ true
-child_typed sight old new table false e d m same reached = absurd reached
-child_typed sight old new table true (elements.Message s) (elements.Message t) m same reached = eq-eqb (type_of m).index s.index (ap (λ x. x.index) same)
-child_typed sight old new table true (elements.Message s) (elements.Scalar t) m same reached = absurd reached
-child_typed sight old new table true (elements.Message s) (elements.Enum t) m same reached = absurd reached
-child_typed sight old new table true (elements.Scalar s) d m same reached = absurd reached
-child_typed sight old new table true (elements.Enum s) d m same reached = absurd reached
+-- a child that is given fits
+pub given_fits : (shape : Shape) (wanted : Option Pair) (child : Option Kept) → ChildGiven shape wanted child → IfSome child (Fits shape)
+given_fits shape None None given = tt
+given_fits shape None (Some m) given = absurd given
+given_fits shape (Some p) None given = absurd given
+given_fits shape (Some p) (Some m) given = given.0
 
-pub choice_content : (sight : Sight) (old new : Shape) → IsSight sight → IsShape old → IsShape new → (pair : Pair) (c : Choice) (child : Option Kept) → IsChoiceRound sight old new pair c child → nat_eq c.case 6 ≡ false → (f g : FieldShape) → field_at (fields old pair.old) c.number ≡ Some f → field_at (fields new pair.new) c.number ≡ Some g → f.number ≡ c.number → has_content sight f g c.case c.part child ≡ true
-choice_content sight old new law shape_old shape_new pair c child round single f g found at own =
-    content_there sight old new pair c.cost (choice_some sight old new round.table pair c round.among) f g (ap (field_at (fields old pair.old)) own ∙ found) child typed c.case c.part by
+-- A choice round a child: it is of the field's type, in a field that is no map or in an entry.
+
+has_child_case : (case part : ℕ) → has_child case part ≡ true → (nat_eq case 3 ≡ true) ⊎ ((nat_eq case 5 ≡ true) × (nat_eq part 2 ≡ true))
+has_child_case case part h = ⊎_elim (λ three. inl three) (λ five. inr (and_parts (nat_eq case 5) (nat_eq part 2) five)) (or_cases (nat_eq case 3) (nat_eq case 5 && nat_eq part 2) h)
+
+pub child_there_is : (f g : FieldShape) (case part : ℕ) (p : Pair) → field_child f g case part ≡ Some p → (has_child case part ≡ true) × (f.element ≡ elements.Message p.old)
+child_there_is f g case part p =
+    elim (has_child case part) as (λ b. (if b then child_pair f.element g.element else None) ≡ Some p → (b ≡ true) × (f.element ≡ elements.Message p.old)) [
+      | true ↦ λ h. (refl, element f.element g.element h)
+      | false ↦ λ h. absurd (cc)
+    ]
+  where
+    element : (e d : Element) → child_pair e d ≡ Some p → e ≡ elements.Message p.old
+    element (elements.Message s) (elements.Message t) h = let same : record { old = s; new = t } ≡ p = cc in ap (λ (x : Pair). elements.Message x.old) same
+    element (elements.Message s) (elements.Scalar t) h = absurd (cc)
+    element (elements.Message s) (elements.Enum t) h = absurd (cc)
+    element (elements.Scalar s) d h = absurd (cc)
+    element (elements.Enum s) d h = absurd (cc)
+
+child_content : (sight : Sight) (f g : FieldShape) (case part : ℕ) (type : TypeId) (m : Kept) → has_child case part ≡ true → f.element ≡ elements.Message type → type_of m ≡ type → (nat_eq case 3 ≡ true → is_map f.presence ≡ false) → (nat_eq case 5 ≡ true → is_map f.presence ≡ true) → has_content sight f g case part (Some m) ≡ true
+child_content sight f g case part type m is_child element of_type unmapped mapped =
+    ⊎_elim (λ three. subst (λ n. has_content sight f g n part (Some m) ≡ true) (sym (eqb-true case 3 three)) (rw (unmapped three) typed))
+    (λ five.
+    subst (λ n. has_content sight f g n part (Some m) ≡ true) (sym (eqb-true case 5 five.0))
+    (subst (λ n. has_content sight f g 5 n (Some m) ≡ true) (sym (eqb-true part 2 five.1)) (rw (mapped five.0) typed)))
+    (has_child_case case part is_child)
+  where
+    typed : is_child_of f.element (Some m) ≡ true
+    typed = subst (λ e. is_child_of e (Some m) ≡ true) (sym element) (eq-eqb (type_of m).index type.index (ap (λ x. x.index) of_type))
+
+-- A field takes the content of each of its choices, round its child.
+pub choice_content : (sight : Sight) (old new : Shape) (table : Table) → IsSight sight → IsShape old → IsShape new → (pair : Pair) (c : Choice) → IsAmong c (choices sight table old new pair) → (child : Option Kept) → ChildGiven old (choice_child old new pair c) child → nat_eq c.case 6 ≡ false → (f g : FieldShape) → field_at (fields old pair.old) c.number ≡ Some f → field_at (fields new pair.new) c.number ≡ Some g → f.number ≡ c.number → has_content sight f g c.case c.part child ≡ true
+choice_content sight old new table law shape_old shape_new pair c among child given single f g found at own =
+    of (field_child f g c.case c.part) child refl (subst (λ o. ChildGiven old o child) child_is given)
   where
     child_is : choice_child old new pair c ≡ field_child f g c.case c.part
     child_is = ap₂ (λ x y. child_of x y c) found at
 
-    carried_is : carried sight old new pair c (option_map message_of child) ≡ carried_field sight f g c.case c.part (option_map message_of child)
+    carried_is : carried sight old new pair c None ≡ carried_field sight f g c.case c.part None
     carried_is =
-        ap₂ (λ x y. carried_of sight x y (field_at (fields old pair.old) c.part) c (option_map message_of child)) found at
-        ∙ ap (λ (b : Bool). if b then carried_two f (field_at (fields old pair.old) c.part) else carried_field sight f g c.case c.part (option_map message_of child)) single
+        ap₂ (λ x y. carried_of sight x y (field_at (fields old pair.old) c.part) c None) found at
+        ∙ ap (λ (b : Bool). if b then carried_two f (field_at (fields old pair.old) c.part) else carried_field sight f g c.case c.part None) single
 
-    by : ReachedBy sight old new pair (carried_field sight f g c.case c.part (option_map message_of child)) c.cost
-    by = subst (λ v. ReachedBy sight old new pair v c.cost) carried_is (choices_carried sight old new round.table law shape_old shape_new pair c round.among (option_map message_of child) round.reached)
+    is_placed : IsPlaced f.presence c
+    is_placed =
+        let stands = (choice_known sight law old new shape_old shape_new table pair c among).1 in
+        subst (λ (x : FieldShape). IsPlaced x.presence c) (one_found (fields old pair.old) c.number stands.field f stands.found found) (stands.placed single)
 
-    typed : (m : Kept) → child ≡ Some m → is_child_of f.element (Some m) ≡ true
-    typed m is =
-        child_typed sight old new round.table (has_child c.case c.part) f.element g.element m
-        (subst (λ o. IsOfPair (field_child f g c.case c.part) o) is (subst (λ p. IsOfPair p child) child_is round.of_pair))
-        (subst (λ o. ChildReached sight old new round.table (field_child f g c.case c.part) (option_map message_of o)) is
-        (subst (λ p. ChildReached sight old new round.table p (option_map message_of child)) child_is round.reached))
+    of : (wanted : Option Pair) (o : Option Kept) → field_child f g c.case c.part ≡ wanted → ChildGiven old wanted o → has_content sight f g c.case c.part o ≡ true
+    of None None is given =
+        content_there sight old new pair c.cost (choice_some sight old new table pair c among) f g (ap (field_at (fields old pair.old)) own ∙ found) None (λ m no. absurd (cc)) c.case c.part
+        (subst (λ v. ReachedBy sight old new pair v c.cost) carried_is
+        (choices_carried sight old new table law shape_old shape_new pair c among None (subst (λ o. ChildReached sight old new table o None) (sym (child_is ∙ is)) tt)))
+    of None (Some m) is given = absurd given
+    of (Some p) None is given = absurd given
+    of (Some p) (Some m) is given =
+        let (is_child, element) = child_there_is f g c.case c.part p is in
+        child_content sight f g c.case c.part p.old m is_child element given.1 is_placed.0 is_placed.1

@@ -1,5 +1,5 @@
 -- What setting the contents of a choice makes: its message.
-use Rattle.std.proofs.Common.{◌≡◌, ℕ, ◌<◌, List, [], ◌∷◌, Bool, true, false, not, ◌&&◌, nat_eq, nat_lt, if◌then◌else◌, Option, Some, None, option_map, ◌⊎◌, inl, inr, ⊎_elim, refl, ap, ap₂, sym, ◌∙◌, subst, append-nil, arith, eqb-true}
+use Rattle.std.proofs.Common.{◌≡◌, ℕ, ◌<◌, List, [], ◌∷◌, map, length, Bool, true, false, not, ◌&&◌, nat_eq, nat_lt, if◌then◌else◌, Option, Some, None, option_map, ◌⊎◌, inl, inr, ⊎_elim, refl, ap, ap₂, sym, ◌∙◌, subst, subst₂, append-nil, arith, eqb-true}
 use Rattle.std.specs.List.{AllByRecursion}
 use Rattle.pg_schema.specs.declared.field.TypeId.{TypeId}
 use Rattle.pg_schema.specs.declared.field.Element.{Element}
@@ -7,81 +7,169 @@ use Rattle.pg_schema.specs.declared.field.Element.TheVariants as elements
 use Rattle.pg_schema.specs.declared.field.Presence.{Presence}
 use Rattle.pg_schema.specs.declared.field.Presence.TheVariants as presences
 use Rattle.std.proofs.lemmas.Bool.{and_left, and_right, cases_Bool, lt-ltb, le-ltb}
-use Rattle.pg_schema.specs.Shape.{Shape, FieldShape, IsShape, Rising, fields, field_at, is_repeated}
+use Rattle.pg_schema.specs.Shape.{Shape, FieldShape, IsField, IsShape, PresenceFits, Rising, fields, field_at, is_repeated}
 use Rattle.pg_dyn.specs.declared.message.Content.{Content}
-use Rattle.pg_dyn.specs.Message.{Leaf, Message, Part, is_zero}
-use Rattle.pg_dyn.specs.Coding.{form}
+use Rattle.pg_dyn.specs.declared.message.Content.TheVariants as contents
+use Rattle.pg_dyn.specs.declared.message.Value.{Value}
+use Rattle.pg_dyn.specs.declared.message.Value.TheVariants as values
+use Rattle.pg_dyn.specs.Message.{Leaf, Item, Message, Part, is_zero, place_of, places, with_part}
+use Rattle.pg_dyn.specs.Coding.{form, zero_leaf}
 use Rattle.pg_dyn.specs.Belonging.{LeafFits, IsMessage}
 use Rattle.pg_dyn.specs.Message as model
 use Rattle.pg_dyn.specs.Kept.{Kept, ends, KeptItem, Plain, Msg, type_of, message_of}
 use Rattle.pg_dyn.specs.Content.{same_oneof, is_rival}
-use Rattle.pg_dyn.specs.Replacing.{kept_from, is_rival_number, with_content}
-use Rattle.pg_dyn.specs.Seen.{content_seen}
+use Rattle.pg_dyn.specs.Replacing.{kept_part, kept_onto, kept_from, is_rival_number, with_content}
+use Rattle.pg_dyn.specs.Seen.{leaf_of, item_seen, content_seen}
 use Rattle.pg_dyn.specs.Setting.{settled, settled_by, IsSetTo}
-use Rattle.pg_dyn.proofs.Lists.{each_weaker, list_any_none}
+use Rattle.pg_dyn.proofs.Lists.{each_at, each_weaker, list_any_none}
 use Rattle.pg_pairs.specs.declared.choice.Choice.{Choice}
 use Rattle.pg_pairs.specs.declared.choice.Pair.{Pair}
-use Rattle.pg_pairs.specs.declared.item.Small.TheVariants.{Zero}
 use Rattle.pg_pairs.specs.Sight.{Sight, IsSight}
 use Rattle.pg_pairs.specs.Gaps.{gap_item}
 use Rattle.pg_pairs.specs.Choices.{Table, zero_counts, choices}
 use Rattle.pg_pairs.specs.Among.{IsAmong}
 use Rattle.pg_pairs.specs.Laws.{ReachedBy}
-use Rattle.pg_pairs.specs.Carried.{least_part, key_of, carried_field, carried_two, carried_of, carried, choice_child, ChildReached}
-use Rattle.pg_pairs.specs.CarriedItems.{kept_item, key_by, leaf_parts, child_parts, lost_parts, key_parts, value_parts, carried_parts, least_small, least_parts}
-use Rattle.pg_pairs.proofs.CarriedParts.{least_made, carried_made}
+use Rattle.pg_pairs.specs.Carried.{nonzero_leaf, apart_leaf, apart_item, item_by, least_leaf, least_key, least_part_of, least_part, alone, leaf_alone, child_alone, lost_onto, key_of, key_alone, value_alone, carried_field, carried_two, carried_of, carried, field_child, child_of, choice_child, ChildGiven, ChildReached}
+use Rattle.pg_pairs.specs.CarriedItems.{items_before, entries_before, content_before, content_alone, Puts}
+use Rattle.pg_pairs.specs.Comparing.{value_item}
+use Rattle.pg_pairs.proofs.CarryContents.{child_there_is}
 use Rattle.pg_pairs.proofs.LeastContents.{nonzero_is}
 use Rattle.pg_pairs.proofs.Messages.{one_found}
 use Rattle.pg_pairs.proofs.Reached.{choice_known, choices_carried}
 use Rattle.pg_dyn.proofs.PublicLaws.{contents_are_seen, fields_are_found, parts_keep_types, rivals_mutual}
 
+-- The parts of a content in a message are those that are seen of it.
+
+value_made : (number : ℕ) (key : Option Leaf) (listed : Bool) (value : Value) (later : Kept) → message_of (kept_part number key (item_seen listed value) later) ≡ with_part number key (value_item value) (message_of later)
+value_made number key listed (values.Int n) later = refl
+value_made number key listed (values.F32 bits) later = refl
+value_made number key listed (values.F64 bits) later = refl
+value_made number key listed (values.Text text) later = refl
+value_made number key listed (values.Bytes bytes) later = refl
+value_made number key listed (values.Msg child) later = refl
+
+content_made : (number : ℕ) (content : Content) (later : Kept) → message_of (kept_onto (content_seen number content) later) ≡ content_before number content (message_of later)
+content_made number (contents.One value) later = value_made number None false value later
+content_made number (contents.Many vs) later = items vs.items
+  where
+    items : (xs : List Value) → message_of (kept_onto (map (λ value. record { number = number; key = None; item = item_seen true value }) xs) later) ≡ items_before number xs (message_of later)
+    items [] = refl
+    items (value ∷ xs) =
+        value_made number None true value (kept_onto (map (λ value. record { number = number; key = None; item = item_seen true value }) xs) later)
+        ∙ ap (with_part number None (value_item value)) (items xs)
+content_made number (contents.Map es) later = entries es.items
+  where
+    entries : (xs : List (Value × Value)) → message_of (kept_onto (map (λ (e : Value × Value). record { number = number; key = Some (leaf_of e.0); item = item_seen false e.1 }) xs) later) ≡ entries_before number xs (message_of later)
+    entries [] = refl
+    entries (e ∷ xs) =
+        value_made number (Some (leaf_of e.0)) false e.1 (kept_onto (map (λ (x : Value × Value). record { number = number; key = Some (leaf_of x.0); item = item_seen false x.1 }) xs) later)
+        ∙ ap (with_part number (Some (leaf_of e.0)) (value_item e.1)) (entries xs)
+
 -- at most one part
-abbrev IsShort : List (Part KeptItem) → Type 0
+abbrev IsShort : {A : Type 0} → List A → Type 0
 IsShort [] = Unit {0}
 IsShort (p ∷ []) = Unit {0}
 IsShort (p ∷ q ∷ ps) = ⊥
 
-abbrev IsSettled : Presence → List (Part KeptItem) → Type 0
-IsSettled p ps = (is_repeated p ≡ true) ⊎ IsShort ps
+short_back : {A B : Type 0} (f : A → B) (xs : List A) → IsShort (map f xs) → IsShort xs
+short_back f [] h = tt
+short_back f (x ∷ []) h = tt
+short_back f (x ∷ y ∷ xs) h = absurd h
 
-either : (p : Presence) (b : Bool) (ps qs : List (Part KeptItem)) → IsSettled p ps → IsSettled p qs → IsSettled p (if b then ps else qs)
-either p true ps qs h k = h
-either p false ps qs h k = k
+-- A choice's message has one part, but for two zeros in a list.
 
-leaf_short : (f : FieldShape) (listed : Bool) (key leaf : Option Leaf) → IsShort (leaf_parts f listed key leaf)
-leaf_short f listed key (Some leaf) = tt
-leaf_short f listed key None = tt
+abbrev IsSettled : Presence → Message → Type 0
+IsSettled p v = (is_repeated p ≡ true) ⊎ IsShort (places v)
 
-child_short : (f : FieldShape) (listed : Bool) (key : Option Leaf) (child : Option Kept) → IsShort (child_parts f listed key child)
-child_short f listed key (Some child) = tt
-child_short f listed key None = tt
+either : (p : Presence) (b : Bool) (v w : Message) → IsSettled p v → IsSettled p w → IsSettled p (if b then v else w)
+either p true v w h k = h
+either p false v w h k = k
 
-key_short : (f : FieldShape) (key : Option Leaf) → IsShort (key_parts f key)
-key_short f (Some key) = tt
-key_short f None = tt
+alone_short : (number : ℕ) (key : Option Leaf) (item : Item) → IsShort (places (alone number key item))
+alone_short number key (model.Plain leaf) = tt
+alone_short number key (model.Msg child) = tt
 
-value_short : (f : FieldShape) (key : Leaf) (child : Option Kept) (leaf : Option Leaf) → IsShort (value_parts f key child leaf)
-value_short f key (Some child) leaf = tt
-value_short f key None leaf = leaf_short f false (Some key) leaf
+least_short : (number : ℕ) (p : Presence) (e : Element) → IsShort (places (least_part_of number p e (model.ends [])))
+least_short number p (elements.Message t) = tt
+least_short number p (elements.Scalar s) = tt
+least_short number p (elements.Enum s) = tt
 
-lost_settled : (n m : ℕ) (p q : Presence) (e d : Element) (o r : Option ℕ) → IsSettled p (lost_parts (record { number = n; presence = p; element = e; oneof = o }) (record { number = m; presence = q; element = d; oneof = r }))
-lost_settled n m presences.Implicit q e d o r = inr tt
-lost_settled n m presences.Explicit q e d o r = inr tt
-lost_settled n m (presences.Map k) q e d o r = inr tt
-lost_settled n m (presences.Repeated w) q e d o r = inl refl
+leaf_short : (number : ℕ) (key leaf : Option Leaf) → IsShort (places (leaf_alone number key leaf))
+leaf_short number key (Some leaf) = tt
+leaf_short number key None = tt
 
-carried_settled : (sight : Sight) (f g : FieldShape) (case part : ℕ) (child : Option Kept) → IsSettled f.presence (carried_parts sight f g case part child)
+child_short : (number : ℕ) (key : Option Leaf) (child : Option Message) → IsShort (places (child_alone number key child))
+child_short number key (Some child) = tt
+child_short number key None = tt
+
+key_short : (number : ℕ) (e : Element) (key : Option Leaf) → IsShort (places (key_alone number e key))
+key_short number e (Some key) = alone_short number (Some key) (item_by (λ x. zero_leaf x) e)
+key_short number e None = tt
+
+value_short : (number : ℕ) (key : Leaf) (child : Option Message) (leaf : Option Leaf) → IsShort (places (value_alone number key child leaf))
+value_short number key (Some child) leaf = tt
+value_short number key None leaf = leaf_short number (Some key) leaf
+
+lost_settled : (number : ℕ) (p q : Presence) (zero : Item) → IsSettled p (lost_onto number p q zero)
+lost_settled number presences.Implicit q zero = inr (alone_short number None zero)
+lost_settled number presences.Explicit q zero = inr (alone_short number None zero)
+lost_settled number (presences.Map k) q zero = inr (alone_short number None zero)
+lost_settled number (presences.Repeated w) q zero = inl refl
+
+carried_settled : (sight : Sight) (f g : FieldShape) (case part : ℕ) (child : Option Message) → IsSettled f.presence (carried_field sight f g case part child)
 carried_settled sight f g case part child =
-    either f.presence (nat_eq case 1) _ _ (inr tt)
-    (either f.presence (nat_eq case 2) _ _ (inr (leaf_short f (is_repeated f.presence) None (gap_item sight (zero_counts f g) f.element g.element)))
-    (either f.presence (nat_eq case 3) _ _ (inr (child_short f (is_repeated f.presence) None child))
-    (either f.presence (nat_eq case 4) _ _ (lost_settled f.number g.number f.presence g.presence f.element g.element f.oneof g.oneof)
-    (either f.presence (nat_eq part 1) _ _ (inr (key_short f (gap_item sight true (elements.Scalar (key_of f.presence)) (elements.Scalar (key_of g.presence)))))
-    (either f.presence (nat_eq part 2) _ _ (inr (value_short f _ child (gap_item sight true f.element g.element))) (inr tt))))))
+    either f.presence (nat_eq case 1) _ _
+    (either f.presence (zero_counts f g) _ _ (inr (least_short f.number f.presence f.element)) (inr (alone_short f.number (least_key f.presence) (item_by (λ x. nonzero_leaf x) f.element))))
+    (either f.presence (nat_eq case 2) _ _ (inr (leaf_short f.number None (gap_item sight (zero_counts f g) f.element g.element)))
+    (either f.presence (nat_eq case 3) _ _ (inr (child_short f.number None child))
+    (either f.presence (nat_eq case 4) _ _ (lost_settled f.number f.presence g.presence (item_by (λ x. zero_leaf x) f.element))
+    (either f.presence (nat_eq part 1) _ _ (inr (key_short f.number f.element (gap_item sight true (elements.Scalar (key_of f.presence)) (elements.Scalar (key_of g.presence)))))
+    (either f.presence (nat_eq part 2) _ _ (inr (value_short f.number (zero_leaf (form (elements.Scalar (key_of f.presence)))) child (gap_item sight true f.element g.element)))
+    (inr (alone_short f.number (Some (apart_leaf (elements.Scalar (key_of f.presence)) (elements.Scalar (key_of g.presence)))) (apart_item f.element g.element))))))))
+
+-- whether the first part is a zero
+abbrev first_is_zero : Message → Bool
+first_is_zero (model.ends unknown) = false
+first_is_zero (model.holds number key leaf later) = is_zero leaf
+first_is_zero (model.nests number key child later) = false
 
 module _ (shape : Shape) (type : TypeId) where
   abbrev made : List (Part KeptItem) → Message
   made ps = message_of (kept_from type ps [])
+
+  place_made : (number : ℕ) (key : Option Leaf) (item : KeptItem) (later : Kept) → places (message_of (kept_part number key item later)) ≡ record { number = number; key = key } ∷ places (message_of later)
+  place_made number key (Plain listed leaf) later = refl
+  place_made number key (Msg listed child) later = refl
+
+  places_made : (ps : List (Part KeptItem)) → places (made ps) ≡ map place_of ps
+  places_made [] = refl
+  places_made (p ∷ ps) = place_made p.number p.key p.item (kept_from type ps []) ∙ ap (λ xs. place_of p ∷ xs) (places_made ps)
+
+  made_short : (ps : List (Part KeptItem)) (v : Message) → made ps ≡ v → IsShort (places v) → IsShort ps
+  made_short ps v is short = short_back place_of ps (subst IsShort (sym (ap places is) ∙ places_made ps) short)
+
+  -- A content that is short or in a list stays as it is where it is set, but for a zero in an implicit field.
+  settled_same : (p : Presence) (ps : List (Part KeptItem)) → IsSettled p (made ps) → (p ≡ presences.Implicit → first_is_zero (made ps) ≡ false) → settled_by p ps ≡ ps
+  settled_same presences.Implicit ps (inl h) nonzero = absurd (cc)
+  settled_same presences.Implicit ps (inr h) nonzero = implicit ps (made_short ps (made ps) refl h) (nonzero refl)
+    where
+      item : (number : ℕ) (key : Option Leaf) (x : KeptItem) → first_is_zero (message_of (kept_part number key x (ends type []))) ≡ false → settled_by presences.Implicit (record { number = number; key = key; item = x } ∷ []) ≡ record { number = number; key = key; item = x } ∷ []
+      item number key (Plain listed leaf) zero = rw zero refl
+      item number key (Msg listed child) zero = refl
+
+      implicit : (qs : List (Part KeptItem)) → IsShort qs → first_is_zero (made qs) ≡ false → settled_by presences.Implicit qs ≡ qs
+      implicit [] short zero = refl
+      implicit (p ∷ []) short zero = item p.number p.key p.item zero
+      implicit (p ∷ q ∷ qs) short zero = absurd short
+  settled_same presences.Explicit ps h nonzero = refl
+  settled_same (presences.Repeated w) ps h nonzero = refl
+  settled_same (presences.Map k) ps (inl h) nonzero = absurd (cc)
+  settled_same (presences.Map k) ps (inr h) nonzero = entry ps (made_short ps (made ps) refl h)
+    where
+      entry : (qs : List (Part KeptItem)) → IsShort qs → settled_by (presences.Map k) qs ≡ qs
+      entry [] short = refl
+      entry (p ∷ []) short = refl
+      entry (p ∷ q ∷ qs) short = absurd short
 
   -- an implicit field's leaf isn't zero
   not_zero_at : (number : ℕ) (e : Element) (o : Option ℕ) (leaf : Leaf) → LeafFits (record { number = number; presence = presences.Implicit; element = e; oneof = o }) leaf → is_zero leaf ≡ false
@@ -89,76 +177,69 @@ module _ (shape : Shape) (type : TypeId) where
   not_zero_at number (elements.Scalar s) o leaf fits = fits.1
   not_zero_at number (elements.Enum e) o leaf fits = fits.1
 
-  -- A message's content stays as it is where it is set.
-  settled_same : (f : FieldShape) (ps : List (Part KeptItem)) → field_at (fields shape type) f.number ≡ Some f → AllByRecursion (λ (p : Part KeptItem). p.number ≡ f.number) ps → IsSettled f.presence ps → IsMessage shape type (made ps) → settled f ps ≡ ps
-  settled_same f ps found numbers short is = of f.presence refl short
+  message_nonzero : (f : FieldShape) (ps : List (Part KeptItem)) → field_at (fields shape type) f.number ≡ Some f → AllByRecursion (λ (p : Part KeptItem). p.number ≡ f.number) ps → IsMessage shape type (made ps) → f.presence ≡ presences.Implicit → first_is_zero (made ps) ≡ false
+  message_nonzero f [] found own m implicit = refl
+  message_nonzero f (p ∷ ps) found own m implicit = item p.item m
     where
-      implicit : (qs : List (Part KeptItem)) → f.presence ≡ presences.Implicit → AllByRecursion (λ (p : Part KeptItem). p.number ≡ f.number) qs → IsShort qs → IsMessage shape type (made qs) → settled_by presences.Implicit qs ≡ qs
-      implicit [] at own h m = refl
-      implicit (p ∷ q ∷ qs) at own h m = absurd h
-      implicit (p ∷ []) at own h m = item p.item refl
-        where
-          item : (x : KeptItem) → p.item ≡ x → settled_by presences.Implicit (p ∷ []) ≡ p ∷ []
-          item (Msg listed child) same = subst (λ (y : KeptItem). settled_by presences.Implicit (record { number = p.number; key = p.key; item = y } ∷ []) ≡ record { number = p.number; key = p.key; item = y } ∷ []) (sym same) refl
-          item (Plain listed leaf) same =
-              let m' : IsMessage shape type (made (record { number = p.number; key = p.key; item = Plain listed leaf } ∷ [])) = subst (λ (y : KeptItem). IsMessage shape type (made (record { number = p.number; key = p.key; item = y } ∷ []))) same m in
-              let field_is : m'.0.field ≡ f = one_found (fields shape type) f.number m'.0.field f (ap (field_at (fields shape type)) (sym own.0) ∙ m'.0.found) found in
-              let fits : LeafFits f leaf = subst (λ (g : FieldShape). LeafFits g leaf) field_is m'.1 in
-              let fits_at : LeafFits (record { number = f.number; presence = presences.Implicit; element = f.element; oneof = f.oneof }) leaf = subst (λ q. LeafFits (record { number = f.number; presence = q; element = f.element; oneof = f.oneof }) leaf) at fits in
-              let zero : is_zero leaf ≡ false = not_zero_at f.number f.element f.oneof leaf fits_at in
-              subst (λ (y : KeptItem). settled_by presences.Implicit (record { number = p.number; key = p.key; item = y } ∷ []) ≡ record { number = p.number; key = p.key; item = y } ∷ []) (sym same) (rw zero)
-
-      map : (qs : List (Part KeptItem)) (k : _) → IsShort qs → settled_by (presences.Map k) qs ≡ qs
-      map [] k h = refl
-      map (p ∷ []) k h = refl
-      map (p ∷ q ∷ qs) k h = absurd h
-
-      of : (q : Presence) → f.presence ≡ q → IsSettled q ps → settled_by f.presence ps ≡ ps
-      of presences.Implicit at (inl h) = absurd (cc)
-      of presences.Implicit at (inr h) = subst (λ x. settled_by x ps ≡ ps) (sym at) (implicit ps at numbers h is)
-      of presences.Explicit at h = subst (λ x. settled_by x ps ≡ ps) (sym at) refl
-      of (presences.Repeated w) at h = subst (λ x. settled_by x ps ≡ ps) (sym at) refl
-      of (presences.Map k) at (inl h) = absurd (cc)
-      of (presences.Map k) at (inr h) = subst (λ x. settled_by x ps ≡ ps) (sym at) (map ps k h)
+      item : (x : KeptItem) → IsMessage shape type (message_of (kept_part p.number p.key x (kept_from type ps []))) → first_is_zero (message_of (kept_part p.number p.key x (kept_from type ps []))) ≡ false
+      item (Msg listed child) m = refl
+      item (Plain listed leaf) m =
+          let field_is : m.0.field ≡ f = one_found (fields shape type) f.number m.0.field f (ap (field_at (fields shape type)) (sym own.0) ∙ m.0.found) found in
+          let fits : LeafFits f leaf = subst (λ (g : FieldShape). LeafFits g leaf) field_is m.1 in
+          not_zero_at f.number f.element f.oneof leaf (subst (λ q. LeafFits (record { number = f.number; presence = q; element = f.element; oneof = f.oneof }) leaf) implicit fits)
 
   with_content_empty : (fs : List FieldShape) (f : FieldShape) (qs : List (Part KeptItem)) → with_content fs f qs (ends type []) ≡ kept_from type qs []
   with_content_empty fs f qs = ap (λ x. kept_from type x []) (append-nil qs)
 
--- A choice of one field.
-pub carried_single : (sight : Sight) (old new : Shape) (table : Table) → IsSight sight → IsShape old → IsShape new → (pair : Pair) (c : Choice) → IsAmong c (choices sight table old new pair) → nat_eq c.case 6 ≡ false → (f g : FieldShape) → field_at (fields old pair.old) c.number ≡ Some f → field_at (fields new pair.new) c.number ≡ Some g → f.number ≡ c.number → (content : Content) (child : Option Kept) → content_seen c.number content ≡ carried_parts sight f g c.case c.part child → (m : Kept) → IsSetTo old c.number content (ends pair.old []) m → ChildReached sight old new table (choice_child old new pair c) (option_map message_of child) → ReachedBy sight old new pair (message_of m) c.cost
-carried_single sight old new table law shape_old shape_new pair c among single f g found at own content child seen m (f', found', m_is) reached =
-    let fs = fields old pair.old in
-    let ps = carried_parts sight f g c.case c.part child in
-    let field_is : f' ≡ f = one_found (fields old pair.old) c.number f' f found' found in
-    let carried_is : carried sight old new pair c (option_map message_of child) ≡ carried_field sight f g c.case c.part (option_map message_of child) =
-    ap₂ (λ x y. carried_of sight x y (field_at (fields old pair.old) c.part) c (option_map message_of child)) found at
-    ∙ ap (λ (b : Bool). if b then carried_two f (field_at (fields old pair.old) c.part) else carried_field sight f g c.case c.part (option_map message_of child)) single in
-    let made_is : carried sight old new pair c (option_map message_of child) ≡ made old pair.old (carried_parts sight f g c.case c.part child) =
-    carried_is ∙ sym (carried_made pair.old sight f g c.case c.part child) in
-    let by : ReachedBy sight old new pair (made old pair.old (carried_parts sight f g c.case c.part child)) c.cost =
-    subst (λ v. ReachedBy sight old new pair v c.cost) made_is (choices_carried sight old new table law shape_old shape_new pair c among (option_map message_of child) reached) in
-    let numbers : AllByRecursion (λ (p : Part KeptItem). p.number ≡ f.number) (carried_parts sight f g c.case c.part child) =
-    subst (λ n. AllByRecursion (λ (p : Part KeptItem). p.number ≡ n) (carried_parts sight f g c.case c.part child)) (sym own) (subst (AllByRecursion (λ (p : Part KeptItem). p.number ≡ c.number)) seen (contents_are_seen.0 c.number content)) in
-    let found_own : field_at (fields old pair.old) f.number ≡ Some f = ap (field_at (fields old pair.old)) own ∙ found in
-    let same : settled f (carried_parts sight f g c.case c.part child) ≡ carried_parts sight f g c.case c.part child =
-    settled_same old pair.old f (carried_parts sight f g c.case c.part child) found_own numbers (carried_settled sight f g c.case c.part child) by.0.is_message in
-    let m_made : m ≡ kept_from pair.old (carried_parts sight f g c.case c.part child) [] =
-    m_is ∙ ap₂ (λ x qs. with_content (fields old pair.old) x (settled x qs) (ends pair.old [])) field_is seen
-    ∙ ap (λ qs. with_content (fields old pair.old) f qs (ends pair.old [])) same ∙ with_content_empty old pair.old (fields old pair.old) f (carried_parts sight f g c.case c.part child) in
-    subst (λ x. ReachedBy sight old new pair (message_of x) c.cost) (sym m_made) by
+module _ (sight : Sight) (old new : Shape) (table : Table) (law : IsSight sight) (shape_old : IsShape old) (shape_new : IsShape new) (pair : Pair) (c : Choice) (among : IsAmong c (choices sight table old new pair)) where
+  -- A choice of one field: its content stays as it is where it is set, and makes the choice's message.
+  module _ (single : nat_eq c.case 6 ≡ false) (f g : FieldShape) (found : field_at (fields old pair.old) c.number ≡ Some f) (at : field_at (fields new pair.new) c.number ≡ Some g) (own : f.number ≡ c.number) where
+    carried_is : (child : Option Message) → carried sight old new pair c child ≡ carried_field sight f g c.case c.part child
+    carried_is child =
+        ap₂ (λ x y. carried_of sight x y (field_at (fields old pair.old) c.part) c child) found at
+        ∙ ap (λ (b : Bool). if b then carried_two f (field_at (fields old pair.old) c.part) else carried_field sight f g c.case c.part child) single
+
+    child_is : choice_child old new pair c ≡ field_child f g c.case c.part
+    child_is = ap₂ (λ x y. child_of x y c) found at
+
+    -- an implicit field holds no message
+    not_implicit : (type : TypeId) → f.element ≡ elements.Message type → f.presence ≡ presences.Implicit → ⊥
+    not_implicit type element implicit =
+        let fits = (each_at (IsField (length old)) (fields old pair.old) c.number f found (fields_are_found.0 old pair.old shape_old).each).presence_fits in
+        subst₂ (λ p e. PresenceFits p e f.oneof) implicit element fits
+
+    -- the content of an implicit field isn't zero
+    nonzero : (content : Content) (child : Option Kept) → made old pair.old (content_seen c.number content) ≡ carried_field sight f g c.case c.part (option_map message_of child) → ChildGiven old (choice_child old new pair c) child → f.presence ≡ presences.Implicit → first_is_zero (made old pair.old (content_seen c.number content)) ≡ false
+    nonzero content child is given implicit = of (field_child f g c.case c.part) child refl is (subst (λ o. ChildGiven old o child) child_is given)
+      where
+        of : (wanted : Option Pair) (o : Option Kept) → field_child f g c.case c.part ≡ wanted → made old pair.old (content_seen c.number content) ≡ carried_field sight f g c.case c.part (option_map message_of o) → ChildGiven old wanted o → first_is_zero (made old pair.old (content_seen c.number content)) ≡ false
+        of None None none is given =
+            message_nonzero old pair.old f (content_seen c.number content) (ap (field_at (fields old pair.old)) own ∙ found)
+            (subst (λ n. AllByRecursion (λ (p : Part KeptItem). p.number ≡ n) (content_seen c.number content)) (sym own) (contents_are_seen.0 c.number content))
+            (subst (λ v. ReachedBy sight old new pair v c.cost) (carried_is None ∙ sym is)
+            (choices_carried sight old new table law shape_old shape_new pair c among None (subst (λ o. ChildReached sight old new table o None) (sym (child_is ∙ none)) tt))).0.is_message implicit
+        of None (Some m) none is given = absurd given
+        of (Some p) None some is given = absurd given
+        of (Some p) (Some m) some is given = absurd (not_implicit p.old (child_there_is f g c.case c.part p some).1 implicit)
+
+    pub carried_single : (content : Content) (child : Option Kept) → content_alone c.number content ≡ carried_field sight f g c.case c.part (option_map message_of child) → (m : Kept) → IsSetTo old c.number content (ends pair.old []) m → ChildGiven old (choice_child old new pair c) child → message_of m ≡ carried sight old new pair c (option_map message_of child)
+    carried_single content child is m (f', found', m_is) given =
+        let ps = content_seen c.number content in
+        let field_is : f' ≡ f = one_found (fields old pair.old) c.number f' f found' found in
+        let made_is : made old pair.old ps ≡ carried_field sight f g c.case c.part (option_map message_of child) = content_made c.number content (ends pair.old []) ∙ is in
+        let stays : settled f ps ≡ ps =
+        settled_same old pair.old f.presence ps (subst (IsSettled f.presence) (sym made_is) (carried_settled sight f g c.case c.part (option_map message_of child))) (nonzero content child made_is given) in
+        let m_made : m ≡ kept_from pair.old ps [] =
+        m_is ∙ ap (λ x. with_content (fields old pair.old) x (settled x ps) (ends pair.old [])) field_is
+        ∙ ap (λ qs. with_content (fields old pair.old) f qs (ends pair.old [])) stays ∙ with_content_empty old pair.old (fields old pair.old) f ps in
+        ap message_of m_made ∙ made_is ∙ sym (carried_is (option_map message_of child))
 
 -- The least contents of two fields.
 
-settled_least_at : (n : ℕ) (p : Presence) (e : Element) (o : Option ℕ) → settled (record { number = n; presence = p; element = e; oneof = o }) (least_parts (record { number = n; presence = p; element = e; oneof = o })) ≡ least_parts (record { number = n; presence = p; element = e; oneof = o })
-settled_least_at n presences.Implicit (elements.Message t) o = refl
-settled_least_at n presences.Implicit (elements.Scalar s) o = rw (nonzero_is (form (elements.Scalar s)))
-settled_least_at n presences.Implicit (elements.Enum e) o = rw (nonzero_is (form (elements.Enum e)))
-settled_least_at n presences.Explicit e o = refl
-settled_least_at n (presences.Repeated w) e o = refl
-settled_least_at n (presences.Map k) e o = refl
-
-settled_least : (f : FieldShape) → settled f (least_parts f) ≡ least_parts f
-settled_least f = settled_least_at f.number f.presence f.element f.oneof
+least_nonzero : (number : ℕ) (p : Presence) (e : Element) → p ≡ presences.Implicit → first_is_zero (least_part_of number p e (model.ends [])) ≡ false
+least_nonzero number p (elements.Message t) implicit = refl
+least_nonzero number p (elements.Scalar s) implicit = ap (λ q. is_zero (least_leaf q (elements.Scalar s))) implicit ∙ nonzero_is (form (elements.Scalar s))
+least_nonzero number p (elements.Enum s) implicit = ap (λ q. is_zero (least_leaf q (elements.Enum s))) implicit ∙ nonzero_is (form (elements.Enum s))
 
 -- two oneofs that aren't one, the other way round
 apart_sym : (a b : Option ℕ) → same_oneof a b ≡ false → same_oneof b a ≡ false
@@ -184,54 +265,43 @@ module _ (type : TypeId) where
   with_content_behind fs e number key (Msg listed child) qs rival below above =
       rw (rival) (rw (below, above) (ap (λ x. kept_from type (record { number = number; key = key; item = Msg listed child } ∷ x) []) (append-nil qs)))
 
-pub carried_double : (sight : Sight) (old new : Shape) (table : Table) → IsSight sight → IsShape old → IsShape new → (pair : Pair) (c : Choice) → IsAmong c (choices sight table old new pair) → nat_eq c.case 6 ≡ true → (f e g : FieldShape) → field_at (fields old pair.old) c.number ≡ Some f → field_at (fields old pair.old) c.part ≡ Some e → field_at (fields new pair.new) c.number ≡ Some g → f.number ≡ c.number → e.number ≡ c.part → (first second : Content) (child : Option Kept) → content_seen c.number first ≡ least_parts f → content_seen c.part second ≡ least_parts e → (m n : Kept) → IsSetTo old c.number first (ends pair.old []) m → IsSetTo old c.part second m n → ChildReached sight old new table (choice_child old new pair c) (option_map message_of child) → ReachedBy sight old new pair (message_of n) c.cost
-carried_double sight old new table law shape_old shape_new pair c among six f e g found found_e at own own_e first second child seen seen_e m n (f', found', m_is) (e', found_e', n_is) reached =
-    let type_is : type_of m ≡ pair.old = ap type_of (m_is ∙ with_content_empty old pair.old (fields old pair.old) f' (settled f' (content_seen c.number first))) ∙ parts_keep_types.0 (settled f' (content_seen c.number first)) (ends pair.old []) in
-    let (below, apart) = (choice_known sight law old new shape_old shape_new table pair c among).0 six in
-    let rising = (fields_are_found.0 old pair.old shape_old).rising in
-    let first_is : f' ≡ f = one_found (fields old pair.old) c.number f' f found' found in
-    let m_made : m ≡ kept_from pair.old (least_parts f) [] =
-    m_is ∙ ap₂ (λ x qs. with_content (fields old pair.old) x (settled x qs) (ends pair.old [])) first_is seen
-    ∙ ap (λ qs. with_content (fields old pair.old) f qs (ends pair.old [])) (settled_least f) ∙ with_content_empty old pair.old (fields old pair.old) f (least_parts f) in
-    let second_is : e' ≡ e = one_found (fields old pair.old) c.part e' e (ap (λ t. field_at (fields old t) c.part) (sym type_is) ∙ found_e') found_e in
-    let not_in : is_rival_number (fields old pair.old) e f.number ≡ false =
-    not_rival (fields old pair.old) rising f e (ap (field_at (fields old pair.old)) own ∙ found) (apart_sym f.oneof e.oneof (apart f e found found_e)) in
-    let less : f.number < e.number = omega (arith, below, own, own_e) in
-    let behind = with_content_behind pair.old (fields old pair.old) e f.number (key_by Zero f.presence) (kept_item (least_small f.presence) (is_repeated f.presence) f.element) (least_parts e) not_in (lt-ltb f.number e.number less) (le-ltb e.number f.number (omega (arith, less))) in
-    let n_made : n ≡ kept_from pair.old (record { number = f.number; key = key_by Zero f.presence; item = kept_item (least_small f.presence) (is_repeated f.presence) f.element } ∷ least_parts e) [] =
-    n_is ∙ ap (λ t. with_content (fields old t) e' (settled e' (content_seen c.part second)) m) type_is
-    ∙ ap₂ (λ x qs. with_content (fields old pair.old) x (settled x qs) m) second_is seen_e
-    ∙ ap₂ (λ qs x. with_content (fields old pair.old) e qs x) (settled_least e) m_made ∙ behind in
-    let carried_is : carried sight old new pair c (option_map message_of child) ≡ least_part f (least_part e (model.ends [])) =
-    ap₂ (λ x y. carried_of sight x y (field_at (fields old pair.old) c.part) c (option_map message_of child)) found at
-    ∙ ap (λ (b : Bool). if b then carried_two f (field_at (fields old pair.old) c.part) else carried_field sight f g c.case c.part (option_map message_of child)) six
-    ∙ ap (carried_two f) found_e in
-    let made_is : message_of n ≡ carried sight old new pair c (option_map message_of child) =
-    ap message_of n_made ∙ least_made f (kept_from pair.old (least_parts e) []) ∙ ap (least_part f) (least_made e (ends pair.old [])) ∙ sym carried_is in
-    subst (λ v. ReachedBy sight old new pair v c.cost) (sym made_is) (choices_carried sight old new table law shape_old shape_new pair c among (option_map message_of child) reached)
+  behind_short : (fs : List FieldShape) (e : FieldShape) (number : ℕ) (ps qs : List (Part KeptItem)) → IsShort ps → AllByRecursion (λ (p : Part KeptItem). p.number ≡ number) ps → is_rival_number fs e number ≡ false → nat_lt number e.number ≡ true → nat_lt e.number number ≡ false → with_content fs e qs (kept_from type ps []) ≡ kept_onto ps (kept_from type qs [])
+  behind_short fs e number [] qs short own rival below above = ap (λ x. kept_from type x []) (append-nil qs)
+  behind_short fs e number (p ∷ []) qs short own rival below above =
+      with_content_behind fs e p.number p.key p.item qs (subst (λ n. is_rival_number fs e n ≡ false) (sym own.0) rival) (subst (λ n. nat_lt n e.number ≡ true) (sym own.0) below) (subst (λ n. nat_lt e.number n ≡ false) (sym own.0) above)
+  behind_short fs e number (p ∷ q ∷ ps) qs short own rival below above = absurd short
 
--- A choice of a field that isn't there would be reached by the empty message.
+module _ (sight : Sight) (old new : Shape) (table : Table) (law : IsSight sight) (shape_old : IsShape old) (shape_new : IsShape new) (pair : Pair) (c : Choice) (among : IsAmong c (choices sight table old new pair)) where
+  -- the least content of a field stays as it is where it is set
+  least_stays : (f : FieldShape) (ps : List (Part KeptItem)) → made old pair.old ps ≡ least_part f (model.ends []) → settled f ps ≡ ps
+  least_stays f ps is =
+      settled_same old pair.old f.presence ps (inr (subst (λ v. IsShort (places v)) (sym is) (least_short f.number f.presence f.element)))
+      (λ implicit. ap first_is_zero is ∙ least_nonzero f.number f.presence f.element implicit)
 
-pub carried_no_old : (sight : Sight) (old new : Shape) (table : Table) → IsSight sight → IsShape old → IsShape new → (pair : Pair) (c : Choice) → IsAmong c (choices sight table old new pair) → field_at (fields old pair.old) c.number ≡ None → (child : Option Message) → ChildReached sight old new table (choice_child old new pair c) child → ReachedBy sight old new pair (message_of (ends pair.old [])) c.cost
-carried_no_old sight old new table law shape_old shape_new pair c among none child reached =
-    subst (λ v. ReachedBy sight old new pair v c.cost) (ap (λ x. carried_of sight x (field_at (fields new pair.new) c.number) (field_at (fields old pair.old) c.part) c child) none)
-    (choices_carried sight old new table law shape_old shape_new pair c among child reached)
-
-pub carried_no_new : (sight : Sight) (old new : Shape) (table : Table) → IsSight sight → IsShape old → IsShape new → (pair : Pair) (c : Choice) → IsAmong c (choices sight table old new pair) → field_at (fields new pair.new) c.number ≡ None → (child : Option Message) → ChildReached sight old new table (choice_child old new pair c) child → ReachedBy sight old new pair (message_of (ends pair.old [])) c.cost
-carried_no_new sight old new table law shape_old shape_new pair c among none child reached =
-    subst (λ v. ReachedBy sight old new pair v c.cost) (of (field_at (fields old pair.old) c.number) ∙ refl)
-    (choices_carried sight old new table law shape_old shape_new pair c among child reached)
-  where
-    of : (o : Option FieldShape) → carried_of sight o (field_at (fields new pair.new) c.number) (field_at (fields old pair.old) c.part) c child ≡ model.ends []
-    of (Some f) = ap (λ x. carried_of sight (Some f) x (field_at (fields old pair.old) c.part) c child) none
-    of None = refl
-
-pub carried_no_part : (sight : Sight) (old new : Shape) (table : Table) → IsSight sight → IsShape old → IsShape new → (pair : Pair) (c : Choice) → IsAmong c (choices sight table old new pair) → nat_eq c.case 6 ≡ true → field_at (fields old pair.old) c.part ≡ None → (child : Option Message) → ChildReached sight old new table (choice_child old new pair c) child → ReachedBy sight old new pair (message_of (ends pair.old [])) c.cost
-carried_no_part sight old new table law shape_old shape_new pair c among six none child reached =
-    subst (λ v. ReachedBy sight old new pair v c.cost) (of (field_at (fields old pair.old) c.number) (field_at (fields new pair.new) c.number))
-    (choices_carried sight old new table law shape_old shape_new pair c among child reached)
-  where
-    of : (o p : Option FieldShape) → carried_of sight o p (field_at (fields old pair.old) c.part) c child ≡ model.ends []
-    of (Some f) (Some g) = ap (λ (b : Bool). if b then carried_two f (field_at (fields old pair.old) c.part) else carried_field sight f g c.case c.part child) six ∙ ap (carried_two f) none
-    of (Some f) None = refl
-    of None p = refl
+  pub carried_double : nat_eq c.case 6 ≡ true → (f e g : FieldShape) → field_at (fields old pair.old) c.number ≡ Some f → field_at (fields old pair.old) c.part ≡ Some e → field_at (fields new pair.new) c.number ≡ Some g → f.number ≡ c.number → e.number ≡ c.part → (first second : Content) (child : Option Message) → Puts c.number first (least_part f) → Puts c.part second (least_part e) → (m n : Kept) → IsSetTo old c.number first (ends pair.old []) m → IsSetTo old c.part second m n → message_of n ≡ carried sight old new pair c child
+  carried_double six f e g found found_e at own own_e first second child puts puts_e m n (f', found', m_is) (e', found_e', n_is) =
+      let ps = content_seen c.number first in
+      let qs = content_seen c.part second in
+      let made_ps : made old pair.old ps ≡ least_part f (model.ends []) = content_made c.number first (ends pair.old []) ∙ puts (model.ends []) in
+      let made_qs : made old pair.old qs ≡ least_part e (model.ends []) = content_made c.part second (ends pair.old []) ∙ puts_e (model.ends []) in
+      let (below, apart) = (choice_known sight law old new shape_old shape_new table pair c among).0 six in
+      let rising = (fields_are_found.0 old pair.old shape_old).rising in
+      let first_is : f' ≡ f = one_found (fields old pair.old) c.number f' f found' found in
+      let m_made : m ≡ kept_from pair.old ps [] =
+      m_is ∙ ap (λ x. with_content (fields old pair.old) x (settled x ps) (ends pair.old [])) first_is
+      ∙ ap (λ xs. with_content (fields old pair.old) f xs (ends pair.old [])) (least_stays f ps made_ps) ∙ with_content_empty old pair.old (fields old pair.old) f ps in
+      let type_is : type_of m ≡ pair.old = ap type_of m_made ∙ parts_keep_types.0 ps (ends pair.old []) in
+      let second_is : e' ≡ e = one_found (fields old pair.old) c.part e' e (ap (λ t. field_at (fields old t) c.part) (sym type_is) ∙ found_e') found_e in
+      let not_in : is_rival_number (fields old pair.old) e c.number ≡ false =
+      subst (λ k. is_rival_number (fields old pair.old) e k ≡ false) own (not_rival (fields old pair.old) rising f e (ap (field_at (fields old pair.old)) own ∙ found) (apart_sym f.oneof e.oneof (apart f e found found_e))) in
+      let less : c.number < e.number = omega (arith, below, own_e) in
+      let behind = behind_short pair.old (fields old pair.old) e c.number ps qs (made_short old pair.old ps (least_part f (model.ends [])) made_ps (least_short f.number f.presence f.element)) (contents_are_seen.0 c.number first) not_in (lt-ltb c.number e.number less) (le-ltb e.number c.number (omega (arith, less))) in
+      let n_made : n ≡ kept_onto ps (kept_from pair.old qs []) =
+      n_is ∙ ap (λ t. with_content (fields old t) e' (settled e' qs) m) type_is
+      ∙ ap (λ x. with_content (fields old pair.old) x (settled x qs) m) second_is
+      ∙ ap₂ (λ xs x. with_content (fields old pair.old) e xs x) (least_stays e qs made_qs) m_made ∙ behind in
+      let carried_is : carried sight old new pair c child ≡ least_part f (least_part e (model.ends [])) =
+      ap₂ (λ x y. carried_of sight x y (field_at (fields old pair.old) c.part) c child) found at
+      ∙ ap (λ (b : Bool). if b then carried_two f (field_at (fields old pair.old) c.part) else carried_field sight f g c.case c.part child) six
+      ∙ ap (carried_two f) found_e in
+      ap message_of n_made ∙ content_made c.number first (kept_from pair.old qs []) ∙ puts (made old pair.old qs) ∙ ap (least_part f) made_qs ∙ sym carried_is

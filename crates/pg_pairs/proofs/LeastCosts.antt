@@ -138,28 +138,28 @@ met-offered number case part (Some m) (Some n) some le = met-one number case par
 
 -- The parts of a field's choices.
 
-abbrev gap_choice : Sight → FieldShape → FieldShape → List Choice
+abbrev pub gap_choice : Sight → FieldShape → FieldShape → List Choice
 gap_choice sight f g = choice_of f.number 2 0 (option_map (one_item f) (gap_body sight (zero_counts f g) f.element g.element))
 
-abbrev child_choice : Table → FieldShape → FieldShape → List Choice
+abbrev pub child_choice : Table → FieldShape → FieldShape → List Choice
 child_choice table f g = choice_of f.number 3 0 (option_map (one_item f) (child_body table f.element g.element))
 
-abbrev list_choice : FieldShape → FieldShape → List Choice
+abbrev pub list_choice : FieldShape → FieldShape → List Choice
 list_choice f g = choice_of f.number 4 0 (singular_cost f g)
 
-abbrev like_choices : Sight → Table → FieldShape → FieldShape → List Choice
+abbrev pub like_choices : Sight → Table → FieldShape → FieldShape → List Choice
 like_choices sight table f g = gap_choice sight f g ++ child_choice table f g ++ list_choice f g
 
-abbrev key_choice : Sight → FieldShape → Scalar → Scalar → List Choice
+abbrev pub key_choice : Sight → FieldShape → Scalar → Scalar → List Choice
 key_choice sight f k l = choice_of f.number 5 1 (option_map (λ body. entry_cost f.number body (least_body f.element)) (gap_body sight true (elements.Scalar k) (elements.Scalar l)))
 
-abbrev value_choice : Sight → FieldShape → FieldShape → List Choice
+abbrev pub value_choice : Sight → FieldShape → FieldShape → List Choice
 value_choice sight f g = choice_of f.number 5 2 (option_map (one_item f) (gap_body sight true f.element g.element))
 
-abbrev map_child_choice : Table → FieldShape → FieldShape → List Choice
+abbrev pub map_child_choice : Table → FieldShape → FieldShape → List Choice
 map_child_choice table f g = choice_of f.number 5 2 (option_map (one_item f) (child_body table f.element g.element))
 
-abbrev like_map_choices : Sight → Table → FieldShape → FieldShape → Scalar → Scalar → List Choice
+abbrev pub like_map_choices : Sight → Table → FieldShape → FieldShape → Scalar → Scalar → List Choice
 like_map_choices sight table f g k l = key_choice sight f k l ++ value_choice sight f g ++ map_child_choice table f g
 
 -- The choices of a pair under two tables, of which the first is no higher.
@@ -279,7 +279,7 @@ met-affordable ds (c ∷ cs) h =
 
 -- The cheapest of a list.
 
-abbrev cost_of : Option Choice → Option ℕ
+abbrev pub cost_of : Option Choice → Option ℕ
 cost_of o = option_map (λ (c : Choice). c.cost) o
 
 -- the cheaper of two is one of them, and costs no more than either

@@ -58,3 +58,7 @@ pub mod SameMessages
 pub mod BreakSteps
 pub mod TakenItems
 pub mod CarryContents
+pub mod EdgeCosts
+pub mod EdgeLaws
+pub mod ChoicePlaces
+pub mod SameLengths

@@ -6,7 +6,7 @@ use Rattle.pg_schema.specs.Shape.{Shape, FieldShape, PresenceFits, IsField, IsSh
 use Rattle.pg_dyn.specs.Message.{Message}
 use Rattle.pg_dyn.specs.Content.{same_oneof}
 use Rattle.pg_dyn.specs.Encoding.{cap}
-use Rattle.pg_dyn.proofs.Lists.{each-append, each_weaker, each_at}
+use Rattle.pg_dyn.proofs.Lists.{each-append, each_both, each_weaker, each_at}
 use Rattle.pg_pairs.specs.declared.choice.Choice.{Choice}
 use Rattle.pg_pairs.specs.declared.choice.Pair.{Pair}
 use Rattle.pg_pairs.specs.Sight.{Sight, IsSight}
@@ -16,6 +16,7 @@ use Rattle.pg_pairs.specs.Among.{IsAmong}
 use Rattle.pg_pairs.specs.Laws.{ReachedBy, IsReached, ChoicesReached}
 use Rattle.pg_pairs.specs.Carried.{carried_field, carried_two, carried_of, carried, field_child, child_of, choice_child, ChildReached, ChildThere, EachChildCostsLess, EachChoiceIsCarried}
 use Rattle.pg_pairs.proofs.Among.{among_each}
+use Rattle.pg_pairs.proofs.ChoicePlaces.{IsPlaced, placed}
 use Rattle.pg_pairs.proofs.CarriedFields.{IsCarried, CarriesOwn, presences_carried}
 use Rattle.pg_pairs.proofs.Messages.{one_found}
 use Rattle.pg_pairs.proofs.Meeting.{reach_meeting}
@@ -26,8 +27,17 @@ module _ (sight : Sight) (law : IsSight sight) (old new : Shape) (shape_old : Is
   abbrev pub AreApart : Choice → Type 0
   AreApart c = nat_eq c.case 6 ≡ true → (c.number < c.part) × ((f e : FieldShape) → field_at (fields old pair.old) c.number ≡ Some f → field_at (fields old pair.old) c.part ≡ Some e → same_oneof f.oneof e.oneof ≡ false)
 
+  -- the fields of both types that a choice stands in, and of two that meet the second
+  pub record Stands (c : Choice) : Type 0 where
+    pub field : FieldShape
+    pub beside : FieldShape
+    pub found : field_at (fields old pair.old) c.number ≡ Some field
+    pub at : field_at (fields new pair.new) c.number ≡ Some beside
+    pub placed : nat_eq c.case 6 ≡ false → IsPlaced field.presence c
+    pub second : nat_eq c.case 6 ≡ true → (e : FieldShape) × (field_at (fields old pair.old) c.part ≡ Some e)
+
   abbrev CarriesChoice : Choice → Type 0
-  CarriesChoice c = AreApart c × IsCarried sight law old new shape_old shape_new table pair (choice_child old new pair c) (carried sight old new pair c) c.cost
+  CarriesChoice c = AreApart c × Stands c × IsCarried sight law old new shape_old shape_new table pair (choice_child old new pair c) (carried sight old new pair c) c.cost
 
   fits_old : (n : ℕ) (x : FieldShape) → field_at (fields old pair.old) n ≡ Some x → PresenceFits x.presence x.element x.oneof
   fits_old n x found = (each_at (IsField (length old)) (fields old pair.old) n x found (fields_are_found.0 old pair.old shape_old).each).presence_fits
@@ -49,14 +59,34 @@ module _ (sight : Sight) (law : IsSight sight) (old new : Shape) (shape_old : Is
       subst₂ (λ x y. IsCarried sight law old new shape_old shape_new table pair (child_of x y c) (carried_of sight x y (field_at (fields old pair.old) c.part) c) c.cost) (sym old_is) (sym new_is)
       (subst (λ (b : Bool). IsCarried sight law old new shape_old shape_new table pair (field_child f g c.case c.part) (λ child. if b then carried_two f (field_at (fields old pair.old) c.part) else carried_field sight f g c.case c.part child) c.cost) (sym single) h)
 
-  own_carried : (f g : FieldShape) → field_at (fields old pair.old) f.number ≡ Some f → field_at (fields new pair.new) f.number ≡ Some g → (c : Choice) → CarriesOwn sight law old new shape_old shape_new table pair f g c → CarriesChoice c
-  own_carried f g found at c (number, single, h) = (λ six. absurd (let no : true ≡ false = sym six ∙ single in cc), own_made f g found at c number single h)
+  abbrev IsOwn : FieldShape → FieldShape → Choice → Type 0
+  IsOwn f g c = CarriesOwn sight law old new shape_old shape_new table pair f g c × IsPlaced f.presence c
+
+  own_carried : (f g : FieldShape) → field_at (fields old pair.old) f.number ≡ Some f → field_at (fields new pair.new) f.number ≡ Some g → (c : Choice) → IsOwn f g c → CarriesChoice c
+  own_carried f g found at c ((number, single, h), is_placed) =
+      let not_two : nat_eq c.case 6 ≡ true → ⊥ = λ six. let no : true ≡ false = sym six ∙ single in cc in
+      (λ six. absurd (not_two six), stands not_two, own_made f g found at c number single h)
+    where
+      stands : (nat_eq c.case 6 ≡ true → ⊥) → Stands c
+      stands not_two = record {
+        field = f;
+        beside = g;
+        found = ap (field_at (fields old pair.old)) number ∙ found;
+        at = ap (field_at (fields new pair.new)) number ∙ at;
+        placed = λ one. is_placed;
+        second = λ six. absurd (not_two six);
+      }
+
+  own_each : (f g : FieldShape) → field_at (fields old pair.old) f.number ≡ Some f → field_at (fields new pair.new) f.number ≡ Some g → AllByRecursion (IsOwn f g) (field_choices sight table f g)
+  own_each f g found at =
+      each_both (CarriesOwn sight law old new shape_old shape_new table pair f g) (IsPlaced f.presence) (field_choices sight table f g) (field_carried f g found at)
+      (placed sight table f.number g.number f.element g.element f.oneof g.oneof f.presence g.presence)
 
   beside_carried : (f : FieldShape) → field_at (fields old pair.old) f.number ≡ Some f → AllByRecursion CarriesChoice (choices_beside sight table f (field_at (fields new pair.new) f.number))
   beside_carried f found = of (field_at (fields new pair.new) f.number) refl
     where
       of : (o : Option FieldShape) → field_at (fields new pair.new) f.number ≡ o → AllByRecursion CarriesChoice (choices_beside sight table f o)
-      of (Some g) at = each_weaker (CarriesOwn sight law old new shape_old shape_new table pair f g) CarriesChoice (own_carried f g found at) (field_choices sight table f g) (field_carried f g found at)
+      of (Some g) at = each_weaker (IsOwn f g) CarriesChoice (own_carried f g found at) (field_choices sight table f g) (own_each f g found at)
       of None at = tt
 
   -- two fields in one new oneof
@@ -79,7 +109,7 @@ module _ (sight : Sight) (law : IsSight sight) (old new : Shape) (shape_old : Is
       of None y at_g at_k apart together = absurd (cc)
 
   meeting_carried : (a b : FieldShape) → field_at (fields old pair.old) a.number ≡ Some a → field_at (fields old pair.old) b.number ≡ Some b → joins (fields new pair.new) a b ≡ true → a.number < b.number → CarriesChoice (choice a.number 6 b.number (least_content a + least_content b))
-  meeting_carried a b found_a found_b h below = (apart, made)
+  meeting_carried a b found_a found_b h below = (apart, stands, made)
     where
       m : Meet a b
       m = meet a b h
@@ -93,6 +123,16 @@ module _ (sight : Sight) (law : IsSight sight) (old new : Shape) (shape_old : Is
         λ f e at_f at_e.
             subst₂ (λ (x y : FieldShape). same_oneof x.oneof y.oneof ≡ false) (one_found (fields old pair.old) a.number a f found_a at_f) (one_found (fields old pair.old) b.number b e found_b at_e) m.not_old,
       )
+
+      stands : Stands c
+      stands = record {
+        field = a;
+        beside = m.first;
+        found = found_a;
+        at = m.at_first;
+        placed = λ one. absurd (let no : true ≡ false = one in cc);
+        second = λ six. (b, found_b);
+      }
 
       made : IsCarried sight law old new shape_old shape_new table pair (choice_child old new pair c) (carried sight old new pair c) c.cost
       made small =
@@ -123,13 +163,13 @@ module _ (sight : Sight) (law : IsSight sight) (old new : Shape) (shape_old : Is
 
   -- what is known of a choice that an encoding may have
   abbrev Known : Choice → Type 0
-  Known c = AreApart c × ChildThere table (choice_child old new pair c) c.cost × ((child : Option Message) → ChildReached sight old new table (choice_child old new pair c) child → ReachedBy sight old new pair (carried sight old new pair c child) c.cost)
+  Known c = AreApart c × Stands c × ChildThere table (choice_child old new pair c) c.cost × ((child : Option Message) → ChildReached sight old new table (choice_child old new pair c) child → ReachedBy sight old new pair (carried sight old new pair c child) c.cost)
 
   kept_each : (cs : List Choice) → AllByRecursion CarriesChoice cs → AllByRecursion Known (filter (λ (c : Choice). nat_le c.cost cap) cs)
   kept_each [] h = tt
   kept_each (c ∷ cs) h =
       elim (nat_le c.cost cap) as (λ b. nat_le c.cost cap ≡ b → AllByRecursion Known (cond b (c ∷ filter (λ (c : Choice). nat_le c.cost cap) cs) (filter (λ (c : Choice). nat_le c.cost cap) cs)))
-      [ true ↦ λ e. (let (there, made) = h.0.1 (leb-true c.cost cap e) in (h.0.0, there, made), kept_each cs h.1) | false ↦ λ e. kept_each cs h.1 ] refl
+      [ true ↦ λ e. (let (there, made) = h.0.2 (leb-true c.cost cap e) in (h.0.0, h.0.1, there, made), kept_each cs h.1) | false ↦ λ e. kept_each cs h.1 ] refl
 
   pub choice_known : (c : Choice) → IsAmong c (choices sight table old new pair) → Known c
   choice_known c among =
@@ -144,7 +184,7 @@ module _ (sight : Sight) (law : IsSight sight) (old new : Shape) (shape_old : Is
 
   pub choice_reached : (c : Choice) → IsAmong c (choices sight table old new pair) → ((p : Pair) (x : ℕ) → table p ≡ Some (Some x) → x < c.cost → IsReached sight old new p x) → IsReached sight old new pair c.cost
   choice_reached c among smaller =
-      let (apart, there, made) = choice_known c among in
+      let (apart, stands, there, made) = choice_known c among in
       let (child, reached) = child_given (choice_child old new pair c) c.cost there smaller in
       (carried sight old new pair c child, made child reached)
 
@@ -152,7 +192,7 @@ pub choices_reached : (sight : Sight) (old new : Shape) (table : Table) → IsSi
 choices_reached sight old new table law shape_old shape_new pair c among = choice_reached sight law old new shape_old shape_new table pair c among
 
 pub choices_carried : EachChoiceIsCarried
-choices_carried sight old new table law shape_old shape_new pair c among = (choice_known sight law old new shape_old shape_new table pair c among).2
+choices_carried sight old new table law shape_old shape_new pair c among = (choice_known sight law old new shape_old shape_new table pair c among).3
 
 pub child_costs_less : EachChildCostsLess
-child_costs_less sight old new table law shape_old shape_new pair c among = (choice_known sight law old new shape_old shape_new table pair c among).1
+child_costs_less sight old new table law shape_old shape_new pair c among = (choice_known sight law old new shape_old shape_new table pair c among).2

@@ -236,11 +236,11 @@ module _ (view : View) (old new : Shape) (a b : TypeId) where
         | false ↦ rest
       ]
 
-read_as : (alike : EnumType → EnumType → ℤ → Bool) (old new : Parts) (n : ℕ) (listed : Bool) (xs : List Keyed) → AllByRecursion (λ (x : Keyed). item_read n (item_seen listed x.1) ≡ value_item alike old new x.1) xs
+read_as : (alike : EnumType → EnumType → ℤ → Bool) (old new : Parts) (n : ℕ) (listed : Bool) (xs : List Keyed) → AllByRecursion (λ (x : Keyed). item_read n (item_seen listed x.1) ≡ value_item x.1) xs
 read_as alike old new n listed [] = tt
 read_as alike old new n listed (x ∷ xs) = (of x.1, read_as alike old new n listed xs)
   where
-    of : (v : Value) → item_read n (item_seen listed v) ≡ value_item alike old new v
+    of : (v : Value) → item_read n (item_seen listed v) ≡ value_item v
     of (values.Int m) = refl
     of (values.F32 m) = refl
     of (values.F64 m) = refl
@@ -280,11 +280,11 @@ module _ (alike : EnumType → EnumType → ℤ → Bool) (old new : Parts) (f g
         ∙ ap (map (put_held f.number (value_sought alike old new (element_type g.element)))) (sym is) in
         let second = parts_shown (hides_zero f g) f.number w
         ∙ ap (λ ps. map (put_in item_read) (filter (is_shown_part (hides_zero f g)) ps)) (of_number_seen f.number w other seen_other ∙ seen_keyed f.number (option_copied other))
-        ∙ held_as f.number (hides_zero f g) (list_if (option_copied other)) item_read (value_item alike old new) (keyed_if (option_copied other)) (read_as alike old new f.number (list_if (option_copied other)) (keyed_if (option_copied other)))
-        ∙ ap (map (put_held f.number (value_item alike old new))) (sym is_other) in
+        ∙ held_as f.number (hides_zero f g) (list_if (option_copied other)) item_read value_item (keyed_if (option_copied other)) (read_as alike old new f.number (list_if (option_copied other)) (keyed_if (option_copied other)))
+        ∙ ap (map (put_held f.number value_item)) (sym is_other) in
         sym (ap (λ o. is_same_beside alike old new v w f o) beside
         ∙ ap₂ (pointwise (λ (p : Part Sought) (q : Part Item). same_key p.key q.key && meets (view_by alike old new) f g p.item q.item)) first second
-        ∙ pointwise-map (λ (p : Part Sought) (q : Part Item). same_key p.key q.key && meets (view_by alike old new) f g p.item q.item) (put_held f.number (value_sought alike old new (element_type g.element))) (put_held f.number (value_item alike old new)) (keyed_if (option_copied shown_got)) (keyed_if (option_copied shown_other)))
+        ∙ pointwise-map (λ (p : Part Sought) (q : Part Item). same_key p.key q.key && meets (view_by alike old new) f g p.item q.item) (put_held f.number (value_sought alike old new (element_type g.element))) (put_held f.number value_item) (keyed_if (option_copied shown_got)) (keyed_if (option_copied shown_other)))
 
     pub beside_with : (got other shown_got shown_other x y : Option (Bor Content))
         → MatchOption got (of_number f.number v ≡ []) (λ c. of_number f.number v ≡ content_seen f.number c.now) → MatchOption other (of_number f.number w ≡ []) (λ c. of_number f.number w ≡ content_seen f.number c.now)

@@ -1,5 +1,5 @@
 -- The message that a choice is reached by.
-use Rattle.std.specs.Prelude.{◌≡◌, ℕ, ◌<◌, nat_eq, pos, ⊤, [], ◌∷◌, Bool, true, false, ◌&&◌, ◌||◌, if◌then◌else◌, Option, Some, None}
+use Rattle.std.specs.Prelude.{◌≡◌, ℕ, ◌<◌, nat_eq, pos, ⊤, [], ◌∷◌, Bool, true, false, ◌&&◌, ◌||◌, if◌then◌else◌, Option, Some, None, option_map}
 use Rattle.pg_schema.specs.declared.field.Scalar.{Scalar}
 use Rattle.pg_schema.specs.declared.field.Scalar.TheVariants.{Int32}
 use Rattle.pg_schema.specs.declared.field.Element.{Element}
@@ -7,8 +7,10 @@ use Rattle.pg_schema.specs.declared.field.Element.TheVariants as elements
 use Rattle.pg_schema.specs.declared.field.Presence.{Presence}
 use Rattle.pg_schema.specs.declared.field.Presence.TheVariants as presences
 use Rattle.pg_schema.specs.Shape.{Shape, FieldShape, IsShape, fields, field_at}
-use Rattle.pg_dyn.specs.Message.{Leaf, Int, F32, F64, Bytes, Item, Plain, Msg, Message, ends, holds, nests}
+use Rattle.pg_dyn.specs.Message.{Leaf, Int, F32, F64, Bytes, Item, Plain, Msg, Message, ends, holds, nests, with_part}
 use Rattle.pg_dyn.specs.Coding.{Form, Integer, Single, Double, Text, Raw, form, zero_leaf}
+use Rattle.pg_dyn.specs.Fits.{Fits}
+use Rattle.pg_dyn.specs.Kept.{Kept, message_of, type_of}
 use Rattle.pg_pairs.specs.declared.choice.Choice.{Choice}
 use Rattle.pg_pairs.specs.declared.choice.Pair.{Pair}
 use Rattle.pg_pairs.specs.Sight.{Sight, IsSight}
@@ -69,13 +71,9 @@ least_part_of number p (elements.Enum s) later = holds number (least_key p) (lea
 abbrev pub least_part : FieldShape → Message → Message
 least_part f later = least_part_of f.number f.presence f.element later
 
--- one part before others, and a message of one part
-abbrev pub part_onto : ℕ → Option Leaf → Item → Message → Message
-part_onto number key (Plain leaf) later = holds number key leaf later
-part_onto number key (Msg child) later = nests number key child later
-
+-- a message of one part
 abbrev pub alone : ℕ → Option Leaf → Item → Message
-alone number key item = part_onto number key item (ends [])
+alone number key item = with_part number key item (ends [])
 
 -- the least content of unlike fields; where zero doesn't count an item that isn't zero
 abbrev pub unlike_message : FieldShape → FieldShape → Message
@@ -92,7 +90,7 @@ child_alone number key None = ends []
 
 -- a list that the new field doesn't keep: two zeros beside an explicit field, of which one is read, else one
 abbrev pub lost_onto : ℕ → Presence → Presence → Item → Message
-lost_onto number (presences.Repeated false) presences.Explicit zero = part_onto number None zero (alone number None zero)
+lost_onto number (presences.Repeated false) presences.Explicit zero = with_part number None zero (alone number None zero)
 lost_onto number p q zero = alone number None zero
 
 abbrev pub key_of : Presence → Scalar
@@ -165,12 +163,37 @@ child_of None g c = None
 abbrev pub choice_child : Shape → Shape → Pair → Choice → Option Pair
 choice_child old new pair c = child_of (field_at (fields old pair.old) c.number) (field_at (fields new pair.new) c.number) c
 
+-- the choice is one of the pair's, under some table of bounds
+abbrev pub IsChoiceOf : Sight → Shape → Shape → Pair → Choice → Type 0
+IsChoiceOf sight old new pair c = (table : Table) × IsAmong c (choices sight table old new pair)
+
+-- A child is given just where the choice has one, and is a message of that pair's old type.
+abbrev pub ChildGiven : Shape → Option Pair → Option Kept → Type 0
+ChildGiven old None None = ⊤
+ChildGiven old None (Some m) = ⊥
+ChildGiven old (Some p) None = ⊥
+ChildGiven old (Some p) (Some m) = Fits old m × (type_of m ≡ p.old)
+
 -- The child comes just where there is one, and has the length of its pair's bound.
 abbrev pub ChildReached : Sight → Shape → Shape → Table → Option Pair → Option Message → Type 0
 ChildReached sight old new table None None = ⊤
 ChildReached sight old new table None (Some m) = ⊥
 ChildReached sight old new table (Some p) None = ⊥
 ChildReached sight old new table (Some p) (Some m) = (x : ℕ) × (table p ≡ Some (Some x)) × ReachedBy sight old new p m x
+
+-- The child, where a choice has one, is of that pair's old type.
+abbrev pub IsOfPair : Option Pair → Option Kept → Type 0
+IsOfPair (Some pair) (Some child) = type_of child ≡ pair.old
+IsOfPair (Some pair) None = ⊤
+IsOfPair None child = ⊤
+
+-- The choice is one of the pair's under some table of bounds, and its child, where it has one, is a message of the child's old type that
+-- breaks and has the length of its bound.
+pub record IsChoiceRound (sight : Sight) (old new : Shape) (pair : Pair) (choice : Choice) (child : Option Kept) : Type 0 where
+  pub table : Table
+  pub among : IsAmong choice (choices sight table old new pair)
+  pub reached : ChildReached sight old new table (choice_child old new pair choice) (option_map message_of child)
+  pub of_pair : IsOfPair (choice_child old new pair choice) child
 
 -- What a table has for the child of a choice of that cost, where the choice has one: a smaller number.
 abbrev pub ChildThere : Table → Option Pair → ℕ → Type 0

@@ -1,5 +1,5 @@
 -- An old message beside a new one, content by content: whether the new one shows what the old one holds.
-use Rattle.std.specs.Prelude.{ℕ, ℤ, ⊤, List, [], ◌∷◌, map, filter, Bool, true, not, ◌&&◌, if◌then◌else◌, Option, Some, None, option_map, is_none}
+use Rattle.std.specs.Prelude.{ℕ, ◌≤◌, ℤ, ⊤, length, List, [], ◌∷◌, map, filter, Bool, true, not, ◌&&◌, if◌then◌else◌, Option, Some, None, option_map, is_none}
 use lib.Pointwise.{pointwise}
 use Rattle.pg_schema.specs.declared.enum_type.EnumType.{EnumType}
 use Rattle.pg_schema.specs.declared.field.Element.{Element}
@@ -7,7 +7,7 @@ use Rattle.pg_schema.specs.declared.field.Element.TheVariants as elements
 use Rattle.pg_schema.specs.declared.field.TypeId.{TypeId}
 use Rattle.pg_schema.specs.declared.parts.Parts.{Parts}
 use Rattle.pg_schema.specs.Parts.{enum_at, shape_of}
-use Rattle.pg_schema.specs.Shape.{FieldShape, field_at}
+use Rattle.pg_schema.specs.Shape.{Shape, FieldShape, field_at}
 use Rattle.pg_dyn.specs.declared.message.Content.{Content}
 use Rattle.pg_dyn.specs.declared.message.Content.TheVariants as contents
 use Rattle.pg_dyn.specs.declared.message.UnknownRecord.{UnknownRecord}
@@ -17,7 +17,7 @@ use Rattle.pg_dyn.specs.Message.{Leaf, Int, Item, Plain, Msg, parts}
 use Rattle.pg_dyn.specs.Kept.{Kept, type_of, message_of}
 use Rattle.pg_dyn.specs.Seen.{leaf_of}
 use Rattle.pg_dyn.specs.ContentFits.{is_zero_value}
-use Rattle.pg_dyn.specs.Encoding.{element_type}
+use Rattle.pg_dyn.specs.Encoding.{cap, element_type, enc}
 use Rattle.pg_dyn.specs.Comparison.{View, Sought, Alike, same_content, same_key, meets, sought, same}
 use Rattle.pg_dyn.specs.Comparison as comparison
 use Rattle.pg_pairs.specs.Views.{alike_at}
@@ -25,6 +25,11 @@ use Rattle.pg_pairs.specs.Views.{alike_at}
 -- the numbers that a view finds alike in enums of two schemas
 abbrev pub view_by : (EnumType → EnumType → ℤ → Bool) → Parts → Parts → View
 view_by alike old new = λ a b n. alike_at alike (enum_at old a) (enum_at new b) n
+
+-- a value as an item of a message
+abbrev pub value_item : Value → Item
+value_item (values.Msg child) = Msg (message_of child.value)
+value_item value = Plain (leaf_of value)
 
 module _ (alike : EnumType → EnumType → ℤ → Bool) (old new : Parts) where
   -- the new message shows what the old one means
@@ -41,10 +46,6 @@ module _ (alike : EnumType → EnumType → ℤ → Bool) (old new : Parts) wher
   value_sought b (values.Msg child) = comparison.Kept (same (view_by alike old new) (shape_of old) (shape_of new) (type_of child.value) b (message_of child.value))
   value_sought b value = Alike (leaf_of value)
 
-  abbrev pub value_item : Value → Item
-  value_item (values.Msg child) = Msg (message_of child.value)
-  value_item value = Plain (leaf_of value)
-
   -- a leaf of an enum is alike by the view, any other by itself
   abbrev pub is_alike_leaf : Element → Element → Leaf → Bool
   is_alike_leaf (elements.Enum e) (elements.Enum g) (Int n) = view_by alike old new e g n
@@ -52,6 +53,15 @@ module _ (alike : EnumType → EnumType → ℤ → Bool) (old new : Parts) wher
 
   abbrev pub items_meet : FieldShape → FieldShape → Value → Value → Bool
   items_meet f g a b = meets (view_by alike old new) f g (value_sought (element_type g.element) a) (value_item b)
+
+-- a message's encoding isn't too long
+abbrev pub HasEncoding : Shape → Kept → Type 0
+HasEncoding shape m = length (enc shape (type_of m) (message_of m)) ≤ cap
+
+-- nor is that of a message as an item
+abbrev pub ItemHasEncoding : Shape → Value → Type 0
+ItemHasEncoding shape (values.Msg child) = HasEncoding shape child.value
+ItemHasEncoding shape value = ⊤
 
 -- the items of a content, each with its key in a map
 abbrev pub Keyed : Type 0

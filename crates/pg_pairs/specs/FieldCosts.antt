@@ -2,7 +2,7 @@
 -- of field.
 use Rattle.std.specs.Prelude.{◌≡◌, ℕ, ◌≤◌, List, [], ◌∷◌, length, true, Option, Some, None}
 use Rattle.pg_schema.specs.Shape.{Shape, FieldShape, IsShape, fields, field_at, is_singular, is_repeated, is_map}
-use Rattle.pg_dyn.specs.Message.{Leaf, Item, Plain, Msg, Message, ends}
+use Rattle.pg_dyn.specs.Message.{Leaf, Item, Plain, Msg, Message, ends, with_part}
 use Rattle.pg_dyn.specs.Encoding.{enc}
 use Rattle.pg_dyn.specs.Breaking.{Breaks}
 use Rattle.pg_pairs.specs.declared.choice.Choice.{Choice}
@@ -11,16 +11,16 @@ use Rattle.pg_pairs.specs.Sight.{Sight, IsSight}
 use Rattle.pg_pairs.specs.Choices.{Table, field_choices}
 use Rattle.pg_pairs.specs.Covering.{Covers}
 use Rattle.pg_pairs.specs.Cheapest.{cheapest}
-use Rattle.pg_pairs.specs.Carried.{part_onto, alone}
+use Rattle.pg_pairs.specs.Carried.{alone}
 
 -- a message of these items in one list, and of these entries, each with its key, in one map
 abbrev pub list_alone : ℕ → List Item → Message
 list_alone number [] = ends []
-list_alone number (item ∷ items) = part_onto number None item (list_alone number items)
+list_alone number (item ∷ items) = with_part number None item (list_alone number items)
 
 abbrev pub map_alone : ℕ → List (Leaf × Item) → Message
 map_alone number [] = ends []
-map_alone number (entry ∷ entries) = part_onto number (Some entry.0) entry.1 (map_alone number entries)
+map_alone number (entry ∷ entries) = with_part number (Some entry.0) entry.1 (map_alone number entries)
 
 -- a field of the pair's old type, and the new type's field of its number
 pub record IsShared (old new : Shape) (pair : Pair) (f g : FieldShape) : Type 0 where

@@ -21,3 +21,6 @@ pub mod LeastCosts
 pub mod SmallPairs
 pub mod Works
 pub mod Reached
+pub mod LeastOf
+pub mod Edges
+pub mod EdgeChildren

@@ -1,17 +1,19 @@
 //! The contents that break in the messages of choices.
 
-ghost use Rattle.std.specs.Prelude.{◌≡◌, ◌++◌, ◌&&◌, ℕ, length, not, Bool, true, false, is_some, option_map, Some, None, IfOk, IfSome};
+ghost use Rattle.std.specs.Prelude.{◌≡◌, ◌&&◌, ℕ, length, not, true, false, is_some, option_map, Some, None, IfOk, IfSome};
 ghost use Rattle.pg_schema.specs.Parts.{field_shape};
-ghost use Rattle.pg_schema.specs.Shape.{ElementFits, Shape, is_map, is_repeated};
-ghost use Rattle.pg_dyn.specs.Coding.{scalar_form};
+ghost use Rattle.pg_schema.specs.Shape.{ElementFits, Shape, is_map};
+ghost use Rattle.pg_dyn.specs.Coding.{scalar_form, zero_leaf};
 ghost use Rattle.pg_dyn.specs.ContentFits.{ItemFits};
 ghost use Rattle.pg_dyn.specs.Fits.{Fits};
-ghost use Rattle.pg_dyn.specs.Kept.{type_of};
+ghost use Rattle.pg_dyn.specs.Kept.{message_of};
+ghost use Rattle.pg_dyn.specs.Message.{with_part};
 ghost use Rattle.pg_dyn.specs.ScalarItems.{IsItemOf};
-ghost use Rattle.pg_dyn.specs.Seen.{content_seen, item_seen, leaf_of, IsKey};
-ghost use Rattle.pg_pairs.specs.Carried.{key_of};
+ghost use Rattle.pg_dyn.specs.Seen.{leaf_of, IsKey};
+ghost use Rattle.pg_pairs.specs.Carried.{alone, apart_item, apart_leaf, carried_field, child_alone, entry_message, item_by, key_alone, key_of, leaf_alone, least_key, least_part, lost_onto, unlike_message, value_alone};
+ghost use Rattle.pg_pairs.specs.CarriedItems.{apart_small, content_alone, has_content, has_entry, has_value, is_child_of, IsTakenBy, leaf_by, Puts};
+ghost use Rattle.pg_pairs.specs.Comparing.{value_item};
 ghost use Rattle.pg_pairs.specs.Gaps.{gap_item};
-ghost use Rattle.pg_pairs.specs.CarriedItems.{apart_small, carried_parts, child_parts, entry_parts, has_content, has_entry, has_value, is_child_of, IsTakenBy, kept_item, key_by, key_parts, leaf_by, leaf_parts, least_parts, lost_parts, one_part, unlike_parts, value_parts};
 ghost use Rattle.pg_pairs.specs.Views.{sight_of};
 
 use crate::choice::Choice;
@@ -32,7 +34,7 @@ pub(crate) struct Beside<'a> {
 
 // A content of one item, of a field that is no map.
 fn plain_content(alloc: Global, field: &Field, value: Value) -> Result<Content, AllocError>
-    ensures seen { IfOk result (λ content. content_seen field.now.number content ≡ one_part (field_shape field.now) None (item_seen (is_repeated field.now.presence) value)) }
+    ensures seen { IfOk result (λ content. Puts field.now.number content (with_part field.now.number None (value_item value))) }
     ensures taken { IfOk result (λ content. (shape : Shape) → is_map field.now.presence ≡ false → ItemFits shape field.now.element value → IsTakenBy shape field.now.presence field.now.element content) }
 {
     if let Presence::Repeated { .. } = field.presence {
@@ -45,7 +47,7 @@ fn plain_content(alloc: Global, field: &Field, value: Value) -> Result<Content, 
 
 // A content of one entry.
 fn entry_content(alloc: Global, key: Value, value: Value) -> Result<Content, AllocError>
-    ensures seen { IfOk result (λ content. (field : Field) → content_seen field.number content ≡ one_part (field_shape field) (Some (leaf_of key)) (item_seen false value)) }
+    ensures seen { IfOk result (λ content. (number : ℕ) → Puts number content (with_part number (Some (leaf_of key)) (value_item value))) }
     ensures taken { IfOk result (λ content. (shape : Shape) (scalar : Scalar) (element : Element) → IsItemOf scalar key → ItemFits shape element value → IsTakenBy shape (Presence.Map scalar) element content) }
 {
     let mut entries = Vec::new(alloc);
@@ -55,7 +57,7 @@ fn entry_content(alloc: Global, key: Value, value: Value) -> Result<Content, All
 
 // A content of one item that is short so, in a map under zero.
 fn small_content(alloc: Global, field: &Field, small: Small) -> Result<Content, AllocError>
-    ensures seen { IfOk result (λ content. content_seen field.now.number content ≡ one_part (field_shape field.now) (key_by Small.Zero field.now.presence) (kept_item small (is_repeated field.now.presence) field.now.element)) }
+    ensures seen { IfOk result (λ content. Puts field.now.number content (with_part field.now.number (least_key field.now.presence) (item_by (leaf_by small) field.now.element))) }
     ensures taken { IfOk result (λ content. (shape : Shape) → ElementFits (length shape) field.now.element → IsTakenBy shape field.now.presence field.now.element content) }
 {
     let value = small_item(alloc, field.element, small)?;
@@ -67,7 +69,7 @@ fn small_content(alloc: Global, field: &Field, small: Small) -> Result<Content, 
 
 /// The least content of a field.
 pub(crate) fn least_content(alloc: Global, field: &Field) -> Result<Content, AllocError>
-    ensures seen { IfOk result (λ content. content_seen field.now.number content ≡ least_parts (field_shape field.now)) }
+    ensures seen { IfOk result (λ content. Puts field.now.number content (least_part (field_shape field.now))) }
     ensures taken { IfOk result (λ content. (shape : Shape) → ElementFits (length shape) field.now.element → IsTakenBy shape field.now.presence field.now.element content) }
 {
     match field.presence {
@@ -78,7 +80,7 @@ pub(crate) fn least_content(alloc: Global, field: &Field) -> Result<Content, All
 
 // That of unlike fields; where zero doesn't count an item that isn't zero.
 fn unlike_content(alloc: Global, old: &Field, new: &Field) -> Result<Content, AllocError>
-    ensures seen { IfOk result (λ content. content_seen old.now.number content ≡ unlike_parts (field_shape old.now) (field_shape new.now)) }
+    ensures seen { IfOk result (λ content. content_alone old.now.number content ≡ unlike_message (field_shape old.now) (field_shape new.now)) }
     ensures taken { IfOk result (λ content. (shape : Shape) → ElementFits (length shape) old.now.element → IsTakenBy shape old.now.presence old.now.element content) }
 {
     let small = if zero_counts(old, new) {
@@ -104,7 +106,7 @@ fn some_content(
 ) -> Result<Option<Content>, AllocError>
     requires { IfSome item IsKey }
     ensures some { IfOk result (λ found. is_some found ≡ (not (is_map field.now.presence) && is_some item)) }
-    ensures seen { IfOk result (λ found. IfSome found (λ content. content_seen field.now.number content ≡ leaf_parts (field_shape field.now) (is_repeated field.now.presence) None (option_map leaf_of item))) }
+    ensures seen { IfOk result (λ found. IfSome found (λ content. content_alone field.now.number content ≡ leaf_alone field.now.number None (option_map leaf_of item))) }
     ensures taken { IfOk result (λ found. (shape : Shape) → IfSome item (ItemFits shape field.now.element) → IfSome found (IsTakenBy shape field.now.presence field.now.element)) }
 {
     if is_map(field) {
@@ -123,7 +125,7 @@ fn child_content(
     child: Option<Message>,
 ) -> Result<Option<Content>, AllocError>
     ensures some { IfOk result (λ found. is_some found ≡ (not (is_map field.now.presence) && is_child_of field.now.element child)) }
-    ensures seen { IfOk result (λ found. IfSome found (λ content. content_seen field.now.number content ≡ child_parts (field_shape field.now) (is_repeated field.now.presence) None child)) }
+    ensures seen { IfOk result (λ found. IfSome found (λ content. content_alone field.now.number content ≡ child_alone field.now.number None (option_map message_of child))) }
     ensures taken { IfOk result (λ found. (shape : Shape) → IfSome child (Fits shape) → IfSome found (IsTakenBy shape field.now.presence field.now.element)) }
 {
     if is_map(field) {
@@ -140,7 +142,7 @@ fn child_content(
 
 // A list that the new field doesn't keep: two zeros beside an explicit field, of which one is read, else one.
 fn lost_items(alloc: Global, old: &Field, new: &Field) -> Result<Content, AllocError>
-    ensures seen { IfOk result (λ content. content_seen old.now.number content ≡ lost_parts (field_shape old.now) (field_shape new.now)) }
+    ensures seen { IfOk result (λ content. content_alone old.now.number content ≡ lost_onto old.now.number old.now.presence new.now.presence (item_by zero_leaf old.now.element)) }
     ensures taken { IfOk result (λ content. (shape : Shape) → is_map old.now.presence ≡ false → ElementFits (length shape) old.now.element → IsTakenBy shape old.now.presence old.now.element content) }
 {
     let zero = small_item(alloc, old.element, Small::Zero)?;
@@ -158,7 +160,7 @@ fn lost_items(alloc: Global, old: &Field, new: &Field) -> Result<Content, AllocE
 // The same, of a field that is no map.
 fn lost_content(alloc: Global, old: &Field, new: &Field) -> Result<Option<Content>, AllocError>
     ensures some { IfOk result (λ found. is_some found ≡ not (is_map old.now.presence)) }
-    ensures seen { IfOk result (λ found. IfSome found (λ content. content_seen old.now.number content ≡ lost_parts (field_shape old.now) (field_shape new.now))) }
+    ensures seen { IfOk result (λ found. IfSome found (λ content. content_alone old.now.number content ≡ lost_onto old.now.number old.now.presence new.now.presence (item_by zero_leaf old.now.element))) }
     ensures taken { IfOk result (λ found. (shape : Shape) → ElementFits (length shape) old.now.element → IfSome found (IsTakenBy shape old.now.presence old.now.element)) }
 {
     if is_map(old) {
@@ -185,7 +187,7 @@ fn key_gap_content<V: View>(
     keys: (Scalar, Scalar),
 ) -> Result<Option<Content>, AllocError>
     ensures some { IfOk result (λ found. is_some found ≡ is_some (gap_item (sight_of (V.is_alike sides.now.view.now) (V.least_differing sides.now.view.now) sides.now.old.now sides.now.new.now) true (Element.Scalar keys.0) (Element.Scalar keys.1))) }
-    ensures seen { IfOk result (λ found. IfSome found (λ content. content_seen field.now.number content ≡ key_parts (field_shape field.now) (gap_item (sight_of (V.is_alike sides.now.view.now) (V.least_differing sides.now.view.now) sides.now.old.now sides.now.new.now) true (Element.Scalar keys.0) (Element.Scalar keys.1)))) }
+    ensures seen { IfOk result (λ found. IfSome found (λ content. content_alone field.now.number content ≡ key_alone field.now.number field.now.element (gap_item (sight_of (V.is_alike sides.now.view.now) (V.least_differing sides.now.view.now) sides.now.old.now sides.now.new.now) true (Element.Scalar keys.0) (Element.Scalar keys.1)))) }
     ensures taken { IfOk result (λ found. (shape : Shape) → ElementFits (length shape) field.now.element → IfSome found (IsTakenBy shape (Presence.Map keys.0) field.now.element)) }
 {
     let keys = (Element::Scalar(keys.0), Element::Scalar(keys.1));
@@ -206,7 +208,7 @@ fn child_entry(
     child: Message,
 ) -> Result<Option<Content>, AllocError>
     ensures some { IfOk result (λ found. is_some found ≡ is_child_of field.now.element (Some child)) }
-    ensures seen { IfOk result (λ found. IfSome found (λ content. content_seen field.now.number content ≡ value_parts (field_shape field.now) (leaf_by Small.Zero (scalar_form key)) (Some child) None)) }
+    ensures seen { IfOk result (λ found. IfSome found (λ content. content_alone field.now.number content ≡ value_alone field.now.number (zero_leaf (scalar_form key)) (Some (message_of child)) None)) }
     ensures taken { IfOk result (λ found. (shape : Shape) → Fits shape child → IfSome found (IsTakenBy shape (Presence.Map key) field.now.element)) }
 {
     match child_item(alloc, field.element, child)? {
@@ -226,7 +228,7 @@ fn value_gap_content<V: View>(
     key: Scalar,
 ) -> Result<Option<Content>, AllocError>
     ensures some { IfOk result (λ found. is_some found ≡ is_some (gap_item (sight_of (V.is_alike sides.now.view.now) (V.least_differing sides.now.view.now) sides.now.old.now sides.now.new.now) true fields.now.old.now.element fields.now.new.now.element)) }
-    ensures seen { IfOk result (λ found. IfSome found (λ content. content_seen fields.now.old.now.number content ≡ value_parts (field_shape fields.now.old.now) (leaf_by Small.Zero (scalar_form key)) None (gap_item (sight_of (V.is_alike sides.now.view.now) (V.least_differing sides.now.view.now) sides.now.old.now sides.now.new.now) true fields.now.old.now.element fields.now.new.now.element))) }
+    ensures seen { IfOk result (λ found. IfSome found (λ content. content_alone fields.now.old.now.number content ≡ value_alone fields.now.old.now.number (zero_leaf (scalar_form key)) None (gap_item (sight_of (V.is_alike sides.now.view.now) (V.least_differing sides.now.view.now) sides.now.old.now sides.now.new.now) true fields.now.old.now.element fields.now.new.now.element))) }
     ensures taken { IfOk result (λ found. (shape : Shape) → IfSome found (IsTakenBy shape (Presence.Map key) fields.now.old.now.element)) }
 {
     let (old, new) = (fields.old, fields.new);
@@ -248,7 +250,7 @@ fn value_content<V: View>(
     child: Option<Message>,
 ) -> Result<Option<Content>, AllocError>
     ensures some { IfOk result (λ found. is_some found ≡ has_value fields.now.old.now.element child (gap_item (sight_of (V.is_alike sides.now.view.now) (V.least_differing sides.now.view.now) sides.now.old.now sides.now.new.now) true fields.now.old.now.element fields.now.new.now.element)) }
-    ensures seen { IfOk result (λ found. IfSome found (λ content. content_seen fields.now.old.now.number content ≡ value_parts (field_shape fields.now.old.now) (leaf_by Small.Zero (scalar_form key)) child (gap_item (sight_of (V.is_alike sides.now.view.now) (V.least_differing sides.now.view.now) sides.now.old.now sides.now.new.now) true fields.now.old.now.element fields.now.new.now.element))) }
+    ensures seen { IfOk result (λ found. IfSome found (λ content. content_alone fields.now.old.now.number content ≡ value_alone fields.now.old.now.number (zero_leaf (scalar_form key)) (option_map message_of child) (gap_item (sight_of (V.is_alike sides.now.view.now) (V.least_differing sides.now.view.now) sides.now.old.now sides.now.new.now) true fields.now.old.now.element fields.now.new.now.element))) }
     ensures taken { IfOk result (λ found. (shape : Shape) → IfSome child (Fits shape) → IfSome found (IsTakenBy shape (Presence.Map key) fields.now.old.now.element)) }
 {
     match child {
@@ -274,7 +276,7 @@ fn apart_content(
     fields: &Beside<'_>,
     keys: (Scalar, Scalar),
 ) -> Result<Content, AllocError>
-    ensures seen { IfOk result (λ content. content_seen fields.now.old.now.number content ≡ one_part (field_shape fields.now.old.now) (Some (leaf_by (apart_small (Element.Scalar keys.0) (Element.Scalar keys.1)) (scalar_form keys.0))) (kept_item (apart_small fields.now.old.now.element fields.now.new.now.element) false fields.now.old.now.element)) }
+    ensures seen { IfOk result (λ content. content_alone fields.now.old.now.number content ≡ alone fields.now.old.now.number (Some (apart_leaf (Element.Scalar keys.0) (Element.Scalar keys.1))) (apart_item fields.now.old.now.element fields.now.new.now.element)) }
     ensures taken { IfOk result (λ content. (shape : Shape) → ElementFits (length shape) fields.now.old.now.element → IsTakenBy shape (Presence.Map keys.0) fields.now.old.now.element content) }
 {
     let (old, new) = (fields.old, fields.new);
@@ -294,7 +296,7 @@ fn broken_entry<V: View>(
     child: Option<Message>,
 ) -> Result<Option<Content>, AllocError>
     ensures some { IfOk result (λ found. is_some found ≡ (is_map fields.now.old.now.presence && has_entry (sight_of (V.is_alike sides.now.view.now) (V.least_differing sides.now.view.now) sides.now.old.now sides.now.new.now) (field_shape fields.now.old.now) (key_of fields.now.old.now.presence) (key_of fields.now.new.now.presence) fields.now.new.now.element part child)) }
-    ensures seen { IfOk result (λ found. IfSome found (λ content. content_seen fields.now.old.now.number content ≡ entry_parts (sight_of (V.is_alike sides.now.view.now) (V.least_differing sides.now.view.now) sides.now.old.now sides.now.new.now) (field_shape fields.now.old.now) (key_of fields.now.old.now.presence) (key_of fields.now.new.now.presence) fields.now.new.now.element part child)) }
+    ensures seen { IfOk result (λ found. IfSome found (λ content. content_alone fields.now.old.now.number content ≡ entry_message (sight_of (V.is_alike sides.now.view.now) (V.least_differing sides.now.view.now) sides.now.old.now sides.now.new.now) fields.now.old.now.number (key_of fields.now.old.now.presence) (key_of fields.now.new.now.presence) fields.now.old.now.element fields.now.new.now.element part (option_map message_of child))) }
     ensures taken { IfOk result (λ found. (shape : Shape) → ElementFits (length shape) fields.now.old.now.element → IfSome child (Fits shape) → IfSome found (IsTakenBy shape fields.now.old.now.presence fields.now.old.now.element)) }
 {
     let Presence::Map { key } = fields.old.presence else {
@@ -318,7 +320,7 @@ pub(crate) fn broken_content<V: View>(
     child: Option<Message>,
 ) -> Result<Option<Content>, AllocError>
     ensures some { IfOk result (λ found. is_some found ≡ has_content (sight_of (V.is_alike sides.now.view.now) (V.least_differing sides.now.view.now) sides.now.old.now sides.now.new.now) (field_shape fields.now.old.now) (field_shape fields.now.new.now) choice.now.case choice.now.part child) }
-    ensures seen { IfOk result (λ found. IfSome found (λ content. content_seen fields.now.old.now.number content ≡ carried_parts (sight_of (V.is_alike sides.now.view.now) (V.least_differing sides.now.view.now) sides.now.old.now sides.now.new.now) (field_shape fields.now.old.now) (field_shape fields.now.new.now) choice.now.case choice.now.part child)) }
+    ensures seen { IfOk result (λ found. IfSome found (λ content. content_alone fields.now.old.now.number content ≡ carried_field (sight_of (V.is_alike sides.now.view.now) (V.least_differing sides.now.view.now) sides.now.old.now sides.now.new.now) (field_shape fields.now.old.now) (field_shape fields.now.new.now) choice.now.case choice.now.part (option_map message_of child))) }
     ensures taken { IfOk result (λ found. (shape : Shape) → ElementFits (length shape) fields.now.old.now.element → IfSome child (Fits shape) → IfSome found (IsTakenBy shape fields.now.old.now.presence fields.now.old.now.element)) }
 {
     let (old, new) = (fields.old, fields.new);

@@ -13,13 +13,13 @@ ghost use Rattle.pg_dyn.specs.Fits.{Fits};
 ghost use Rattle.pg_dyn.specs.Kept.{message_of, type_of, unknown_of};
 ghost use Rattle.pg_dyn.specs.Seen.{IsKey, leaf_of};
 ghost use Rattle.pg_dyn.specs.Writing.{bytes_of};
-ghost use Rattle.pg_pairs.specs.Comparing.{all_meet, is_alike_leaf, is_same, is_same_beside, items_meet, keyed, keyed_if, outside_record};
+ghost use Rattle.pg_pairs.specs.Comparing.{all_meet, HasEncoding, is_alike_leaf, is_same, is_same_beside, ItemHasEncoding, items_meet, keyed, keyed_if, outside_record};
 
 use crate::carried::Beside;
 use crate::item::Sides;
 use crate::shown::{count, held_at, is_same_key, is_same_leaf, shown};
 use crate::view::View;
-use pg_dyn::{Content, Message, UnknownRecord, Value, encode_outside};
+use pg_dyn::{Content, DynError, Message, UnknownRecord, Value, encode_outside};
 use pg_schema::{Element, Field, Schema, TypeId};
 use std::alloc::{AllocError, Global};
 
@@ -70,20 +70,23 @@ fn outside_bytes(alloc: Global, schema: &Schema, message: &Message) -> Result<Ve
 }
 
 // Whether the reader keeps just what was written of the fields that its type hasn't.
+#[tactic(auto, using(crate::proofs::SameLengths::unshared_within))]
 fn is_same_outside<V: View>(
     alloc: Global,
     sides: &Sides<'_, V>,
     message: &Message,
     read: &Message,
 ) -> Result<bool, AllocError>
-    requires { Fits (shape_of sides.now.old.now) message.now }
+    requires fits { Fits (shape_of sides.now.old.now) message.now }
+    requires encoded { HasEncoding (shape_of sides.now.old.now) message.now }
     ensures { IfOk result (λ is. is ≡ bytes_eq (bytes_of (records_outside (fields (shape_of sides.now.new.now) (type_of read.now)) (unknown_of read.now))) (unshared_bytes (shape_of sides.now.old.now) (type_of message.now) (fields (shape_of sides.now.new.now) (type_of read.now)) (message_of message.now))) }
 {
     let kept = outside_bytes(alloc, sides.new, read)?;
     match encode_outside(alloc, sides.old, message, sides.new, read.type_id()) {
         Ok(written) => Ok(kept.as_slice() == written.as_slice()),
-        // What the reader read isn't too long.
-        Err(_) => Err(AllocError),
+        Err(DynError::Memory) => Err(AllocError),
+        // A part of an encoding isn't too long.
+        Err(_) => unreachable!(),
     }
 }
 
@@ -99,6 +102,7 @@ fn is_same_item<V: View>(
     requires old_schema { IsSchema sides.now.old.now }
     requires new_schema { IsSchema sides.now.new.now }
     requires fits { ItemFits (shape_of sides.now.old.now) fields.now.old.now.element value.now }
+    requires encoded { ItemHasEncoding (shape_of sides.now.old.now) value.now }
     requires read_fits { ItemFits (shape_of sides.now.new.now) fields.now.new.now.element read.now }
     ensures { IfOk result (λ is. is ≡ items_meet (V.is_alike sides.now.view.now) sides.now.old.now sides.now.new.now (field_shape fields.now.old.now) (field_shape fields.now.new.now) value.now read.now) }
 {
@@ -121,6 +125,7 @@ fn is_same_content<V: View>(
     requires old_schema { IsSchema sides.now.old.now }
     requires new_schema { IsSchema sides.now.new.now }
     requires fits { ContentFits (shape_of sides.now.old.now) fields.now.old.now.presence fields.now.old.now.element content.now }
+    requires encoded { AllByRecursion (λ x. ItemHasEncoding (shape_of sides.now.old.now) x.1) (keyed content.now) }
     requires read_fits { ContentFits (shape_of sides.now.new.now) fields.now.new.now.presence fields.now.new.now.element read.now }
     ensures { IfOk result (λ is. is ≡ all_meet (V.is_alike sides.now.view.now) sides.now.old.now sides.now.new.now (field_shape fields.now.old.now) (field_shape fields.now.new.now) (keyed content.now) (keyed read.now)) }
 {
@@ -153,6 +158,7 @@ fn is_same_field<V: View>(
     requires old_schema { IsSchema sides.now.old.now }
     requires new_schema { IsSchema sides.now.new.now }
     requires fits { Fits (shape_of sides.now.old.now) message.now }
+    requires encoded { HasEncoding (shape_of sides.now.old.now) message.now }
     requires read_fits { Fits (shape_of sides.now.new.now) read.now }
     requires found { field_at (fields (shape_of sides.now.old.now) (type_of message.now)) field.now.number ≡ Some (field_shape field.now) }
     ensures { IfOk result (λ is. is ≡ is_same_beside (V.is_alike sides.now.view.now) sides.now.old.now sides.now.new.now message.now read.now (field_shape field.now) (field_at (fields (shape_of sides.now.new.now) (type_of read.now)) field.now.number)) }
@@ -185,6 +191,7 @@ fn are_same_fields<V: View>(
     requires old_schema { IsSchema sides.now.old.now }
     requires new_schema { IsSchema sides.now.new.now }
     requires fits { Fits (shape_of sides.now.old.now) message.now }
+    requires encoded { HasEncoding (shape_of sides.now.old.now) message.now }
     requires read_fits { Fits (shape_of sides.now.new.now) read.now }
     requires found { AllByRecursion (λ f. field_at (fields (shape_of sides.now.old.now) (type_of message.now)) f.number ≡ Some (field_shape f)) list.now }
     ensures { IfOk result (λ is. is ≡ list_all (λ f. is_same_beside (V.is_alike sides.now.view.now) sides.now.old.now sides.now.new.now message.now read.now (field_shape f) (field_at (fields (shape_of sides.now.new.now) (type_of read.now)) f.number)) list.now) }
@@ -197,7 +204,7 @@ fn are_same_fields<V: View>(
     Ok(true)
 }
 
-/// Whether the new message shows what the old one means, at every depth.
+/// Whether the new message shows what the old one means, at every depth. The old message has to have an encoding.
 ///
 /// Refused only where memory is.
 #[cycle(same)]
@@ -210,6 +217,7 @@ pub(crate) fn is_same_message<V: View>(
     requires old_schema { IsSchema sides.now.old.now }
     requires new_schema { IsSchema sides.now.new.now }
     requires fits { Fits (shape_of sides.now.old.now) message.now }
+    requires encoded { HasEncoding (shape_of sides.now.old.now) message.now }
     requires read_fits { Fits (shape_of sides.now.new.now) read.now }
     ensures { IfOk result (λ is. is ≡ is_same (V.is_alike sides.now.view.now) sides.now.old.now sides.now.new.now message.now read.now) }
 {

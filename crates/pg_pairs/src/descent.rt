@@ -39,8 +39,8 @@ fn field_child(old: &Field, new: &Field) -> Option<Pair>
     }
 }
 
-// The child of a field beside the new type's field of its number.
-fn child_beside(new: &Schema, type_id: TypeId, field: &Field) -> Option<Pair>
+/// The child of a field beside the new type's field of its number.
+pub(crate) fn child_beside(new: &Schema, type_id: TypeId, field: &Field) -> Option<Pair>
     ensures { option_to_list result ≡ children_beside (field_shape field.now) (field_at (fields (shape_of new.now) type_id) field.now.number) }
 {
     field_child(field, new.field(type_id, field.number)?)

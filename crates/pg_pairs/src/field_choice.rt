@@ -17,7 +17,7 @@ use pg_schema::{Element, Field, Presence, Scalar, Schema, TypeId};
 use std::alloc::AllocError;
 
 /// An encoding has at most that many bytes (Protocol Buffers encoding guide, "Message Structure").
-const CAP: u64 = 0x7fff_ffff;
+pub(crate) const CAP: u64 = 0x7fff_ffff;
 
 /// Whether zero counts as an item of the old field beside the new one.
 pub(crate) fn zero_counts(old: &Field, new: &Field) -> bool

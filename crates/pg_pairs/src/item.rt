@@ -1,17 +1,19 @@
 //! Items that the messages of choices hold.
 
-ghost use Rattle.std.specs.Prelude.{◌≡◌, Bool, Some, is_some, length, option_map, IfOk, IfSome};
+ghost use Rattle.std.specs.Prelude.{◌≡◌, Some, is_some, length, option_map, IfOk, IfSome};
 ghost use Rattle.pg_schema.specs.Shape.{ElementFits, Shape};
 ghost use Rattle.pg_dyn.specs.ContentFits.{ItemFits};
 ghost use Rattle.pg_dyn.specs.ScalarItems.{IsItemOf};
-ghost use Rattle.pg_dyn.specs.Seen.{item_seen, leaf_of, IsKey};
+ghost use Rattle.pg_dyn.specs.Seen.{leaf_of, IsKey};
 ghost use Rattle.pg_dyn.specs.Coding.{scalar_form, Raw};
-ghost use Rattle.pg_dyn.specs.Message.{Bytes};
+ghost use Rattle.pg_dyn.specs.Message.{Bytes, Msg};
 ghost use Rattle.pg_pairs.specs.Gaps.{gap, gap_item, item_of};
 ghost use Rattle.pg_pairs.specs.Views.{sight_of};
-ghost use Rattle.pg_pairs.specs.CarriedItems.{is_child_of, kept_item, leaf_by};
+ghost use Rattle.pg_pairs.specs.Carried.{item_by};
+ghost use Rattle.pg_pairs.specs.CarriedItems.{is_child_of, leaf_by};
+ghost use Rattle.pg_pairs.specs.Comparing.{value_item};
 ghost use Rattle.pg_dyn.specs.Fits.{Fits};
-ghost use Rattle.pg_dyn.specs.Kept.{Msg};
+ghost use Rattle.pg_dyn.specs.Kept.{message_of};
 
 use crate::gap_kind::Gap;
 use crate::scalar_gap::gap;
@@ -71,7 +73,7 @@ pub(crate) fn small_leaf(alloc: Global, scalar: Scalar, small: Small) -> Result<
 
 /// Such an item of the element; of messages it is the empty one.
 pub(crate) fn small_item(alloc: Global, element: Element, small: Small) -> Result<Value, AllocError>
-    ensures seen { IfOk result (λ value. (listed : Bool) → item_seen listed value ≡ kept_item small listed element) }
+    ensures seen { IfOk result (λ value. value_item value ≡ item_by (leaf_by small) element) }
     ensures fits { IfOk result (λ value. (shape : Shape) → ElementFits (length shape) element → ItemFits shape element value) }
 {
     match element {
@@ -90,7 +92,7 @@ pub(crate) fn child_item(
     child: Message,
 ) -> Result<Option<Value>, AllocError>
     ensures some { IfOk result (λ found. is_some found ≡ is_child_of element (Some child)) }
-    ensures seen { IfOk result (λ found. IfSome found (λ value. (listed : Bool) → item_seen listed value ≡ Msg listed child)) }
+    ensures seen { IfOk result (λ found. IfSome found (λ value. value_item value ≡ Msg (message_of child))) }
     ensures fits { IfOk result (λ found. (shape : Shape) → Fits shape child → IfSome found (ItemFits shape element)) }
 {
     let Element::Message(type_id) = element else {

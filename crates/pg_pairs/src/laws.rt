@@ -3,6 +3,7 @@
 ghost use Rattle.pg_pairs.specs.Carried.{EachChildCostsLess, EachChoiceIsCarried};
 ghost use Rattle.pg_pairs.specs.Cheapest.{CheapestIsLeast};
 ghost use Rattle.pg_pairs.specs.Contents.{ContentsCost};
+ghost use Rattle.pg_pairs.specs.Edges.{LeastCostsByEdges};
 ghost use Rattle.pg_pairs.specs.ElementGaps.{ElementGaps, UnseenAreNotZero};
 ghost use Rattle.pg_pairs.specs.FieldCosts.{ChildrenCost, ListsCost, MapsCost, SingleScalarsCost};
 ghost use Rattle.pg_pairs.specs.FirstSeen.{OnePairMore};
@@ -124,6 +125,12 @@ pub fn least_costs_are_lengths()
 /// As its bound, a pair's least cost is exact.
 pub fn least_costs_are_exact()
     ensures { LeastCostsAreExact }
+{}
+
+/// A pair's least cost under a table is the least of its least cost without bounds and of what its edges cost at the
+/// bounds of their children.
+pub fn least_costs_by_edges()
+    ensures { LeastCostsByEdges }
 {}
 
 /// One pair more at the end of a list stands among its distinct pairs if it isn't one of them.

@@ -18,8 +18,8 @@ use std::alloc::{AllocError, Global};
 /// edge to a child costs at the child's bound.
 ///
 /// The laws: children of known pairs are known; at most 2^24 pairs are, and a known pair has at most 2^30 edges, each
-/// from the pair to one of its children; costs are above 0 and at most 2,147,483,647, and an edge costs more than the
-/// bound of its child.
+/// from the pair to one of its children; costs are above 0 and at most 2,147,483,647, and at a bound above 0 an edge
+/// costs more than this.
 pub trait Prices {
     ghost is_known: { Self → Pair → Bool };
 
@@ -41,7 +41,7 @@ pub trait Prices {
 
     ghost bases_are_lengths: { (graph : Self) (pair : Pair) → is_known graph pair ≡ true → IfSome (base_of graph pair) (λ cost. (1 ≤ cost) × (cost ≤ cap)) };
 
-    ghost edges_cost_more: { (graph : Self) (pair : Pair) (edge : Edge) (bound : ℕ) → is_known graph pair ≡ true → IsAmong edge (edges_of graph pair) → IfSome (price_of graph edge bound) (λ cost. (bound < cost) × (cost ≤ cap)) };
+    ghost edges_cost_more: { (graph : Self) (pair : Pair) (edge : Edge) (bound : ℕ) → 1 ≤ bound → is_known graph pair ≡ true → IsAmong edge (edges_of graph pair) → IfSome (price_of graph edge bound) (λ cost. (bound < cost) × (cost ≤ cap)) };
 
     /// Whether the pair is known.
     fn knows(&self, pair: Pair) -> bool

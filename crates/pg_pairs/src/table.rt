@@ -2,6 +2,7 @@
 
 ghost use Rattle.std.specs.Prelude.{◌≡◌};
 ghost use Rattle.pg_pairs.specs.Choices.{Table};
+ghost use Rattle.pg_pairs.specs.Edges.{no_bounds};
 
 use crate::choice::Pair;
 
@@ -12,4 +13,15 @@ pub trait Table {
     /// The pair's bound: `None` where the pair isn't there, `Some(None)` where no message of it breaks.
     fn bound(&self, pair: Pair) -> Option<Option<u32>>
         ensures { result ≡ bounds self.now pair };
+}
+
+/// The table in which no pair is.
+pub(crate) struct NoBounds;
+
+impl Table for NoBounds {
+    ghost bounds = { λ _. no_bounds };
+
+    fn bound(&self, _pair: Pair) -> Option<Option<u32>> {
+        None
+    }
 }

@@ -3,7 +3,7 @@
 ghost use Rattle.pg_show.specs.Hex.{WordsReadAgain};
 ghost use Rattle.pg_show.specs.Worked.{WorkedRows};
 
-use pg_dyn::fault_examples;
+use pg_dyn::laws::fault_examples;
 
 /// Small messages and their lines, and words and their bytes.
 pub fn worked_rows()

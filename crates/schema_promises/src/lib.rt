@@ -20,10 +20,16 @@ use std::alloc::{AllocError, Global};
 pub fn from_parts(alloc: Global, parts: Parts) -> Result<Schema, (PartsError, Parts)>
     ensures schema { IfOk result (λ schema. schema ≡ parts) }
     ensures checked { OnOk result (IsSchema parts) }
-    ensures back { IfErr result (λ refused. refused.1 ≡ parts) }
-    ensures broken { IfErr result (λ refused. refused.0 ≡ Invariant → IsSound parts → ⊥) }
 {
     Schema::from_parts(alloc, parts)
+}
+
+/// What `Schema::from_parts` refuses.
+pub fn from_parts_refused(alloc: Global, bad: Parts) -> Result<Schema, (PartsError, Parts)>
+    ensures back { IfErr result (λ refused. refused.1 ≡ bad) }
+    ensures broken { IfErr result (λ refused. refused.0 ≡ Invariant → IsSound bad → ⊥) }
+{
+    Schema::from_parts(alloc, bad)
 }
 
 /// What `Schema::parts` answers. Only an edit reads the other schema.

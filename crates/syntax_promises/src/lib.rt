@@ -14,13 +14,19 @@ use pg_syntax::SyntaxError;
 use pg_syntax::tree::{FileTree, Text};
 use std::alloc::{AllocError, Global};
 
-/// What `parse` answers.
+/// What `parse` answers: the tree.
 pub fn parse(alloc: Global, tokens: &[Token], end: usize) -> Result<FileTree, SyntaxError>
     ensures tree { IfOk result (λ file. Derives (grammar.file 64) (view.file file) × Stands (view.file file) (placed tokens.now)) }
     ensures spelled { IfOk result (λ file. spell (view.file file) ≡ symbols (placed tokens.now)) }
-    ensures refused { IfErr result (λ e. Tells (grammar.file 64) end (placed tokens.now) e) }
 {
     pg_syntax::parse(alloc, tokens, end)
+}
+
+/// What `parse` refuses.
+pub fn parse_refused(alloc: Global, bad: &[Token], end: usize) -> Result<FileTree, SyntaxError>
+    ensures { IfErr result (λ e. Tells (grammar.file 64) end (placed bad.now) e) }
+{
+    pg_syntax::parse(alloc, bad, end)
 }
 
 /// What `Text::joined` answers.

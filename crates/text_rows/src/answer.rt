@@ -1,15 +1,22 @@
 //! What is printed of a row.
-use crate::{links, schema, tokens, tree};
+use crate::{folder, links, parts, schema, tokens, tree};
+use pg_link::Sources;
 use rows::cut;
 use std::alloc::{AllocError, Global};
 
-/// The answer of the row behind its first part.
-pub fn answer(alloc: Global, input: &str) -> Result<String, AllocError> {
+/// The answer of the row behind its first part. Only rows of folders ask the source.
+pub fn answer<S: Sources>(
+    alloc: Global,
+    source: &mut S,
+    input: &str,
+) -> Result<String, AllocError> {
     let (kind, input) = cut(input);
     match kind {
         "tokens" => tokens::answer(alloc, input),
         "tree" => tree::answer(alloc, input),
         "links" => links::answer(alloc, input),
+        "parts" => parts::answer(alloc, input),
+        "folder" => String::from_str(alloc, folder::answer(alloc, source, input)?),
         _ => schema::answer(alloc, input),
     }
 }

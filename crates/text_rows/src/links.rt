@@ -1,12 +1,14 @@
 //! Linked files.
+mod asked;
 mod failing_source;
 mod options;
 mod shown;
 
+use asked::answer_of;
 use failing_source::FailingSource;
 use options::{Options, options_of};
-use pg_link::{LinkError, Linked, Listed, link_below, read_file};
-use rows::{borrowed, cut, files_of, spelling};
+use pg_link::{LinkError, Linked, Listed, link_below, place_in, read_file};
+use rows::{borrowed, cut, files_of, number_of, spelling};
 use shown::{linked_files, refusal};
 use std::alloc::{AllocError, Global};
 
@@ -19,7 +21,8 @@ fn linked(alloc: Global, source: &mut Source, options: Options) -> Result<Linked
 
 fn of_links(alloc: Global, source: &mut Source, options: Options) -> Result<String, AllocError> {
     match linked(alloc, source, options) {
-        Ok(linked) => linked_files(alloc, &linked, options.names),
+        Ok(linked) if options.asked.is_empty() => linked_files(alloc, &linked, options.names),
+        Ok(linked) => answer_of(alloc, &linked, options.asked),
         Err(error) => refusal(alloc, &error),
     }
 }
@@ -48,11 +51,23 @@ fn of_reads(alloc: Global, source: &mut Source, options: Options) -> Result<Stri
     Ok(out)
 }
 
+// The place of a byte of the first file.
+fn of_place(alloc: Global, files: &[(&str, &[u8])], at: u32) -> Result<String, AllocError> {
+    let Some((path, text)) = files.first() else {
+        return String::from_str(alloc, "no file");
+    };
+    let place = place_in(alloc, path, text, at as usize)?;
+    format!(in alloc; "{}:{}:{}", place.file, place.line, place.column)
+}
+
 fn of_files(
     alloc: Global,
     files: &[(&str, &[u8])],
     options: Options,
 ) -> Result<String, AllocError> {
+    if let Some(offset) = options.asked.strip_prefix("at ") {
+        return of_place(alloc, files, number_of(offset));
+    }
     let mut source = FailingSource::new(Listed { files }, options.fails_at);
     if options.reads.is_empty() {
         of_links(alloc, &mut source, options)

@@ -5,18 +5,26 @@
 //! - `WHAT | tree | TEXT | WORD`: that for the text with the word in front of each token in turn, and behind the last.
 //! - `WHAT | links | FILES`: the files, each with what its uses of types resolve to, or the refusal; `links::options` says what else may
 //!   stand behind the files.
-//! - `WHAT | schema | FILES`: `taken`, or the refusal; with `| types`, `| enums`, `| services` or `| files` what the schema has of these.
+//! - `WHAT | parts | CALL | PIECES`: what `admit` or `from_parts` makes of parts that come from no text, which `parts::pieces` spells;
+//!   with `json_name` a name's default JSON name, and with `packable` whether a type's lists may be packed.
+//! - `WHAT | folder | PATH`: whether the folder of the system gives a file, misses it or fails.
+//! - `WHAT | schema | FILES`: `taken`, or the refusal; with `| types`, `| enums`, `| services` or `| files` what the schema has of these,
+//!   and with `| count` how many message types it has; with `| message NAME`, `| has PLACE`, `| type PLACE`, `| field PLACE NUMBER` and
+//!   `| enum PLACE` what these calls of the schema answer.
 //!
 //! `rows` says how texts and files are spelled.
 #![tactic(auto)]
 
 mod answer;
+mod folder;
 mod links;
+mod parts;
 mod placed;
 mod schema;
 mod tokens;
 mod tree;
 
+use pg_link::Folder;
 use rows::{cut, unrolled};
 use std::io;
 
@@ -24,7 +32,7 @@ fn main(rt: HostRuntime) -> io::Result<()> {
     for row in rt.lines(rt.alloc()) {
         let row = unrolled(rt.alloc(), row?.as_str())?;
         let (what, input) = cut(&row);
-        let answer = answer::answer(rt.alloc(), input)?;
+        let answer = answer::answer(rt.alloc(), &mut Folder::new(&rt), input)?;
         println!(rt; "{what} | {answer}")?;
     }
     Ok(())

@@ -1,15 +1,16 @@
 //! Schemas of files, of which the first is the root.
 mod code;
 
-use code::refusal;
+pub use code::refusal;
 use pg_check::build;
-use pg_link::{Linked, Listed, link};
-use pg_schema::{Parts, Schema};
-use rows::{borrowed, cut, files_of};
+use pg_link::{LinkError, Linked, Listed, link};
+use pg_schema::{EnumId, EnumType, Field, MessageType, Parts, Schema, TypeId};
+use rows::{borrowed, cut, files_of, number_of};
 use std::alloc::{AllocError, Global};
 
 fn shown(alloc: Global, parts: &Parts, asked: &str) -> Result<String, AllocError> {
     match asked {
+        "count" => format!(in alloc; "{} types", parts.types.len()),
         "types" => format!(in alloc; "{:?}", parts.types),
         "enums" => format!(in alloc; "{:?}", parts.enums),
         "services" => format!(in alloc; "{:?}", parts.services),
@@ -18,9 +19,56 @@ fn shown(alloc: Global, parts: &Parts, asked: &str) -> Result<String, AllocError
     }
 }
 
+fn name_of_type(found: Option<&MessageType>) -> &str {
+    match found {
+        Some(found) => found.name.as_str(),
+        None => "none",
+    }
+}
+
+fn name_of_enum(found: Option<&EnumType>) -> &str {
+    match found {
+        Some(found) => found.name.as_str(),
+        None => "none",
+    }
+}
+
+fn name_of_field(found: Option<&Field>) -> &str {
+    match found {
+        Some(found) => found.name.as_str(),
+        None => "none",
+    }
+}
+
+// The name of the field that `PLACE NUMBER` names.
+fn field<'a>(schema: &'a Schema, words: &str) -> &'a str {
+    let (place, number) = words.split_once(' ').unwrap_or((words, ""));
+    let index = number_of(place);
+    name_of_field(schema.field(TypeId { index }, number_of(number)))
+}
+
+// What the schema answers to a call by these words.
+fn answered(alloc: Global, schema: &Schema, call: &str, words: &str) -> Result<String, AllocError> {
+    let index = number_of(words);
+    match call {
+        "message" => format!(in alloc; "{:?}", schema.message(words)),
+        "has" => format!(in alloc; "{}", schema.has(TypeId { index })),
+        "type" => String::from_str(alloc, name_of_type(schema.message_type(TypeId { index }))),
+        "enum" => String::from_str(alloc, name_of_enum(schema.enum_type(EnumId { index }))),
+        _ => String::from_str(alloc, field(schema, words)),
+    }
+}
+
+fn of_schema(alloc: Global, schema: &Schema, asked: &str) -> Result<String, AllocError> {
+    match asked.split_once(' ') {
+        Some((call, words)) => answered(alloc, schema, call, words),
+        None => shown(alloc, schema.parts(), asked),
+    }
+}
+
 fn of_linked(alloc: Global, linked: &Linked, asked: &str) -> Result<String, AllocError> {
     match build(alloc, linked) {
-        Ok(schema) => shown(alloc, schema.parts(), asked),
+        Ok(schema) => of_schema(alloc, &schema, asked),
         Err(error) => refusal(alloc, &error),
     }
 }
@@ -29,6 +77,7 @@ fn of_files(alloc: Global, files: &[(&str, &[u8])], asked: &str) -> Result<Strin
     let root = files.first().map_or("", |file| file.0);
     match link(alloc, &mut Listed { files }, &[root]) {
         Ok(linked) => of_linked(alloc, &linked, asked),
+        Err(LinkError::Memory) => Err(AllocError),
         Err(_) => String::from_str(alloc, "not linked"),
     }
 }

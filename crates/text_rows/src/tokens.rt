@@ -49,6 +49,7 @@ fn answer_of(alloc: Global, text: &[u8]) -> Result<String, AllocError> {
     match lex(alloc, text) {
         Ok(found) if found.is_empty() => String::from_str(alloc, "no tokens"),
         Ok(found) => tokens(alloc, &found),
+        Err(LexError::Memory) => Err(AllocError),
         Err(error) => refusal(alloc, text, fault(error)),
     }
 }

@@ -3,7 +3,7 @@ mod one;
 mod shown;
 
 use one::answer_of;
-use pg_lex::{Token, lex};
+use pg_lex::{LexError, Token, lex};
 use rows::{cut, text_of, with_word};
 use std::alloc::{AllocError, Global};
 
@@ -34,6 +34,7 @@ fn at_each(alloc: Global, text: &[u8], tokens: &[Token], word: &str) -> Result<S
 fn answers(alloc: Global, text: &[u8], word: &str) -> Result<String, AllocError> {
     match lex(alloc, text) {
         Ok(tokens) => at_each(alloc, text, &tokens, word),
+        Err(LexError::Memory) => Err(AllocError),
         Err(_) => String::from_str(alloc, "no tokens"),
     }
 }

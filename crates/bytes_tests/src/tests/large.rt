@@ -1,6 +1,5 @@
 //! Messages with thousands of fields or entries.
-use super::shapes::schema_of;
-use super::{M, read, set, whole, write};
+use super::{M, read, schema_of, set, whole, write};
 use pg_dyn::{Content, Message, Value};
 use std::alloc::{AllocError, Global};
 use std::process::Abort;

@@ -10,5 +10,5 @@ returns-clause-type_is c = search rules
 pub returns-clause-reached : goal.returns-clause-reached
 returns-clause-reached c = search rules
 
-pub returns-clause-none : goal.returns-clause-none
-returns-clause-none c = search rules
+pub returns-clause-made : goal.returns-clause-made
+returns-clause-made c = search rules

@@ -6,9 +6,3 @@ returns-clause-schema c = search rules
 
 pub returns-clause-checked : goal.returns-clause-checked
 returns-clause-checked c = search rules
-
-pub returns-clause-back : goal.returns-clause-back
-returns-clause-back c = search rules
-
-pub returns-clause-broken : goal.returns-clause-broken
-returns-clause-broken c = search rules

@@ -6,6 +6,3 @@ returns-clause-tree c = search rules
 
 pub returns-clause-spelled : goal.returns-clause-spelled
 returns-clause-spelled c = search rules
-
-pub returns-clause-refused : goal.returns-clause-refused
-returns-clause-refused c = search rules

@@ -13,6 +13,8 @@ pub struct Options<'a> {
     pub names: &'a str,
     /// `read PATH PATH ..`: the files that are read in turn and printed, where none is linked.
     pub reads: &'a str,
+    /// `targets`, `resolve WORD WORD ..` or `at OFFSET`: what else the files are asked (`links::asked`).
+    pub asked: &'a str,
 }
 
 // The options with one more.
@@ -24,7 +26,8 @@ fn with_option<'a>(options: Options<'a>, spelled: &'a str) -> Options<'a> {
         "below" => options.folder = value,
         "fails" => options.fails_at = number_of(value),
         "names" => options.names = value,
-        _ => options.reads = value,
+        "read" => options.reads = value,
+        _ => options.asked = spelled,
     }
     options
 }
@@ -37,6 +40,7 @@ pub fn options_of<'a>(first_path: &'a str, spelled: &'a str) -> Options<'a> {
         fails_at: 0,
         names: "",
         reads: "",
+        asked: "",
     };
     if !spelled.is_empty() {
         for option in spelled.split(" | ") {

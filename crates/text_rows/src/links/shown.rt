@@ -18,7 +18,7 @@ pub fn refusal(alloc: Global, error: &LinkError) -> Result<String, AllocError> {
         LinkError::SourceFailed(place) => refusal_in(alloc, 309, place),
         LinkError::Lex(_, place) => refusal_in(alloc, 100, place),
         LinkError::Syntax(_, place) => refusal_in(alloc, 200, place),
-        LinkError::Memory => String::from_str(alloc, "E001"),
+        LinkError::Memory => Err(AllocError),
     }
 }
 

@@ -21,6 +21,6 @@ pub fn refusal(alloc: Global, error: &CheckError) -> Result<String, AllocError> 
         CheckError::TooManyTypes(place) => refusal_in(alloc, 413, place),
         CheckError::EnumEmpty(place) => refusal_in(alloc, 414, place),
         CheckError::BadParts(place) => refusal_in(alloc, 415, place),
-        CheckError::Memory => String::from_str(alloc, "E001"),
+        CheckError::Memory => Err(AllocError),
     }
 }

@@ -1,7 +1,7 @@
 //! The tree of one text.
 use super::shown::first_statement;
 use crate::placed::refusal;
-use pg_lex::{Token, lex};
+use pg_lex::{LexError, Token, lex};
 use pg_syntax::{SyntaxError, parse};
 use std::alloc::{AllocError, Global};
 
@@ -22,6 +22,7 @@ fn fault(error: SyntaxError) -> (u32, usize) {
 fn of_tokens(alloc: Global, text: &[u8], tokens: &[Token]) -> Result<String, AllocError> {
     match parse(alloc, tokens, text.len()) {
         Ok(file) => first_statement(alloc, &file),
+        Err(SyntaxError::Memory) => Err(AllocError),
         Err(error) => refusal(alloc, text, fault(error)),
     }
 }
@@ -30,6 +31,7 @@ fn of_tokens(alloc: Global, text: &[u8], tokens: &[Token]) -> Result<String, All
 pub fn answer_of(alloc: Global, text: &[u8]) -> Result<String, AllocError> {
     match lex(alloc, text) {
         Ok(tokens) => of_tokens(alloc, text, &tokens),
+        Err(LexError::Memory) => Err(AllocError),
         Err(_) => String::from_str(alloc, "no tokens"),
     }
 }

@@ -60,4 +60,14 @@ returns c = record {
   highest_value = refl;
   so_many_types = so_many_types;
   one_type_more = one_type_more;
+  field_place = λ f o. refl;
+  map_place = λ m o. refl;
+  number_place = λ m. refl;
+  name_place = λ m. refl;
+  json_name_place = λ m. refl;
+  value_place = λ v. refl;
+  value_name_place = λ v. refl;
+  item_place = λ highest r. refl;
+  bracket_place = λ owner s. refl;
+  statement_place = λ owner o. refl;
 }

@@ -14,7 +14,7 @@ use Rattle.pg_least.specs.declared.arcs.Arc.{Arc}
 use Rattle.pg_least.specs.Graphs.{IsArc, arcs_by, arcs_to_numbers}
 use Rattle.pg_least.specs.Least.{IsCounted, IsSettled, edges_to_numbers, lines}
 use Rattle.pg_least.specs.Places.{IsPlaced}
-use Rattle.pg_least.specs.Relaxing.{IsBalanced}
+use Rattle.pg_least.specs.Relaxing.{IsBalanced, cost_at}
 use Rattle.pg_least.proofs.Bounding.{arcs_are, bases_are_small, costs_are_bounds, least_bound, lines_long, numbers_of_lines, once_lines, pairs_of_lines, relaxed_count}
 use Rattle.pg_least.proofs.Placing.{among_each}
 use Rattle.pg_least.proofs.least_bounds.settle.Goals as goal
@@ -23,7 +23,7 @@ use Rattle.pg_least.proofs.least_bounds.settle.Goals as goal
 module _ (children : Pair → List Pair) (edges : Pair → List Edge) (base : Pair → Option ℕ) (price : Edge → ℕ → Option ℕ) (known : Pair → Bool)
     (edges_lead : (p : Pair) (e : Edge) → known p ≡ true → IsAmong e (edges p) → (e.from ≡ p) × IsAmong e.child (children p))
     (base_small : (p : Pair) → known p ≡ true → IfSome (base p) (λ n. (1 ≤ n) × (n ≤ cap)))
-    (cost_more : (p : Pair) (e : Edge) (bound : ℕ) → known p ≡ true → IsAmong e (edges p) → IfSome (price e bound) (λ n. (bound < n) × (n ≤ cap)))
+    (cost_more : (p : Pair) (e : Edge) (bound : ℕ) → 1 ≤ bound → known p ≡ true → IsAmong e (edges p) → IfSome (price e bound) (λ n. (bound < n) × (n ≤ cap)))
     (ps : List Pair) (each : AllByRecursion (λ (p : Pair). known p ≡ true) ps) (arcs : List Arc) (edges_are : map (λ (a : Arc). a.edge) arcs ≡ flat_map edges ps) (placed : AllByRecursion (IsPlaced ps) arcs) where
   from_own : (p : Pair) (e : Edge) → IsAmong p ps → IsAmong e (edges p) → e.from ≡ p
   from_own p e there of_p = (edges_lead p e (among_each (λ (q : Pair). known q ≡ true) p ps there each) of_p).0
@@ -35,7 +35,7 @@ module _ (children : Pair → List Pair) (edges : Pair → List Edge) (base : Pa
     each_bound : AllByRecursion (λ o. is_bound o ≡ true) costs
     each_bound =
         costs_are_bounds price arcs (map base ps) costs (bases_are_small base known base_small ps each)
-        (λ a bound among. let at = among_each (IsArc known edges (length ps)) a arcs among each_arc in cost_more a.edge.from a.edge bound at.known at.edge) balanced
+        (λ a bound some among. let at = among_each (IsArc known edges (length ps)) a arcs among each_arc in cost_more a.edge.from a.edge bound some at.known at.edge) balanced
 
     module _ (once : distinct ps ≡ ps) where
       settled : (root : Pair) → IsReachedInOrder children root ps → IsSettled children edges base price root (lines ps costs)
@@ -63,6 +63,13 @@ settle_all-requires-clause-arcs g c =
     subst₂ (λ (n : ℕ) (xs : List Arc). AllByRecursion (IsArc (g.G.Prices.is_known graph) (g.G.Prices.edges_of graph) n) xs) (sym long) (sym c.deref-4.ensures.value)
     (each_arc (g.G.Prices.children_of graph) (g.G.Prices.edges_of graph) (g.G.Prices.base_of graph) (g.G.Prices.price_of graph) (g.G.Prices.is_known graph) (g.G.Prices.edges_lead_to_children graph) (g.G.Prices.bases_are_lengths graph) (g.G.Prices.edges_cost_more graph)
     ps c.in_ok-pairs.ensures.known c.in_ok-arcs.arcs.items edges_are placed)
+
+pub settle_all-requires-clause-numbers : goal.settle_all-requires-clause-numbers
+settle_all-requires-clause-numbers g c i n is =
+    let graph = c.args.graph.now in
+    let bases = c.deref_mut.ensures.value ∙ c.in_ok-costs.ensures.bases ∙ ap (map (g.G.Prices.base_of graph)) c.deref.ensures.value in
+    (subst (λ o. IfSome o (λ n. (1 ≤ n) × (n ≤ cap))) (ap (λ (cs : List (Option ℕ)). cost_at cs i) (sym bases) ∙ is)
+    (bases_are_small (g.G.Prices.base_of graph) (g.G.Prices.is_known graph) (g.G.Prices.bases_are_lengths graph) c.in_ok-pairs.pairs.items c.in_ok-pairs.ensures.known i)).0
 
 pub table_of-requires-clause-bounds : goal.table_of-requires-clause-bounds
 table_of-requires-clause-bounds g c =

@@ -33,7 +33,7 @@ loop-arc-preserved g c =
           let (so_far, kept) = c.loop-arc.invariant.stands all done bases settled each s in
           let (among, child, child_is) = each_at (λ a. IsAmong a all × (is_set settled a.child ≡ true) × (cost_at c.args.costs.now a.child ≡ Some c.args.bound)) xs k unset c.loop-arc-test.true each in
           let (after, stays, long) = relaxes (arcs_by price) all bases (done ++ take k xs) c.loop-arc.costs settled (heap_items c.loop-arc.queue.heap) c.args.bound so_far x among child (kept x.child child ∙ child_is)
-          (cost_more (price x.edge c.args.bound) c.args.bound 2147483647 (g.G.Prices.edges_cost_more c.args.graph.now x.edge.from x.edge c.args.bound arc.known arc.edge))
+          (cost_more (price x.edge c.args.bound) c.args.bound 2147483647 (g.G.Prices.edges_cost_more c.args.graph.now x.edge.from x.edge c.args.bound (s.numbers x.child c.args.bound child_is) arc.known arc.edge))
           (subst (λ n. x.from < n) (sym c.loop-arc.auto.costs) arc.from)
           c.relax.new.costs (heap_items c.relax.new.queue.heap) c.in_ok-relax.ensures.relaxed in (
             subst (λ (ds : List Arc). Stands (arcs_by price) all bases ds c.relax.new.costs settled (heap_items c.relax.new.queue.heap) c.args.bound)

@@ -23,7 +23,7 @@ loop-bound-init g c =
       stands = (
         0,
         [],
-        at_start (g.G.Prices.price_of c.args.graph.now) c.args.arcs.now c.args.costs.now c.in_ok-settled.settled.items n (heap_items c.in_ok-queue.queue.heap) none c.in_ok-queue.ensures,
+        at_start (g.G.Prices.price_of c.args.graph.now) c.args.arcs.now c.args.costs.now c.in_ok-settled.settled.items n (heap_items c.in_ok-queue.queue.heap) none c.in_ok-queue.ensures c.requires.numbers,
         λ a among h. absurd (none_settled c.args.arcs.now c.in_ok-settled.settled.items n none a h),
       );
       counted = relaxed_none c.args.work.now ∙ ap (λ (xs : List Arc). relaxed_by (length xs) c.args.work.now) (sym (none_counted c.args.arcs.now c.in_ok-settled.settled.items n none));

@@ -1,37 +1,38 @@
 use Rattle.pg_schema.specs.Parts.{shape_of}
-use Rattle.pg_pairs.specs.Sight.{by_numbers}
+use Rattle.pg_pairs.specs.Views.{sight_of}
 use Rattle.pg_least.specs.Descent.{first_step}
-use Rattle.pg_least.proofs.Descents.{innermost, last_round, last_step, next_round, next_there, round, type_there}
+use Rattle.pg_least.proofs.Descents.{innermost, last_round, next_round, round}
 use Rattle.pg_least.proofs.witness.built.Goals as goal
 
 pub carried-requires : goal.carried-requires
-carried-requires c =
+carried-requires g c =
+    let sight = sight_of (g.V.View.is_alike c.args.view.now) (g.V.View.least_differing c.args.view.now) c.args.old.now c.args.new.now in
     let (table, whole) = c.requires in
     let old = shape_of c.args.old.now in
     let new = shape_of c.args.new.now in
-    let step = last_step by_numbers old new table c.args.steps.items c.args.last whole.way in
     record {
       child = tt;
-      old_type = type_there by_numbers old new table c.args.last.pair c.args.last.choice step.among;
-      round = last_round by_numbers old new table c.args.steps.items c.args.last whole;
+      round = last_round sight old new table c.args.steps.items c.args.last whole;
     }
 
 pub loop-step-init : goal.loop-step-init
-loop-step-init c =
+loop-step-init g c =
+    let sight = sight_of (g.V.View.is_alike c.args.view.now) (g.V.View.least_differing c.args.view.now) c.args.old.now c.args.new.now in
     let (table, whole) = c.requires in
-    innermost by_numbers (shape_of c.args.old.now) (shape_of c.args.new.now) table c.args.steps.items c.args.last c.in_ok-message.message whole c.in_ok-message.ensures.fits c.in_ok-message.ensures.type_is c.in_ok-message.ensures.reached
+    innermost sight (shape_of c.args.old.now) (shape_of c.args.new.now) table c.args.steps.items c.args.last c.in_ok-message.message whole c.in_ok-message.ensures.fits c.in_ok-message.ensures.type_is c.in_ok-message.ensures.reached
 
 pub carried-requires-in-Some : goal.carried-requires-in-Some
-carried-requires-in-Some c =
+carried-requires-in-Some g c =
+    let sight = sight_of (g.V.View.is_alike c.args.view.now) (g.V.View.least_differing c.args.view.now) c.args.old.now c.args.new.now in
     let old = shape_of c.args.old.now in
     let new = shape_of c.args.new.now in
     let first = first_step c.args.steps.items c.args.last in
     record {
       child = c.loop-step.invariant.fits;
-      old_type = next_there by_numbers old new first c.in-Some.step c.pop.new.self.items c.loop-step.steps.items c.loop-step.message c.loop-step.invariant c.in-Some.ensures.items;
-      round = next_round by_numbers old new first c.in-Some.step c.pop.new.self.items c.loop-step.steps.items c.loop-step.message c.loop-step.invariant c.in-Some.ensures.items;
+      round = next_round sight old new first c.in-Some.step c.pop.new.self.items c.loop-step.steps.items c.loop-step.message c.loop-step.invariant c.in-Some.ensures.items;
     }
 
 pub loop-step-preserved : goal.loop-step-preserved
-loop-step-preserved c =
-    round by_numbers (shape_of c.args.old.now) (shape_of c.args.new.now) (first_step c.args.steps.items c.args.last) c.in-Some.step c.pop.new.self.items c.loop-step.steps.items c.loop-step.message c.in_ok-message-2.message c.loop-step.invariant c.in-Some.ensures.items c.in_ok-message-2.ensures.fits c.in_ok-message-2.ensures.type_is c.in_ok-message-2.ensures.reached
+loop-step-preserved g c =
+    let sight = sight_of (g.V.View.is_alike c.args.view.now) (g.V.View.least_differing c.args.view.now) c.args.old.now c.args.new.now in
+    round sight (shape_of c.args.old.now) (shape_of c.args.new.now) (first_step c.args.steps.items c.args.last) c.in-Some.step c.pop.new.self.items c.loop-step.steps.items c.loop-step.message c.in_ok-message-2.message c.loop-step.invariant c.in-Some.ensures.items c.in_ok-message-2.ensures.fits c.in_ok-message-2.ensures.type_is c.in_ok-message-2.ensures.reached

@@ -1,24 +1,32 @@
-use Rattle.std.proofs.Common.{true, None, IfSome, option_map, sym, subst}
+use Rattle.std.proofs.Common.{Option, Some, None, IfSome, option_map}
+use Rattle.std.proofs.lemmas.Result.{IfOk-weaker}
 use Rattle.pg_schema.specs.Parts.{shape_of}
-use Rattle.pg_dyn.specs.Kept.{message_of}
-use Rattle.pg_pairs.specs.Carried.{choice_child, ChildReached}
-use Rattle.pg_pairs.specs.CarriedItems.{IsChoiceRound}
-use Rattle.pg_pairs.specs.Choices.{Table, choices}
-use Rattle.pg_pairs.specs.Laws.{ReachedBy}
-use Rattle.pg_pairs.specs.Among.{IsAmong}
+use Rattle.pg_schema.specs.Shape.{Shape}
+use Rattle.pg_dyn.specs.Fits.{Fits}
+use Rattle.pg_dyn.specs.Kept.{Kept, message_of}
+use Rattle.pg_pairs.specs.declared.choice.Pair.{Pair}
+use Rattle.pg_pairs.specs.Carried.{choice_child, ChildGiven, ChildReached, IsOfPair}
+use Rattle.pg_pairs.specs.Choices.{Table}
+use Rattle.pg_pairs.specs.Sight.{Sight}
 use Rattle.pg_pairs.specs.Views.{sight_of}
 use Rattle.pg_least.proofs.witness.carried.Goals as goal
 
-pub unreachable-requires : goal.unreachable-requires
-unreachable-requires c =
-    c.in_ok-message.ensures.none c.in-None.is
-    (subst (λ sight. IsChoiceRound sight (shape_of c.args.old.now) (shape_of c.args.new.now) c.args.step.pair c.args.step.choice c.args.child) (sym (c.numbers_are_alike.ensures c.args.old.now c.args.new.now)) c.requires.round)
+-- a child that is reached is one that is given
+given : (sight : Sight) (old new : Shape) (table : Table) (wanted : Option Pair) (child : Option Kept) → IfSome child (Fits old) → ChildReached sight old new table wanted (option_map message_of child) → IsOfPair wanted child → ChildGiven old wanted child
+given sight old new table None None fits reached of_pair = tt
+given sight old new table None (Some m) fits reached of_pair = absurd reached
+given sight old new table (Some p) None fits reached of_pair = absurd reached
+given sight old new table (Some p) (Some m) fits reached of_pair = (fits, of_pair)
+
+pub carry-requires : goal.carry-requires
+carry-requires g c =
+    let sight = sight_of (g.V.View.is_alike c.args.view.now) (g.V.View.least_differing c.args.view.now) c.args.old.now c.args.new.now in
+    let old = shape_of c.args.old.now in
+    let new = shape_of c.args.new.now in
+    let round = c.requires.round in
+    record { choice = (round.table, round.among); child = given sight old new round.table (choice_child old new c.args.step.pair c.args.step.choice) c.args.child c.requires.child round.reached round.of_pair }
 
 pub returns-clause-reached : goal.returns-clause-reached
-returns-clause-reached c =
-    let round = subst (λ sight. IsChoiceRound sight (shape_of c.args.old.now) (shape_of c.args.new.now) c.args.step.pair c.args.step.choice c.args.child) (sym (c.numbers_are_alike.ensures c.args.old.now c.args.new.now)) c.requires.round in
-    let all = subst (λ o. IfSome o (λ m. (table : Table) → IsAmong c.args.step.choice (choices (sight_of (λ _ _ _. true) (λ _ _ _. None) c.args.old.now c.args.new.now) table (shape_of c.args.old.now) (shape_of c.args.new.now) c.args.step.pair)
-    → ChildReached (sight_of (λ _ _ _. true) (λ _ _ _. None) c.args.old.now c.args.new.now) (shape_of c.args.old.now) (shape_of c.args.new.now) table (choice_child (shape_of c.args.old.now) (shape_of c.args.new.now) c.args.step.pair c.args.step.choice) (option_map message_of c.args.child)
-    → ReachedBy (sight_of (λ _ _ _. true) (λ _ _ _. None) c.args.old.now c.args.new.now) (shape_of c.args.old.now) (shape_of c.args.new.now) c.args.step.pair (message_of m) c.args.step.choice.cost)) c.in-Some.is c.in_ok-message.ensures.reached in
-    subst (λ sight. ReachedBy sight (shape_of c.args.old.now) (shape_of c.args.new.now) c.args.step.pair (message_of c.in-Some.message) c.args.step.choice.cost) (c.numbers_are_alike.ensures c.args.old.now c.args.new.now)
-    (all round.table round.among round.reached)
+returns-clause-reached g c =
+    let round = c.requires.round in
+    IfOk-weaker c.carry.result _ _ (λ m all. all round.table round.among round.reached) c.carry.ensures.reached

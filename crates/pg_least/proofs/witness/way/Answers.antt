@@ -6,13 +6,14 @@ use Rattle.pg_pairs.specs.Sight.{by_numbers}
 use Rattle.pg_cert.specs.Bounds.{bound_in}
 use Rattle.pg_cert.specs.declared.bounds.PairBound.{PairBound}
 use Rattle.pg_least.specs.declared.witness.Step.{Step}
-use Rattle.pg_least.specs.Descent.{IsExactTable, IsWay, first_step}
+use Rattle.pg_least.specs.Descent.{IsExactTable, IsWay, IsWholeWay, first_step}
 use Rattle.pg_least.proofs.Descents.{whole_is_way}
 use Rattle.pg_least.proofs.witness.way.Goals as goal
 
 pub steps_down-requires-clause-exact : goal.steps_down-requires-clause-exact
 steps_down-requires-clause-exact c =
-    subst (λ (bounds : List PairBound). IsExactTable by_numbers (shape_of c.args.old.now) (shape_of c.args.new.now) (bound_in bounds)) (sym c.bounds.ensures) c.requires.searched.exact
+    subst (λ sight. IsExactTable sight (shape_of c.args.old.now) (shape_of c.args.new.now) (bound_in c.bounds.result.now)) (sym (c.numbers_are_alike.ensures c.args.old.now c.args.new.now))
+    (subst (λ (bounds : List PairBound). IsExactTable by_numbers (shape_of c.args.old.now) (shape_of c.args.new.now) (bound_in bounds)) (sym c.bounds.ensures) c.requires.searched.exact)
 
 pub steps_down-requires-clause-number : goal.steps_down-requires-clause-number
 steps_down-requires-clause-number c =
@@ -27,7 +28,7 @@ returns c =
     let last = c.in_ok-steps.last in
     let all = c.push.new.self.items in
     let table = bound_in c.bounds.result.now in
-    let whole = c.in_ok-steps.ensures.whole in
+    let whole = subst (λ sight. IsWholeWay sight old new table steps last) (c.numbers_are_alike.ensures c.args.old.now c.args.new.now) c.in_ok-steps.ensures.whole in
     let made : IsWay by_numbers old new table (first_step steps last).pair (steps ++ last ∷ []) = whole_is_way by_numbers old new table steps last whole.way whole.ends in
     let joined : IsWay by_numbers old new table (first_step steps last).pair all =
     subst (λ (ss : List Step). IsWay by_numbers old new table (first_step steps last).pair ss) (sym c.in_ok-push.ensures.items) made in

@@ -11,9 +11,10 @@ use Rattle.pg_dyn.specs.Kept as kept
 use Rattle.pg_dyn.specs.Seen.{item_seen}
 use Rattle.std.proofs.lemmas.Result.{IfOk-weaker}
 use Rattle.pg_dyn.proofs.Lists.{list_all_each, each_at_index, each_from_take}
-use Rattle.pg_pairs.specs.Comparing.{items_meet, keyed, keyed_if, keyed_meet, keyed_shown}
+use Rattle.pg_pairs.specs.Comparing.{ItemHasEncoding, items_meet, Keyed, keyed, keyed_if, keyed_meet, keyed_shown}
 use Rattle.pg_pairs.proofs.SameSteps.{both_go_on, each_got, held_weight, of_number_seen, shown_weight, total, total_got, weight_is}
 use Rattle.pg_pairs.proofs.SameFields.{HeldFits, beside_with, first_alone, key_lent, keyed_fits, message_fits, second_alone, shown_filled, shown_fits}
+use Rattle.pg_pairs.proofs.SameLengths.{child_encoded, shown_encoded}
 use Rattle.pg_pairs.proofs.SameMessages.{all_found, no_fields, none_is, same_of_all, same_of_none}
 use Rattle.pg_pairs.proofs.comparing.+same.Goals.{is_same_message-in-Some+in_ok-are_same_fields+else-not-branch, is_same_message-in_default}
 use Rattle.pg_pairs.proofs.comparing.+same.Goals as goal
@@ -21,7 +22,7 @@ use Rattle.pg_pairs.proofs.comparing.+same.Goals as goal
 pub are_same_fields-is_same_field-requires : goal.are_same_fields-is_same_field-requires
 are_same_fields-is_same_field-requires g t c κs within =
     let found = each_at_index (λ (f : Field). field_at (fields (shape_of c.args.sides.now.old.now) (type_of c.args.message.now)) f.number ≡ Some (field_shape f)) c.args.list.now c.args.list.now c.loop-field.field-index c.field-item.result refl c.loop-field-test.true c.field-item.is c.requires.found in
-    (omega (arith, c.decreases, weight_is c.args.message.now), (within, (c.requires.old_schema, (c.requires.new_schema, (c.requires.fits, (c.requires.read_fits, found))))))
+    (omega (arith, c.decreases, weight_is c.args.message.now), (within, (c.requires.old_schema, (c.requires.new_schema, (c.requires.fits, (c.requires.encoded, (c.requires.read_fits, found)))))))
 
 pub are_same_fields-returns : goal.are_same_fields-returns
 are_same_fields-returns g t c =
@@ -56,8 +57,9 @@ is_same_content-is_same_item-requires g t c κs within =
     (keyed_fits (shape_of c.args.sides.now.old.now) c.args.fields.now.old.now.presence c.args.fields.now.old.now.element c.args.content.now c.requires.fits) c.held_at-first.ensures in
     let second = each_got (HeldFits (shape_of c.args.sides.now.new.now) c.args.fields.now.new.now.element) (keyed c.args.read.now) c.loop-at.at (option_copied c.held_at-second.result.key, c.held_at-second.result.item.now)
     (keyed_fits (shape_of c.args.sides.now.new.now) c.args.fields.now.new.now.presence c.args.fields.now.new.now.element c.args.read.now c.requires.read_fits) c.held_at-second.ensures in
+    let encoded = each_got (λ (x : Keyed). ItemHasEncoding (shape_of c.args.sides.now.old.now) x.1) (keyed c.args.content.now) c.loop-at.at (option_copied c.held_at-first.result.key, c.held_at-first.result.item.now) c.requires.encoded c.held_at-first.ensures in
     let less = total_got (keyed c.args.content.now) c.loop-at.at (option_copied c.held_at-first.result.key, c.held_at-first.result.item.now) c.held_at-first.ensures in
-    (omega (arith, c.decreases, less), (within, (c.requires.old_schema, (c.requires.new_schema, (first.1, second.1)))))
+    (omega (arith, c.decreases, less), (within, (c.requires.old_schema, (c.requires.new_schema, (first.1, (encoded, second.1))))))
 
 pub is_same_content-returns-then-not-branch : goal.is_same_content-returns-then-not-branch
 is_same_content-returns-then-not-branch g t c =
@@ -93,7 +95,10 @@ is_same_field-is_same_content-requires g t c κs within =
             c.requires.new_schema,
             (
               shown_fits (shape_of c.args.sides.now.old.now) c.args.message.now c.args.field.now.number (field_shape c.args.field.now) c.requires.old_schema.shape c.requires.fits c.requires.found c.get.result c.shown-content.result c.in-Some-Some.content c.get.ensures.fits c.shown-content.ensures.same c.in-Some-Some.is-0,
-              shown_fits (shape_of c.args.sides.now.new.now) c.args.read.now c.args.field.now.number (field_shape c.in-Some.beside.now) c.requires.new_schema.shape c.requires.read_fits found c.get-2.result c.shown-other.result c.in-Some-Some.other c.get-2.ensures.fits c.shown-other.ensures.same c.in-Some-Some.is-1,
+              (
+                shown_encoded (shape_of c.args.sides.now.old.now) c.requires.old_schema.shape c.args.message.now c.requires.fits c.requires.encoded c.args.field.now.number c.get.result c.shown-content.result c.in-Some-Some.content c.get.ensures.content c.shown-content.ensures.same c.in-Some-Some.is-0,
+                shown_fits (shape_of c.args.sides.now.new.now) c.args.read.now c.args.field.now.number (field_shape c.in-Some.beside.now) c.requires.new_schema.shape c.requires.read_fits found c.get-2.result c.shown-other.result c.in-Some-Some.other c.get-2.ensures.fits c.shown-other.ensures.same c.in-Some-Some.is-1,
+              ),
             ),
           ),
         ),
@@ -144,7 +149,10 @@ is_same_item-is_same_message-requires g t c κs within =
             c.requires.new_schema,
             (
               message_fits (shape_of c.args.sides.now.old.now) c.args.fields.now.old.now.element c.args.value.now c.deref.result.now child c.requires.fits,
-              message_fits (shape_of c.args.sides.now.new.now) c.args.fields.now.new.now.element c.args.read.now c.deref-in-Msg-Msg.result.now other c.requires.read_fits,
+              (
+                child_encoded (shape_of c.args.sides.now.old.now) c.args.value.now c.deref.result.now child c.requires.encoded,
+                message_fits (shape_of c.args.sides.now.new.now) c.args.fields.now.new.now.element c.args.read.now c.deref-in-Msg-Msg.result.now other c.requires.read_fits,
+              ),
             ),
           ),
         ),
@@ -162,7 +170,7 @@ is_same_message-are_same_fields-requires g t c κs within =
           c.requires.old_schema,
           (
             c.requires.new_schema,
-            (c.requires.fits, (c.requires.read_fits, all_found (shape_of c.args.sides.now.old.now) (type_of c.args.message.now) c.deref.result.now c.requires.old_schema.shape are)),
+            (c.requires.fits, (c.requires.encoded, (c.requires.read_fits, all_found (shape_of c.args.sides.now.old.now) (type_of c.args.message.now) c.deref.result.now c.requires.old_schema.shape are))),
           ),
         ),
       ),

@@ -11,9 +11,9 @@ use Rattle.pg_dyn.specs.declared.error.DynError.{DynError}
 use Rattle.pg_dyn.specs.declared.message.Content.{Content}
 use Rattle.pg_dyn.specs.declared.message.Message.{Message}
 use Rattle.pg_dyn.specs.Seen.{Rises}
-use Rattle.pg_dyn.specs.ContentFaults.{AnyOf, PassTwice, ContentsFault, ContentFault, HasKeyTwice, is_in_oneof, IsLowest, MayRefuseFor}
+use Rattle.pg_dyn.specs.ContentFaults.{AnyOf, PassTwice, ContentsFault, ContentFault, HasKeyTwice, is_in_oneof, members, IsLowest, MayRefuseFor}
 use Rattle.pg_dyn.specs.Setting.{IsWhole}
-use Rattle.pg_dyn.specs.Told.{count_of, TakesContent}
+use Rattle.pg_dyn.specs.Told.{TakesContent}
 use Rattle.pg_dyn.proofs.KeyLaws.{count_moved, each_moved}
 use Rattle.pg_dyn.proofs.Standing.{any_moved}
 use Rattle.pg_dyn.proofs.WholeSteps.{of_field, kept_under}
@@ -51,23 +51,22 @@ returns-then-has_number_twice-clause-refused c =
     let takes = subst (AllByRecursion (TakesContent (shape_of c.args.schema.now) c.args.type_id)) c.deref.ensures.value c.in_ok-check_contents.ensures in
     whole_twice c.args.schema.now c.args.type_id xs takes (inl (number, omega (arith, here, count)))
 
-pub returns-then-has_twice-clause-refused : goal.returns-then-has_twice-clause-refused
-returns-then-has_twice-clause-refused c =
+pub returns-then-not-each_oneof_once-clause-refused : goal.returns-then-not-each_oneof_once-clause-refused
+returns-then-not-each_oneof_once-clause-refused c =
     let xs = c.args.contents.items in
     let ys = c.sort_by_key.new.self.items in
-    let (oneof, two) = c.if-has_twice.ensures.twice refl in
-    let test = λ (x : ℕ × Content). is_in_oneof (fields (shape_of c.args.schema.now) c.args.type_id) oneof x.0 in
-    let here = subst (λ (os : List ℕ). 1 < count_of oneof os) c.deref-4.ensures.value two in
-    let there = subst (λ (zs : List (ℕ × Content)). count_of oneof c.in_ok-oneofs.oneofs.items ≡ length (filter (λ (x : ℕ × Content). is_in_oneof (fields (shape_of c.args.schema.now) c.args.type_id) oneof x.0) zs)) c.deref-3.ensures.value (c.in_ok-oneofs.ensures.counted oneof) in
-    let count = count_moved test xs ys c.sort_by_key.ensures.permutation in
+    let fs = fields (shape_of c.args.schema.now) c.args.type_id in
+    let (oneof, two) = c.each_oneof_once.ensures.twice c.if-not-each_oneof_once.true in
+    let here = subst (λ (zs : List (ℕ × Content)). 1 < length (members (fields (shape_of c.args.schema.now) c.args.type_id) oneof zs)) c.deref-3.ensures.value two in
+    let count = count_moved (λ (x : ℕ × Content). is_in_oneof (fields (shape_of c.args.schema.now) c.args.type_id) oneof x.0) xs ys c.sort_by_key.ensures.permutation in
     let takes = subst (AllByRecursion (TakesContent (shape_of c.args.schema.now) c.args.type_id)) c.deref.ensures.value c.in_ok-check_contents.ensures in
-    whole_twice c.args.schema.now c.args.type_id xs takes (inr (oneof, omega (arith, here, there, count)))
+    whole_twice c.args.schema.now c.args.type_id xs takes (inr (oneof, omega (arith, here, count)))
 
 pub check_all_keys-requires-clause-taken : goal.check_all_keys-requires-clause-taken
 check_all_keys-requires-clause-taken c =
     let P = TakesContent (shape_of c.args.schema.now) c.args.type_id in
     let takes = subst (AllByRecursion (TakesContent (shape_of c.args.schema.now) c.args.type_id)) c.deref.ensures.value c.in_ok-check_contents.ensures in
-    subst (AllByRecursion P) (sym c.deref-5.ensures.value) (each_moved P c.args.contents.items c.sort_by_key.new.self.items c.sort_by_key.ensures.permutation takes)
+    subst (AllByRecursion P) (sym c.deref-4.ensures.value) (each_moved P c.args.contents.items c.sort_by_key.new.self.items c.sort_by_key.ensures.permutation takes)
 
 pub returns-in_err-check_all_keys-clause-refused : goal.returns-in_err-check_all_keys-clause-refused
 returns-in_err-check_all_keys-clause-refused c =
@@ -81,10 +80,9 @@ returns-in_err-check_all_keys-clause-refused c =
     kept_under xs ys (c.sort_by_key.ensures.stable (λ (y : ℕ × Content). y.0) (always_returns_same _ _ _ (λ a r f k. search rules))) in
     let oneof_once : (o : ℕ) → length (filter (λ (x : ℕ × Content). is_in_oneof (fields (shape_of c.args.schema.now) c.args.type_id) o x.0) xs) ≤ 1 =
     λ o.
-    let here = subst (λ (os : List ℕ). count_of o os ≤ 1) c.deref-4.ensures.value (c.if-has_twice.ensures.once refl o) in
-    let there = subst (λ (zs : List (ℕ × Content)). count_of o c.in_ok-oneofs.oneofs.items ≡ length (filter (λ (x : ℕ × Content). is_in_oneof (fields (shape_of c.args.schema.now) c.args.type_id) o x.0) zs)) c.deref-3.ensures.value (c.in_ok-oneofs.ensures.counted o) in
+    let here = subst (λ (zs : List (ℕ × Content)). length (members (fields (shape_of c.args.schema.now) c.args.type_id) o zs) ≤ 1) c.deref-3.ensures.value (c.each_oneof_once.ensures.once c.if-not-each_oneof_once.false o) in
     let count = count_moved (λ (x : ℕ × Content). is_in_oneof (fields (shape_of c.args.schema.now) c.args.type_id) o x.0) xs ys moved in
-    omega (arith, here, there, count) in
+    omega (arith, here, count) in
     let fields_once = once fs xs (once_unsorted c.args.schema.now c.args.type_id xs ys same rises) oneof_once in
     let (y, is, from) = err_from_is_err_and c.from_residual-in_err-check_all_keys.result c.from_residual-in_err-check_all_keys.ensures.1 in
     let may : DynError → Type 0 = MayRefuseFor (ContentsFault (shape_of c.args.schema.now) c.args.type_id c.args.contents.items) in
@@ -94,7 +92,7 @@ returns-in_err-check_all_keys-clause-refused c =
     (λ twice.
     subst may (sym twice.0)
     (whole_key_twice c.args.schema.now c.args.type_id xs takes fields_once
-    (any_moved (λ (x : ℕ × Content). HasKeyTwice x.1) xs ys moved (subst (λ (zs : List (ℕ × Content)). AnyOf (λ (x : ℕ × Content). HasKeyTwice x.1) zs) c.deref-5.ensures.value twice.1)))) c.in_err-check_all_keys.ensures.err))
+    (any_moved (λ (x : ℕ × Content). HasKeyTwice x.1) xs ys moved (subst (λ (zs : List (ℕ × Content)). AnyOf (λ (x : ℕ × Content). HasKeyTwice x.1) zs) c.deref-4.ensures.value twice.1)))) c.in_err-check_all_keys.ensures.err))
 
 pub filled-requires-clause-taken : goal.filled-requires-clause-taken
 filled-requires-clause-taken c =
@@ -104,9 +102,8 @@ filled-requires-clause-taken c =
 pub filled-requires-clause-apart : goal.filled-requires-clause-apart
 filled-requires-clause-apart c =
     no_rivals_from (fields (shape_of c.args.schema.now) c.args.type_id) c.sort_by_key.new.self.items (λ o.
-    let here = subst (λ (os : List ℕ). count_of o os ≤ 1) c.deref-4.ensures.value (c.if-has_twice.ensures.once refl o) in
-    let there = subst (λ (zs : List (ℕ × Content)). count_of o c.in_ok-oneofs.oneofs.items ≡ length (filter (λ (x : ℕ × Content). is_in_oneof (fields (shape_of c.args.schema.now) c.args.type_id) o x.0) zs)) c.deref-3.ensures.value (c.in_ok-oneofs.ensures.counted o) in
-    omega (arith, here, there))
+    let here = subst (λ (zs : List (ℕ × Content)). length (members (fields (shape_of c.args.schema.now) c.args.type_id) o zs) ≤ 1) c.deref-3.ensures.value (c.each_oneof_once.ensures.once c.if-not-each_oneof_once.false o) in
+    here)
 
 pub returns-clause-ok : goal.returns-clause-ok
 returns-clause-ok c =
@@ -128,10 +125,9 @@ returns-clause-accepted c =
     kept_under xs ys (c.sort_by_key.ensures.stable (λ (y : ℕ × Content). y.0) (always_returns_same _ _ _ (λ a r f k. search rules))) in
     let oneof_once : (o : ℕ) → length (filter (λ (x : ℕ × Content). is_in_oneof (fields (shape_of c.args.schema.now) c.args.type_id) o x.0) xs) ≤ 1 =
     λ o.
-    let here = subst (λ (os : List ℕ). count_of o os ≤ 1) c.deref-4.ensures.value (c.if-has_twice.ensures.once refl o) in
-    let there = subst (λ (zs : List (ℕ × Content)). count_of o c.in_ok-oneofs.oneofs.items ≡ length (filter (λ (x : ℕ × Content). is_in_oneof (fields (shape_of c.args.schema.now) c.args.type_id) o x.0) zs)) c.deref-3.ensures.value (c.in_ok-oneofs.ensures.counted o) in
+    let here = subst (λ (zs : List (ℕ × Content)). length (members (fields (shape_of c.args.schema.now) c.args.type_id) o zs) ≤ 1) c.deref-3.ensures.value (c.each_oneof_once.ensures.once c.if-not-each_oneof_once.false o) in
     let count = count_moved (λ (x : ℕ × Content). is_in_oneof (fields (shape_of c.args.schema.now) c.args.type_id) o x.0) xs ys moved in
-    omega (arith, here, there, count) in
+    omega (arith, here, count) in
     let fields_once = once fs xs (once_unsorted c.args.schema.now c.args.type_id xs ys same rises) oneof_once in
-    let keys = subst (AllByRecursion (λ (x : ℕ × Content). HasKeyTwice x.1 → ⊥)) c.deref-5.ensures.value c.in_ok-check_all_keys.ensures.ok in
+    let keys = subst (AllByRecursion (λ (x : ℕ × Content). HasKeyTwice x.1 → ⊥)) c.deref-4.ensures.value c.in_ok-check_all_keys.ensures.ok in
     on_ok c.filled.result (whole_accepted c.args.schema.now c.args.type_id xs takes fields_once (each_moved (λ (x : ℕ × Content). HasKeyTwice x.1 → ⊥) ys xs (IsPermutation-sym xs ys moved) keys))

@@ -1,0 +1,105 @@
+//! The tables and certificates that callers hold. What the checker and texts answer stands in the rows of `answer_rows`.
+use super::M;
+use pg_cert::{Bounds, BoundsError, Certificate, PairBound};
+use pg_pairs::{Pair, Table};
+use pg_schema::TypeId;
+use std::alloc::{AllocError, Global};
+use std::test::Fail;
+
+const ROOT: Pair = Pair { old: M, new: M };
+
+/// A pair of types that aren't there.
+const OTHER: Pair = Pair {
+    old: TypeId { index: 1 },
+    new: TypeId { index: 0 },
+};
+
+pub(super) fn line(pair: Pair, bound: Option<u32>) -> PairBound {
+    PairBound { pair, bound }
+}
+
+/// The table of these bounds.
+pub(super) fn table(alloc: Global, bounds: &[PairBound]) -> Result<Bounds, Fail> {
+    match Bounds::new(alloc, bounds.to_vec(alloc)?) {
+        Ok(table) => Ok(table),
+        Err((BoundsError::Memory, _)) => Err(AllocError.into()),
+        Err((BoundsError::Invariant, _)) => Err("the bounds are no table".into()),
+    }
+}
+
+/// Whether the bounds are no table, and come back.
+fn is_refused(alloc: Global, bounds: &[PairBound]) -> Result<bool, Fail> {
+    match Bounds::new(alloc, bounds.to_vec(alloc)?) {
+        Ok(_) => Ok(false),
+        Err((BoundsError::Memory, _)) => Err(AllocError.into()),
+        Err((BoundsError::Invariant, back)) => Ok(back.as_slice() == bounds),
+    }
+}
+
+#[test]
+fn bounds_that_are_no_table(rt: HostRuntime) -> Result<(), Fail> {
+    let alloc = rt.alloc();
+    assert!(rt; is_refused(alloc, &[line(ROOT, None), line(ROOT, Some(2))])?);
+    for bound in [0, 2_147_483_648] {
+        assert!(rt; is_refused(alloc, &[line(ROOT, Some(bound))])?);
+    }
+    assert!(rt; !is_refused(alloc, &[line(ROOT, Some(2_147_483_647)), line(OTHER, None)])?);
+    Ok(())
+}
+
+// Where memory is refused the bounds come back. `tools/try_memory.sh` refuses each growth in turn.
+#[test]
+fn memory_for_bounds(rt: HostRuntime) -> Result<(), Fail> {
+    let bounds = vec![in rt.alloc(); line(ROOT, Some(11))]?;
+    if let Err((error, back)) = Bounds::new(rt.alloc(), bounds) {
+        assert_eq!(rt; error, BoundsError::Memory);
+        assert_eq!(rt; back.len(), 1);
+    }
+    Ok(())
+}
+
+// Whether the table has the two pairs with these bounds, and no other.
+fn has(table: &Bounds, root: Option<u32>, other: Option<u32>) -> bool {
+    let missing = Pair {
+        old: M,
+        new: OTHER.old,
+    };
+    table.len() == 2
+        && !table.is_empty()
+        && table.get(0) == Some(line(ROOT, root))
+        && table.get(1) == Some(line(OTHER, other))
+        && table.get(2).is_none()
+        && table.bound(ROOT) == Some(root)
+        && table.bound(OTHER) == Some(other)
+        && table.bound(missing).is_none()
+}
+
+#[test]
+fn the_bounds_of_a_table(rt: HostRuntime) -> Result<(), Fail> {
+    let table = table(rt.alloc(), &[line(ROOT, Some(11)), line(OTHER, None)])?;
+    assert!(rt; has(&table, Some(11), None));
+    Ok(())
+}
+
+#[test]
+fn another_bound(rt: HostRuntime) -> Result<(), Fail> {
+    let mut table = table(rt.alloc(), &[line(ROOT, None), line(OTHER, Some(11))])?;
+    table.set_bound(0, Some(8));
+    assert!(rt; has(&table, Some(8), Some(11)));
+    table.set_bound(1, None);
+    table.set_bound(2, Some(3));
+    assert!(rt; has(&table, Some(8), None));
+    Ok(())
+}
+
+#[test]
+fn a_witness_has_bytes(rt: HostRuntime) -> Result<(), Fail> {
+    let alloc = rt.alloc();
+    let Err((table, witness)) = Certificate::new(ROOT, table(alloc, &[])?, Some(Vec::new(alloc)))
+    else {
+        return Err("a witness without bytes".into());
+    };
+    assert!(rt; table.is_empty());
+    assert_eq!(rt; witness.map(|bytes| bytes.len()), Some(0));
+    Ok(())
+}

@@ -1,5 +1,0 @@
-//! Tests of `pg_cert` by its public calls, in a crate of their own so that what they test is proved once.
-#![tactic(auto)]
-
-#[cfg(test)]
-mod tests;

@@ -1,0 +1,39 @@
+//! The promises of `pg_fds`, of what is read, said again of calls of it: the edits of `must-fail` turn each answer, and every one must be refused.
+//! Clauses that no edit here turns, such as which of the schemas that a set states is read, aren't said again.
+#![tactic(auto)]
+
+ghost use Rattle.std.specs.Prelude.{ℕ, ◌≡◌, List, IfErr, IfOk};
+ghost use Rattle.pg_schema.specs.Sound.{IsSound};
+ghost use Rattle.pg_fds.specs.ReadAgain.{IsReadAgain};
+ghost use Rattle.pg_fds.specs.Reads.{fds_reads};
+ghost use Rattle.pg_fds.specs.Refused.{MayRefuseSet, NoneIsStated};
+ghost use Rattle.pg_fds.specs.Set.{fds};
+ghost use Rattle.pg_fds.specs.Views.{parts_view};
+
+use pg_fds::FdsError;
+use pg_schema::Schema;
+use std::alloc::Global;
+
+/// What `read` answers: a schema that the set states.
+pub fn read(alloc: Global, bytes: &[u8]) -> Result<Schema, FdsError>
+    ensures { IfOk result (λ schema. fds_reads bytes.now schema) }
+{
+    pg_fds::read(alloc, bytes)
+}
+
+/// What `read` refuses.
+pub fn read_refused(alloc: Global, bad: &[u8]) -> Result<Schema, FdsError>
+    ensures refused { IfErr result (MayRefuseSet bad.now) }
+    ensures none_stated { IfErr result (NoneIsStated bad.now) }
+{
+    pg_fds::read(alloc, bad)
+}
+
+/// What `read_again` answers.
+pub fn read_again(alloc: Global, schema: &Schema) -> Result<Schema, FdsError>
+    ensures stated { IfOk result (λ made. (bytes : List ℕ) → fds schema.now bytes → fds_reads bytes made) }
+    ensures sound { IfOk result IsSound }
+    ensures same { IfOk result (λ made. IsReadAgain schema.now → parts_view made ≡ parts_view schema.now) }
+{
+    pg_fds::read_again(alloc, schema)
+}

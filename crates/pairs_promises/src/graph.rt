@@ -1,0 +1,62 @@
+//! What the graph of two schemas answers.
+
+ghost use Rattle.std.specs.Prelude.{◌≡◌, ◌+◌, ◌<◌, ◌^◌, true, IfOk, OnOk};
+ghost use Rattle.pg_schema.specs.Parts.{shape_of};
+ghost use Rattle.pg_pairs.specs.Among.{IsAmong};
+ghost use Rattle.pg_pairs.specs.Edges as prices;
+ghost use Rattle.pg_pairs.specs.LeastCosts.{least_cost};
+ghost use Rattle.pg_pairs.specs.Views.{sight_of};
+ghost use Rattle.pg_pairs.specs.Works.{opened_more, relaxed_more};
+
+use pg_pairs::{Edge, Pair, Priced, Prices, View, Work};
+use std::alloc::{AllocError, Global};
+
+/// Whether it knows the pair.
+pub fn knows<V: View>(graph: &Priced<'_, V>, pair: Pair) -> bool
+    ensures { result ≡ prices.is_pair (shape_of graph.now.old.now) (shape_of graph.now.new.now) pair }
+{
+    graph.knows(pair)
+}
+
+/// The edges of the pair.
+pub fn edges<V: View>(
+    alloc: Global,
+    graph: &Priced<'_, V>,
+    pair: Pair,
+) -> Result<Vec<Edge>, AllocError>
+    requires { prices.is_pair (shape_of graph.now.old.now) (shape_of graph.now.new.now) pair ≡ true }
+    ensures { IfOk result (λ edges. edges.items ≡ prices.edges (shape_of graph.now.old.now) (shape_of graph.now.new.now) pair) }
+{
+    graph.edges(alloc, pair)
+}
+
+/// What the pair costs without a child.
+pub fn base<V: View>(
+    alloc: Global,
+    graph: &Priced<'_, V>,
+    pair: Pair,
+    work: &mut Work,
+) -> Result<Option<u32>, AllocError>
+    requires known { prices.is_pair (shape_of graph.now.old.now) (shape_of graph.now.new.now) pair ≡ true }
+    requires room { work.old.opened + 1 < 2 ^ 64 }
+    ensures cost { IfOk result (λ cost. cost ≡ least_cost (sight_of (V.is_alike graph.now.view.now) (V.least_differing graph.now.view.now) graph.now.old.now graph.now.new.now) prices.no_bounds (shape_of graph.now.old.now) (shape_of graph.now.new.now) pair) }
+    ensures counted { OnOk result (work.new ≡ opened_more work.old) }
+{
+    graph.base(alloc, pair, work)
+}
+
+/// What the edge costs at that bound of its child.
+pub fn edge_cost<V: View>(
+    graph: &Priced<'_, V>,
+    edge: &Edge,
+    bound: u32,
+    work: &mut Work,
+) -> Option<u32>
+    requires known { prices.is_pair (shape_of graph.now.old.now) (shape_of graph.now.new.now) edge.now.from ≡ true }
+    requires edge { IsAmong edge.now (prices.edges (shape_of graph.now.old.now) (shape_of graph.now.new.now) edge.now.from) }
+    requires room { work.old.relaxed + 1 < 2 ^ 64 }
+    ensures cost { result ≡ prices.edge_price (shape_of graph.now.old.now) edge.now bound }
+    ensures counted { work.new ≡ relaxed_more work.old }
+{
+    graph.edge_cost(edge, bound, work)
+}

@@ -1,5 +1,0 @@
-use Rattle.pg_dyn.proofs.PublicLaws as PublicLaws
-use Rattle.pg_dyn.proofs.field_laws.own_contents.Goals as goal
-
-pub returns : goal.returns
-returns c = PublicLaws.own_contents

@@ -1,5 +1,0 @@
-use Rattle.pg_dyn.proofs.PublicLaws as PublicLaws
-use Rattle.pg_dyn.proofs.field_laws.packable_wires.Goals as goal
-
-pub returns : goal.returns
-returns c = PublicLaws.packable_wires

@@ -1,5 +1,0 @@
-use Rattle.pg_dyn.proofs.PublicLaws as PublicLaws
-use Rattle.pg_dyn.proofs.field_laws.records_of_fields.Goals as goal
-
-pub returns : goal.returns
-returns c = PublicLaws.records_of_fields

@@ -1,0 +1,15 @@
+use Rattle.std.proofs.Common.{map, ap, ap₂, sym, ◌∙◌}
+use Rattle.pg_wire.specs.Reads.{seen_record}
+use Rattle.pg_dyn.specs.Borrowed.{fields_onto}
+use Rattle.pg_dyn.specs.Kept.{ends, type_of, unknown_of}
+use Rattle.pg_dyn.proofs.BorrowedParts.{fields_keep}
+use Rattle.pg_dyn.proofs.message_ref.MessageRef.contents.Goals as goal
+
+pub returns-clause-whole : goal.returns-clause-whole
+returns-clause-whole c =
+    let a = c.self.inside in
+    let keep = fields_keep a.fields.items (ends a.type_id (map seen_record a.unknown.items)) in
+    sym c.self.view_is
+    ∙ ap₂ (λ t us. fields_onto a.fields.items (ends t us)) (sym (fields_keep a.fields.items (ends a.type_id (map seen_record a.unknown.items))).1 ∙ ap type_of c.self.view_is)
+    (sym (fields_keep a.fields.items (ends a.type_id (map seen_record a.unknown.items))).0 ∙ ap unknown_of c.self.view_is)
+    ∙ ap (λ xs. fields_onto xs (ends (type_of c.args.self.now) (unknown_of c.args.self.now))) (sym c.as_slice.ensures.value)

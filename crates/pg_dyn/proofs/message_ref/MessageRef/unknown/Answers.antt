@@ -1,0 +1,10 @@
+use Rattle.std.proofs.Common.{map, ap, sym, ◌∙◌}
+use Rattle.pg_wire.specs.Reads.{seen_record}
+use Rattle.pg_dyn.specs.Kept.{ends, unknown_of}
+use Rattle.pg_dyn.proofs.BorrowedParts.{fields_keep}
+use Rattle.pg_dyn.proofs.message_ref.MessageRef.unknown.Goals as goal
+
+pub returns : goal.returns
+returns c =
+    let a = c.self.inside in
+    ap (map seen_record) c.as_slice.ensures.value ∙ sym (fields_keep a.fields.items (ends a.type_id (map seen_record a.unknown.items))).0 ∙ ap unknown_of c.self.view_is

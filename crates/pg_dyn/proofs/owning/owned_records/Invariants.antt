@@ -1,0 +1,8 @@
+-- the records so far
+use Rattle.std.proofs.Common.{◌≡◌, map, take}
+use Rattle.pg_wire.specs.Reads.{seen_record}
+use Rattle.pg_dyn.specs.Seen.{record_seen}
+use Rattle.pg_dyn.proofs.owning.owned_records.Given as goal
+
+abbrev pub invariant-loop-found : goal.invariant-loop-found
+invariant-loop-found l = map record_seen l.owned.items ≡ map seen_record (take l.found-index l.records)

@@ -1,5 +1,0 @@
-use Rattle.pg_dyn.proofs.PublicLaws as PublicLaws
-use Rattle.pg_dyn.proofs.reading_again.bodies_read_again.Goals as goal
-
-pub returns : goal.returns
-returns c = PublicLaws.bodies_read_again

@@ -1,5 +1,0 @@
-use Rattle.pg_dyn.proofs.PublicLaws as PublicLaws
-use Rattle.pg_dyn.proofs.reading_again.packed_bodies_read.Goals as goal
-
-pub returns : goal.returns
-returns c = PublicLaws.packed_bodies_read

@@ -1,0 +1,116 @@
+//! Messages that borrow, copied into ones that own their parts.
+
+ghost use Rattle.std.specs.Prelude.{◌≡◌, map, IfOk};
+ghost use Rattle.std.specs.List.{AllByRecursion};
+ghost use Rattle.pg_wire.specs.Reads.{seen_record};
+ghost use Rattle.pg_wire.specs.Records.{IsRecord};
+ghost use Rattle.pg_dyn.specs.Copies.{IsContentCopy, IsEntryCopy, IsItemCopy};
+ghost use Rattle.pg_dyn.specs.Seen.{record_seen};
+
+use crate::message::{Content, Message, UnknownRecord, Value};
+use crate::message_ref::{ContentRef, EntryRef, MessageRef, ValueRef};
+use pg_wire::Record;
+use std::alloc::{AllocError, Global};
+
+// A record with all its bytes.
+fn owned_record(alloc: Global, found: &Record<'_>) -> Result<UnknownRecord, AllocError>
+    requires { IsRecord (seen_record found.now) }
+    ensures { IfOk result (λ owned. record_seen owned ≡ seen_record found.now) }
+{
+    Ok(UnknownRecord {
+        number: found.number,
+        wire_type: found.wire_type,
+        body_start: found.bytes.len() - found.body.len(),
+        bytes: Vec::from_slice(alloc, found.bytes)?,
+    })
+}
+
+// The same of each record.
+fn owned_records(alloc: Global, records: &[Record<'_>]) -> Result<Vec<UnknownRecord>, AllocError>
+    requires { AllByRecursion IsRecord (map seen_record records.now) }
+    ensures { IfOk result (λ owned. map record_seen owned.items ≡ map seen_record records.now) }
+{
+    let mut owned = Vec::with_capacity(alloc, records.len())?;
+    for found in records {
+        owned.push(owned_record(alloc, found)?)?;
+    }
+    Ok(owned)
+}
+
+impl<'a> ValueRef<'a> {
+    // The item with a text, bytes or a message of its own.
+    #[cycle(owning)]
+    fn to_value(&self, alloc: Global) -> Result<Value, AllocError>
+        ensures { IfOk result (IsItemCopy self.now) }
+    {
+        match self {
+            ValueRef::Int(number) => Ok(Value::Int(*number)),
+            ValueRef::F32(bits) => Ok(Value::F32(*bits)),
+            ValueRef::F64(bits) => Ok(Value::F64(*bits)),
+            ValueRef::Text(text) => Ok(Value::Text(String::from_str(alloc, text)?)),
+            ValueRef::Bytes(bytes) => Ok(Value::Bytes(Vec::from_slice(alloc, bytes)?)),
+            ValueRef::Msg(child) => {
+                let owned = child.to_message(alloc)?;
+                Ok(Value::Msg(Box::new(alloc, owned)?))
+            }
+        }
+    }
+}
+
+impl<'a> EntryRef<'a> {
+    // The same of an entry's key and value.
+    #[cycle(owning)]
+    fn to_entry(&self, alloc: Global) -> Result<(Value, Value), AllocError>
+        ensures { IfOk result (IsEntryCopy self.now) }
+    {
+        let key = self.key.to_value(alloc)?;
+        let value = self.value.to_value(alloc)?;
+        Ok((key, value))
+    }
+}
+
+impl<'a> ContentRef<'a> {
+    // The same of all items of a content.
+    #[cycle(owning)]
+    fn to_content(&self, alloc: Global) -> Result<Content, AllocError>
+        ensures { IfOk result (IsContentCopy self.now) }
+    {
+        match self {
+            ContentRef::One(value) => Ok(Content::One(value.to_value(alloc)?)),
+            ContentRef::Many(values) => {
+                let mut owned = Vec::with_capacity(alloc, values.len())?;
+                for value in values {
+                    owned.push(value.to_value(alloc)?)?;
+                }
+                Ok(Content::Many(owned))
+            }
+            ContentRef::Map(entries) => {
+                let mut owned = Vec::with_capacity(alloc, entries.len())?;
+                for entry in entries {
+                    owned.push(entry.to_entry(alloc)?)?;
+                }
+                Ok(Content::Map(owned))
+            }
+        }
+    }
+}
+
+impl<'a> MessageRef<'a> {
+    /// The message with texts, bytes, messages and unknown records of its own.
+    #[cycle(owning)]
+    pub fn to_message(&self, alloc: Global) -> Result<Message, AllocError>
+        ensures { IfOk result (λ owned. owned ≡ self.now) }
+    {
+        let mut fields = Vec::with_capacity(alloc, self.fields.len())?;
+        for (number, content) in &self.fields {
+            fields.push((*number, content.to_content(alloc)?))?;
+        }
+        let unknown = owned_records(alloc, &self.unknown)?;
+        Ok(Message {
+            type_id: self.type_id,
+            fields,
+            unknown,
+            noted: Vec::new(alloc),
+        })
+    }
+}

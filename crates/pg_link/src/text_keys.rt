@@ -1,0 +1,36 @@
+//! How the index hashes names: by keys that whoever writes the names can't choose.
+ghost use Rattle.std.specs.Prelude.{◌≡◌};
+
+use crate::walk::SourceFile;
+use indexmap::IndexMap;
+use std::hash::{BuildHasher, DefaultHasher, Hasher};
+
+/// Hashes each name behind the texts of all files. So names that collide can't be sought before the texts are written that
+/// hold them: another name makes other texts, and by these all names hash otherwise. No clause speaks of hashes.
+#[derive(Clone, Copy, Debug)]
+pub(crate) struct TextKeys {
+    texts: DefaultHasher,
+}
+
+impl TextKeys {
+    /// The keys that the files' texts make.
+    pub(crate) fn of(files: &IndexMap<String, SourceFile>) -> TextKeys {
+        let mut texts = DefaultHasher::new();
+        for number in 0..files.len() {
+            if let Some((_, file)) = files.get_index(number) {
+                texts.write(&file.bytes);
+            }
+        }
+        TextKeys { texts }
+    }
+}
+
+impl BuildHasher for TextKeys {
+    type Hasher = DefaultHasher;
+
+    ghost build_hasher = { λ keys. keys.texts };
+
+    fn build_hasher(&self) -> DefaultHasher {
+        self.texts
+    }
+}

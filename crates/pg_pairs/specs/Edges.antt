@@ -1,0 +1,67 @@
+-- Two schemas as a graph: the edges of a pair of types are its fields that hold messages in both, and an edge costs what a choice
+-- through its child does.
+use Rattle.std.specs.Prelude.{◌≡◌, ℕ, ◌^◌, ◌<◌, ◌≤◌, nat_le, nat_lt, Bool, true, ◌&&◌, List, ◌∷◌, map, flat_map, length, if◌then◌else◌, Option, Some, None, option_and_then, IfSome}
+use Rattle.std.specs.List.{AllByRecursion}
+use Rattle.pg_schema.specs.declared.field.Presence.{Presence}
+use Rattle.pg_schema.specs.declared.field.Presence.TheVariants as presences
+use Rattle.pg_schema.specs.Shape.{Shape, FieldShape, IsShape, fields, field_at}
+use Rattle.pg_dyn.specs.Encoding.{cap}
+use Rattle.pg_pairs.specs.declared.choice.Pair.{Pair}
+use Rattle.pg_pairs.specs.declared.edge.Edge.{Edge}
+use Rattle.pg_pairs.specs.declared.edge.Part.{Part}
+use Rattle.pg_pairs.specs.declared.edge.Part.TheVariants.{Whole, Value}
+use Rattle.pg_pairs.specs.Sight.{Sight}
+use Rattle.pg_pairs.specs.Among.{IsAmong}
+use Rattle.pg_pairs.specs.Costs.{one_item, with_length}
+use Rattle.pg_pairs.specs.Choices.{Table}
+use Rattle.pg_pairs.specs.Covering.{children, children_beside, distinct}
+use Rattle.pg_pairs.specs.LeastCosts.{least_cost}
+use Rattle.pg_pairs.specs.LeastOf.{cost_under, least_of}
+
+-- both types of the pair are there
+abbrev pub is_pair : Shape → Shape → Pair → Bool
+is_pair old new pair = nat_lt pair.old.index (length old) && nat_lt pair.new.index (length new)
+
+-- of a map the value is the message
+abbrev pub part_of : Presence → Part
+part_of (presences.Map key) = Value
+part_of presences.Implicit = Whole
+part_of presences.Explicit = Whole
+part_of (presences.Repeated packed) = Whole
+
+abbrev pub edge_to : Pair → FieldShape → Pair → Edge
+edge_to pair f child = record { from = pair; child = child; number = f.number; part = part_of f.presence }
+
+-- an edge for each field with a child, by rising number
+abbrev pub edges : Shape → Shape → Pair → List Edge
+edges old new pair = flat_map (λ (f : FieldShape). map (edge_to pair f) (children_beside f (field_at (fields new pair.new) f.number))) (fields old pair.old)
+
+-- what costs more than an encoding may have is no cost
+abbrev pub within_cap : ℕ → Option ℕ
+within_cap n = if nat_le n cap then Some n else None
+
+-- a content of one item, whose body has as many bytes as the bound says
+abbrev pub child_cost : FieldShape → ℕ → Option ℕ
+child_cost f bound = within_cap (one_item f (with_length bound))
+
+abbrev pub edge_price : Shape → Edge → ℕ → Option ℕ
+edge_price old edge bound = option_and_then (λ f. child_cost f bound) (field_at (fields old edge.from.old) edge.number)
+
+-- no pair is there
+abbrev pub no_bounds : Table
+no_bounds pair = None
+
+-- There are at most 2^24 pairs of types, children are such pairs, and a pair has at most 2^30 edges; without bounds a pair costs a length
+-- that an encoding may have, and an edge costs such a length above its child's bound, or nothing.
+pub record ArePriced (old new : Shape) : Type 0 where
+  pub pairs_few : (pairs : List Pair) → distinct pairs ≡ pairs → AllByRecursion (λ p. is_pair old new p ≡ true) pairs → length pairs ≤ 2 ^ 24
+  pub children_there : (pair child : Pair) → IsAmong child (children old new pair) → is_pair old new child ≡ true
+  pub edges_few : (pair : Pair) → length (edges old new pair) ≤ 2 ^ 30
+  pub bases_are_lengths : (sight : Sight) (pair : Pair) → IfSome (least_cost sight no_bounds old new pair) (λ cost. (1 ≤ cost) × (cost ≤ cap))
+  pub costs_more : (edge : Edge) (bound : ℕ) → IfSome (edge_price old edge bound) (λ cost. (bound < cost) × (cost ≤ cap))
+
+-- A pair's least cost under a table is the least of its least cost without bounds and of what its edges cost under the table.
+abbrev pub LeastCostsByEdges : Type 0
+LeastCostsByEdges =
+    (sight : Sight) (old new : Shape) (table : Table) → IsShape old → (pair : Pair) →
+    least_cost sight table old new pair ≡ least_of (least_cost sight no_bounds old new pair ∷ map (cost_under (edge_price old) table) (edges old new pair))

@@ -1,0 +1,44 @@
+//! The promises of `pg_gate::run`, said again of calls of it: the edits of `must-fail` turn each answer, and every one must be refused.
+//! Clauses that no edit here turns, such as what a source's reads leave, aren't said again.
+#![tactic(auto)]
+
+ghost use Rattle.std.specs.Prelude.{◌≡◌, ◌≢◌, None, IfOk};
+ghost use Rattle.clap.specs.Walk.{texts};
+ghost use Rattle.pg_gate.specs.Call.{call_of};
+ghost use Rattle.pg_gate.specs.Grants.{Grants, seen};
+ghost use Rattle.pg_gate.specs.Run.{Prints};
+
+use pg_gate::{GateError, Sink};
+use pg_link::Sources;
+use std::alloc::Global;
+
+/// What `run` prints, where its words are a call.
+pub fn run<S: Sources, T: Sources, W: Sink>(
+    alloc: Global,
+    words: &[&str],
+    old: &mut S,
+    new: &mut T,
+    sink: &mut W,
+) -> Result<u8, GateError>
+    // The sink took exactly the text of the words' call and an answer granted to it.
+    ensures printed { IfOk result (λ status. status ≢ 4 → Prints
+        (Grants (seen (S.may_give old.old) (S.may_lack old.old) (S.failures old.old) (S.failures old.new))
+        (seen (T.may_give new.old) (T.may_lack new.old) (T.failures new.old) (T.failures new.new)))
+        (texts words.now) status (W.taken sink.old) (W.taken sink.new)) }
+{
+    pg_gate::run(alloc, words, old, new, sink)
+}
+
+/// When `run` ends with the status of usage.
+pub fn run_usage<S: Sources, T: Sources, W: Sink>(
+    alloc: Global,
+    said: &[&str],
+    old: &mut S,
+    new: &mut T,
+    sink: &mut W,
+) -> Result<u8, GateError>
+    // Only words that `clap` does not take end with it.
+    ensures usage { IfOk result (λ status. status ≡ 4 → call_of (texts said.now) ≡ None) }
+{
+    pg_gate::run(alloc, said, old, new, sink)
+}

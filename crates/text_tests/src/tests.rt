@@ -1,5 +1,0 @@
-mod building;
-mod folder;
-mod linked;
-mod linking;
-mod parts;

@@ -1,0 +1,37 @@
+"""Runs of a program with its requests for memory refused, one in each run: for try_program_memory.py and try_call_memory.py."""
+import itertools
+import os
+import resource
+import subprocess
+
+ROOT = os.path.dirname(os.path.dirname(os.path.abspath(__file__)))
+# How many seconds a run may take.
+LIMIT = 20
+
+
+def build_library(room):
+    """Builds the library that refuses (tools/refuse_memory.c) in this folder, and returns its path. Wants cc."""
+    library, source = os.path.join(room, "refuse.so"), os.path.join(ROOT, "tools/refuse_memory.c")
+    subprocess.run(["cc", "-O2", "-shared", "-fPIC", "-o", library, source, "-ldl"], check=True)
+    return library
+
+
+def ask_for_stack():
+    hard = resource.getrlimit(resource.RLIMIT_STACK)[1]
+    resource.setrlimit(resource.RLIMIT_STACK, (hard, hard))
+
+
+def runs_of(library, words, folder=None, stdin=b""):
+    """Runs a program whole, as turn 0, then with each request refused in turn until a run meets none. Gives each turn with the status,
+    what was printed, and the faults."""
+    for turn in itertools.count():
+        env = {**os.environ, "REFUSE_MEMORY": str(turn), "LD_PRELOAD": library}
+        how = {"cwd": folder, "env": env, "input": stdin, "capture_output": True, "timeout": LIMIT, "check": False}
+        ended = subprocess.run(words, **how)
+        if b"no such growth" in ended.stderr:
+            return
+        yield turn, ended.returncode, ended.stdout, ended.stderr
+
+
+def line_of(counts):
+    return "{refused} requests refused, {told} told, {answered} answered, {wrong} wrong".format_map(counts)

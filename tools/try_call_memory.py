@@ -1,0 +1,170 @@
+#!/usr/bin/env python3
+"""Runs the libraries' calls with each request for memory refused in turn: the 1st, the 2nd and so on, until a run meets none.
+
+    tools/try_call_memory.py [--jobs N] [CALL..]
+
+A call is made by a row of data (crates/*_rows/stdin), which the program of rows that `rt ci` built gets twice: where memory is refused
+to the first, the second has it again and gives its answer, the one in crates/*_rows/stdout. A row that lacks memory says so, by its code
+or its name; or the program ends with a fault, and has printed only answers of rows before. A row of `set` also prints the content
+that came back and the message as it is then: what it has to print so at some turn stands here. What rows don't show is a test
+(crates/*_tests): each passes, or hands on that memory was refused.
+
+A line is printed for each call: how many requests were refused, how often that was told, how often all answers came all the same, and
+how many runs did neither, which are printed. The last line has the sums; the status is 1 where a run did neither, or where no request
+of a call was told. Wants cc, for the library that refuses (tools/refuse_memory.c).
+"""
+import argparse
+import collections
+import multiprocessing
+import os
+import re
+import sys
+import tempfile
+import time
+
+sys.dont_write_bytecode = True
+from refusing import ROOT, ask_for_stack, build_library, line_of, runs_of  # noqa: E402
+
+CRATES = os.path.join(ROOT, "crates")
+# What a row answers that lacks memory, where it doesn't end the program.
+LACKS = re.compile(r"E001|E1 1:1|Memory")
+# How a program or a test ends that hands on want of memory.
+HANDED_ON = re.compile(rb"Error: Kind\(OutOfMemory\)\n|error: (AllocError|AllocFailed \{ \.\. \}|Memory)\n")
+# So many wrong runs of a row or a test are printed.
+MOST_PRINTED = 5
+
+# A call, the crate with its rows, their names, and what each has to say at some turn of memory that was refused.
+Rows = collections.namedtuple("Rows", "call crate rows told", defaults=[()])
+# A call, the crate with its tests, and their names.
+Tests = collections.namedtuple("Tests", "call crate tests")
+
+CALLS = [
+    Rows("lex", "text_rows", ["the escapes of control characters", "a character over two literals", "a float on the second line"]),
+    Rows("parse", "text_rows", ["each part of a message, one token a word", "streams both ways"]),
+    Rows("link", "text_rows", ["a file that two files import", "a circle of three files", "two messages of one name", "an import of an import"]),
+    Rows("resolve", "text_rows", ["uses of types in fields, maps and rpcs", "the first part of a dotted name decides", "a service as a type"]),
+    Rows("build", "text_rows", ["the message types of two files", "the services of two files"]),
+    Rows("admit", "text_rows", ["parts: two fields", "parts: an enum of two values", "parts: a reserved number"]),
+    Rows("from_parts", "text_rows", ["parts: two types"], ["Memory 2"]),
+    Rows("set", "bytes_rows", ["a member of a oneof clears the others"], ["Memory 7 -"]),
+    Rows("set", "bytes_rows", ["a map's entries are kept by rising key"], ["Memory {2:1 1:0 -1:1} -"]),
+    Rows("set", "bytes_rows", ["a key twice"], ["Memory 7 -", "Memory {1:1 1:0} 1007"]),
+    Rows("set", "bytes_rows", ["equal keys among others come back in their order"], ["Memory {3:1 1:0 3:0 2:1} -"]),
+    Rows("set", "bytes_rows", ["a map that is set by falling keys is written by rising ones"], ["Memory 7 -", "Memory {3:1 1:0} 1007"]),
+    Rows("set", "bytes_rows", ["the second member is written alone"], ["Memory 7 -"]),
+    Rows("whole", "bytes_rows", ["messages in a list, a map and a field, and an explicit zero", "a map by falling keys is written by rising ones"]),
+    Rows("decode", "bytes_rows", ["what is read holds the variant of its field"]),
+    Rows("encode", "bytes_rows", ["a copy of all shapes and of unknown records", "what a type with the fields 4 doesn't have"]),
+    Rows("show", "bytes_rows", ["all of these and unknown records are shown"]),
+    Rows("options, children", "answer_rows", ["the cheapest choice holds a child", "children beside two fields that meet"]),
+    Rows("carry, breaks", "answer_rows", ["message of a map whose key int32 becomes fixed32", "lists, texts and a child are kept"]),
+    Rows("search", "answer_rows", ["search of four steps down to no change", "search of a bound that falls"]),
+    Rows("way", "answer_rows", ["way of four steps down"]),
+    Rows("check", "answer_rows", ["a witness that is longer than the bound", "a child is missing"]),
+    Rows("to_text, from_text", "answer_rows", ["a text of two pairs without a witness", "a text of a witness of all letters"]),
+]
+
+
+def lines_of(crate, name):
+    with open(os.path.join(CRATES, crate, name), encoding="utf-8") as file:
+        return file.read().splitlines()
+
+
+def input_of(crate, row):
+    """Returns the lines before a row that it needs, the row, and what is printed of each: the types that were put last before it."""
+    given, wanted = lines_of(crate, "stdin"), lines_of(crate, "stdout")
+    places = [at for at, line in enumerate(given) if line.partition(" | ")[0] == row]
+    if len(places) != 1:
+        sys.exit(f"{crate} has {len(places)} rows {row!r}")
+    before = {}
+    for at in range(places[0]):
+        kind = given[at].partition(" | ")[2].partition(" ")[0]
+        if crate == "bytes_rows" and kind in ("type", "other"):
+            before[kind] = at
+    at = places[0]
+    return [given[it] for it in before.values()], [wanted[it] for it in before.values()], given[at], wanted[at]
+
+
+def kind_of_rows(said, status, faults, wanted, told):
+    """Returns what a run did that should print these lines, and the answer that lacks memory, if there is one."""
+    lines = said.decode(errors="replace").splitlines()
+    if status:
+        is_handed_on = lines == wanted[:len(lines)] and len(lines) < len(wanted) and HANDED_ON.fullmatch(faults)
+        return "told" if is_handed_on else "wrong", ""
+    others = [(line, want) for line, want in zip(lines, wanted) if line != want]
+    if not others and len(lines) == len(wanted):
+        return "answered", ""
+    (what, _, answer), (wanted_of, _, _) = (it.partition(" | ") for it in others[0]) if others else (("", "", ""), ("", "", ""))
+    is_lack = answer in told or LACKS.fullmatch(answer)
+    return "told" if is_lack and what == wanted_of and len(others) == 1 and len(lines) == len(wanted) else "wrong", answer
+
+
+def kind_of_test(said, status, faults):
+    if status == 0:
+        return "answered"
+    return "told" if HANDED_ON.fullmatch(faults) else "wrong"
+
+
+def runs_of_rows(call, row, library):
+    """Gives the turns of a row, with what each run did; at the end one more that is wrong for each answer that never came."""
+    program = os.path.join(CRATES, call.crate, "out", call.crate)
+    before, first, given, wanted = input_of(call.crate, row)
+    stdin, seen = "".join(line + "\n" for line in [*before, given, given]).encode(), set()
+    for turn, status, said, faults in runs_of(library, [program], None, stdin):
+        kind, answer = kind_of_rows(said, status, faults, [*first, wanted, wanted], call.told)
+        seen.add(answer)
+        yield turn, kind, (status, said[-200:], faults[-200:])
+    for answer in set(call.told) - seen:
+        yield 0, "wrong", f"never answered {answer!r}"
+
+
+def runs_of_test(call, test, library):
+    """Gives the turns of a test, with what each run did."""
+    program = os.path.join(CRATES, call.crate, "out", call.crate + "_tests")
+    listed = [it.partition(": ")[0] for it in os.popen(f"'{program}' --list").read().splitlines()]
+    for name in [it for it in listed if it.rpartition("::")[2] == test] or sys.exit(f"{call.crate} has no test {test}"):
+        for turn, status, said, faults in runs_of(library, [program, name]):
+            yield turn, kind_of_test(said, status, faults), (status, said[-200:], faults[-200:])
+
+
+def try_one(call, name, library):
+    """Refuses each request of a row or a test in turn, and returns the counts of refused, told, answered and wrong."""
+    counts = collections.Counter()
+    runs = runs_of_rows if isinstance(call, Rows) else runs_of_test
+    for turn, kind, seen in runs(call, name, library):
+        kind = "wrong" if kind == "told" and not turn else kind
+        counts["refused"] += turn > 0
+        counts[kind] += turn > 0 or kind == "wrong"
+        if kind == "wrong" and counts[kind] <= MOST_PRINTED:
+            print(f"{call.call}, {name!r}, request {turn}: {seen}", flush=True)
+    return counts
+
+
+def options_of():
+    parser = argparse.ArgumentParser(description=__doc__.partition("\n")[0])
+    parser.add_argument("--jobs", type=int, default=len(os.sched_getaffinity(0)))
+    parser.add_argument("calls", nargs="*", metavar="CALL", help="the calls that are tried; by default all")
+    return parser.parse_args()
+
+
+def main():
+    options, begun = options_of(), time.time()
+    calls = [it for it in CALLS if not options.calls or it.call in options.calls]
+    tries = [(it, name) for it in calls for name in (it.rows if isinstance(it, Rows) else it.tests)]
+    ask_for_stack()
+    with tempfile.TemporaryDirectory(prefix="protogate-memory-") as room:
+        library = build_library(room)
+        with multiprocessing.get_context("fork").Pool(options.jobs) as pool:
+            found = pool.starmap(try_one, [(*it, library) for it in tries], 1)
+    sums = {it.call: collections.Counter() for it in calls}
+    for (call, _), counts in zip(tries, found):
+        sums[call.call].update(counts)
+    for call, counts in sums.items():
+        print(f"{call}: {line_of(counts)}")
+    whole = sum(sums.values(), collections.Counter())
+    print(f"{len(sums)} calls by {len(tries)} rows and tests: {line_of(whole)}; {time.time() - begun:.0f} seconds")
+    return 0 if sums and all(it["told"] and not it["wrong"] for it in sums.values()) else 1
+
+
+if __name__ == "__main__":
+    sys.exit(main())
