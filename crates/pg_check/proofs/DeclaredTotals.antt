@@ -43,7 +43,7 @@ dot_within [] [] h = absurd (false≢true h)
 dot_within [] (c ∷ cs) h = refl
 dot_within (b ∷ bs) w h = refl
 
-scope_is : (scope w : List ℕ) → is_word w ≡ true → linked_within (behind_dot scope) w ≡ behind_dot (within scope w)
+pub scope_is : (scope w : List ℕ) → is_word w ≡ true → linked_within (behind_dot scope) w ≡ behind_dot (within scope w)
 scope_is scope w h = within_is scope w ∙ sym (dot_within scope w h)
 
 -- ---- what is in a scope beside message types and enums

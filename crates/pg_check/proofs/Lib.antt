@@ -41,6 +41,7 @@ pub mod Totals
 pub mod Regrouped
 pub mod NamedOnce
 pub mod DeclaredTotals
+pub mod NumberedNames
 pub mod ScopesOnce
 pub mod DeclaredPlaces
 pub mod PartPlaces

@@ -7,6 +7,7 @@ ghost use Rattle.pg_link.specs.Linked.{IsLinkedUp, LinkedFiles};
 ghost use Rattle.pg_check.specs.BrokenParts.{IsFirstBrokenPart, KeepsAll};
 ghost use Rattle.pg_check.specs.BrokenRules.{IsFirstBroken};
 ghost use Rattle.pg_check.specs.Declares.{Declares, first_broken};
+ghost use Rattle.pg_check.specs.EnumPlaces.{AreNumbered};
 ghost use Rattle.pg_check.specs.Errors.{IsTold};
 ghost use Rattle.pg_check.specs.Examples.{WorkedRules};
 ghost use Rattle.pg_check.specs.KeepsRules.{KeepsRules};
@@ -62,4 +63,10 @@ pub fn named_parts()
 /// named is there, each type stands once and in its scope, and full names differ.
 pub fn linked_parts()
     ensures { (linked : LinkedFiles) (parts : Parts) → IsLinkedUp linked → Declares (linked_sources linked.files) parts → IsSound parts }
+{}
+
+/// Linking numbers message types and enums in order of declaration, as the rules list them. So what a type
+/// name names by number is what it names by its full name, an enum also by its place scope by scope.
+pub fn linked_numbers()
+    ensures { (linked : LinkedFiles) → IsLinkedUp linked → AreNumbered linked.files }
 {}
