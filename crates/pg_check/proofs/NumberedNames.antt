@@ -1,9 +1,10 @@
 -- Linking numbers what files declare by its names, in order of declaration.
-use Rattle.std.proofs.Common.{◌≡◌, ◌∙◌, ℕ, zero, suc, ◌+◌, ◌<◌, ◌≤◌, Bool, true, false, cond, List, [], ◌∷◌, ◌++◌, length, map, flat_map, filter, get_or, slice_get, Option, Some, None, string_bytes, sym, ap, ap₂, subst, refl, arith}
+use Rattle.std.proofs.Common.{◌≡◌, ◌∙◌, ℕ, zero, suc, ◌+◌, ◌<◌, ◌≤◌, Bool, true, false, cond, List, [], ◌∷◌, ◌++◌, length, map, flat_map, filter, get_or, Option, Some, string_bytes, sym, ap, ap₂, subst, refl, arith}
 use Rattle.std.specs.List.{AllByRecursion, position_from}
 use Rattle.std.specs.Option.{unwrap_or}
 use Rattle.std.specs.Str.{bytes_eq}
-use Rattle.std.proofs.lemmas.List.{append-nil, length-map, map-append}
+use Rattle.std.proofs.lemmas.Bool.{false≢true}
+use Rattle.std.proofs.lemmas.List.{map-append}
 use Rattle.std.proofs.lemmas.List.Elements.{recursion_from_All}
 use Rattle.std.proofs.lemmas.Slice.Eq.{bytes_eq-Decides}
 use Rattle.pg_link.specs.declared.names.Kind.{Kind}
@@ -11,14 +12,14 @@ use Rattle.pg_link.specs.Declares.{Declarations, Done, Word, names_in, package_n
 use Rattle.pg_link.specs.Files.{Declared}
 use Rattle.pg_link.specs.Linked.{IsLinkedUp, LinkedFiles}
 use Rattle.pg_link.specs.Names.{Text}
-use Rattle.pg_link.specs.Outline.{all_of, file_names, of_enum, of_enum_part, of_oneof, of_oneof_part, of_part, of_row, of_service, of_service_part, of_statement, package_words, word}
+use Rattle.pg_link.specs.Outline.{all_of, file_names, of_enum, of_enum_part, of_oneof_part, of_part, of_row, of_service_part, of_statement, package_words}
 use Rattle.pg_link.specs.Targets.{all_declared, enum_names, is_enum, is_message, message_names, names_of}
 use Rattle.pg_link.specs.Walk.{Entry, IsParsed}
-use Rattle.pg_check.specs.EnumPlaces.{AreNumbered, declared_messages, declared_names, enum_full, enum_places, message_full, place_among, scoped_names}
+use Rattle.pg_check.specs.EnumPlaces.{AreNumbered, declared_messages, declared_names, enum_full, message_full, place_among, scoped_names}
 use Rattle.pg_check.specs.Outline.{Enum, Message, all_enums, all_messages, enums_in, file_enums, file_messages, full_name, messages_in, package_of, row_enums, row_messages, scoped_enums, statement_enums, statement_messages, statements_behind}
 use Rattle.pg_check.proofs.DeclaredTotals.{behind_dot, package_scope_is, scope_is, within_is}
 use Rattle.pg_check.proofs.ScopedEnums.{scoped_total}
-use Rattle.pg_check.proofs.Totals.{one, one_from, same_one, times, total, total_joined, total_map}
+use Rattle.pg_check.proofs.Totals.{one, one_from, same_one, times, total_joined, total_map}
 use Rattle.pg_check.proofs.WordTrees.{IsGood, file_good, rows_good}
 use Rattle.pg_check.proofs.WordedFiles.{IsGoodFile, IsGoodPart, IsGoodStatement, good_file}
 use Rattle.pg_syntax.specs.declared.tree as tree
@@ -310,29 +311,36 @@ as_often x (e ∷ es) =
     omega (arith, rest, here, left, right)
 
 -- a name of the list is found in its place
-found_in : (x : List ℕ) (i : ℕ) (front xs : List (List ℕ)) → length front ≡ i → 1 ≤ times x xs → get_or (front ++ xs) (unwrap_or (position_from (bytes_eq x) i xs) 0) [] ≡ x
-found_in x i front [] long some = absurd (omega (arith, some))
-found_in x i front (y ∷ ys) long some = by (bytes_eq x y) refl
-  where
-    by : (b : Bool) → bytes_eq x y ≡ b → get_or (front ++ y ∷ ys) (unwrap_or (cond b (Some i) (position_from (bytes_eq x) (i + 1) ys)) 0) [] ≡ x
-    by true is = subst (λ n. get_or (front ++ y ∷ ys) n [] ≡ x) long (at_end front ∙ sym ((bytes_eq-Decides x y).0 is))
-      where
-        at_end : (fs : List (List ℕ)) → get_or (fs ++ y ∷ ys) (length fs) [] ≡ y
-        at_end [] = refl
-        at_end (f ∷ fs) = at_end fs
-    by false is =
-        let none : one x y ≡ 0 = one_from x y (λ same. absurd (subst (λ c. c ≡ true → ⊥) (sym is) (λ (no : false ≡ true). cc (no)) ((bytes_eq-Decides x y).1 same))) in
-        let others : 1 ≤ times x ys = omega (arith, none, some) in
-        subst (λ zs. get_or zs (unwrap_or (position_from (bytes_eq x) (i + 1) ys) 0) [] ≡ x) (again front)
-        (found_in x (i + 1) (front ++ y ∷ []) ys (longer front ∙ ap (λ n. n + 1) long) others)
-      where
-        again : (fs : List (List ℕ)) → (fs ++ y ∷ []) ++ ys ≡ fs ++ y ∷ ys
-        again [] = refl
-        again (f ∷ fs) = ap (λ zs. f ∷ zs) (again fs)
+abbrev Found : (x : List ℕ) (i : ℕ) (front xs : List (List ℕ)) → Type 0
+Found x i front xs = get_or (front ++ xs) (unwrap_or (position_from (bytes_eq x) i xs) 0) [] ≡ x
 
-        longer : (fs : List (List ℕ)) → length (fs ++ y ∷ []) ≡ length fs + 1
-        longer [] = refl
-        longer (f ∷ fs) = let rest : length (fs ++ y ∷ []) ≡ length fs + 1 = longer fs in omega (arith, rest)
+at_end : (front : List (List ℕ)) (y : List ℕ) (ys : List (List ℕ)) → get_or (front ++ y ∷ ys) (length front) [] ≡ y
+at_end [] y ys = refl
+at_end (f ∷ fs) y ys = at_end fs y ys
+
+one_further : (front : List (List ℕ)) (y : List ℕ) (ys : List (List ℕ)) → (front ++ y ∷ []) ++ ys ≡ front ++ y ∷ ys
+one_further [] y ys = refl
+one_further (f ∷ fs) y ys = ap (λ zs. f ∷ zs) (one_further fs y ys)
+
+one_longer : (front : List (List ℕ)) (y : List ℕ) → length (front ++ y ∷ []) ≡ length front + 1
+one_longer [] y = refl
+one_longer (f ∷ fs) y = let rest : length (fs ++ y ∷ []) ≡ length fs + 1 = one_longer fs y in omega (arith, rest)
+
+differs : (x y : List ℕ) → bytes_eq x y ≡ false → one x y ≡ 0
+differs x y is = one_from x y (λ same. false≢true (sym is ∙ (bytes_eq-Decides x y).1 same))
+
+found_in : (x : List ℕ) (i : ℕ) (front xs : List (List ℕ)) → length front ≡ i → 1 ≤ times x xs → Found x i front xs
+found_in x i front [] long some = absurd (omega (arith, some))
+found_in x i front (y ∷ ys) long some =
+    by (bytes_eq x y) refl (λ others. found_in x (i + 1) (front ++ y ∷ []) ys (one_longer front y ∙ ap (λ n. n + 1) long) others)
+  where
+    by : (b : Bool) → bytes_eq x y ≡ b → (1 ≤ times x ys → Found x (i + 1) (front ++ y ∷ []) ys)
+        → get_or (front ++ y ∷ ys) (unwrap_or (cond b (Some i) (position_from (bytes_eq x) (i + 1) ys)) 0) [] ≡ x
+    by true is further = subst (λ n. get_or (front ++ y ∷ ys) n [] ≡ x) long (at_end front y ys ∙ sym ((bytes_eq-Decides x y).0 is))
+    by false is further =
+        let none : one x y ≡ 0 = differs x y is in
+        let others : 1 ≤ times x ys = omega (arith, none, some) in
+        subst (λ zs. get_or zs (unwrap_or (position_from (bytes_eq x) (i + 1) ys) 0) [] ≡ x) (one_further front y ys) (further others)
 
 -- each of these names is found among those
 all_found : (these names : List (List ℕ)) (number : ℕ) → ((x : List ℕ) → times x these ≤ times x names) → number < length these
