@@ -115,3 +115,9 @@ write_told parts e (inr long) = inl long
 pub read_told : (parts : Parts) (bytes slice : List ℕ) → slice ≡ bytes → fds parts bytes → (r : Result Parts FdsError) → IfErr r (MayRefuseSet slice) → IfErr r (NoneIsStated slice) → IfErr r (MayRefuseAgain parts)
 read_told parts bytes slice lent written (Ok made) may none = tt
 read_told parts bytes slice lent written (Err e) may none = inr (λ bs is. subst (λ x. MayRefuseSet x e × NoneIsStated x e) (lent ∙ written.0 ∙ sym is.0) (may, none))
+
+-- what is read of the bytes is stated by whatever bytes are its set
+pub read_stated : (parts : Parts) (bytes slice : List ℕ) → slice ≡ bytes → fds parts bytes → (r : Result Parts FdsError) → IfOk r (λ made. fds_reads slice made)
+    → IfOk r (λ made. (bs : List ℕ) → fds parts bs → fds_reads bs made)
+read_stated parts bytes slice lent written (Ok made) h = λ bs is. subst (λ x. fds_reads x made) (lent ∙ written.0 ∙ sym is.0) h
+read_stated parts bytes slice lent written (Err e) h = tt

@@ -1,5 +1,9 @@
-use Rattle.pg_fds.proofs.ReadAgain.{read_refused, read_same, read_told}
+use Rattle.pg_fds.proofs.ReadAgain.{read_refused, read_same, read_stated, read_told}
 use Rattle.pg_fds.proofs.again.read_again.Goals as goal
+
+pub returns-clause-stated : goal.returns-clause-stated
+returns-clause-stated c =
+    read_stated c.args.schema.now c.in_ok-bytes.bytes.items c.as_slice.result.now c.as_slice.ensures.value c.in_ok-bytes.ensures.ok c.read.result c.read.ensures.ok
 
 pub returns-clause-same : goal.returns-clause-same
 returns-clause-same c =
