@@ -21,6 +21,7 @@ ghost use Rattle.pg_fds.specs.StatesTypes.{AreMarked};
 use crate::error::Unstated;
 use crate::files::mode_code;
 use crate::oneof_states::marks;
+use crate::proto;
 use crate::said::{MOST_DEEP, child_in, children, ensure, item, numbers, text, texts};
 use crate::service_states::services;
 use crate::states::{enums, same_text};
@@ -47,7 +48,7 @@ pub fn is_proto3(message: &Message) -> Result<bool, Unstated>
     ensures ok { IfOk result (λ proto3. proto3 ≡ is_proto3 (message_of message.now)) }
     ensures refused { OnErr result (IsUtf8 (text_at 12 (message_of message.now)) → ⊥) }
 {
-    Ok(text(message, 12)? == "proto3")
+    Ok(text(message, proto::FILE_SYNTAX)? == "proto3")
 }
 
 /// Whether the file is skipped: descriptor.proto, where it isn't proto3. Refused only where its name is no
@@ -56,7 +57,7 @@ pub fn is_skipped(message: &Message) -> Result<bool, Unstated>
     ensures ok { IfOk result (λ skipped. skipped ≡ is_skipped (message_of message.now)) }
     ensures refused { OnErr result (IsUtf8 (text_at 1 (message_of message.now)) → ⊥) }
 {
-    if !is_descriptor(text(message, 1)?) {
+    if !is_descriptor(text(message, proto::FILE_NAME)?) {
         return Ok(false);
     }
     // A syntax that is no text isn't that of proto3.
@@ -125,7 +126,7 @@ fn has_options(message: &Message, options: &[FileOption]) -> Result<(), Unstated
 pub fn own_options(message: &Message) -> Option<&Message>
     ensures { unwrap_or (option_map message_of (option_copied result)) (ends []) ≡ options_at 8 (message_of message.now) }
 {
-    let found = item(message, 8);
+    let found = item(message, proto::FILE_OPTIONS);
     match found {
         Some(value) => child_in(value),
         None => None,
@@ -200,27 +201,27 @@ pub fn file(
     ensures refused { IfErr result (λ r. IsSound source.now → is_file declared.now ≡ true
         → StatesFile (declared_in source.now) skips (message_of message.now) declared.now → r ≡ Memory) }
 {
-    let paths = texts(alloc, message, 3)?;
-    let public = numbers(alloc, message, 10)?;
+    let paths = texts(alloc, message, proto::FILE_DEPENDENCY)?;
+    let public = numbers(alloc, message, proto::FILE_PUBLIC_DEPENDENCY)?;
     let marks = marks(alloc, &public, paths.len())?;
     let scope = declared.package.as_str();
-    same_text(text(message, 1)?, &declared.name)?;
-    same_text(text(message, 2)?, scope)?;
+    same_text(text(message, proto::FILE_NAME)?, &declared.name)?;
+    same_text(text(message, proto::FILE_PACKAGE)?, scope)?;
     kept_imports(skips, &public, &marks, &paths, &declared.imports)?;
-    let inside = children(alloc, message, 4)?;
+    let inside = children(alloc, message, proto::FILE_MESSAGE_TYPE)?;
     types(alloc, source, MOST_DEEP, scope, &inside, &declared.types)?;
     enums(
         alloc,
         source,
         scope,
-        &children(alloc, message, 5)?,
+        &children(alloc, message, proto::FILE_ENUM_TYPE)?,
         &declared.enums,
     )?;
     services(
         alloc,
         source,
         scope,
-        &children(alloc, message, 6)?,
+        &children(alloc, message, proto::FILE_SERVICE)?,
         &declared.services,
     )?;
     options(message, &declared.options)?;

@@ -27,6 +27,7 @@ use crate::error::Unstated;
 use crate::fields::element_code;
 use crate::made_maps::{is_map, map_parts};
 use crate::outline::Named;
+use crate::proto;
 use crate::said::{count, ensure, flag, maybe_number, maybe_text, number, option, place_in, text};
 use crate::states::label_of;
 use pg_dyn::Message;
@@ -97,7 +98,7 @@ fn of_its_code(message: &Message, element: Element) -> Result<Element, Unstated>
     ensures refused { OnErr result (number_at 5 (message_of message.now) ≡ pos (element_code element) → ⊥) }
 {
     let code = element_code(element);
-    if number(message, 5) != i128::from(code) {
+    if number(message, proto::FIELD_TYPE) != i128::from(code) {
         return Err(Unstated::Reference);
     }
     Ok(element)
@@ -125,7 +126,7 @@ pub fn element(names: &BTreeMap<String, Named>, message: &Message) -> Result<Ele
         → StatesElement all (message_of message.now) e → made ≡ e) }
     ensures refused { OnErr result ((all : Declared) (e : StatedElement) → HasNames all names.now → StatesElement all (message_of message.now) e → ⊥) }
 {
-    let name = maybe_text(message, 6)?;
+    let name = maybe_text(message, proto::FIELD_TYPE_NAME)?;
     match name {
         Some(name) => named_element(names, message, name),
         None => scalar_element(message),
@@ -199,8 +200,8 @@ fn oneof(scope: &Scope<'_>, message: &Message) -> Result<Option<u32>, Unstated>
     ensures refused { OnErr result ((f : StatedField) → flag_at 17 (message_of message.now) ≡ f.states_optional
         → IfSome f.oneof (λ place. place < 2 ^ 32) → StandsAt scope.now.synthetic.items scope.now.members.items (message_of message.now) f → ⊥) }
 {
-    let named = maybe_number(message, 9);
-    let is_optional = flag(message, 17);
+    let named = maybe_number(message, proto::FIELD_ONEOF_INDEX);
+    let is_optional = flag(message, proto::FIELD_PROTO3_OPTIONAL);
     if !is_optional {
         return real_oneof(&scope.synthetic, named);
     }
@@ -251,7 +252,7 @@ fn presence(
     ensures plain { IfOk result (λ made. is_map made ≡ false) }
     ensures refused { OnErr result ((p : StatedPresence) → StatesPresence (message_of message.now) element member packed p → ⊥) }
 {
-    let optional = flag(message, 17);
+    let optional = flag(message, proto::FIELD_PROTO3_OPTIONAL);
     let label = label_of(message);
     if label != REPEATED {
         return Ok(singular(element, member, optional));
@@ -287,10 +288,10 @@ fn json_name(alloc: Global, message: &Message) -> Result<String, Unstated>
     ensures ok { IfOk result (λ name. string_bytes name ≡ json_name_at (message_of message.now)) }
     ensures refused { IfErr result (λ e. IsUtf8 (text_at 1 (message_of message.now)) → IsUtf8 (json_name_at (message_of message.now)) → e ≡ Memory) }
 {
-    let given = maybe_text(message, 10)?;
+    let given = maybe_text(message, proto::FIELD_JSON_NAME)?;
     match given {
         Some(given) => Ok(String::from_str(alloc, given)?),
-        None => Ok(default_json_name(alloc, text(message, 1)?)?),
+        None => Ok(default_json_name(alloc, text(message, proto::FIELD_NAME)?)?),
     }
 }
 
@@ -317,7 +318,7 @@ fn parts<'a>(
     if !is_map {
         return plain_parts(scope.names, message, member, packed);
     }
-    ensure(!flag(message, 17))?;
+    ensure(!flag(message, proto::FIELD_PROTO3_OPTIONAL))?;
     map_parts(alloc, scope.names, scope.name, entries, message)
 }
 
@@ -338,22 +339,26 @@ pub fn made_field<'a>(
         → StatesFieldAt all scope.now.names.now scope.now.name.now scope.now.synthetic.items scope.now.members.items (message_of message.now) f
         → HasNamedEntry all entries.old f → r ≡ Memory) }
 {
-    let packed = option(message, 8, 2);
+    let packed = option(message, proto::FIELD_OPTIONS, proto::FIELD_OPTIONS_PACKED);
     let oneof = oneof(scope, message)?;
     let (presence, element) = parts(alloc, scope, entries, message, oneof.is_some(), packed)?;
-    let name = String::from_str(alloc, text(message, 1)?)?;
+    let name = String::from_str(alloc, text(message, proto::FIELD_NAME)?)?;
     let json_name = json_name(alloc, message)?;
     Ok(Field {
-        number: count(message, 3),
+        number: count(message, proto::FIELD_NUMBER),
         name,
         presence,
         element,
         oneof,
         json_name,
-        states_optional: flag(message, 17),
+        states_optional: flag(message, proto::FIELD_PROTO3_OPTIONAL),
         options: FieldOptions {
             packed,
-            deprecated: option(message, 8, 3),
+            deprecated: option(
+                message,
+                proto::FIELD_OPTIONS,
+                proto::FIELD_OPTIONS_DEPRECATED,
+            ),
         },
     })
 }

@@ -30,6 +30,7 @@ use crate::file_states::{OPTIONS, is_left_out, own_options};
 use crate::made_fields::resolved;
 use crate::oneof_states::marks;
 use crate::outline::{Named, Outlined, OutlinedFile};
+use crate::proto;
 use crate::said::{
     children, flag, item, maybe_text, number_in, numbers, option, text, text_in, texts,
 };
@@ -75,17 +76,21 @@ fn method(
     ensures refused { IfErr result (λ e. (all : Declared) (d : StatedMethod) → HasNames all names.now → StatesMethod all (message_of message.now) d
         → e ≡ Memory) }
 {
-    let name = String::from_str(alloc, text(message, 1)?)?;
-    let input = called(names, message, 2)?;
-    let output = called(names, message, 3)?;
+    let name = String::from_str(alloc, text(message, proto::METHOD_NAME)?)?;
+    let input = called(names, message, proto::METHOD_INPUT_TYPE)?;
+    let output = called(names, message, proto::METHOD_OUTPUT_TYPE)?;
     Ok(Method {
         name,
         input,
         output,
-        client_streaming: flag(message, 5),
-        server_streaming: flag(message, 6),
+        client_streaming: flag(message, proto::METHOD_CLIENT_STREAMING),
+        server_streaming: flag(message, proto::METHOD_SERVER_STREAMING),
         options: MethodOptions {
-            deprecated: option(message, 4, 33),
+            deprecated: option(
+                message,
+                proto::METHOD_OPTIONS,
+                proto::METHOD_OPTIONS_DEPRECATED,
+            ),
         },
     })
 }
@@ -121,13 +126,17 @@ pub fn service(
 {
     let message = outlined.message;
     let name = outlined.name.clone()?;
-    let inside = children(alloc, message, 2)?;
+    let inside = children(alloc, message, proto::SERVICE_METHOD)?;
     let methods = methods(alloc, names, &inside)?;
     Ok(Service {
         name,
         methods,
         options: ServiceOptions {
-            deprecated: option(message, 3, 33),
+            deprecated: option(
+                message,
+                proto::SERVICE_OPTIONS,
+                proto::SERVICE_OPTIONS_DEPRECATED,
+            ),
         },
     })
 }
@@ -245,8 +254,8 @@ fn imports(alloc: Global, skips: bool, message: &Message) -> Result<Vec<Import>,
         → kept_imports skips (numbers_at 10 (message_of message.now)) 0 (texts_at 3 (message_of message.now)) ≡ map import_of is
         → list_all (is_place (length (texts_at 3 (message_of message.now)))) (numbers_at 10 (message_of message.now)) ≡ true → e ≡ Memory) }
 {
-    let paths = texts(alloc, message, 3)?;
-    let public = numbers(alloc, message, 10)?;
+    let paths = texts(alloc, message, proto::FILE_DEPENDENCY)?;
+    let public = numbers(alloc, message, proto::FILE_PUBLIC_DEPENDENCY)?;
     let marks = marks(alloc, &public, paths.len())?;
     let imports = kept(alloc, skips, &public, &marks, &paths)?;
     Ok(imports)
@@ -259,9 +268,9 @@ pub fn file(alloc: Global, skips: bool, outlined: &OutlinedFile<'_>) -> Result<F
     ensures refused { IfErr result (λ e. (all : Declared) (f : StatedFile) → IsOutlinedFile all skips outlined.now f → is_file f ≡ true → e ≡ Memory) }
 {
     let message = outlined.message;
-    let own_name = text(message, 1)?;
+    let own_name = text(message, proto::FILE_NAME)?;
     let name = String::from_str(alloc, own_name)?;
-    let own_package = text(message, 2)?;
+    let own_package = text(message, proto::FILE_PACKAGE)?;
     let package = String::from_str(alloc, own_package)?;
     let imports = imports(alloc, skips, message)?;
     let options = options(alloc, message)?;

@@ -31,6 +31,7 @@ use crate::error::Unstated;
 use crate::made_fields::{Scope, made_field};
 use crate::oneof_states::{marks, real_names, synthetic_places};
 use crate::outline::{Named, Outlined, OutlinedType};
+use crate::proto;
 use crate::said::{children, count, ensure, maybe_number, number, option, place_in, text, texts};
 use crate::type_states::entries_of;
 use pg_dyn::Message;
@@ -70,10 +71,14 @@ fn value(alloc: Global, message: &Message) -> Result<EnumValue, Unstated>
     ensures refused { IfErr result (λ e. (v : StatedValue) → StatesValue (message_of message.now) v → IsSmallValue v → e ≡ Memory) }
 {
     Ok(EnumValue {
-        name: String::from_str(alloc, text(message, 1)?)?,
-        number: whole(message, 2)?,
+        name: String::from_str(alloc, text(message, proto::VALUE_NAME)?)?,
+        number: whole(message, proto::VALUE_NUMBER)?,
         options: EnumValueOptions {
-            deprecated: option(message, 3, 1),
+            deprecated: option(
+                message,
+                proto::VALUE_OPTIONS,
+                proto::VALUE_OPTIONS_DEPRECATED,
+            ),
         },
     })
 }
@@ -96,8 +101,8 @@ fn value_range(message: &Message) -> Result<ReservedValues, Unstated>
     ensures refused { IfErr result (λ e. (r : StatedRange) → StatesValueRange (message_of message.now) r → AreSmallEnds r → e ≡ Memory) }
 {
     Ok(ReservedValues {
-        first: whole(message, 1)?,
-        last: whole(message, 2)?,
+        first: whole(message, proto::RANGE_START)?,
+        last: whole(message, proto::RANGE_END)?,
     })
 }
 
@@ -124,17 +129,24 @@ pub fn made_enum(alloc: Global, outlined: &Outlined<'_>) -> Result<EnumType, Uns
 {
     let message = outlined.message;
     let name = outlined.name.clone()?;
-    let values = values(alloc, &children(alloc, message, 2)?)?;
-    let reserved_numbers = value_ranges(alloc, &children(alloc, message, 4)?)?;
-    let reserved_names = copies(alloc, &texts(alloc, message, 5)?)?;
+    let values = values(alloc, &children(alloc, message, proto::ENUM_VALUE)?)?;
+    let reserved_numbers = value_ranges(
+        alloc,
+        &children(alloc, message, proto::ENUM_RESERVED_RANGE)?,
+    )?;
+    let reserved_names = copies(alloc, &texts(alloc, message, proto::ENUM_RESERVED_NAME)?)?;
     Ok(EnumType {
         name,
         values,
         reserved_numbers,
         reserved_names,
         options: EnumOptions {
-            allow_alias: option(message, 3, 2),
-            deprecated: option(message, 3, 3),
+            allow_alias: option(
+                message,
+                proto::ENUM_OPTIONS,
+                proto::ENUM_OPTIONS_ALLOW_ALIAS,
+            ),
+            deprecated: option(message, proto::ENUM_OPTIONS, proto::ENUM_OPTIONS_DEPRECATED),
         },
     })
 }
@@ -145,9 +157,9 @@ pub fn made_enum(alloc: Global, outlined: &Outlined<'_>) -> Result<EnumType, Uns
 fn field_range(message: &Message) -> ReservedFields
     ensures { (r : StatedFields) → StatesFieldRange (message_of message.now) r → is_reserved_range r ≡ true → result ≡ r }
 {
-    let end = count(message, 2);
+    let end = count(message, proto::RANGE_END);
     ReservedFields {
-        first: count(message, 1),
+        first: count(message, proto::RANGE_START),
         last: end.saturating_sub(1),
     }
 }
@@ -170,7 +182,7 @@ fn named_place(field: &Message, count: usize) -> Result<Option<usize>, Unstated>
     ensures within { IfOk result (λ found. IfSome found (λ place. place < count)) }
     ensures refused { OnErr result (has_place count (message_of field.now) ≡ false) }
 {
-    match maybe_number(field, 9) {
+    match maybe_number(field, proto::FIELD_ONEOF_INDEX) {
         None => Ok(None),
         Some(named) => Ok(Some(place_in(&named, count)?)),
     }
@@ -201,7 +213,7 @@ fn entries<'a>(
 {
     let mut entries = BTreeMap::new(alloc);
     for message in messages {
-        let name = String::from_str(alloc, text(message, 1)?)?;
+        let name = String::from_str(alloc, text(message, proto::MESSAGE_NAME)?)?;
         entries.insert(name, *message)?;
     }
     Ok(entries)
@@ -266,7 +278,7 @@ fn declared_fields(
         → map field_view made.items ≡ map field_view (fields_of t)) }
     ensures refused { IfErr result (λ e. (all : Declared) (scope : List ℕ) (t : StatedType) → StatesMadeType all names.now scope outlined.now t → e ≡ Memory) }
 {
-    let inside = children(alloc, outlined.message, 3)?;
+    let inside = children(alloc, outlined.message, proto::MESSAGE_NESTED_TYPE)?;
     let messages = entries_of(alloc, &inside)?;
     let entries = entries(alloc, &messages)?;
     let members = member_counts(alloc, own, synthetic.len())?;
@@ -360,8 +372,8 @@ fn made_members(
         → HasMembers made t) }
     ensures refused { IfErr result (λ e. (all : Declared) (scope : List ℕ) (t : StatedType) → StatesMadeType all names.now scope outlined.now t → e ≡ Memory) }
 {
-    let own = children(alloc, outlined.message, 2)?;
-    let inside = children(alloc, outlined.message, 8)?;
+    let own = children(alloc, outlined.message, proto::MESSAGE_FIELD)?;
+    let inside = children(alloc, outlined.message, proto::MESSAGE_ONEOF_DECL)?;
     members_of(alloc, names, outlined, &own, &inside)
 }
 
@@ -377,9 +389,9 @@ pub fn made_type(
 {
     let message = outlined.message;
     let members = made_members(alloc, names, outlined)?;
-    let ranges = children(alloc, message, 9)?;
+    let ranges = children(alloc, message, proto::MESSAGE_RESERVED_RANGE)?;
     let reserved_numbers = field_ranges(alloc, &ranges)?;
-    let reserved = texts(alloc, message, 10)?;
+    let reserved = texts(alloc, message, proto::MESSAGE_RESERVED_NAME)?;
     let reserved_names = copies(alloc, &reserved)?;
     let name = outlined.name.clone()?;
     let nested_types = outlined.types.clone()?;
@@ -394,7 +406,11 @@ pub fn made_type(
         reserved_numbers,
         reserved_names,
         options: MessageOptions {
-            deprecated: option(message, 7, 3),
+            deprecated: option(
+                message,
+                proto::MESSAGE_OPTIONS,
+                proto::MESSAGE_OPTIONS_DEPRECATED,
+            ),
         },
     })
 }

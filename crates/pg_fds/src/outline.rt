@@ -18,6 +18,7 @@ ghost use Rattle.pg_fds.specs.Walks.{places_from};
 use crate::declare::{declare, declare_each, declare_package, full_name, real_oneofs};
 use crate::error::Unstated;
 use crate::oneof_states::{marks, synthetic_places};
+use crate::proto;
 use crate::said::{children, text};
 use crate::type_states::{entries_of, types_of};
 use pg_dyn::Message;
@@ -98,12 +99,12 @@ fn outline_enum<'a>(
     ensures refused { IfErr result (λ e. length enums.old.items < 2 ^ 32 → (packages : List (List ℕ))
         → WantsMemory packages (enum_names scope.now (message_of message.now)) names.old e) }
 {
-    let own = text(message, 1)?;
+    let own = text(message, proto::ENUM_NAME)?;
     let name = full_name(alloc, scope, own)?;
     let index = next_place(enums.len())?;
     let id = EnumId { index };
     declare(names, name.clone()?, Named::Enum(id))?;
-    let values = children(alloc, message, 2)?;
+    let values = children(alloc, message, proto::ENUM_VALUE)?;
     declare_each(alloc, names, scope, values.as_slice(), Named::Other)?;
     enums.push(Outlined { message, name })?;
     Ok(id)
@@ -149,12 +150,12 @@ fn outline_service<'a>(
     ensures refused { IfErr result (λ e. length services.old.items < 2 ^ 32 → (packages : List (List ℕ))
         → WantsMemory packages (service_names scope.now (message_of message.now)) names.old e) }
 {
-    let own = text(message, 1)?;
+    let own = text(message, proto::SERVICE_NAME)?;
     let name = full_name(alloc, scope, own)?;
     let index = next_place(services.len())?;
     let id = ServiceId { index };
     declare(names, name.clone()?, Named::Other)?;
-    let methods = children(alloc, message, 2)?;
+    let methods = children(alloc, message, proto::SERVICE_METHOD)?;
     declare_each(
         alloc,
         names,
@@ -202,8 +203,8 @@ fn declare_members(
     ensures refused { IfErr result (λ e. NamesOneofs (message_of message.now) → (packages : List (List ℕ))
         → WantsMemory packages (member_names full.now (message_of message.now)) names.old e) }
 {
-    let fields = children(alloc, message, 2)?;
-    let oneofs = children(alloc, message, 8)?;
+    let fields = children(alloc, message, proto::MESSAGE_FIELD)?;
+    let oneofs = children(alloc, message, proto::MESSAGE_ONEOF_DECL)?;
     let synthetic = synthetic_places(alloc, &fields)?;
     let marks = marks(alloc, &synthetic, oneofs.len())?;
     let real = real_oneofs(alloc, &oneofs, &synthetic, &marks)?;
@@ -228,7 +229,7 @@ fn declare_type(
     let name = String::from_str(alloc, full)?;
     declare(names, name, Named::Type(id))?;
     declare_members(alloc, names, full, message)?;
-    let inside = children(alloc, message, 3)?;
+    let inside = children(alloc, message, proto::MESSAGE_NESTED_TYPE)?;
     let found = entries_of(alloc, inside.as_slice())?;
     let entries = found.as_slice();
     declare_each(alloc, names, full, entries, Named::Entry)?;
@@ -346,14 +347,14 @@ impl<'a> Outline<'a> {
             return Ok(ids);
         }
         for message in messages {
-            let own_name = text(message, 1)?;
+            let own_name = text(message, proto::MESSAGE_NAME)?;
             let full = full_name(alloc, scope, own_name)?;
             let name = full.as_str();
             let id = self.outline_type(alloc, name, message)?;
-            let enums_inside = children(alloc, message, 4)?;
+            let enums_inside = children(alloc, message, proto::MESSAGE_ENUM_TYPE)?;
             let own_enums = enums_inside.as_slice();
             let enums = outline_enums(alloc, &mut self.names, &mut self.enums, name, own_enums)?;
-            let all_inside = children(alloc, message, 3)?;
+            let all_inside = children(alloc, message, proto::MESSAGE_NESTED_TYPE)?;
             let inside = all_inside.as_slice();
             let declared = types_of(alloc, inside)?;
             let own = declared.as_slice();
@@ -388,16 +389,16 @@ impl<'a> Outline<'a> {
             → MayPlace depth (length self.old.types.items) (length self.old.enums.items) (length self.old.services.items) packages (message_of message.now)
             → WantsMemory packages (file_names depth (message_of message.now)) self.old.names e) }
     {
-        let scope = text(message, 2)?;
+        let scope = text(message, proto::FILE_PACKAGE)?;
         declare_scope(alloc, &mut self.names, scope)?;
-        let types_inside = children(alloc, message, 4)?;
+        let types_inside = children(alloc, message, proto::FILE_MESSAGE_TYPE)?;
         let own_types = types_inside.as_slice();
         without_entries(alloc, own_types)?;
-        let enums_inside = children(alloc, message, 5)?;
+        let enums_inside = children(alloc, message, proto::FILE_ENUM_TYPE)?;
         let own_enums = enums_inside.as_slice();
         let enums = outline_enums(alloc, &mut self.names, &mut self.enums, scope, own_enums)?;
         let types = self.outline_types(alloc, depth, scope, own_types)?;
-        let services_inside = children(alloc, message, 6)?;
+        let services_inside = children(alloc, message, proto::FILE_SERVICE)?;
         let own_services = services_inside.as_slice();
         let services = outline_services(
             alloc,

@@ -31,6 +31,7 @@ use crate::made_parts::made_parts;
 use crate::order::order;
 use crate::outline::outline_files;
 use crate::places::SET;
+use crate::proto;
 use crate::said::{MOST_DEEP, children};
 use crate::set_states::{kept, skips, states_files};
 use pg_check::{CheckError, admit};
@@ -189,7 +190,7 @@ fn set_schema(alloc: Global, set: &Message) -> Result<Schema, FdsError>
     ensures none { IfErr result (λ e. (parts : StatedParts) → CanBeMade parts → States (message_of set.now) parts
         → e ≡ errors.Memory) }
 {
-    let all_files = children(alloc, set, 1)?;
+    let all_files = children(alloc, set, proto::SET_FILE)?;
     let all = all_files.as_slice();
     let skips = skips(all)?;
     let kept_files = kept(alloc, all)?;
