@@ -7,6 +7,7 @@ ghost use Rattle.pg_dyn.specs.Kept.{message_of};
 ghost use Rattle.pg_fds.specs.Codes.{file_has_types, have_types, is_taken, label_codes, scalars, type_codes};
 ghost use Rattle.pg_fds.specs.Fields.{scalar_code};
 ghost use Rattle.pg_fds.specs.Lent.{lent};
+ghost use Rattle.pg_fds.specs.Proto as proto;
 ghost use Rattle.pg_fds.specs.Said.{number_at};
 
 use crate::fields::scalar_code;
@@ -44,14 +45,14 @@ const SCALARS: [Scalar; 15] = [
 
 // Whether the field's type is that scalar.
 fn has_code(field: &Message, scalar: Scalar) -> bool
-    ensures { result ≡ int_eq (number_at 5 (message_of field.now)) (pos (scalar_code scalar)) }
+    ensures { result ≡ int_eq (number_at proto.field_type (message_of field.now)) (pos (scalar_code scalar)) }
 {
     number(field, proto::FIELD_TYPE) == i128::from(scalar_code(scalar))
 }
 
 /// The scalar that a field's type is. `None` of messages, enums and codes that aren't taken.
 pub fn scalar_of(field: &Message) -> Option<Scalar>
-    ensures { result ≡ find (λ s. int_eq (number_at 5 (message_of field.now)) (pos (scalar_code s))) scalars }
+    ensures { result ≡ find (λ s. int_eq (number_at proto.field_type (message_of field.now)) (pos (scalar_code s))) scalars }
 {
     for scalar in SCALARS {
         let is_of = has_code(field, scalar);

@@ -16,6 +16,7 @@ ghost use Rattle.pg_fds.specs.declared.error.Unstated.TheVariants.{Memory};
 ghost use Rattle.pg_fds.specs.FilePlaces.{IsIndex};
 ghost use Rattle.pg_fds.specs.Lent.{lent};
 ghost use Rattle.pg_fds.specs.Places.{declared_in};
+ghost use Rattle.pg_fds.specs.Proto as proto;
 ghost use Rattle.pg_fds.specs.Said.{item_at, items_at, options_at, text_at};
 ghost use Rattle.pg_fds.specs.States.{AreKeyAndValue, HasEntry, StatesEntries, StatesEntry, StatesEntryField};
 
@@ -147,9 +148,9 @@ fn entry(
 
 // The places of entry types by their names.
 fn places(alloc: Global, entries: &[&Message]) -> Result<BTreeMap<String, usize>, Unstated>
-    ensures index { IfOk result (λ places. are_distinct (map (text_at 1) (map message_of (lent entries.now))) ≡ true
-        → IsIndex (map (text_at 1) (map message_of (lent entries.now))) places) }
-    ensures refused { IfErr result (λ r. AllByRecursion IsUtf8 (map (text_at 1) (map message_of (lent entries.now))) → r ≡ Memory) }
+    ensures index { IfOk result (λ places. are_distinct (map (text_at proto.message_name) (map message_of (lent entries.now))) ≡ true
+        → IsIndex (map (text_at proto.message_name) (map message_of (lent entries.now))) places) }
+    ensures refused { IfErr result (λ r. AllByRecursion IsUtf8 (map (text_at proto.message_name) (map message_of (lent entries.now))) → r ≡ Memory) }
 {
     let mut places = BTreeMap::new(alloc);
     for (place, message) in entries.iter().enumerate() {
@@ -185,7 +186,7 @@ fn names_entry(
     key: Scalar,
 ) -> Result<(), Unstated>
     ensures ok { OnOk result (Any (StatesEntry (declared_in source.now) field.now key) (map message_of (lent entries.now))) }
-    ensures refused { IfErr result (λ r. IsIndex (map (text_at 1) (map message_of (lent entries.now))) places.now
+    ensures refused { IfErr result (λ r. IsIndex (map (text_at proto.message_name) (map message_of (lent entries.now))) places.now
         → Any (StatesEntry (declared_in source.now) field.now key) (map message_of (lent entries.now)) → r ≡ Memory) }
 {
     let place = place_of(alloc, places, field)?;
@@ -204,7 +205,7 @@ fn has_entry(
     field: &Field,
 ) -> Result<(), Unstated>
     ensures ok { OnOk result (HasEntry (declared_in source.now) (map message_of (lent entries.now)) field.now) }
-    ensures refused { IfErr result (λ r. IsIndex (map (text_at 1) (map message_of (lent entries.now))) places.now
+    ensures refused { IfErr result (λ r. IsIndex (map (text_at proto.message_name) (map message_of (lent entries.now))) places.now
         → HasEntry (declared_in source.now) (map message_of (lent entries.now)) field.now → r ≡ Memory) }
 {
     match field.presence {
@@ -235,8 +236,8 @@ pub fn entries(
     fields: &[Field],
 ) -> Result<(), Unstated>
     ensures ok { OnOk result (StatesEntries (declared_in source.now) (map message_of (lent messages.now)) fields.now) }
-    ensures refused { IfErr result (λ r. AllByRecursion IsUtf8 (map (text_at 1) (map message_of (lent messages.now)))
-        → are_distinct (map (text_at 1) (map message_of (lent messages.now))) ≡ true
+    ensures refused { IfErr result (λ r. AllByRecursion IsUtf8 (map (text_at proto.message_name) (map message_of (lent messages.now)))
+        → are_distinct (map (text_at proto.message_name) (map message_of (lent messages.now))) ≡ true
         → StatesEntries (declared_in source.now) (map message_of (lent messages.now)) fields.now → r ≡ Memory) }
 {
     ensure(messages.len() == map_count(fields))?;

@@ -14,6 +14,7 @@ ghost use Rattle.pg_fds.specs.declared.error.Unstated.TheVariants.{Memory};
 ghost use Rattle.pg_fds.specs.Building.{shown};
 ghost use Rattle.pg_fds.specs.Lent.{lent};
 ghost use Rattle.pg_fds.specs.Places.{declared_in};
+ghost use Rattle.pg_fds.specs.Proto as proto;
 ghost use Rattle.pg_fds.specs.Said.{item_at, options_at, text_at, texts_at};
 ghost use Rattle.pg_fds.specs.StatesFiles.{StatesFile, StatesOptions, import_of, is_descriptor, is_proto3, is_skipped, kept_imports, option_item, stated_option};
 ghost use Rattle.pg_fds.specs.StatesTypes.{AreMarked};
@@ -46,7 +47,7 @@ pub fn is_descriptor(path: &str) -> bool
 /// Whether the file is proto3. Refused only where its syntax is no text.
 pub fn is_proto3(message: &Message) -> Result<bool, Unstated>
     ensures ok { IfOk result (λ proto3. proto3 ≡ is_proto3 (message_of message.now)) }
-    ensures refused { OnErr result (IsUtf8 (text_at 12 (message_of message.now)) → ⊥) }
+    ensures refused { OnErr result (IsUtf8 (text_at proto.file_syntax (message_of message.now)) → ⊥) }
 {
     Ok(text(message, proto::FILE_SYNTAX)? == "proto3")
 }
@@ -55,7 +56,7 @@ pub fn is_proto3(message: &Message) -> Result<bool, Unstated>
 /// text.
 pub fn is_skipped(message: &Message) -> Result<bool, Unstated>
     ensures ok { IfOk result (λ skipped. skipped ≡ is_skipped (message_of message.now)) }
-    ensures refused { OnErr result (IsUtf8 (text_at 1 (message_of message.now)) → ⊥) }
+    ensures refused { OnErr result (IsUtf8 (text_at proto.file_name (message_of message.now)) → ⊥) }
 {
     if !is_descriptor(text(message, proto::FILE_NAME)?) {
         return Ok(false);
@@ -124,7 +125,7 @@ fn has_options(message: &Message, options: &[FileOption]) -> Result<(), Unstated
 
 /// The message of a file's options, where there is one.
 pub fn own_options(message: &Message) -> Option<&Message>
-    ensures { unwrap_or (option_map message_of (option_copied result)) (ends []) ≡ options_at 8 (message_of message.now) }
+    ensures { unwrap_or (option_map message_of (option_copied result)) (ends []) ≡ options_at proto.file_options (message_of message.now) }
 {
     let found = item(message, proto::FILE_OPTIONS);
     match found {
@@ -135,10 +136,10 @@ pub fn own_options(message: &Message) -> Option<&Message>
 
 // The options that the file's message says.
 fn options(message: &Message, options: &[FileOption]) -> Result<(), Unstated>
-    ensures ok { OnOk result (StatesOptions (options_at 8 (message_of message.now)) options.now) }
+    ensures ok { OnOk result (StatesOptions (options_at proto.file_options (message_of message.now)) options.now) }
     ensures refused { OnErr result (is_rising (0 ∷ option_numbers options.now) ≡ true
         → list_all is_file_option options.now ≡ true
-        → StatesOptions (options_at 8 (message_of message.now)) options.now → ⊥) }
+        → StatesOptions (options_at proto.file_options (message_of message.now)) options.now → ⊥) }
 {
     match own_options(message) {
         Some(child) => has_options(child, options),
@@ -196,7 +197,7 @@ pub fn file(
     message: &Message,
     declared: &File,
 ) -> Result<(), Unstated>
-    requires { are_distinct (texts_at 3 (message_of message.now)) ≡ true }
+    requires { are_distinct (texts_at proto.file_dependency (message_of message.now)) ≡ true }
     ensures ok { OnOk result (StatesFile (declared_in source.now) skips (message_of message.now) declared.now) }
     ensures refused { IfErr result (λ r. IsSound source.now → is_file declared.now ≡ true
         → StatesFile (declared_in source.now) skips (message_of message.now) declared.now → r ≡ Memory) }

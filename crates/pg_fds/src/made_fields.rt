@@ -18,6 +18,7 @@ ghost use Rattle.pg_fds.specs.declared.error.Unstated.TheVariants.{Memory};
 ghost use Rattle.pg_fds.specs.Fields.{element_code, label, scalar_code};
 ghost use Rattle.pg_fds.specs.Made.{HasNamedEntry, HasNames, IsAlone, IsMember, Means, StandsAt, StatesElement, StatesFieldAt, StatesKnown, StatesPresence};
 ghost use Rattle.pg_fds.specs.Places.{Declared};
+ghost use Rattle.pg_fds.specs.Proto as proto;
 ghost use Rattle.pg_fds.specs.Said.{flag_at, maybe_text_at, number_at, text_at};
 ghost use Rattle.pg_fds.specs.States.{json_name_at};
 ghost use Rattle.pg_fds.specs.Views.{field_view};
@@ -70,8 +71,8 @@ pub fn resolved(names: &BTreeMap<String, Named>, dotted: &str) -> Result<Named, 
 
 // What a field's items are, where it names no type.
 fn scalar_element(message: &Message) -> Result<Element, Unstated>
-    ensures made { IfOk result (λ made. (s : StatedScalar) → number_at 5 (message_of message.now) ≡ pos (scalar_code s) → made ≡ ScalarElement s) }
-    ensures refused { OnErr result ((s : StatedScalar) → number_at 5 (message_of message.now) ≡ pos (scalar_code s) → ⊥) }
+    ensures made { IfOk result (λ made. (s : StatedScalar) → number_at proto.field_type (message_of message.now) ≡ pos (scalar_code s) → made ≡ ScalarElement s) }
+    ensures refused { OnErr result ((s : StatedScalar) → number_at proto.field_type (message_of message.now) ≡ pos (scalar_code s) → ⊥) }
 {
     let scalar = scalar_of(message);
     match scalar {
@@ -95,7 +96,7 @@ fn meant(named: Named) -> Result<Element, Unstated>
 // The element, where its code is that of the field's type.
 fn of_its_code(message: &Message, element: Element) -> Result<Element, Unstated>
     ensures made { IfOk result (λ made. made ≡ element) }
-    ensures refused { OnErr result (number_at 5 (message_of message.now) ≡ pos (element_code element) → ⊥) }
+    ensures refused { OnErr result (number_at proto.field_type (message_of message.now) ≡ pos (element_code element) → ⊥) }
 {
     let code = element_code(element);
     if number(message, proto::FIELD_TYPE) != i128::from(code) {
@@ -111,9 +112,9 @@ fn named_element(
     name: &str,
 ) -> Result<Element, Unstated>
     ensures made { IfOk result (λ made. (all : Declared) (e : StatedElement) → HasNames all names.now
-        → StatesElement all (message_of message.now) e → maybe_text_at 6 (message_of message.now) ≡ Some name.now → made ≡ e) }
+        → StatesElement all (message_of message.now) e → maybe_text_at proto.field_type_name (message_of message.now) ≡ Some name.now → made ≡ e) }
     ensures refused { OnErr result ((all : Declared) (e : StatedElement) → HasNames all names.now → StatesElement all (message_of message.now) e
-        → maybe_text_at 6 (message_of message.now) ≡ Some name.now → ⊥) }
+        → maybe_text_at proto.field_type_name (message_of message.now) ≡ Some name.now → ⊥) }
 {
     let named = resolved(names, name)?;
     let element = meant(named)?;
@@ -195,9 +196,9 @@ fn is_alone(synthetic: &[bool], members: &[usize], named: Option<i128>) -> Resul
 
 // The oneof that a field stands in: none where it is `optional`, whose oneof is its own.
 fn oneof(scope: &Scope<'_>, message: &Message) -> Result<Option<u32>, Unstated>
-    ensures made { IfOk result (λ made. (f : StatedField) → flag_at 17 (message_of message.now) ≡ f.states_optional
+    ensures made { IfOk result (λ made. (f : StatedField) → flag_at proto.field_proto3_optional (message_of message.now) ≡ f.states_optional
         → StandsAt scope.now.synthetic.items scope.now.members.items (message_of message.now) f → made ≡ f.oneof) }
-    ensures refused { OnErr result ((f : StatedField) → flag_at 17 (message_of message.now) ≡ f.states_optional
+    ensures refused { OnErr result ((f : StatedField) → flag_at proto.field_proto3_optional (message_of message.now) ≡ f.states_optional
         → IfSome f.oneof (λ place. place < 2 ^ 32) → StandsAt scope.now.synthetic.items scope.now.members.items (message_of message.now) f → ⊥) }
 {
     let named = maybe_number(message, proto::FIELD_ONEOF_INDEX);
@@ -286,7 +287,7 @@ fn plain_parts(
 // The JSON name, given or default.
 fn json_name(alloc: Global, message: &Message) -> Result<String, Unstated>
     ensures ok { IfOk result (λ name. string_bytes name ≡ json_name_at (message_of message.now)) }
-    ensures refused { IfErr result (λ e. IsUtf8 (text_at 1 (message_of message.now)) → IsUtf8 (json_name_at (message_of message.now)) → e ≡ Memory) }
+    ensures refused { IfErr result (λ e. IsUtf8 (text_at proto.field_name (message_of message.now)) → IsUtf8 (json_name_at (message_of message.now)) → e ≡ Memory) }
 {
     let given = maybe_text(message, proto::FIELD_JSON_NAME)?;
     match given {
@@ -309,7 +310,7 @@ fn parts<'a>(
         → has_presence f.presence f.element member f.states_optional ≡ true → is_packed f.presence f.element packed ≡ true
         → (made.0 ≡ f.presence) × (made.1 ≡ f.element)) }
     ensures left { IfOk result (λ made. (name : List ℕ) → get_by_text entries.new name
-        ≡ (if is_map made.0 && bytes_eq (entry_name (text_at 1 (message_of message.now))) name then None else get_by_text entries.old name)) }
+        ≡ (if is_map made.0 && bytes_eq (entry_name (text_at proto.field_name (message_of message.now))) name then None else get_by_text entries.old name)) }
     ensures refused { IfErr result (λ r. (all : Declared) (f : StatedField)
         → StatesKnown all scope.now.names.now scope.now.name.now (message_of message.now) f → HasNamedEntry all entries.old f
         → has_presence f.presence f.element member f.states_optional ≡ true → is_packed f.presence f.element packed ≡ true → r ≡ Memory) }
@@ -334,7 +335,7 @@ pub fn made_field<'a>(
         → StatesFieldAt all scope.now.names.now scope.now.name.now scope.now.synthetic.items scope.now.members.items (message_of message.now) f
         → HasNamedEntry all entries.old f → field_view made ≡ field_view f) }
     ensures left { IfOk result (λ made. (name : List ℕ) → get_by_text entries.new name
-        ≡ (if is_map made.presence && bytes_eq (entry_name (text_at 1 (message_of message.now))) name then None else get_by_text entries.old name)) }
+        ≡ (if is_map made.presence && bytes_eq (entry_name (text_at proto.field_name (message_of message.now))) name then None else get_by_text entries.old name)) }
     ensures refused { IfErr result (λ r. (all : Declared) (f : StatedField)
         → StatesFieldAt all scope.now.names.now scope.now.name.now scope.now.synthetic.items scope.now.members.items (message_of message.now) f
         → HasNamedEntry all entries.old f → r ≡ Memory) }

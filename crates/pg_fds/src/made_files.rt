@@ -20,6 +20,7 @@ ghost use Rattle.pg_fds.specs.Lent.{lent};
 ghost use Rattle.pg_fds.specs.Made.{HasNames, IsOutlinedFile};
 ghost use Rattle.pg_fds.specs.MadeOptions.{StatesThese, mode_of, numbered, views_under};
 ghost use Rattle.pg_fds.specs.Places.{Declared};
+ghost use Rattle.pg_fds.specs.Proto as proto;
 ghost use Rattle.pg_fds.specs.Said.{maybe_text_at, numbers_at, options_at, text_at, texts_at};
 ghost use Rattle.pg_fds.specs.StatesFiles.{StatesCalled, StatesMethod, StatesOptions, StatesService, import_of, is_place, kept_imports, option_item};
 ghost use Rattle.pg_fds.specs.StatesTypes.{AreMarked};
@@ -119,7 +120,7 @@ pub fn service(
     outlined: &Outlined<'_>,
 ) -> Result<Service, Unstated>
     ensures made { IfOk result (λ made. (all : Declared) (scope : List ℕ) (s : StatedService) → HasNames all names.now
-        → string_bytes outlined.now.name ≡ within scope (text_at 1 (message_of outlined.now.message.now))
+        → string_bytes outlined.now.name ≡ within scope (text_at proto.service_name (message_of outlined.now.message.now))
         → StatesService all scope (message_of outlined.now.message.now) s → service_view made ≡ service_view s) }
     ensures refused { IfErr result (λ e. (all : Declared) (scope : List ℕ) (s : StatedService) → HasNames all names.now
         → StatesService all scope (message_of outlined.now.message.now) s → e ≡ Memory) }
@@ -210,9 +211,9 @@ fn options_under(
 
 // The options of a file, by rising number.
 fn options(alloc: Global, message: &Message) -> Result<Vec<FileOption>, Unstated>
-    ensures made { IfOk result (λ made. (os : List StatedOption) → StatesOptions (options_at 8 (message_of message.now)) os
+    ensures made { IfOk result (λ made. (os : List StatedOption) → StatesOptions (options_at proto.file_options (message_of message.now)) os
         → is_rising (0 ∷ option_numbers os) ≡ true → list_all is_file_option os ≡ true → map option_view made.items ≡ map option_view os) }
-    ensures refused { IfErr result (λ e. (os : List StatedOption) → StatesOptions (options_at 8 (message_of message.now)) os → e ≡ Memory) }
+    ensures refused { IfErr result (λ e. (os : List StatedOption) → StatesOptions (options_at proto.file_options (message_of message.now)) os → e ≡ Memory) }
 {
     let own = own_options(message);
     match own {
@@ -249,10 +250,10 @@ fn kept(
 // The imports of a file, without those that are skipped.
 fn imports(alloc: Global, skips: bool, message: &Message) -> Result<Vec<Import>, Unstated>
     ensures made { IfOk result (λ made. map import_of made.items
-        ≡ kept_imports skips (numbers_at 10 (message_of message.now)) 0 (texts_at 3 (message_of message.now))) }
+        ≡ kept_imports skips (numbers_at proto.file_public_dependency (message_of message.now)) 0 (texts_at proto.file_dependency (message_of message.now))) }
     ensures refused { IfErr result (λ e. (is : List StatedImport)
-        → kept_imports skips (numbers_at 10 (message_of message.now)) 0 (texts_at 3 (message_of message.now)) ≡ map import_of is
-        → list_all (is_place (length (texts_at 3 (message_of message.now)))) (numbers_at 10 (message_of message.now)) ≡ true → e ≡ Memory) }
+        → kept_imports skips (numbers_at proto.file_public_dependency (message_of message.now)) 0 (texts_at proto.file_dependency (message_of message.now)) ≡ map import_of is
+        → list_all (is_place (length (texts_at proto.file_dependency (message_of message.now)))) (numbers_at proto.file_public_dependency (message_of message.now)) ≡ true → e ≡ Memory) }
 {
     let paths = texts(alloc, message, proto::FILE_DEPENDENCY)?;
     let public = numbers(alloc, message, proto::FILE_PUBLIC_DEPENDENCY)?;

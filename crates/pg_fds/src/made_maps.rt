@@ -16,6 +16,7 @@ ghost use Rattle.pg_fds.specs.declared.error.Unstated.TheVariants.{Memory};
 ghost use Rattle.pg_fds.specs.Lent.{lent};
 ghost use Rattle.pg_fds.specs.Made.{HasNamedEntry, HasNames, StatesElement, StatesKnown, is_entry_type};
 ghost use Rattle.pg_fds.specs.Places.{Declared};
+ghost use Rattle.pg_fds.specs.Proto as proto;
 ghost use Rattle.pg_fds.specs.Said.{maybe_text_at, text_at};
 ghost use Rattle.pg_fds.specs.States.{AreKeyAndValue, StatesEntry, StatesEntryField};
 
@@ -174,7 +175,7 @@ pub fn is_map(names: &BTreeMap<String, Named>, message: &Message) -> Result<bool
 
 // The field names this type.
 fn names_type(message: &Message, full: &str) -> Result<(), Unstated>
-    ensures refused { OnErr result (maybe_text_at 6 (message_of message.now) ≡ Some full.now → ⊥) }
+    ensures refused { OnErr result (maybe_text_at proto.field_type_name (message_of message.now) ≡ Some full.now → ⊥) }
 {
     let name = maybe_text(message, proto::FIELD_TYPE_NAME)?;
     match name {
@@ -197,7 +198,7 @@ pub fn map_parts<'a>(
         → (made.0 ≡ f.presence) × (made.1 ≡ f.element)) }
     ensures map { IfOk result (λ made. is_map made.0 ≡ true) }
     ensures left { OnOk result ((name : List ℕ) → get_by_text entries.new name
-        ≡ (if bytes_eq (entry_name (text_at 1 (message_of message.now))) name then None else get_by_text entries.old name)) }
+        ≡ (if bytes_eq (entry_name (text_at proto.field_name (message_of message.now))) name then None else get_by_text entries.old name)) }
     ensures refused { IfErr result (λ r. (all : Declared) (f : StatedField) → StatesKnown all names.now scope.now (message_of message.now) f
         → is_map f.presence ≡ true → HasNamedEntry all entries.old f → r ≡ Memory) }
 {

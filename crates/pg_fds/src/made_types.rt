@@ -21,6 +21,7 @@ ghost use Rattle.pg_fds.specs.Made.{AreCounted, HasEntries, HasNamed, StatesFiel
 ghost use Rattle.pg_fds.specs.MadeMembers.{HasMembers};
 ghost use Rattle.pg_fds.specs.Messages.{declared_fields as fields_of};
 ghost use Rattle.pg_fds.specs.Places.{Declared};
+ghost use Rattle.pg_fds.specs.Proto as proto;
 ghost use Rattle.pg_fds.specs.Said.{children_at, maybe_number_at, number_at, text_at};
 ghost use Rattle.pg_fds.specs.Small.{AreSmallEnds, IsSmallEnum, IsSmallValue};
 ghost use Rattle.pg_fds.specs.States.{StatesEnum, StatesFieldRange, StatesValue, StatesValueRange};
@@ -123,7 +124,7 @@ fn value_ranges(alloc: Global, messages: &[&Message]) -> Result<Vec<ReservedValu
 /// that an int32 holds.
 pub fn made_enum(alloc: Global, outlined: &Outlined<'_>) -> Result<EnumType, Unstated>
     ensures states { IfOk result (λ made. (scope : List ℕ) → string_bytes outlined.now.name
-        ≡ within scope (text_at 1 (message_of outlined.now.message.now)) → StatesEnum scope (message_of outlined.now.message.now) made) }
+        ≡ within scope (text_at proto.enum_name (message_of outlined.now.message.now)) → StatesEnum scope (message_of outlined.now.message.now) made) }
     ensures refused { IfErr result (λ e. (scope : List ℕ) (stated : StatedEnum) → StatesEnum scope (message_of outlined.now.message.now) stated
         → IsSmallEnum stated → e ≡ Memory) }
 {
@@ -178,7 +179,7 @@ fn field_ranges(alloc: Global, messages: &[&Message]) -> Result<Vec<ReservedFiel
 
 // The place of the oneof, among so many, that a field names, if it names one.
 fn named_place(field: &Message, count: usize) -> Result<Option<usize>, Unstated>
-    ensures ok { IfOk result (λ place. maybe_number_at 9 (message_of field.now) ≡ option_map pos place) }
+    ensures ok { IfOk result (λ place. maybe_number_at proto.field_oneof_index (message_of field.now) ≡ option_map pos place) }
     ensures within { IfOk result (λ found. IfSome found (λ place. place < count)) }
     ensures refused { OnErr result (has_place count (message_of field.now) ≡ false) }
 {
@@ -209,7 +210,7 @@ fn entries<'a>(
     messages: &[&'a Message],
 ) -> Result<BTreeMap<String, &'a Message>, Unstated>
     ensures named { IfOk result (λ table. HasNamed table messages.now) }
-    ensures refused { IfErr result (λ e. AllByRecursion IsUtf8 (map (text_at 1) (map message_of (lent messages.now))) → e ≡ Memory) }
+    ensures refused { IfErr result (λ e. AllByRecursion IsUtf8 (map (text_at proto.message_name) (map message_of (lent messages.now))) → e ≡ Memory) }
 {
     let mut entries = BTreeMap::new(alloc);
     for message in messages {
@@ -272,8 +273,8 @@ fn declared_fields(
     own: &[&Message],
     synthetic: Vec<bool>,
 ) -> Result<Vec<Field>, Unstated>
-    requires own { map message_of (lent own.now) ≡ children_at 2 (message_of outlined.now.message.now) }
-    requires marked { AreMarked (stated_places (map message_of (lent own.now))) (length (children_at 8 (message_of outlined.now.message.now))) synthetic.items }
+    requires own { map message_of (lent own.now) ≡ children_at proto.message_field (message_of outlined.now.message.now) }
+    requires marked { AreMarked (stated_places (map message_of (lent own.now))) (length (children_at proto.message_oneof_decl (message_of outlined.now.message.now))) synthetic.items }
     ensures made { IfOk result (λ made. (all : Declared) (scope : List ℕ) (t : StatedType) → StatesMadeType all names.now scope outlined.now t
         → map field_view made.items ≡ map field_view (fields_of t)) }
     ensures refused { IfErr result (λ e. (all : Declared) (scope : List ℕ) (t : StatedType) → StatesMadeType all names.now scope outlined.now t → e ≡ Memory) }
@@ -299,8 +300,8 @@ fn oneof_names(
     synthetic: &[bool],
 ) -> Result<Vec<String>, Unstated>
     requires { AreMarked places.now (length oneofs.now) synthetic.now }
-    ensures made { IfOk result (λ made. map string_bytes made.items ≡ map (text_at 1) (real_oneofs places.now 0 (map message_of (lent oneofs.now)))) }
-    ensures refused { IfErr result (λ e. AllByRecursion IsUtf8 (map (text_at 1) (real_oneofs places.now 0 (map message_of (lent oneofs.now)))) → e ≡ Memory) }
+    ensures made { IfOk result (λ made. map string_bytes made.items ≡ map (text_at proto.oneof_name) (real_oneofs places.now 0 (map message_of (lent oneofs.now)))) }
+    ensures refused { IfErr result (λ e. AllByRecursion IsUtf8 (map (text_at proto.oneof_name) (real_oneofs places.now 0 (map message_of (lent oneofs.now)))) → e ≡ Memory) }
 {
     let names = real_names(alloc, oneofs, places, synthetic)?;
     Ok(copies(alloc, &names)?)
@@ -324,8 +325,8 @@ fn marked_members(
     places: &[i128],
     synthetic: Vec<bool>,
 ) -> Result<Members, Unstated>
-    requires own { map message_of (lent own.now) ≡ children_at 2 (message_of outlined.now.message.now) }
-    requires inside { map message_of (lent inside.now) ≡ children_at 8 (message_of outlined.now.message.now) }
+    requires own { map message_of (lent own.now) ≡ children_at proto.message_field (message_of outlined.now.message.now) }
+    requires inside { map message_of (lent inside.now) ≡ children_at proto.message_oneof_decl (message_of outlined.now.message.now) }
     requires places { places.now ≡ stated_places (map message_of (lent own.now)) }
     requires marked { AreMarked places.now (length inside.now) synthetic.items }
     ensures made { IfOk result (λ made. (all : Declared) (scope : List ℕ) (t : StatedType) → StatesMadeType all names.now scope outlined.now t
@@ -351,8 +352,8 @@ fn members_of(
     own: &[&Message],
     inside: &[&Message],
 ) -> Result<Members, Unstated>
-    requires own { map message_of (lent own.now) ≡ children_at 2 (message_of outlined.now.message.now) }
-    requires inside { map message_of (lent inside.now) ≡ children_at 8 (message_of outlined.now.message.now) }
+    requires own { map message_of (lent own.now) ≡ children_at proto.message_field (message_of outlined.now.message.now) }
+    requires inside { map message_of (lent inside.now) ≡ children_at proto.message_oneof_decl (message_of outlined.now.message.now) }
     ensures made { IfOk result (λ made. (all : Declared) (scope : List ℕ) (t : StatedType) → StatesMadeType all names.now scope outlined.now t
         → HasMembers made t) }
     ensures refused { IfErr result (λ e. (all : Declared) (scope : List ℕ) (t : StatedType) → StatesMadeType all names.now scope outlined.now t → e ≡ Memory) }

@@ -7,6 +7,7 @@ ghost use Rattle.std.specs.String.{string_bytes};
 ghost use Rattle.pg_dyn.specs.Kept.{message_of};
 ghost use Rattle.pg_fds.specs.declared.error.Unstated.TheVariants.{Memory};
 ghost use Rattle.pg_fds.specs.Lent.{lent};
+ghost use Rattle.pg_fds.specs.Proto as proto;
 ghost use Rattle.pg_fds.specs.Said.{text_at};
 ghost use Rattle.pg_fds.specs.StatesFiles.{is_place};
 ghost use Rattle.pg_fds.specs.StatesTypes.{AreMarked, NamesOneof, StandsIn, StatesOneofs, is_optional, real_oneofs, synthetic_places};
@@ -71,8 +72,8 @@ pub fn real_names<'a>(
     marks: &[bool],
 ) -> Result<Vec<&'a str>, Unstated>
     requires { AreMarked numbers.now (length oneofs.now) marks.now }
-    ensures ok { IfOk result (λ names. lent names.items ≡ map (text_at 1) (real_oneofs numbers.now 0 (map message_of (lent oneofs.now)))) }
-    ensures refused { IfErr result (λ r. AllByRecursion IsUtf8 (map (text_at 1) (real_oneofs numbers.now 0 (map message_of (lent oneofs.now)))) → r ≡ Memory) }
+    ensures ok { IfOk result (λ names. lent names.items ≡ map (text_at proto.oneof_name) (real_oneofs numbers.now 0 (map message_of (lent oneofs.now)))) }
+    ensures refused { IfErr result (λ r. AllByRecursion IsUtf8 (map (text_at proto.oneof_name) (real_oneofs numbers.now 0 (map message_of (lent oneofs.now)))) → r ≡ Memory) }
 {
     let mut names = Vec::new(alloc);
     for (place, oneof) in oneofs.iter().enumerate() {

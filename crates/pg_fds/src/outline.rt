@@ -10,6 +10,7 @@ ghost use Rattle.pg_fds.specs.declared.error.Unstated.TheVariants.{Memory};
 ghost use Rattle.pg_fds.specs.Lent.{lent};
 ghost use Rattle.pg_fds.specs.Outlines.{AreEnumsNamed, AreTypesNamed, IsTypeNamed, MayDeclare, MayPlace, NameOneofs, NamesOneofs, enum_rows, file_enums, file_services, file_types, files_at, row, row_in, rows_in, type_row, type_rows};
 ghost use Rattle.pg_fds.specs.OutlinedPlaces.{PlacedType, counts_of, file_places, inside_file, no_counts, placed_file, placed_files, placed_type, placed_types, places_of_types, types_of_files, without_inside};
+ghost use Rattle.pg_fds.specs.Proto as proto;
 ghost use Rattle.pg_fds.specs.Said.{children_at, text_at};
 ghost use Rattle.pg_fds.specs.SetNames.{Declares, WantsMemory, enum_names, enums_names, file_names, member_names, own_names, service_names, services_names, types_names};
 ghost use Rattle.pg_fds.specs.StatesTypes.{is_entry};
@@ -378,12 +379,12 @@ impl<'a> Outline<'a> {
         ensures files { OnOk result (map placed_file self.new.files.items
             ≡ map placed_file self.old.files.items ++ file_places depth (counts_of self.old) (message_of message.now) ∷ []) }
         ensures placed { OnOk result (map placed_type self.new.types.items
-            ≡ map placed_type self.old.types.items ++ placed_types depth (text_at 2 (message_of message.now)) (inside_file (counts_of self.old) (message_of message.now)) (children_at 4 (message_of message.now))) }
+            ≡ map placed_type self.old.types.items ++ placed_types depth (text_at proto.file_package (message_of message.now)) (inside_file (counts_of self.old) (message_of message.now)) (children_at proto.file_message_type (message_of message.now))) }
         ensures named { OnOk result (AreTypesNamed self.old.names (map type_row self.old.types.items)
             → AreTypesNamed self.new.names (map type_row self.new.types.items)) }
         ensures enums_named { OnOk result (AreEnumsNamed self.old.names (map row self.old.enums.items)
             → AreEnumsNamed self.new.names (map row self.new.enums.items)) }
-        ensures declares { OnOk result ((packages : List (List ℕ)) → is_among packages (text_at 2 (message_of message.now)) ≡ true
+        ensures declares { OnOk result ((packages : List (List ℕ)) → is_among packages (text_at proto.file_package (message_of message.now)) ≡ true
             → Declares packages (file_names depth (message_of message.now)) self.old.names self.new.names) }
         ensures refused { IfErr result (λ e. (packages : List (List ℕ))
             → MayPlace depth (length self.old.types.items) (length self.old.enums.items) (length self.old.services.items) packages (message_of message.now)

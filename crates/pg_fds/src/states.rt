@@ -10,6 +10,7 @@ ghost use Rattle.pg_dyn.specs.Kept.{message_of};
 ghost use Rattle.pg_fds.specs.declared.error.Unstated.TheVariants.{Memory};
 ghost use Rattle.pg_fds.specs.Lent.{lent};
 ghost use Rattle.pg_fds.specs.Places.{declared_in};
+ghost use Rattle.pg_fds.specs.Proto as proto;
 ghost use Rattle.pg_fds.specs.Said.{maybe_text_at, text_at};
 ghost use Rattle.pg_fds.specs.States.{StatesEnum, StatesEnums, StatesField, StatesFieldRange, StatesValue, StatesValueRange, json_name_at, label_at};
 
@@ -190,7 +191,7 @@ pub fn label_of(message: &Message) -> i128
 /// The field has this JSON name, given or default.
 pub fn has_json_name(alloc: Global, message: &Message, stated: &str) -> Result<(), Unstated>
     ensures ok { OnOk result (json_name_at (message_of message.now) ≡ stated.now) }
-    ensures refused { IfErr result (λ r. IsUtf8 (text_at 1 (message_of message.now)) → json_name_at (message_of message.now) ≡ stated.now → r ≡ Memory) }
+    ensures refused { IfErr result (λ r. IsUtf8 (text_at proto.field_name (message_of message.now)) → json_name_at (message_of message.now) ≡ stated.now → r ≡ Memory) }
 {
     match maybe_text(message, proto::FIELD_JSON_NAME)? {
         Some(given) => same_text(given, stated),
@@ -203,8 +204,8 @@ pub fn has_json_name(alloc: Global, message: &Message, stated: &str) -> Result<(
 
 /// The field names this type, or none.
 pub fn has_type_name(message: &Message, stated: &Option<String>) -> Result<(), Unstated>
-    ensures ok { OnOk result (maybe_text_at 6 (message_of message.now) ≡ option_map string_bytes stated.now) }
-    ensures refused { OnErr result (maybe_text_at 6 (message_of message.now) ≡ option_map string_bytes stated.now → ⊥) }
+    ensures ok { OnOk result (maybe_text_at proto.field_type_name (message_of message.now) ≡ option_map string_bytes stated.now) }
+    ensures refused { OnErr result (maybe_text_at proto.field_type_name (message_of message.now) ≡ option_map string_bytes stated.now → ⊥) }
 {
     match (maybe_text(message, proto::FIELD_TYPE_NAME)?, stated) {
         (Some(found), Some(name)) => same_text(found, name),
