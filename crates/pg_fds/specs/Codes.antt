@@ -8,6 +8,7 @@ use Rattle.pg_dyn.specs.Message.{Message}
 use Rattle.pg_fds.specs.Said.{children_at, number_at}
 use Rattle.pg_fds.specs.States.{label_at}
 use Rattle.pg_fds.specs.StatesFiles.{most_deep}
+use Rattle.pg_fds.specs.Proto as proto
 
 -- TYPE_DOUBLE and the others up to TYPE_SINT64, without TYPE_GROUP
 abbrev pub type_codes : List ℤ
@@ -26,11 +27,11 @@ label_codes = pos 1 ∷ pos 3 ∷ []
 
 -- the field's type is there and taken, and so is its label, which may be missing
 abbrev pub is_taken : Message → Bool
-is_taken m = list_any (int_eq (number_at 5 m)) type_codes && list_any (int_eq (label_at m)) label_codes
+is_taken m = list_any (int_eq (number_at proto.field_type m)) type_codes && list_any (int_eq (label_at m)) label_codes
 
 -- those of a message type's fields, and of what stands inside it
 abbrev pub has_types : (List Message → Bool) → Message → Bool
-has_types inside m = list_all is_taken (children_at 2 m) && inside (children_at 3 m)
+has_types inside m = list_all is_taken (children_at proto.message_field m) && inside (children_at proto.message_nested_type m)
 
 -- those of message types, nested less deep than that
 abbrev pub have_types : (depth : ℕ) → List Message → Bool
@@ -39,4 +40,4 @@ have_types (suc depth) ms = list_all (has_types (have_types depth)) ms
 
 -- those of a file's
 abbrev pub file_has_types : Message → Bool
-file_has_types m = have_types most_deep (children_at 4 m)
+file_has_types m = have_types most_deep (children_at proto.file_message_type m)

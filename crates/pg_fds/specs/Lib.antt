@@ -1,3 +1,4 @@
+pub mod Proto
 pub mod Descriptor
 pub mod Places
 pub mod Items

@@ -15,17 +15,18 @@ use Rattle.pg_fds.specs.Descriptor.{file_set}
 use Rattle.pg_fds.specs.InOrder.{StandInOrder}
 use Rattle.pg_fds.specs.Places.{declared_in}
 use Rattle.pg_fds.specs.PostOrder.{Importer, IsPostOrder}
+use Rattle.pg_fds.specs.Proto as proto
 use Rattle.pg_fds.specs.Said.{children_at, text_at, texts_at}
 use Rattle.pg_fds.specs.Small.{IsSmallEnum}
 use Rattle.pg_fds.specs.StatesFiles.{StatesFile, is_skipped}
 
 -- whether the set has a file that is skipped
 abbrev pub skips : Message → Bool
-skips set = list_any is_skipped (children_at 1 set)
+skips set = list_any is_skipped (children_at proto.set_file set)
 
 -- the others, in the order of the set
 abbrev pub kept_files : Message → List Message
-kept_files set = filter (λ m. not (is_skipped m)) (children_at 1 set)
+kept_files set = filter (λ m. not (is_skipped m)) (children_at proto.set_file set)
 
 abbrev pub file_name : File → List ℕ
 file_name f = string_bytes f.name
@@ -41,12 +42,12 @@ AreBehind names (f ∷ fs) =
     (imports_among names f.imports.items ≡ true) × (is_among names (file_name f) ≡ false) × AreBehind (names ++ file_name f ∷ []) fs
 
 abbrev pub importer_of : Message → Importer
-importer_of m = record { path = text_at 1 m; imports = texts_at 3 m }
+importer_of m = record { path = text_at proto.file_name m; imports = texts_at proto.file_dependency m }
 
 -- These files are the schema's: names stand once on both sides, there are as many here as there, and each of the schema is stated by one
 -- of these, so none is left out. Those of the schema stand behind those that they import, in post-order.
 pub record StatesFiles (skips : Bool) (kept : List Message) (parts : Parts) : Type 0 where
-  pub once : are_distinct (map (text_at 1) kept) ≡ true
+  pub once : are_distinct (map (text_at proto.file_name) kept) ≡ true
   pub as_many : length kept ≡ length parts.files.items
   pub files : AllByRecursion (λ (f : File). Any (λ m. StatesFile (declared_in parts) skips m f) kept) parts.files.items
   pub behind : AreBehind [] parts.files.items

@@ -16,6 +16,7 @@ use Rattle.pg_fds.specs.declared.error.FdsError.TheVariants as errors
 use Rattle.pg_fds.specs.Building.{written_shape}
 use Rattle.pg_fds.specs.Codes.{file_has_types}
 use Rattle.pg_fds.specs.Descriptor.{file_set}
+use Rattle.pg_fds.specs.Proto as proto
 use Rattle.pg_fds.specs.Reads.{IsHeld, fds_reads, kept_files}
 use Rattle.pg_fds.specs.Said.{text_at}
 use Rattle.pg_fds.specs.StatesFiles.{is_proto3, most_deep}
@@ -88,5 +89,5 @@ IsOfParts (errors.Rule e) = BreaksRule e
 
 -- a file's name and its syntax are texts, as the codec sees to
 pub record HasTexts (file : Message) : Type 0 where
-  pub name : IsUtf8 (text_at 1 file)
-  pub syntax : IsUtf8 (text_at 12 file)
+  pub name : IsUtf8 (text_at proto.file_name file)
+  pub syntax : IsUtf8 (text_at proto.file_syntax file)

@@ -28,6 +28,7 @@ mod options;
 mod order;
 mod outline;
 mod places;
+mod proto;
 mod reading;
 mod said;
 mod scope;

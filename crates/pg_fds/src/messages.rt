@@ -20,6 +20,7 @@ use crate::fields::field_message;
 use crate::names::own_name;
 use crate::options::one_flag;
 use crate::places::{ENUM, FIELD, FIELD_RANGE, MESSAGE, MESSAGE_OPTIONS, ONEOF};
+use crate::proto;
 use crate::scope::names_within;
 use crate::synthetic::synthetic_oneofs;
 use pg_dyn::{Message, Value};
@@ -38,8 +39,22 @@ fn range_message(
     ensures kept { IfOk result (IsOf FIELD_RANGE) }
 {
     let mut message = empty(alloc, FIELD_RANGE);
-    put_count(&mut message, table, FIELD_RANGE, 1, NUMBER, range.first)?;
-    put_count(&mut message, table, FIELD_RANGE, 2, NUMBER, range.last + 1)?;
+    put_count(
+        &mut message,
+        table,
+        FIELD_RANGE,
+        proto::RANGE_START,
+        NUMBER,
+        range.first,
+    )?;
+    put_count(
+        &mut message,
+        table,
+        FIELD_RANGE,
+        proto::RANGE_END,
+        NUMBER,
+        range.last + 1,
+    )?;
     Ok(message)
 }
 
@@ -76,7 +91,7 @@ fn push_oneofs(
 {
     for name in names {
         let mut message = empty(alloc, ONEOF);
-        put_text(alloc, &mut message, table, ONEOF, 1, name)?;
+        put_text(alloc, &mut message, table, ONEOF, proto::ONEOF_NAME, name)?;
         made.push(Value::Msg(Box::new(alloc, message)?))?;
     }
     Ok(())
@@ -177,16 +192,58 @@ pub fn type_message(
     push_entries(alloc, table, source, &mut types, &declared)?;
     let enums = enums(alloc, table, source, &message_type.nested_enums)?;
     let stated = message_type.options.deprecated;
-    let options = one_flag(alloc, table, MESSAGE_OPTIONS, 3, stated)?;
+    let options = one_flag(
+        alloc,
+        table,
+        MESSAGE_OPTIONS,
+        proto::MESSAGE_OPTIONS_DEPRECATED,
+        stated,
+    )?;
     let oneofs = oneofs(alloc, table, source, message_type, &declared)?;
     let ranges = ranges(alloc, table, &message_type.reserved_numbers)?;
-    put_text(alloc, to, table, MESSAGE, 1, own_name(&message_type.name))?;
-    put_children(to, table, MESSAGE, 2, FIELD, own)?;
-    put_children(to, table, MESSAGE, 3, MESSAGE, types)?;
-    put_children(to, table, MESSAGE, 4, ENUM, enums)?;
-    put_options(alloc, to, table, MESSAGE, 7, MESSAGE_OPTIONS, options)?;
-    put_children(to, table, MESSAGE, 8, ONEOF, oneofs)?;
-    put_children(to, table, MESSAGE, 9, FIELD_RANGE, ranges)?;
-    put_texts(alloc, to, table, MESSAGE, 10, &message_type.reserved_names)?;
+    put_text(
+        alloc,
+        to,
+        table,
+        MESSAGE,
+        proto::MESSAGE_NAME,
+        own_name(&message_type.name),
+    )?;
+    put_children(to, table, MESSAGE, proto::MESSAGE_FIELD, FIELD, own)?;
+    put_children(
+        to,
+        table,
+        MESSAGE,
+        proto::MESSAGE_NESTED_TYPE,
+        MESSAGE,
+        types,
+    )?;
+    put_children(to, table, MESSAGE, proto::MESSAGE_ENUM_TYPE, ENUM, enums)?;
+    put_options(
+        alloc,
+        to,
+        table,
+        MESSAGE,
+        proto::MESSAGE_OPTIONS,
+        MESSAGE_OPTIONS,
+        options,
+    )?;
+    put_children(to, table, MESSAGE, proto::MESSAGE_ONEOF_DECL, ONEOF, oneofs)?;
+    put_children(
+        to,
+        table,
+        MESSAGE,
+        proto::MESSAGE_RESERVED_RANGE,
+        FIELD_RANGE,
+        ranges,
+    )?;
+    put_texts(
+        alloc,
+        to,
+        table,
+        MESSAGE,
+        proto::MESSAGE_RESERVED_NAME,
+        &message_type.reserved_names,
+    )?;
     Ok(message)
 }

@@ -16,6 +16,7 @@ ghost use Rattle.pg_fds.specs.Descriptor.{file_set};
 ghost use Rattle.pg_fds.specs.FilePlaces.{AreOrdered};
 ghost use Rattle.pg_fds.specs.InOrder.{StandInOrder};
 ghost use Rattle.pg_fds.specs.Lent.{lent};
+ghost use Rattle.pg_fds.specs.Proto as proto;
 ghost use Rattle.pg_fds.specs.Reads.{CanBeMade, IsHeld, States, StatesFiles, fds_reads, importer_of, kept_files};
 ghost use Rattle.pg_fds.specs.Refused.{HasTexts, IsOfBytes, IsOfParts, MayRefuseFiles, MayRefuseSet, NoneIsStated, StatesNoneHeld};
 ghost use Rattle.pg_fds.specs.Said.{children_at};
@@ -31,6 +32,7 @@ use crate::made_parts::made_parts;
 use crate::order::order;
 use crate::outline::outline_files;
 use crate::places::SET;
+use crate::proto;
 use crate::said::{MOST_DEEP, children};
 use crate::set_states::{kept, skips, states_files};
 use pg_check::{CheckError, admit};
@@ -182,14 +184,14 @@ fn files_schema(alloc: Global, skips: bool, files: &[&Message]) -> Result<Schema
 fn set_schema(alloc: Global, set: &Message) -> Result<Schema, FdsError>
     ensures ok { IfOk result (λ schema. States (message_of set.now) schema) }
     ensures sound { IfOk result IsSound }
-    ensures refused { IfErr result (λ e. AllByRecursion HasTexts (children_at 1 (message_of set.now))
+    ensures refused { IfErr result (λ e. AllByRecursion HasTexts (children_at proto.set_file (message_of set.now))
         → MayRefuseFiles (kept_files (message_of set.now)) e) }
     ensures same { IfOk result (λ schema. (parts : StatedParts) → CanBeMade parts → States (message_of set.now) parts
         → parts_view schema ≡ parts_view parts) }
     ensures none { IfErr result (λ e. (parts : StatedParts) → CanBeMade parts → States (message_of set.now) parts
         → e ≡ errors.Memory) }
 {
-    let all_files = children(alloc, set, 1)?;
+    let all_files = children(alloc, set, proto::SET_FILE)?;
     let all = all_files.as_slice();
     let skips = skips(all)?;
     let kept_files = kept(alloc, all)?;

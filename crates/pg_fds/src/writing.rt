@@ -17,6 +17,7 @@ use crate::descriptor::descriptor_schema;
 use crate::error::FdsError;
 use crate::files::files;
 use crate::places::{FILE, SET};
+use crate::proto;
 use pg_dyn::laws::{encoding_spells, reads_again, writing_splits};
 use pg_dyn::{DynError, Message, encode};
 use pg_schema::{File, Parts, Schema};
@@ -60,7 +61,7 @@ fn set(alloc: Global, table: &Schema, source: &Schema) -> Result<Message, AllocE
     let parts = source.parts();
     let mut message = empty(alloc, SET);
     let made = files(alloc, table, source, &parts.files)?;
-    put_children(&mut message, table, SET, 1, FILE, made)?;
+    put_children(&mut message, table, SET, proto::SET_FILE, FILE, made)?;
     Ok(message)
 }
 
