@@ -29,7 +29,7 @@ entry_items all f = of f.presence
     of (presences.Map key) =
         (text proto.message_name (entry_name (string_bytes f.name))
         ++ children proto.message_field (entry_field all (codes "key") 1 (elements.Scalar key) ∷ entry_field all (codes "value") 2 f.element ∷ [])
-        ++ child proto.message_options (flag proto.message_options_map_entry true)) ∷ []
+        ++ child proto.message_options (flag proto.message_map_entry true)) ∷ []
 
 -- the entry types of fields, in their order
 abbrev pub entries : Declared → List Field → List Items

@@ -78,7 +78,7 @@ named_type all scope f = of f.presence
 
 -- FieldOptions
 abbrev pub field_options : FieldOptions → Items
-field_options o = stated proto.field_options_packed o.packed ++ stated proto.field_options_deprecated o.deprecated
+field_options o = stated proto.field_packed o.packed ++ stated proto.field_deprecated o.deprecated
 
 -- the oneof that a field stands in, where the next synthetic one is at that place
 abbrev pub oneof_place : (next : ℕ) → Field → Option ℕ

@@ -39,7 +39,7 @@ where_found f (Some x) = f x ∷ []
 -- ---- enums
 
 abbrev pub value_items : EnumValue → Items
-value_items v = text proto.value_name (string_bytes v.name) ++ whole proto.value_number v.number ++ options proto.value_options (stated proto.value_options_deprecated v.options.deprecated)
+value_items v = text proto.value_name (string_bytes v.name) ++ whole proto.value_number v.number ++ options proto.value_options (stated proto.value_deprecated v.options.deprecated)
 
 -- both ends are reserved too
 abbrev pub value_range : ReservedValues → Items
@@ -47,7 +47,7 @@ value_range r = whole proto.range_start r.first ++ whole proto.range_end r.last
 
 -- EnumOptions
 abbrev pub enum_options : EnumOptions → Items
-enum_options o = stated proto.enum_options_allow_alias o.allow_alias ++ stated proto.enum_options_deprecated o.deprecated
+enum_options o = stated proto.enum_allow_alias o.allow_alias ++ stated proto.enum_deprecated o.deprecated
 
 abbrev pub enum_items : EnumType → Items
 enum_items e =
@@ -93,7 +93,7 @@ abbrev pub type_items : Declared → List Items → MessageType → Items
 type_items all nested t =
     text proto.message_name (own_type_name t) ++ children proto.message_field (fields_items all (string_bytes t.name) (length t.oneofs.items) (declared_fields t))
     ++ children proto.message_nested_type (nested ++ entries all (declared_fields t)) ++ children proto.message_enum_type (enums_items all t.nested_enums.items)
-    ++ options proto.message_options (stated proto.message_options_deprecated t.options.deprecated) ++ children proto.message_oneof_decl (map oneof_items (oneof_names all t))
+    ++ options proto.message_options (stated proto.message_deprecated t.options.deprecated) ++ children proto.message_oneof_decl (map oneof_items (oneof_names all t))
     ++ children proto.message_reserved_range (map field_range t.reserved_numbers.items) ++ texts proto.message_reserved_name (map string_bytes t.reserved_names.items)
 
 -- The message types at these places, with what stands inside them, nested so many deep. Of a schema none is nested deeper than there

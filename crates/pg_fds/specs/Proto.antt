@@ -168,39 +168,39 @@ method_server_streaming = 6
 
 -- ---- MessageOptions
 
-abbrev pub message_options_deprecated : ℕ
-message_options_deprecated = 3
+abbrev pub message_deprecated : ℕ
+message_deprecated = 3
 
-abbrev pub message_options_map_entry : ℕ
-message_options_map_entry = 7
+abbrev pub message_map_entry : ℕ
+message_map_entry = 7
 
 -- ---- FieldOptions
 
-abbrev pub field_options_packed : ℕ
-field_options_packed = 2
+abbrev pub field_packed : ℕ
+field_packed = 2
 
-abbrev pub field_options_deprecated : ℕ
-field_options_deprecated = 3
+abbrev pub field_deprecated : ℕ
+field_deprecated = 3
 
 -- ---- EnumOptions
 
-abbrev pub enum_options_allow_alias : ℕ
-enum_options_allow_alias = 2
+abbrev pub enum_allow_alias : ℕ
+enum_allow_alias = 2
 
-abbrev pub enum_options_deprecated : ℕ
-enum_options_deprecated = 3
+abbrev pub enum_deprecated : ℕ
+enum_deprecated = 3
 
 -- ---- EnumValueOptions
 
-abbrev pub value_options_deprecated : ℕ
-value_options_deprecated = 1
+abbrev pub value_deprecated : ℕ
+value_deprecated = 1
 
 -- ---- ServiceOptions
 
-abbrev pub service_options_deprecated : ℕ
-service_options_deprecated = 33
+abbrev pub service_deprecated : ℕ
+service_deprecated = 33
 
 -- ---- MethodOptions
 
-abbrev pub method_options_deprecated : ℕ
-method_options_deprecated = 33
+abbrev pub method_deprecated : ℕ
+method_deprecated = 33

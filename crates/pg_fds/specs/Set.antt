@@ -32,12 +32,12 @@ called_type number None = []
 abbrev pub method_items : Declared → Method → Items
 method_items all m =
     text proto.method_name (string_bytes m.name) ++ called_type proto.method_input_type (type_name all.types m.input) ++ called_type proto.method_output_type (type_name all.types m.output)
-    ++ options proto.method_options (stated proto.method_options_deprecated m.options.deprecated) ++ mark proto.method_client_streaming m.client_streaming ++ mark proto.method_server_streaming m.server_streaming
+    ++ options proto.method_options (stated proto.method_deprecated m.options.deprecated) ++ mark proto.method_client_streaming m.client_streaming ++ mark proto.method_server_streaming m.server_streaming
 
 abbrev pub service_items : Declared → Service → Items
 service_items all s =
     text proto.service_name (own_name (string_bytes s.name)) ++ children proto.service_method (map (method_items all) s.methods.items)
-    ++ options proto.service_options (stated proto.service_options_deprecated s.options.deprecated)
+    ++ options proto.service_options (stated proto.service_deprecated s.options.deprecated)
 
 abbrev pub services_items : Declared → List ServiceId → List Items
 services_items all ids = flat_map (λ (id : ServiceId). where_found (service_items all) (slice_get all.services id.index)) ids

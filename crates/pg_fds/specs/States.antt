@@ -29,7 +29,7 @@ use Rattle.pg_fds.specs.Said.{children_at, flag_at, item_at, items_at, maybe_fla
 pub record StatesValue (m : Message) (v : EnumValue) : Type 0 where
   pub name : text_at proto.value_name m ≡ string_bytes v.name
   pub number : number_at proto.value_number m ≡ v.number
-  pub deprecated : maybe_flag_at proto.value_options_deprecated (options_at proto.value_options m) ≡ v.options.deprecated
+  pub deprecated : maybe_flag_at proto.value_deprecated (options_at proto.value_options m) ≡ v.options.deprecated
 
 -- both ends are reserved too
 pub record StatesValueRange (m : Message) (r : ReservedValues) : Type 0 where
@@ -40,8 +40,8 @@ pub record StatesValueRange (m : Message) (r : ReservedValues) : Type 0 where
 pub record StatesEnum (scope : List ℕ) (m : Message) (e : EnumType) : Type 0 where
   pub name : string_bytes e.name ≡ within scope (text_at proto.enum_name m)
   pub values : AllZip StatesValue (children_at proto.enum_value m) e.values.items
-  pub allow_alias : maybe_flag_at proto.enum_options_allow_alias (options_at proto.enum_options m) ≡ e.options.allow_alias
-  pub deprecated : maybe_flag_at proto.enum_options_deprecated (options_at proto.enum_options m) ≡ e.options.deprecated
+  pub allow_alias : maybe_flag_at proto.enum_allow_alias (options_at proto.enum_options m) ≡ e.options.allow_alias
+  pub deprecated : maybe_flag_at proto.enum_deprecated (options_at proto.enum_options m) ≡ e.options.deprecated
   pub reserved_numbers : AllZip StatesValueRange (children_at proto.enum_reserved_range m) e.reserved_numbers.items
   pub reserved_names : texts_at proto.enum_reserved_name m ≡ map string_bytes e.reserved_names.items
 
@@ -66,8 +66,8 @@ pub record StatesField (all : Declared) (scope : List ℕ) (m : Message) (f : Fi
   pub label : label_at m ≡ pos (label f.presence)
   pub type : number_at proto.field_type m ≡ pos (type_code f.presence f.element)
   pub type_name : maybe_text_at proto.field_type_name m ≡ named_type all scope f
-  pub packed : maybe_flag_at proto.field_options_packed (options_at proto.field_options m) ≡ f.options.packed
-  pub deprecated : maybe_flag_at proto.field_options_deprecated (options_at proto.field_options m) ≡ f.options.deprecated
+  pub packed : maybe_flag_at proto.field_packed (options_at proto.field_options m) ≡ f.options.packed
+  pub deprecated : maybe_flag_at proto.field_deprecated (options_at proto.field_options m) ≡ f.options.deprecated
   pub json_name : json_name_at m ≡ string_bytes f.json_name
   pub optional : flag_at proto.field_proto3_optional m ≡ f.states_optional
 
@@ -103,7 +103,7 @@ pub record StatesEntry (all : Declared) (f : Field) (key : Scalar) (m : Message)
   pub fields : AreKeyAndValue all key f.element (children_at proto.message_field m)
   pub no_types : items_at proto.message_nested_type m ≡ []
   pub no_enums : items_at proto.message_enum_type m ≡ []
-  pub undeprecated : maybe_flag_at proto.message_options_deprecated (options_at proto.message_options m) ≡ None
+  pub undeprecated : maybe_flag_at proto.message_deprecated (options_at proto.message_options m) ≡ None
   pub no_oneofs : items_at proto.message_oneof_decl m ≡ []
   pub no_reserved_numbers : items_at proto.message_reserved_range m ≡ []
   pub no_reserved_names : items_at proto.message_reserved_name m ≡ []

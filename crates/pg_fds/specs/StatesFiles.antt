@@ -34,14 +34,14 @@ pub record StatesMethod (all : Declared) (m : Message) (d : Method) : Type 0 whe
   pub name : text_at proto.method_name m ≡ string_bytes d.name
   pub input : StatesCalled all (maybe_text_at proto.method_input_type m) d.input
   pub output : StatesCalled all (maybe_text_at proto.method_output_type m) d.output
-  pub deprecated : maybe_flag_at proto.method_options_deprecated (options_at proto.method_options m) ≡ d.options.deprecated
+  pub deprecated : maybe_flag_at proto.method_deprecated (options_at proto.method_options m) ≡ d.options.deprecated
   pub client_streaming : flag_at proto.method_client_streaming m ≡ d.client_streaming
   pub server_streaming : flag_at proto.method_server_streaming m ≡ d.server_streaming
 
 pub record StatesService (all : Declared) (scope : List ℕ) (m : Message) (s : Service) : Type 0 where
   pub name : string_bytes s.name ≡ within scope (text_at proto.service_name m)
   pub methods : AllZip (StatesMethod all) (children_at proto.service_method m) s.methods.items
-  pub deprecated : maybe_flag_at proto.service_options_deprecated (options_at proto.service_options m) ≡ s.options.deprecated
+  pub deprecated : maybe_flag_at proto.service_deprecated (options_at proto.service_options m) ≡ s.options.deprecated
 
 -- the services at these places
 abbrev pub StatesServices : Declared → (scope : List ℕ) → List Message → List ServiceId → Type 0

@@ -66,7 +66,7 @@ pub record StatesOneofs (oneofs fields : List Message) (t : MessageType) (declar
 
 -- marked `map_entry`
 abbrev pub is_entry : Message → Bool
-is_entry m = flag_at proto.message_options_map_entry (options_at proto.message_options m)
+is_entry m = flag_at proto.message_map_entry (options_at proto.message_options m)
 
 abbrev pub is_no_entry : Message → Bool
 is_no_entry m = not (is_entry m)
@@ -78,7 +78,7 @@ pub record StatesType (all : Declared) (scope : List ℕ) (m : Message) (t : Mes
   pub fields : AllZip (StatesField all (string_bytes t.name)) (children_at proto.message_field m) (declared_fields t)
   pub entries : StatesEntries all (filter is_entry (children_at proto.message_nested_type m)) t.fields.items
   pub enums : StatesEnums all (string_bytes t.name) (children_at proto.message_enum_type m) t.nested_enums.items
-  pub deprecated : maybe_flag_at proto.message_options_deprecated (options_at proto.message_options m) ≡ t.options.deprecated
+  pub deprecated : maybe_flag_at proto.message_deprecated (options_at proto.message_options m) ≡ t.options.deprecated
   pub oneofs : StatesOneofs (children_at proto.message_oneof_decl m) (children_at proto.message_field m) t (declared_fields t)
   pub reserved_numbers : AllZip StatesFieldRange (children_at proto.message_reserved_range m) t.reserved_numbers.items
   pub reserved_names : texts_at proto.message_reserved_name m ≡ map string_bytes t.reserved_names.items

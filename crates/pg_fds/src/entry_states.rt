@@ -135,12 +135,7 @@ fn entry(
     key_and_value(alloc, source, &fields, key, field.element)?;
     lacks_all(message, proto::MESSAGE_NESTED_TYPE)?;
     lacks_all(message, proto::MESSAGE_ENUM_TYPE)?;
-    ensure(option(
-        message,
-        proto::MESSAGE_OPTIONS,
-        proto::MESSAGE_OPTIONS_DEPRECATED,
-    )
-    .is_none())?;
+    ensure(option(message, proto::MESSAGE_OPTIONS, proto::MESSAGE_DEPRECATED).is_none())?;
     lacks_all(message, proto::MESSAGE_ONEOF_DECL)?;
     lacks_all(message, proto::MESSAGE_RESERVED_RANGE)?;
     lacks_all(message, proto::MESSAGE_RESERVED_NAME)

@@ -12,6 +12,10 @@ use crate::names::own_name;
 use crate::options::{one_flag, two_flags};
 use crate::places::{ENUM, ENUM_OPTIONS, VALUE, VALUE_OPTIONS, VALUE_RANGE};
 use crate::proto;
+use crate::proto::{
+    ENUM_NAME, ENUM_RESERVED_NAME, ENUM_RESERVED_RANGE, ENUM_VALUE, RANGE_END, RANGE_START,
+    VALUE_DEPRECATED, VALUE_NAME, VALUE_NUMBER,
+};
 use pg_dyn::{Message, Value};
 use pg_schema::{EnumId, EnumType, EnumValue, ReservedValues, Schema};
 use std::alloc::{AllocError, Global};
@@ -24,28 +28,9 @@ fn value_message(alloc: Global, table: &Schema, value: &EnumValue) -> Result<Mes
 {
     let mut message = empty(alloc, VALUE);
     let stated = value.options.deprecated;
-    let options = one_flag(
-        alloc,
-        table,
-        VALUE_OPTIONS,
-        proto::VALUE_OPTIONS_DEPRECATED,
-        stated,
-    )?;
-    put_text(
-        alloc,
-        &mut message,
-        table,
-        VALUE,
-        proto::VALUE_NAME,
-        &value.name,
-    )?;
-    put_whole(
-        &mut message,
-        table,
-        VALUE,
-        proto::VALUE_NUMBER,
-        value.number,
-    )?;
+    let options = one_flag(alloc, table, VALUE_OPTIONS, VALUE_DEPRECATED, stated)?;
+    put_text(alloc, &mut message, table, VALUE, VALUE_NAME, &value.name)?;
+    put_whole(&mut message, table, VALUE, VALUE_NUMBER, value.number)?;
     put_options(
         alloc,
         &mut message,
@@ -69,20 +54,8 @@ fn range_message(
     ensures kept { IfOk result (IsOf VALUE_RANGE) }
 {
     let mut message = empty(alloc, VALUE_RANGE);
-    put_whole(
-        &mut message,
-        table,
-        VALUE_RANGE,
-        proto::RANGE_START,
-        range.first,
-    )?;
-    put_whole(
-        &mut message,
-        table,
-        VALUE_RANGE,
-        proto::RANGE_END,
-        range.last,
-    )?;
+    put_whole(&mut message, table, VALUE_RANGE, RANGE_START, range.first)?;
+    put_whole(&mut message, table, VALUE_RANGE, RANGE_END, range.last)?;
     Ok(message)
 }
 
@@ -136,15 +109,8 @@ fn enum_message(alloc: Global, table: &Schema, declared: &EnumType) -> Result<Me
         stated.deprecated,
     )?;
     let ranges = ranges(alloc, table, &declared.reserved_numbers)?;
-    put_text(
-        alloc,
-        to,
-        table,
-        ENUM,
-        proto::ENUM_NAME,
-        own_name(&declared.name),
-    )?;
-    put_children(to, table, ENUM, proto::ENUM_VALUE, VALUE, values)?;
+    put_text(alloc, to, table, ENUM, ENUM_NAME, own_name(&declared.name))?;
+    put_children(to, table, ENUM, ENUM_VALUE, VALUE, values)?;
     put_options(
         alloc,
         to,
@@ -154,20 +120,13 @@ fn enum_message(alloc: Global, table: &Schema, declared: &EnumType) -> Result<Me
         ENUM_OPTIONS,
         options,
     )?;
-    put_children(
-        to,
-        table,
-        ENUM,
-        proto::ENUM_RESERVED_RANGE,
-        VALUE_RANGE,
-        ranges,
-    )?;
+    put_children(to, table, ENUM, ENUM_RESERVED_RANGE, VALUE_RANGE, ranges)?;
     put_texts(
         alloc,
         to,
         table,
         ENUM,
-        proto::ENUM_RESERVED_NAME,
+        ENUM_RESERVED_NAME,
         &declared.reserved_names,
     )?;
     Ok(message)

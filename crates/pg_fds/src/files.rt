@@ -28,6 +28,10 @@ use crate::enums::enums;
 use crate::messages::type_message;
 use crate::places::{ENUM, FILE, FILE_OPTIONS, MESSAGE, SERVICE};
 use crate::proto;
+use crate::proto::{
+    FILE_DEPENDENCY, FILE_ENUM_TYPE, FILE_MESSAGE_TYPE, FILE_NAME, FILE_PACKAGE,
+    FILE_PUBLIC_DEPENDENCY, FILE_SERVICE, FILE_SYNTAX,
+};
 use crate::services::services;
 use pg_dyn::{Message, Value};
 use pg_schema::{File, FileOption, Import, OptimizeMode, OptionValue, Schema, TypeId};
@@ -138,14 +142,7 @@ fn put_places(
     ensures last { OnOk result (last_number message.new ≤ 10) }
 {
     let places = public_places(alloc, imports)?;
-    put_all(
-        message,
-        table,
-        FILE,
-        proto::FILE_PUBLIC_DEPENDENCY,
-        NUMBER,
-        places,
-    )
+    put_all(message, table, FILE, FILE_PUBLIC_DEPENDENCY, NUMBER, places)
 }
 
 // The messages of the message types at these places, with what stands inside them, nested so many deep.
@@ -204,12 +201,12 @@ fn file_message(
     let enums = enums(alloc, table, source, &file.enums)?;
     let services = services(alloc, table, source, &file.services)?;
     let options = options(alloc, table, &file.options)?;
-    put_text(alloc, to, table, FILE, proto::FILE_NAME, &file.name)?;
-    put_filled(alloc, to, table, FILE, proto::FILE_PACKAGE, &file.package)?;
-    put_texts(alloc, to, table, FILE, proto::FILE_DEPENDENCY, &paths)?;
-    put_children(to, table, FILE, proto::FILE_MESSAGE_TYPE, MESSAGE, types)?;
-    put_children(to, table, FILE, proto::FILE_ENUM_TYPE, ENUM, enums)?;
-    put_children(to, table, FILE, proto::FILE_SERVICE, SERVICE, services)?;
+    put_text(alloc, to, table, FILE, FILE_NAME, &file.name)?;
+    put_filled(alloc, to, table, FILE, FILE_PACKAGE, &file.package)?;
+    put_texts(alloc, to, table, FILE, FILE_DEPENDENCY, &paths)?;
+    put_children(to, table, FILE, FILE_MESSAGE_TYPE, MESSAGE, types)?;
+    put_children(to, table, FILE, FILE_ENUM_TYPE, ENUM, enums)?;
+    put_children(to, table, FILE, FILE_SERVICE, SERVICE, services)?;
     put_options(
         alloc,
         to,
@@ -220,7 +217,7 @@ fn file_message(
         options,
     )?;
     put_places(alloc, to, table, &file.imports)?;
-    put_text(alloc, to, table, FILE, proto::FILE_SYNTAX, "proto3")?;
+    put_text(alloc, to, table, FILE, FILE_SYNTAX, "proto3")?;
     Ok(message)
 }
 

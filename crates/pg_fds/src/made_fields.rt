@@ -340,7 +340,7 @@ pub fn made_field<'a>(
         → StatesFieldAt all scope.now.names.now scope.now.name.now scope.now.synthetic.items scope.now.members.items (message_of message.now) f
         → HasNamedEntry all entries.old f → r ≡ Memory) }
 {
-    let packed = option(message, proto::FIELD_OPTIONS, proto::FIELD_OPTIONS_PACKED);
+    let packed = option(message, proto::FIELD_OPTIONS, proto::FIELD_PACKED);
     let oneof = oneof(scope, message)?;
     let (presence, element) = parts(alloc, scope, entries, message, oneof.is_some(), packed)?;
     let name = String::from_str(alloc, text(message, proto::FIELD_NAME)?)?;
@@ -355,11 +355,7 @@ pub fn made_field<'a>(
         states_optional: flag(message, proto::FIELD_PROTO3_OPTIONAL),
         options: FieldOptions {
             packed,
-            deprecated: option(
-                message,
-                proto::FIELD_OPTIONS,
-                proto::FIELD_OPTIONS_DEPRECATED,
-            ),
+            deprecated: option(message, proto::FIELD_OPTIONS, proto::FIELD_DEPRECATED),
         },
     })
 }

@@ -87,11 +87,7 @@ fn method(
         client_streaming: flag(message, proto::METHOD_CLIENT_STREAMING),
         server_streaming: flag(message, proto::METHOD_SERVER_STREAMING),
         options: MethodOptions {
-            deprecated: option(
-                message,
-                proto::METHOD_OPTIONS,
-                proto::METHOD_OPTIONS_DEPRECATED,
-            ),
+            deprecated: option(message, proto::METHOD_OPTIONS, proto::METHOD_DEPRECATED),
         },
     })
 }
@@ -133,11 +129,7 @@ pub fn service(
         name,
         methods,
         options: ServiceOptions {
-            deprecated: option(
-                message,
-                proto::SERVICE_OPTIONS,
-                proto::SERVICE_OPTIONS_DEPRECATED,
-            ),
+            deprecated: option(message, proto::SERVICE_OPTIONS, proto::SERVICE_DEPRECATED),
         },
     })
 }

@@ -116,12 +116,7 @@ fn entry_parts(
 {
     lacks_all(entry, proto::MESSAGE_NESTED_TYPE)?;
     lacks_all(entry, proto::MESSAGE_ENUM_TYPE)?;
-    ensure(option(
-        entry,
-        proto::MESSAGE_OPTIONS,
-        proto::MESSAGE_OPTIONS_DEPRECATED,
-    )
-    .is_none())?;
+    ensure(option(entry, proto::MESSAGE_OPTIONS, proto::MESSAGE_DEPRECATED).is_none())?;
     lacks_all(entry, proto::MESSAGE_ONEOF_DECL)?;
     lacks_all(entry, proto::MESSAGE_RESERVED_RANGE)?;
     lacks_all(entry, proto::MESSAGE_RESERVED_NAME)?;

@@ -75,11 +75,7 @@ fn value(alloc: Global, message: &Message) -> Result<EnumValue, Unstated>
         name: String::from_str(alloc, text(message, proto::VALUE_NAME)?)?,
         number: whole(message, proto::VALUE_NUMBER)?,
         options: EnumValueOptions {
-            deprecated: option(
-                message,
-                proto::VALUE_OPTIONS,
-                proto::VALUE_OPTIONS_DEPRECATED,
-            ),
+            deprecated: option(message, proto::VALUE_OPTIONS, proto::VALUE_DEPRECATED),
         },
     })
 }
@@ -142,12 +138,8 @@ pub fn made_enum(alloc: Global, outlined: &Outlined<'_>) -> Result<EnumType, Uns
         reserved_numbers,
         reserved_names,
         options: EnumOptions {
-            allow_alias: option(
-                message,
-                proto::ENUM_OPTIONS,
-                proto::ENUM_OPTIONS_ALLOW_ALIAS,
-            ),
-            deprecated: option(message, proto::ENUM_OPTIONS, proto::ENUM_OPTIONS_DEPRECATED),
+            allow_alias: option(message, proto::ENUM_OPTIONS, proto::ENUM_ALLOW_ALIAS),
+            deprecated: option(message, proto::ENUM_OPTIONS, proto::ENUM_DEPRECATED),
         },
     })
 }
@@ -407,11 +399,7 @@ pub fn made_type(
         reserved_numbers,
         reserved_names,
         options: MessageOptions {
-            deprecated: option(
-                message,
-                proto::MESSAGE_OPTIONS,
-                proto::MESSAGE_OPTIONS_DEPRECATED,
-            ),
+            deprecated: option(message, proto::MESSAGE_OPTIONS, proto::MESSAGE_DEPRECATED),
         },
     })
 }

@@ -21,6 +21,11 @@ use crate::names::own_name;
 use crate::options::one_flag;
 use crate::places::{ENUM, FIELD, FIELD_RANGE, MESSAGE, MESSAGE_OPTIONS, ONEOF};
 use crate::proto;
+use crate::proto::{
+    MESSAGE_DEPRECATED, MESSAGE_ENUM_TYPE, MESSAGE_FIELD, MESSAGE_NAME, MESSAGE_NESTED_TYPE,
+    MESSAGE_ONEOF_DECL, MESSAGE_RESERVED_NAME, MESSAGE_RESERVED_RANGE, ONEOF_NAME, RANGE_END,
+    RANGE_START,
+};
 use crate::scope::names_within;
 use crate::synthetic::synthetic_oneofs;
 use pg_dyn::{Message, Value};
@@ -43,7 +48,7 @@ fn range_message(
         &mut message,
         table,
         FIELD_RANGE,
-        proto::RANGE_START,
+        RANGE_START,
         NUMBER,
         range.first,
     )?;
@@ -51,7 +56,7 @@ fn range_message(
         &mut message,
         table,
         FIELD_RANGE,
-        proto::RANGE_END,
+        RANGE_END,
         NUMBER,
         range.last + 1,
     )?;
@@ -91,7 +96,7 @@ fn push_oneofs(
 {
     for name in names {
         let mut message = empty(alloc, ONEOF);
-        put_text(alloc, &mut message, table, ONEOF, proto::ONEOF_NAME, name)?;
+        put_text(alloc, &mut message, table, ONEOF, ONEOF_NAME, name)?;
         made.push(Value::Msg(Box::new(alloc, message)?))?;
     }
     Ok(())
@@ -192,33 +197,15 @@ pub fn type_message(
     push_entries(alloc, table, source, &mut types, &declared)?;
     let enums = enums(alloc, table, source, &message_type.nested_enums)?;
     let stated = message_type.options.deprecated;
-    let options = one_flag(
-        alloc,
-        table,
-        MESSAGE_OPTIONS,
-        proto::MESSAGE_OPTIONS_DEPRECATED,
-        stated,
-    )?;
+    let options = one_flag(alloc, table, MESSAGE_OPTIONS, MESSAGE_DEPRECATED, stated)?;
     let oneofs = oneofs(alloc, table, source, message_type, &declared)?;
     let ranges = ranges(alloc, table, &message_type.reserved_numbers)?;
-    put_text(
-        alloc,
-        to,
-        table,
-        MESSAGE,
-        proto::MESSAGE_NAME,
-        own_name(&message_type.name),
-    )?;
-    put_children(to, table, MESSAGE, proto::MESSAGE_FIELD, FIELD, own)?;
-    put_children(
-        to,
-        table,
-        MESSAGE,
-        proto::MESSAGE_NESTED_TYPE,
-        MESSAGE,
-        types,
-    )?;
-    put_children(to, table, MESSAGE, proto::MESSAGE_ENUM_TYPE, ENUM, enums)?;
+    let name = own_name(&message_type.name);
+    let reserved = &message_type.reserved_names;
+    put_text(alloc, to, table, MESSAGE, MESSAGE_NAME, name)?;
+    put_children(to, table, MESSAGE, MESSAGE_FIELD, FIELD, own)?;
+    put_children(to, table, MESSAGE, MESSAGE_NESTED_TYPE, MESSAGE, types)?;
+    put_children(to, table, MESSAGE, MESSAGE_ENUM_TYPE, ENUM, enums)?;
     put_options(
         alloc,
         to,
@@ -228,22 +215,15 @@ pub fn type_message(
         MESSAGE_OPTIONS,
         options,
     )?;
-    put_children(to, table, MESSAGE, proto::MESSAGE_ONEOF_DECL, ONEOF, oneofs)?;
+    put_children(to, table, MESSAGE, MESSAGE_ONEOF_DECL, ONEOF, oneofs)?;
     put_children(
         to,
         table,
         MESSAGE,
-        proto::MESSAGE_RESERVED_RANGE,
+        MESSAGE_RESERVED_RANGE,
         FIELD_RANGE,
         ranges,
     )?;
-    put_texts(
-        alloc,
-        to,
-        table,
-        MESSAGE,
-        proto::MESSAGE_RESERVED_NAME,
-        &message_type.reserved_names,
-    )?;
+    put_texts(alloc, to, table, MESSAGE, MESSAGE_RESERVED_NAME, reserved)?;
     Ok(message)
 }

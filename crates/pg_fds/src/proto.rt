@@ -108,25 +108,25 @@ pub const METHOD_CLIENT_STREAMING: u32 = 5;
 pub const METHOD_SERVER_STREAMING: u32 = 6;
 
 // MessageOptions
-pub const MESSAGE_OPTIONS_DEPRECATED: u32 = 3;
+pub const MESSAGE_DEPRECATED: u32 = 3;
 
-pub const MESSAGE_OPTIONS_MAP_ENTRY: u32 = 7;
+pub const MESSAGE_MAP_ENTRY: u32 = 7;
 
 // FieldOptions
-pub const FIELD_OPTIONS_PACKED: u32 = 2;
+pub const FIELD_PACKED: u32 = 2;
 
-pub const FIELD_OPTIONS_DEPRECATED: u32 = 3;
+pub const FIELD_DEPRECATED: u32 = 3;
 
 // EnumOptions
-pub const ENUM_OPTIONS_ALLOW_ALIAS: u32 = 2;
+pub const ENUM_ALLOW_ALIAS: u32 = 2;
 
-pub const ENUM_OPTIONS_DEPRECATED: u32 = 3;
+pub const ENUM_DEPRECATED: u32 = 3;
 
 // EnumValueOptions
-pub const VALUE_OPTIONS_DEPRECATED: u32 = 1;
+pub const VALUE_DEPRECATED: u32 = 1;
 
 // ServiceOptions
-pub const SERVICE_OPTIONS_DEPRECATED: u32 = 33;
+pub const SERVICE_DEPRECATED: u32 = 33;
 
 // MethodOptions
-pub const METHOD_OPTIONS_DEPRECATED: u32 = 33;
+pub const METHOD_DEPRECATED: u32 = 33;

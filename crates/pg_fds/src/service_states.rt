@@ -65,11 +65,8 @@ fn method(
         declared.output,
     )?;
     ensure(
-        option(
-            message,
-            proto::METHOD_OPTIONS,
-            proto::METHOD_OPTIONS_DEPRECATED,
-        ) == declared.options.deprecated,
+        option(message, proto::METHOD_OPTIONS, proto::METHOD_DEPRECATED)
+            == declared.options.deprecated,
     )?;
     ensure(flag(message, proto::METHOD_CLIENT_STREAMING) == declared.client_streaming)?;
     ensure(flag(message, proto::METHOD_SERVER_STREAMING) == declared.server_streaming)
@@ -114,11 +111,8 @@ fn service(
         &declared.methods,
     )?;
     ensure(
-        option(
-            message,
-            proto::SERVICE_OPTIONS,
-            proto::SERVICE_OPTIONS_DEPRECATED,
-        ) == declared.options.deprecated,
+        option(message, proto::SERVICE_OPTIONS, proto::SERVICE_DEPRECATED)
+            == declared.options.deprecated,
     )
 }
 

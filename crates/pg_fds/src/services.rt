@@ -14,6 +14,10 @@ use crate::names::own_name;
 use crate::options::one_flag;
 use crate::places::{METHOD, METHOD_OPTIONS, SERVICE, SERVICE_OPTIONS};
 use crate::proto;
+use crate::proto::{
+    METHOD_CLIENT_STREAMING, METHOD_DEPRECATED, METHOD_INPUT_TYPE, METHOD_NAME, METHOD_OUTPUT_TYPE,
+    METHOD_SERVER_STREAMING, SERVICE_DEPRECATED, SERVICE_METHOD, SERVICE_NAME,
+};
 use pg_dyn::{Message, Value};
 use pg_schema::{Element, Method, Schema, Service, ServiceId};
 use std::alloc::{AllocError, Global};
@@ -35,16 +39,10 @@ fn method_message(
     let input = element_name(alloc, source, Element::Message(method.input))?;
     let output = element_name(alloc, source, Element::Message(method.output))?;
     let stated = method.options.deprecated;
-    let options = one_flag(
-        alloc,
-        table,
-        METHOD_OPTIONS,
-        proto::METHOD_OPTIONS_DEPRECATED,
-        stated,
-    )?;
-    put_text(alloc, to, table, METHOD, proto::METHOD_NAME, &method.name)?;
-    put_maybe_text(alloc, to, table, METHOD, proto::METHOD_INPUT_TYPE, input)?;
-    put_maybe_text(alloc, to, table, METHOD, proto::METHOD_OUTPUT_TYPE, output)?;
+    let options = one_flag(alloc, table, METHOD_OPTIONS, METHOD_DEPRECATED, stated)?;
+    put_text(alloc, to, table, METHOD, METHOD_NAME, &method.name)?;
+    put_maybe_text(alloc, to, table, METHOD, METHOD_INPUT_TYPE, input)?;
+    put_maybe_text(alloc, to, table, METHOD, METHOD_OUTPUT_TYPE, output)?;
     put_options(
         alloc,
         to,
@@ -58,14 +56,14 @@ fn method_message(
         to,
         table,
         METHOD,
-        proto::METHOD_CLIENT_STREAMING,
+        METHOD_CLIENT_STREAMING,
         method.client_streaming,
     )?;
     put_mark(
         to,
         table,
         METHOD,
-        proto::METHOD_SERVER_STREAMING,
+        METHOD_SERVER_STREAMING,
         method.server_streaming,
     )?;
     Ok(message)
@@ -105,22 +103,16 @@ fn service_message(
     let to = &mut message;
     let methods = methods(alloc, table, source, &service.methods)?;
     let stated = service.options.deprecated;
-    let options = one_flag(
-        alloc,
-        table,
-        SERVICE_OPTIONS,
-        proto::SERVICE_OPTIONS_DEPRECATED,
-        stated,
-    )?;
+    let options = one_flag(alloc, table, SERVICE_OPTIONS, SERVICE_DEPRECATED, stated)?;
     put_text(
         alloc,
         to,
         table,
         SERVICE,
-        proto::SERVICE_NAME,
+        SERVICE_NAME,
         own_name(&service.name),
     )?;
-    put_children(to, table, SERVICE, proto::SERVICE_METHOD, METHOD, methods)?;
+    put_children(to, table, SERVICE, SERVICE_METHOD, METHOD, methods)?;
     put_options(
         alloc,
         to,

@@ -64,11 +64,8 @@ fn value(message: &Message, declared: &EnumValue) -> Result<(), Unstated>
     same_text(text(message, proto::VALUE_NAME)?, &declared.name)?;
     ensure(number(message, proto::VALUE_NUMBER) == i128::from(declared.number))?;
     ensure(
-        option(
-            message,
-            proto::VALUE_OPTIONS,
-            proto::VALUE_OPTIONS_DEPRECATED,
-        ) == declared.options.deprecated,
+        option(message, proto::VALUE_OPTIONS, proto::VALUE_DEPRECATED)
+            == declared.options.deprecated,
     )
 }
 
@@ -122,15 +119,11 @@ fn enum_type(
         &declared.values,
     )?;
     ensure(
-        option(
-            message,
-            proto::ENUM_OPTIONS,
-            proto::ENUM_OPTIONS_ALLOW_ALIAS,
-        ) == declared.options.allow_alias,
+        option(message, proto::ENUM_OPTIONS, proto::ENUM_ALLOW_ALIAS)
+            == declared.options.allow_alias,
     )?;
     ensure(
-        option(message, proto::ENUM_OPTIONS, proto::ENUM_OPTIONS_DEPRECATED)
-            == declared.options.deprecated,
+        option(message, proto::ENUM_OPTIONS, proto::ENUM_DEPRECATED) == declared.options.deprecated,
     )?;
     value_ranges(
         &children(alloc, message, proto::ENUM_RESERVED_RANGE)?,
@@ -231,16 +224,10 @@ fn field(
     ensure(label_of(message) == i128::from(label(declared.presence)))?;
     ensure(number(message, proto::FIELD_TYPE) == i128::from(code))?;
     has_type_name(message, &type_name)?;
+    ensure(option(message, proto::FIELD_OPTIONS, proto::FIELD_PACKED) == declared.options.packed)?;
     ensure(
-        option(message, proto::FIELD_OPTIONS, proto::FIELD_OPTIONS_PACKED)
-            == declared.options.packed,
-    )?;
-    ensure(
-        option(
-            message,
-            proto::FIELD_OPTIONS,
-            proto::FIELD_OPTIONS_DEPRECATED,
-        ) == declared.options.deprecated,
+        option(message, proto::FIELD_OPTIONS, proto::FIELD_DEPRECATED)
+            == declared.options.deprecated,
     )?;
     has_json_name(alloc, message, &declared.json_name)?;
     ensure(flag(message, proto::FIELD_PROTO3_OPTIONAL) == declared.states_optional)

@@ -24,11 +24,7 @@ use std::alloc::{AllocError, Global};
 pub fn is_entry(message: &Message) -> bool
     ensures { result ≡ is_entry (message_of message.now) }
 {
-    match option(
-        message,
-        proto::MESSAGE_OPTIONS,
-        proto::MESSAGE_OPTIONS_MAP_ENTRY,
-    ) {
+    match option(message, proto::MESSAGE_OPTIONS, proto::MESSAGE_MAP_ENTRY) {
         Some(flag) => flag,
         None => false,
     }
@@ -111,11 +107,8 @@ fn own_type(
     let enums_inside = children(alloc, message, proto::MESSAGE_ENUM_TYPE)?;
     enums(alloc, source, name, &enums_inside, &declared.nested_enums)?;
     ensure(
-        option(
-            message,
-            proto::MESSAGE_OPTIONS,
-            proto::MESSAGE_OPTIONS_DEPRECATED,
-        ) == declared.options.deprecated,
+        option(message, proto::MESSAGE_OPTIONS, proto::MESSAGE_DEPRECATED)
+            == declared.options.deprecated,
     )?;
     let oneofs_inside = children(alloc, message, proto::MESSAGE_ONEOF_DECL)?;
     oneofs(alloc, &oneofs_inside, &own, declared, &declared_fields)?;
