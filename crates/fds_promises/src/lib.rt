@@ -6,7 +6,7 @@ ghost use Rattle.std.specs.Prelude.{◌≡◌, ◌⊎◌, IfErr, IfOk};
 ghost use Rattle.pg_schema.specs.Parts.{shape_of};
 ghost use Rattle.pg_dyn.specs.declared.error.DynError.TheVariants as faults;
 ghost use Rattle.pg_fds.specs.declared.error.FdsError.TheVariants as errors;
-ghost use Rattle.pg_fds.specs.Codes as codes;
+ghost use Rattle.pg_fds.specs.ErrorCodes as codes;
 ghost use Rattle.pg_fds.specs.Descriptor.{descriptor_shape};
 ghost use Rattle.pg_fds.specs.DescriptorParts.{descriptor_parts};
 ghost use Rattle.pg_fds.specs.Set.{fds};

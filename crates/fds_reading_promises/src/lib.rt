@@ -4,12 +4,10 @@
 
 ghost use Rattle.std.specs.Prelude.{ℕ, ◌≡◌, List, IfErr, IfOk};
 ghost use Rattle.pg_schema.specs.Sound.{IsSound};
-ghost use Rattle.pg_fds.specs.InOrder.{StandInOrder};
 ghost use Rattle.pg_fds.specs.ReadAgain.{IsReadAgain};
 ghost use Rattle.pg_fds.specs.Reads.{fds_reads};
 ghost use Rattle.pg_fds.specs.Refused.{MayRefuseSet, NoneIsStated};
 ghost use Rattle.pg_fds.specs.Set.{fds};
-ghost use Rattle.pg_fds.specs.SetOrder.{in_set_order};
 ghost use Rattle.pg_fds.specs.Views.{parts_view};
 
 use pg_fds::FdsError;
@@ -35,10 +33,7 @@ pub fn read_refused(alloc: Global, bad: &[u8]) -> Result<Schema, FdsError>
 pub fn read_again(alloc: Global, schema: &Schema) -> Result<Schema, FdsError>
     ensures stated { IfOk result (λ made. (bytes : List ℕ) → fds schema.now bytes → fds_reads bytes made) }
     ensures sound { IfOk result IsSound }
-    ensures places { IfOk result (λ made. StandInOrder made) }
-    ensures same { IfOk result (λ made. IsReadAgain schema.now → parts_view made ≡ parts_view (in_set_order schema.now)) }
-    ensures exact { IfOk result (λ made. IsReadAgain schema.now → StandInOrder schema.now
-        → parts_view made ≡ parts_view schema.now) }
+    ensures same { IfOk result (λ made. IsReadAgain schema.now → parts_view made ≡ parts_view schema.now) }
 {
     pg_fds::read_again(alloc, schema)
 }

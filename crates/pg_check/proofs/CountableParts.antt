@@ -14,10 +14,11 @@ use Rattle.pg_link.specs.Walk.{Entry, IsParsed}
 use Rattle.pg_check.specs.MadeEnums.{enumeration, made_enum}
 use Rattle.pg_check.specs.MadeParts.{ArePartsOf, Declared, Source, file_services, nothing, with_file, with_files}
 use Rattle.pg_check.specs.MadeServices.{made_services, service, service_in}
-use Rattle.pg_check.specs.Outline.{all_enums, enums_in, file_enums, full_name, package_of, row_enums, statement_enums, statements_behind}
+use Rattle.pg_check.specs.Outline.{all_enums, enums_in, file_enums, full_name, package_of, row_enums, scoped_enums, statement_enums, statements_behind}
 use Rattle.pg_check.proofs.PlacedParts.{IsCountable}
 use Rattle.pg_check.specs.Sources.{linked_source, linked_sources}
 use Rattle.pg_check.proofs.KeptFiles.{enums_are, source_enums}
+use Rattle.pg_check.proofs.ScopedEnums.{scoped_long}
 use Rattle.pg_check.proofs.Totals.{total, total_joined}
 use Rattle.pg_syntax.specs.declared.tree as tree
 use Rattle.pg_syntax.specs.declared.tree.Part.{Part, Row_of-Part, end_of-Part, more_of-Part}
@@ -154,15 +155,16 @@ behind_words : (p : Option tree.Packaged.Packaged) → words_in (view.runs view.
 behind_words None = omega arith
 behind_words (Some p) = omega arith
 
-file_enums_few : (file : tree.FileTree.FileTree) → length (file_enums file) ≤ words_in (view.file file)
+file_enums_few : (file : tree.FileTree.FileTree) → length (scoped_enums file) ≤ words_in (view.file file)
 file_enums_few file =
     let scope = package_of file in
     let front = all_enums_few scope file.statements.items in
     let behind = all_enums_few scope (statements_behind file.packaged) in
     let within = behind_words file.packaged in
+    let same : length (scoped_enums file) ≡ length (file_enums file) = scoped_long file in
     let both : length (all_enums scope file.statements.items ++ all_enums scope (statements_behind file.packaged)) ≡ length (all_enums scope file.statements.items) + length (all_enums scope (statements_behind file.packaged)) =
     length-append (all_enums scope file.statements.items) (all_enums scope (statements_behind file.packaged)) in
-    omega (arith, front, behind, within, both)
+    omega (arith, front, behind, within, same, both)
 
 -- ---- services
 
@@ -199,9 +201,9 @@ all_enums_bound : (all files : List Entry) → AllByRecursion (λ (e : Entry). I
 all_enums_bound all [] h = omega arith
 all_enums_bound all (e ∷ es) h =
     let rest : length (flat_map source_enums (map (linked_source all) es)) ≤ length es * max_len = all_enums_bound all es h.1 in
-    let first : length (file_enums e.1.tree) ≤ words_in (view.file e.1.tree) = file_enums_few e.1.tree in
+    let first : length (scoped_enums e.1.tree) ≤ words_in (view.file e.1.tree) = file_enums_few e.1.tree in
     let few : words_in (view.file e.1.tree) ≤ max_len = file_words e.1.bytes.items e.1.tree h.0 in
-    let both : length (file_enums e.1.tree ++ flat_map source_enums (map (linked_source all) es)) ≡ length (file_enums e.1.tree) + length (flat_map source_enums (map (linked_source all) es)) = length-append (file_enums e.1.tree) (flat_map source_enums (map (linked_source all) es)) in
+    let both : length (scoped_enums e.1.tree ++ flat_map source_enums (map (linked_source all) es)) ≡ length (scoped_enums e.1.tree) + length (flat_map source_enums (map (linked_source all) es)) = length-append (scoped_enums e.1.tree) (flat_map source_enums (map (linked_source all) es)) in
     omega (arith, rest, first, few, both)
 
 all_services_bound : (d : Declared) (all files : List Entry) → AllByRecursion (λ (e : Entry). IsParsed e.1.bytes.items e.1.tree) files → length (with_files d (map (linked_source all) files)).services ≤ length d.services + length files * max_len

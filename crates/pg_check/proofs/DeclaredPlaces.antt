@@ -12,7 +12,7 @@ use Rattle.pg_check.specs.MadeEnums.{made_enum}
 use Rattle.pg_check.specs.MadeNumbers.{index_of}
 use Rattle.pg_check.specs.MadeParts.{Declared, FileShape, Source, TypeTree, file_services, file_shape, placed_enums, placed_messages, type_tree, type_trees, with_file, with_files}
 use Rattle.pg_check.specs.MadeServices.{MadeService, service_ids}
-use Rattle.pg_check.specs.Outline.{Message, enum_scope, file_enums, file_messages, message_scope, package_of}
+use Rattle.pg_check.specs.Outline.{Message, enum_scope, scoped_enums, file_messages, message_scope, package_of}
 use Rattle.pg_check.proofs.KeptFiles.{source_enums}
 use Rattle.pg_check.proofs.Regrouped.{everywhere, regrouped}
 use Rattle.pg_check.proofs.ScopesOnce.{IsScoped, full_of, scopes_of}
@@ -127,14 +127,14 @@ module _ (h : List ℕ → ℕ → ℕ) where
       let each : total (λ (m : Message). total (λ (id : EnumId). h m.full id.index) (enum_ids_in m.full ps)) ms ≡ total (λ (m : Message). total (h m.full) (places_in m.full ps)) ms =
       total_same _ _ ms (everywhere _ ms (λ (m : Message). enums_in_scope m.full ps)) in
       let fulls : total (λ t. total (h t) (places_in t ps)) (map full_of ms) ≡ total (λ (m : Message). total (h m.full) (places_in m.full ps)) ms = total_map (λ t. total (h t) (places_in t ps)) full_of ms in
-      let all : total (λ t. total (h t) (places_in t ps)) (scopes_of s.tree) ≡ total (of_place h) ps = regrouped h (scopes_of s.tree) ps (placed_once enum_scope (scopes_of s.tree) (length d.enums) (file_enums s.tree) scoped.enums) in
+      let all : total (λ t. total (h t) (places_in t ps)) (scopes_of s.tree) ≡ total (of_place h) ps = regrouped h (scopes_of s.tree) ps (placed_once enum_scope (scopes_of s.tree) (length d.enums) (scoped_enums s.tree) scoped.enums) in
       omega (arith, of_package, trees, each, fulls, all)
 
   pub all_enum_places : (d : Declared) (ss : List Source) → AllByRecursion (λ (s : Source). IsScoped s.tree) ss
       → enums_of (with_files d ss) ≡ enums_of d + total (of_place h) (placed_from (length d.enums) (map enum_scope (flat_map source_enums ss)))
   all_enum_places d [] scoped = omega arith
   all_enum_places d (s ∷ ss) scoped =
-      let es = file_enums s.tree in
+      let es = scoped_enums s.tree in
       let trees = type_trees (length d.types) (length d.enums) s in
       let shape = file_shape (length d.types) (length d.enums) (length d.services) s in
       let others = flat_map source_enums ss in

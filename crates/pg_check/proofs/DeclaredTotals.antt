@@ -12,8 +12,9 @@ use Rattle.pg_schema.specs.DeclaredNames.{within}
 use Rattle.pg_schema.specs.Words.{is_word}
 use Rattle.pg_check.specs.Enums as enums
 use Rattle.pg_check.specs.MadeServices.{MadeMethod, MadeService, made_methods, made_service, made_services, service_in}
-use Rattle.pg_check.specs.Outline.{Enum, Message, all_enums, all_messages, dotted_more, enums_in, file_enums, file_messages, full_name, messages_in, package_in, package_of, row_enums, row_list, row_messages, statement_enums, statement_messages, statements_behind}
+use Rattle.pg_check.specs.Outline.{Enum, Message, all_enums, all_messages, dotted_more, enums_in, file_enums, file_messages, full_name, messages_in, package_in, package_of, row_enums, row_list, row_messages, scoped_enums, statement_enums, statement_messages, statements_behind}
 use Rattle.pg_check.proofs.NamedOnce.{weight}
+use Rattle.pg_check.proofs.ScopedEnums.{scoped_total}
 use Rattle.pg_check.proofs.Totals.{total, total_joined}
 use Rattle.pg_check.proofs.WordTrees.{IsGood, nodes_good, runs_good}
 use Rattle.pg_check.proofs.WordedFiles.{IsGoodFile, IsGoodPart, IsGoodStatement}
@@ -42,7 +43,7 @@ dot_within [] [] h = absurd (false≢true h)
 dot_within [] (c ∷ cs) h = refl
 dot_within (b ∷ bs) w h = refl
 
-scope_is : (scope w : List ℕ) → is_word w ≡ true → linked_within (behind_dot scope) w ≡ behind_dot (within scope w)
+pub scope_is : (scope w : List ℕ) → is_word w ≡ true → linked_within (behind_dot scope) w ≡ behind_dot (within scope w)
 scope_is scope w h = within_is scope w ∙ sym (dot_within scope w h)
 
 -- ---- what is in a scope beside message types and enums
@@ -258,7 +259,7 @@ package_scope_is (Some p) h =
 -- ---- files
 
 pub file_is : (f : Text → ℕ) (targets : ℕ → Option Target) (file : tree.FileTree.FileTree) → IsGoodFile file
-    → total (weight f) (file_names file) ≡ (total (of_message_type f) (file_messages file) + total (of_enum_type f) (file_enums file))
+    → total (weight f) (file_names file) ≡ (total (of_message_type f) (file_messages file) + total (of_enum_type f) (scoped_enums file))
     + total (of_made_service f) (made_services targets (package_of file) file.statements.items ++ made_services targets (package_of file) (statements_behind file.packaged))
 file_is f targets file good =
     let words = package_words file.packaged in
@@ -279,4 +280,5 @@ file_is f targets file good =
     let enum_types : total (of_enum_type f) (file_enums file) ≡ total (of_enum_type f) (all_enums scope file.statements.items) + total (of_enum_type f) (all_enums scope behind) = total_joined (of_enum_type f) (all_enums scope file.statements.items) (all_enums scope behind) in
     let services : total (of_made_service f) (made_services targets scope file.statements.items ++ made_services targets scope behind) ≡ total (of_made_service f) (made_services targets scope file.statements.items) + total (of_made_service f) (made_services targets scope behind) =
     total_joined (of_made_service f) (made_services targets scope file.statements.items) (made_services targets scope behind) in
-    omega (arith, of_first, of_second, of_third, whole, later, messages, enum_types, services)
+    let moved : total (of_enum_type f) (scoped_enums file) ≡ total (of_enum_type f) (file_enums file) = scoped_total (of_enum_type f) file in
+    omega (arith, of_first, of_second, of_third, whole, later, messages, enum_types, moved, services)

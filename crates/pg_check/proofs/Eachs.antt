@@ -1,8 +1,13 @@
 -- Two lists, item by item.
 use Rattle.std.proofs.Common.{◌≡◌, ◌∙◌, ℕ, suc, ◌+◌, ◌<◌, List, [], ◌∷◌, ◌++◌, map, take, get_or, length, sym, subst, ap, refl}
+use Rattle.std.specs.List.{AllByRecursion}
 use Rattle.std.proofs.lemmas.List.{map-append}
 use Rattle.pg_check.specs.MadeParts.{EachIs}
 use Rattle.pg_check.proofs.FirstLaws.{take_item}
+
+pub joined_all : {X : Type 0} (P : X → Type 0) (xs ys : List X) → AllByRecursion P xs → AllByRecursion P ys → AllByRecursion P (xs ++ ys)
+joined_all P [] ys h k = k
+joined_all P (x ∷ xs) ys h k = (h.0, joined_all P xs ys h.1 k)
 
 pub each-append : {A B : Type 0} (is : A → B → Type 0) (xs : List A) (ys : List B) (vs : List A) (ws : List B) → EachIs is xs ys → EachIs is vs ws → EachIs is (xs ++ vs) (ys ++ ws)
 each-append is [] [] vs ws h k = k

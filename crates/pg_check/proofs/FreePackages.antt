@@ -20,17 +20,18 @@ use Rattle.pg_check.specs.Enums as enums
 use Rattle.pg_check.specs.KeepsRules.{source_messages}
 use Rattle.pg_check.specs.MadeParts.{ArePartsOf, Declared, EachIs, FileShape, IsFileOf, Source, file_shape, nothing, with_file, with_files}
 use Rattle.pg_check.specs.MadeServices.{MadeMethod, MadeService}
-use Rattle.pg_check.specs.Outline.{Enum, Message, dotted_more, file_enums, file_messages, package_in, package_of, statements_behind}
+use Rattle.pg_check.specs.Outline.{Enum, Message, dotted_more, scoped_enums, file_messages, package_in, package_of, statements_behind}
 use Rattle.pg_check.specs.Sources.{linked_source, linked_sources}
 use Rattle.pg_check.proofs.DeclaredTotals.{inside, method_counts, more_dotted, of_enum_type, of_made_service, of_message_type, part_names, value_texts}
-use Rattle.pg_check.proofs.KeptFiles.{all_joined, source_enums}
+use Rattle.pg_check.proofs.Eachs.{joined_all}
+use Rattle.pg_check.proofs.KeptFiles.{source_enums}
 use Rattle.pg_check.proofs.NamedOnce.{none_of, once_named, part, weight}
 use Rattle.pg_check.proofs.NoneLaws.{and_both, and_left, and_right}
 use Rattle.pg_check.proofs.PartPlaces.{IsSettledSource, ServiceUnder, all_services_under, scoped_services}
 use Rattle.pg_check.proofs.PlacedNames.{in_all, names_counted, names_in_files, settled_files}
 use Rattle.pg_check.proofs.Totals.{one, same_one, times, total, total_joined}
 use Rattle.pg_check.proofs.WordTrees.{IsGood, rows_good}
-use Rattle.pg_check.proofs.WordedFiles.{IsGoodDotted, IsGoodEnum, IsGoodEnumPart, IsGoodMessage, IsGoodFile, joined_all, some_within, word_bytes}
+use Rattle.pg_check.proofs.WordedFiles.{IsGoodDotted, IsGoodEnum, IsGoodEnumPart, IsGoodMessage, IsGoodFile, some_within, word_bytes}
 use Rattle.pg_syntax.specs.declared.tree as tree
 use Rattle.pg_syntax.specs.declared.tree.EnumPart.TheVariants as enum_parts
 use Rattle.pg_syntax.specs.Views as view
@@ -180,7 +181,7 @@ all_good_messages (s ∷ ss) h = joined_all IsGoodMessage (file_messages s.tree)
 
 all_good_enums : (ss : List Source) → AllByRecursion IsSettledSource ss → AllByRecursion IsGoodEnum (flat_map source_enums ss)
 all_good_enums [] h = tt
-all_good_enums (s ∷ ss) h = joined_all IsGoodEnum (file_enums s.tree) (flat_map source_enums ss) h.0.good.enums (all_good_enums ss h.1)
+all_good_enums (s ∷ ss) h = joined_all IsGoodEnum (scoped_enums s.tree) (flat_map source_enums ss) h.0.good.enums (all_good_enums ss h.1)
 
 none_empty : (ss : List Source) → AllByRecursion IsSettledSource ss → in_all [] ss ≡ 0
 none_empty ss h =
@@ -243,7 +244,7 @@ module _ (l : LinkedFiles) (up : IsLinkedUp l) (parts : Parts) (are : ArePartsOf
 
   shapes_free : (d : Declared) (ss : List Source) → AllByRecursion ShapeFree d.files → AllByRecursion (λ (s : Source). is_free_of (declared_names parts) (package_of s.tree) ≡ true) ss → AllByRecursion ShapeFree (with_files d ss).files
   shapes_free d [] h k = h
-  shapes_free d (s ∷ ss) h k = shapes_free (with_file d s) ss (all_joined ShapeFree d.files (file_shape (length d.types) (length d.enums) (length d.services) s ∷ []) h (k.0, tt)) k.1
+  shapes_free d (s ∷ ss) h k = shapes_free (with_file d s) ss (joined_all ShapeFree d.files (file_shape (length d.types) (length d.enums) (length d.services) s ∷ []) h (k.0, tt)) k.1
 
   files_free : (ws : List FileShape) (fs : List File) → EachIs IsFileOf ws fs → AllByRecursion ShapeFree ws → are_free_of (declared_names parts) fs ≡ true
   files_free [] [] is h = refl

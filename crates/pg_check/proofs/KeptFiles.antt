@@ -14,16 +14,13 @@ use Rattle.pg_check.specs.KeepsRules.{EnumKeeps, FileKeeps, KeepsRules, MessageK
 use Rattle.pg_check.specs.KeptParts.{KeptEnum, KeptFile, KeptMessage, KeptParts}
 use Rattle.pg_check.specs.MadeEnums.{enumeration, made_enum}
 use Rattle.pg_check.specs.MadeParts.{Declared, EachIs, FileShape, IsFileOf, IsTypeOf, Source, TypeTree, file_shape, nothing, placed_enums, placed_messages, type_tree, type_trees, with_file, with_files}
-use Rattle.pg_check.specs.Outline.{Enum, Message, file_enums, file_messages}
-use Rattle.pg_check.proofs.Eachs.{each-length}
+use Rattle.pg_check.specs.Outline.{Enum, Message, file_messages, scoped_enums}
+use Rattle.pg_check.proofs.Eachs.{each-length, joined_all}
 use Rattle.pg_check.proofs.KeepingFiles.{none_broken}
 use Rattle.pg_check.proofs.KeptEnums.{kept_enum}
 use Rattle.pg_check.proofs.KeptMessages.{kept_message}
 use Rattle.pg_check.proofs.KeptOptions.{kept_options}
-
-pub all_joined : {X : Type 0} (P : X → Type 0) (xs ys : List X) → AllByRecursion P xs → AllByRecursion P ys → AllByRecursion P (xs ++ ys)
-all_joined P [] ys h k = k
-all_joined P (x ∷ xs) ys h k = (h.0, all_joined P xs ys h.1 k)
+use Rattle.pg_check.proofs.ScopedEnums.{scoped_all}
 
 -- ---- message types
 
@@ -38,7 +35,7 @@ all_trees_keep : (d : Declared) (ss : List Source) → AllByRecursion TreeKeeps 
 all_trees_keep d [] h k = h
 all_trees_keep d (s ∷ ss) h k =
     all_trees_keep (with_file d s) ss
-    (all_joined TreeKeeps d.types (type_trees (length d.types) (length d.enums) s) h
+    (joined_all TreeKeeps d.types (type_trees (length d.types) (length d.enums) s) h
     (trees_keep s.targets (placed_messages (length d.types) s.tree) (placed_enums (length d.enums) s.tree) (file_messages s.tree) k.0.messages)) k.1
 
 kept_messages : (ws : List TypeTree) (ts : List MessageType) → EachIs IsTypeOf ws ts → AllByRecursion TreeKeeps ws → AllByRecursion KeptMessage ts
@@ -60,7 +57,7 @@ tree_count d (s ∷ ss) =
 -- ---- enums
 
 abbrev pub source_enums : Source → List Enum
-source_enums s = file_enums s.tree
+source_enums s = scoped_enums s.tree
 
 abbrev FoundKeeps : Enum → Type 0
 FoundKeeps e = EnumKeeps e.tree.parts.items
@@ -73,12 +70,12 @@ enums_are d [] = sym (append_none d.enums)
     append_none (x ∷ xs) = ap (λ ys. x ∷ ys) (append_none xs)
 enums_are d (s ∷ ss) =
     enums_are (with_file d s) ss
-    ∙ (append_assoc d.enums (map made_enum (file_enums s.tree)) (map made_enum (flat_map source_enums ss))
-    ∙ ap (λ es. d.enums ++ es) (sym (map-append made_enum (file_enums s.tree) (flat_map source_enums ss))))
+    ∙ (append_assoc d.enums (map made_enum (scoped_enums s.tree)) (map made_enum (flat_map source_enums ss))
+    ∙ ap (λ es. d.enums ++ es) (sym (map-append made_enum (scoped_enums s.tree) (flat_map source_enums ss))))
 
 all_enums_keep : (ss : List Source) → AllByRecursion FileKeeps ss → AllByRecursion FoundKeeps (flat_map source_enums ss)
 all_enums_keep [] h = tt
-all_enums_keep (s ∷ ss) h = all_joined FoundKeeps (file_enums s.tree) (flat_map source_enums ss) h.0.enums (all_enums_keep ss h.1)
+all_enums_keep (s ∷ ss) h = joined_all FoundKeeps (scoped_enums s.tree) (flat_map source_enums ss) (scoped_all FoundKeeps s.tree h.0.enums) (all_enums_keep ss h.1)
 
 kept_enums : (es : List EnumType) (found : List Enum) → map enumeration es ≡ map made_enum found → AllByRecursion FoundKeeps found → AllByRecursion KeptEnum es
 kept_enums [] found is h = tt
@@ -96,7 +93,7 @@ ShapeKeeps w = OptionsKeep (file_lines w.tree)
 all_shapes_keep : (d : Declared) (ss : List Source) → AllByRecursion ShapeKeeps d.files → AllByRecursion FileKeeps ss → AllByRecursion ShapeKeeps (with_files d ss).files
 all_shapes_keep d [] h k = h
 all_shapes_keep d (s ∷ ss) h k =
-    all_shapes_keep (with_file d s) ss (all_joined ShapeKeeps d.files (file_shape (length d.types) (length d.enums) (length d.services) s ∷ []) h (k.0.options, tt)) k.1
+    all_shapes_keep (with_file d s) ss (joined_all ShapeKeeps d.files (file_shape (length d.types) (length d.enums) (length d.services) s ∷ []) h (k.0.options, tt)) k.1
 
 kept_files : (ws : List FileShape) (fs : List File) → EachIs IsFileOf ws fs → AllByRecursion ShapeKeeps ws → AllByRecursion KeptFile fs
 kept_files [] [] is h = tt

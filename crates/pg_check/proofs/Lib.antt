@@ -14,6 +14,7 @@ pub mod BrokenFiles
 pub mod BrokenParts
 pub mod Reach
 pub mod Linking
+pub mod EnumPlaces
 pub mod PartMembers
 pub mod NoneLaws
 pub mod Keeping
@@ -32,6 +33,7 @@ pub mod KeptOptions
 pub mod Wholes
 pub mod WordTrees
 pub mod WordedFiles
+pub mod ScopedEnums
 pub mod NamedTypes
 pub mod PlacedParts
 pub mod LinkedParts
@@ -39,6 +41,7 @@ pub mod Totals
 pub mod Regrouped
 pub mod NamedOnce
 pub mod DeclaredTotals
+pub mod NumberedNames
 pub mod ScopesOnce
 pub mod DeclaredPlaces
 pub mod PartPlaces

@@ -41,14 +41,14 @@ use Rattle.pg_check.specs.MadeParts.{Declared, EachIs, FileShape, IsFileOf, IsTy
 use Rattle.pg_check.specs.MadeServices.{MadeMethod, MadeService, made_method, made_methods, made_service, made_services, message_at, method, service}
 use Rattle.pg_check.specs.Members.{Member, Mapped, Plain, members}
 use Rattle.pg_check.specs.NamedParts.{NamedEnum, NamedMessage, NamedParts, has_package, is_named_field}
-use Rattle.pg_check.specs.Outline.{Enum, Message, file_enums, file_messages, package_of, statements_behind}
+use Rattle.pg_check.specs.Outline.{Enum, Message, scoped_enums, file_messages, package_of, statements_behind}
 use Rattle.pg_check.proofs.PlacedParts.{HasValuesOnce, PlacedParts}
 use Rattle.pg_check.specs.Sources.{linked_source, linked_sources}
 use Rattle.pg_check.specs.Types.{scalar_named}
-use Rattle.pg_check.proofs.Eachs.{each-length}
-use Rattle.pg_check.proofs.KeptFiles.{all_joined, enums_are, source_enums, tree_count}
+use Rattle.pg_check.proofs.Eachs.{each-length, joined_all}
+use Rattle.pg_check.proofs.KeptFiles.{enums_are, source_enums, tree_count}
 use Rattle.pg_check.proofs.Moved.{all_moved, all_weaker, pairs_weaker, pairs_of_map}
-use Rattle.pg_check.proofs.NamedTypes.{IfFits, at_fits, enum_count, message_count, some_message}
+use Rattle.pg_check.proofs.NamedTypes.{IfFits, enum_count, message_count, scoped_fits, some_message}
 use Rattle.pg_check.proofs.NoneLaws.{and_both, and_left, and_right}
 use Rattle.pg_check.proofs.WordTrees.{file_good, runs_good}
 use Rattle.pg_check.proofs.WordedFiles.{IsGoodEnum, IsGoodEnumPart, IsGoodFile, IsGoodMessage, IsGoodServicePart, IsGoodStatement, good_file, is_word_member, members_worded, oneofs_worded}
@@ -230,7 +230,7 @@ sources_fit all (e ∷ es) parsed resolved =
     let here = Resolves (resolve_in all e) in (
       record {
         good = good_file file (file_good e.1.bytes.items file parsed.0);
-        fit = at_fits all e;
+        fit = scoped_fits all e;
         front = statements_have all e scope file.statements.items (front_of here front behind resolved.0);
         behind = statements_have all e scope (statements_behind file.packaged) (back_of here front behind resolved.0);
       },
@@ -244,7 +244,7 @@ module _ (types enums : ℕ) where
   all_trees_fit d [] h k = h
   all_trees_fit d (s ∷ ss) h k =
       all_trees_fit (with_file d s) ss
-      (all_joined (TreeFits types enums) d.types (type_trees (length d.types) (length d.enums) s) h
+      (joined_all (TreeFits types enums) d.types (type_trees (length d.types) (length d.enums) s) h
       (trees_fit types enums s.targets (placed_messages (length d.types) s.tree) (placed_enums (length d.enums) s.tree) (file_messages s.tree) k.0.fit k.0.good.messages)) k.1
 
   abbrev IsNamed : MessageType → Type 0
@@ -298,13 +298,13 @@ module _ (types enums : ℕ) where
   all_shapes_fit : (d : Declared) (ss : List Source) → AllByRecursion ShapeFits d.files → AllByRecursion (SourceFits types enums) ss → AllByRecursion ShapeFits (with_files d ss).files
   all_shapes_fit d [] h k = h
   all_shapes_fit d (s ∷ ss) h k =
-      all_shapes_fit (with_file d s) ss (all_joined ShapeFits d.files (file_shape (length d.types) (length d.enums) (length d.services) s ∷ []) h (k.0.good.has_package, tt)) k.1
+      all_shapes_fit (with_file d s) ss (joined_all ShapeFits d.files (file_shape (length d.types) (length d.enums) (length d.services) s ∷ []) h (k.0.good.has_package, tt)) k.1
 
   -- enums
 
   all_enums_good : (ss : List Source) → AllByRecursion (SourceFits types enums) ss → AllByRecursion IsGoodEnum (flat_map source_enums ss)
   all_enums_good [] h = tt
-  all_enums_good (s ∷ ss) h = all_joined IsGoodEnum (file_enums s.tree) (flat_map source_enums ss) h.0.good.enums (all_enums_good ss h.1)
+  all_enums_good (s ∷ ss) h = joined_all IsGoodEnum (scoped_enums s.tree) (flat_map source_enums ss) h.0.good.enums (all_enums_good ss h.1)
 
 packages_named : (ws : List FileShape) (fs : List File) → EachIs IsFileOf ws fs → AllByRecursion (λ (w : FileShape). is_package (package_of w.tree) ≡ true) ws → list_all has_package fs ≡ true
 packages_named [] [] is h = refl

@@ -1,6 +1,8 @@
 -- Files declare as many message types and enums as there are names of them, and what a type name names is one of those.
-use Rattle.std.proofs.Common.{◌≡◌, ℕ, ◌+◌, ◌<◌, Bool, true, false, cond, List, [], ◌∷◌, ◌++◌, length, map, flat_map, filter, Option, Some, None, subst, refl, arith}
-use Rattle.std.specs.Option.{option_and_then, option_map}
+use Rattle.std.proofs.Common.{◌≡◌, ℕ, zero, suc, ◌+◌, ◌<◌, Bool, true, false, cond, List, [], ◌∷◌, ◌++◌, length, map, flat_map, filter, get_or, Option, Some, None, subst, refl, arith, length-append}
+use Rattle.std.specs.List.{position_from}
+use Rattle.std.specs.Option.{option_and_then, option_map, unwrap_or}
+use Rattle.std.proofs.lemmas.List.{length-map}
 use Rattle.std.proofs.lemmas.List.Quantifiers.{position-Some}
 use Rattle.std.specs.Str.{bytes_eq}
 use Rattle.pg_link.specs.declared.names.Kind.{Kind}
@@ -16,10 +18,12 @@ use Rattle.pg_link.specs.Targets.{all_declared, enum_names, is_enum, is_message,
 use Rattle.pg_link.specs.Uses.{Use, file_uses}
 use Rattle.pg_link.specs.Walk.{Entry, outlines, path_of}
 use Rattle.pg_link.specs.Files as linked
+use Rattle.pg_check.specs.EnumPlaces.{by_scope, declared_names, enum_full, enum_places, place_among, scoped_names}
 use Rattle.pg_check.specs.KeepsRules.{source_messages}
-use Rattle.pg_check.specs.Outline.{all_enums, all_messages, enums_in, file_enums, file_messages, full_name, messages_in, package_of, row_enums, row_messages, statement_enums, statement_messages, statements_behind}
+use Rattle.pg_check.specs.Outline.{all_enums, all_messages, enums_in, file_enums, file_messages, full_name, messages_in, package_of, row_enums, row_messages, scoped_enums, statement_enums, statement_messages, statements_behind}
 use Rattle.pg_check.specs.Sources.{linked_source, linked_sources}
 use Rattle.pg_check.proofs.KeptFiles.{source_enums}
+use Rattle.pg_check.proofs.ScopedEnums.{scoped_long}
 use Rattle.pg_syntax.specs.declared.tree as tree
 use Rattle.pg_syntax.specs.declared.tree.EnumPart.TheVariants as enum_parts
 use Rattle.pg_syntax.specs.declared.tree.OneofPart.TheVariants as oneof_parts
@@ -61,6 +65,12 @@ each_joined n (x ∷ xs) ys = let rest : each_worth n (xs ++ ys) ≡ each_worth 
 each_one : {X : Type 0} (xs : List X) → each_worth 1 xs ≡ length xs
 each_one [] = refl
 each_one (x ∷ xs) = let rest : each_worth 1 xs ≡ length xs = each_one xs in omega (arith, rest)
+
+each_long : {X : Type 0} (n : ℕ) (xs ys : List X) → length xs ≡ length ys → each_worth n xs ≡ each_worth n ys
+each_long n [] [] same = refl
+each_long n [] (y ∷ ys) same = absurd (omega (arith, same))
+each_long n (x ∷ xs) [] same = absurd (omega (arith, same))
+each_long n (x ∷ xs) (y ∷ ys) same = let rest : each_worth n xs ≡ each_worth n ys = each_long n xs ys (omega (arith, same)) in omega (arith, rest)
 
 each_none : {X : Type 0} (xs : List X) → each_worth 0 xs ≡ 0
 each_none [] = refl
@@ -171,7 +181,7 @@ module _ (m e : ℕ) where
   package_total scope [] = refl
   package_total scope (w ∷ ws) = let rest = package_total (within scope w.text) ws in omega (arith, rest)
 
-  file_total : (file : tree.FileTree.FileTree) → total m e (file_names file) ≡ each_worth m (file_messages file) + each_worth e (file_enums file)
+  file_total : (file : tree.FileTree.FileTree) → total m e (file_names file) ≡ each_worth m (file_messages file) + each_worth e (scoped_enums file)
   file_total file =
       let words = package_words file.packaged in
       let scope = package_scope words in
@@ -187,7 +197,8 @@ module _ (m e : ℕ) where
       let later : total m e (second ++ third) ≡ total m e second + total m e third = total_joined m e second third in
       let messages : each_worth m (file_messages file) ≡ each_worth m (all_messages place file.statements.items) + each_worth m (all_messages place behind) = each_joined m (all_messages place file.statements.items) (all_messages place behind) in
       let enums : each_worth e (file_enums file) ≡ each_worth e (all_enums place file.statements.items) + each_worth e (all_enums place behind) = each_joined e (all_enums place file.statements.items) (all_enums place behind) in
-      omega (arith, of_first, of_second, of_third, whole, later, messages, enums)
+      let moved : each_worth e (scoped_enums file) ≡ each_worth e (file_enums file) = each_long e (scoped_enums file) (file_enums file) (scoped_long file) in
+      omega (arith, of_first, of_second, of_third, whole, later, messages, enums, moved)
 
 -- ---- as many names as there are types
 
@@ -226,11 +237,11 @@ files_total m e all [] = refl
 files_total m e all (f ∷ fs) =
     let sources = map (linked_source all) fs in
     let first = file_names f.1.tree in
-    let one : total m e first ≡ each_worth m (file_messages f.1.tree) + each_worth e (file_enums f.1.tree) = file_total m e f.1.tree in
+    let one : total m e first ≡ each_worth m (file_messages f.1.tree) + each_worth e (scoped_enums f.1.tree) = file_total m e f.1.tree in
     let others : total m e (all_declared fs) ≡ each_worth m (flat_map source_messages sources) + each_worth e (flat_map source_enums sources) = files_total m e all fs in
     let both : total m e (first ++ all_declared fs) ≡ total m e first + total m e (all_declared fs) = total_joined m e first (all_declared fs) in
     let messages : each_worth m (file_messages f.1.tree ++ flat_map source_messages sources) ≡ each_worth m (file_messages f.1.tree) + each_worth m (flat_map source_messages sources) = each_joined m (file_messages f.1.tree) (flat_map source_messages sources) in
-    let enums : each_worth e (file_enums f.1.tree ++ flat_map source_enums sources) ≡ each_worth e (file_enums f.1.tree) + each_worth e (flat_map source_enums sources) = each_joined e (file_enums f.1.tree) (flat_map source_enums sources) in
+    let enums : each_worth e (scoped_enums f.1.tree ++ flat_map source_enums sources) ≡ each_worth e (scoped_enums f.1.tree) + each_worth e (flat_map source_enums sources) = each_joined e (scoped_enums f.1.tree) (flat_map source_enums sources) in
     omega (arith, one, others, both, messages, enums)
 
 pub message_count : (files : List Entry) → length (message_names (all_declared files)) ≡ length (flat_map source_messages (linked_sources files))
@@ -314,9 +325,50 @@ module _ (all : List Declared) where
       by None h = absurd (cc (h))
       by (Some f) h = message_alone f.0 f.1 t (subst (λ b. numbered all b f.0 f.1 ≡ Some t) none h)
 
-pub at_fits : (files : List Entry) (e : Entry) (at : ℕ) → IfFits (length (message_names (all_declared files))) (length (enum_names (all_declared files))) (target_at files e at)
+at_fits : (files : List Entry) (e : Entry) (at : ℕ) → IfFits (length (message_names (all_declared files))) (length (enum_names (all_declared files))) (target_at files e at)
 at_fits files e at = by (use_at (file_uses e.1.tree) at)
   where
     by : (o : Option Use) → IfFits (length (message_names (all_declared files))) (length (enum_names (all_declared files))) (option_and_then (target_in (all_declared files) (linked.visible_names (outlines files) (path_of e))) o)
     by None = tt
     by (Some u) = target_fits (all_declared files) (linked.visible_names (outlines files) (path_of e)) u
+
+-- ---- enums by their places scope by scope
+
+first_within : (p : List ℕ → Bool) (i : ℕ) (xs : List (List ℕ)) → 0 < i + length xs → unwrap_or (position_from p i xs) 0 < i + length xs
+first_within p i [] some = some
+first_within p i (x ∷ xs) some = by (p x) (first_within p (i + 1) xs (omega arith))
+  where
+    by : (b : Bool) → unwrap_or (position_from p (i + 1) xs) 0 < (i + 1) + length xs → unwrap_or (cond b (Some i) (position_from p (i + 1) xs)) 0 < i + length (x ∷ xs)
+    by true rest = omega arith
+    by false rest = omega (arith, rest)
+
+place_within : (names : List (List ℕ)) (these : List (List ℕ)) (n : ℕ) → 0 < length names → get_or (map (place_among names) these) n 0 < length names
+place_within names [] n some = some
+place_within names (x ∷ these) zero some = let there : place_among names x < 0 + length names = first_within (bytes_eq x) 0 names (omega (arith, some)) in omega (arith, there)
+place_within names (x ∷ these) (suc n) some = place_within names these n some
+
+scoped_count : (all files : List Entry) → length (scoped_names files) ≡ length (flat_map source_enums (map (linked_source all) files))
+scoped_count all [] = refl
+scoped_count all (e ∷ es) =
+    let front = map enum_full (scoped_enums e.1.tree) in
+    let sources = map (linked_source all) es in
+    let first : length front ≡ length (scoped_enums e.1.tree) = length-map (scoped_enums e.1.tree) enum_full in
+    let rest = scoped_count all es in
+    let names : length (front ++ scoped_names es) ≡ length front + length (scoped_names es) = length-append front (scoped_names es) in
+    let found : length (scoped_enums e.1.tree ++ flat_map source_enums sources) ≡ length (scoped_enums e.1.tree) + length (flat_map source_enums sources) = length-append (scoped_enums e.1.tree) (flat_map source_enums sources) in
+    omega (arith, first, rest, names, found)
+
+pub scoped_fits : (files : List Entry) (e : Entry) (at : ℕ)
+    → IfFits (length (message_names (all_declared files))) (length (enum_names (all_declared files))) (option_map (by_scope (enum_places files)) (target_at files e at))
+scoped_fits files e at = by (target_at files e at) (at_fits files e at)
+  where
+    by : (o : Option Target) → IfFits (length (message_names (all_declared files))) (length (enum_names (all_declared files))) o
+        → IfFits (length (message_names (all_declared files))) (length (enum_names (all_declared files))) (option_map (by_scope (enum_places files)) o)
+    by None h = tt
+    by (Some (targets.Message n)) h = h
+    by (Some (targets.Enum n)) h =
+        let as_many : length (scoped_names files) ≡ length (flat_map source_enums (linked_sources files)) = scoped_count files files in
+        let same = enum_count files in
+        let some : 0 < length (scoped_names files) = omega (arith, as_many, same, h) in
+        let within : get_or (enum_places files) n 0 < length (scoped_names files) = place_within (scoped_names files) (declared_names files) n some in
+        omega (arith, within, as_many, same)

@@ -24,14 +24,15 @@ use Rattle.pg_check.specs.KeepsRules.{source_messages}
 use Rattle.pg_check.specs.MadeEnums.{MadeEnum, enumeration, made_enum}
 use Rattle.pg_check.specs.MadeParts.{ArePartsOf, Declared, EachIs, FileShape, IsFileOf, IsTypeOf, Source, TypeTree, file_services, nothing, placed_enums, placed_messages, type_tree, type_trees, with_file, with_files}
 use Rattle.pg_check.specs.MadeServices.{MadeService, made_services, service}
-use Rattle.pg_check.specs.Outline.{Enum, Message, enum_scope, file_enums, file_messages, message_scope, package_of, statements_behind}
+use Rattle.pg_check.specs.Outline.{Enum, Message, enum_scope, scoped_enums, file_messages, message_scope, package_of, statements_behind}
 use Rattle.pg_check.proofs.DeclaredPlaces.{all_enum_places, all_service_places, all_types, enums_of_file, enums_of_tree, looked_up, service_scopes, services_of_file, types_of_file, types_of_tree}
+use Rattle.pg_check.proofs.Eachs.{joined_all}
 use Rattle.pg_check.proofs.KeptFiles.{enums_are, source_enums}
 use Rattle.pg_check.proofs.NoneLaws.{and_both}
 use Rattle.pg_check.proofs.Regrouped.{count_from, each_once, placed_total}
 use Rattle.pg_check.proofs.ScopesOnce.{IsScoped, full_of}
 use Rattle.pg_check.proofs.Totals.{as_one, total, total_flat, total_joined, total_map, total_none}
-use Rattle.pg_check.proofs.WordedFiles.{IsGoodEnum, IsGoodFile, IsGoodMessage, IsGoodStatement, joined_all}
+use Rattle.pg_check.proofs.WordedFiles.{IsGoodEnum, IsGoodFile, IsGoodMessage, IsGoodStatement}
 use Rattle.pg_syntax.specs.declared.tree as tree
 use Rattle.pg_syntax.specs.declared.tree.Statement.TheVariants as statements
 
@@ -221,7 +222,7 @@ all_messages_under (s ∷ ss) h = joined_all MessageUnder (file_messages s.tree)
 
 pub all_enums_under : (ss : List Source) → AllByRecursion IsSettledSource ss → AllByRecursion EnumUnder (flat_map source_enums ss)
 all_enums_under [] h = tt
-all_enums_under (s ∷ ss) h = joined_all EnumUnder (file_enums s.tree) (flat_map source_enums ss) (enums_under (file_enums s.tree) h.0.good.enums) (all_enums_under ss h.1)
+all_enums_under (s ∷ ss) h = joined_all EnumUnder (scoped_enums s.tree) (flat_map source_enums ss) (enums_under (scoped_enums s.tree) h.0.good.enums) (all_enums_under ss h.1)
 
 -- each service beside its scope
 abbrev pub beside : List ℕ → MadeService → List ℕ × MadeService

@@ -12,14 +12,14 @@ use Rattle.pg_schema.specs.Pairs.{are_distinct}
 use Rattle.pg_link.specs.Linked.{IsLinkedUp, LinkedFiles}
 use Rattle.pg_link.specs.Names.{Text}
 use Rattle.pg_link.specs.Outline.{file_names}
-use Rattle.pg_link.specs.Targets.{all_declared, target_at}
+use Rattle.pg_link.specs.Targets.{all_declared}
 use Rattle.pg_link.specs.Walk.{Entry, IsParsed}
 use Rattle.pg_check.specs.Groups.{Placed, placed_from}
 use Rattle.pg_check.specs.KeepsRules.{source_messages}
 use Rattle.pg_check.specs.MadeEnums.{enumeration, made_enum}
 use Rattle.pg_check.specs.MadeParts.{ArePartsOf, Declared, IsTypeOf, Source, file_services, nothing, placed_enums, placed_messages, type_tree, type_trees, with_file, with_files}
 use Rattle.pg_check.specs.MadeServices.{MadeService, service}
-use Rattle.pg_check.specs.Outline.{Enum, enum_scope, file_enums, file_messages, package_of}
+use Rattle.pg_check.specs.Outline.{Enum, enum_scope, scoped_enums, file_messages, package_of}
 use Rattle.pg_check.proofs.PlacedParts.{HasValuesOnce}
 use Rattle.pg_check.specs.Sources.{linked_source, linked_sources}
 use Rattle.pg_check.proofs.DeclaredPlaces.{looked_up}
@@ -66,11 +66,11 @@ module _ (y : List ℕ) where
   files_counted all (e ∷ es) h =
       let s = linked_source all e in
       let ss = map (linked_source all) es in
-      let here : total (weight f) (file_names e.1.tree) ≡ (total (of_message_type f) (file_messages e.1.tree) + total (of_enum_type f) (file_enums e.1.tree)) + total (of_made_service f) (file_services s) = file_is f (target_at all e) e.1.tree h.0.good in
+      let here : total (weight f) (file_names e.1.tree) ≡ (total (of_message_type f) (file_messages e.1.tree) + total (of_enum_type f) (scoped_enums e.1.tree)) + total (of_made_service f) (file_services s) = file_is f s.targets e.1.tree h.0.good in
       let rest : total (weight f) (all_declared es) ≡ in_all ss = files_counted all es h.1 in
       let both : total (weight f) (file_names e.1.tree ++ all_declared es) ≡ total (weight f) (file_names e.1.tree) + total (weight f) (all_declared es) = total_joined (weight f) (file_names e.1.tree) (all_declared es) in
       let messages : total (of_message_type f) (file_messages e.1.tree ++ flat_map source_messages ss) ≡ total (of_message_type f) (file_messages e.1.tree) + total (of_message_type f) (flat_map source_messages ss) = total_joined (of_message_type f) (file_messages e.1.tree) (flat_map source_messages ss) in
-      let enum_types : total (of_enum_type f) (file_enums e.1.tree ++ flat_map source_enums ss) ≡ total (of_enum_type f) (file_enums e.1.tree) + total (of_enum_type f) (flat_map source_enums ss) = total_joined (of_enum_type f) (file_enums e.1.tree) (flat_map source_enums ss) in
+      let enum_types : total (of_enum_type f) (scoped_enums e.1.tree ++ flat_map source_enums ss) ≡ total (of_enum_type f) (scoped_enums e.1.tree) + total (of_enum_type f) (flat_map source_enums ss) = total_joined (of_enum_type f) (scoped_enums e.1.tree) (flat_map source_enums ss) in
       let services : total (of_made_service f) (map second (scoped_services s ++ flat_map scoped_services ss)) ≡ total (of_made_service f) (file_services s) + total (of_made_service f) (map second (flat_map scoped_services ss)) =
       ap (total (of_made_service f)) (map-append second (scoped_services s) (flat_map scoped_services ss) ∙ ap (λ xs. xs ++ map second (flat_map scoped_services ss)) (services_back (package_of s.tree) (file_services s)))
       ∙ total_joined (of_made_service f) (file_services s) (map second (flat_map scoped_services ss)) in

@@ -11,9 +11,11 @@ use Rattle.pg_link.specs.Names.{Text, called}
 use Rattle.pg_link.specs.Outline.{all_of, file_names, of_statement, package_words, word}
 use Rattle.pg_link.specs.Targets.{all_declared}
 use Rattle.pg_link.specs.Walk.{Entry}
-use Rattle.pg_check.specs.Outline.{Enum, Message, all_enums, all_messages, enums_in, file_enums, file_messages, full_name, messages_in, package_in, package_of, row_enums, row_list, row_messages, statement_enums, statement_messages, statements_behind}
+use Rattle.pg_check.specs.Outline.{Enum, Message, all_enums, all_messages, enums_in, file_enums, file_messages, full_name, messages_in, package_in, package_of, row_enums, row_list, row_messages, scoped_enums, statement_enums, statement_messages, statements_behind}
 use Rattle.pg_check.proofs.DeclaredTotals.{behind_dot, file_is, first_dotted, of_message_type, package_scope_is}
+use Rattle.pg_check.proofs.Eachs.{joined_all}
 use Rattle.pg_check.proofs.NamedOnce.{IsOnce, none_of, part, weight}
+use Rattle.pg_check.proofs.ScopedEnums.{scoped_all}
 use Rattle.pg_check.proofs.Totals.{as_one, one, one_from, same_one, times, total, total_joined, total_map}
 use Rattle.pg_check.proofs.WordTrees.{IsGood}
 use Rattle.pg_check.proofs.WordedFiles.{IsGoodFile, IsGoodMessage}
@@ -29,10 +31,6 @@ full_of m = m.full
 -- the scopes of a file
 abbrev pub scopes_of : tree.FileTree.FileTree → List (List ℕ)
 scopes_of file = package_of file ∷ map full_of (file_messages file)
-
-joined_all : {X : Type 0} (P : X → Type 0) (xs ys : List X) → AllByRecursion P xs → AllByRecursion P ys → AllByRecursion P (xs ++ ys)
-joined_all P [] ys h k = k
-joined_all P (x ∷ xs) ys h k = (h.0, joined_all P xs ys h.1 k)
 
 abbrev full_is : List ℕ → Message → ℕ
 full_is y m = one y m.full
@@ -295,7 +293,7 @@ scopes_few file good once y = by (bytes_eq y (package_of file)) refl
 
 pub record IsScoped (file : tree.FileTree.FileTree) : Type 0 where
   pub messages : AllByRecursion (λ (m : Message). times m.scope (scopes_of file) ≡ 1) (file_messages file)
-  pub enums : AllByRecursion (λ (e : Enum). times e.scope (scopes_of file) ≡ 1) (file_enums file)
+  pub enums : AllByRecursion (λ (e : Enum). times e.scope (scopes_of file) ≡ 1) (scoped_enums file)
 
 each_is : {X : Type 0} (scope_of : X → List ℕ) (ss : List (List ℕ)) (xs : List X) → ((y : List ℕ) → times y ss ≤ 1) → AllByRecursion (λ x. 1 ≤ times (scope_of x) ss) xs → AllByRecursion (λ x. times (scope_of x) ss ≡ 1) xs
 each_is scope_of ss [] few h = tt
@@ -304,5 +302,5 @@ each_is scope_of ss (x ∷ xs) few h = let at_most : times (scope_of x) ss ≤ 1
 pub file_scoped : (file : tree.FileTree.FileTree) → IsGoodFile file → NamesOnce (file_names file) → IsScoped file
 file_scoped file good once = record {
   messages = each_is (λ (m : Message). m.scope) (scopes_of file) (file_messages file) (scopes_few file good once) (messages_there file);
-  enums = each_is (λ (e : Enum). e.scope) (scopes_of file) (file_enums file) (scopes_few file good once) (enums_there file);
+  enums = each_is (λ (e : Enum). e.scope) (scopes_of file) (scoped_enums file) (scopes_few file good once) (scoped_all (EnumThere (scopes_of file)) file (enums_there file));
 }

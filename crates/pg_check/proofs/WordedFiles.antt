@@ -8,8 +8,10 @@ use Rattle.pg_schema.specs.DeclaredNames.{within}
 use Rattle.pg_schema.specs.Words.{before_first, is_package, is_word, is_word_byte, parts_at_dots}
 use Rattle.pg_check.specs.MadeMessages.{oneof_in, oneofs}
 use Rattle.pg_check.specs.Members.{Member, members_from, members_in, name_of, oneof_members, oneofs_in}
-use Rattle.pg_check.specs.Outline.{Enum, Message, all_enums, all_messages, an_enum, dotted, dotted_more, enums_in, file_enums, file_messages, full_name, messages_in, package_in, package_of, row_enums, row_list, row_messages, statement_enums, statement_messages, statements_behind}
+use Rattle.pg_check.specs.Outline.{Enum, Message, all_enums, all_messages, an_enum, dotted, dotted_more, enums_in, file_messages, full_name, messages_in, package_in, package_of, row_enums, row_list, row_messages, scoped_enums, statement_enums, statement_messages, statements_behind}
+use Rattle.pg_check.proofs.Eachs.{joined_all}
 use Rattle.pg_check.proofs.NoneLaws.{and_both, and_left, and_right}
+use Rattle.pg_check.proofs.ScopedEnums.{scoped_all}
 use Rattle.pg_check.proofs.WordTrees.{IsGood, IsGoodName, field_name_good, map_name_good, nodes_good, rows_good, runs_good}
 use Rattle.pg_syntax.specs.declared.tree as tree
 use Rattle.pg_syntax.specs.declared.tree.OneofPart.TheVariants as oneof_parts
@@ -84,10 +86,6 @@ pub record IsGoodMessage (m : Message) : Type 0 where
   pub some : 1 ≤ length m.full
   pub is_full : m.full ≡ full_name m.scope m.name
   pub body : AllByRecursion IsGoodPart m.body
-
-pub joined_all : {X : Type 0} (P : X → Type 0) (xs ys : List X) → AllByRecursion P xs → AllByRecursion P ys → AllByRecursion P (xs ++ ys)
-joined_all P [] ys h k = k
-joined_all P (x ∷ xs) ys h k = (h.0, joined_all P xs ys h.1 k)
 
 pub some_within : (scope w : List ℕ) → is_word w ≡ true → 1 ≤ length (within scope w)
 some_within [] [] h = absurd (false≢true h)
@@ -263,7 +261,7 @@ behind_good (Some p) h = runs_good view.statement p.statements.items h.1
 
 pub record IsGoodFile (file : tree.FileTree.FileTree) : Type 0 where
   pub messages : AllByRecursion IsGoodMessage (file_messages file)
-  pub enums : AllByRecursion IsGoodEnum (file_enums file)
+  pub enums : AllByRecursion IsGoodEnum (scoped_enums file)
   pub front : AllByRecursion IsGoodStatement file.statements.items
   pub behind : AllByRecursion IsGoodStatement (statements_behind file.packaged)
   pub package_good : IsGood (view.perhaps view.packaged file.packaged)
@@ -276,7 +274,8 @@ good_file file h =
     let scope = package_of file in
     record {
       messages = joined_all IsGoodMessage (all_messages scope file.statements.items) (all_messages scope (statements_behind file.packaged)) (all_messages_good scope file.statements.items front) (all_messages_good scope (statements_behind file.packaged) behind);
-      enums = joined_all IsGoodEnum (all_enums scope file.statements.items) (all_enums scope (statements_behind file.packaged)) (all_enums_good scope file.statements.items front) (all_enums_good scope (statements_behind file.packaged) behind);
+      enums = scoped_all IsGoodEnum file
+          (joined_all IsGoodEnum (all_enums scope file.statements.items) (all_enums scope (statements_behind file.packaged)) (all_enums_good scope file.statements.items front) (all_enums_good scope (statements_behind file.packaged) behind));
       front = front;
       behind = behind;
       package_good = h.1.1.1;

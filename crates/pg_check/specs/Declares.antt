@@ -1,4 +1,4 @@
--- What files declare: they keep to the rules, and the parts have exactly what they state, in order of declaration.
+-- What files declare: they keep to the rules, and the parts have exactly what they state.
 use Rattle.std.specs.Prelude.{◌≡◌, ℕ, ◌+◌, ◌-◌, List, [], ◌∷◌, length, Option, Some, None}
 use Rattle.pg_schema.specs.declared.parts.Parts.{Parts}
 use Rattle.pg_check.specs.declared.declare.FileFault.{FileFault}

@@ -19,6 +19,7 @@ pub mod Groups
 pub mod MadeServices
 pub mod MadeFiles
 pub mod MadeParts
+pub mod EnumPlaces
 pub mod Sources
 pub mod Declares
 pub mod KeepsRules

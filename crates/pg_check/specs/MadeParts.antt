@@ -1,4 +1,5 @@
--- What files declare, as a schema has it: file after file, message types, enums and services numbered by order of declaration.
+-- What files declare, as a schema has it, file after file: message types and services are numbered in order of declaration, enums scope by
+-- scope, those of the package before those of each message type.
 use Rattle.std.specs.Prelude.{◌≡◌, ℕ, List, [], ◌∷◌, ◌++◌, map, length, Option, string_bytes}
 use Rattle.pg_schema.specs.declared.field.EnumId.{EnumId}
 use Rattle.pg_schema.specs.declared.field.TypeId.{TypeId}
@@ -12,7 +13,7 @@ use Rattle.pg_check.specs.MadeEnums.{MadeEnum, enumeration, made_enum}
 use Rattle.pg_check.specs.MadeFiles.{AreOptions, file_import, made_imports, made_options}
 use Rattle.pg_check.specs.MadeMessages.{IsMessage}
 use Rattle.pg_check.specs.MadeServices.{MadeService, made_services, service, service_ids}
-use Rattle.pg_check.specs.Outline.{Message, file_messages, file_enums, message_scope, enum_scope, package_of, statements_behind}
+use Rattle.pg_check.specs.Outline.{Message, file_messages, message_scope, enum_scope, package_of, scoped_enums, statements_behind}
 use Rattle.pg_syntax.specs.declared.tree as tree
 use Rattle.pg_syntax.specs.declared.tree.Part.{Part}
 
@@ -51,7 +52,7 @@ abbrev pub placed_messages : ℕ → tree.FileTree.FileTree → List Placed
 placed_messages before file = placed_from before (map message_scope (file_messages file))
 
 abbrev pub placed_enums : ℕ → tree.FileTree.FileTree → List Placed
-placed_enums before file = placed_from before (map enum_scope (file_enums file))
+placed_enums before file = placed_from before (map enum_scope (scoped_enums file))
 
 abbrev pub type_trees : (types enums : ℕ) → Source → List TypeTree
 type_trees types enums s = map (type_tree s.targets (placed_messages types s.tree) (placed_enums enums s.tree)) (file_messages s.tree)
@@ -104,7 +105,7 @@ nothing = record { types = []; enums = []; services = []; files = [] }
 abbrev pub with_file : Declared → Source → Declared
 with_file d s = record {
   types = d.types ++ type_trees (length d.types) (length d.enums) s;
-  enums = d.enums ++ map made_enum (file_enums s.tree);
+  enums = d.enums ++ map made_enum (scoped_enums s.tree);
   services = d.services ++ file_services s;
   files = d.files ++ file_shape (length d.types) (length d.enums) (length d.services) s ∷ [];
 }
@@ -113,7 +114,7 @@ abbrev pub with_files : Declared → List Source → Declared
 with_files d [] = d
 with_files d (s ∷ ss) = with_files (with_file d s) ss
 
--- the parts have exactly what is declared, in order of declaration
+-- the parts have exactly what is declared, in that order
 pub record States (d : Declared) (parts : Parts) : Type 0 where
   pub types : EachIs IsTypeOf d.types parts.types.items
   pub enums : map enumeration parts.enums.items ≡ d.enums

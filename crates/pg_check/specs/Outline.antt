@@ -1,5 +1,5 @@
 -- What files declare outside and inside of messages: statements, message types, enums and services, each in order of
--- declaration (proto3 language specification, "Message definition", "Enum definition", "Package").
+-- declaration, and enums also scope by scope (proto3 language specification, "Message definition", "Enum definition", "Package").
 use Rattle.std.specs.Prelude.{ℕ, List, [], ◌∷◌, ◌++◌, flat_map, Option, Some, None, string_bytes}
 use Rattle.pg_schema.specs.DeclaredNames.{within}
 use Rattle.pg_check.specs.declared.outline.FoundMessage as messages
@@ -134,3 +134,36 @@ file_messages file = all_messages (package_of file) file.statements.items ++ all
 
 abbrev pub file_enums : tree.FileTree.FileTree → List Enum
 file_enums file = all_enums (package_of file) file.statements.items ++ all_enums (package_of file) (statements_behind file.packaged)
+
+-- ---- enums by their scopes
+
+-- the enum that the part itself declares
+abbrev pub enum_in : List ℕ → Part → List Enum
+enum_in scope (parts.Empty span) = []
+enum_in scope (parts.Message' name shape row span) = []
+enum_in scope (parts.Enum e) = an_enum scope e
+enum_in scope (parts.Oneof o) = []
+enum_in scope (parts.Option o) = []
+enum_in scope (parts.Reserved r) = []
+enum_in scope (parts.Map m) = []
+enum_in scope (parts.Field f) = []
+
+-- those that a message type itself declares
+abbrev pub own_enums : Message → List Enum
+own_enums m = flat_map (enum_in m.full) m.body
+
+abbrev pub enum_stated : List ℕ → tree.Statement.Statement → List Enum
+enum_stated scope (statements.Empty span) = []
+enum_stated scope (statements.Import i) = []
+enum_stated scope (statements.Option o) = []
+enum_stated scope (statements.Message m) = []
+enum_stated scope (statements.Enum e) = an_enum scope e
+enum_stated scope (statements.Service s) = []
+
+-- those that stand outside of messages
+abbrev pub package_enums : tree.FileTree.FileTree → List Enum
+package_enums file = flat_map (enum_stated (package_of file)) file.statements.items ++ flat_map (enum_stated (package_of file)) (statements_behind file.packaged)
+
+-- all of a file scope by scope: those of the package, and then those of each message type
+abbrev pub scoped_enums : tree.FileTree.FileTree → List Enum
+scoped_enums file = package_enums file ++ flat_map own_enums (file_messages file)

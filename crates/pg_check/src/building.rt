@@ -5,18 +5,26 @@ ghost use Rattle.pg_link.specs.Linked.{IsLinkedUp};
 ghost use Rattle.pg_schema.specs.Sound.{IsSound};
 ghost use Rattle.pg_schema.specs.declared.parts.Parts.{Parts};
 ghost use Rattle.pg_check.specs.Declares.{Declares, first_broken};
+ghost use Rattle.pg_check.specs.EnumPlaces as enums;
 ghost use Rattle.pg_check.specs.Errors as spec;
 ghost use Rattle.pg_check.specs.Sources.{linked_sources, source};
 
 use crate::declare::{FileFault, Refusal, declare};
+use crate::enum_places::enum_places;
 use crate::error::{CheckError, error_of};
 use crate::made_parts::Source;
+use crate::types::Targets;
 use pg_link::{Linked, place_in};
 use pg_schema::{PartsError, Schema};
 use std::alloc::{AllocError, Global};
 
 /// The linked files in their order, each with what its type names name.
-fn sources_of<'a>(alloc: Global, linked: &'a Linked) -> Result<Vec<Source<'a>>, AllocError>
+fn sources_of<'a>(
+    alloc: Global,
+    linked: &'a Linked,
+    places: &'a [usize],
+) -> Result<Vec<Source<'a>>, AllocError>
+    requires places { places.now ≡ enums.enum_places linked.now.files }
     ensures sources { IfOk result (λ sources. map source sources.items ≡ linked_sources linked.now.files) }
     ensures linked { OnOk result (IsLinkedUp linked.now) }
 {
@@ -26,12 +34,15 @@ fn sources_of<'a>(alloc: Global, linked: &'a Linked) -> Result<Vec<Source<'a>>, 
         let Some((path, file)) = files.get_index(number) else {
             continue;
         };
-        let targets = linked.targets_by_place(alloc, number)?;
+        let found = linked.targets_by_place(alloc, number)?;
         sources.push(Source {
             path,
             text: &file.bytes,
             tree: &file.tree,
-            targets,
+            targets: Targets {
+                found,
+                enums: places,
+            },
         })?;
     }
     Ok(sources)
@@ -69,8 +80,9 @@ fn schema_of(alloc: Global, files: &[Source<'_>]) -> Result<Schema, CheckError>
 }
 
 /// The schema that linked files declare: they keep to the rules of the language, and the schema has
-/// exactly the message types, fields and other parts that they state, in order of declaration
-/// (proto3 language specification, "Proto file").
+/// exactly the message types, fields and other parts that they state (proto3 language specification,
+/// "Proto file"): file after file, message types and services in order of declaration, enums scope by scope,
+/// those of the package before those of each message type.
 ///
 /// Refused are want of memory (`Memory`) and the first rule that is broken, by its error at its place:
 /// of the files, each behind those that it imports, the first that breaks one; in it by order of
@@ -82,6 +94,7 @@ pub fn build(alloc: Global, linked: &Linked) -> Result<Schema, CheckError>
     // Memory aside, a refusal names a rule that is broken in the files, the first, at its place.
     ensures refused { IfErr result (spec.IsRefused (linked_sources linked.now.files)) }
 {
-    let sources = sources_of(alloc, linked)?;
+    let places = enum_places(alloc, linked)?;
+    let sources = sources_of(alloc, linked, &places)?;
     schema_of(alloc, &sources)
 }

@@ -1,9 +1,8 @@
 //! From files to the parts that they declare.
 
 ghost use Rattle.std.specs.Prelude.{◌≡◌, ◌-◌, IfErr, IfOk, length, map};
-ghost use Rattle.std.specs.BTreeMap.{get};
-ghost use Rattle.std.specs.Ordering.{nat_cmp};
 ghost use Rattle.pg_check.specs.Declares as spec;
+ghost use Rattle.pg_check.specs.EnumPlaces.{target_in};
 ghost use Rattle.pg_check.specs.Files as files;
 ghost use Rattle.pg_check.specs.Outline.{file_messages};
 ghost use Rattle.pg_check.specs.Sources.{source};
@@ -53,7 +52,7 @@ struct Checked {
 
 /// Looks for the first rule that a file breaks, where so many more message types may stand.
 fn look_at(alloc: Global, file: &Source<'_>, left: usize) -> Result<Checked, AllocError>
-    ensures fault { IfOk result (λ c. c.fault ≡ files.file_fault (get nat_cmp file.now.targets) left file.now.tree.now) }
+    ensures fault { IfOk result (λ c. c.fault ≡ files.file_fault (target_in file.now.targets) left file.now.tree.now) }
     ensures left { IfOk result (λ c. c.left ≡ left - length (file_messages file.now.tree.now)) }
 {
     let messages = file_messages(alloc, file.tree)?;

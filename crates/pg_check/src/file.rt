@@ -1,8 +1,7 @@
 //! The rules of a whole file.
 
 ghost use Rattle.std.specs.Prelude.{◌≡◌, ◌++◌, IfOk, None, OnOk, flat_map, map};
-ghost use Rattle.std.specs.BTreeMap.{get};
-ghost use Rattle.std.specs.Ordering.{nat_cmp};
+ghost use Rattle.pg_check.specs.EnumPlaces.{target_in};
 ghost use Rattle.pg_check.specs.Faults.{earliest, first_fault};
 ghost use Rattle.pg_check.specs.Files as spec;
 ghost use Rattle.pg_check.specs.Options.{stated};
@@ -145,10 +144,10 @@ fn too_many(left: usize, messages: &[FoundMessage<'_>]) -> Option<usize>
 /// The first rule in the text that a message's own body breaks.
 fn messages_fault(
     alloc: Global,
-    targets: &Targets,
+    targets: &Targets<'_>,
     messages: &[FoundMessage<'_>],
 ) -> Result<Option<Fault>, AllocError>
-    ensures { IfOk result (λ fault. fault ≡ earliest (spec.message_fault (get nat_cmp targets.now)) None (map message messages.now)) }
+    ensures { IfOk result (λ fault. fault ≡ earliest (spec.message_fault (target_in targets.now)) None (map message messages.now)) }
 {
     let mut fault = None;
     for found in messages {
@@ -174,7 +173,7 @@ fn enums_fault(alloc: Global, enums: &[FoundEnum<'_>]) -> Result<Option<Fault>, 
 /// may stand.
 pub(crate) fn file_fault(
     alloc: Global,
-    targets: &Targets,
+    targets: &Targets<'_>,
     left: usize,
     file: &FileTree,
     messages: &[FoundMessage<'_>],
@@ -182,7 +181,7 @@ pub(crate) fn file_fault(
 ) -> Result<Option<Fault>, AllocError>
     requires messages { map message messages.now ≡ file_messages file.now }
     requires enums { map enumeration enums.now ≡ file_enums file.now }
-    ensures { IfOk result (λ fault. fault ≡ spec.file_fault (get nat_cmp targets.now) left file.now) }
+    ensures { IfOk result (λ fault. fault ≡ spec.file_fault (target_in targets.now) left file.now) }
 {
     let too_many = broken(Rule::TooManyTypes, too_many(left, messages));
     let of_messages = messages_fault(alloc, targets, messages)?;

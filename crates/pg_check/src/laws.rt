@@ -7,6 +7,7 @@ ghost use Rattle.pg_link.specs.Linked.{IsLinkedUp, LinkedFiles};
 ghost use Rattle.pg_check.specs.BrokenParts.{IsFirstBrokenPart, KeepsAll};
 ghost use Rattle.pg_check.specs.BrokenRules.{IsFirstBroken};
 ghost use Rattle.pg_check.specs.Declares.{Declares, first_broken};
+ghost use Rattle.pg_check.specs.EnumPlaces.{AreNumbered};
 ghost use Rattle.pg_check.specs.Errors.{IsTold};
 ghost use Rattle.pg_check.specs.Examples.{WorkedRules};
 ghost use Rattle.pg_check.specs.KeepsRules.{KeepsRules};
@@ -68,4 +69,10 @@ pub fn linked_parts()
 /// The code in the fact that a rule is broken is the code of its error, of files and of parts alike.
 pub fn rule_codes()
     ensures { AreRuleCodes }
+{}
+
+/// Linking numbers message types and enums in order of declaration, as the rules list them. So what a type
+/// name names by number is what it names by its full name, an enum also by its place scope by scope.
+pub fn linked_numbers()
+    ensures { (linked : LinkedFiles) → IsLinkedUp linked → AreNumbered linked.files }
 {}

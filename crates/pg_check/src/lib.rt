@@ -5,6 +5,7 @@ mod admitting;
 mod building;
 mod declare;
 mod enum_part_faults;
+mod enum_places;
 mod enumeration;
 mod error;
 mod fault;

@@ -1,8 +1,7 @@
 //! What a field declares, as a schema has it.
 
 ghost use Rattle.std.specs.Prelude.{◌≡◌, IfOk, None, map, option_map};
-ghost use Rattle.std.specs.BTreeMap.{get};
-ghost use Rattle.std.specs.Ordering.{nat_cmp};
+ghost use Rattle.pg_check.specs.EnumPlaces.{target_in};
 ghost use Rattle.pg_check.specs.MadeFields as spec;
 ghost use Rattle.pg_check.specs.MadeNumbers.{index_of};
 ghost use Rattle.pg_check.specs.Members.{member};
@@ -33,18 +32,18 @@ fn named_element(target: Option<Target>) -> Element
 }
 
 /// A scalar, or the message type or enum that is named.
-fn element(targets: &Targets, name: &TypeName) -> Element
-    ensures { result ≡ spec.element (get nat_cmp targets.now) name.now }
+fn element(targets: &Targets<'_>, name: &TypeName) -> Element
+    ensures { result ≡ spec.element (target_in targets.now) name.now }
 {
     match scalar_named(name) {
         Some(scalar) => Element::Scalar(scalar),
-        None => named_element(targets.get(&name.span.from).copied()),
+        None => named_element(targets.at(name.span.from)),
     }
 }
 
 /// What the items are; of a map, what its values are.
-fn element_in(targets: &Targets, one: &Member<'_>) -> Element
-    ensures { result ≡ spec.element_in (get nat_cmp targets.now) (member one.now) }
+fn element_in(targets: &Targets<'_>, one: &Member<'_>) -> Element
+    ensures { result ≡ spec.element_in (target_in targets.now) (member one.now) }
 {
     match one {
         Member::Field(field, _) => element(targets, &field.type_name),
@@ -87,8 +86,8 @@ fn labelled(
 }
 
 /// How often the member's items stand.
-fn presence(targets: &Targets, one: &Member<'_>) -> Presence
-    ensures { result ≡ spec.presence (get nat_cmp targets.now) (member one.now) }
+fn presence(targets: &Targets<'_>, one: &Member<'_>) -> Presence
+    ensures { result ≡ spec.presence (target_in targets.now) (member one.now) }
 {
     match one {
         Member::Field(field, oneof) => labelled(
@@ -135,8 +134,8 @@ fn made_number(one: &Member<'_>) -> u32
 }
 
 /// The field.
-fn made_field(alloc: Global, targets: &Targets, one: &Member<'_>) -> Result<Field, AllocError>
-    ensures { IfOk result (λ made. spec.field made ≡ spec.made_field (get nat_cmp targets.now) (member one.now)) }
+fn made_field(alloc: Global, targets: &Targets<'_>, one: &Member<'_>) -> Result<Field, AllocError>
+    ensures { IfOk result (λ made. spec.field made ≡ spec.made_field (target_in targets.now) (member one.now)) }
 {
     let name = String::from_str(alloc, &one.name().text)?;
     let json_name = json_name(alloc, *one)?;
@@ -155,10 +154,10 @@ fn made_field(alloc: Global, targets: &Targets, one: &Member<'_>) -> Result<Fiel
 /// The fields, in order of declaration.
 pub(crate) fn made_fields(
     alloc: Global,
-    targets: &Targets,
+    targets: &Targets<'_>,
     list: &[Member<'_>],
 ) -> Result<Vec<Field>, AllocError>
-    ensures { IfOk result (λ fields. map spec.field fields.items ≡ map (spec.made_field (get nat_cmp targets.now)) (map member list.now)) }
+    ensures { IfOk result (λ fields. map spec.field fields.items ≡ map (spec.made_field (target_in targets.now)) (map member list.now)) }
 {
     let mut fields = Vec::new(alloc);
     for one in list {

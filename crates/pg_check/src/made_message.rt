@@ -1,8 +1,7 @@
 //! What a message declares, as a schema has it.
 
 ghost use Rattle.std.specs.Prelude.{◌≡◌, IfOk, map, string_bytes};
-ghost use Rattle.std.specs.BTreeMap.{get};
-ghost use Rattle.std.specs.Ordering.{nat_cmp};
+ghost use Rattle.pg_check.specs.EnumPlaces.{target_in};
 ghost use Rattle.pg_check.specs.MadeFields.{field};
 ghost use Rattle.pg_check.specs.MadeMessages as spec;
 
@@ -63,13 +62,13 @@ fn reserved_numbers(alloc: Global, body: &[Part]) -> Result<Vec<ReservedFields>,
 /// The message type of this full name and body, with these message types and enums in it.
 pub(crate) fn made_message(
     alloc: Global,
-    targets: &Targets,
+    targets: &Targets<'_>,
     full: &str,
     body: &[Part],
     nested_types: Vec<TypeId>,
     nested_enums: Vec<EnumId>,
 ) -> Result<MessageType, AllocError>
-    ensures { IfOk result (spec.IsMessage (get nat_cmp targets.now) full.now body.now nested_types.items nested_enums.items) }
+    ensures { IfOk result (spec.IsMessage (target_in targets.now) full.now body.now nested_types.items nested_enums.items) }
 {
     let name = String::from_str(alloc, full)?;
     let list = members(alloc, body)?;

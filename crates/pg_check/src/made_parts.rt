@@ -1,8 +1,7 @@
 //! What files declare, as a schema has it.
 
 ghost use Rattle.std.specs.Prelude.{◌≡◌, ◌++◌, ◌∷◌, [], ℕ, List, IfOk, OnOk, length, map};
-ghost use Rattle.std.specs.BTreeMap.{get};
-ghost use Rattle.std.specs.Ordering.{nat_cmp};
+ghost use Rattle.pg_check.specs.EnumPlaces.{target_in};
 ghost use Rattle.pg_check.specs.Groups.{group, places_in};
 ghost use Rattle.pg_check.specs.MadeEnums.{enumeration, made_enum};
 ghost use Rattle.pg_check.specs.MadeParts as spec;
@@ -16,7 +15,7 @@ use crate::made_file::{made_imports, made_options};
 use crate::made_message::made_message;
 use crate::made_service::{push_services, service_ids};
 use crate::outline::{
-    FoundEnum, FoundMessage, file_enums, file_messages, package_of, statements_behind,
+    FoundEnum, FoundMessage, file_messages, package_of, scoped_enums, statements_behind,
 };
 use crate::types::Targets;
 use pg_schema::{EnumType, File, MessageType, Parts, Service, ServiceId};
@@ -29,7 +28,7 @@ pub(crate) struct Source<'a> {
     pub path: &'a str,
     pub text: &'a [u8],
     pub tree: &'a FileTree,
-    pub targets: Targets,
+    pub targets: Targets<'a>,
 }
 
 /// The message types of a file by the scopes that declare them; so many stand before.
@@ -53,7 +52,7 @@ fn enum_groups(
     tree: &FileTree,
     found: &[FoundEnum<'_>],
 ) -> Result<Groups, AllocError>
-    requires { map outline.enumeration found.now ≡ outline.file_enums tree.now }
+    requires { map outline.enumeration found.now ≡ outline.scoped_enums tree.now }
     ensures { IfOk result (λ groups. (scope : List ℕ) → group groups scope ≡ places_in scope (spec.placed_enums before tree.now)) }
 {
     let list = placed_enums(alloc, before, found)?;
@@ -63,12 +62,12 @@ fn enum_groups(
 /// The message type, with what stands in it.
 fn made_type(
     alloc: Global,
-    targets: &Targets,
+    targets: &Targets<'_>,
     types: &Groups,
     enums: &Groups,
     one: &FoundMessage<'_>,
 ) -> Result<MessageType, AllocError>
-    ensures { IfOk result (spec.IsTypeOf (spec.grouped_tree (get nat_cmp targets.now) (group types.now) (group enums.now) (outline.message one.now))) }
+    ensures { IfOk result (spec.IsTypeOf (spec.grouped_tree (target_in targets.now) (group types.now) (group enums.now) (outline.message one.now))) }
 {
     let full = one.full.as_str();
     let nested = types_in(alloc, types, full)?;
@@ -81,12 +80,12 @@ fn made_type(
 /// The message types, with what stands in each.
 fn made_types(
     alloc: Global,
-    targets: &Targets,
+    targets: &Targets<'_>,
     types: &Groups,
     enums: &Groups,
     found: &[FoundMessage<'_>],
 ) -> Result<Vec<MessageType>, AllocError>
-    ensures { IfOk result (λ made. spec.EachIs spec.IsTypeOf (map (spec.grouped_tree (get nat_cmp targets.now) (group types.now) (group enums.now)) (map outline.message found.now)) made.items) }
+    ensures { IfOk result (λ made. spec.EachIs spec.IsTypeOf (map (spec.grouped_tree (target_in targets.now) (group types.now) (group enums.now)) (map outline.message found.now)) made.items) }
 {
     let mut made = Vec::new(alloc);
     for one in found {
@@ -177,7 +176,7 @@ fn made_by(
     ensures { IfOk result (IsMadeBy types enums services (source file.now)) }
 {
     let messages = file_messages(alloc, file.tree)?;
-    let found = file_enums(alloc, file.tree)?;
+    let found = scoped_enums(alloc, file.tree, &messages)?;
     let in_types = message_groups(alloc, types, file.tree, &messages)?;
     let in_enums = enum_groups(alloc, enums, file.tree, &found)?;
     let types = made_types(alloc, &file.targets, &in_types, &in_enums, &messages)?;
@@ -225,7 +224,7 @@ fn push_file(alloc: Global, parts: &mut Parts, file: &Source<'_>) -> Result<(), 
     Ok(())
 }
 
-/// What the files declare, in order of declaration.
+/// What the files declare.
 pub(crate) fn parts_of(alloc: Global, files: &[Source<'_>]) -> Result<Parts, AllocError>
     ensures { IfOk result (spec.ArePartsOf (map source files.now)) }
 {

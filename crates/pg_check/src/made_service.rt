@@ -1,8 +1,7 @@
 //! What a service declares, as a schema has it.
 
 ghost use Rattle.std.specs.Prelude.{◌≡◌, ◌++◌, IfOk, OnOk, length, map};
-ghost use Rattle.std.specs.BTreeMap.{get};
-ghost use Rattle.std.specs.Ordering.{nat_cmp};
+ghost use Rattle.pg_check.specs.EnumPlaces.{target_in};
 ghost use Rattle.pg_check.specs.MadeServices as spec;
 
 use crate::made_number::index_of;
@@ -43,8 +42,8 @@ fn rpc_flag(body: &[RpcPart]) -> Option<bool>
 }
 
 /// A method.
-fn made_method(alloc: Global, targets: &Targets, rpc: &Rpc) -> Result<Method, AllocError>
-    ensures { IfOk result (λ made. spec.method made ≡ spec.made_method (get nat_cmp targets.now) rpc.now) }
+fn made_method(alloc: Global, targets: &Targets<'_>, rpc: &Rpc) -> Result<Method, AllocError>
+    ensures { IfOk result (λ made. spec.method made ≡ spec.made_method (target_in targets.now) rpc.now) }
 {
     let name = String::from_str(alloc, &rpc.name.text)?;
     let deprecated = match &rpc.body {
@@ -53,8 +52,8 @@ fn made_method(alloc: Global, targets: &Targets, rpc: &Rpc) -> Result<Method, Al
     };
     Ok(Method {
         name,
-        input: message_at(targets.get(&rpc.input.type_name.span.from).copied()),
-        output: message_at(targets.get(&rpc.output.type_name.span.from).copied()),
+        input: message_at(targets.at(rpc.input.type_name.span.from)),
+        output: message_at(targets.at(rpc.output.type_name.span.from)),
         client_streaming: rpc.input.is_stream,
         server_streaming: rpc.output.is_stream,
         options: MethodOptions { deprecated },
@@ -64,10 +63,10 @@ fn made_method(alloc: Global, targets: &Targets, rpc: &Rpc) -> Result<Method, Al
 /// The methods, in order of declaration.
 fn made_methods(
     alloc: Global,
-    targets: &Targets,
+    targets: &Targets<'_>,
     body: &[ServicePart],
 ) -> Result<Vec<Method>, AllocError>
-    ensures { IfOk result (λ methods. map spec.method methods.items ≡ spec.made_methods (get nat_cmp targets.now) body.now) }
+    ensures { IfOk result (λ methods. map spec.method methods.items ≡ spec.made_methods (target_in targets.now) body.now) }
 {
     let mut methods = Vec::new(alloc);
     for part in body {
@@ -96,11 +95,11 @@ fn service_flag(body: &[ServicePart]) -> Option<bool>
 /// A service in a scope.
 fn made_service(
     alloc: Global,
-    targets: &Targets,
+    targets: &Targets<'_>,
     scope: &str,
     service: &tree::Service,
 ) -> Result<Service, AllocError>
-    ensures { IfOk result (λ made. spec.service made ≡ spec.made_service (get nat_cmp targets.now) scope.now service.now) }
+    ensures { IfOk result (λ made. spec.service made ≡ spec.made_service (target_in targets.now) scope.now service.now) }
 {
     let name = full_name(alloc, scope, &service.name)?;
     let methods = made_methods(alloc, targets, &service.parts)?;
@@ -117,12 +116,12 @@ fn made_service(
 /// Puts the services of statements behind the others.
 pub(crate) fn push_services(
     alloc: Global,
-    targets: &Targets,
+    targets: &Targets<'_>,
     scope: &str,
     services: &mut Vec<Service>,
     statements: &[Statement],
 ) -> Result<(), AllocError>
-    ensures { OnOk result (map spec.service services.new.items ≡ map spec.service services.old.items ++ spec.made_services (get nat_cmp targets.now) scope.now statements.now) }
+    ensures { OnOk result (map spec.service services.new.items ≡ map spec.service services.old.items ++ spec.made_services (target_in targets.now) scope.now statements.now) }
 {
     for statement in statements {
         if let Statement::Service(service) = statement {

@@ -1,8 +1,7 @@
 //! The rules of a message's own body.
 
 ghost use Rattle.std.specs.Prelude.{◌≡◌, IfOk, map, string_bytes};
-ghost use Rattle.std.specs.BTreeMap.{get};
-ghost use Rattle.std.specs.Ordering.{nat_cmp};
+ghost use Rattle.pg_check.specs.EnumPlaces.{target_in};
 ghost use Rattle.pg_check.specs.Faults.{first_fault};
 ghost use Rattle.pg_check.specs.Members.{key_of, member};
 ghost use Rattle.pg_check.specs.Members as members;
@@ -192,8 +191,8 @@ fn member_options(alloc: Global, list: &[Member<'_>]) -> Result<Option<Fault>, A
 }
 
 /// A list of the member's items can stand in one record.
-fn may_be_packed(targets: &Targets, one: &Member<'_>) -> bool
-    ensures { result ≡ spec.may_be_packed (get nat_cmp targets.now) (member one.now) }
+fn may_be_packed(targets: &Targets<'_>, one: &Member<'_>) -> bool
+    ensures { result ≡ spec.may_be_packed (target_in targets.now) (member one.now) }
 {
     match one {
         Member::Field(field, _) => {
@@ -240,8 +239,8 @@ fn first_packed(settings: &Option<Settings>) -> Option<usize>
 }
 
 /// The member states `packed = true` and may not.
-fn member_packed(targets: &Targets, one: &Member<'_>) -> Option<Fault>
-    ensures { result ≡ spec.member_packed (get nat_cmp targets.now) (member one.now) }
+fn member_packed(targets: &Targets<'_>, one: &Member<'_>) -> Option<Fault>
+    ensures { result ≡ spec.member_packed (target_in targets.now) (member one.now) }
 {
     if may_be_packed(targets, one) {
         return None;
@@ -251,8 +250,8 @@ fn member_packed(targets: &Targets, one: &Member<'_>) -> Option<Fault>
 }
 
 /// The first member that states `packed = true` and may not.
-fn members_packed(targets: &Targets, list: &[Member<'_>]) -> Option<Fault>
-    ensures { result ≡ first_fault (spec.member_packed (get nat_cmp targets.now)) (map member list.now) }
+fn members_packed(targets: &Targets<'_>, list: &[Member<'_>]) -> Option<Fault>
+    ensures { result ≡ first_fault (spec.member_packed (target_in targets.now)) (map member list.now) }
 {
     for one in list {
         let fault = member_packed(targets, one);
@@ -300,10 +299,10 @@ fn names_fault(
 /// The first rule that the members break by themselves.
 fn shapes_fault(
     alloc: Global,
-    targets: &Targets,
+    targets: &Targets<'_>,
     list: &[Member<'_>],
 ) -> Result<Option<Fault>, AllocError>
-    ensures { IfOk result (λ fault. fault ≡ spec.shapes_fault (get nat_cmp targets.now) (map member list.now)) }
+    ensures { IfOk result (λ fault. fault ≡ spec.shapes_fault (target_in targets.now) (map member list.now)) }
 {
     let options = member_options(alloc, list)?;
     let packed = members_packed(targets, list);
@@ -315,10 +314,10 @@ fn shapes_fault(
 /// The first rule that a message's own body breaks, without the messages and enums in it.
 pub(crate) fn body_fault(
     alloc: Global,
-    targets: &Targets,
+    targets: &Targets<'_>,
     body: &[Part],
 ) -> Result<Option<Fault>, AllocError>
-    ensures { IfOk result (λ fault. fault ≡ spec.body_fault (get nat_cmp targets.now) body.now) }
+    ensures { IfOk result (λ fault. fault ≡ spec.body_fault (target_in targets.now) body.now) }
 {
     let list = members(alloc, body)?;
     let keys = keys(alloc, &list)?;

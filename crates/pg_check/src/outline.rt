@@ -227,6 +227,56 @@ fn push_enums<'a>(
     Ok(())
 }
 
+/// Puts the enums that a body itself declares behind the others.
+fn push_own_enums<'a>(
+    alloc: Global,
+    found: &mut Vec<FoundEnum<'a>>,
+    scope: &str,
+    body: &'a [Part],
+) -> Result<(), AllocError>
+    ensures { OnOk result (map spec.enumeration found.new.items ≡ map spec.enumeration found.old.items ++ flat_map (spec.enum_in scope.now) body.now) }
+{
+    for part in body {
+        if let Part::Enum(tree) = part {
+            push_enum(alloc, found, scope, tree)?;
+        }
+    }
+    Ok(())
+}
+
+/// Puts the enums that each of these message types itself declares behind the others.
+fn push_inner_enums<'a>(
+    alloc: Global,
+    found: &mut Vec<FoundEnum<'a>>,
+    messages: &[FoundMessage<'a>],
+) -> Result<(), AllocError>
+    ensures { OnOk result (map spec.enumeration found.new.items
+        ≡ map spec.enumeration found.old.items ++ flat_map spec.own_enums (map spec.message messages.now)) }
+{
+    for one in messages {
+        let body = one.tree.parts.as_slice();
+        push_own_enums(alloc, found, &one.full, body)?;
+    }
+    Ok(())
+}
+
+/// Puts the enums that are statements themselves behind the others.
+fn push_outer_enums<'a>(
+    alloc: Global,
+    found: &mut Vec<FoundEnum<'a>>,
+    scope: &str,
+    statements: &'a [Statement],
+) -> Result<(), AllocError>
+    ensures { OnOk result (map spec.enumeration found.new.items ≡ map spec.enumeration found.old.items ++ flat_map (spec.enum_stated scope.now) statements.now) }
+{
+    for statement in statements {
+        if let Statement::Enum(tree) = statement {
+            push_enum(alloc, found, scope, tree)?;
+        }
+    }
+    Ok(())
+}
+
 /// The statements behind the package's; none where no package is stated.
 pub(crate) fn statements_behind(file: &FileTree) -> &[Statement]
     ensures { result.now ≡ spec.statements_behind file.now.packaged }
@@ -262,5 +312,23 @@ pub(crate) fn file_enums<'a>(
     let mut found = Vec::new(alloc);
     push_enums(alloc, &mut found, &package, &file.statements)?;
     push_enums(alloc, &mut found, &package, statements_behind(file))?;
+    Ok(found)
+}
+
+/// The enums of a file scope by scope: those that stand outside of messages, and then those of each of its
+/// message types.
+pub(crate) fn scoped_enums<'a>(
+    alloc: Global,
+    file: &'a FileTree,
+    messages: &[FoundMessage<'a>],
+) -> Result<Vec<FoundEnum<'a>>, AllocError>
+    requires { map spec.message messages.now ≡ spec.file_messages file.now }
+    ensures { IfOk result (λ list. map spec.enumeration list.items ≡ spec.scoped_enums file.now) }
+{
+    let package = package_of(alloc, file)?;
+    let mut found = Vec::new(alloc);
+    push_outer_enums(alloc, &mut found, &package, &file.statements)?;
+    push_outer_enums(alloc, &mut found, &package, statements_behind(file))?;
+    push_inner_enums(alloc, &mut found, messages)?;
     Ok(found)
 }

@@ -2,8 +2,7 @@
 
 ghost use Rattle.std.specs.Prelude.{◌≡◌};
 ghost use Rattle.pg_schema.specs.Shape.{is_key};
-ghost use Rattle.std.specs.Ordering.{nat_cmp};
-ghost use Rattle.std.specs.BTreeMap.{get};
+ghost use Rattle.pg_check.specs.EnumPlaces.{target_in};
 ghost use Rattle.pg_check.specs.Types as spec;
 
 use pg_link::Target;
@@ -11,8 +10,29 @@ use pg_schema::{Element, Scalar};
 use pg_syntax::tree::TypeName;
 use std::collections::BTreeMap;
 
-/// What the type names of a file name, by the byte at which each begins.
-pub(crate) type Targets = BTreeMap<usize, Target>;
+/// What the type names of a file name, by the byte at which each begins; and for each enum, in order of
+/// declaration, its place in the schema.
+#[derive(Drop)]
+pub(crate) struct Targets<'a> {
+    pub found: BTreeMap<usize, Target>,
+    pub enums: &'a [usize],
+}
+
+impl Targets<'_> {
+    /// What the type name that begins there names.
+    pub(crate) fn at(&self, at: usize) -> Option<Target>
+        ensures { result ≡ target_in self.now at }
+    {
+        match self.found.get(&at) {
+            Some(Target::Message(number)) => Some(Target::Message(*number)),
+            Some(Target::Enum(number)) => match self.enums.get(*number) {
+                Some(place) => Some(Target::Enum(*place)),
+                None => Some(Target::Enum(0)),
+            },
+            None => None,
+        }
+    }
+}
 
 /// The scalar type of this word (proto3 language guide, "Scalar Value Types").
 fn scalar_of(word: &str) -> Option<Scalar>
@@ -67,10 +87,10 @@ pub(crate) fn is_key_type(name: &TypeName) -> bool
 }
 
 /// What the type name that begins there names is an enum.
-fn is_enum(targets: &Targets, at: usize) -> bool
-    ensures { result ≡ spec.is_enum (get nat_cmp targets.now at) }
+fn is_enum(targets: &Targets<'_>, at: usize) -> bool
+    ensures { result ≡ spec.is_enum (target_in targets.now at) }
 {
-    match targets.get(&at) {
+    match targets.at(at) {
         Some(Target::Enum(_)) => true,
         Some(Target::Message(_)) => false,
         None => false,
@@ -78,8 +98,8 @@ fn is_enum(targets: &Targets, at: usize) -> bool
 }
 
 /// A list of such items can stand in one record.
-pub(crate) fn is_packable_type(targets: &Targets, name: &TypeName) -> bool
-    ensures { result ≡ spec.is_packable_type (get nat_cmp targets.now) name.now }
+pub(crate) fn is_packable_type(targets: &Targets<'_>, name: &TypeName) -> bool
+    ensures { result ≡ spec.is_packable_type (target_in targets.now) name.now }
 {
     match scalar_named(name) {
         Some(scalar) => Element::Scalar(scalar).is_packable(),

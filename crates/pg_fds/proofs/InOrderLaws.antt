@@ -50,14 +50,14 @@ type_on (suc depth) types ids i id t start mid first end some h is there before 
     ∙ on mid (id.index ∷ []) (types_below depth types t.nested_types.items) first end own (ap (λ d. first ++ types_below d types t.nested_types.items) (sym down) ∙ inside))
 
 pub enums_on : (depth : ℕ) (types : List MessageType) (ids : List TypeId) (i : ℕ) (id : TypeId) (t : MessageType) (start mid first end : List ℕ) → (depth ≡ 0 → ⊥) → i < length ids → id ≡ get_or ids i id
-    → slice_get types id.index ≡ Some t → start ++ enums_below depth types (take i ids) ≡ mid → mid ++ enums_below (depth - 1) types t.nested_types.items ≡ first → first ++ enum_places t.nested_enums.items ≡ end
+    → slice_get types id.index ≡ Some t → start ++ enums_below depth types (take i ids) ≡ mid → mid ++ enum_places t.nested_enums.items ≡ first → first ++ enums_below (depth - 1) types t.nested_types.items ≡ end
     → start ++ enums_below depth types (take (i + 1) ids) ≡ end
-enums_on zero types ids i id t start mid first end some h is there before inside own = absurd (some refl)
-enums_on (suc depth) types ids i id t start mid first end some h is there before inside own =
+enums_on zero types ids i id t start mid first end some h is there before own inside = absurd (some refl)
+enums_on (suc depth) types ids i id t start mid first end some h is there before own inside =
     let down : suc depth - 1 ≡ depth = omega arith in
     one_on (λ (x : TypeId). inner_enums (enums_below depth types) (slice_get types x.index)) ids i id start mid end h is before
     (ap (λ o. mid ++ inner_enums (enums_below depth types) o) there
-    ∙ on mid (enums_below depth types t.nested_types.items) (enum_places t.nested_enums.items) first end (ap (λ d. mid ++ enums_below d types t.nested_types.items) (sym down) ∙ inside) own)
+    ∙ on mid (enum_places t.nested_enums.items) (enums_below depth types t.nested_types.items) first end own (ap (λ d. first ++ enums_below d types t.nested_types.items) (sym down) ∙ inside))
 
 -- ---- places that are asked for
 
@@ -123,9 +123,9 @@ file_asked places xs i x mid whole h is before asked =
 
 pub file_enums_asked : (types : List MessageType) (files : List File) (i : ℕ) (f : File) (mid whole : List ℕ) → i < length files → f ≡ get_or files i f
     → flat_map (file_enums types) (take i files) ≡ mid → flat_map (file_enums types) files ≡ whole
-    → mid ++ (enums_below most_deep types f.types.items ++ (enum_places f.enums.items ++ flat_map (file_enums types) (drop (suc i) files))) ≡ whole
+    → mid ++ (enum_places f.enums.items ++ (enums_below most_deep types f.types.items ++ flat_map (file_enums types) (drop (suc i) files))) ≡ whole
 file_enums_asked types files i f mid whole h is before asked =
-    ap (λ ks. mid ++ ks) (sym (append_assoc (enums_below most_deep types f.types.items) (enum_places f.enums.items) (flat_map (file_enums types) (drop (suc i) files))))
+    ap (λ ks. mid ++ ks) (sym (append_assoc (enum_places f.enums.items) (enums_below most_deep types f.types.items) (flat_map (file_enums types) (drop (suc i) files))))
     ∙ file_asked (file_enums types) files i f mid whole h is before asked
 
 pub type_asked : (depth : ℕ) (types : List MessageType) (ids : List TypeId) (i : ℕ) (id : TypeId) (t : MessageType) (start mid later whole : List ℕ) → (depth ≡ 0 → ⊥) → i < length ids
@@ -143,7 +143,7 @@ type_asked (suc depth) types ids i id t start mid later whole some h is there be
 
 pub enums_asked : (depth : ℕ) (types : List MessageType) (ids : List TypeId) (i : ℕ) (id : TypeId) (t : MessageType) (start mid later whole : List ℕ) → (depth ≡ 0 → ⊥) → i < length ids
     → id ≡ get_or ids i id → slice_get types id.index ≡ Some t → start ++ enums_below depth types (take i ids) ≡ mid → start ++ (enums_below depth types ids ++ later) ≡ whole
-    → (behind : List ℕ) × (mid ++ (enums_below (depth - 1) types t.nested_types.items ++ (enum_places t.nested_enums.items ++ behind)) ≡ whole)
+    → (behind : List ℕ) × (mid ++ (enum_places t.nested_enums.items ++ (enums_below (depth - 1) types t.nested_types.items ++ behind)) ≡ whole)
 enums_asked zero types ids i id t start mid later whole some h is there before asked = absurd (some refl)
 enums_asked (suc depth) types ids i id t start mid later whole some h is there before asked =
     let down : suc depth - 1 ≡ depth = omega arith in
@@ -152,8 +152,8 @@ enums_asked (suc depth) types ids i id t start mid later whole some h is there b
     let inside = enums_below depth types t.nested_types.items in
     let own = enum_places t.nested_enums.items in (
       behind,
-      ap (λ d. mid ++ (enums_below d types t.nested_types.items ++ (own ++ behind))) down
-          ∙ (ap (λ ks. mid ++ ks) (sym (append_assoc inside own behind))
+      ap (λ d. mid ++ (own ++ (enums_below d types t.nested_types.items ++ behind))) down
+          ∙ (ap (λ ks. mid ++ ks) (sym (append_assoc own inside behind))
           ∙ (ap (λ o. mid ++ (inner_enums (enums_below depth types) o ++ behind)) (sym there) ∙ one_asked places ids i id start mid later whole h is before asked)),
     )
 

@@ -97,18 +97,6 @@ pub mod TypeStateLaws
 pub mod SetStateLaws
 pub mod ReadExamples
 pub mod PlaceExamples
-pub mod PlaceCounts
-pub mod MovedPlaces
-pub mod ListedPlaces
-pub mod TurnedOrder
-pub mod SoundOrders
-pub mod TurnedStated
-pub mod TurnedFiles
-pub mod TurnedRules
-pub mod TurnedNames
-pub mod TurnedSound
-pub mod TurnedSets
-pub mod TurnedSame
 pub mod FitsLaws
 pub mod FitTexts
 pub mod StatedNumbers
@@ -122,6 +110,7 @@ pub mod TextTrees
 pub mod TextPlaces
 pub mod TextWalks
 pub mod TextTypes
+pub mod TextEnums
 pub mod TextServices
 pub mod TextLevels
 pub mod TextDepth

@@ -17,10 +17,9 @@ use Rattle.pg_fds.specs.Building.{written_shape}
 use Rattle.pg_fds.specs.Codes.{file_has_types}
 use Rattle.pg_fds.specs.Descriptor.{file_set}
 use Rattle.pg_fds.specs.Reads.{States, kept_files, skips}
-use Rattle.pg_fds.specs.Refused.{IsOfBytes, MayRefuseSet, NoneIsStated, StatesNone, StatesNoneInOrder}
+use Rattle.pg_fds.specs.Refused.{IsOfBytes, MayRefuseSet, NoneIsStated, StatesNone, StatesNoneHeld}
 use Rattle.pg_fds.specs.StatesFiles.{is_proto3, most_deep}
 use Rattle.pg_fds.proofs.StatedFiles.{stated_proto3, stated_types}
-use Rattle.pg_fds.proofs.TurnedSets.{none_at_all}
 
 both_said : {A : Type 0} (o : Option A) (P Q : A → Type 0) → ((x : A) → P x → Q x → ⊥) → IsSomeAnd o P → IsSomeAnd o Q → ⊥
 both_said None P Q apart h k = h
@@ -41,16 +40,16 @@ bytes_unread real bytes messages.TooLong fault = absurd fault
 bytes_unread real bytes (messages.TooDeep at) fault = tt
 bytes_unread real bytes (messages.Wire e) fault = unread real bytes (Wire (fault_of e)) (place_of e) fault
 
-pub none_stated : (real : FaultsAreReal) (bytes : List ℕ) (e : FdsError) → MayRefuseSet bytes e → ((IsOfBytes e → ⊥) → StatesNoneInOrder bytes) → NoneIsStated bytes e
+pub none_stated : (real : FaultsAreReal) (bytes : List ℕ) (e : FdsError) → MayRefuseSet bytes e → ((IsOfBytes e → ⊥) → StatesNoneHeld bytes) → NoneIsStated bytes e
 none_stated real bytes errors.Memory may found = tt
 none_stated real bytes (errors.Bytes e) may found = bytes_unread real bytes e may.1
 none_stated real bytes errors.NotProto3 may found =
     λ parts sound reads.
     both_said (dec written_shape file_set bytes) (λ set. list_all is_proto3 (kept_files set) ≡ false) (λ set. States set parts)
-    (λ set other states. false≢true (sym other ∙ stated_proto3 (skips set) (kept_files set) parts states)) may reads
+    (λ set other states. false≢true (sym other ∙ stated_proto3 (skips set) (kept_files set) parts states.files)) may reads
 none_stated real bytes errors.BadType may found =
     λ parts sound reads.
     both_said (dec written_shape file_set bytes) (λ set. (list_all is_proto3 (kept_files set) ≡ true) × (list_all file_has_types (kept_files set) ≡ false)) (λ set. States set parts)
-    (λ set other states. false≢true (sym other.1 ∙ stated_types (skips set) (kept_files set) parts sound states)) may reads
-none_stated real bytes errors.BadReference may found = λ parts held. none_at_all parts held (dec written_shape file_set bytes) (found (λ h. h))
-none_stated real bytes (errors.Rule e) may found = λ parts held. none_at_all parts held (dec written_shape file_set bytes) (found (λ h. h))
+    (λ set other states. false≢true (sym other.1 ∙ stated_types (skips set) (kept_files set) parts sound states.files)) may reads
+none_stated real bytes errors.BadReference may found = found (λ h. h)
+none_stated real bytes (errors.Rule e) may found = found (λ h. h)

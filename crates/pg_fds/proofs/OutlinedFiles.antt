@@ -147,37 +147,37 @@ module _ (depth : ℕ) (m : Message) where
   abbrev of_services : Names
   of_services = services_names (text_at 2 m) (children_at 6 m)
 
-  module _ {Y : Type 0} (packages : Names) (at : List ℕ) (here : at ≡ text_at 2 m) (types : List Message) (same_types : types ≡ children_at 4 m) (t0 t1 : Table Y) (first : Declares packages [] t0 t1) where
-    types_same : types_names depth at types ≡ of_types
-    types_same = ap (λ a. types_names depth a types) here ∙ ap (types_names depth (text_at 2 m)) same_types
+  module _ {Y : Type 0} (packages : Names) (at : List ℕ) (here : at ≡ text_at 2 m) (enums : List Message) (same_enums : enums ≡ children_at 5 m) (t0 t1 : Table Y) (first : Declares packages [] t0 t1) where
+    enums_same : enums_names at enums ≡ of_enums
+    enums_same = ap (λ a. enums_names a enums) here ∙ ap (enums_names (text_at 2 m)) same_enums
 
-    pub file_types_wanted : (e : Unstated) → WantsMemory packages (types_names depth at types) t1 e → WantsMemory packages (file_names depth m) t0 e
-    file_types_wanted e wants =
-        wants_first packages (of_types ++ of_enums) of_services t0 e (wants_first packages of_types of_enums t0 e (wants_later packages [] of_types t0 t1 e first (subst (λ ns. WantsMemory packages ns t1 e) types_same wants)))
+    pub file_enums_wanted : (e : Unstated) → WantsMemory packages (enums_names at enums) t1 e → WantsMemory packages (file_names depth m) t0 e
+    file_enums_wanted e wants =
+        wants_first packages (of_enums ++ of_types) of_services t0 e (wants_first packages of_enums of_types t0 e (wants_later packages [] of_enums t0 t1 e first (subst (λ ns. WantsMemory packages ns t1 e) enums_same wants)))
 
-    module _ (t2 : Table Y) (second : Declares packages (types_names depth at types) t1 t2) (enums : List Message) (same_enums : enums ≡ children_at 5 m) where
-      enums_same : enums_names at enums ≡ of_enums
-      enums_same = ap (λ a. enums_names a enums) here ∙ ap (enums_names (text_at 2 m)) same_enums
+    module _ (t2 : Table Y) (second : Declares packages (enums_names at enums) t1 t2) (types : List Message) (same_types : types ≡ children_at 4 m) where
+      types_same : types_names depth at types ≡ of_types
+      types_same = ap (λ a. types_names depth a types) here ∙ ap (types_names depth (text_at 2 m)) same_types
 
-      types_there : Declares packages of_types t0 t2
-      types_there = declares_both packages [] of_types t0 t1 t2 first (subst (λ ns. Declares packages ns t1 t2) types_same second)
+      enums_there : Declares packages of_enums t0 t2
+      enums_there = declares_both packages [] of_enums t0 t1 t2 first (subst (λ ns. Declares packages ns t1 t2) enums_same second)
 
-      pub file_enums_wanted : (e : Unstated) → WantsMemory packages (enums_names at enums) t2 e → WantsMemory packages (file_names depth m) t0 e
-      file_enums_wanted e wants =
-          wants_first packages (of_types ++ of_enums) of_services t0 e (wants_later packages of_types of_enums t0 t2 e types_there (subst (λ ns. WantsMemory packages ns t2 e) enums_same wants))
+      pub file_types_wanted : (e : Unstated) → WantsMemory packages (types_names depth at types) t2 e → WantsMemory packages (file_names depth m) t0 e
+      file_types_wanted e wants =
+          wants_first packages (of_enums ++ of_types) of_services t0 e (wants_later packages of_enums of_types t0 t2 e enums_there (subst (λ ns. WantsMemory packages ns t2 e) types_same wants))
 
-      module _ (t3 : Table Y) (third : Declares packages (enums_names at enums) t2 t3) (services : List Message) (same_services : services ≡ children_at 6 m) where
+      module _ (t3 : Table Y) (third : Declares packages (types_names depth at types) t2 t3) (services : List Message) (same_services : services ≡ children_at 6 m) where
         services_same : services_names at services ≡ of_services
         services_same = ap (λ a. services_names a services) here ∙ ap (services_names (text_at 2 m)) same_services
 
-        enums_there : Declares packages (of_types ++ of_enums) t0 t3
-        enums_there = declares_both packages of_types of_enums t0 t2 t3 types_there (subst (λ ns. Declares packages ns t2 t3) enums_same third)
+        types_there : Declares packages (of_enums ++ of_types) t0 t3
+        types_there = declares_both packages of_enums of_types t0 t2 t3 enums_there (subst (λ ns. Declares packages ns t2 t3) types_same third)
 
         pub file_services_wanted : (e : Unstated) → WantsMemory packages (services_names at services) t3 e → WantsMemory packages (file_names depth m) t0 e
-        file_services_wanted e wants = wants_later packages (of_types ++ of_enums) of_services t0 t3 e enums_there (subst (λ ns. WantsMemory packages ns t3 e) services_same wants)
+        file_services_wanted e wants = wants_later packages (of_enums ++ of_types) of_services t0 t3 e types_there (subst (λ ns. WantsMemory packages ns t3 e) services_same wants)
 
         pub file_declared : (t4 : Table Y) → Declares packages (services_names at services) t3 t4 → Declares packages (file_names depth m) t0 t4
-        file_declared t4 last = declares_both packages (of_types ++ of_enums) of_services t0 t3 t4 enums_there (subst (λ ns. Declares packages ns t3 t4) services_same last)
+        file_declared t4 last = declares_both packages (of_enums ++ of_types) of_services t0 t3 t4 types_there (subst (λ ns. Declares packages ns t3 t4) services_same last)
 
 -- what a list that was told of has none of
 pub none_found : {A B : Type 0} (f : A → B) (xs : List A) (ys : List B) → length xs ≡ 0 → map f xs ≡ ys → ys ≡ []

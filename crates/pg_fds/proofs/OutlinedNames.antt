@@ -203,35 +203,35 @@ module _ (depth : ℕ) (scope : List ℕ) (m : Message) where
       -- a name that is no text
       pub unnamed : (table : Table Y) (e : Unstated) → (IsUtf8 (text_at 1 m) → ⊥) → WantsMemory packages whole table e
       unnamed table e none =
-          wants_first packages (own ++ inside) enums table e
-          (wants_first packages own inside table e
+          wants_first packages (own ++ enums) inside table e
+          (wants_first packages own enums table e
           (wants_first packages (full_name scope m ∷ []) (member_names (full_name scope m) m ++ full_names (full_name scope m) (filter is_entry (children_at 3 m))) table e (no_text scope (text_at 1 m) table e none packages)))
 
       pub type_wanted : (table : Table Y) (e : Unstated) → WantsMemory packages (own_names at m) table e → WantsMemory packages whole table e
-      type_wanted table e wants = wants_first packages (own ++ inside) enums table e (wants_first packages own inside table e (subst (λ ns. WantsMemory packages ns table e) same_own wants))
+      type_wanted table e wants = wants_first packages (own ++ enums) inside table e (wants_first packages own enums table e (subst (λ ns. WantsMemory packages ns table e) same_own wants))
 
-      module _ (within : List Message) (types : within ≡ filter is_no_entry (children_at 3 m)) (t0 t1 : Table Y) (first : Declares packages (own_names at m) t0 t1) where
-        same_inside : types_names depth at within ≡ inside
-        same_inside = ap (λ a. types_names depth a within) here ∙ ap (types_names depth (full_name scope m)) types
+      module _ (t0 t1 : Table Y) (first : Declares packages (own_names at m) t0 t1) (found : List Message) (all : found ≡ children_at 4 m) where
+        same_enums : enums_names at found ≡ enums
+        same_enums = ap (λ a. enums_names a found) here ∙ ap (enums_names (full_name scope m)) all
 
         own_there : Declares packages own t0 t1
         own_there = subst (λ ns. Declares packages ns t0 t1) same_own first
 
-        pub types_wanted : (e : Unstated) → WantsMemory packages (types_names depth at within) t1 e → WantsMemory packages whole t0 e
-        types_wanted e wants = wants_first packages (own ++ inside) enums t0 e (wants_later packages own inside t0 t1 e own_there (subst (λ ns. WantsMemory packages ns t1 e) same_inside wants))
+        pub enums_wanted : (e : Unstated) → WantsMemory packages (enums_names at found) t1 e → WantsMemory packages whole t0 e
+        enums_wanted e wants = wants_first packages (own ++ enums) inside t0 e (wants_later packages own enums t0 t1 e own_there (subst (λ ns. WantsMemory packages ns t1 e) same_enums wants))
 
-        module _ (found : List Message) (all : found ≡ children_at 4 m) (t2 : Table Y) (later : Declares packages (types_names depth at within) t1 t2) where
-          same_enums : enums_names at found ≡ enums
-          same_enums = ap (λ a. enums_names a found) here ∙ ap (enums_names (full_name scope m)) all
+        module _ (t2 : Table Y) (second : Declares packages (enums_names at found) t1 t2) (within : List Message) (types : within ≡ filter is_no_entry (children_at 3 m)) where
+          same_inside : types_names depth at within ≡ inside
+          same_inside = ap (λ a. types_names depth a within) here ∙ ap (types_names depth (full_name scope m)) types
 
-          types_there : Declares packages (own ++ inside) t0 t2
-          types_there = declares_both packages own inside t0 t1 t2 own_there (subst (λ ns. Declares packages ns t1 t2) same_inside later)
+          enums_there : Declares packages (own ++ enums) t0 t2
+          enums_there = declares_both packages own enums t0 t1 t2 own_there (subst (λ ns. Declares packages ns t1 t2) same_enums second)
 
-          pub enums_wanted : (e : Unstated) → WantsMemory packages (enums_names at found) t2 e → WantsMemory packages whole t0 e
-          enums_wanted e wants = wants_later packages (own ++ inside) enums t0 t2 e types_there (subst (λ ns. WantsMemory packages ns t2 e) same_enums wants)
+          pub types_wanted : (e : Unstated) → WantsMemory packages (types_names depth at within) t2 e → WantsMemory packages whole t0 e
+          types_wanted e wants = wants_later packages (own ++ enums) inside t0 t2 e enums_there (subst (λ ns. WantsMemory packages ns t2 e) same_inside wants)
 
-          pub type_declared : (t3 : Table Y) → Declares packages (enums_names at found) t2 t3 → Declares packages whole t0 t3
-          type_declared t3 last = declares_both packages (own ++ inside) enums t0 t2 t3 types_there (subst (λ ns. Declares packages ns t2 t3) same_enums last)
+          pub type_declared : (t3 : Table Y) → Declares packages (types_names depth at within) t2 t3 → Declares packages whole t0 t3
+          type_declared t3 last = declares_both packages (own ++ enums) inside t0 t2 t3 enums_there (subst (λ ns. Declares packages ns t2 t3) same_inside last)
 
 -- ---- message types, as a loop comes to them
 
@@ -249,7 +249,7 @@ module _ (depth : ℕ) (scope : List ℕ) (ms : List (Bor Kept)) (i : ℕ) (m : 
       omega (arith, up_to_here f ms i m h is (length old) (subst (λ rs. length old + length rs ≤ 2 ^ 32) (rows_below scope (seen ms) depth some) all), rows_long type_row old mid (flat_map f (seen (take i ms))) rows)
 
   pub few_enums : (old mid : List Outlined) → map row mid ≡ map row old ++ flat_map (rows_of_enums (enum_rows (depth - 1)) scope) (seen (take i ms)) → length old + length (enum_rows depth scope (seen ms)) ≤ 2 ^ 32
-      → length mid + length (enum_rows (depth - 1) (full_name scope (message_of m.now)) (filter is_no_entry (children_at 3 (message_of m.now)))) + length (children_at 4 (message_of m.now)) ≤ 2 ^ 32
+      → length mid + length (children_at 4 (message_of m.now)) + length (enum_rows (depth - 1) (full_name scope (message_of m.now)) (filter is_no_entry (children_at 3 (message_of m.now)))) ≤ 2 ^ 32
   few_enums old mid rows all =
       let f = rows_of_enums (enum_rows (depth - 1)) scope in
       let full = full_name scope (message_of m.now) in
@@ -259,7 +259,7 @@ module _ (depth : ℕ) (scope : List ℕ) (ms : List (Bor Kept)) (i : ℕ) (m : 
         arith,
         up_to_here f ms i m h is (length old) (subst (λ rs. length old + length rs ≤ 2 ^ 32) (enums_below scope (seen ms) depth some) all),
         rows_long row old mid (flat_map f (seen (take i ms))) rows,
-        length-append inner own,
+        length-append own inner,
         length-map (children_at 4 (message_of m.now)) (row_in full),
       )
 
@@ -274,11 +274,11 @@ type_rows_on depth scope at m within mid first new here types one more =
     ∙ (append_assoc mid ((at, m) ∷ []) (type_rows depth at within) ∙ (ap (λ a. mid ++ (a, m) ∷ type_rows depth a within) here ∙ ap (λ ws. mid ++ (full_name scope m, m) ∷ type_rows depth (full_name scope m) ws) types)))
 
 pub enum_rows_on : (depth : ℕ) (scope at : List ℕ) (m : Message) (within found : List Message) (mid first new : List Row) → at ≡ full_name scope m → within ≡ filter is_no_entry (children_at 3 m) → found ≡ children_at 4 m
-    → first ≡ mid ++ enum_rows depth at within → new ≡ first ++ rows_in at found → new ≡ mid ++ rows_of_enums (enum_rows depth) scope m
+    → first ≡ mid ++ rows_in at found → new ≡ first ++ enum_rows depth at within → new ≡ mid ++ rows_of_enums (enum_rows depth) scope m
 enum_rows_on depth scope at m within found mid first new here types all one more =
-    more ∙ (ap (λ rs. rs ++ rows_in at found) one
-    ∙ (append_assoc mid (enum_rows depth at within) (rows_in at found) ∙ (ap (λ a. mid ++ (enum_rows depth a within ++ rows_in a found)) here
-    ∙ ap₂ (λ ws fs. mid ++ (enum_rows depth (full_name scope m) ws ++ rows_in (full_name scope m) fs)) types all)))
+    more ∙ (ap (λ rs. rs ++ enum_rows depth at within) one
+    ∙ (append_assoc mid (rows_in at found) (enum_rows depth at within) ∙ (ap (λ a. mid ++ (rows_in a found ++ enum_rows depth a within)) here
+    ∙ ap₂ (λ fs ws. mid ++ (rows_in (full_name scope m) fs ++ enum_rows depth (full_name scope m) ws)) all types)))
 
 pub taken : {A : Type 0} (xs : List A) (i : ℕ) → length xs ≤ i → take i xs ≡ xs
 taken [] zero h = refl

@@ -6,8 +6,8 @@ use denote.Ref.{Bor}
 use Rattle.pg_dyn.specs.Kept.{Kept, message_of}
 use Rattle.pg_dyn.specs.Message.{Message}
 use Rattle.pg_fds.specs.declared.outline.OutlinedType.{OutlinedType}
-use Rattle.pg_fds.specs.Outlines.{enum_rows, type_row}
-use Rattle.pg_fds.specs.OutlinedPlaces.{Counts, PlacedType, behind_type, counts_behind, each_from, inner_types, file_places, inside_type, placed_type, placed_types, placed_with, places_of_types}
+use Rattle.pg_fds.specs.Outlines.{type_row}
+use Rattle.pg_fds.specs.OutlinedPlaces.{Counts, PlacedType, behind_type, counts_behind, each_from, inner_types, file_places, inside_file, inside_type, placed_type, placed_types, placed_with, places_of_types}
 use Rattle.pg_fds.specs.Said.{children_at, text_at}
 use Rattle.pg_fds.specs.SetNames.{full_name}
 use Rattle.pg_fds.specs.Walks.{places_from}
@@ -75,22 +75,22 @@ placed_inside old place found grown types enums front behind r there made is at 
 
 -- a message type, with what is inside it
 pub placed_on : (depth : ℕ) (scope at : List ℕ) (m : Message) (within : List Message) (mid a b new : List PlacedType) (counts : Counts) (types enums : List ℕ) (count own : ℕ) → at ≡ full_name scope m → within ≡ inner_types m
-    → a ≡ mid ++ record { named = (at, m); types = []; enums = [] } ∷ [] → b ≡ a ++ placed_types depth at (inside_type counts) within
-    → types ≡ places_of_types depth at (inside_type counts) within → enums ≡ places_from count own → count ≡ counts.enums + length (enum_rows depth at within) → own ≡ length (children_at 4 m)
+    → a ≡ mid ++ record { named = (at, m); types = []; enums = [] } ∷ [] → b ≡ a ++ placed_types depth at (inside_type counts m) within
+    → types ≡ places_of_types depth at (inside_type counts m) within → enums ≡ places_from count own → count ≡ counts.enums → own ≡ length (children_at 4 m)
     → ((behind : List PlacedType) (r : PlacedType) → b ≡ mid ++ r ∷ behind → new ≡ mid ++ record { named = r.named; types = types; enums = enums } ∷ behind) → new ≡ mid ++ placed_with depth (placed_types depth) scope counts m
 placed_on depth scope at m within mid a b new counts types enums count own here inner first more ts es counted many inside =
-    let joined : b ≡ mid ++ record { named = (at, m); types = []; enums = [] } ∷ placed_types depth at (inside_type counts) within =
-    more ∙ (ap (λ xs. xs ++ placed_types depth at (inside_type counts) within) first ∙ append_assoc mid (record { named = (at, m); types = []; enums = [] } ∷ []) (placed_types depth at (inside_type counts) within)) in
-    let enums_are : enums ≡ places_from (counts.enums + length (enum_rows depth at within)) (length (children_at 4 m)) = es ∙ ap₂ places_from counted many in
-    inside (placed_types depth at (inside_type counts) within) (record { named = (at, m); types = []; enums = [] }) joined
-    ∙ (ap₂ (λ t e. mid ++ record { named = (at, m); types = t; enums = e } ∷ placed_types depth at (inside_type counts) within) ts enums_are
-    ∙ (ap (λ f. mid ++ record { named = (f, m); types = places_of_types depth f (inside_type counts) within; enums = places_from (counts.enums + length (enum_rows depth f within)) (length (children_at 4 m)) }
-    ∷ placed_types depth f (inside_type counts) within) here
+    let joined : b ≡ mid ++ record { named = (at, m); types = []; enums = [] } ∷ placed_types depth at (inside_type counts m) within =
+    more ∙ (ap (λ xs. xs ++ placed_types depth at (inside_type counts m) within) first ∙ append_assoc mid (record { named = (at, m); types = []; enums = [] } ∷ []) (placed_types depth at (inside_type counts m) within)) in
+    let enums_are : enums ≡ places_from counts.enums (length (children_at 4 m)) = es ∙ ap₂ places_from counted many in
+    inside (placed_types depth at (inside_type counts m) within) (record { named = (at, m); types = []; enums = [] }) joined
+    ∙ (ap₂ (λ t e. mid ++ record { named = (at, m); types = t; enums = e } ∷ placed_types depth at (inside_type counts m) within) ts enums_are
+    ∙ (ap (λ f. mid ++ record { named = (f, m); types = places_of_types depth f (inside_type counts m) within; enums = places_from counts.enums (length (children_at 4 m)) }
+    ∷ placed_types depth f (inside_type counts m) within) here
     ∙ ap (λ ws. mid ++ record {
       named = (full_name scope m, m);
-      types = places_of_types depth (full_name scope m) (inside_type counts) ws;
-      enums = places_from (counts.enums + length (enum_rows depth (full_name scope m) ws)) (length (children_at 4 m));
-    } ∷ placed_types depth (full_name scope m) (inside_type counts) ws) inner))
+      types = places_of_types depth (full_name scope m) (inside_type counts m) ws;
+      enums = places_from counts.enums (length (children_at 4 m));
+    } ∷ placed_types depth (full_name scope m) (inside_type counts m) ws) inner))
 
 -- ---- one level down
 
@@ -113,19 +113,14 @@ no_placed depth scope counts ms old none = sym (append-nil old) ∙ ap (λ d. ol
 -- ---- a file
 
 pub file_placed : (depth : ℕ) (m : Message) (at : List ℕ) (within : List Message) (counts : Counts) (types enums services : List ℕ) (enum_count own_enums service_count own_services : ℕ) → at ≡ text_at 2 m → within ≡ children_at 4 m
-    → types ≡ places_of_types depth at counts within → enums ≡ places_from enum_count own_enums → enum_count ≡ counts.enums + length (enum_rows depth at within) → own_enums ≡ length (children_at 5 m)
+    → types ≡ places_of_types depth at (inside_file counts m) within → enums ≡ places_from enum_count own_enums → enum_count ≡ counts.enums → own_enums ≡ length (children_at 5 m)
     → services ≡ places_from service_count own_services → service_count ≡ counts.services → own_services ≡ length (children_at 6 m)
     → record { message = m; types = types; enums = enums; services = services } ≡ file_places depth counts m
 file_placed depth m at within counts types enums services enum_count own_enums service_count own_services here inner ts es ecount eown ss scount sown =
-    let types_are : types ≡ places_of_types depth (text_at 2 m) counts (children_at 4 m) = ts ∙ (ap (λ a. places_of_types depth a counts within) here ∙ ap (places_of_types depth (text_at 2 m) counts) inner) in
-    let rows : enum_rows depth at within ≡ enum_rows depth (text_at 2 m) (children_at 4 m) = ap (λ a. enum_rows depth a within) here ∙ ap (enum_rows depth (text_at 2 m)) inner in
-    let enums_are : enums ≡ places_from (counts.enums + length (enum_rows depth (text_at 2 m) (children_at 4 m))) (length (children_at 5 m)) = es ∙ ap₂ places_from (ecount ∙ ap (λ rs. counts.enums + length rs) rows) eown in
+    let behind = inside_file counts m in
+    let types_are : types ≡ places_of_types depth (text_at 2 m) behind (children_at 4 m) = ts ∙ (ap (λ a. places_of_types depth a behind within) here ∙ ap (places_of_types depth (text_at 2 m) behind) inner) in
+    let enums_are : enums ≡ places_from counts.enums (length (children_at 5 m)) = es ∙ ap₂ places_from ecount eown in
     let services_are : services ≡ places_from counts.services (length (children_at 6 m)) = ss ∙ ap₂ places_from scount sown in
     ap (λ xs. record { message = m; types = xs; enums = enums; services = services }) types_are
-    ∙ (ap (λ xs. record { message = m; types = places_of_types depth (text_at 2 m) counts (children_at 4 m); enums = xs; services = services }) enums_are
-    ∙ ap (λ xs. record {
-      message = m;
-      types = places_of_types depth (text_at 2 m) counts (children_at 4 m);
-      enums = places_from (counts.enums + length (enum_rows depth (text_at 2 m) (children_at 4 m))) (length (children_at 5 m));
-      services = xs;
-    }) services_are)
+    ∙ (ap (λ xs. record { message = m; types = places_of_types depth (text_at 2 m) behind (children_at 4 m); enums = xs; services = services }) enums_are
+    ∙ ap (λ xs. record { message = m; types = places_of_types depth (text_at 2 m) behind (children_at 4 m); enums = places_from counts.enums (length (children_at 5 m)); services = xs }) services_are)

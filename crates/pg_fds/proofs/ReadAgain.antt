@@ -13,15 +13,12 @@ use Rattle.pg_dyn.specs.declared.error.DynError.TheVariants as faults
 use Rattle.pg_fds.specs.declared.error.FdsError.{FdsError}
 use Rattle.pg_fds.specs.declared.error.FdsError.TheVariants as errors
 use Rattle.pg_fds.specs.Again.{IsNotTooDeep, IsReadable, are_shallow, holds_inside, nest_within}
-use Rattle.pg_fds.specs.InOrder.{StandInOrder}
 use Rattle.pg_fds.specs.ReadAgain.{IsReadAgain, IsTooLong, MayRefuseAgain}
 use Rattle.pg_fds.specs.Reads.{IsHeld, fds_reads}
 use Rattle.pg_fds.specs.Refused.{MayRefuseSet, NoneIsStated}
 use Rattle.pg_fds.specs.Set.{fds}
-use Rattle.pg_fds.specs.SetOrder.{in_set_order}
 use Rattle.pg_fds.specs.StatesFiles.{most_deep}
 use Rattle.pg_fds.specs.Views.{parts_view}
-use Rattle.pg_fds.proofs.TurnedSame.{in_order_same}
 
 -- ---- what is nested less deep may be nested deeper
 
@@ -56,7 +53,7 @@ module _ (types : List MessageType) where
       one_more : (a b : ℕ) → suc (a + b) ≡ suc a + b
       one_more a b = omega arith
 
-  files_deeper : (files : List File) → list_all (λ (f : File). nest_within 64 types f.types.items) files ≡ true → list_all (λ (f : File). nest_within most_deep types f.types.items) files ≡ true
+  pub files_deeper : (files : List File) → list_all (λ (f : File). nest_within 64 types f.types.items) files ≡ true → list_all (λ (f : File). nest_within most_deep types f.types.items) files ≡ true
   files_deeper [] h = refl
   files_deeper (f ∷ files) h =
       let later = list_all (λ (g : File). nest_within 64 types g.types.items) files in
@@ -67,7 +64,7 @@ module _ (types : List MessageType) where
 
 module _ (parts : Parts) (again : IsReadAgain parts) where
   pub readable : IsReadable parts
-  readable = record { imports_once = again.imports_once; behind = again.behind; shallow = files_deeper parts.types.items parts.files.items again.shallow }
+  readable = record { imports_once = again.imports_once; behind = again.behind; places = again.places; shallow = files_deeper parts.types.items parts.files.items again.shallow }
 
 -- ---- bytes that state it are refused for want of memory alone
 
@@ -96,20 +93,10 @@ module _ (parts : Parts) (bytes slice : List ℕ) (lent : slice ≡ bytes) (r : 
   states_lent : (again : IsReadAgain parts) → fds_reads slice parts
   states_lent again = subst (λ bs. fds_reads bs parts) (sym lent) (states (readable parts again))
 
-  abbrev SaysTheSame : Type 0
-  SaysTheSame = IfOk r (λ made. (ps : Parts) → IsHeld ps → fds_reads slice ps → parts_view made ≡ parts_view (in_set_order ps))
-
-  pub read_same : SaysTheSame → IfOk r (λ made. IsReadAgain parts → parts_view made ≡ parts_view (in_set_order parts))
+  pub read_same : IfOk r (λ made. (ps : Parts) → IsHeld ps → fds_reads slice ps → parts_view made ≡ parts_view ps) → IfOk r (λ made. IsReadAgain parts → parts_view made ≡ parts_view parts)
   read_same h =
-      IfOk-weaker r (λ made. (ps : Parts) → IsHeld ps → fds_reads slice ps → parts_view made ≡ parts_view (in_set_order ps))
-      (λ made. IsReadAgain parts → parts_view made ≡ parts_view (in_set_order parts))
+      IfOk-weaker r (λ made. (ps : Parts) → IsHeld ps → fds_reads slice ps → parts_view made ≡ parts_view ps) (λ made. IsReadAgain parts → parts_view made ≡ parts_view parts)
       (λ made same again. same parts held (states_lent again)) h
-
-  pub read_exact : SaysTheSame → IfOk r (λ made. IsReadAgain parts → StandInOrder parts → parts_view made ≡ parts_view parts)
-  read_exact h =
-      IfOk-weaker r (λ made. IsReadAgain parts → parts_view made ≡ parts_view (in_set_order parts))
-      (λ made. IsReadAgain parts → StandInOrder parts → parts_view made ≡ parts_view parts)
-      (λ made same again places. same again ∙ in_order_same parts held.sound places) (read_same h)
 
   pub read_refused : (are_shallow parts ≡ true → IsNotTooDeep bytes) → IfErr r (MayRefuseSet slice) → IfErr r (NoneIsStated slice) → IfErr r (λ e. IsReadAgain parts → (e ≡ errors.Memory) ⊎ IsTooLong parts e)
   read_refused level may none = all r may none
@@ -127,4 +114,10 @@ write_told parts e (inr long) = inl long
 
 pub read_told : (parts : Parts) (bytes slice : List ℕ) → slice ≡ bytes → fds parts bytes → (r : Result Parts FdsError) → IfErr r (MayRefuseSet slice) → IfErr r (NoneIsStated slice) → IfErr r (MayRefuseAgain parts)
 read_told parts bytes slice lent written (Ok made) may none = tt
-read_told parts bytes slice lent written (Err e) may none = inr (λ bs is. subst (λ x. MayRefuseSet x e × NoneIsStated x e) (lent ∙ written ∙ sym is) (may, none))
+read_told parts bytes slice lent written (Err e) may none = inr (λ bs is. subst (λ x. MayRefuseSet x e × NoneIsStated x e) (lent ∙ written.0 ∙ sym is.0) (may, none))
+
+-- what is read of the bytes is stated by whatever bytes are its set
+pub read_stated : (parts : Parts) (bytes slice : List ℕ) → slice ≡ bytes → fds parts bytes → (r : Result Parts FdsError) → IfOk r (λ made. fds_reads slice made)
+    → IfOk r (λ made. (bs : List ℕ) → fds parts bs → fds_reads bs made)
+read_stated parts bytes slice lent written (Ok made) h = λ bs is. subst (λ x. fds_reads x made) (lent ∙ written.0 ∙ sym is.0) h
+read_stated parts bytes slice lent written (Err e) h = tt

@@ -30,7 +30,8 @@ use Rattle.pg_fds.specs.Messages.{declared_fields, where_found}
 use Rattle.pg_fds.specs.Places.{declared_in}
 use Rattle.pg_fds.specs.ReadExamples.{OneFieldRead}
 use Rattle.pg_fds.specs.PostOrder.{IsPostOrder, all_visited, listed_last}
-use Rattle.pg_fds.specs.Reads.{AreBehind, States, file_name, importer_of}
+use Rattle.pg_fds.proofs.PlaceExamples.{one_field_in_order}
+use Rattle.pg_fds.specs.Reads.{AreBehind, States, StatesFiles, file_name, importer_of}
 use Rattle.pg_fds.specs.States.{HasEntry, StatesEnums, StatesField, StatesFieldRange}
 use Rattle.pg_fds.specs.StatesFiles.{StatesFile, StatesOptions, StatesServices, import_of, most_deep}
 use Rattle.pg_fds.specs.StatesTypes.{StandsIn, StatesType, StatesTypes, StatesWhole}
@@ -115,12 +116,15 @@ file_stated parts file t a p m f =
     }
 
 pub one_field_read : OneFieldRead
-one_field_read parts file t a p m f =
-    subst (λ r. IsSomeAnd r (λ set. States set parts)) (sym message_read) (record {
+one_field_read parts file t a p m f no_enums no_services =
+    subst (λ r. IsSomeAnd r (λ set. States set parts)) (sym message_read) (record { files = files; places = one_field_in_order parts file t a p m no_enums no_services })
+  where
+    files : StatesFiles false (file_message ∷ []) parts
+    files = record {
       once = refl;
       as_many = sym (ap length p.files);
       files = subst (AllByRecursion (λ (g : File). Any (λ x. StatesFile (declared_in parts) false x g) (file_message ∷ []))) (sym p.files) ((0, file_message, lit≤ tt, refl, file_stated parts file t a p m f), tt);
       behind = subst (AreBehind []) (sym p.files) (ap (list_all (λ (i : Import). is_among [] (string_bytes i.path))) p.file_fits.imports, refl, tt);
       order = subst (IsPostOrder false (importer_of file_message ∷ [])) (sym (ap (map file_name) p.files ∙ ap (λ n. n ∷ []) p.file_fits.name))
           (listed_last [] [] [] [] (codes "m.proto" ∷ []) (codes "m.proto") refl refl (all_visited []) (all_visited (codes "m.proto" ∷ [])));
-    })
+    }

@@ -21,9 +21,10 @@ use Rattle.pg_fds.specs.declared.error.Unstated.TheVariants as unstated
 use Rattle.pg_fds.specs.Building.{written_shape}
 use Rattle.pg_fds.specs.Codes.{file_has_types}
 use Rattle.pg_fds.specs.Descriptor.{file_set}
+use Rattle.pg_fds.specs.InOrder.{StandInOrder}
 use Rattle.pg_fds.specs.Lent.{lent}
-use Rattle.pg_fds.specs.Reads.{CanBeMade, CanBeRead, States, StatesFiles, fds_reads, kept_files, skips}
-use Rattle.pg_fds.specs.Refused.{BreaksRule, HasTexts, IsOfBytes, IsOfParts, MayRefuseFiles, MayRefuseSet, StatesNoneInOrder}
+use Rattle.pg_fds.specs.Reads.{CanBeMade, IsHeld, States, StatesFiles, fds_reads, kept_files, skips}
+use Rattle.pg_fds.specs.Refused.{BreaksRule, HasTexts, IsOfBytes, IsOfParts, MayRefuseFiles, MayRefuseSet, StatesNoneHeld}
 use Rattle.pg_fds.specs.Said.{children_at, text_at}
 use Rattle.pg_fds.specs.StatesFiles.{is_proto3, is_skipped}
 use Rattle.pg_fds.specs.Views.{parts_view}
@@ -40,29 +41,30 @@ files_kept set all files seen kept = kept ∙ ap (filter (λ m. not (is_skipped 
 -- a set whose files state a schema states it
 pub set_states : (set : Message) (skip : Bool) (all files : List (Bor Kept)) → map message_of (lent all) ≡ children_at 1 set
     → skip ≡ list_any is_skipped (map message_of (lent all)) → map message_of (lent files) ≡ kept_files set
-    → (parts : Parts) → StatesFiles skip (map message_of (lent files)) parts → States set parts
-set_states set skip all files seen skipped kept parts states =
-    subst (λ b. StatesFiles b (kept_files set) parts) (skipped ∙ ap (list_any is_skipped) seen)
-    (subst (λ ms. StatesFiles skip ms parts) kept states)
+    → (parts : Parts) → StatesFiles skip (map message_of (lent files)) parts → StandInOrder parts → States set parts
+set_states set skip all files seen skipped kept parts states places = record {
+  files = subst (λ b. StatesFiles b (kept_files set) parts) (skipped ∙ ap (list_any is_skipped) seen) (subst (λ ms. StatesFiles skip ms parts) kept states);
+  places = places;
+}
 
 -- and the other way round
 files_state : (set : Message) (skip : Bool) (all files : List (Bor Kept)) → map message_of (lent all) ≡ children_at 1 set
     → skip ≡ list_any is_skipped (map message_of (lent all)) → map message_of (lent files) ≡ kept_files set
     → (parts : Parts) → States set parts → StatesFiles skip (map message_of (lent files)) parts
 files_state set skip all files seen skipped kept parts states =
-    subst (λ ms. StatesFiles skip ms parts) (sym kept) (subst (λ b. StatesFiles b (kept_files set) parts) (sym (skipped ∙ ap (list_any is_skipped) seen)) states)
+    subst (λ ms. StatesFiles skip ms parts) (sym kept) (subst (λ b. StatesFiles b (kept_files set) parts) (sym (skipped ∙ ap (list_any is_skipped) seen)) states.files)
 
 -- the names of all files are texts, those of files that are skipped too
 pub set_named : (set : Message) (all : List (Bor Kept)) → map message_of (lent all) ≡ children_at 1 set → (parts : Parts) → States set parts
     → AllByRecursion IsUtf8 (map (text_at 1) (map message_of (lent all)))
 set_named set all seen parts states =
-    subst (λ ms. AllByRecursion IsUtf8 (map (text_at 1) ms)) (sym seen) (all_named (children_at 1 set) (stated_texts (skips set) (kept_files set) parts states))
+    subst (λ ms. AllByRecursion IsUtf8 (map (text_at 1) ms)) (sym seen) (all_named (children_at 1 set) (stated_texts (skips set) (kept_files set) parts states.files))
 
 pub stated : (set : Message) (skip : Bool) (all files : List (Bor Kept)) (r : Result Parts FdsError) → map message_of (lent all) ≡ children_at 1 set
     → skip ≡ list_any is_skipped (map message_of (lent all)) → map message_of (lent files) ≡ kept_files set
-    → IfOk r (λ parts. StatesFiles skip (map message_of (lent files)) parts) → IfOk r (λ parts. States set parts)
-stated set skip all files r seen skipped kept h =
-    IfOk-weaker r (λ parts. StatesFiles skip (map message_of (lent files)) parts) (λ parts. States set parts) (set_states set skip all files seen skipped kept) h
+    → IfOk r (λ parts. StatesFiles skip (map message_of (lent files)) parts) → IfOk r (λ parts. StandInOrder parts) → IfOk r (λ parts. States set parts)
+stated set skip all files (Ok parts) seen skipped kept states places = set_states set skip all files seen skipped kept parts states places
+stated set skip all files (Err e) seen skipped kept states places = tt
 
 -- ---- refusals
 
@@ -169,9 +171,12 @@ set_same set skip all files r seen skipped kept h =
     (λ made. (parts : Parts) → CanBeMade parts → States set parts → parts_view made ≡ parts_view parts)
     (λ made same parts can states. same parts can (files_state set skip all files seen skipped kept parts states)) h
 
--- each schema that can be read and that a decoded message states can be made
-can_be_made : (set : Kept) → Fits written_shape set × (type_of set ≡ file_set) → (parts : Parts) → CanBeRead parts → States (message_of set) parts → CanBeMade parts
-can_be_made set fits parts able states = record { able = able; numbers = kept_numbers_small set fits parts able.sound states }
+-- each schema that a decoded message states can be made
+can_be_made : (set : Kept) → Fits written_shape set × (type_of set ≡ file_set) → (parts : Parts) → IsHeld parts → States (message_of set) parts → CanBeMade parts
+can_be_made set fits parts held states = record {
+  able = record { sound = held.sound; places = states.places; few_enums = held.few_enums; few_services = held.few_services };
+  numbers = kept_numbers_small set fits parts held.sound states;
+}
 
 module _ (bytes : List ℕ) (set : Kept) (r : Result Parts FdsError) (is : dec written_shape file_set bytes ≡ Some (message_of set)) (fits : Fits written_shape set × (type_of set ≡ file_set)) where
   stated_there : (parts : Parts) → fds_reads bytes parts → States (message_of set) parts
@@ -182,16 +187,16 @@ module _ (bytes : List ℕ) (set : Kept) (r : Result Parts FdsError) (is : dec w
       IfErr-weaker r (λ e. AllByRecursion HasTexts (children_at 1 (message_of set)) → MayRefuseFiles (kept_files (message_of set)) e) (MayRefuseSet bytes)
       (λ e may. refused_set bytes (message_of set) is e (may (kept_texts set fits))) h
 
-  pub bytes_same : IsStated (States (message_of set)) r → IfOk r (λ made. (parts : Parts) → CanBeRead parts → fds_reads bytes parts → parts_view made ≡ parts_view parts)
+  pub bytes_same : IsStated (States (message_of set)) r → IfOk r (λ made. (parts : Parts) → IsHeld parts → fds_reads bytes parts → parts_view made ≡ parts_view parts)
   bytes_same h =
       IfOk-weaker r (λ made. (parts : Parts) → CanBeMade parts → States (message_of set) parts → parts_view made ≡ parts_view parts)
-      (λ made. (parts : Parts) → CanBeRead parts → fds_reads bytes parts → parts_view made ≡ parts_view parts)
+      (λ made. (parts : Parts) → IsHeld parts → fds_reads bytes parts → parts_view made ≡ parts_view parts)
       (λ made same parts able reads. let states = stated_there parts reads in same parts (can_be_made set fits parts able states) states) h
 
   -- where the bytes state a schema that can be read, what is refused of their message is want of memory
-  pub bytes_none : WantsMemory (States (message_of set)) r → IfErr r (λ e. (IsOfBytes e → ⊥) → StatesNoneInOrder bytes)
+  pub bytes_none : WantsMemory (States (message_of set)) r → IfErr r (λ e. (IsOfBytes e → ⊥) → StatesNoneHeld bytes)
   bytes_none h =
-      IfErr-weaker r (λ e. (parts : Parts) → CanBeMade parts → States (message_of set) parts → e ≡ errors.Memory) (λ e. (IsOfBytes e → ⊥) → StatesNoneInOrder bytes)
+      IfErr-weaker r (λ e. (parts : Parts) → CanBeMade parts → States (message_of set) parts → e ≡ errors.Memory) (λ e. (IsOfBytes e → ⊥) → StatesNoneHeld bytes)
       (λ e none other parts able reads.
       let states = stated_there parts reads in
       other (subst IsOfBytes (sym (none parts (can_be_made set fits parts able states) states)) tt)) h

@@ -100,8 +100,8 @@ inner_enums_same f g agree None None same = refl
 inner_enums_same f g agree None (Some u) same = absurd cc
 inner_enums_same f g agree (Some t) None same = absurd cc
 inner_enums_same f g agree (Some t) (Some u) same =
-    ap (λ places. places ++ enum_places t.nested_enums.items) (agree t.nested_types.items)
-    ∙ ap (λ (v : TypeView). g v.nested_types ++ enum_places v.nested_enums) (inside (type_view t) (type_view u) same)
+    ap (λ places. enum_places t.nested_enums.items ++ places) (agree t.nested_types.items)
+    ∙ ap (λ (v : TypeView). enum_places v.nested_enums ++ g v.nested_types) (inside (type_view t) (type_view u) same)
   where
     inside : (v w : TypeView) → ◌≡◌ {A = Option TypeView} (Some v) (Some w) → v ≡ w
     inside v w both = cc
@@ -128,8 +128,8 @@ module _ (ts us : List MessageType) (types : map type_view ts ≡ map type_view 
 
   file_enums_same : (f g : File) → file_view f ≡ file_view g → file_enums ts f ≡ file_enums us g
   file_enums_same f g same =
-      ap (λ places. places ++ enum_places f.enums.items) (enums_below_same most_deep f.types.items)
-      ∙ ap (λ (v : FileView). enums_below most_deep us v.types ++ enum_places v.enums) same
+      ap (λ places. enum_places f.enums.items ++ places) (enums_below_same most_deep f.types.items)
+      ∙ ap (λ (v : FileView). enum_places v.enums ++ enums_below most_deep us v.types) same
 
 -- ---- all parts
 

@@ -1,19 +1,38 @@
 -- In a sound schema each message type, enum and service stands once in its place, each message type in one that files lead to.
-use Rattle.std.proofs.Common.{◌≡◌, ◌⊎◌, inl, inr, ℕ, zero, suc, ◌<◌, Bool, true, ◌&&◌, List, [], ◌∷◌, flat_map, length, Option, Some, None, option_map, slice_get, subst, arith}
-use Rattle.std.proofs.lemmas.Bool.{and_parts}
+use Rattle.std.proofs.Common.{◌≡◌, ◌⊎◌, inl, inr, ℕ, zero, suc, ◌<◌, Bool, true, ◌&&◌, List, [], ◌∷◌, drop, flat_map, length, take, Option, Some, None, option_map, slice_get, refl, subst, arith}
+use Rattle.std.proofs.lemmas.Bool.{and_parts, false≢true}
 use Rattle.std.proofs.lemmas.Option.{none-some, same_Some, slice_get_within}
 use Rattle.std.specs.List.{AllByRecursion}
+use Rattle.std.specs.Str.{bytes_eq}
 use Rattle.std.specs.String.{string_bytes}
 use Rattle.pg_schema.specs.declared.field.TypeId.{TypeId}
 use Rattle.pg_schema.specs.declared.file.File.{File}
 use Rattle.pg_schema.specs.declared.message_type.MessageType.{MessageType}
 use Rattle.pg_schema.specs.declared.parts.Parts.{Parts}
-use Rattle.pg_schema.specs.Scopes.{are_each_once, are_enums_in, are_types_in, declared_enums, declared_services, declared_types, enum_places, is_named_in, is_type_scope, type_name, type_places}
+use Rattle.pg_schema.specs.Scopes.{are_each_once, are_enums_in, are_types_in, declared_enums, declared_services, declared_types, enum_places, is_dot_and_word, is_in, is_named_in, is_type_scope, type_name, type_places}
 use Rattle.pg_schema.specs.Sound.{IsSound}
-use Rattle.pg_fds.proofs.ListedPlaces.{all_at, longer}
+use Rattle.pg_schema.proofs.PairLemmas.{and_right}
+use Rattle.pg_fds.proofs.InOrderLaws.{tested_got}
 use Rattle.pg_fds.proofs.PlacesOnce.{IsAmong, among, among_either, each_place, lists}
 
 -- ---- names grow inwards
+
+some_left : {A : Type 0} (n : ℕ) (xs : List A) (y : A) (ys : List A) → drop n xs ≡ y ∷ ys → n < length xs
+some_left zero [] y ys is = absurd cc
+some_left zero (x ∷ xs) y ys is = omega arith
+some_left (suc n) [] y ys is = absurd cc
+some_left (suc n) (x ∷ xs) y ys is = omega (arith, some_left n xs y ys is)
+
+pub longer : (scope name : List ℕ) → is_in scope name ≡ true → length scope < length name
+longer [] [] is = absurd (false≢true is)
+longer [] (b ∷ name) is = omega arith
+longer (byte ∷ bytes) name is =
+    of (drop (length (byte ∷ bytes)) name) refl
+    (and_right (bytes_eq (take (length (byte ∷ bytes)) name) (byte ∷ bytes)) (is_dot_and_word (drop (length (byte ∷ bytes)) name)) is)
+  where
+    of : (rest : List ℕ) → drop (length (byte ∷ bytes)) name ≡ rest → is_dot_and_word rest ≡ true → length (byte ∷ bytes) < length name
+    of [] here word = absurd (false≢true word)
+    of (y ∷ ys) here word = some_left (length (byte ∷ bytes)) name y ys here
 
 pub each_at : {A : Type 0} (P : A → Type 0) (xs : List A) (k : ℕ) (x : A) → AllByRecursion P xs → slice_get xs k ≡ Some x → P x
 each_at P [] k x all there = absurd (none-some x there)
@@ -94,7 +113,7 @@ module _ (parts : Parts) (sound : IsSound parts) where
         of (inr here) shorter =
             let found = lists types_inside k parts.types.items here in
             let u = found.item in
-            let scope = all_at (is_type_scope parts.types.items parts.enums.items) parts.types.items found.at u sound.type_scopes found.there in
+            let scope = tested_got (is_type_scope parts.types.items parts.enums.items) parts.types.items found.at u sound.type_scopes found.there in
             let types_are = are_types_in parts.types.items (string_bytes u.name) u.nested_types.items in
             let enums_are = are_enums_in parts.enums.items (string_bytes u.name) u.nested_enums.items in
             let are = (and_parts types_are enums_are scope).0 in

@@ -82,13 +82,13 @@ module _ (all : Declared) where
     one_with_enums m (Some t) states =
         let inner = filter is_no_entry (children_at 3 m) in
         let name = string_bytes t.name in
-        ap (λ s. length (enum_rows depth s inner ++ rows_in s (children_at 4 m))) (sym states.0.name)
+        ap (λ s. length (rows_in s (children_at 4 m) ++ enum_rows depth s inner)) (sym states.0.name)
         ∙ omega (
           arith,
           deeper name inner t.nested_types.items states.1,
           enums_long name (children_at 4 m) t.nested_enums.items states.0.enums,
-          length-append (enum_rows depth name inner) (rows_in name (children_at 4 m)),
-          length-append (enums_below depth all.types t.nested_types.items) (enum_places t.nested_enums.items),
+          length-append (rows_in name (children_at 4 m)) (enum_rows depth name inner),
+          length-append (enum_places t.nested_enums.items) (enums_below depth all.types t.nested_types.items),
         )
 
     each_with_enums : (ms : List Message) (ids : List TypeId) → AllZip (λ m (id : TypeId). IsSomeAnd (slice_get all.types id.index) (StatesWhole all (StatesTypes depth all) scope m)) ms ids
@@ -115,7 +115,7 @@ module _ (all : Declared) where
   types_in depth f = types_below depth all.types f.types.items
 
   abbrev pub enums_in : ℕ → File → List ℕ
-  enums_in depth f = enums_below depth all.types f.types.items ++ enum_places f.enums.items
+  enums_in depth f = enum_places f.enums.items ++ enums_below depth all.types f.types.items
 
   abbrev pub services_in : File → List ℕ
   services_in f = service_places f.services.items
@@ -140,13 +140,13 @@ module _ (all : Declared) where
         one : (m : Message) (f : File) → StatesDeclared depth m f → length (file_enums depth m) ≡ length (enums_in depth f)
         one m f states =
             let name = string_bytes f.package in
-            ap (λ s. length (enum_rows depth s (children_at 4 m) ++ rows_in s (children_at 5 m))) states.package_name
+            ap (λ s. length (rows_in s (children_at 5 m) ++ enum_rows depth s (children_at 4 m))) states.package_name
             ∙ omega (
               arith,
               inner_enums_long depth name (children_at 4 m) f.types.items states.types,
               enums_long name (children_at 5 m) f.enums.items states.enums,
-              length-append (enum_rows depth name (children_at 4 m)) (rows_in name (children_at 5 m)),
-              length-append (enums_below depth all.types f.types.items) (enum_places f.enums.items),
+              length-append (rows_in name (children_at 5 m)) (enum_rows depth name (children_at 4 m)),
+              length-append (enum_places f.enums.items) (enums_below depth all.types f.types.items),
             )
 
     pub as_many_services : length (flat_map file_services ms) ≡ length (flat_map services_in files)

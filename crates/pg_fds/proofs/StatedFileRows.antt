@@ -11,7 +11,7 @@ use Rattle.pg_schema.specs.declared.service.ServiceId.{ServiceId}
 use Rattle.pg_schema.specs.Scopes.{enum_places, service_places, type_places}
 use Rattle.pg_dyn.specs.Message.{Message}
 use Rattle.pg_fds.specs.InOrder.{enums_below, types_below}
-use Rattle.pg_fds.specs.OutlinedPlaces.{Counts, PlacedFile, behind_file, file_places, placed_files, placed_types, types_of_files}
+use Rattle.pg_fds.specs.OutlinedPlaces.{Counts, PlacedFile, behind_file, file_places, inside_file, placed_files, placed_types, types_of_files}
 use Rattle.pg_fds.specs.Outlines.{enum_rows, file_enums, file_services, file_types, rows_in, type_rows}
 use Rattle.pg_fds.specs.Places.{Declared}
 use Rattle.pg_fds.specs.Said.{children_at, text_at}
@@ -41,7 +41,7 @@ module _ (all : Declared) (depth : ℕ) where
   types_in f = types_below depth all.types f.types.items
 
   abbrev pub enums_in : File → List ℕ
-  enums_in f = enums_below depth all.types f.types.items ++ enum_places f.enums.items
+  enums_in f = enum_places f.enums.items ++ enums_below depth all.types f.types.items
 
   abbrev pub services_in : File → List ℕ
   services_in f = service_places f.services.items
@@ -57,8 +57,9 @@ module _ (all : Declared) (depth : ℕ) where
 
   enums_of_one : (m : Message) (f : File) → StatesInside m f → AllZip (EnumAt all) (file_enums depth m) (enums_in f)
   enums_of_one m f is =
-      zip_joined (EnumAt all) (enum_rows depth (text_at 2 m) (children_at 4 m)) (rows_in (text_at 2 m) (children_at 5 m)) (enums_below depth all.types f.types.items) (enum_places f.enums.items) (enums_in_types m f is)
+      zip_joined (EnumAt all) (rows_in (text_at 2 m) (children_at 5 m)) (enum_rows depth (text_at 2 m) (children_at 4 m)) (enum_places f.enums.items) (enums_below depth all.types f.types.items)
       (subst (λ s. AllZip (EnumAt all) (rows_in s (children_at 5 m)) (enum_places f.enums.items)) (sym is.package_name) (own_enums all (string_bytes f.package) (children_at 5 m) f.enums.items is.enums))
+      (enums_in_types m f is)
 
   services_of_one : (m : Message) (f : File) → StatesInside m f → AllZip (ServiceAt all) (file_services m) (services_in f)
   services_of_one m f is =
@@ -84,23 +85,25 @@ module _ (all : Declared) (depth : ℕ) where
         subst (λ s. AreCounted all depth s (children_at 4 m) f.types.items counts) (sym is.package_name)
         (are_counted all depth (string_bytes f.package) (children_at 4 m) f.types.items is.types counts types enums)
 
+    own_many : (m : Message) (f : File) → StatesInside m f → length (enum_places f.enums.items) ≡ length (children_at 5 m)
+    own_many m f is =
+        length-map f.enums.items (λ (id : EnumId). id.index)
+        ∙ sym (as_long (λ n (id : EnumId). IsSomeAnd (slice_get all.enums id.index) (StatesEnum (string_bytes f.package) n)) (children_at 5 m) f.enums.items is.enums)
+
     -- one file, where the places are counted up to it
     file_counted : (m : Message) (f : File) → R m f → (counts : Counts) → AreFrom counts.types (types_in f) → AreFrom counts.enums (enums_in f) → AreFrom counts.services (services_in f) → IsOfFile R (file_places depth counts m) f
     file_counted m f states counts types enums services =
         let is = inside m f states in
-        let both = front_and_rest counts.enums (enums_below depth all.types f.types.items) (enum_places f.enums.items) enums in
-        let in_front : length (enums_below depth all.types f.types.items) ≡ length (enum_rows depth (text_at 2 m) (children_at 4 m)) =
-        sym (as_long (EnumAt all) (enum_rows depth (text_at 2 m) (children_at 4 m)) (enums_below depth all.types f.types.items) (enums_in_types m f is)) in
-        let many : length (enum_places f.enums.items) ≡ length (children_at 5 m) =
-        length-map f.enums.items (λ (id : EnumId). id.index)
-        ∙ sym (as_long (λ n (id : EnumId). IsSomeAnd (slice_get all.enums id.index) (StatesEnum (string_bytes f.package) n)) (children_at 5 m) f.enums.items is.enums) in
+        let below = enums_below depth all.types f.types.items in
+        let both = front_and_rest counts.enums (enum_places f.enums.items) below enums in
+        let many = own_many m f is in
         let many_services : length (service_places f.services.items) ≡ length (children_at 6 m) =
         length-map f.services.items (λ (id : ServiceId). id.index)
         ∙ sym (as_long (λ n (id : ServiceId). IsSomeAnd (slice_get all.services id.index) (StatesService all (string_bytes f.package) n)) (children_at 6 m) f.services.items is.services) in
         record {
           states = states;
-          types = (types_counted m f is counts types both.0).places;
-          enums = both.1 ∙ ap₂ places_from (ap (λ n. counts.enums + n) in_front) many;
+          types = (types_counted m f is (inside_file counts m) types (subst (λ n. AreFrom (counts.enums + n) below) many both.1)).places;
+          enums = both.0 ∙ ap (places_from counts.enums) many;
           services = services ∙ ap (places_from counts.services) many_services;
         }
 
@@ -120,9 +123,10 @@ module _ (all : Declared) (depth : ℕ) where
         let later =
         files_counted ms fs zip.1 (behind_file depth counts m) (subst (λ n. AreFrom (counts.types + n) (flat_map types_in fs)) types_many types_split.1)
         (subst (λ n. AreFrom (counts.enums + n) (flat_map enums_in fs)) enums_many enums_split.1) (subst (λ n. AreFrom (counts.services + n) (flat_map services_in fs)) services_many services_split.1) in
-        let own = (front_and_rest counts.enums (enums_below depth all.types f.types.items) (enum_places f.enums.items) enums_split.0).0 in
+        let below = enums_below depth all.types f.types.items in
+        let inner = subst (λ n. AreFrom (counts.enums + n) below) (own_many m f is) (front_and_rest counts.enums (enum_places f.enums.items) below enums_split.0).1 in
         record {
           files = (file_counted m f zip.0 counts types_split.0 enums_split.0 services_split.0, later.files);
-          placed = zip_joined (PlacedAt all) (placed_types depth (text_at 2 m) counts (children_at 4 m)) (types_of_files depth (behind_file depth counts m) ms) (types_in f) (flat_map types_in fs)
-              (types_counted m f is counts types_split.0 own).placed later.placed;
+          placed = zip_joined (PlacedAt all) (placed_types depth (text_at 2 m) (inside_file counts m) (children_at 4 m)) (types_of_files depth (behind_file depth counts m) ms) (types_in f) (flat_map types_in fs)
+              (types_counted m f is (inside_file counts m) types_split.0 inner).placed later.placed;
         }

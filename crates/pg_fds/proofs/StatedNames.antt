@@ -57,16 +57,16 @@ module _ (all : Declared) where
         let enums = children_at 5 m in
         let services = children_at 6 m in
         let below = enums_below depth all.types f.types.items in
-        ap (λ s. count n (types_names depth s types ++ enums_names s enums ++ services_names s services)) states.package_name
+        ap (λ s. count n (enums_names s enums ++ types_names depth s types ++ services_names s services)) states.package_name
         ∙ omega (
           arith,
           types_named all right depth name types f.types.items states.types n,
           enums_named all name n enums f.enums.items states.enums,
           ap (count n) (services_named all name services f.services.items states.services),
-          count_append n (types_names depth name types ++ enums_names name enums) (services_names name services),
-          count_append n (types_names depth name types) (enums_names name enums),
-          count_both own_enum_names n all.enums below (enum_places f.enums.items),
-          count_append n (enums_at below) (enums_at (enum_places f.enums.items)),
+          count_append n (enums_names name enums ++ types_names depth name types) (services_names name services),
+          count_append n (enums_names name enums) (types_names depth name types),
+          count_both own_enum_names n all.enums (enum_places f.enums.items) below,
+          count_append n (enums_at (enum_places f.enums.items)) (enums_at below),
         )
 
     each_file : (n : List ℕ) (ms : List Message) (files : List File) → AllZip (StatesDeclared all depth) ms files

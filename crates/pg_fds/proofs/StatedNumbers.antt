@@ -156,4 +156,4 @@ pub set_stated : (set : Message) → IsMessage descriptor_shape file_set set →
 set_stated set is parts states =
     files_stated (declared_in parts) (skips set) (kept_files set) parts.files.items
     (all_filtered (IsOf 1) (λ m. not (is_skipped m)) (children_at 1 set)
-    (children_fit descriptor_shape file_set 1 (many 1 (message 1)) refl (type_id 1) refl set is)) states.files
+    (children_fit descriptor_shape file_set 1 (many 1 (message 1)) refl (type_id 1) refl set is)) states.files.files

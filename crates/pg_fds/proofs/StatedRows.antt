@@ -115,9 +115,9 @@ module _ (all : Declared) where
       → AllZip EnumAt (rows_of_enums (enum_rows depth) scope m) (inner_enums (enums_below depth all.types) o)
   enums_in_one depth deeper scope m None whole = absurd whole
   enums_in_one depth deeper scope m (Some t) whole =
-      zip_joined EnumAt (enum_rows depth (full_name scope m) (inside m)) (rows_in (full_name scope m) (children_at 4 m)) (enums_below depth all.types t.nested_types.items) (enum_places t.nested_enums.items)
-      (enums_inside depth deeper scope m t whole)
+      zip_joined EnumAt (rows_in (full_name scope m) (children_at 4 m)) (enum_rows depth (full_name scope m) (inside m)) (enum_places t.nested_enums.items) (enums_below depth all.types t.nested_types.items)
       (subst (λ s. AllZip EnumAt (rows_in s (children_at 4 m)) (enum_places t.nested_enums.items)) whole.0.name (own_enums (string_bytes t.name) (children_at 4 m) t.nested_enums.items whole.0.enums))
+      (enums_inside depth deeper scope m t whole)
 
   pub enums_are_rows : (depth : ℕ) → EnumsAreRows depth
   enums_are_rows zero scope ms ids states = tt
@@ -136,16 +136,10 @@ module _ (all : Declared) where
       (scope : List ℕ) (ms : List Message) (ids : List TypeId) → StatesTypes depth all scope ms ids → (counts : Counts) → AreFrom counts.types (types_below depth all.types ids) → AreFrom counts.enums (enums_below depth all.types ids)
       → AreCounted depth scope ms ids counts
 
-  -- own enums stand behind those of the types inside
-  own_enum_places : (depth : ℕ) (scope : List ℕ) (first : ℕ) (m : Message) (t : MessageType) → Whole depth scope m t → AreFrom (first + length (enums_below depth all.types t.nested_types.items)) (enum_places t.nested_enums.items)
-      → enum_places t.nested_enums.items ≡ places_from (first + length (enum_rows depth (full_name scope m) (inside m))) (length (children_at 4 m))
-  own_enum_places depth scope first m t whole are =
-      let in_front : length (enums_below depth all.types t.nested_types.items) ≡ length (enum_rows depth (full_name scope m) (inside m)) =
-      sym (as_long EnumAt (enum_rows depth (full_name scope m) (inside m)) (enums_below depth all.types t.nested_types.items) (enums_inside depth (enums_are_rows depth) scope m t whole)) in
-      let many : length (enum_places t.nested_enums.items) ≡ length (children_at 4 m) =
+  many_own : (scope : List ℕ) (m : Message) (t : MessageType) → StatesType all scope m t → length (enum_places t.nested_enums.items) ≡ length (children_at 4 m)
+  many_own scope m t states =
       length-map t.nested_enums.items (λ (id : EnumId). id.index)
-      ∙ sym (as_long (λ n (id : EnumId). IsSomeAnd (slice_get all.enums id.index) (StatesEnum (string_bytes t.name) n)) (children_at 4 m) t.nested_enums.items whole.0.enums) in
-      are ∙ ap₂ places_from (ap (λ n. first + n) in_front) many
+      ∙ sym (as_long (λ n (id : EnumId). IsSomeAnd (slice_get all.enums id.index) (StatesEnum (string_bytes t.name) n)) (children_at 4 m) t.nested_enums.items states.enums)
 
   counted_one : (depth : ℕ) → Counted depth → (scope : List ℕ) (counts : Counts) (m : Message) (place : ℕ) (o : Option MessageType) → slice_get all.types place ≡ o → IsSomeAnd o (Whole depth scope m)
       → AreFrom counts.types (place ∷ inner_types (types_below depth all.types) o) → AreFrom counts.enums (inner_enums (enums_below depth all.types) o)
@@ -154,15 +148,17 @@ module _ (all : Declared) where
   counted_one depth deeper scope counts m place (Some t) at whole types enums =
       let below = types_below depth all.types t.nested_types.items in
       let later = (first_and_later counts.types place below types).1 in
-      let both = front_and_rest counts.enums (enums_below depth all.types t.nested_types.items) (enum_places t.nested_enums.items) enums in
-      let deep : AreCounted depth (full_name scope m) (inside m) t.nested_types.items (inside_type counts) =
-      subst (λ s. AreCounted depth s (inside m) t.nested_types.items (inside_type counts)) whole.0.name
-      (deeper (string_bytes t.name) (inside m) t.nested_types.items whole.1 (inside_type counts) (subst (λ n. AreFrom n below) (sym (add-one counts.types)) later) both.0) in (
+      let both = front_and_rest counts.enums (enum_places t.nested_enums.items) (enums_below depth all.types t.nested_types.items) enums in
+      let many = many_own scope m t whole.0 in
+      let deep : AreCounted depth (full_name scope m) (inside m) t.nested_types.items (inside_type counts m) =
+      subst (λ s. AreCounted depth s (inside m) t.nested_types.items (inside_type counts m)) whole.0.name
+      (deeper (string_bytes t.name) (inside m) t.nested_types.items whole.1 (inside_type counts m) (subst (λ n. AreFrom n below) (sym (add-one counts.types)) later)
+      (subst (λ n. AreFrom (counts.enums + n) (enums_below depth all.types t.nested_types.items)) many both.1)) in (
         subst (λ o. IsSomeAnd o (IsOfPlaced (record {
           named = row_in scope m;
-          types = places_of_types depth (full_name scope m) (inside_type counts) (inside m);
-          enums = places_from (counts.enums + length (enum_rows depth (full_name scope m) (inside m))) (length (children_at 4 m));
-        }))) (sym at) (record { of_row = record { name = whole.0.name; states = (scope, whole.0) }; types = deep.places; enums = own_enum_places depth scope counts.enums m t whole both.1 }),
+          types = places_of_types depth (full_name scope m) (inside_type counts m) (inside m);
+          enums = places_from counts.enums (length (children_at 4 m));
+        }))) (sym at) (record { of_row = record { name = whole.0.name; states = (scope, whole.0) }; types = deep.places; enums = both.0 ∙ ap (places_from counts.enums) many }),
         deep.placed,
       )
 

@@ -162,16 +162,16 @@ module _ (all : Declared) where
           let name = string_bytes t.name in
           let inner = filter is_no_entry (children_at 3 m) in
           let nested = t.nested_types.items in
-          ap (λ s. count n (own_names s m ++ types_names depth s inner ++ enums_names s (children_at 4 m))) (sym states.0.name)
+          ap (λ s. count n (own_names s m ++ enums_names s (children_at 4 m) ++ types_names depth s inner)) (sym states.0.name)
           ∙ omega (
             arith,
             own_counted m t (scope, states.0) (own t refl) n,
             deeper name inner nested states.1 n,
             enums_named all name n (children_at 4 m) t.nested_enums.items states.0.enums,
-            count_append n (own_names name m ++ types_names depth name inner) (enums_names name (children_at 4 m)),
-            count_append n (own_names name m) (types_names depth name inner),
-            count_both own_enum_names n all.enums (enums_below depth all.types nested) (enum_places t.nested_enums.items),
-            count_append n (enums_at (enums_below depth all.types nested)) (enums_at (enum_places t.nested_enums.items)),
+            count_append n (own_names name m ++ enums_names name (children_at 4 m)) (types_names depth name inner),
+            count_append n (own_names name m) (enums_names name (children_at 4 m)),
+            count_both own_enum_names n all.enums (enum_places t.nested_enums.items) (enums_below depth all.types nested),
+            count_append n (enums_at (enum_places t.nested_enums.items)) (enums_at (enums_below depth all.types nested)),
           )
 
       each_type : (ms : List Message) (ids : List TypeId) → AllZip (λ m (id : TypeId). IsSomeAnd (slice_get all.types id.index) (StatesWhole all (StatesTypes depth all) scope m)) ms ids → (n : List ℕ)

@@ -31,7 +31,7 @@ found scope k (Grown m inside others) =
     cond (bytes_eq scope m.scope) (k ∷ found scope (suc k) inside ++ found scope (suc k + size inside) others)
     (found scope (suc k) inside ++ found scope (suc k + size inside) others)
 
-one_place : (b : Bool) (p : Placed) (ps : List Placed)
+pub one_place : (b : Bool) (p : Placed) (ps : List Placed)
     → map (λ (q : Placed). q.index) (cond b (p ∷ ps) ps) ≡ cond b (p.index ∷ map (λ (q : Placed). q.index) ps) (map (λ (q : Placed). q.index) ps)
 one_place true p ps = refl
 one_place false p ps = refl
@@ -86,7 +86,7 @@ NamedApart (Grown m inside others) =
     (Names m.full inside → ⊥) × (Names m.full others → ⊥) × ((name : List ℕ) → Names name inside → Names name others → ⊥)
     × NamedApart inside × NamedApart others
 
-apart : (a b : List ℕ) → (a ≡ b → ⊥) → bytes_eq a b ≡ false
+pub apart : (a b : List ℕ) → (a ≡ b → ⊥) → bytes_eq a b ≡ false
 apart a b differ = by (bytes_eq a b) refl
   where
     by : (c : Bool) → bytes_eq a b ≡ c → c ≡ false

@@ -27,7 +27,7 @@ abbrev pub later_types : Declared → List Source → List TypeTree
 later_types d [] = []
 later_types d (s ∷ ss) = type_trees (length d.types) (length d.enums) s ++ later_types (with_file d s) ss
 
-abbrev later_files : Declared → List Source → List FileShape
+abbrev pub later_files : Declared → List Source → List FileShape
 later_files d [] = []
 later_files d (s ∷ ss) = file_shape (length d.types) (length d.enums) (length d.services) s ∷ later_files (with_file d s) ss
 
@@ -37,20 +37,20 @@ types_declared d (s ∷ ss) =
     let own = type_trees (length d.types) (length d.enums) s in
     types_declared (with_file d s) ss ∙ append_assoc d.types own (later_types (with_file d s) ss)
 
-files_declared : (d : Declared) (ss : List Source) → (with_files d ss).files ≡ d.files ++ later_files d ss
+pub files_declared : (d : Declared) (ss : List Source) → (with_files d ss).files ≡ d.files ++ later_files d ss
 files_declared d [] = sym (append-nil d.files)
 files_declared d (s ∷ ss) =
     let own = file_shape (length d.types) (length d.enums) (length d.services) s in
     files_declared (with_file d s) ss ∙ append_assoc d.files (own ∷ []) (later_files (with_file d s) ss)
 
-record EachSplits {A B : Type 0} (is : A → B → Type 0) (xs ys : List A) (zs : List B) : Type 0 where
+pub record EachSplits {A B : Type 0} (is : A → B → Type 0) (xs ys : List A) (zs : List B) : Type 0 where
   pub front : List B
   pub back : List B
   pub splits : zs ≡ front ++ back
   pub each_front : EachIs is xs front
   pub each_back : EachIs is ys back
 
-each_splits : {A B : Type 0} (is : A → B → Type 0) (xs ys : List A) (zs : List B) → EachIs is (xs ++ ys) zs → EachSplits is xs ys zs
+pub each_splits : {A B : Type 0} (is : A → B → Type 0) (xs ys : List A) (zs : List B) → EachIs is (xs ++ ys) zs → EachSplits is xs ys zs
 each_splits is [] ys zs each = record { front = []; back = zs; splits = refl; each_front = tt; each_back = each }
 each_splits is (x ∷ xs) ys [] each = absurd each
 each_splits is (x ∷ xs) ys (z ∷ zs) each =
@@ -94,8 +94,23 @@ abbrev pub in_file : (depth : ℕ) → List MessageType → File → List ℕ
 in_file depth types f = types_below depth types f.types.items
 
 module _ (depth : ℕ) (types : List MessageType) (few : length types ≤ 2 ^ 32) (once : are_distinct (map type_name types) ≡ true) where
+  -- of the message types of a file none is called as another, or as the package
+  pub file_apart : (front own back : List MessageType) (d : Declared) (s : Source) (f : File) → types ≡ front ++ (own ++ back)
+      → EachIs IsTypeOf (type_trees (length d.types) (length d.enums) s) own → IsFileOf (file_shape (length d.types) (length d.enums) (length d.services) s) f → IsUncalled (map type_name types) f
+      → (are_distinct (map full_of (file_messages s.tree)) ≡ true) × (is_among (map full_of (file_messages s.tree)) (package_of s.tree) ≡ false)
+  file_apart front own back d s f whole each is free =
+      let ms = file_messages s.tree in
+      let same : map full_of ms ≡ map type_name own = names_are s.targets (placed_messages (length d.types) s.tree) (placed_enums (length d.enums) s.tree) ms own each in
+      let names : map type_name types ≡ map type_name front ++ (map type_name own ++ map type_name back) =
+      ap (map type_name) whole ∙ (map-append type_name front (own ++ back) ∙ ap (λ ns. map type_name front ++ ns) (map-append type_name own back)) in (
+        ap are_distinct same ∙ distinct_left (map type_name own) (map type_name back)
+            (distinct_right (map type_name front) (map type_name own ++ map type_name back) (ap are_distinct (sym names) ∙ once)),
+        ap₂ is_among same (sym is.in_package) ∙ not_between (map type_name front) (map type_name own) (map type_name back) (string_bytes f.package)
+            (ap (λ ns. is_among ns (string_bytes f.package)) (sym names) ∙ free),
+      )
+
   -- behind the message types in front those of the file stand in order
-  file_in_order : (front own back : List MessageType) (d : Declared) (s : Source) (f : File) → types ≡ front ++ (own ++ back) → length front ≡ length d.types
+  pub file_in_order : (front own back : List MessageType) (d : Declared) (s : Source) (f : File) → types ≡ front ++ (own ++ back) → length front ≡ length d.types
       → EachIs IsTypeOf (type_trees (length d.types) (length d.enums) s) own → IsFileOf (file_shape (length d.types) (length d.enums) (length d.services) s) f
       → IsUncalled (map type_name types) f → nest_within depth types f.types.items ≡ true → in_file depth types f ≡ places_from (length d.types) (length own)
   file_in_order front own back d s f whole long each is free shallow =
@@ -103,20 +118,12 @@ module _ (depth : ℕ) (types : List MessageType) (few : length types ≤ 2 ^ 32
       let ms = file_messages s.tree in
       let all = placed_messages k s.tree in
       let many : length ms ≡ length own = sym (length-map ms (type_tree s.targets all (placed_enums (length d.enums) s.tree))) ∙ each_long IsTypeOf (type_trees k (length d.enums) s) own each in
-      let same : map full_of ms ≡ map type_name own = names_are s.targets all (placed_enums (length d.enums) s.tree) ms own each in
-      let names : map type_name types ≡ map type_name front ++ (map type_name own ++ map type_name back) =
-      ap (map type_name) whole ∙ (map-append type_name front (own ++ back) ∙ ap (λ ns. map type_name front ++ ns) (map-append type_name own back)) in
-      let apart : are_distinct (map full_of ms) ≡ true =
-      ap are_distinct same ∙ distinct_left (map type_name own) (map type_name back)
-      (distinct_right (map type_name front) (map type_name own ++ map type_name back) (ap are_distinct (sym names) ∙ once)) in
-      let uncalled : is_among (map full_of ms) (package_of s.tree) ≡ false =
-      ap₂ is_among same (sym is.in_package) ∙ not_between (map type_name front) (map type_name own) (map type_name back) (string_bytes f.package)
-      (ap (λ ns. is_among ns (string_bytes f.package)) (sym names) ∙ free) in
+      let apart = file_apart front own back d s f whole each is free in
       let total : length types ≡ length front + (length own + length back) = ap length whole ∙ (length-append front (own ++ back) ∙ ap (λ n. length front + n) (length-append own back)) in
       let these : AreTyped types all k ms =
       subst (λ n. AreTyped types all n ms) long (subst (λ ts. AreTyped ts all (length front) ms) (sym whole) (typed s.targets all (placed_enums (length d.enums) s.tree) front own back ms each)) in
       ap (types_below depth types) is.types
-      ∙ (walk_in_order types depth (package_of s.tree) k ms (file_trees s.tree) apart uncalled (omega (arith, few, total, long, many)) these (ap (nest_within depth types) (sym is.types) ∙ shallow)
+      ∙ (walk_in_order types depth (package_of s.tree) k ms (file_trees s.tree) apart.0 apart.1 (omega (arith, few, total, long, many)) these (ap (nest_within depth types) (sym is.types) ∙ shallow)
       ∙ ap (places_from k) many)
 
   files_in_order : (front back : List MessageType) (d : Declared) (ss : List Source) (fs : List File) → types ≡ front ++ back → length front ≡ length d.types

@@ -120,8 +120,10 @@ module _ (parts : Parts) (sound : IsSound parts) where
       let are : children_at 1 (set_message parts) ≡ files_made all parts.files.items = children_said 1 (set_message parts) (map (file_items all) parts.files.items) (says 1 slots refl) in
       let skipped : skips (set_message parts) ≡ false = ap (list_any is_skipped) are ∙ none_skipped all parts.files.items in
       let kept : kept_files (set_message parts) ≡ files_made all parts.files.items = ap (filter (λ m. not (is_skipped m))) are ∙ all_kept all parts.files.items in
-      subst (λ b. StatesFiles b (kept_files (set_message parts)) parts) (sym skipped)
-      (subst (λ ms. StatesFiles false ms parts) (sym kept) (files_stated readable))
+      record {
+        files = subst (λ b. StatesFiles b (kept_files (set_message parts)) parts) (sym skipped) (subst (λ ms. StatesFiles false ms parts) (sym kept) (files_stated readable));
+        places = readable.places;
+      }
 
 -- ---- the bytes
 
@@ -132,16 +134,16 @@ set_belongs : (parts : Parts) (m : Kept) → IsOf file_set m → items_of m ≡ 
 set_belongs parts m is items =
     subst (λ v. IsMessage written_shape file_set v) (message_is parts m is items) (subst (λ t. IsMessage written_shape t (message_of m)) is.of_type is.fits.is_message)
 
-set_read : (again : ReadsAgain) (parts : Parts) (m : Kept) (bytes : List ℕ) → IsShape written_shape → IsOf file_set m → items_of m ≡ set_items parts → fds parts bytes → length bytes ≤ cap
+set_read : (again : ReadsAgain) (parts : Parts) (m : Kept) (bytes : List ℕ) → IsShape written_shape → IsOf file_set m → items_of m ≡ set_items parts → fds parts bytes
     → dec written_shape file_set bytes ≡ Some (set_message parts)
 unfolding written_shape
-set_read again parts m bytes shape is items written short =
-    ap (dec written_shape file_set) written ∙ again written_shape file_set (set_message parts) shape (set_belongs parts m is items) (subst (λ bs. length bs ≤ cap) written short)
+set_read again parts m bytes shape is items written =
+    ap (dec written_shape file_set) written.0 ∙ again written_shape file_set (set_message parts) shape (set_belongs parts m is items) (subst (λ bs. length bs ≤ cap) written.0 written.1)
 
-pub written_states : (again : ReadsAgain) (parts : Parts) (m : Kept) (bytes : List ℕ) → IsShape written_shape → IsOf file_set m → items_of m ≡ set_items parts → fds parts bytes → length bytes ≤ cap
+pub written_states : (again : ReadsAgain) (parts : Parts) (m : Kept) (bytes : List ℕ) → IsShape written_shape → IsOf file_set m → items_of m ≡ set_items parts → fds parts bytes
     → IsSound parts → IsReadable parts → fds_reads bytes parts
-written_states again parts m bytes shape is items written short sound readable =
-    subst (λ o. IsSomeAnd o (λ set. States set parts)) (sym (set_read again parts m bytes shape is items written short)) (set_states parts sound readable)
+written_states again parts m bytes shape is items written sound readable =
+    subst (λ o. IsSomeAnd o (λ set. States set parts)) (sym (set_read again parts m bytes shape is items written)) (set_states parts sound readable)
 
 -- ---- its depth
 
@@ -149,9 +151,9 @@ flat_shape : AreFlat descriptor_shape
 flat_shape = refl
 
 pub written_shallow : (spells : EncodingSpells) (splits : WritingSplits) (parts : Parts) (m : Kept) (bytes : List ℕ) → IsShape written_shape → IsOf file_set m → items_of m ≡ set_items parts → fds parts bytes
-    → length bytes ≤ cap → are_shallow parts ≡ true → IsNotTooDeep bytes
+    → are_shallow parts ≡ true → IsNotTooDeep bytes
 unfolding written_shape
-written_shallow spells splits parts m bytes shape is items written short shallow place deep =
+written_shallow spells splits parts m bytes shape is items written shallow place deep =
     let low = set_levels 64 parts shallow in
-    none_too_deep spells splits written_shape file_set (set_message parts) most_deep place shape flat_shape (set_belongs parts m is items) (subst (λ bs. length bs ≤ cap) written short) (omega (arith, low))
-    (subst (λ bs. TooDeepIn written_shape most_deep (fields written_shape file_set) bs place) written deep)
+    none_too_deep spells splits written_shape file_set (set_message parts) most_deep place shape flat_shape (set_belongs parts m is items) (subst (λ bs. length bs ≤ cap) written.0 written.1) (omega (arith, low))
+    (subst (λ bs. TooDeepIn written_shape most_deep (fields written_shape file_set) bs place) written.0 deep)

@@ -12,6 +12,7 @@ use Rattle.pg_schema.specs.Shape.{fields}
 use Rattle.pg_dyn.specs.TooDeep.{TooDeepIn}
 use Rattle.pg_fds.specs.Building.{written_shape}
 use Rattle.pg_fds.specs.Descriptor.{file_set}
+use Rattle.pg_fds.specs.InOrder.{StandInOrder}
 use Rattle.pg_fds.specs.Reads.{AreBehind}
 use Rattle.pg_fds.specs.StatesFiles.{most_deep}
 
@@ -29,10 +30,12 @@ nest_within (suc depth) types ids = list_all (λ (id : TypeId). holds_inside (ne
 abbrev pub imports_apart : File → Bool
 imports_apart f = are_distinct (map (λ (i : Import). string_bytes i.path) f.imports.items)
 
--- each file imports no path twice and stands behind those that it imports, and messages are nested at most 100 deep
+-- each file imports no path twice and stands behind those that it imports, messages are nested at most 100 deep, and all is numbered in the
+-- order of a schema that a set states
 pub record IsReadable (parts : Parts) : Type 0 where
   pub imports_once : list_all imports_apart parts.files.items ≡ true
   pub behind : AreBehind [] parts.files.items
+  pub places : StandInOrder parts
   pub shallow : list_all (λ (f : File). nest_within most_deep parts.types.items f.types.items) parts.files.items ≡ true
 
 -- message types are nested at most 64 deep, as deep as texts may nest them

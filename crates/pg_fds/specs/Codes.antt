@@ -1,24 +1,43 @@
--- The number behind the E by which users know the error, and the byte of the set that it names.
-use Rattle.std.specs.Prelude.{ℕ, Option, Some, None}
-use Rattle.pg_check.specs.Codes.{code_of as rule_code}
-use Rattle.pg_dyn.specs.ContentFaults.{code as message_code}
-use Rattle.pg_dyn.specs.Places.{place_of as message_place}
-use Rattle.pg_fds.specs.declared.error.FdsError.{FdsError}
-use Rattle.pg_fds.specs.declared.error.FdsError.TheVariants as errors
+-- The types and labels of a set's fields (descriptor.proto, `FieldDescriptorProto.Type` and `Label`).
+use Rattle.std.specs.Prelude.{ℕ, zero, suc, ℤ, pos, Bool, true, ◌&&◌, List, [], ◌∷◌}
+use Rattle.std.specs.List.{list_all, list_any}
+use Rattle.std.specs.Ordering.{int_eq}
+use Rattle.pg_schema.specs.declared.field.Scalar.{Scalar}
+use Rattle.pg_schema.specs.declared.field.Scalar.TheVariants as kinds
+use Rattle.pg_dyn.specs.Message.{Message}
+use Rattle.pg_fds.specs.Said.{children_at, number_at}
+use Rattle.pg_fds.specs.States.{label_at}
+use Rattle.pg_fds.specs.StatesFiles.{most_deep}
+use Rattle.pg_fds.specs.Proto as proto
 
--- of the bytes of a set, and of a rule that it breaks, the code that says what is wrong there
-abbrev pub code_of : FdsError → ℕ
-code_of errors.Memory = 1
-code_of (errors.Bytes e) = message_code e
-code_of errors.NotProto3 = 702
-code_of errors.BadType = 703
-code_of errors.BadReference = 704
-code_of (errors.Rule e) = rule_code e
+-- TYPE_DOUBLE and the others up to TYPE_SINT64, without TYPE_GROUP
+abbrev pub type_codes : List ℤ
+type_codes =
+    pos 1 ∷ pos 2 ∷ pos 3 ∷ pos 4 ∷ pos 5 ∷ pos 6 ∷ pos 7 ∷ pos 8 ∷ pos 9 ∷ pos 11 ∷ pos 12 ∷ pos 13 ∷ pos 14 ∷ pos 15 ∷ pos 16 ∷ pos 17 ∷ pos 18 ∷ []
 
-abbrev pub place_of : FdsError → Option ℕ
-place_of errors.Memory = None
-place_of (errors.Bytes e) = message_place e
-place_of errors.NotProto3 = None
-place_of errors.BadType = None
-place_of errors.BadReference = None
-place_of (errors.Rule e) = None
+-- the scalars, by rising code
+abbrev pub scalars : List Scalar
+scalars =
+    kinds.Double ∷ kinds.Float ∷ kinds.Int64 ∷ kinds.Uint64 ∷ kinds.Int32 ∷ kinds.Fixed64 ∷ kinds.Fixed32 ∷ kinds.Bool ∷ kinds.String ∷ kinds.Bytes ∷ kinds.Uint32
+    ∷ kinds.Sfixed32 ∷ kinds.Sfixed64 ∷ kinds.Sint32 ∷ kinds.Sint64 ∷ []
+
+-- LABEL_OPTIONAL, LABEL_REPEATED
+abbrev pub label_codes : List ℤ
+label_codes = pos 1 ∷ pos 3 ∷ []
+
+-- the field's type is there and taken, and so is its label, which may be missing
+abbrev pub is_taken : Message → Bool
+is_taken m = list_any (int_eq (number_at proto.field_type m)) type_codes && list_any (int_eq (label_at m)) label_codes
+
+-- those of a message type's fields, and of what stands inside it
+abbrev pub has_types : (List Message → Bool) → Message → Bool
+has_types inside m = list_all is_taken (children_at proto.message_field m) && inside (children_at proto.message_nested_type m)
+
+-- those of message types, nested less deep than that
+abbrev pub have_types : (depth : ℕ) → List Message → Bool
+have_types zero ms = true
+have_types (suc depth) ms = list_all (has_types (have_types depth)) ms
+
+-- those of a file's
+abbrev pub file_has_types : Message → Bool
+file_has_types m = have_types most_deep (children_at proto.file_message_type m)

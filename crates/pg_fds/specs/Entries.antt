@@ -10,12 +10,13 @@ use Rattle.pg_schema.specs.DeclaredNames.{entry_name}
 use Rattle.pg_fds.specs.Places.{Declared}
 use Rattle.pg_fds.specs.Fields.{element_code, element_name}
 use Rattle.pg_fds.specs.Items.{Items, text, maybe_text, count, flag, child, children}
+use Rattle.pg_fds.specs.Proto as proto
 
 -- `key` 1 and `value` 2: label OPTIONAL, and a JSON name
 abbrev pub entry_field : Declared → (name : List ℕ) → (number : ℕ) → Element → Items
 entry_field all name number element =
-    text 1 name ++ count 3 number ++ count 4 1 ++ count 5 (element_code element) ++ maybe_text 6 (element_name all element)
-    ++ text 10 name
+    text proto.field_name name ++ count proto.field_number number ++ count proto.field_label 1 ++ count proto.field_type (element_code element) ++ maybe_text proto.field_type_name (element_name all element)
+    ++ text proto.field_json_name name
 
 -- of a map field; other fields have none
 abbrev pub entry_items : Declared → Field → List Items
@@ -26,9 +27,9 @@ entry_items all f = of f.presence
     of presences.Explicit = []
     of (presences.Repeated packed) = []
     of (presences.Map key) =
-        (text 1 (entry_name (string_bytes f.name))
-        ++ children 2 (entry_field all (codes "key") 1 (elements.Scalar key) ∷ entry_field all (codes "value") 2 f.element ∷ [])
-        ++ child 7 (flag 7 true)) ∷ []
+        (text proto.message_name (entry_name (string_bytes f.name))
+        ++ children proto.message_field (entry_field all (codes "key") 1 (elements.Scalar key) ∷ entry_field all (codes "value") 2 f.element ∷ [])
+        ++ child proto.message_options (flag proto.message_map_entry true)) ∷ []
 
 -- the entry types of fields, in their order
 abbrev pub entries : Declared → List Field → List Items

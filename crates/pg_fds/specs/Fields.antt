@@ -13,6 +13,7 @@ use Rattle.pg_schema.specs.DeclaredNames.{entry_name, within}
 use Rattle.pg_schema.specs.Scopes.{type_name, enum_name}
 use Rattle.pg_fds.specs.Places.{Declared}
 use Rattle.pg_fds.specs.Items.{Items, text, maybe_text, count, maybe_count, mark, stated, options}
+use Rattle.pg_fds.specs.Proto as proto
 
 -- LABEL_OPTIONAL, LABEL_REPEATED
 abbrev pub label : Presence → ℕ
@@ -77,7 +78,7 @@ named_type all scope f = of f.presence
 
 -- FieldOptions
 abbrev pub field_options : FieldOptions → Items
-field_options o = stated 2 o.packed ++ stated 3 o.deprecated
+field_options o = stated proto.field_packed o.packed ++ stated proto.field_deprecated o.deprecated
 
 -- the oneof that a field stands in, where the next synthetic one is at that place
 abbrev pub oneof_place : (next : ℕ) → Field → Option ℕ
@@ -86,9 +87,9 @@ oneof_place next f = if f.states_optional then Some next else f.oneof
 -- a field of a message of that full name
 abbrev pub field_items : Declared → (scope : List ℕ) → (next : ℕ) → Field → Items
 field_items all scope next f =
-    text 1 (string_bytes f.name) ++ count 3 f.number ++ count 4 (label f.presence) ++ count 5 (type_code f.presence f.element)
-    ++ maybe_text 6 (named_type all scope f) ++ options 8 (field_options f.options) ++ maybe_count 9 (oneof_place next f)
-    ++ text 10 (string_bytes f.json_name) ++ mark 17 f.states_optional
+    text proto.field_name (string_bytes f.name) ++ count proto.field_number f.number ++ count proto.field_label (label f.presence) ++ count proto.field_type (type_code f.presence f.element)
+    ++ maybe_text proto.field_type_name (named_type all scope f) ++ options proto.field_options (field_options f.options) ++ maybe_count proto.field_oneof_index (oneof_place next f)
+    ++ text proto.field_json_name (string_bytes f.json_name) ++ mark proto.field_proto3_optional f.states_optional
 
 -- fields in order of declaration, with the place of the first one's synthetic oneof
 abbrev pub fields_items : Declared → (scope : List ℕ) → (next : ℕ) → List Field → List Items

@@ -9,6 +9,7 @@ use Rattle.pg_dyn.specs.Message.{Message}
 use Rattle.pg_fds.specs.declared.order.Importing.{Importing}
 use Rattle.pg_fds.specs.Lent.{lent}
 use Rattle.pg_fds.specs.PostOrder.{Importer, IsPostOrder, imports_once, kept_paths, paths_of}
+use Rattle.pg_fds.specs.Proto as proto
 use Rattle.pg_fds.specs.Said.{text_at, texts_at}
 
 abbrev pub importer : Importing → Importer
@@ -42,5 +43,5 @@ pub record AreOrdered (skips : Bool) (files : List Importer) (places : List ℕ)
 
 -- what the file says of its name and its imports are texts
 pub record HasPathTexts (m : Message) : Type 0 where
-  pub name : IsUtf8 (text_at 1 m)
-  pub paths : AllByRecursion IsUtf8 (texts_at 3 m)
+  pub name : IsUtf8 (text_at proto.file_name m)
+  pub paths : AllByRecursion IsUtf8 (texts_at proto.file_dependency m)

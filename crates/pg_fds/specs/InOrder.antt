@@ -1,5 +1,5 @@
--- Where message types, enums and services of a schema stand that a set was read as: in order of declaration, file after file
--- (descriptor.proto lists message types before enums and services). That places count from 0 is this profile's choice.
+-- Where message types, enums and services of a schema stand that a set states, file after file: message types and services in order of
+-- declaration, enums scope by scope, those of the package before those of each message type. That is this profile's choice.
 use Rattle.std.specs.Prelude.{◌≡◌, ℕ, zero, suc, List, [], ◌∷◌, ◌++◌, flat_map, length, Option, Some, None, slice_get}
 use Rattle.pg_schema.specs.declared.field.TypeId.{TypeId}
 use Rattle.pg_schema.specs.declared.file.File.{File}
@@ -20,9 +20,9 @@ types_below (suc depth) types ids = flat_map (λ (id : TypeId). id.index ∷ inn
 
 abbrev pub inner_enums : (List TypeId → List ℕ) → Option MessageType → List ℕ
 inner_enums inside None = []
-inner_enums inside (Some t) = inside t.nested_types.items ++ enum_places t.nested_enums.items
+inner_enums inside (Some t) = enum_places t.nested_enums.items ++ inside t.nested_types.items
 
--- those of the enums in these: those of the types inside one before its own
+-- those of the enums in these: a type's own before those of the types inside it
 abbrev pub enums_below : (depth : ℕ) → List MessageType → List TypeId → List ℕ
 enums_below zero types ids = []
 enums_below (suc depth) types ids = flat_map (λ (id : TypeId). inner_enums (enums_below depth types) (slice_get types id.index)) ids
@@ -31,7 +31,7 @@ abbrev pub file_types : List MessageType → File → List ℕ
 file_types types f = types_below most_deep types f.types.items
 
 abbrev pub file_enums : List MessageType → File → List ℕ
-file_enums types f = enums_below most_deep types f.types.items ++ enum_places f.enums.items
+file_enums types f = enum_places f.enums.items ++ enums_below most_deep types f.types.items
 
 -- each at the place that is the next where it is declared
 pub record StandInOrder (parts : Parts) : Type 0 where

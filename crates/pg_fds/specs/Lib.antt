@@ -1,3 +1,4 @@
+pub mod Proto
 pub mod Descriptor
 pub mod Places
 pub mod Items
@@ -38,7 +39,5 @@ pub mod Again
 pub mod ReadAgain
 pub mod ReadExamples
 pub mod PlaceExamples
-pub mod SetOrder
-pub mod SetOrderLaws
 pub mod TextOrder
-pub mod Codes
+pub mod ErrorCodes

@@ -36,6 +36,7 @@ use Rattle.pg_fds.specs.declared.outline.OutlinedType.{OutlinedType}
 use Rattle.pg_fds.specs.Fields.{element_code, element_name, label}
 use Rattle.pg_fds.specs.Lent.{lent}
 use Rattle.pg_fds.specs.Places.{Declared, declared_in}
+use Rattle.pg_fds.specs.Proto as proto
 use Rattle.pg_fds.specs.Said.{flag_at, maybe_number_at, maybe_text_at, number_at, text_at}
 use Rattle.pg_fds.specs.Small.{IsSmallEnum}
 use Rattle.pg_fds.specs.States.{StatesEntry, StatesEnum, StatesField, label_at}
@@ -57,15 +58,15 @@ Means nameds.Other e = ⊥
 
 -- a field's message says that its items are of the element, which is there
 pub record StatesElement (all : Declared) (m : Message) (e : Element) : Type 0 where
-  pub type : number_at 5 m ≡ pos (element_code e)
-  pub type_name : maybe_text_at 6 m ≡ element_name all e
+  pub type : number_at proto.field_type m ≡ pos (element_code e)
+  pub type_name : maybe_text_at proto.field_type_name m ≡ element_name all e
   pub known : is_known (length all.types) (length all.enums) e ≡ true
 
 -- a field's message says that the items, of that element, have the presence, which isn't that of a map
 pub record StatesPresence (m : Message) (e : Element) (member : Bool) (packed : Option Bool) (p : Presence) : Type 0 where
   pub no_map : is_map p ≡ false
   pub label : label_at m ≡ pos (label p)
-  pub has : has_presence p e member (flag_at 17 m) ≡ true
+  pub has : has_presence p e member (flag_at proto.field_proto3_optional m) ≡ true
   pub packs : is_packed p e packed ≡ true
 
 -- ---- whole fields
@@ -114,8 +115,8 @@ IsAlone synthetic members (Some number) =
 
 -- the message says in which oneof the field stands, where it is known of each whether it is synthetic and how many fields name it
 pub record StandsAt (synthetic : List Bool) (members : List ℕ) (m : Message) (f : Field) : Type 0 where
-  pub real : f.states_optional ≡ false → IsMember synthetic (maybe_number_at 9 m) f.oneof
-  pub alone : f.states_optional ≡ true → IsAlone synthetic members (maybe_number_at 9 m) × (f.oneof ≡ None)
+  pub real : f.states_optional ≡ false → IsMember synthetic (maybe_number_at proto.field_oneof_index m) f.oneof
+  pub alone : f.states_optional ≡ true → IsAlone synthetic members (maybe_number_at proto.field_oneof_index m) × (f.oneof ≡ None)
 
 -- A message states the field, which keeps to the rules for fields by themselves and has numbers that 32 bits hold, and says in which oneof
 -- it stands.
@@ -141,7 +142,7 @@ is_named place (Some number) = is_at place number
 
 -- how many of the fields name the oneof at the place
 abbrev pub members_at : (place : ℕ) → List Message → ℕ
-members_at place fields = length (filter (λ m. is_named place (maybe_number_at 9 m)) fields)
+members_at place fields = length (filter (λ m. is_named place (maybe_number_at proto.field_oneof_index m)) fields)
 
 -- the number at each of so many places says how many of the fields name the oneof there
 pub record AreCounted (fields : List Message) (count : ℕ) (members : List ℕ) : Type 0 where
@@ -154,14 +155,14 @@ is_placed count (Some number) = is_place count number
 
 -- the field names the oneof at one of so many places, or none
 abbrev pub has_place : ℕ → Message → Bool
-has_place count m = is_placed count (maybe_number_at 9 m)
+has_place count m = is_placed count (maybe_number_at proto.field_oneof_index m)
 
 -- ---- entry types by their names
 
 -- the table has the messages under their names, where each has its own, and no others
 pub record HasNamed {Y : Type 0} (table : BTreeMap (String Y) (Bor Kept)) (messages : List (Bor Kept)) : Type 0 where
-  pub each : are_distinct (map (text_at 1) (map message_of (lent messages))) ≡ true → AllByRecursion (λ (m : Bor Kept). get_by_text table (text_at 1 (message_of m.now)) ≡ Some m) messages
-  pub no_others : (name : List ℕ) → (get_by_text table name ≡ None) ⊎ (is_among (map (text_at 1) (map message_of (lent messages))) name ≡ true)
+  pub each : are_distinct (map (text_at proto.message_name) (map message_of (lent messages))) ≡ true → AllByRecursion (λ (m : Bor Kept). get_by_text table (text_at proto.message_name (message_of m.now)) ≡ Some m) messages
+  pub no_others : (name : List ℕ) → (get_by_text table name ≡ None) ⊎ (is_among (map (text_at proto.message_name) (map message_of (lent messages))) name ≡ true)
 
 -- ---- what was outlined of the parts that a set states
 

@@ -17,6 +17,7 @@ use Rattle.pg_fds.specs.Places.{Declared}
 use Rattle.pg_fds.specs.Entries.{entries}
 use Rattle.pg_fds.specs.Fields.{fields_items}
 use Rattle.pg_fds.specs.Items.{Items, text, texts, whole, count, stated, children, options}
+use Rattle.pg_fds.specs.Proto as proto
 use Rattle.pg_fds.specs.Synthetic.{synthetic_oneofs}
 
 -- ---- names
@@ -38,20 +39,20 @@ where_found f (Some x) = f x ∷ []
 -- ---- enums
 
 abbrev pub value_items : EnumValue → Items
-value_items v = text 1 (string_bytes v.name) ++ whole 2 v.number ++ options 3 (stated 1 v.options.deprecated)
+value_items v = text proto.value_name (string_bytes v.name) ++ whole proto.value_number v.number ++ options proto.value_options (stated proto.value_deprecated v.options.deprecated)
 
 -- both ends are reserved too
 abbrev pub value_range : ReservedValues → Items
-value_range r = whole 1 r.first ++ whole 2 r.last
+value_range r = whole proto.range_start r.first ++ whole proto.range_end r.last
 
 -- EnumOptions
 abbrev pub enum_options : EnumOptions → Items
-enum_options o = stated 2 o.allow_alias ++ stated 3 o.deprecated
+enum_options o = stated proto.enum_allow_alias o.allow_alias ++ stated proto.enum_deprecated o.deprecated
 
 abbrev pub enum_items : EnumType → Items
 enum_items e =
-    text 1 (own_name (string_bytes e.name)) ++ children 2 (map value_items e.values.items) ++ options 3 (enum_options e.options)
-    ++ children 4 (map value_range e.reserved_numbers.items) ++ texts 5 (map string_bytes e.reserved_names.items)
+    text proto.enum_name (own_name (string_bytes e.name)) ++ children proto.enum_value (map value_items e.values.items) ++ options proto.enum_options (enum_options e.options)
+    ++ children proto.enum_reserved_range (map value_range e.reserved_numbers.items) ++ texts proto.enum_reserved_name (map string_bytes e.reserved_names.items)
 
 -- the enums at these places
 abbrev pub enums_items : Declared → List EnumId → List Items
@@ -81,19 +82,19 @@ abbrev pub oneof_names : Declared → MessageType → List (List ℕ)
 oneof_names all t = map string_bytes t.oneofs.items ++ synthetic_oneofs (names_within all t) (declared_fields t)
 
 abbrev pub oneof_items : List ℕ → Items
-oneof_items name = text 1 name
+oneof_items name = text proto.oneof_name name
 
 -- the end of a range is the first number behind it
 abbrev pub field_range : ReservedFields → Items
-field_range r = count 1 r.first ++ count 2 (suc r.last)
+field_range r = count proto.range_start r.first ++ count proto.range_end (suc r.last)
 
 -- a message type with these message types inside it; behind them stand its entry types
 abbrev pub type_items : Declared → List Items → MessageType → Items
 type_items all nested t =
-    text 1 (own_type_name t) ++ children 2 (fields_items all (string_bytes t.name) (length t.oneofs.items) (declared_fields t))
-    ++ children 3 (nested ++ entries all (declared_fields t)) ++ children 4 (enums_items all t.nested_enums.items)
-    ++ options 7 (stated 3 t.options.deprecated) ++ children 8 (map oneof_items (oneof_names all t))
-    ++ children 9 (map field_range t.reserved_numbers.items) ++ texts 10 (map string_bytes t.reserved_names.items)
+    text proto.message_name (own_type_name t) ++ children proto.message_field (fields_items all (string_bytes t.name) (length t.oneofs.items) (declared_fields t))
+    ++ children proto.message_nested_type (nested ++ entries all (declared_fields t)) ++ children proto.message_enum_type (enums_items all t.nested_enums.items)
+    ++ options proto.message_options (stated proto.message_deprecated t.options.deprecated) ++ children proto.message_oneof_decl (map oneof_items (oneof_names all t))
+    ++ children proto.message_reserved_range (map field_range t.reserved_numbers.items) ++ texts proto.message_reserved_name (map string_bytes t.reserved_names.items)
 
 -- The message types at these places, with what stands inside them, nested so many deep. Of a schema none is nested deeper than there
 -- are types.

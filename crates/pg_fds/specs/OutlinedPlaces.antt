@@ -8,6 +8,7 @@ use Rattle.pg_fds.specs.declared.outline.Outline.{Outline}
 use Rattle.pg_fds.specs.declared.outline.OutlinedFile.{OutlinedFile}
 use Rattle.pg_fds.specs.declared.outline.OutlinedType.{OutlinedType}
 use Rattle.pg_fds.specs.Outlines.{Row, enum_rows, file_enums, file_services, file_types, row_in, rows_of_enums, rows_of_type, type_row, type_rows}
+use Rattle.pg_fds.specs.Proto as proto
 use Rattle.pg_fds.specs.Said.{children_at, text_at}
 use Rattle.pg_fds.specs.SetNames.{full_name}
 use Rattle.pg_fds.specs.StatesTypes.{is_no_entry}
@@ -44,9 +45,9 @@ behind_type depth scope counts m = record {
   services = counts.services;
 }
 
--- where the first of what is inside a message type stands
-abbrev pub inside_type : Counts → Counts
-inside_type counts = record { types = counts.types + 1; enums = counts.enums; services = counts.services }
+-- where the first of what stands inside a message type, behind its enums
+abbrev pub inside_type : Counts → Message → Counts
+inside_type counts m = record { types = counts.types + 1; enums = counts.enums + length (children_at proto.message_enum_type m); services = counts.services }
 
 -- the places of message types, nested less deep than that, without those inside them
 abbrev pub places_of_types : (depth : ℕ) → (scope : List ℕ) → Counts → List Message → List ℕ
@@ -68,16 +69,16 @@ without_inside named = record { named = named; types = []; enums = [] }
 
 -- the message types inside one, without entry types
 abbrev pub inner_types : Message → List Message
-inner_types m = filter is_no_entry (children_at 3 m)
+inner_types m = filter is_no_entry (children_at proto.message_nested_type m)
 
 -- a message type and those inside it, of which that is told
 abbrev pub placed_with : (depth : ℕ) → (inside : List ℕ → Counts → List Message → List PlacedType) → (scope : List ℕ) → Counts → Message → List PlacedType
 placed_with depth inside scope counts m =
     record {
       named = row_in scope m;
-      types = places_of_types depth (full_name scope m) (inside_type counts) (inner_types m);
-      enums = places_from (counts.enums + length (enum_rows depth (full_name scope m) (inner_types m))) (length (children_at 4 m));
-    } ∷ inside (full_name scope m) (inside_type counts) (inner_types m)
+      types = places_of_types depth (full_name scope m) (inside_type counts m) (inner_types m);
+      enums = places_from counts.enums (length (children_at proto.message_enum_type m));
+    } ∷ inside (full_name scope m) (inside_type counts m) (inner_types m)
 
 abbrev pub placed_types : (depth : ℕ) → (scope : List ℕ) → Counts → List Message → List PlacedType
 placed_types zero scope counts ms = []
@@ -107,12 +108,16 @@ placed_file o = record {
   services = service_places o.services.items;
 }
 
+-- where the first of its message types stands, behind its enums
+abbrev pub inside_file : Counts → Message → Counts
+inside_file counts m = record { types = counts.types; enums = counts.enums + length (children_at proto.file_enum_type m); services = counts.services }
+
 abbrev pub file_places : (depth : ℕ) → Counts → Message → PlacedFile
 file_places depth counts m = record {
   message = m;
-  types = places_of_types depth (text_at 2 m) counts (children_at 4 m);
-  enums = places_from (counts.enums + length (enum_rows depth (text_at 2 m) (children_at 4 m))) (length (children_at 5 m));
-  services = places_from counts.services (length (children_at 6 m));
+  types = places_of_types depth (text_at proto.file_package m) (inside_file counts m) (children_at proto.file_message_type m);
+  enums = places_from counts.enums (length (children_at proto.file_enum_type m));
+  services = places_from counts.services (length (children_at proto.file_service m));
 }
 
 abbrev pub placed_files : (depth : ℕ) → Counts → List Message → List PlacedFile
@@ -120,4 +125,4 @@ placed_files depth counts ms = each_from (behind_file depth) (λ c m. file_place
 
 -- the message types of the files
 abbrev pub types_of_files : (depth : ℕ) → Counts → List Message → List PlacedType
-types_of_files depth counts ms = each_from (behind_file depth) (λ c m. placed_types depth (text_at 2 m) c (children_at 4 m)) counts ms
+types_of_files depth counts ms = each_from (behind_file depth) (λ c m. placed_types depth (text_at proto.file_package m) (inside_file c m) (children_at proto.file_message_type m)) counts ms

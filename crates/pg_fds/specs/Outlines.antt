@@ -17,6 +17,7 @@ use Rattle.pg_fds.specs.Said.{children_at, text_at}
 use Rattle.pg_fds.specs.SetNames.{files_names, full_name}
 use Rattle.pg_fds.specs.StatesFiles.{is_place}
 use Rattle.pg_fds.specs.StatesTypes.{is_entry, is_no_entry, synthetic_places}
+use Rattle.pg_fds.specs.Proto as proto
 
 -- a full name, and the message of what has it
 abbrev pub Row : Type 0
@@ -36,16 +37,16 @@ rows_in scope ms = map (row_in scope) ms
 
 -- a message type's, and then those of the types inside it
 abbrev pub rows_of_type : (inside : List ℕ → List Message → List Row) → (scope : List ℕ) → Message → List Row
-rows_of_type inside scope m = row_in scope m ∷ inside (full_name scope m) (filter is_no_entry (children_at 3 m))
+rows_of_type inside scope m = row_in scope m ∷ inside (full_name scope m) (filter is_no_entry (children_at proto.message_nested_type m))
 
 -- message types, nested less deep than that
 abbrev pub type_rows : (depth : ℕ) → (scope : List ℕ) → List Message → List Row
 type_rows zero scope ms = []
 type_rows (suc depth) scope ms = flat_map (rows_of_type (type_rows depth) scope) ms
 
--- the enums of the types inside a message type, and then its own
+-- the enums of a message type, and then those of the types inside it
 abbrev pub rows_of_enums : (inside : List ℕ → List Message → List Row) → (scope : List ℕ) → Message → List Row
-rows_of_enums inside scope m = inside (full_name scope m) (filter is_no_entry (children_at 3 m)) ++ rows_in (full_name scope m) (children_at 4 m)
+rows_of_enums inside scope m = rows_in (full_name scope m) (children_at proto.message_enum_type m) ++ inside (full_name scope m) (filter is_no_entry (children_at proto.message_nested_type m))
 
 -- the enums in message types, nested less deep than that
 abbrev pub enum_rows : (depth : ℕ) → (scope : List ℕ) → List Message → List Row
@@ -55,13 +56,13 @@ enum_rows (suc depth) scope ms = flat_map (rows_of_enums (enum_rows depth) scope
 -- ---- files
 
 abbrev pub file_types : (depth : ℕ) → Message → List Row
-file_types depth m = type_rows depth (text_at 2 m) (children_at 4 m)
+file_types depth m = type_rows depth (text_at proto.file_package m) (children_at proto.file_message_type m)
 
 abbrev pub file_enums : (depth : ℕ) → Message → List Row
-file_enums depth m = enum_rows depth (text_at 2 m) (children_at 4 m) ++ rows_in (text_at 2 m) (children_at 5 m)
+file_enums depth m = rows_in (text_at proto.file_package m) (children_at proto.file_enum_type m) ++ enum_rows depth (text_at proto.file_package m) (children_at proto.file_message_type m)
 
 abbrev pub file_services : Message → List Row
-file_services m = rows_in (text_at 2 m) (children_at 6 m)
+file_services m = rows_in (text_at proto.file_package m) (children_at proto.file_service m)
 
 -- the files at these places
 abbrev pub files_at : List Message → List ℕ → List Message
@@ -72,7 +73,7 @@ files_at files places = filter_map (slice_get files) places
 -- the table has the message type's name with its place, and those of its entry types
 pub record IsTypeNamed {Y : Type 0} (table : BTreeMap (String Y) Named) (place : ℕ) (r : Row) : Type 0 where
   pub own : get_by_text table r.0 ≡ Some (nameds.Type (record { index = place }))
-  pub entries : AllByRecursion (λ e. get_by_text table (full_name r.0 e) ≡ Some nameds.Entry) (filter is_entry (children_at 3 r.1))
+  pub entries : AllByRecursion (λ e. get_by_text table (full_name r.0 e) ≡ Some nameds.Entry) (filter is_entry (children_at proto.message_nested_type r.1))
 
 abbrev pub AreTypesNamed : {Y : Type 0} → BTreeMap (String Y) Named → List Row → Type 0
 AreTypesNamed table rows = (place : ℕ) (r : Row) → slice_get rows place ≡ Some r → IsTypeNamed table place r
@@ -84,22 +85,22 @@ AreEnumsNamed table rows = (place : ℕ) (r : Row) → slice_get rows place ≡ 
 
 -- the `optional` fields of a message type name oneofs of it
 abbrev pub NamesOneofs : Message → Type 0
-NamesOneofs m = list_all (is_place (length (children_at 8 m))) (synthetic_places (children_at 2 m)) ≡ true
+NamesOneofs m = list_all (is_place (length (children_at proto.message_oneof_decl m))) (synthetic_places (children_at proto.message_field m)) ≡ true
 
 -- so do those of message types nested less deep than that
 abbrev pub NameOneofs : (depth : ℕ) → List Message → Type 0
 NameOneofs zero ms = Unit {0}
-NameOneofs (suc depth) ms = AllByRecursion (λ m. NamesOneofs m × NameOneofs depth (filter is_no_entry (children_at 3 m))) ms
+NameOneofs (suc depth) ms = AllByRecursion (λ m. NamesOneofs m × NameOneofs depth (filter is_no_entry (children_at proto.message_nested_type m))) ms
 
 -- ---- what may be declared
 
 -- So may all that a file declares, as far as its names aren't looked at, where so many message types, enums and services stand in front: its
 -- package is one of these and a text, none of its own message types is an entry type, and the numbers of places fit 32 bits.
 pub record MayPlace (depth types enums services : ℕ) (packages : List (List ℕ)) (m : Message) : Type 0 where
-  pub package_name : is_among packages (text_at 2 m) ≡ true
-  pub text : IsUtf8 (text_at 2 m)
-  pub no_entries : filter is_entry (children_at 4 m) ≡ []
-  pub oneofs : NameOneofs depth (children_at 4 m)
+  pub package_name : is_among packages (text_at proto.file_package m) ≡ true
+  pub text : IsUtf8 (text_at proto.file_package m)
+  pub no_entries : filter is_entry (children_at proto.file_message_type m) ≡ []
+  pub oneofs : NameOneofs depth (children_at proto.file_message_type m)
   pub few_types : types + length (file_types depth m) ≤ 2 ^ 32
   pub few_enums : enums + length (file_enums depth m) ≤ 2 ^ 32
   pub few_services : services + length (file_services m) ≤ 2 ^ 32
@@ -107,9 +108,9 @@ pub record MayPlace (depth types enums services : ℕ) (packages : List (List �
 -- So may all that the files declare, taken in this order: packages and full names are texts, each name stands once and is no part of a
 -- package, no entry type stands outside of message types, `optional` fields name oneofs that are there, and places fit 32 bits.
 pub record MayDeclare (depth : ℕ) (files : List Message) : Type 0 where
-  pub packages : AllByRecursion (λ m. IsUtf8 (text_at 2 m)) files
-  pub no_entries : AllByRecursion (λ m. filter is_entry (children_at 4 m) ≡ []) files
-  pub oneofs : AllByRecursion (λ m. NameOneofs depth (children_at 4 m)) files
+  pub packages : AllByRecursion (λ m. IsUtf8 (text_at proto.file_package m)) files
+  pub no_entries : AllByRecursion (λ m. filter is_entry (children_at proto.file_message_type m) ≡ []) files
+  pub oneofs : AllByRecursion (λ m. NameOneofs depth (children_at proto.file_message_type m)) files
   pub few_types : length (flat_map (file_types depth) files) ≤ 2 ^ 32
   pub few_enums : length (flat_map (file_enums depth) files) ≤ 2 ^ 32
   pub few_services : length (flat_map file_services files) ≤ 2 ^ 32

@@ -6,17 +6,19 @@ use Rattle.pg_dyn.specs.declared.error.DynError.TheVariants as faults
 use Rattle.pg_fds.specs.declared.error.FdsError.{FdsError}
 use Rattle.pg_fds.specs.declared.error.FdsError.TheVariants as errors
 use Rattle.pg_fds.specs.Again.{are_shallow, imports_apart}
+use Rattle.pg_fds.specs.InOrder.{StandInOrder}
 use Rattle.pg_fds.specs.Reads.{AreBehind}
 use Rattle.pg_fds.specs.Refused.{MayRefuseSet, NoneIsStated}
 use Rattle.pg_fds.specs.Set.{fds}
 use Rattle.pg_fds.specs.Written.{HasNoSet}
 
--- A schema whose set is read as the same schema, but for the order of message types, enums and services: each file imports no path twice and
--- stands behind those that it imports, and message types are nested at most 64 deep.
+-- A schema whose set is read as the same schema: each file imports no path twice and stands behind those that it imports, message types are
+-- nested at most 64 deep, and message types, enums and services are numbered in the order of a schema that a set states.
 pub record IsReadAgain (parts : Parts) : Type 0 where
   pub imports_once : list_all imports_apart parts.files.items ≡ true
   pub behind : AreBehind [] parts.files.items
   pub shallow : are_shallow parts ≡ true
+  pub places : StandInOrder parts
 
 -- the schema has no set
 abbrev pub IsTooLong : Parts → FdsError → Type 0

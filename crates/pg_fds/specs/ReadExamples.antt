@@ -1,5 +1,5 @@
 -- A worked set, read: the bytes of a small file's set, which are protoc's, state that file's schema.
-use Rattle.std.specs.Prelude.{[], ◌∷◌, codes, false}
+use Rattle.std.specs.Prelude.{◌≡◌, [], ◌∷◌, codes, false}
 use Rattle.pg_schema.specs.declared.field.Element.TheVariants as elements
 use Rattle.pg_schema.specs.declared.field.Field.{Field}
 use Rattle.pg_schema.specs.declared.field.Presence.TheVariants.{Implicit}
@@ -14,5 +14,5 @@ use Rattle.pg_fds.specs.Reads.{fds_reads}
 abbrev pub OneFieldRead : Type 0
 OneFieldRead =
     (parts : Parts) (file : File) (t : MessageType) (a : Field) → AreParts parts file t → IsMessage t (a ∷ []) (1 ∷ [])
-    → IsField a (codes "a") 1 Implicit (elements.Scalar Int32) false
+    → IsField a (codes "a") 1 Implicit (elements.Scalar Int32) false → parts.enums.items ≡ [] → parts.services.items ≡ []
     → fds_reads one_field_bytes parts

@@ -16,7 +16,8 @@ use Rattle.pg_fds.specs.declared.error.FdsError.TheVariants as errors
 use Rattle.pg_fds.specs.Building.{written_shape}
 use Rattle.pg_fds.specs.Codes.{file_has_types}
 use Rattle.pg_fds.specs.Descriptor.{file_set}
-use Rattle.pg_fds.specs.Reads.{CanBeRead, IsHeld, fds_reads, kept_files}
+use Rattle.pg_fds.specs.Proto as proto
+use Rattle.pg_fds.specs.Reads.{IsHeld, fds_reads, kept_files}
 use Rattle.pg_fds.specs.Said.{text_at}
 use Rattle.pg_fds.specs.StatesFiles.{is_proto3, most_deep}
 
@@ -56,10 +57,6 @@ StatesNone bytes = (parts : Parts) → IsSound parts → fds_reads bytes parts �
 abbrev pub StatesNoneHeld : List ℕ → Type 0
 StatesNoneHeld bytes = (parts : Parts) → IsHeld parts → fds_reads bytes parts → ⊥
 
--- none of these is that stands in order
-abbrev pub StatesNoneInOrder : List ℕ → Type 0
-StatesNoneInOrder bytes = (parts : Parts) → CanBeRead parts → fds_reads bytes parts → ⊥
-
 -- Faults of the bytes, files that aren't proto3 and types are told only where no schema is stated, bad references and broken rules only
 -- where none is whose places 32 bits hold. Want of memory and messages nested too deep aren't said to be.
 abbrev pub NoneIsStated : List ℕ → FdsError → Type 0
@@ -92,5 +89,5 @@ IsOfParts (errors.Rule e) = BreaksRule e
 
 -- a file's name and its syntax are texts, as the codec sees to
 pub record HasTexts (file : Message) : Type 0 where
-  pub name : IsUtf8 (text_at 1 file)
-  pub syntax : IsUtf8 (text_at 12 file)
+  pub name : IsUtf8 (text_at proto.file_name file)
+  pub syntax : IsUtf8 (text_at proto.file_syntax file)

@@ -1,5 +1,5 @@
 -- The set of files that a schema's all give, `FileDescriptorSet` of descriptor.proto.
-use Rattle.std.specs.Prelude.{◌≡◌, ℕ, suc, List, [], ◌∷◌, ◌++◌, map, flat_map, length, codes, Option, Some, None, slice_get, if◌then◌else◌}
+use Rattle.std.specs.Prelude.{◌≡◌, ℕ, suc, List, [], ◌∷◌, ◌++◌, map, flat_map, length, codes, Option, Some, None, slice_get, if◌then◌else◌, ◌≤◌}
 use Rattle.std.specs.String.{string_bytes}
 use Rattle.pg_schema.specs.declared.file.File.{File}
 use Rattle.pg_schema.specs.declared.file.Import.{Import}
@@ -13,13 +13,14 @@ use Rattle.pg_schema.specs.declared.service.Service.{Service}
 use Rattle.pg_schema.specs.declared.service.ServiceId.{ServiceId}
 use Rattle.pg_schema.specs.Scopes.{type_name}
 use Rattle.pg_dyn.specs.Message.{Message, message_from}
-use Rattle.pg_dyn.specs.Encoding.{enc}
+use Rattle.pg_dyn.specs.Encoding.{cap, enc}
 use Rattle.pg_schema.specs.declared.parts.Parts.{Parts}
 use Rattle.pg_fds.specs.Places.{Declared, declared_in}
 use Rattle.pg_fds.specs.Descriptor.{descriptor_shape, file_set}
 use Rattle.pg_fds.specs.Fields.{dotted}
 use Rattle.pg_fds.specs.Items.{Items, text, texts, filled, count, counts, flag, mark, stated, children, options}
 use Rattle.pg_fds.specs.Messages.{own_name, where_found, types_items, enums_items}
+use Rattle.pg_fds.specs.Proto as proto
 
 -- ---- services
 
@@ -30,13 +31,13 @@ called_type number None = []
 -- streams are marked where they are
 abbrev pub method_items : Declared → Method → Items
 method_items all m =
-    text 1 (string_bytes m.name) ++ called_type 2 (type_name all.types m.input) ++ called_type 3 (type_name all.types m.output)
-    ++ options 4 (stated 33 m.options.deprecated) ++ mark 5 m.client_streaming ++ mark 6 m.server_streaming
+    text proto.method_name (string_bytes m.name) ++ called_type proto.method_input_type (type_name all.types m.input) ++ called_type proto.method_output_type (type_name all.types m.output)
+    ++ options proto.method_options (stated proto.method_deprecated m.options.deprecated) ++ mark proto.method_client_streaming m.client_streaming ++ mark proto.method_server_streaming m.server_streaming
 
 abbrev pub service_items : Declared → Service → Items
 service_items all s =
-    text 1 (own_name (string_bytes s.name)) ++ children 2 (map (method_items all) s.methods.items)
-    ++ options 3 (stated 33 s.options.deprecated)
+    text proto.service_name (own_name (string_bytes s.name)) ++ children proto.service_method (map (method_items all) s.methods.items)
+    ++ options proto.service_options (stated proto.service_deprecated s.options.deprecated)
 
 abbrev pub services_items : Declared → List ServiceId → List Items
 services_items all ids = flat_map (λ (id : ServiceId). where_found (service_items all) (slice_get all.services id.index)) ids
@@ -66,17 +67,17 @@ public_places place (i ∷ is) = if i.is_public then place ∷ public_places (su
 -- the package where one is stated
 abbrev pub file_items : Declared → File → Items
 file_items all f =
-    text 1 (string_bytes f.name) ++ filled 2 (string_bytes f.package) ++ texts 3 (map (λ (i : Import). string_bytes i.path) f.imports.items)
-    ++ children 4 (types_items (length all.types) all f.types.items) ++ children 5 (enums_items all f.enums.items)
-    ++ children 6 (services_items all f.services.items) ++ options 8 (file_options f.options.items)
-    ++ counts 10 (public_places 0 f.imports.items) ++ text 12 (codes "proto3")
+    text proto.file_name (string_bytes f.name) ++ filled proto.file_package (string_bytes f.package) ++ texts proto.file_dependency (map (λ (i : Import). string_bytes i.path) f.imports.items)
+    ++ children proto.file_message_type (types_items (length all.types) all f.types.items) ++ children proto.file_enum_type (enums_items all f.enums.items)
+    ++ children proto.file_service (services_items all f.services.items) ++ options proto.file_options (file_options f.options.items)
+    ++ counts proto.file_public_dependency (public_places 0 f.imports.items) ++ text proto.file_syntax (codes "proto3")
 
 -- ---- the set
 
 -- the message of a schema's parts
 abbrev pub set_message : Parts → Message
-set_message parts = message_from (children 1 (map (file_items (declared_in parts)) parts.files.items)) []
+set_message parts = message_from (children proto.set_file (map (file_items (declared_in parts)) parts.files.items)) []
 
--- the bytes are a set of the schema's files
+-- the bytes are a set of the schema's files, no longer than an encoding may be
 abbrev pub fds : Parts → List ℕ → Type 0
-fds parts bytes = bytes ≡ enc descriptor_shape file_set (set_message parts)
+fds parts bytes = (bytes ≡ enc descriptor_shape file_set (set_message parts)) × (length bytes ≤ cap)

@@ -15,33 +15,34 @@ use Rattle.pg_fds.specs.declared.outline.Named.{Named}
 use Rattle.pg_fds.specs.declared.outline.Named.TheVariants as nameds
 use Rattle.pg_fds.specs.Said.{children_at, text_at}
 use Rattle.pg_fds.specs.StatesTypes.{is_entry, is_no_entry, real_oneofs, synthetic_places}
+use Rattle.pg_fds.specs.Proto as proto
 
 -- the full name of what a message is called in a scope
 abbrev pub full_name : (scope : List ℕ) → Message → List ℕ
-full_name scope m = within scope (text_at 1 m)
+full_name scope m = within scope (text_at proto.name m)
 
 abbrev pub full_names : (scope : List ℕ) → List Message → List (List ℕ)
 full_names scope ms = map (full_name scope) ms
 
 -- its own and those of its values
 abbrev pub enum_names : (scope : List ℕ) → Message → List (List ℕ)
-enum_names scope m = full_name scope m ∷ full_names scope (children_at 2 m)
+enum_names scope m = full_name scope m ∷ full_names scope (children_at proto.enum_value m)
 
 abbrev pub enums_names : (scope : List ℕ) → List Message → List (List ℕ)
 enums_names scope ms = flat_map (enum_names scope) ms
 
 -- those of the fields and real oneofs of a message type of that full name
 abbrev pub member_names : (full : List ℕ) → Message → List (List ℕ)
-member_names full m = full_names full (children_at 2 m) ++ full_names full (real_oneofs (synthetic_places (children_at 2 m)) 0 (children_at 8 m))
+member_names full m = full_names full (children_at proto.message_field m) ++ full_names full (real_oneofs (synthetic_places (children_at proto.message_field m)) 0 (children_at proto.message_oneof_decl m))
 
 -- and of its entry types, without those of what it has inside
 abbrev pub own_names : (full : List ℕ) → Message → List (List ℕ)
-own_names full m = full ∷ member_names full m ++ full_names full (filter is_entry (children_at 3 m))
+own_names full m = full ∷ member_names full m ++ full_names full (filter is_entry (children_at proto.message_nested_type m))
 
--- with those of the types inside it and of its enums
+-- with those of its enums and of the types inside it
 abbrev pub type_names : (inside : List ℕ → List Message → List (List ℕ)) → (scope : List ℕ) → Message → List (List ℕ)
 type_names inside scope m =
-    own_names (full_name scope m) m ++ inside (full_name scope m) (filter is_no_entry (children_at 3 m)) ++ enums_names (full_name scope m) (children_at 4 m)
+    own_names (full_name scope m) m ++ enums_names (full_name scope m) (children_at proto.message_enum_type m) ++ inside (full_name scope m) (filter is_no_entry (children_at proto.message_nested_type m))
 
 -- those of message types nested less deep than that
 abbrev pub types_names : (depth : ℕ) → (scope : List ℕ) → List Message → List (List ℕ)
@@ -50,7 +51,7 @@ types_names (suc depth) scope ms = flat_map (type_names (types_names depth) scop
 
 -- its own and those of its methods
 abbrev pub service_names : (scope : List ℕ) → Message → List (List ℕ)
-service_names scope m = full_name scope m ∷ full_names (full_name scope m) (children_at 2 m)
+service_names scope m = full_name scope m ∷ full_names (full_name scope m) (children_at proto.service_method m)
 
 abbrev pub services_names : (scope : List ℕ) → List Message → List (List ℕ)
 services_names scope ms = flat_map (service_names scope) ms
@@ -58,7 +59,7 @@ services_names scope ms = flat_map (service_names scope) ms
 -- those of a file, with message types nested less deep than that
 abbrev pub file_names : (depth : ℕ) → Message → List (List ℕ)
 file_names depth m =
-    types_names depth (text_at 2 m) (children_at 4 m) ++ enums_names (text_at 2 m) (children_at 5 m) ++ services_names (text_at 2 m) (children_at 6 m)
+    enums_names (text_at proto.file_package m) (children_at proto.file_enum_type m) ++ types_names depth (text_at proto.file_package m) (children_at proto.file_message_type m) ++ services_names (text_at proto.file_package m) (children_at proto.file_service m)
 
 abbrev pub files_names : (depth : ℕ) → List Message → List (List ℕ)
 files_names depth ms = flat_map (file_names depth) ms

@@ -21,28 +21,29 @@ use Rattle.pg_schema.specs.Shape.{is_map}
 use Rattle.pg_dyn.specs.Message.{Message, parts}
 use Rattle.pg_fds.specs.Fields.{element_code, element_name, label, named_type, type_code}
 use Rattle.pg_fds.specs.Places.{Declared}
+use Rattle.pg_fds.specs.Proto as proto
 use Rattle.pg_fds.specs.Said.{children_at, flag_at, item_at, items_at, maybe_flag_at, maybe_number_at, maybe_text_at, number_at, options_at, text_at, texts_at}
 
 -- ---- enums
 
 pub record StatesValue (m : Message) (v : EnumValue) : Type 0 where
-  pub name : text_at 1 m ≡ string_bytes v.name
-  pub number : number_at 2 m ≡ v.number
-  pub deprecated : maybe_flag_at 1 (options_at 3 m) ≡ v.options.deprecated
+  pub name : text_at proto.value_name m ≡ string_bytes v.name
+  pub number : number_at proto.value_number m ≡ v.number
+  pub deprecated : maybe_flag_at proto.value_deprecated (options_at proto.value_options m) ≡ v.options.deprecated
 
 -- both ends are reserved too
 pub record StatesValueRange (m : Message) (r : ReservedValues) : Type 0 where
-  pub first : number_at 1 m ≡ r.first
-  pub last : number_at 2 m ≡ r.last
+  pub first : number_at proto.range_start m ≡ r.first
+  pub last : number_at proto.range_end m ≡ r.last
 
 -- an enum declared in that scope
 pub record StatesEnum (scope : List ℕ) (m : Message) (e : EnumType) : Type 0 where
-  pub name : string_bytes e.name ≡ within scope (text_at 1 m)
-  pub values : AllZip StatesValue (children_at 2 m) e.values.items
-  pub allow_alias : maybe_flag_at 2 (options_at 3 m) ≡ e.options.allow_alias
-  pub deprecated : maybe_flag_at 3 (options_at 3 m) ≡ e.options.deprecated
-  pub reserved_numbers : AllZip StatesValueRange (children_at 4 m) e.reserved_numbers.items
-  pub reserved_names : texts_at 5 m ≡ map string_bytes e.reserved_names.items
+  pub name : string_bytes e.name ≡ within scope (text_at proto.enum_name m)
+  pub values : AllZip StatesValue (children_at proto.enum_value m) e.values.items
+  pub allow_alias : maybe_flag_at proto.enum_allow_alias (options_at proto.enum_options m) ≡ e.options.allow_alias
+  pub deprecated : maybe_flag_at proto.enum_deprecated (options_at proto.enum_options m) ≡ e.options.deprecated
+  pub reserved_numbers : AllZip StatesValueRange (children_at proto.enum_reserved_range m) e.reserved_numbers.items
+  pub reserved_names : texts_at proto.enum_reserved_name m ≡ map string_bytes e.reserved_names.items
 
 -- the enums at these places
 abbrev pub StatesEnums : Declared → (scope : List ℕ) → List Message → List EnumId → Type 0
@@ -52,42 +53,42 @@ StatesEnums all scope ms ids = AllZip (λ m (id : EnumId). IsSomeAnd (slice_get 
 
 -- LABEL_OPTIONAL where it is missing
 abbrev pub label_at : Message → ℤ
-label_at m = unwrap_or (maybe_number_at 4 m) (pos 1)
+label_at m = unwrap_or (maybe_number_at proto.field_label m) (pos 1)
 
 -- that of the field's name where it is missing
 abbrev pub json_name_at : Message → List ℕ
-json_name_at m = unwrap_or (maybe_text_at 10 m) (default_json_name (text_at 1 m))
+json_name_at m = unwrap_or (maybe_text_at proto.field_json_name m) (default_json_name (text_at proto.field_name m))
 
 -- a field of a message type of that full name
 pub record StatesField (all : Declared) (scope : List ℕ) (m : Message) (f : Field) : Type 0 where
-  pub name : text_at 1 m ≡ string_bytes f.name
-  pub number : number_at 3 m ≡ pos f.number
+  pub name : text_at proto.field_name m ≡ string_bytes f.name
+  pub number : number_at proto.field_number m ≡ pos f.number
   pub label : label_at m ≡ pos (label f.presence)
-  pub type : number_at 5 m ≡ pos (type_code f.presence f.element)
-  pub type_name : maybe_text_at 6 m ≡ named_type all scope f
-  pub packed : maybe_flag_at 2 (options_at 8 m) ≡ f.options.packed
-  pub deprecated : maybe_flag_at 3 (options_at 8 m) ≡ f.options.deprecated
+  pub type : number_at proto.field_type m ≡ pos (type_code f.presence f.element)
+  pub type_name : maybe_text_at proto.field_type_name m ≡ named_type all scope f
+  pub packed : maybe_flag_at proto.field_packed (options_at proto.field_options m) ≡ f.options.packed
+  pub deprecated : maybe_flag_at proto.field_deprecated (options_at proto.field_options m) ≡ f.options.deprecated
   pub json_name : json_name_at m ≡ string_bytes f.json_name
-  pub optional : flag_at 17 m ≡ f.states_optional
+  pub optional : flag_at proto.field_proto3_optional m ≡ f.states_optional
 
 -- the end of a range is the first number behind it
 pub record StatesFieldRange (m : Message) (r : ReservedFields) : Type 0 where
-  pub first : number_at 1 m ≡ pos r.first
-  pub end : number_at 2 m ≡ pos (suc r.last)
+  pub first : number_at proto.range_start m ≡ pos r.first
+  pub end : number_at proto.range_end m ≡ pos (suc r.last)
 
 -- ---- entry types
 
 -- the key's field or the value's: of that name, number and element, without options, in no oneof
 pub record StatesEntryField (all : Declared) (called : List ℕ) (place : ℕ) (e : Element) (m : Message) : Type 0 where
-  pub name : text_at 1 m ≡ called
-  pub number : number_at 3 m ≡ pos place
+  pub name : text_at proto.field_name m ≡ called
+  pub number : number_at proto.field_number m ≡ pos place
   pub label : label_at m ≡ pos 1
-  pub type : number_at 5 m ≡ pos (element_code e)
-  pub type_name : maybe_text_at 6 m ≡ element_name all e
-  pub no_options : parts (options_at 8 m) ≡ []
-  pub no_oneof : item_at 9 m ≡ None
+  pub type : number_at proto.field_type m ≡ pos (element_code e)
+  pub type_name : maybe_text_at proto.field_type_name m ≡ element_name all e
+  pub no_options : parts (options_at proto.field_options m) ≡ []
+  pub no_oneof : item_at proto.field_oneof_index m ≡ None
   pub json_name : json_name_at m ≡ default_json_name called
-  pub not_optional : flag_at 17 m ≡ false
+  pub not_optional : flag_at proto.field_proto3_optional m ≡ false
 
 abbrev pub AreKeyAndValue : Declared → (key : Scalar) → (value : Element) → List Message → Type 0
 AreKeyAndValue all key value [] = ⊥
@@ -98,14 +99,14 @@ AreKeyAndValue all key value (k ∷ v ∷ m ∷ ms) = ⊥
 
 -- the entry type of a map field with that key; it holds nothing else
 pub record StatesEntry (all : Declared) (f : Field) (key : Scalar) (m : Message) : Type 0 where
-  pub name : text_at 1 m ≡ entry_name (string_bytes f.name)
-  pub fields : AreKeyAndValue all key f.element (children_at 2 m)
-  pub no_types : items_at 3 m ≡ []
-  pub no_enums : items_at 4 m ≡ []
-  pub undeprecated : maybe_flag_at 3 (options_at 7 m) ≡ None
-  pub no_oneofs : items_at 8 m ≡ []
-  pub no_reserved_numbers : items_at 9 m ≡ []
-  pub no_reserved_names : items_at 10 m ≡ []
+  pub name : text_at proto.message_name m ≡ entry_name (string_bytes f.name)
+  pub fields : AreKeyAndValue all key f.element (children_at proto.message_field m)
+  pub no_types : items_at proto.message_nested_type m ≡ []
+  pub no_enums : items_at proto.message_enum_type m ≡ []
+  pub undeprecated : maybe_flag_at proto.message_deprecated (options_at proto.message_options m) ≡ None
+  pub no_oneofs : items_at proto.message_oneof_decl m ≡ []
+  pub no_reserved_numbers : items_at proto.message_reserved_range m ≡ []
+  pub no_reserved_names : items_at proto.message_reserved_name m ≡ []
 
 -- a map field has its entry type among these
 abbrev pub HasEntry : Declared → List Message → Field → Type 0

@@ -18,6 +18,7 @@ use Rattle.pg_schema.specs.Scopes.{type_name}
 use Rattle.pg_dyn.specs.Message.{Bytes, Int, Item, Message, Plain}
 use Rattle.pg_fds.specs.Fields.{dotted}
 use Rattle.pg_fds.specs.Places.{Declared}
+use Rattle.pg_fds.specs.Proto as proto
 use Rattle.pg_fds.specs.Said.{children_at, flag_at, item_at, maybe_flag_at, maybe_text_at, numbers_at, options_at, text_at, texts_at}
 use Rattle.pg_fds.specs.Set.{mode_code}
 use Rattle.pg_fds.specs.States.{StatesEnums}
@@ -30,17 +31,17 @@ abbrev pub StatesCalled : Declared → Option (List ℕ) → TypeId → Type 0
 StatesCalled all name id = IsSomeAnd (type_name all.types id) (λ full. name ≡ Some (dotted full))
 
 pub record StatesMethod (all : Declared) (m : Message) (d : Method) : Type 0 where
-  pub name : text_at 1 m ≡ string_bytes d.name
-  pub input : StatesCalled all (maybe_text_at 2 m) d.input
-  pub output : StatesCalled all (maybe_text_at 3 m) d.output
-  pub deprecated : maybe_flag_at 33 (options_at 4 m) ≡ d.options.deprecated
-  pub client_streaming : flag_at 5 m ≡ d.client_streaming
-  pub server_streaming : flag_at 6 m ≡ d.server_streaming
+  pub name : text_at proto.method_name m ≡ string_bytes d.name
+  pub input : StatesCalled all (maybe_text_at proto.method_input_type m) d.input
+  pub output : StatesCalled all (maybe_text_at proto.method_output_type m) d.output
+  pub deprecated : maybe_flag_at proto.method_deprecated (options_at proto.method_options m) ≡ d.options.deprecated
+  pub client_streaming : flag_at proto.method_client_streaming m ≡ d.client_streaming
+  pub server_streaming : flag_at proto.method_server_streaming m ≡ d.server_streaming
 
 pub record StatesService (all : Declared) (scope : List ℕ) (m : Message) (s : Service) : Type 0 where
-  pub name : string_bytes s.name ≡ within scope (text_at 1 m)
-  pub methods : AllZip (StatesMethod all) (children_at 2 m) s.methods.items
-  pub deprecated : maybe_flag_at 33 (options_at 3 m) ≡ s.options.deprecated
+  pub name : string_bytes s.name ≡ within scope (text_at proto.service_name m)
+  pub methods : AllZip (StatesMethod all) (children_at proto.service_method m) s.methods.items
+  pub deprecated : maybe_flag_at proto.service_deprecated (options_at proto.service_options m) ≡ s.options.deprecated
 
 -- the services at these places
 abbrev pub StatesServices : Declared → (scope : List ℕ) → List Message → List ServiceId → Type 0
@@ -78,11 +79,11 @@ abbrev pub is_descriptor : List ℕ → Bool
 is_descriptor path = bytes_eq path (codes "google/protobuf/descriptor.proto")
 
 abbrev pub is_proto3 : Message → Bool
-is_proto3 m = bytes_eq (text_at 12 m) (codes "proto3")
+is_proto3 m = bytes_eq (text_at proto.file_syntax m) (codes "proto3")
 
 -- a file that is left out of the schema, as imports of it are: descriptor.proto, where it isn't proto3
 abbrev pub is_skipped : Message → Bool
-is_skipped m = is_descriptor (text_at 1 m) && not (is_proto3 m)
+is_skipped m = is_descriptor (text_at proto.file_name m) && not (is_proto3 m)
 
 -- The paths of imports from a place on, and whether each is among the public ones, which are numbers of places; without those of
 -- descriptor.proto where it is skipped.
@@ -106,13 +107,13 @@ most_deep = 100
 
 -- No path stands twice among the imports, that of descriptor.proto neither.
 pub record StatesFile (all : Declared) (skips : Bool) (m : Message) (f : File) : Type 0 where
-  pub name : text_at 1 m ≡ string_bytes f.name
-  pub package_name : text_at 2 m ≡ string_bytes f.package
-  pub imports : kept_imports skips (numbers_at 10 m) 0 (texts_at 3 m) ≡ map import_of f.imports.items
-  pub imports_once : are_distinct (texts_at 3 m) ≡ true
-  pub public_places : list_all (is_place (length (texts_at 3 m))) (numbers_at 10 m) ≡ true
-  pub types : StatesTypes most_deep all (string_bytes f.package) (children_at 4 m) f.types.items
-  pub enums : StatesEnums all (string_bytes f.package) (children_at 5 m) f.enums.items
-  pub services : StatesServices all (string_bytes f.package) (children_at 6 m) f.services.items
-  pub options : StatesOptions (options_at 8 m) f.options.items
+  pub name : text_at proto.file_name m ≡ string_bytes f.name
+  pub package_name : text_at proto.file_package m ≡ string_bytes f.package
+  pub imports : kept_imports skips (numbers_at proto.file_public_dependency m) 0 (texts_at proto.file_dependency m) ≡ map import_of f.imports.items
+  pub imports_once : are_distinct (texts_at proto.file_dependency m) ≡ true
+  pub public_places : list_all (is_place (length (texts_at proto.file_dependency m))) (numbers_at proto.file_public_dependency m) ≡ true
+  pub types : StatesTypes most_deep all (string_bytes f.package) (children_at proto.file_message_type m) f.types.items
+  pub enums : StatesEnums all (string_bytes f.package) (children_at proto.file_enum_type m) f.enums.items
+  pub services : StatesServices all (string_bytes f.package) (children_at proto.file_service m) f.services.items
+  pub options : StatesOptions (options_at proto.file_options m) f.options.items
   pub syntax : is_proto3 m ≡ true

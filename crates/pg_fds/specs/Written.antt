@@ -5,11 +5,12 @@ use Rattle.pg_dyn.specs.Encoding.{cap, enc}
 use Rattle.pg_fds.specs.Descriptor.{descriptor_shape, file_set}
 use Rattle.pg_fds.specs.Items.{Items, children}
 use Rattle.pg_fds.specs.Places.{declared_in}
+use Rattle.pg_fds.specs.Proto as proto
 use Rattle.pg_fds.specs.Set.{file_items, set_message}
 
 -- the parts of the set's message
 abbrev pub set_items : Parts → Items
-set_items parts = children 1 (map (file_items (declared_in parts)) parts.files.items)
+set_items parts = children proto.set_file (map (file_items (declared_in parts)) parts.files.items)
 
 -- the set has more bytes than an encoding may have
 abbrev pub HasNoSet : Parts → Type 0

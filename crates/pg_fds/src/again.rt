@@ -4,11 +4,9 @@ ghost use Rattle.std.specs.Prelude.{ℕ, ◌≡◌, ◌<◌, ◌^◌, ◌⊎◌,
 ghost use Rattle.std.specs.List.{AllByRecursion};
 ghost use Rattle.pg_schema.specs.Sound.{IsSound};
 ghost use Rattle.pg_fds.specs.declared.error.FdsError.TheVariants as errors;
-ghost use Rattle.pg_fds.specs.InOrder.{StandInOrder};
 ghost use Rattle.pg_fds.specs.ReadAgain.{IsReadAgain, IsTooLong, MayRefuseAgain};
 ghost use Rattle.pg_fds.specs.Reads.{IsHeld, fds_reads};
 ghost use Rattle.pg_fds.specs.Set.{fds};
-ghost use Rattle.pg_fds.specs.SetOrder.{in_set_order};
 ghost use Rattle.pg_fds.specs.Small.{HasLowEnums, HasLowPlaces, IsLowEnum, IsLowService};
 ghost use Rattle.pg_fds.specs.Views.{parts_view};
 
@@ -74,20 +72,16 @@ fn see_places(schema: &Schema)
 }
 
 /// The schema that `read` makes of what `write` writes. Where each file imports no path twice and stands
-/// behind those that it imports, and message types are nested at most 64 deep, it says the same as the one that
-/// is written, renumbered where message types, enums and services don't stand in order of declaration, and the
-/// errors are `Memory`, and `Bytes` of `TooLong`, only where the schema has no set.
+/// behind those that it imports, message types are nested at most 64 deep, and all is numbered as `read`
+/// numbers it, it is the schema that is written, and the errors are `Memory`, and `Bytes` of `TooLong`, only
+/// where the schema has no set.
 ///
-/// Of any other it is a schema that the same set states, with all in order of declaration, and the errors are
-/// those of `write` and of `read`.
+/// Of any other it is a schema that the same set states, and the errors are those of `write` and of `read`.
 #[tactic(auto, using(crate::proofs::ReadAgain::write_told))]
 pub fn read_again(alloc: Global, schema: &Schema) -> Result<Schema, FdsError>
     ensures stated { IfOk result (λ made. (bytes : List ℕ) → fds schema.now bytes → fds_reads bytes made) }
     ensures sound { IfOk result IsSound }
-    ensures places { IfOk result (λ made. StandInOrder made) }
-    ensures same { IfOk result (λ made. IsReadAgain schema.now → parts_view made ≡ parts_view (in_set_order schema.now)) }
-    ensures exact { IfOk result (λ made. IsReadAgain schema.now → StandInOrder schema.now
-        → parts_view made ≡ parts_view schema.now) }
+    ensures same { IfOk result (λ made. IsReadAgain schema.now → parts_view made ≡ parts_view schema.now) }
     ensures refused { IfErr result (λ e. IsReadAgain schema.now → (e ≡ errors.Memory) ⊎ IsTooLong schema.now e) }
     ensures told { IfErr result (MayRefuseAgain schema.now) }
 {

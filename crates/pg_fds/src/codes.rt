@@ -7,9 +7,11 @@ ghost use Rattle.pg_dyn.specs.Kept.{message_of};
 ghost use Rattle.pg_fds.specs.Codes.{file_has_types, have_types, is_taken, label_codes, scalars, type_codes};
 ghost use Rattle.pg_fds.specs.Fields.{scalar_code};
 ghost use Rattle.pg_fds.specs.Lent.{lent};
+ghost use Rattle.pg_fds.specs.Proto as proto;
 ghost use Rattle.pg_fds.specs.Said.{number_at};
 
 use crate::fields::scalar_code;
+use crate::proto;
 use crate::said::{MOST_DEEP, children, number};
 use crate::states::label_of;
 use pg_dyn::Message;
@@ -43,14 +45,14 @@ const SCALARS: [Scalar; 15] = [
 
 // Whether the field's type is that scalar.
 fn has_code(field: &Message, scalar: Scalar) -> bool
-    ensures { result ≡ int_eq (number_at 5 (message_of field.now)) (pos (scalar_code scalar)) }
+    ensures { result ≡ int_eq (number_at proto.field_type (message_of field.now)) (pos (scalar_code scalar)) }
 {
-    number(field, 5) == i128::from(scalar_code(scalar))
+    number(field, proto::FIELD_TYPE) == i128::from(scalar_code(scalar))
 }
 
 /// The scalar that a field's type is. `None` of messages, enums and codes that aren't taken.
 pub fn scalar_of(field: &Message) -> Option<Scalar>
-    ensures { result ≡ find (λ s. int_eq (number_at 5 (message_of field.now)) (pos (scalar_code s))) scalars }
+    ensures { result ≡ find (λ s. int_eq (number_at proto.field_type (message_of field.now)) (pos (scalar_code s))) scalars }
 {
     for scalar in SCALARS {
         let is_of = has_code(field, scalar);
@@ -103,7 +105,7 @@ fn both(first: bool, second: bool) -> bool
 fn is_taken(field: &Message) -> bool
     ensures { result ≡ is_taken (message_of field.now) }
 {
-    let code = number(field, 5);
+    let code = number(field, proto::FIELD_TYPE);
     let label = label_of(field);
     let has_type = is_type(code);
     let has_label = is_label(label);
@@ -132,10 +134,10 @@ pub fn have_types(alloc: Global, depth: usize, messages: &[&Message]) -> Result<
     }
     let mut all = true;
     for message in messages {
-        let own = children(alloc, message, 2)?;
+        let own = children(alloc, message, proto::MESSAGE_FIELD)?;
         let fields = own.as_slice();
         let taken = are_taken(fields);
-        let inside = children(alloc, message, 3)?;
+        let inside = children(alloc, message, proto::MESSAGE_NESTED_TYPE)?;
         let types = inside.as_slice();
         let deep = have_types(alloc, depth - 1, types)?;
         let here = both(taken, deep);
@@ -149,7 +151,7 @@ pub fn have_types(alloc: Global, depth: usize, messages: &[&Message]) -> Result<
 fn file_has_types(alloc: Global, file: &Message) -> Result<bool, AllocError>
     ensures { IfOk result (λ taken. taken ≡ file_has_types (message_of file.now)) }
 {
-    let declared = children(alloc, file, 4)?;
+    let declared = children(alloc, file, proto::FILE_MESSAGE_TYPE)?;
     let types = declared.as_slice();
     let taken = have_types(alloc, MOST_DEEP, types)?;
     Ok(taken)

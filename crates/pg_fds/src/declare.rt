@@ -15,6 +15,7 @@ ghost use Rattle.pg_fds.specs.StatesTypes.{AreMarked, real_oneofs};
 
 use crate::error::Unstated;
 use crate::outline::Named;
+use crate::proto;
 use crate::said::text;
 use pg_dyn::Message;
 use std::alloc::{AllocError, Global};
@@ -60,7 +61,7 @@ fn declare_own(
     ensures declares { OnOk result ((packages : List (List ℕ)) → Declares packages (full_name scope.now (message_of message.now) ∷ []) names.old names.new) }
     ensures refused { IfErr result (λ e. (packages : List (List ℕ)) → WantsMemory packages (full_name scope.now (message_of message.now) ∷ []) names.old e) }
 {
-    let own = text(message, 1)?;
+    let own = text(message, proto::NAME)?;
     let full = full_name(alloc, scope, own)?;
     declare(names, full, named)
 }

@@ -17,6 +17,11 @@ use crate::descriptor::{LABEL, NUMBER, TYPE};
 use crate::fields::{element_code, element_name};
 use crate::names::entry_name;
 use crate::places::{FIELD, MESSAGE, MESSAGE_OPTIONS};
+use crate::proto;
+use crate::proto::{
+    FIELD_JSON_NAME, FIELD_LABEL, FIELD_NAME, FIELD_NUMBER, FIELD_TYPE, FIELD_TYPE_NAME,
+    MESSAGE_FIELD, MESSAGE_MAP_ENTRY, MESSAGE_NAME,
+};
 use pg_dyn::{Message, Value};
 use pg_schema::{Element, Field, Presence, Scalar, Schema};
 use std::alloc::{AllocError, Global};
@@ -38,12 +43,12 @@ fn field_message(
     let mut message = empty(alloc, FIELD);
     let to = &mut message;
     let type_name = element_name(alloc, source, element)?;
-    put_text(alloc, to, table, FIELD, 1, name)?;
-    put_count(to, table, FIELD, 3, NUMBER, number)?;
-    put_count(to, table, FIELD, 4, LABEL, 1)?;
-    put_count(to, table, FIELD, 5, TYPE, element_code(element))?;
-    put_maybe_text(alloc, to, table, FIELD, 6, type_name)?;
-    put_text(alloc, to, table, FIELD, 10, name)?;
+    put_text(alloc, to, table, FIELD, FIELD_NAME, name)?;
+    put_count(to, table, FIELD, FIELD_NUMBER, NUMBER, number)?;
+    put_count(to, table, FIELD, FIELD_LABEL, LABEL, 1)?;
+    put_count(to, table, FIELD, FIELD_TYPE, TYPE, element_code(element))?;
+    put_maybe_text(alloc, to, table, FIELD, FIELD_TYPE_NAME, type_name)?;
+    put_text(alloc, to, table, FIELD, FIELD_JSON_NAME, name)?;
     Ok(message)
 }
 
@@ -76,7 +81,13 @@ fn entry_options(alloc: Global, table: &Schema) -> Result<Message, AllocError>
     ensures kept { IfOk result (IsOf MESSAGE_OPTIONS) }
 {
     let mut options = empty(alloc, MESSAGE_OPTIONS);
-    put_flag(&mut options, table, MESSAGE_OPTIONS, 7, true)?;
+    put_flag(
+        &mut options,
+        table,
+        MESSAGE_OPTIONS,
+        MESSAGE_MAP_ENTRY,
+        true,
+    )?;
     Ok(options)
 }
 
@@ -98,9 +109,17 @@ fn entry_message(
     let name = entry_name(alloc, &field.name)?;
     let fields = key_and_value(alloc, table, source, key, field.element)?;
     let options = entry_options(alloc, table)?;
-    put_text(alloc, to, table, MESSAGE, 1, &name)?;
-    put_children(to, table, MESSAGE, 2, FIELD, fields)?;
-    put_child(alloc, to, table, MESSAGE, 7, MESSAGE_OPTIONS, options)?;
+    put_text(alloc, to, table, MESSAGE, MESSAGE_NAME, &name)?;
+    put_children(to, table, MESSAGE, MESSAGE_FIELD, FIELD, fields)?;
+    put_child(
+        alloc,
+        to,
+        table,
+        MESSAGE,
+        proto::MESSAGE_OPTIONS,
+        MESSAGE_OPTIONS,
+        options,
+    )?;
     Ok(message)
 }
 

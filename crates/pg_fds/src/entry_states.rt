@@ -16,12 +16,14 @@ ghost use Rattle.pg_fds.specs.declared.error.Unstated.TheVariants.{Memory};
 ghost use Rattle.pg_fds.specs.FilePlaces.{IsIndex};
 ghost use Rattle.pg_fds.specs.Lent.{lent};
 ghost use Rattle.pg_fds.specs.Places.{declared_in};
+ghost use Rattle.pg_fds.specs.Proto as proto;
 ghost use Rattle.pg_fds.specs.Said.{item_at, items_at, options_at, text_at};
 ghost use Rattle.pg_fds.specs.States.{AreKeyAndValue, HasEntry, StatesEntries, StatesEntry, StatesEntryField};
 
 use crate::error::Unstated;
 use crate::fields::{element_code, element_name};
 use crate::names::entry_name;
+use crate::proto;
 use crate::said::{children, ensure, flag, item, number, option, text};
 use crate::states::{has_json_name, has_type_name, label_of, same_text};
 use pg_dyn::{Message, Value};
@@ -87,15 +89,15 @@ fn entry_field(
 {
     let type_name = element_name(alloc, source, element)?;
     let json_name = default_json_name(alloc, name)?;
-    same_text(text(message, 1)?, name)?;
-    ensure(number(message, 3) == i128::from(place))?;
+    same_text(text(message, proto::FIELD_NAME)?, name)?;
+    ensure(number(message, proto::FIELD_NUMBER) == i128::from(place))?;
     ensure(label_of(message) == 1)?;
-    ensure(number(message, 5) == i128::from(element_code(element)))?;
+    ensure(number(message, proto::FIELD_TYPE) == i128::from(element_code(element)))?;
     has_type_name(message, &type_name)?;
-    has_no_options(message, 8)?;
-    lacks(message, 9)?;
+    has_no_options(message, proto::FIELD_OPTIONS)?;
+    lacks(message, proto::FIELD_ONEOF_INDEX)?;
     has_json_name(alloc, message, &json_name)?;
-    ensure(!flag(message, 17))
+    ensure(!flag(message, proto::FIELD_PROTO3_OPTIONAL))
 }
 
 fn key_and_value(
@@ -128,26 +130,26 @@ fn entry(
     ensures refused { IfErr result (λ r. StatesEntry (declared_in source.now) field.now key (message_of message.now) → r ≡ Memory) }
 {
     let name = entry_name(alloc, &field.name)?;
-    same_text(text(message, 1)?, &name)?;
-    let fields = children(alloc, message, 2)?;
+    same_text(text(message, proto::MESSAGE_NAME)?, &name)?;
+    let fields = children(alloc, message, proto::MESSAGE_FIELD)?;
     key_and_value(alloc, source, &fields, key, field.element)?;
-    lacks_all(message, 3)?;
-    lacks_all(message, 4)?;
-    ensure(option(message, 7, 3).is_none())?;
-    lacks_all(message, 8)?;
-    lacks_all(message, 9)?;
-    lacks_all(message, 10)
+    lacks_all(message, proto::MESSAGE_NESTED_TYPE)?;
+    lacks_all(message, proto::MESSAGE_ENUM_TYPE)?;
+    ensure(option(message, proto::MESSAGE_OPTIONS, proto::MESSAGE_DEPRECATED).is_none())?;
+    lacks_all(message, proto::MESSAGE_ONEOF_DECL)?;
+    lacks_all(message, proto::MESSAGE_RESERVED_RANGE)?;
+    lacks_all(message, proto::MESSAGE_RESERVED_NAME)
 }
 
 // The places of entry types by their names.
 fn places(alloc: Global, entries: &[&Message]) -> Result<BTreeMap<String, usize>, Unstated>
-    ensures index { IfOk result (λ places. are_distinct (map (text_at 1) (map message_of (lent entries.now))) ≡ true
-        → IsIndex (map (text_at 1) (map message_of (lent entries.now))) places) }
-    ensures refused { IfErr result (λ r. AllByRecursion IsUtf8 (map (text_at 1) (map message_of (lent entries.now))) → r ≡ Memory) }
+    ensures index { IfOk result (λ places. are_distinct (map (text_at proto.message_name) (map message_of (lent entries.now))) ≡ true
+        → IsIndex (map (text_at proto.message_name) (map message_of (lent entries.now))) places) }
+    ensures refused { IfErr result (λ r. AllByRecursion IsUtf8 (map (text_at proto.message_name) (map message_of (lent entries.now))) → r ≡ Memory) }
 {
     let mut places = BTreeMap::new(alloc);
     for (place, message) in entries.iter().enumerate() {
-        let name = String::from_str(alloc, text(message, 1)?)?;
+        let name = String::from_str(alloc, text(message, proto::MESSAGE_NAME)?)?;
         places.insert(name, place)?;
     }
     Ok(places)
@@ -179,7 +181,7 @@ fn names_entry(
     key: Scalar,
 ) -> Result<(), Unstated>
     ensures ok { OnOk result (Any (StatesEntry (declared_in source.now) field.now key) (map message_of (lent entries.now))) }
-    ensures refused { IfErr result (λ r. IsIndex (map (text_at 1) (map message_of (lent entries.now))) places.now
+    ensures refused { IfErr result (λ r. IsIndex (map (text_at proto.message_name) (map message_of (lent entries.now))) places.now
         → Any (StatesEntry (declared_in source.now) field.now key) (map message_of (lent entries.now)) → r ≡ Memory) }
 {
     let place = place_of(alloc, places, field)?;
@@ -198,7 +200,7 @@ fn has_entry(
     field: &Field,
 ) -> Result<(), Unstated>
     ensures ok { OnOk result (HasEntry (declared_in source.now) (map message_of (lent entries.now)) field.now) }
-    ensures refused { IfErr result (λ r. IsIndex (map (text_at 1) (map message_of (lent entries.now))) places.now
+    ensures refused { IfErr result (λ r. IsIndex (map (text_at proto.message_name) (map message_of (lent entries.now))) places.now
         → HasEntry (declared_in source.now) (map message_of (lent entries.now)) field.now → r ≡ Memory) }
 {
     match field.presence {
@@ -229,8 +231,8 @@ pub fn entries(
     fields: &[Field],
 ) -> Result<(), Unstated>
     ensures ok { OnOk result (StatesEntries (declared_in source.now) (map message_of (lent messages.now)) fields.now) }
-    ensures refused { IfErr result (λ r. AllByRecursion IsUtf8 (map (text_at 1) (map message_of (lent messages.now)))
-        → are_distinct (map (text_at 1) (map message_of (lent messages.now))) ≡ true
+    ensures refused { IfErr result (λ r. AllByRecursion IsUtf8 (map (text_at proto.message_name) (map message_of (lent messages.now)))
+        → are_distinct (map (text_at proto.message_name) (map message_of (lent messages.now))) ≡ true
         → StatesEntries (declared_in source.now) (map message_of (lent messages.now)) fields.now → r ≡ Memory) }
 {
     ensure(messages.len() == map_count(fields))?;

@@ -11,6 +11,11 @@ use crate::building::{empty, put_children, put_options, put_text, put_texts, put
 use crate::names::own_name;
 use crate::options::{one_flag, two_flags};
 use crate::places::{ENUM, ENUM_OPTIONS, VALUE, VALUE_OPTIONS, VALUE_RANGE};
+use crate::proto;
+use crate::proto::{
+    ENUM_NAME, ENUM_RESERVED_NAME, ENUM_RESERVED_RANGE, ENUM_VALUE, RANGE_END, RANGE_START,
+    VALUE_DEPRECATED, VALUE_NAME, VALUE_NUMBER,
+};
 use pg_dyn::{Message, Value};
 use pg_schema::{EnumId, EnumType, EnumValue, ReservedValues, Schema};
 use std::alloc::{AllocError, Global};
@@ -23,10 +28,18 @@ fn value_message(alloc: Global, table: &Schema, value: &EnumValue) -> Result<Mes
 {
     let mut message = empty(alloc, VALUE);
     let stated = value.options.deprecated;
-    let options = one_flag(alloc, table, VALUE_OPTIONS, 1, stated)?;
-    put_text(alloc, &mut message, table, VALUE, 1, &value.name)?;
-    put_whole(&mut message, table, VALUE, 2, value.number)?;
-    put_options(alloc, &mut message, table, VALUE, 3, VALUE_OPTIONS, options)?;
+    let options = one_flag(alloc, table, VALUE_OPTIONS, VALUE_DEPRECATED, stated)?;
+    put_text(alloc, &mut message, table, VALUE, VALUE_NAME, &value.name)?;
+    put_whole(&mut message, table, VALUE, VALUE_NUMBER, value.number)?;
+    put_options(
+        alloc,
+        &mut message,
+        table,
+        VALUE,
+        proto::VALUE_OPTIONS,
+        VALUE_OPTIONS,
+        options,
+    )?;
     Ok(message)
 }
 
@@ -41,8 +54,8 @@ fn range_message(
     ensures kept { IfOk result (IsOf VALUE_RANGE) }
 {
     let mut message = empty(alloc, VALUE_RANGE);
-    put_whole(&mut message, table, VALUE_RANGE, 1, range.first)?;
-    put_whole(&mut message, table, VALUE_RANGE, 2, range.last)?;
+    put_whole(&mut message, table, VALUE_RANGE, RANGE_START, range.first)?;
+    put_whole(&mut message, table, VALUE_RANGE, RANGE_END, range.last)?;
     Ok(message)
 }
 
@@ -96,11 +109,26 @@ fn enum_message(alloc: Global, table: &Schema, declared: &EnumType) -> Result<Me
         stated.deprecated,
     )?;
     let ranges = ranges(alloc, table, &declared.reserved_numbers)?;
-    put_text(alloc, to, table, ENUM, 1, own_name(&declared.name))?;
-    put_children(to, table, ENUM, 2, VALUE, values)?;
-    put_options(alloc, to, table, ENUM, 3, ENUM_OPTIONS, options)?;
-    put_children(to, table, ENUM, 4, VALUE_RANGE, ranges)?;
-    put_texts(alloc, to, table, ENUM, 5, &declared.reserved_names)?;
+    put_text(alloc, to, table, ENUM, ENUM_NAME, own_name(&declared.name))?;
+    put_children(to, table, ENUM, ENUM_VALUE, VALUE, values)?;
+    put_options(
+        alloc,
+        to,
+        table,
+        ENUM,
+        proto::ENUM_OPTIONS,
+        ENUM_OPTIONS,
+        options,
+    )?;
+    put_children(to, table, ENUM, ENUM_RESERVED_RANGE, VALUE_RANGE, ranges)?;
+    put_texts(
+        alloc,
+        to,
+        table,
+        ENUM,
+        ENUM_RESERVED_NAME,
+        &declared.reserved_names,
+    )?;
     Ok(message)
 }
 

@@ -31,7 +31,7 @@ pub enum FdsError {
 
 impl FdsError {
     ghost use Rattle.std.specs.Prelude.{◌≡◌};
-    ghost use Rattle.pg_fds.specs.Codes.{code_of, place_of};
+    ghost use Rattle.pg_fds.specs.ErrorCodes.{code_of, place_of};
 
     /// The number behind the E by which users know the error: of the bytes of a set, and of a rule
     /// that it breaks, the one that says what is wrong there.

@@ -16,6 +16,11 @@ use crate::descriptor::{LABEL, NUMBER, TYPE};
 use crate::names::{dotted, dotted_within, entry_name};
 use crate::options::two_flags;
 use crate::places::{FIELD, FIELD_OPTIONS};
+use crate::proto;
+use crate::proto::{
+    FIELD_JSON_NAME, FIELD_LABEL, FIELD_NAME, FIELD_NUMBER, FIELD_ONEOF_INDEX,
+    FIELD_PROTO3_OPTIONAL, FIELD_TYPE, FIELD_TYPE_NAME,
+};
 use pg_dyn::Message;
 use pg_schema::{Element, Field, Presence, Scalar, Schema};
 use std::alloc::{AllocError, Global};
@@ -157,14 +162,28 @@ pub fn field_message(
         stated.deprecated,
     )?;
     let place = oneof_place(next, field);
-    put_text(alloc, to, table, FIELD, 1, &field.name)?;
-    put_count(to, table, FIELD, 3, NUMBER, field.number)?;
-    put_count(to, table, FIELD, 4, LABEL, label(field.presence))?;
-    put_count(to, table, FIELD, 5, TYPE, code)?;
-    put_maybe_text(alloc, to, table, FIELD, 6, name)?;
-    put_options(alloc, to, table, FIELD, 8, FIELD_OPTIONS, options)?;
-    put_maybe_count(to, table, FIELD, 9, place)?;
-    put_text(alloc, to, table, FIELD, 10, &field.json_name)?;
-    put_mark(to, table, FIELD, 17, field.states_optional)?;
+    put_text(alloc, to, table, FIELD, FIELD_NAME, &field.name)?;
+    put_count(to, table, FIELD, FIELD_NUMBER, NUMBER, field.number)?;
+    put_count(to, table, FIELD, FIELD_LABEL, LABEL, label(field.presence))?;
+    put_count(to, table, FIELD, FIELD_TYPE, TYPE, code)?;
+    put_maybe_text(alloc, to, table, FIELD, FIELD_TYPE_NAME, name)?;
+    put_options(
+        alloc,
+        to,
+        table,
+        FIELD,
+        proto::FIELD_OPTIONS,
+        FIELD_OPTIONS,
+        options,
+    )?;
+    put_maybe_count(to, table, FIELD, FIELD_ONEOF_INDEX, place)?;
+    put_text(alloc, to, table, FIELD, FIELD_JSON_NAME, &field.json_name)?;
+    put_mark(
+        to,
+        table,
+        FIELD,
+        FIELD_PROTO3_OPTIONAL,
+        field.states_optional,
+    )?;
     Ok(message)
 }

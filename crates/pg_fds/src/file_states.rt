@@ -14,6 +14,7 @@ ghost use Rattle.pg_fds.specs.declared.error.Unstated.TheVariants.{Memory};
 ghost use Rattle.pg_fds.specs.Building.{shown};
 ghost use Rattle.pg_fds.specs.Lent.{lent};
 ghost use Rattle.pg_fds.specs.Places.{declared_in};
+ghost use Rattle.pg_fds.specs.Proto as proto;
 ghost use Rattle.pg_fds.specs.Said.{item_at, options_at, text_at, texts_at};
 ghost use Rattle.pg_fds.specs.StatesFiles.{StatesFile, StatesOptions, import_of, is_descriptor, is_proto3, is_skipped, kept_imports, option_item, stated_option};
 ghost use Rattle.pg_fds.specs.StatesTypes.{AreMarked};
@@ -21,6 +22,7 @@ ghost use Rattle.pg_fds.specs.StatesTypes.{AreMarked};
 use crate::error::Unstated;
 use crate::files::mode_code;
 use crate::oneof_states::marks;
+use crate::proto;
 use crate::said::{MOST_DEEP, child_in, children, ensure, item, numbers, text, texts};
 use crate::service_states::services;
 use crate::states::{enums, same_text};
@@ -45,18 +47,18 @@ pub fn is_descriptor(path: &str) -> bool
 /// Whether the file is proto3. Refused only where its syntax is no text.
 pub fn is_proto3(message: &Message) -> Result<bool, Unstated>
     ensures ok { IfOk result (λ proto3. proto3 ≡ is_proto3 (message_of message.now)) }
-    ensures refused { OnErr result (IsUtf8 (text_at 12 (message_of message.now)) → ⊥) }
+    ensures refused { OnErr result (IsUtf8 (text_at proto.file_syntax (message_of message.now)) → ⊥) }
 {
-    Ok(text(message, 12)? == "proto3")
+    Ok(text(message, proto::FILE_SYNTAX)? == "proto3")
 }
 
 /// Whether the file is skipped: descriptor.proto, where it isn't proto3. Refused only where its name is no
 /// text.
 pub fn is_skipped(message: &Message) -> Result<bool, Unstated>
     ensures ok { IfOk result (λ skipped. skipped ≡ is_skipped (message_of message.now)) }
-    ensures refused { OnErr result (IsUtf8 (text_at 1 (message_of message.now)) → ⊥) }
+    ensures refused { OnErr result (IsUtf8 (text_at proto.file_name (message_of message.now)) → ⊥) }
 {
-    if !is_descriptor(text(message, 1)?) {
+    if !is_descriptor(text(message, proto::FILE_NAME)?) {
         return Ok(false);
     }
     // A syntax that is no text isn't that of proto3.
@@ -123,9 +125,9 @@ fn has_options(message: &Message, options: &[FileOption]) -> Result<(), Unstated
 
 /// The message of a file's options, where there is one.
 pub fn own_options(message: &Message) -> Option<&Message>
-    ensures { unwrap_or (option_map message_of (option_copied result)) (ends []) ≡ options_at 8 (message_of message.now) }
+    ensures { unwrap_or (option_map message_of (option_copied result)) (ends []) ≡ options_at proto.file_options (message_of message.now) }
 {
-    let found = item(message, 8);
+    let found = item(message, proto::FILE_OPTIONS);
     match found {
         Some(value) => child_in(value),
         None => None,
@@ -134,10 +136,10 @@ pub fn own_options(message: &Message) -> Option<&Message>
 
 // The options that the file's message says.
 fn options(message: &Message, options: &[FileOption]) -> Result<(), Unstated>
-    ensures ok { OnOk result (StatesOptions (options_at 8 (message_of message.now)) options.now) }
+    ensures ok { OnOk result (StatesOptions (options_at proto.file_options (message_of message.now)) options.now) }
     ensures refused { OnErr result (is_rising (0 ∷ option_numbers options.now) ≡ true
         → list_all is_file_option options.now ≡ true
-        → StatesOptions (options_at 8 (message_of message.now)) options.now → ⊥) }
+        → StatesOptions (options_at proto.file_options (message_of message.now)) options.now → ⊥) }
 {
     match own_options(message) {
         Some(child) => has_options(child, options),
@@ -195,32 +197,32 @@ pub fn file(
     message: &Message,
     declared: &File,
 ) -> Result<(), Unstated>
-    requires { are_distinct (texts_at 3 (message_of message.now)) ≡ true }
+    requires { are_distinct (texts_at proto.file_dependency (message_of message.now)) ≡ true }
     ensures ok { OnOk result (StatesFile (declared_in source.now) skips (message_of message.now) declared.now) }
     ensures refused { IfErr result (λ r. IsSound source.now → is_file declared.now ≡ true
         → StatesFile (declared_in source.now) skips (message_of message.now) declared.now → r ≡ Memory) }
 {
-    let paths = texts(alloc, message, 3)?;
-    let public = numbers(alloc, message, 10)?;
+    let paths = texts(alloc, message, proto::FILE_DEPENDENCY)?;
+    let public = numbers(alloc, message, proto::FILE_PUBLIC_DEPENDENCY)?;
     let marks = marks(alloc, &public, paths.len())?;
     let scope = declared.package.as_str();
-    same_text(text(message, 1)?, &declared.name)?;
-    same_text(text(message, 2)?, scope)?;
+    same_text(text(message, proto::FILE_NAME)?, &declared.name)?;
+    same_text(text(message, proto::FILE_PACKAGE)?, scope)?;
     kept_imports(skips, &public, &marks, &paths, &declared.imports)?;
-    let inside = children(alloc, message, 4)?;
+    let inside = children(alloc, message, proto::FILE_MESSAGE_TYPE)?;
     types(alloc, source, MOST_DEEP, scope, &inside, &declared.types)?;
     enums(
         alloc,
         source,
         scope,
-        &children(alloc, message, 5)?,
+        &children(alloc, message, proto::FILE_ENUM_TYPE)?,
         &declared.enums,
     )?;
     services(
         alloc,
         source,
         scope,
-        &children(alloc, message, 6)?,
+        &children(alloc, message, proto::FILE_SERVICE)?,
         &declared.services,
     )?;
     options(message, &declared.options)?;

@@ -27,6 +27,11 @@ use crate::descriptor::{MODE, NUMBER};
 use crate::enums::enums;
 use crate::messages::type_message;
 use crate::places::{ENUM, FILE, FILE_OPTIONS, MESSAGE, SERVICE};
+use crate::proto;
+use crate::proto::{
+    FILE_DEPENDENCY, FILE_ENUM_TYPE, FILE_MESSAGE_TYPE, FILE_NAME, FILE_PACKAGE,
+    FILE_PUBLIC_DEPENDENCY, FILE_SERVICE, FILE_SYNTAX,
+};
 use crate::services::services;
 use pg_dyn::{Message, Value};
 use pg_schema::{File, FileOption, Import, OptimizeMode, OptionValue, Schema, TypeId};
@@ -137,7 +142,7 @@ fn put_places(
     ensures last { OnOk result (last_number message.new ≤ 10) }
 {
     let places = public_places(alloc, imports)?;
-    put_all(message, table, FILE, 10, NUMBER, places)
+    put_all(message, table, FILE, FILE_PUBLIC_DEPENDENCY, NUMBER, places)
 }
 
 // The messages of the message types at these places, with what stands inside them, nested so many deep.
@@ -196,15 +201,23 @@ fn file_message(
     let enums = enums(alloc, table, source, &file.enums)?;
     let services = services(alloc, table, source, &file.services)?;
     let options = options(alloc, table, &file.options)?;
-    put_text(alloc, to, table, FILE, 1, &file.name)?;
-    put_filled(alloc, to, table, FILE, 2, &file.package)?;
-    put_texts(alloc, to, table, FILE, 3, &paths)?;
-    put_children(to, table, FILE, 4, MESSAGE, types)?;
-    put_children(to, table, FILE, 5, ENUM, enums)?;
-    put_children(to, table, FILE, 6, SERVICE, services)?;
-    put_options(alloc, to, table, FILE, 8, FILE_OPTIONS, options)?;
+    put_text(alloc, to, table, FILE, FILE_NAME, &file.name)?;
+    put_filled(alloc, to, table, FILE, FILE_PACKAGE, &file.package)?;
+    put_texts(alloc, to, table, FILE, FILE_DEPENDENCY, &paths)?;
+    put_children(to, table, FILE, FILE_MESSAGE_TYPE, MESSAGE, types)?;
+    put_children(to, table, FILE, FILE_ENUM_TYPE, ENUM, enums)?;
+    put_children(to, table, FILE, FILE_SERVICE, SERVICE, services)?;
+    put_options(
+        alloc,
+        to,
+        table,
+        FILE,
+        proto::FILE_OPTIONS,
+        FILE_OPTIONS,
+        options,
+    )?;
     put_places(alloc, to, table, &file.imports)?;
-    put_text(alloc, to, table, FILE, 12, "proto3")?;
+    put_text(alloc, to, table, FILE, FILE_SYNTAX, "proto3")?;
     Ok(message)
 }
 

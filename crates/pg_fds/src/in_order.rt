@@ -1,5 +1,5 @@
-//! Whether message types, enums and services stand in order of declaration. What doesn't is told as a bad
-//! reference. Counts go from one place to the one behind the last.
+//! Whether message types, enums and services are numbered as those of a schema that a set states. What isn't
+//! is told as a bad reference. Counts go from one place to the one behind the last.
 
 ghost use Rattle.std.specs.Prelude.{◌≡◌, ◌++◌, ◌∷◌, [], ℕ, List, true, IfOk, OnErr, OnOk, flat_map};
 ghost use Rattle.std.specs.List.{list_all};
@@ -89,8 +89,8 @@ fn inner_enums(
         let Some(declared) = source.message_type(*id) else {
             return Err(Unstated::Reference);
         };
-        let own = inner_enums(source, depth - 1, declared.nested_types.as_slice(), end)?;
-        end = enums(declared.nested_enums.as_slice(), own)?;
+        let own = enums(declared.nested_enums.as_slice(), end)?;
+        end = inner_enums(source, depth - 1, declared.nested_types.as_slice(), own)?;
     }
     Ok(end)
 }
@@ -116,8 +116,8 @@ fn all_enums(source: &Schema, files: &[File]) -> Result<usize, Unstated>
 {
     let mut end = 0;
     for file in files {
-        let own = inner_enums(source, MOST_DEEP, file.types.as_slice(), end)?;
-        end = enums(file.enums.as_slice(), own)?;
+        let own = enums(file.enums.as_slice(), end)?;
+        end = inner_enums(source, MOST_DEEP, file.types.as_slice(), own)?;
     }
     Ok(end)
 }
@@ -133,7 +133,7 @@ fn all_services(files: &[File]) -> Result<usize, Unstated>
     Ok(end)
 }
 
-/// All that the schema declares stands in order of declaration. Refused only where it doesn't.
+/// The schema is numbered as one that a set states. Refused only where it isn't.
 pub fn in_order(source: &Schema) -> Result<(), Unstated>
     ensures ok { OnOk result (StandInOrder source.now) }
     ensures refused { OnErr result (StandInOrder source.now → ⊥) }

@@ -5,7 +5,6 @@ ghost use Rattle.pg_fds.specs.Examples.{WorkedSets};
 ghost use Rattle.pg_fds.specs.Pieces.{WorkedPieces};
 ghost use Rattle.pg_fds.specs.PlaceExamples.{WorkedPlaces};
 ghost use Rattle.pg_fds.specs.ReadExamples.{OneFieldRead};
-ghost use Rattle.pg_fds.specs.SetOrderLaws.{SetOrderLaws};
 ghost use Rattle.pg_fds.specs.TextOrder.{TextsAreReadAgain};
 
 use pg_check::laws::linked_parts;
@@ -15,16 +14,9 @@ pub fn descriptor_rules()
     ensures { DescriptorIsSound }
 {}
 
-/// Bytes that state a schema, one that keeps to the rules and whose places 32 bits hold, state it also renumbered in
-/// the order of a set. Renumbered, it keeps to the rules and stands in order, with each message type, enum and service
-/// at its new place. One that stands in order says the same as before.
-pub fn renumbered_sets()
-    ensures { SetOrderLaws }
-{}
-
-/// A schema that linked files declare is one whose set is read as the same schema: each file imports no path twice and
-/// stands behind those that it imports, and message types are nested at most 64 deep. Message types and services stand
-/// where a set has them, so that only enums are renumbered.
+/// A schema that linked files declare is one whose set is read as that schema: each file imports no path twice
+/// and stands behind those that it imports, message types are nested at most 64 deep, and message types, enums
+/// and services are numbered as a set states them.
 pub fn texts_are_read_again()
     ensures { TextsAreReadAgain }
 {
@@ -47,8 +39,8 @@ pub fn worked_reads()
     ensures { OneFieldRead }
 {}
 
-/// Places in order of declaration, by small examples: those of nested message types and their enums, and of
-/// a file with one message type, whose set is read as the same schema.
+/// Places by small examples: those of nested message types and their enums, of an enum behind them, and of a
+/// file with one message type, whose set is read as the same schema.
 pub fn worked_places()
     ensures { WorkedPlaces }
 {}

@@ -28,6 +28,7 @@ mod options;
 mod order;
 mod outline;
 mod places;
+mod proto;
 mod reading;
 mod said;
 mod scope;
@@ -45,8 +46,7 @@ pub use again::read_again;
 pub use descriptor::descriptor_schema;
 pub use error::FdsError;
 pub use laws::{
-    descriptor_rules, renumbered_sets, texts_are_read_again, worked_pieces, worked_places,
-    worked_reads, worked_sets,
+    descriptor_rules, texts_are_read_again, worked_pieces, worked_places, worked_reads, worked_sets,
 };
 pub use reading::read;
 pub use writing::write;

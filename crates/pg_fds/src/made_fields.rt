@@ -18,6 +18,7 @@ ghost use Rattle.pg_fds.specs.declared.error.Unstated.TheVariants.{Memory};
 ghost use Rattle.pg_fds.specs.Fields.{element_code, label, scalar_code};
 ghost use Rattle.pg_fds.specs.Made.{HasNamedEntry, HasNames, IsAlone, IsMember, Means, StandsAt, StatesElement, StatesFieldAt, StatesKnown, StatesPresence};
 ghost use Rattle.pg_fds.specs.Places.{Declared};
+ghost use Rattle.pg_fds.specs.Proto as proto;
 ghost use Rattle.pg_fds.specs.Said.{flag_at, maybe_text_at, number_at, text_at};
 ghost use Rattle.pg_fds.specs.States.{json_name_at};
 ghost use Rattle.pg_fds.specs.Views.{field_view};
@@ -27,6 +28,7 @@ use crate::error::Unstated;
 use crate::fields::element_code;
 use crate::made_maps::{is_map, map_parts};
 use crate::outline::Named;
+use crate::proto;
 use crate::said::{count, ensure, flag, maybe_number, maybe_text, number, option, place_in, text};
 use crate::states::label_of;
 use pg_dyn::Message;
@@ -69,8 +71,8 @@ pub fn resolved(names: &BTreeMap<String, Named>, dotted: &str) -> Result<Named, 
 
 // What a field's items are, where it names no type.
 fn scalar_element(message: &Message) -> Result<Element, Unstated>
-    ensures made { IfOk result (λ made. (s : StatedScalar) → number_at 5 (message_of message.now) ≡ pos (scalar_code s) → made ≡ ScalarElement s) }
-    ensures refused { OnErr result ((s : StatedScalar) → number_at 5 (message_of message.now) ≡ pos (scalar_code s) → ⊥) }
+    ensures made { IfOk result (λ made. (s : StatedScalar) → number_at proto.field_type (message_of message.now) ≡ pos (scalar_code s) → made ≡ ScalarElement s) }
+    ensures refused { OnErr result ((s : StatedScalar) → number_at proto.field_type (message_of message.now) ≡ pos (scalar_code s) → ⊥) }
 {
     let scalar = scalar_of(message);
     match scalar {
@@ -94,10 +96,10 @@ fn meant(named: Named) -> Result<Element, Unstated>
 // The element, where its code is that of the field's type.
 fn of_its_code(message: &Message, element: Element) -> Result<Element, Unstated>
     ensures made { IfOk result (λ made. made ≡ element) }
-    ensures refused { OnErr result (number_at 5 (message_of message.now) ≡ pos (element_code element) → ⊥) }
+    ensures refused { OnErr result (number_at proto.field_type (message_of message.now) ≡ pos (element_code element) → ⊥) }
 {
     let code = element_code(element);
-    if number(message, 5) != i128::from(code) {
+    if number(message, proto::FIELD_TYPE) != i128::from(code) {
         return Err(Unstated::Reference);
     }
     Ok(element)
@@ -110,9 +112,9 @@ fn named_element(
     name: &str,
 ) -> Result<Element, Unstated>
     ensures made { IfOk result (λ made. (all : Declared) (e : StatedElement) → HasNames all names.now
-        → StatesElement all (message_of message.now) e → maybe_text_at 6 (message_of message.now) ≡ Some name.now → made ≡ e) }
+        → StatesElement all (message_of message.now) e → maybe_text_at proto.field_type_name (message_of message.now) ≡ Some name.now → made ≡ e) }
     ensures refused { OnErr result ((all : Declared) (e : StatedElement) → HasNames all names.now → StatesElement all (message_of message.now) e
-        → maybe_text_at 6 (message_of message.now) ≡ Some name.now → ⊥) }
+        → maybe_text_at proto.field_type_name (message_of message.now) ≡ Some name.now → ⊥) }
 {
     let named = resolved(names, name)?;
     let element = meant(named)?;
@@ -125,7 +127,7 @@ pub fn element(names: &BTreeMap<String, Named>, message: &Message) -> Result<Ele
         → StatesElement all (message_of message.now) e → made ≡ e) }
     ensures refused { OnErr result ((all : Declared) (e : StatedElement) → HasNames all names.now → StatesElement all (message_of message.now) e → ⊥) }
 {
-    let name = maybe_text(message, 6)?;
+    let name = maybe_text(message, proto::FIELD_TYPE_NAME)?;
     match name {
         Some(name) => named_element(names, message, name),
         None => scalar_element(message),
@@ -194,13 +196,13 @@ fn is_alone(synthetic: &[bool], members: &[usize], named: Option<i128>) -> Resul
 
 // The oneof that a field stands in: none where it is `optional`, whose oneof is its own.
 fn oneof(scope: &Scope<'_>, message: &Message) -> Result<Option<u32>, Unstated>
-    ensures made { IfOk result (λ made. (f : StatedField) → flag_at 17 (message_of message.now) ≡ f.states_optional
+    ensures made { IfOk result (λ made. (f : StatedField) → flag_at proto.field_proto3_optional (message_of message.now) ≡ f.states_optional
         → StandsAt scope.now.synthetic.items scope.now.members.items (message_of message.now) f → made ≡ f.oneof) }
-    ensures refused { OnErr result ((f : StatedField) → flag_at 17 (message_of message.now) ≡ f.states_optional
+    ensures refused { OnErr result ((f : StatedField) → flag_at proto.field_proto3_optional (message_of message.now) ≡ f.states_optional
         → IfSome f.oneof (λ place. place < 2 ^ 32) → StandsAt scope.now.synthetic.items scope.now.members.items (message_of message.now) f → ⊥) }
 {
-    let named = maybe_number(message, 9);
-    let is_optional = flag(message, 17);
+    let named = maybe_number(message, proto::FIELD_ONEOF_INDEX);
+    let is_optional = flag(message, proto::FIELD_PROTO3_OPTIONAL);
     if !is_optional {
         return real_oneof(&scope.synthetic, named);
     }
@@ -251,7 +253,7 @@ fn presence(
     ensures plain { IfOk result (λ made. is_map made ≡ false) }
     ensures refused { OnErr result ((p : StatedPresence) → StatesPresence (message_of message.now) element member packed p → ⊥) }
 {
-    let optional = flag(message, 17);
+    let optional = flag(message, proto::FIELD_PROTO3_OPTIONAL);
     let label = label_of(message);
     if label != REPEATED {
         return Ok(singular(element, member, optional));
@@ -285,12 +287,12 @@ fn plain_parts(
 // The JSON name, given or default.
 fn json_name(alloc: Global, message: &Message) -> Result<String, Unstated>
     ensures ok { IfOk result (λ name. string_bytes name ≡ json_name_at (message_of message.now)) }
-    ensures refused { IfErr result (λ e. IsUtf8 (text_at 1 (message_of message.now)) → IsUtf8 (json_name_at (message_of message.now)) → e ≡ Memory) }
+    ensures refused { IfErr result (λ e. IsUtf8 (text_at proto.field_name (message_of message.now)) → IsUtf8 (json_name_at (message_of message.now)) → e ≡ Memory) }
 {
-    let given = maybe_text(message, 10)?;
+    let given = maybe_text(message, proto::FIELD_JSON_NAME)?;
     match given {
         Some(given) => Ok(String::from_str(alloc, given)?),
-        None => Ok(default_json_name(alloc, text(message, 1)?)?),
+        None => Ok(default_json_name(alloc, text(message, proto::FIELD_NAME)?)?),
     }
 }
 
@@ -308,7 +310,7 @@ fn parts<'a>(
         → has_presence f.presence f.element member f.states_optional ≡ true → is_packed f.presence f.element packed ≡ true
         → (made.0 ≡ f.presence) × (made.1 ≡ f.element)) }
     ensures left { IfOk result (λ made. (name : List ℕ) → get_by_text entries.new name
-        ≡ (if is_map made.0 && bytes_eq (entry_name (text_at 1 (message_of message.now))) name then None else get_by_text entries.old name)) }
+        ≡ (if is_map made.0 && bytes_eq (entry_name (text_at proto.field_name (message_of message.now))) name then None else get_by_text entries.old name)) }
     ensures refused { IfErr result (λ r. (all : Declared) (f : StatedField)
         → StatesKnown all scope.now.names.now scope.now.name.now (message_of message.now) f → HasNamedEntry all entries.old f
         → has_presence f.presence f.element member f.states_optional ≡ true → is_packed f.presence f.element packed ≡ true → r ≡ Memory) }
@@ -317,7 +319,7 @@ fn parts<'a>(
     if !is_map {
         return plain_parts(scope.names, message, member, packed);
     }
-    ensure(!flag(message, 17))?;
+    ensure(!flag(message, proto::FIELD_PROTO3_OPTIONAL))?;
     map_parts(alloc, scope.names, scope.name, entries, message)
 }
 
@@ -333,27 +335,27 @@ pub fn made_field<'a>(
         → StatesFieldAt all scope.now.names.now scope.now.name.now scope.now.synthetic.items scope.now.members.items (message_of message.now) f
         → HasNamedEntry all entries.old f → field_view made ≡ field_view f) }
     ensures left { IfOk result (λ made. (name : List ℕ) → get_by_text entries.new name
-        ≡ (if is_map made.presence && bytes_eq (entry_name (text_at 1 (message_of message.now))) name then None else get_by_text entries.old name)) }
+        ≡ (if is_map made.presence && bytes_eq (entry_name (text_at proto.field_name (message_of message.now))) name then None else get_by_text entries.old name)) }
     ensures refused { IfErr result (λ r. (all : Declared) (f : StatedField)
         → StatesFieldAt all scope.now.names.now scope.now.name.now scope.now.synthetic.items scope.now.members.items (message_of message.now) f
         → HasNamedEntry all entries.old f → r ≡ Memory) }
 {
-    let packed = option(message, 8, 2);
+    let packed = option(message, proto::FIELD_OPTIONS, proto::FIELD_PACKED);
     let oneof = oneof(scope, message)?;
     let (presence, element) = parts(alloc, scope, entries, message, oneof.is_some(), packed)?;
-    let name = String::from_str(alloc, text(message, 1)?)?;
+    let name = String::from_str(alloc, text(message, proto::FIELD_NAME)?)?;
     let json_name = json_name(alloc, message)?;
     Ok(Field {
-        number: count(message, 3),
+        number: count(message, proto::FIELD_NUMBER),
         name,
         presence,
         element,
         oneof,
         json_name,
-        states_optional: flag(message, 17),
+        states_optional: flag(message, proto::FIELD_PROTO3_OPTIONAL),
         options: FieldOptions {
             packed,
-            deprecated: option(message, 8, 3),
+            deprecated: option(message, proto::FIELD_OPTIONS, proto::FIELD_DEPRECATED),
         },
     })
 }

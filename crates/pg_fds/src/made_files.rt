@@ -20,6 +20,7 @@ ghost use Rattle.pg_fds.specs.Lent.{lent};
 ghost use Rattle.pg_fds.specs.Made.{HasNames, IsOutlinedFile};
 ghost use Rattle.pg_fds.specs.MadeOptions.{StatesThese, mode_of, numbered, views_under};
 ghost use Rattle.pg_fds.specs.Places.{Declared};
+ghost use Rattle.pg_fds.specs.Proto as proto;
 ghost use Rattle.pg_fds.specs.Said.{maybe_text_at, numbers_at, options_at, text_at, texts_at};
 ghost use Rattle.pg_fds.specs.StatesFiles.{StatesCalled, StatesMethod, StatesOptions, StatesService, import_of, is_place, kept_imports, option_item};
 ghost use Rattle.pg_fds.specs.StatesTypes.{AreMarked};
@@ -30,6 +31,7 @@ use crate::file_states::{OPTIONS, is_left_out, own_options};
 use crate::made_fields::resolved;
 use crate::oneof_states::marks;
 use crate::outline::{Named, Outlined, OutlinedFile};
+use crate::proto;
 use crate::said::{
     children, flag, item, maybe_text, number_in, numbers, option, text, text_in, texts,
 };
@@ -75,17 +77,17 @@ fn method(
     ensures refused { IfErr result (λ e. (all : Declared) (d : StatedMethod) → HasNames all names.now → StatesMethod all (message_of message.now) d
         → e ≡ Memory) }
 {
-    let name = String::from_str(alloc, text(message, 1)?)?;
-    let input = called(names, message, 2)?;
-    let output = called(names, message, 3)?;
+    let name = String::from_str(alloc, text(message, proto::METHOD_NAME)?)?;
+    let input = called(names, message, proto::METHOD_INPUT_TYPE)?;
+    let output = called(names, message, proto::METHOD_OUTPUT_TYPE)?;
     Ok(Method {
         name,
         input,
         output,
-        client_streaming: flag(message, 5),
-        server_streaming: flag(message, 6),
+        client_streaming: flag(message, proto::METHOD_CLIENT_STREAMING),
+        server_streaming: flag(message, proto::METHOD_SERVER_STREAMING),
         options: MethodOptions {
-            deprecated: option(message, 4, 33),
+            deprecated: option(message, proto::METHOD_OPTIONS, proto::METHOD_DEPRECATED),
         },
     })
 }
@@ -114,20 +116,20 @@ pub fn service(
     outlined: &Outlined<'_>,
 ) -> Result<Service, Unstated>
     ensures made { IfOk result (λ made. (all : Declared) (scope : List ℕ) (s : StatedService) → HasNames all names.now
-        → string_bytes outlined.now.name ≡ within scope (text_at 1 (message_of outlined.now.message.now))
+        → string_bytes outlined.now.name ≡ within scope (text_at proto.service_name (message_of outlined.now.message.now))
         → StatesService all scope (message_of outlined.now.message.now) s → service_view made ≡ service_view s) }
     ensures refused { IfErr result (λ e. (all : Declared) (scope : List ℕ) (s : StatedService) → HasNames all names.now
         → StatesService all scope (message_of outlined.now.message.now) s → e ≡ Memory) }
 {
     let message = outlined.message;
     let name = outlined.name.clone()?;
-    let inside = children(alloc, message, 2)?;
+    let inside = children(alloc, message, proto::SERVICE_METHOD)?;
     let methods = methods(alloc, names, &inside)?;
     Ok(Service {
         name,
         methods,
         options: ServiceOptions {
-            deprecated: option(message, 3, 33),
+            deprecated: option(message, proto::SERVICE_OPTIONS, proto::SERVICE_DEPRECATED),
         },
     })
 }
@@ -201,9 +203,9 @@ fn options_under(
 
 // The options of a file, by rising number.
 fn options(alloc: Global, message: &Message) -> Result<Vec<FileOption>, Unstated>
-    ensures made { IfOk result (λ made. (os : List StatedOption) → StatesOptions (options_at 8 (message_of message.now)) os
+    ensures made { IfOk result (λ made. (os : List StatedOption) → StatesOptions (options_at proto.file_options (message_of message.now)) os
         → is_rising (0 ∷ option_numbers os) ≡ true → list_all is_file_option os ≡ true → map option_view made.items ≡ map option_view os) }
-    ensures refused { IfErr result (λ e. (os : List StatedOption) → StatesOptions (options_at 8 (message_of message.now)) os → e ≡ Memory) }
+    ensures refused { IfErr result (λ e. (os : List StatedOption) → StatesOptions (options_at proto.file_options (message_of message.now)) os → e ≡ Memory) }
 {
     let own = own_options(message);
     match own {
@@ -240,13 +242,13 @@ fn kept(
 // The imports of a file, without those that are skipped.
 fn imports(alloc: Global, skips: bool, message: &Message) -> Result<Vec<Import>, Unstated>
     ensures made { IfOk result (λ made. map import_of made.items
-        ≡ kept_imports skips (numbers_at 10 (message_of message.now)) 0 (texts_at 3 (message_of message.now))) }
+        ≡ kept_imports skips (numbers_at proto.file_public_dependency (message_of message.now)) 0 (texts_at proto.file_dependency (message_of message.now))) }
     ensures refused { IfErr result (λ e. (is : List StatedImport)
-        → kept_imports skips (numbers_at 10 (message_of message.now)) 0 (texts_at 3 (message_of message.now)) ≡ map import_of is
-        → list_all (is_place (length (texts_at 3 (message_of message.now)))) (numbers_at 10 (message_of message.now)) ≡ true → e ≡ Memory) }
+        → kept_imports skips (numbers_at proto.file_public_dependency (message_of message.now)) 0 (texts_at proto.file_dependency (message_of message.now)) ≡ map import_of is
+        → list_all (is_place (length (texts_at proto.file_dependency (message_of message.now)))) (numbers_at proto.file_public_dependency (message_of message.now)) ≡ true → e ≡ Memory) }
 {
-    let paths = texts(alloc, message, 3)?;
-    let public = numbers(alloc, message, 10)?;
+    let paths = texts(alloc, message, proto::FILE_DEPENDENCY)?;
+    let public = numbers(alloc, message, proto::FILE_PUBLIC_DEPENDENCY)?;
     let marks = marks(alloc, &public, paths.len())?;
     let imports = kept(alloc, skips, &public, &marks, &paths)?;
     Ok(imports)
@@ -259,9 +261,9 @@ pub fn file(alloc: Global, skips: bool, outlined: &OutlinedFile<'_>) -> Result<F
     ensures refused { IfErr result (λ e. (all : Declared) (f : StatedFile) → IsOutlinedFile all skips outlined.now f → is_file f ≡ true → e ≡ Memory) }
 {
     let message = outlined.message;
-    let own_name = text(message, 1)?;
+    let own_name = text(message, proto::FILE_NAME)?;
     let name = String::from_str(alloc, own_name)?;
-    let own_package = text(message, 2)?;
+    let own_package = text(message, proto::FILE_PACKAGE)?;
     let package = String::from_str(alloc, own_package)?;
     let imports = imports(alloc, skips, message)?;
     let options = options(alloc, message)?;

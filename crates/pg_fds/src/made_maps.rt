@@ -16,6 +16,7 @@ ghost use Rattle.pg_fds.specs.declared.error.Unstated.TheVariants.{Memory};
 ghost use Rattle.pg_fds.specs.Lent.{lent};
 ghost use Rattle.pg_fds.specs.Made.{HasNamedEntry, HasNames, StatesElement, StatesKnown, is_entry_type};
 ghost use Rattle.pg_fds.specs.Places.{Declared};
+ghost use Rattle.pg_fds.specs.Proto as proto;
 ghost use Rattle.pg_fds.specs.Said.{maybe_text_at, text_at};
 ghost use Rattle.pg_fds.specs.States.{AreKeyAndValue, StatesEntry, StatesEntryField};
 
@@ -25,6 +26,7 @@ use crate::error::Unstated;
 use crate::made_fields::{element, resolved};
 use crate::names::{dotted_within, entry_name};
 use crate::outline::Named;
+use crate::proto;
 use crate::said::{children, ensure, flag, maybe_text, number, option, text};
 use crate::states::{has_json_name, label_of, same_text};
 use pg_dyn::Message;
@@ -51,13 +53,13 @@ fn check_entry_field(
     ensures refused { IfErr result (λ r. (all : Declared) (n : ℕ) (e : StatedElement) → place ≡ pos n → default_json_name name.now ≡ name.now
         → StatesEntryField all name.now n e (message_of message.now) → r ≡ Memory) }
 {
-    same_text(text(message, 1)?, name)?;
-    same_number(number(message, 3), place)?;
+    same_text(text(message, proto::FIELD_NAME)?, name)?;
+    same_number(number(message, proto::FIELD_NUMBER), place)?;
     same_number(label_of(message), 1)?;
-    has_no_options(message, 8)?;
-    lacks(message, 9)?;
+    has_no_options(message, proto::FIELD_OPTIONS)?;
+    lacks(message, proto::FIELD_ONEOF_INDEX)?;
     has_json_name(alloc, message, name)?;
-    ensure(!flag(message, 17))
+    ensure(!flag(message, proto::FIELD_PROTO3_OPTIONAL))
 }
 
 // What a map's keys are. A type that may not be one is told as that of floats, which may not either.
@@ -112,13 +114,13 @@ fn entry_parts(
         → is_known (length all.types) (length all.enums) f.element ≡ true
         → StatesEntry all f k (message_of entry.now) → r ≡ Memory) }
 {
-    lacks_all(entry, 3)?;
-    lacks_all(entry, 4)?;
-    ensure(option(entry, 7, 3).is_none())?;
-    lacks_all(entry, 8)?;
-    lacks_all(entry, 9)?;
-    lacks_all(entry, 10)?;
-    let fields = children(alloc, entry, 2)?;
+    lacks_all(entry, proto::MESSAGE_NESTED_TYPE)?;
+    lacks_all(entry, proto::MESSAGE_ENUM_TYPE)?;
+    ensure(option(entry, proto::MESSAGE_OPTIONS, proto::MESSAGE_DEPRECATED).is_none())?;
+    lacks_all(entry, proto::MESSAGE_ONEOF_DECL)?;
+    lacks_all(entry, proto::MESSAGE_RESERVED_RANGE)?;
+    lacks_all(entry, proto::MESSAGE_RESERVED_NAME)?;
+    let fields = children(alloc, entry, proto::MESSAGE_FIELD)?;
     key_and_value(alloc, names, &fields)
 }
 
@@ -154,7 +156,7 @@ pub fn is_map(names: &BTreeMap<String, Named>, message: &Message) -> Result<bool
         → StatesKnown all names.now scope (message_of message.now) f → made ≡ is_map f.presence) }
     ensures refused { OnErr result ((all : Declared) (scope : List ℕ) (f : StatedField) → StatesKnown all names.now scope (message_of message.now) f → ⊥) }
 {
-    let name = maybe_text(message, 6)?;
+    let name = maybe_text(message, proto::FIELD_TYPE_NAME)?;
     let Some(name) = name else {
         return Ok(false);
     };
@@ -163,14 +165,14 @@ pub fn is_map(names: &BTreeMap<String, Named>, message: &Message) -> Result<bool
     if !is_entry {
         return Ok(false);
     }
-    Ok(number(message, 5) == MESSAGE_CODE)
+    Ok(number(message, proto::FIELD_TYPE) == MESSAGE_CODE)
 }
 
 // The field names this type.
 fn names_type(message: &Message, full: &str) -> Result<(), Unstated>
-    ensures refused { OnErr result (maybe_text_at 6 (message_of message.now) ≡ Some full.now → ⊥) }
+    ensures refused { OnErr result (maybe_text_at proto.field_type_name (message_of message.now) ≡ Some full.now → ⊥) }
 {
-    let name = maybe_text(message, 6)?;
+    let name = maybe_text(message, proto::FIELD_TYPE_NAME)?;
     match name {
         Some(name) => same_text(name, full),
         None => Err(Unstated::Reference),
@@ -191,12 +193,12 @@ pub fn map_parts<'a>(
         → (made.0 ≡ f.presence) × (made.1 ≡ f.element)) }
     ensures map { IfOk result (λ made. is_map made.0 ≡ true) }
     ensures left { OnOk result ((name : List ℕ) → get_by_text entries.new name
-        ≡ (if bytes_eq (entry_name (text_at 1 (message_of message.now))) name then None else get_by_text entries.old name)) }
+        ≡ (if bytes_eq (entry_name (text_at proto.field_name (message_of message.now))) name then None else get_by_text entries.old name)) }
     ensures refused { IfErr result (λ r. (all : Declared) (f : StatedField) → StatesKnown all names.now scope.now (message_of message.now) f
         → is_map f.presence ≡ true → HasNamedEntry all entries.old f → r ≡ Memory) }
 {
     same_number(label_of(message), REPEATED)?;
-    let own = entry_name(alloc, text(message, 1)?)?;
+    let own = entry_name(alloc, text(message, proto::FIELD_NAME)?)?;
     let full = dotted_within(alloc, scope, &own)?;
     names_type(message, &full)?;
     let entry = taken(entries, &own)?;

@@ -21,6 +21,7 @@ ghost use Rattle.pg_fds.specs.Made.{AreCounted, HasEntries, HasNamed, StatesFiel
 ghost use Rattle.pg_fds.specs.MadeMembers.{HasMembers};
 ghost use Rattle.pg_fds.specs.Messages.{declared_fields as fields_of};
 ghost use Rattle.pg_fds.specs.Places.{Declared};
+ghost use Rattle.pg_fds.specs.Proto as proto;
 ghost use Rattle.pg_fds.specs.Said.{children_at, maybe_number_at, number_at, text_at};
 ghost use Rattle.pg_fds.specs.Small.{AreSmallEnds, IsSmallEnum, IsSmallValue};
 ghost use Rattle.pg_fds.specs.States.{StatesEnum, StatesFieldRange, StatesValue, StatesValueRange};
@@ -31,6 +32,7 @@ use crate::error::Unstated;
 use crate::made_fields::{Scope, made_field};
 use crate::oneof_states::{marks, real_names, synthetic_places};
 use crate::outline::{Named, Outlined, OutlinedType};
+use crate::proto;
 use crate::said::{children, count, ensure, maybe_number, number, option, place_in, text, texts};
 use crate::type_states::entries_of;
 use pg_dyn::Message;
@@ -70,10 +72,10 @@ fn value(alloc: Global, message: &Message) -> Result<EnumValue, Unstated>
     ensures refused { IfErr result (λ e. (v : StatedValue) → StatesValue (message_of message.now) v → IsSmallValue v → e ≡ Memory) }
 {
     Ok(EnumValue {
-        name: String::from_str(alloc, text(message, 1)?)?,
-        number: whole(message, 2)?,
+        name: String::from_str(alloc, text(message, proto::VALUE_NAME)?)?,
+        number: whole(message, proto::VALUE_NUMBER)?,
         options: EnumValueOptions {
-            deprecated: option(message, 3, 1),
+            deprecated: option(message, proto::VALUE_OPTIONS, proto::VALUE_DEPRECATED),
         },
     })
 }
@@ -96,8 +98,8 @@ fn value_range(message: &Message) -> Result<ReservedValues, Unstated>
     ensures refused { IfErr result (λ e. (r : StatedRange) → StatesValueRange (message_of message.now) r → AreSmallEnds r → e ≡ Memory) }
 {
     Ok(ReservedValues {
-        first: whole(message, 1)?,
-        last: whole(message, 2)?,
+        first: whole(message, proto::RANGE_START)?,
+        last: whole(message, proto::RANGE_END)?,
     })
 }
 
@@ -118,23 +120,26 @@ fn value_ranges(alloc: Global, messages: &[&Message]) -> Result<Vec<ReservedValu
 /// that an int32 holds.
 pub fn made_enum(alloc: Global, outlined: &Outlined<'_>) -> Result<EnumType, Unstated>
     ensures states { IfOk result (λ made. (scope : List ℕ) → string_bytes outlined.now.name
-        ≡ within scope (text_at 1 (message_of outlined.now.message.now)) → StatesEnum scope (message_of outlined.now.message.now) made) }
+        ≡ within scope (text_at proto.enum_name (message_of outlined.now.message.now)) → StatesEnum scope (message_of outlined.now.message.now) made) }
     ensures refused { IfErr result (λ e. (scope : List ℕ) (stated : StatedEnum) → StatesEnum scope (message_of outlined.now.message.now) stated
         → IsSmallEnum stated → e ≡ Memory) }
 {
     let message = outlined.message;
     let name = outlined.name.clone()?;
-    let values = values(alloc, &children(alloc, message, 2)?)?;
-    let reserved_numbers = value_ranges(alloc, &children(alloc, message, 4)?)?;
-    let reserved_names = copies(alloc, &texts(alloc, message, 5)?)?;
+    let values = values(alloc, &children(alloc, message, proto::ENUM_VALUE)?)?;
+    let reserved_numbers = value_ranges(
+        alloc,
+        &children(alloc, message, proto::ENUM_RESERVED_RANGE)?,
+    )?;
+    let reserved_names = copies(alloc, &texts(alloc, message, proto::ENUM_RESERVED_NAME)?)?;
     Ok(EnumType {
         name,
         values,
         reserved_numbers,
         reserved_names,
         options: EnumOptions {
-            allow_alias: option(message, 3, 2),
-            deprecated: option(message, 3, 3),
+            allow_alias: option(message, proto::ENUM_OPTIONS, proto::ENUM_ALLOW_ALIAS),
+            deprecated: option(message, proto::ENUM_OPTIONS, proto::ENUM_DEPRECATED),
         },
     })
 }
@@ -145,9 +150,9 @@ pub fn made_enum(alloc: Global, outlined: &Outlined<'_>) -> Result<EnumType, Uns
 fn field_range(message: &Message) -> ReservedFields
     ensures { (r : StatedFields) → StatesFieldRange (message_of message.now) r → is_reserved_range r ≡ true → result ≡ r }
 {
-    let end = count(message, 2);
+    let end = count(message, proto::RANGE_END);
     ReservedFields {
-        first: count(message, 1),
+        first: count(message, proto::RANGE_START),
         last: end.saturating_sub(1),
     }
 }
@@ -166,11 +171,11 @@ fn field_ranges(alloc: Global, messages: &[&Message]) -> Result<Vec<ReservedFiel
 
 // The place of the oneof, among so many, that a field names, if it names one.
 fn named_place(field: &Message, count: usize) -> Result<Option<usize>, Unstated>
-    ensures ok { IfOk result (λ place. maybe_number_at 9 (message_of field.now) ≡ option_map pos place) }
+    ensures ok { IfOk result (λ place. maybe_number_at proto.field_oneof_index (message_of field.now) ≡ option_map pos place) }
     ensures within { IfOk result (λ found. IfSome found (λ place. place < count)) }
     ensures refused { OnErr result (has_place count (message_of field.now) ≡ false) }
 {
-    match maybe_number(field, 9) {
+    match maybe_number(field, proto::FIELD_ONEOF_INDEX) {
         None => Ok(None),
         Some(named) => Ok(Some(place_in(&named, count)?)),
     }
@@ -197,11 +202,11 @@ fn entries<'a>(
     messages: &[&'a Message],
 ) -> Result<BTreeMap<String, &'a Message>, Unstated>
     ensures named { IfOk result (λ table. HasNamed table messages.now) }
-    ensures refused { IfErr result (λ e. AllByRecursion IsUtf8 (map (text_at 1) (map message_of (lent messages.now))) → e ≡ Memory) }
+    ensures refused { IfErr result (λ e. AllByRecursion IsUtf8 (map (text_at proto.message_name) (map message_of (lent messages.now))) → e ≡ Memory) }
 {
     let mut entries = BTreeMap::new(alloc);
     for message in messages {
-        let name = String::from_str(alloc, text(message, 1)?)?;
+        let name = String::from_str(alloc, text(message, proto::MESSAGE_NAME)?)?;
         entries.insert(name, *message)?;
     }
     Ok(entries)
@@ -260,13 +265,13 @@ fn declared_fields(
     own: &[&Message],
     synthetic: Vec<bool>,
 ) -> Result<Vec<Field>, Unstated>
-    requires own { map message_of (lent own.now) ≡ children_at 2 (message_of outlined.now.message.now) }
-    requires marked { AreMarked (stated_places (map message_of (lent own.now))) (length (children_at 8 (message_of outlined.now.message.now))) synthetic.items }
+    requires own { map message_of (lent own.now) ≡ children_at proto.message_field (message_of outlined.now.message.now) }
+    requires marked { AreMarked (stated_places (map message_of (lent own.now))) (length (children_at proto.message_oneof_decl (message_of outlined.now.message.now))) synthetic.items }
     ensures made { IfOk result (λ made. (all : Declared) (scope : List ℕ) (t : StatedType) → StatesMadeType all names.now scope outlined.now t
         → map field_view made.items ≡ map field_view (fields_of t)) }
     ensures refused { IfErr result (λ e. (all : Declared) (scope : List ℕ) (t : StatedType) → StatesMadeType all names.now scope outlined.now t → e ≡ Memory) }
 {
-    let inside = children(alloc, outlined.message, 3)?;
+    let inside = children(alloc, outlined.message, proto::MESSAGE_NESTED_TYPE)?;
     let messages = entries_of(alloc, &inside)?;
     let entries = entries(alloc, &messages)?;
     let members = member_counts(alloc, own, synthetic.len())?;
@@ -287,8 +292,8 @@ fn oneof_names(
     synthetic: &[bool],
 ) -> Result<Vec<String>, Unstated>
     requires { AreMarked places.now (length oneofs.now) synthetic.now }
-    ensures made { IfOk result (λ made. map string_bytes made.items ≡ map (text_at 1) (real_oneofs places.now 0 (map message_of (lent oneofs.now)))) }
-    ensures refused { IfErr result (λ e. AllByRecursion IsUtf8 (map (text_at 1) (real_oneofs places.now 0 (map message_of (lent oneofs.now)))) → e ≡ Memory) }
+    ensures made { IfOk result (λ made. map string_bytes made.items ≡ map (text_at proto.oneof_name) (real_oneofs places.now 0 (map message_of (lent oneofs.now)))) }
+    ensures refused { IfErr result (λ e. AllByRecursion IsUtf8 (map (text_at proto.oneof_name) (real_oneofs places.now 0 (map message_of (lent oneofs.now)))) → e ≡ Memory) }
 {
     let names = real_names(alloc, oneofs, places, synthetic)?;
     Ok(copies(alloc, &names)?)
@@ -312,8 +317,8 @@ fn marked_members(
     places: &[i128],
     synthetic: Vec<bool>,
 ) -> Result<Members, Unstated>
-    requires own { map message_of (lent own.now) ≡ children_at 2 (message_of outlined.now.message.now) }
-    requires inside { map message_of (lent inside.now) ≡ children_at 8 (message_of outlined.now.message.now) }
+    requires own { map message_of (lent own.now) ≡ children_at proto.message_field (message_of outlined.now.message.now) }
+    requires inside { map message_of (lent inside.now) ≡ children_at proto.message_oneof_decl (message_of outlined.now.message.now) }
     requires places { places.now ≡ stated_places (map message_of (lent own.now)) }
     requires marked { AreMarked places.now (length inside.now) synthetic.items }
     ensures made { IfOk result (λ made. (all : Declared) (scope : List ℕ) (t : StatedType) → StatesMadeType all names.now scope outlined.now t
@@ -339,8 +344,8 @@ fn members_of(
     own: &[&Message],
     inside: &[&Message],
 ) -> Result<Members, Unstated>
-    requires own { map message_of (lent own.now) ≡ children_at 2 (message_of outlined.now.message.now) }
-    requires inside { map message_of (lent inside.now) ≡ children_at 8 (message_of outlined.now.message.now) }
+    requires own { map message_of (lent own.now) ≡ children_at proto.message_field (message_of outlined.now.message.now) }
+    requires inside { map message_of (lent inside.now) ≡ children_at proto.message_oneof_decl (message_of outlined.now.message.now) }
     ensures made { IfOk result (λ made. (all : Declared) (scope : List ℕ) (t : StatedType) → StatesMadeType all names.now scope outlined.now t
         → HasMembers made t) }
     ensures refused { IfErr result (λ e. (all : Declared) (scope : List ℕ) (t : StatedType) → StatesMadeType all names.now scope outlined.now t → e ≡ Memory) }
@@ -360,8 +365,8 @@ fn made_members(
         → HasMembers made t) }
     ensures refused { IfErr result (λ e. (all : Declared) (scope : List ℕ) (t : StatedType) → StatesMadeType all names.now scope outlined.now t → e ≡ Memory) }
 {
-    let own = children(alloc, outlined.message, 2)?;
-    let inside = children(alloc, outlined.message, 8)?;
+    let own = children(alloc, outlined.message, proto::MESSAGE_FIELD)?;
+    let inside = children(alloc, outlined.message, proto::MESSAGE_ONEOF_DECL)?;
     members_of(alloc, names, outlined, &own, &inside)
 }
 
@@ -377,9 +382,9 @@ pub fn made_type(
 {
     let message = outlined.message;
     let members = made_members(alloc, names, outlined)?;
-    let ranges = children(alloc, message, 9)?;
+    let ranges = children(alloc, message, proto::MESSAGE_RESERVED_RANGE)?;
     let reserved_numbers = field_ranges(alloc, &ranges)?;
-    let reserved = texts(alloc, message, 10)?;
+    let reserved = texts(alloc, message, proto::MESSAGE_RESERVED_NAME)?;
     let reserved_names = copies(alloc, &reserved)?;
     let name = outlined.name.clone()?;
     let nested_types = outlined.types.clone()?;
@@ -394,7 +399,7 @@ pub fn made_type(
         reserved_numbers,
         reserved_names,
         options: MessageOptions {
-            deprecated: option(message, 7, 3),
+            deprecated: option(message, proto::MESSAGE_OPTIONS, proto::MESSAGE_DEPRECATED),
         },
     })
 }

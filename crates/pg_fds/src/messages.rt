@@ -20,6 +20,12 @@ use crate::fields::field_message;
 use crate::names::own_name;
 use crate::options::one_flag;
 use crate::places::{ENUM, FIELD, FIELD_RANGE, MESSAGE, MESSAGE_OPTIONS, ONEOF};
+use crate::proto;
+use crate::proto::{
+    MESSAGE_DEPRECATED, MESSAGE_ENUM_TYPE, MESSAGE_FIELD, MESSAGE_NAME, MESSAGE_NESTED_TYPE,
+    MESSAGE_ONEOF_DECL, MESSAGE_RESERVED_NAME, MESSAGE_RESERVED_RANGE, ONEOF_NAME, RANGE_END,
+    RANGE_START,
+};
 use crate::scope::names_within;
 use crate::synthetic::synthetic_oneofs;
 use pg_dyn::{Message, Value};
@@ -38,8 +44,22 @@ fn range_message(
     ensures kept { IfOk result (IsOf FIELD_RANGE) }
 {
     let mut message = empty(alloc, FIELD_RANGE);
-    put_count(&mut message, table, FIELD_RANGE, 1, NUMBER, range.first)?;
-    put_count(&mut message, table, FIELD_RANGE, 2, NUMBER, range.last + 1)?;
+    put_count(
+        &mut message,
+        table,
+        FIELD_RANGE,
+        RANGE_START,
+        NUMBER,
+        range.first,
+    )?;
+    put_count(
+        &mut message,
+        table,
+        FIELD_RANGE,
+        RANGE_END,
+        NUMBER,
+        range.last + 1,
+    )?;
     Ok(message)
 }
 
@@ -76,7 +96,7 @@ fn push_oneofs(
 {
     for name in names {
         let mut message = empty(alloc, ONEOF);
-        put_text(alloc, &mut message, table, ONEOF, 1, name)?;
+        put_text(alloc, &mut message, table, ONEOF, ONEOF_NAME, name)?;
         made.push(Value::Msg(Box::new(alloc, message)?))?;
     }
     Ok(())
@@ -177,16 +197,33 @@ pub fn type_message(
     push_entries(alloc, table, source, &mut types, &declared)?;
     let enums = enums(alloc, table, source, &message_type.nested_enums)?;
     let stated = message_type.options.deprecated;
-    let options = one_flag(alloc, table, MESSAGE_OPTIONS, 3, stated)?;
+    let options = one_flag(alloc, table, MESSAGE_OPTIONS, MESSAGE_DEPRECATED, stated)?;
     let oneofs = oneofs(alloc, table, source, message_type, &declared)?;
     let ranges = ranges(alloc, table, &message_type.reserved_numbers)?;
-    put_text(alloc, to, table, MESSAGE, 1, own_name(&message_type.name))?;
-    put_children(to, table, MESSAGE, 2, FIELD, own)?;
-    put_children(to, table, MESSAGE, 3, MESSAGE, types)?;
-    put_children(to, table, MESSAGE, 4, ENUM, enums)?;
-    put_options(alloc, to, table, MESSAGE, 7, MESSAGE_OPTIONS, options)?;
-    put_children(to, table, MESSAGE, 8, ONEOF, oneofs)?;
-    put_children(to, table, MESSAGE, 9, FIELD_RANGE, ranges)?;
-    put_texts(alloc, to, table, MESSAGE, 10, &message_type.reserved_names)?;
+    let name = own_name(&message_type.name);
+    let reserved = &message_type.reserved_names;
+    put_text(alloc, to, table, MESSAGE, MESSAGE_NAME, name)?;
+    put_children(to, table, MESSAGE, MESSAGE_FIELD, FIELD, own)?;
+    put_children(to, table, MESSAGE, MESSAGE_NESTED_TYPE, MESSAGE, types)?;
+    put_children(to, table, MESSAGE, MESSAGE_ENUM_TYPE, ENUM, enums)?;
+    put_options(
+        alloc,
+        to,
+        table,
+        MESSAGE,
+        proto::MESSAGE_OPTIONS,
+        MESSAGE_OPTIONS,
+        options,
+    )?;
+    put_children(to, table, MESSAGE, MESSAGE_ONEOF_DECL, ONEOF, oneofs)?;
+    put_children(
+        to,
+        table,
+        MESSAGE,
+        MESSAGE_RESERVED_RANGE,
+        FIELD_RANGE,
+        ranges,
+    )?;
+    put_texts(alloc, to, table, MESSAGE, MESSAGE_RESERVED_NAME, reserved)?;
     Ok(message)
 }

@@ -7,11 +7,13 @@ ghost use Rattle.std.specs.String.{string_bytes};
 ghost use Rattle.pg_dyn.specs.Kept.{message_of};
 ghost use Rattle.pg_fds.specs.declared.error.Unstated.TheVariants.{Memory};
 ghost use Rattle.pg_fds.specs.Lent.{lent};
+ghost use Rattle.pg_fds.specs.Proto as proto;
 ghost use Rattle.pg_fds.specs.Said.{text_at};
 ghost use Rattle.pg_fds.specs.StatesFiles.{is_place};
 ghost use Rattle.pg_fds.specs.StatesTypes.{AreMarked, NamesOneof, StandsIn, StatesOneofs, is_optional, real_oneofs, synthetic_places};
 
 use crate::error::Unstated;
+use crate::proto;
 use crate::said::{ensure, flag, maybe_number, place_in, text};
 use crate::states::{same_text, same_texts};
 use pg_dyn::Message;
@@ -38,10 +40,10 @@ pub fn synthetic_places(alloc: Global, fields: &[&Message]) -> Result<Vec<i128>,
 {
     let mut places = Vec::new(alloc);
     for field in fields {
-        if !flag(field, 17) {
+        if !flag(field, proto::FIELD_PROTO3_OPTIONAL) {
             continue;
         }
-        let Some(place) = maybe_number(field, 9) else {
+        let Some(place) = maybe_number(field, proto::FIELD_ONEOF_INDEX) else {
             continue;
         };
         places.push(place)?;
@@ -55,7 +57,7 @@ fn optional_count(fields: &[&Message]) -> usize
 {
     let mut count = 0;
     for field in fields {
-        if flag(field, 17) {
+        if flag(field, proto::FIELD_PROTO3_OPTIONAL) {
             count += 1;
         }
     }
@@ -70,13 +72,13 @@ pub fn real_names<'a>(
     marks: &[bool],
 ) -> Result<Vec<&'a str>, Unstated>
     requires { AreMarked numbers.now (length oneofs.now) marks.now }
-    ensures ok { IfOk result (λ names. lent names.items ≡ map (text_at 1) (real_oneofs numbers.now 0 (map message_of (lent oneofs.now)))) }
-    ensures refused { IfErr result (λ r. AllByRecursion IsUtf8 (map (text_at 1) (real_oneofs numbers.now 0 (map message_of (lent oneofs.now)))) → r ≡ Memory) }
+    ensures ok { IfOk result (λ names. lent names.items ≡ map (text_at proto.oneof_name) (real_oneofs numbers.now 0 (map message_of (lent oneofs.now)))) }
+    ensures refused { IfErr result (λ r. AllByRecursion IsUtf8 (map (text_at proto.oneof_name) (real_oneofs numbers.now 0 (map message_of (lent oneofs.now)))) → r ≡ Memory) }
 {
     let mut names = Vec::new(alloc);
     for (place, oneof) in oneofs.iter().enumerate() {
         if !marks[place] {
-            names.push(text(oneof, 1)?)?;
+            names.push(text(oneof, proto::ONEOF_NAME)?)?;
         }
     }
     Ok(names)
@@ -103,7 +105,7 @@ fn names_oneof(
     if own >= names.len() {
         return Err(Unstated::Reference);
     }
-    same_text(text(oneofs[place], 1)?, &names[own])?;
+    same_text(text(oneofs[place], proto::ONEOF_NAME)?, &names[own])?;
     Ok(())
 }
 
@@ -122,7 +124,10 @@ fn stands_in(
     if declared.states_optional {
         return Ok(());
     }
-    match (&maybe_number(message, 9), declared.oneof) {
+    match (
+        &maybe_number(message, proto::FIELD_ONEOF_INDEX),
+        declared.oneof,
+    ) {
         (None, None) => Ok(()),
         (Some(named), Some(own)) => names_oneof(oneofs, numbers, marks, names, named, own),
         _ => Err(Unstated::Reference),

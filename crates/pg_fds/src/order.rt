@@ -14,6 +14,7 @@ ghost use Rattle.pg_fds.specs.Walks.{lists_of};
 
 use crate::error::Unstated;
 use crate::file_states::is_left_out;
+use crate::proto;
 use crate::said::{text, texts};
 use crate::walk::post_order;
 use pg_dyn::Message;
@@ -118,8 +119,8 @@ fn importing_file(alloc: Global, file: &Message) -> Result<Importing<'_>, Unstat
     ensures ok { IfOk result (λ i. importer i ≡ importer_of (message_of file.now)) }
     ensures refused { IfErr result (λ e. HasPathTexts (message_of file.now) → e ≡ errors.Memory) }
 {
-    let name = text(file, 1)?;
-    let paths = texts(alloc, file, 3)?;
+    let name = text(file, proto::FILE_NAME)?;
+    let paths = texts(alloc, file, proto::FILE_DEPENDENCY)?;
     Ok(Importing { name, paths })
 }
 

@@ -9,7 +9,8 @@ ghost use Rattle.pg_dyn.specs.Kept.{message_of};
 ghost use Rattle.pg_fds.specs.declared.error.Unstated.TheVariants.{Memory};
 ghost use Rattle.pg_fds.specs.Lent.{lent};
 ghost use Rattle.pg_fds.specs.Outlines.{AreEnumsNamed, AreTypesNamed, IsTypeNamed, MayDeclare, MayPlace, NameOneofs, NamesOneofs, enum_rows, file_enums, file_services, file_types, files_at, row, row_in, rows_in, type_row, type_rows};
-ghost use Rattle.pg_fds.specs.OutlinedPlaces.{PlacedType, counts_of, file_places, no_counts, placed_file, placed_files, placed_type, placed_types, places_of_types, types_of_files, without_inside};
+ghost use Rattle.pg_fds.specs.OutlinedPlaces.{PlacedType, counts_of, file_places, inside_file, no_counts, placed_file, placed_files, placed_type, placed_types, places_of_types, types_of_files, without_inside};
+ghost use Rattle.pg_fds.specs.Proto as proto;
 ghost use Rattle.pg_fds.specs.Said.{children_at, text_at};
 ghost use Rattle.pg_fds.specs.SetNames.{Declares, WantsMemory, enum_names, enums_names, file_names, member_names, own_names, service_names, services_names, types_names};
 ghost use Rattle.pg_fds.specs.StatesTypes.{is_entry};
@@ -18,6 +19,7 @@ ghost use Rattle.pg_fds.specs.Walks.{places_from};
 use crate::declare::{declare, declare_each, declare_package, full_name, real_oneofs};
 use crate::error::Unstated;
 use crate::oneof_states::{marks, synthetic_places};
+use crate::proto;
 use crate::said::{children, text};
 use crate::type_states::{entries_of, types_of};
 use pg_dyn::Message;
@@ -98,12 +100,12 @@ fn outline_enum<'a>(
     ensures refused { IfErr result (λ e. length enums.old.items < 2 ^ 32 → (packages : List (List ℕ))
         → WantsMemory packages (enum_names scope.now (message_of message.now)) names.old e) }
 {
-    let own = text(message, 1)?;
+    let own = text(message, proto::ENUM_NAME)?;
     let name = full_name(alloc, scope, own)?;
     let index = next_place(enums.len())?;
     let id = EnumId { index };
     declare(names, name.clone()?, Named::Enum(id))?;
-    let values = children(alloc, message, 2)?;
+    let values = children(alloc, message, proto::ENUM_VALUE)?;
     declare_each(alloc, names, scope, values.as_slice(), Named::Other)?;
     enums.push(Outlined { message, name })?;
     Ok(id)
@@ -149,12 +151,12 @@ fn outline_service<'a>(
     ensures refused { IfErr result (λ e. length services.old.items < 2 ^ 32 → (packages : List (List ℕ))
         → WantsMemory packages (service_names scope.now (message_of message.now)) names.old e) }
 {
-    let own = text(message, 1)?;
+    let own = text(message, proto::SERVICE_NAME)?;
     let name = full_name(alloc, scope, own)?;
     let index = next_place(services.len())?;
     let id = ServiceId { index };
     declare(names, name.clone()?, Named::Other)?;
-    let methods = children(alloc, message, 2)?;
+    let methods = children(alloc, message, proto::SERVICE_METHOD)?;
     declare_each(
         alloc,
         names,
@@ -202,8 +204,8 @@ fn declare_members(
     ensures refused { IfErr result (λ e. NamesOneofs (message_of message.now) → (packages : List (List ℕ))
         → WantsMemory packages (member_names full.now (message_of message.now)) names.old e) }
 {
-    let fields = children(alloc, message, 2)?;
-    let oneofs = children(alloc, message, 8)?;
+    let fields = children(alloc, message, proto::MESSAGE_FIELD)?;
+    let oneofs = children(alloc, message, proto::MESSAGE_ONEOF_DECL)?;
     let synthetic = synthetic_places(alloc, &fields)?;
     let marks = marks(alloc, &synthetic, oneofs.len())?;
     let real = real_oneofs(alloc, &oneofs, &synthetic, &marks)?;
@@ -228,7 +230,7 @@ fn declare_type(
     let name = String::from_str(alloc, full)?;
     declare(names, name, Named::Type(id))?;
     declare_members(alloc, names, full, message)?;
-    let inside = children(alloc, message, 3)?;
+    let inside = children(alloc, message, proto::MESSAGE_NESTED_TYPE)?;
     let found = entries_of(alloc, inside.as_slice())?;
     let entries = found.as_slice();
     declare_each(alloc, names, full, entries, Named::Entry)?;
@@ -346,18 +348,18 @@ impl<'a> Outline<'a> {
             return Ok(ids);
         }
         for message in messages {
-            let own_name = text(message, 1)?;
+            let own_name = text(message, proto::MESSAGE_NAME)?;
             let full = full_name(alloc, scope, own_name)?;
             let name = full.as_str();
             let id = self.outline_type(alloc, name, message)?;
-            let all_inside = children(alloc, message, 3)?;
+            let enums_inside = children(alloc, message, proto::MESSAGE_ENUM_TYPE)?;
+            let own_enums = enums_inside.as_slice();
+            let enums = outline_enums(alloc, &mut self.names, &mut self.enums, name, own_enums)?;
+            let all_inside = children(alloc, message, proto::MESSAGE_NESTED_TYPE)?;
             let inside = all_inside.as_slice();
             let declared = types_of(alloc, inside)?;
             let own = declared.as_slice();
             let types = self.outline_types(alloc, depth - 1, name, own)?;
-            let enums_inside = children(alloc, message, 4)?;
-            let own_enums = enums_inside.as_slice();
-            let enums = outline_enums(alloc, &mut self.names, &mut self.enums, name, own_enums)?;
             self.place_inside(id, types, enums);
             ids.push(id)?;
         }
@@ -377,27 +379,27 @@ impl<'a> Outline<'a> {
         ensures files { OnOk result (map placed_file self.new.files.items
             ≡ map placed_file self.old.files.items ++ file_places depth (counts_of self.old) (message_of message.now) ∷ []) }
         ensures placed { OnOk result (map placed_type self.new.types.items
-            ≡ map placed_type self.old.types.items ++ placed_types depth (text_at 2 (message_of message.now)) (counts_of self.old) (children_at 4 (message_of message.now))) }
+            ≡ map placed_type self.old.types.items ++ placed_types depth (text_at proto.file_package (message_of message.now)) (inside_file (counts_of self.old) (message_of message.now)) (children_at proto.file_message_type (message_of message.now))) }
         ensures named { OnOk result (AreTypesNamed self.old.names (map type_row self.old.types.items)
             → AreTypesNamed self.new.names (map type_row self.new.types.items)) }
         ensures enums_named { OnOk result (AreEnumsNamed self.old.names (map row self.old.enums.items)
             → AreEnumsNamed self.new.names (map row self.new.enums.items)) }
-        ensures declares { OnOk result ((packages : List (List ℕ)) → is_among packages (text_at 2 (message_of message.now)) ≡ true
+        ensures declares { OnOk result ((packages : List (List ℕ)) → is_among packages (text_at proto.file_package (message_of message.now)) ≡ true
             → Declares packages (file_names depth (message_of message.now)) self.old.names self.new.names) }
         ensures refused { IfErr result (λ e. (packages : List (List ℕ))
             → MayPlace depth (length self.old.types.items) (length self.old.enums.items) (length self.old.services.items) packages (message_of message.now)
             → WantsMemory packages (file_names depth (message_of message.now)) self.old.names e) }
     {
-        let scope = text(message, 2)?;
+        let scope = text(message, proto::FILE_PACKAGE)?;
         declare_scope(alloc, &mut self.names, scope)?;
-        let types_inside = children(alloc, message, 4)?;
+        let types_inside = children(alloc, message, proto::FILE_MESSAGE_TYPE)?;
         let own_types = types_inside.as_slice();
         without_entries(alloc, own_types)?;
-        let types = self.outline_types(alloc, depth, scope, own_types)?;
-        let enums_inside = children(alloc, message, 5)?;
+        let enums_inside = children(alloc, message, proto::FILE_ENUM_TYPE)?;
         let own_enums = enums_inside.as_slice();
         let enums = outline_enums(alloc, &mut self.names, &mut self.enums, scope, own_enums)?;
-        let services_inside = children(alloc, message, 6)?;
+        let types = self.outline_types(alloc, depth, scope, own_types)?;
+        let services_inside = children(alloc, message, proto::FILE_SERVICE)?;
         let own_services = services_inside.as_slice();
         let services = outline_services(
             alloc,

@@ -16,10 +16,10 @@ ghost use Rattle.pg_fds.specs.Descriptor.{file_set};
 ghost use Rattle.pg_fds.specs.FilePlaces.{AreOrdered};
 ghost use Rattle.pg_fds.specs.InOrder.{StandInOrder};
 ghost use Rattle.pg_fds.specs.Lent.{lent};
-ghost use Rattle.pg_fds.specs.Reads.{CanBeMade, CanBeRead, IsHeld, States, StatesFiles, fds_reads, importer_of, kept_files};
-ghost use Rattle.pg_fds.specs.Refused.{HasTexts, IsOfBytes, IsOfParts, MayRefuseFiles, MayRefuseSet, NoneIsStated, StatesNoneInOrder};
+ghost use Rattle.pg_fds.specs.Proto as proto;
+ghost use Rattle.pg_fds.specs.Reads.{CanBeMade, IsHeld, States, StatesFiles, fds_reads, importer_of, kept_files};
+ghost use Rattle.pg_fds.specs.Refused.{HasTexts, IsOfBytes, IsOfParts, MayRefuseFiles, MayRefuseSet, NoneIsStated, StatesNoneHeld};
 ghost use Rattle.pg_fds.specs.Said.{children_at};
-ghost use Rattle.pg_fds.specs.SetOrder.{in_set_order};
 ghost use Rattle.pg_fds.specs.StatesFiles.{is_proto3, most_deep};
 ghost use Rattle.pg_fds.specs.Views.{parts_view};
 
@@ -32,6 +32,7 @@ use crate::made_parts::made_parts;
 use crate::order::order;
 use crate::outline::outline_files;
 use crate::places::SET;
+use crate::proto;
 use crate::said::{MOST_DEEP, children};
 use crate::set_states::{kept, skips, states_files};
 use pg_check::{CheckError, admit};
@@ -183,15 +184,14 @@ fn files_schema(alloc: Global, skips: bool, files: &[&Message]) -> Result<Schema
 fn set_schema(alloc: Global, set: &Message) -> Result<Schema, FdsError>
     ensures ok { IfOk result (λ schema. States (message_of set.now) schema) }
     ensures sound { IfOk result IsSound }
-    ensures places { IfOk result (λ schema. StandInOrder schema) }
-    ensures refused { IfErr result (λ e. AllByRecursion HasTexts (children_at 1 (message_of set.now))
+    ensures refused { IfErr result (λ e. AllByRecursion HasTexts (children_at proto.set_file (message_of set.now))
         → MayRefuseFiles (kept_files (message_of set.now)) e) }
     ensures same { IfOk result (λ schema. (parts : StatedParts) → CanBeMade parts → States (message_of set.now) parts
         → parts_view schema ≡ parts_view parts) }
     ensures none { IfErr result (λ e. (parts : StatedParts) → CanBeMade parts → States (message_of set.now) parts
         → e ≡ errors.Memory) }
 {
-    let all_files = children(alloc, set, 1)?;
+    let all_files = children(alloc, set, proto::SET_FILE)?;
     let all = all_files.as_slice();
     let skips = skips(all)?;
     let kept_files = kept(alloc, all)?;
@@ -203,11 +203,10 @@ fn set_schema(alloc: Global, set: &Message) -> Result<Schema, FdsError>
 fn bytes_schema(alloc: Global, bytes: &[u8]) -> Result<Schema, FdsError>
     ensures ok { IfOk result (λ schema. fds_reads bytes.now schema) }
     ensures sound { IfOk result IsSound }
-    ensures places { IfOk result (λ schema. StandInOrder schema) }
     ensures refused { IfErr result (MayRefuseSet bytes.now) }
-    ensures same { IfOk result (λ schema. (parts : StatedParts) → CanBeRead parts → fds_reads bytes.now parts
+    ensures same { IfOk result (λ schema. (parts : StatedParts) → IsHeld parts → fds_reads bytes.now parts
         → parts_view schema ≡ parts_view parts) }
-    ensures none { IfErr result (λ e. (IsOfBytes e → ⊥) → StatesNoneInOrder bytes.now) }
+    ensures none { IfErr result (λ e. (IsOfBytes e → ⊥) → StatesNoneHeld bytes.now) }
 {
     let set = decoded(alloc, bytes)?;
     set_schema(alloc, &set)
@@ -215,8 +214,9 @@ fn bytes_schema(alloc: Global, bytes: &[u8]) -> Result<Schema, FdsError>
 
 /// The schema that the bytes of a descriptor set state (descriptor.proto; docs/PROOFS.md, "Descriptor
 /// sets"). Files may come in any order; those of the schema stand in post-order of imports, begun at the
-/// set's in their order, and message types, enums and services in order of declaration, file after file: a
-/// message type before those inside it, the enums of those inside it before its own.
+/// set's in their order. File after file, message types and services are numbered in order of declaration, a
+/// message type before those inside it, and enums scope by scope, those of the package before those of each
+/// message type.
 ///
 /// The errors, over the whole set and in this order: `Bytes` where the codec refuses the bytes, with
 /// messages nested at most 100 deep; `NotProto3` where a file isn't proto3; `BadType` where a field has a
@@ -226,16 +226,12 @@ fn bytes_schema(alloc: Global, bytes: &[u8]) -> Result<Schema, FdsError>
 /// file `google/protobuf/descriptor.proto` that isn't proto3 is left out, as are imports of it.
 /// `Memory` may come in place of any. `Bytes`, but of messages nested too deep, `NotProto3` and `BadType`
 /// come only where the bytes state no schema, `BadReference` and `Rule` only where they state none whose places
-/// 32 bits hold. Where they state such a one, the schema that is answered says what it says, renumbered in the
-/// order above.
+/// 32 bits hold. Where they state such a one, the schema that is answered is that one.
 pub fn read(alloc: Global, bytes: &[u8]) -> Result<Schema, FdsError>
     ensures ok { IfOk result (λ schema. fds_reads bytes.now schema) }
     ensures sound { IfOk result IsSound }
-    ensures places { IfOk result (λ schema. StandInOrder schema) }
     ensures refused { IfErr result (MayRefuseSet bytes.now) }
     ensures same { IfOk result (λ schema. (parts : StatedParts) → IsHeld parts → fds_reads bytes.now parts
-        → parts_view schema ≡ parts_view (in_set_order parts)) }
-    ensures exact { IfOk result (λ schema. (parts : StatedParts) → CanBeRead parts → fds_reads bytes.now parts
         → parts_view schema ≡ parts_view parts) }
     ensures none_stated { IfErr result (NoneIsStated bytes.now) }
 {

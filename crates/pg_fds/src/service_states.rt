@@ -11,6 +11,7 @@ ghost use Rattle.pg_fds.specs.StatesFiles.{StatesCalled, StatesMethod, StatesSer
 
 use crate::error::Unstated;
 use crate::names::dotted;
+use crate::proto;
 use crate::said::{children, ensure, flag, maybe_text, option, text};
 use crate::states::{is_within, same_text};
 use pg_dyn::Message;
@@ -48,12 +49,27 @@ fn method(
     ensures ok { OnOk result (StatesMethod (declared_in source.now) (message_of message.now) declared.now) }
     ensures refused { IfErr result (λ r. StatesMethod (declared_in source.now) (message_of message.now) declared.now → r ≡ Memory) }
 {
-    same_text(text(message, 1)?, &declared.name)?;
-    called(alloc, source, message, 2, declared.input)?;
-    called(alloc, source, message, 3, declared.output)?;
-    ensure(option(message, 4, 33) == declared.options.deprecated)?;
-    ensure(flag(message, 5) == declared.client_streaming)?;
-    ensure(flag(message, 6) == declared.server_streaming)
+    same_text(text(message, proto::METHOD_NAME)?, &declared.name)?;
+    called(
+        alloc,
+        source,
+        message,
+        proto::METHOD_INPUT_TYPE,
+        declared.input,
+    )?;
+    called(
+        alloc,
+        source,
+        message,
+        proto::METHOD_OUTPUT_TYPE,
+        declared.output,
+    )?;
+    ensure(
+        option(message, proto::METHOD_OPTIONS, proto::METHOD_DEPRECATED)
+            == declared.options.deprecated,
+    )?;
+    ensure(flag(message, proto::METHOD_CLIENT_STREAMING) == declared.client_streaming)?;
+    ensure(flag(message, proto::METHOD_SERVER_STREAMING) == declared.server_streaming)
 }
 
 fn methods(
@@ -82,14 +98,22 @@ fn service(
     ensures ok { OnOk result (StatesService (declared_in source.now) scope.now (message_of message.now) declared.now) }
     ensures refused { IfErr result (λ r. StatesService (declared_in source.now) scope.now (message_of message.now) declared.now → r ≡ Memory) }
 {
-    is_within(alloc, scope, text(message, 1)?, &declared.name)?;
+    is_within(
+        alloc,
+        scope,
+        text(message, proto::SERVICE_NAME)?,
+        &declared.name,
+    )?;
     methods(
         alloc,
         source,
-        &children(alloc, message, 2)?,
+        &children(alloc, message, proto::SERVICE_METHOD)?,
         &declared.methods,
     )?;
-    ensure(option(message, 3, 33) == declared.options.deprecated)
+    ensure(
+        option(message, proto::SERVICE_OPTIONS, proto::SERVICE_DEPRECATED)
+            == declared.options.deprecated,
+    )
 }
 
 fn service_at(

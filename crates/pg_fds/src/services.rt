@@ -13,6 +13,11 @@ use crate::fields::element_name;
 use crate::names::own_name;
 use crate::options::one_flag;
 use crate::places::{METHOD, METHOD_OPTIONS, SERVICE, SERVICE_OPTIONS};
+use crate::proto;
+use crate::proto::{
+    METHOD_CLIENT_STREAMING, METHOD_DEPRECATED, METHOD_INPUT_TYPE, METHOD_NAME, METHOD_OUTPUT_TYPE,
+    METHOD_SERVER_STREAMING, SERVICE_DEPRECATED, SERVICE_METHOD, SERVICE_NAME,
+};
 use pg_dyn::{Message, Value};
 use pg_schema::{Element, Method, Schema, Service, ServiceId};
 use std::alloc::{AllocError, Global};
@@ -34,13 +39,33 @@ fn method_message(
     let input = element_name(alloc, source, Element::Message(method.input))?;
     let output = element_name(alloc, source, Element::Message(method.output))?;
     let stated = method.options.deprecated;
-    let options = one_flag(alloc, table, METHOD_OPTIONS, 33, stated)?;
-    put_text(alloc, to, table, METHOD, 1, &method.name)?;
-    put_maybe_text(alloc, to, table, METHOD, 2, input)?;
-    put_maybe_text(alloc, to, table, METHOD, 3, output)?;
-    put_options(alloc, to, table, METHOD, 4, METHOD_OPTIONS, options)?;
-    put_mark(to, table, METHOD, 5, method.client_streaming)?;
-    put_mark(to, table, METHOD, 6, method.server_streaming)?;
+    let options = one_flag(alloc, table, METHOD_OPTIONS, METHOD_DEPRECATED, stated)?;
+    put_text(alloc, to, table, METHOD, METHOD_NAME, &method.name)?;
+    put_maybe_text(alloc, to, table, METHOD, METHOD_INPUT_TYPE, input)?;
+    put_maybe_text(alloc, to, table, METHOD, METHOD_OUTPUT_TYPE, output)?;
+    put_options(
+        alloc,
+        to,
+        table,
+        METHOD,
+        proto::METHOD_OPTIONS,
+        METHOD_OPTIONS,
+        options,
+    )?;
+    put_mark(
+        to,
+        table,
+        METHOD,
+        METHOD_CLIENT_STREAMING,
+        method.client_streaming,
+    )?;
+    put_mark(
+        to,
+        table,
+        METHOD,
+        METHOD_SERVER_STREAMING,
+        method.server_streaming,
+    )?;
     Ok(message)
 }
 
@@ -78,10 +103,25 @@ fn service_message(
     let to = &mut message;
     let methods = methods(alloc, table, source, &service.methods)?;
     let stated = service.options.deprecated;
-    let options = one_flag(alloc, table, SERVICE_OPTIONS, 33, stated)?;
-    put_text(alloc, to, table, SERVICE, 1, own_name(&service.name))?;
-    put_children(to, table, SERVICE, 2, METHOD, methods)?;
-    put_options(alloc, to, table, SERVICE, 3, SERVICE_OPTIONS, options)?;
+    let options = one_flag(alloc, table, SERVICE_OPTIONS, SERVICE_DEPRECATED, stated)?;
+    put_text(
+        alloc,
+        to,
+        table,
+        SERVICE,
+        SERVICE_NAME,
+        own_name(&service.name),
+    )?;
+    put_children(to, table, SERVICE, SERVICE_METHOD, METHOD, methods)?;
+    put_options(
+        alloc,
+        to,
+        table,
+        SERVICE,
+        proto::SERVICE_OPTIONS,
+        SERVICE_OPTIONS,
+        options,
+    )?;
     Ok(message)
 }
 

@@ -14,6 +14,7 @@ ghost use Rattle.pg_fds.specs.Lent.{lent};
 ghost use Rattle.pg_fds.specs.Outlines.{files_at};
 ghost use Rattle.pg_fds.specs.Places.{declared_in};
 ghost use Rattle.pg_fds.specs.PostOrder.{imports_once, paths_of};
+ghost use Rattle.pg_fds.specs.Proto as proto;
 ghost use Rattle.pg_fds.specs.Reads.{AreBehind, StatesFiles, file_name, importer_of, imports_among};
 ghost use Rattle.pg_fds.specs.Said.{text_at};
 ghost use Rattle.pg_fds.specs.StatesFiles.{StatesFile, is_skipped};
@@ -29,7 +30,7 @@ use std::collections::BTreeSet;
 /// Whether one of the files is skipped. Refused only where the name of one is no text.
 pub fn skips(files: &[&Message]) -> Result<bool, Unstated>
     ensures ok { IfOk result (λ skips. skips ≡ list_any is_skipped (map message_of (lent files.now))) }
-    ensures refused { OnErr result (AllByRecursion IsUtf8 (map (text_at 1) (map message_of (lent files.now))) → ⊥) }
+    ensures refused { OnErr result (AllByRecursion IsUtf8 (map (text_at proto.file_name) (map message_of (lent files.now))) → ⊥) }
 {
     for file in files {
         let skipped = is_skipped(file)?;
@@ -44,7 +45,7 @@ pub fn skips(files: &[&Message]) -> Result<bool, Unstated>
 /// text.
 pub fn kept<'a>(alloc: Global, files: &[&'a Message]) -> Result<Vec<&'a Message>, Unstated>
     ensures ok { IfOk result (λ kept. map message_of (lent kept.items) ≡ filter (λ m. not (is_skipped m)) (map message_of (lent files.now))) }
-    ensures refused { IfErr result (λ r. AllByRecursion IsUtf8 (map (text_at 1) (map message_of (lent files.now))) → r ≡ Memory) }
+    ensures refused { IfErr result (λ r. AllByRecursion IsUtf8 (map (text_at proto.file_name) (map message_of (lent files.now))) → r ≡ Memory) }
 {
     let mut kept = Vec::new(alloc);
     for file in files {

@@ -10,12 +10,14 @@ ghost use Rattle.pg_dyn.specs.Kept.{message_of};
 ghost use Rattle.pg_fds.specs.declared.error.Unstated.TheVariants.{Memory};
 ghost use Rattle.pg_fds.specs.Lent.{lent};
 ghost use Rattle.pg_fds.specs.Places.{declared_in};
+ghost use Rattle.pg_fds.specs.Proto as proto;
 ghost use Rattle.pg_fds.specs.Said.{maybe_text_at, text_at};
 ghost use Rattle.pg_fds.specs.States.{StatesEnum, StatesEnums, StatesField, StatesFieldRange, StatesValue, StatesValueRange, json_name_at, label_at};
 
 use crate::error::Unstated;
 use crate::fields::{label, named_type, type_code};
 use crate::names::{dotted, dotted_within};
+use crate::proto;
 use crate::said::{children, ensure, flag, maybe_number, maybe_text, number, option, text, texts};
 use pg_dyn::Message;
 use pg_schema::{
@@ -59,9 +61,12 @@ fn value(message: &Message, declared: &EnumValue) -> Result<(), Unstated>
     ensures ok { OnOk result (StatesValue (message_of message.now) declared.now) }
     ensures refused { OnErr result (StatesValue (message_of message.now) declared.now → ⊥) }
 {
-    same_text(text(message, 1)?, &declared.name)?;
-    ensure(number(message, 2) == i128::from(declared.number))?;
-    ensure(option(message, 3, 1) == declared.options.deprecated)
+    same_text(text(message, proto::VALUE_NAME)?, &declared.name)?;
+    ensure(number(message, proto::VALUE_NUMBER) == i128::from(declared.number))?;
+    ensure(
+        option(message, proto::VALUE_OPTIONS, proto::VALUE_DEPRECATED)
+            == declared.options.deprecated,
+    )
 }
 
 fn values(messages: &[&Message], declared: &[EnumValue]) -> Result<(), Unstated>
@@ -79,8 +84,8 @@ fn value_range(message: &Message, declared: ReservedValues) -> Result<(), Unstat
     ensures ok { OnOk result (StatesValueRange (message_of message.now) declared) }
     ensures refused { OnErr result (StatesValueRange (message_of message.now) declared → ⊥) }
 {
-    ensure(number(message, 1) == i128::from(declared.first))?;
-    ensure(number(message, 2) == i128::from(declared.last))
+    ensure(number(message, proto::RANGE_START) == i128::from(declared.first))?;
+    ensure(number(message, proto::RANGE_END) == i128::from(declared.last))
 }
 
 fn value_ranges(messages: &[&Message], declared: &[ReservedValues]) -> Result<(), Unstated>
@@ -103,12 +108,31 @@ fn enum_type(
     ensures ok { OnOk result (StatesEnum scope.now (message_of message.now) declared.now) }
     ensures refused { IfErr result (λ r. StatesEnum scope.now (message_of message.now) declared.now → r ≡ Memory) }
 {
-    is_within(alloc, scope, text(message, 1)?, &declared.name)?;
-    values(&children(alloc, message, 2)?, &declared.values)?;
-    ensure(option(message, 3, 2) == declared.options.allow_alias)?;
-    ensure(option(message, 3, 3) == declared.options.deprecated)?;
-    value_ranges(&children(alloc, message, 4)?, &declared.reserved_numbers)?;
-    same_texts(&texts(alloc, message, 5)?, &declared.reserved_names)
+    is_within(
+        alloc,
+        scope,
+        text(message, proto::ENUM_NAME)?,
+        &declared.name,
+    )?;
+    values(
+        &children(alloc, message, proto::ENUM_VALUE)?,
+        &declared.values,
+    )?;
+    ensure(
+        option(message, proto::ENUM_OPTIONS, proto::ENUM_ALLOW_ALIAS)
+            == declared.options.allow_alias,
+    )?;
+    ensure(
+        option(message, proto::ENUM_OPTIONS, proto::ENUM_DEPRECATED) == declared.options.deprecated,
+    )?;
+    value_ranges(
+        &children(alloc, message, proto::ENUM_RESERVED_RANGE)?,
+        &declared.reserved_numbers,
+    )?;
+    same_texts(
+        &texts(alloc, message, proto::ENUM_RESERVED_NAME)?,
+        &declared.reserved_names,
+    )
 }
 
 fn enum_at(
@@ -151,7 +175,7 @@ pub fn enums(
 pub fn label_of(message: &Message) -> i128
     ensures { result ≡ label_at (message_of message.now) }
 {
-    match maybe_number(message, 4) {
+    match maybe_number(message, proto::FIELD_LABEL) {
         Some(label) => label,
         None => 1,
     }
@@ -160,12 +184,12 @@ pub fn label_of(message: &Message) -> i128
 /// The field has this JSON name, given or default.
 pub fn has_json_name(alloc: Global, message: &Message, stated: &str) -> Result<(), Unstated>
     ensures ok { OnOk result (json_name_at (message_of message.now) ≡ stated.now) }
-    ensures refused { IfErr result (λ r. IsUtf8 (text_at 1 (message_of message.now)) → json_name_at (message_of message.now) ≡ stated.now → r ≡ Memory) }
+    ensures refused { IfErr result (λ r. IsUtf8 (text_at proto.field_name (message_of message.now)) → json_name_at (message_of message.now) ≡ stated.now → r ≡ Memory) }
 {
-    match maybe_text(message, 10)? {
+    match maybe_text(message, proto::FIELD_JSON_NAME)? {
         Some(given) => same_text(given, stated),
         None => {
-            let default = default_json_name(alloc, text(message, 1)?)?;
+            let default = default_json_name(alloc, text(message, proto::FIELD_NAME)?)?;
             same_text(&default, stated)
         }
     }
@@ -173,10 +197,10 @@ pub fn has_json_name(alloc: Global, message: &Message, stated: &str) -> Result<(
 
 /// The field names this type, or none.
 pub fn has_type_name(message: &Message, stated: &Option<String>) -> Result<(), Unstated>
-    ensures ok { OnOk result (maybe_text_at 6 (message_of message.now) ≡ option_map string_bytes stated.now) }
-    ensures refused { OnErr result (maybe_text_at 6 (message_of message.now) ≡ option_map string_bytes stated.now → ⊥) }
+    ensures ok { OnOk result (maybe_text_at proto.field_type_name (message_of message.now) ≡ option_map string_bytes stated.now) }
+    ensures refused { OnErr result (maybe_text_at proto.field_type_name (message_of message.now) ≡ option_map string_bytes stated.now → ⊥) }
 {
-    match (maybe_text(message, 6)?, stated) {
+    match (maybe_text(message, proto::FIELD_TYPE_NAME)?, stated) {
         (Some(found), Some(name)) => same_text(found, name),
         (None, None) => Ok(()),
         _ => Err(Unstated::Reference),
@@ -195,15 +219,18 @@ fn field(
 {
     let code = type_code(declared.presence, declared.element);
     let type_name = named_type(alloc, source, scope, declared)?;
-    same_text(text(message, 1)?, &declared.name)?;
-    ensure(number(message, 3) == i128::from(declared.number))?;
+    same_text(text(message, proto::FIELD_NAME)?, &declared.name)?;
+    ensure(number(message, proto::FIELD_NUMBER) == i128::from(declared.number))?;
     ensure(label_of(message) == i128::from(label(declared.presence)))?;
-    ensure(number(message, 5) == i128::from(code))?;
+    ensure(number(message, proto::FIELD_TYPE) == i128::from(code))?;
     has_type_name(message, &type_name)?;
-    ensure(option(message, 8, 2) == declared.options.packed)?;
-    ensure(option(message, 8, 3) == declared.options.deprecated)?;
+    ensure(option(message, proto::FIELD_OPTIONS, proto::FIELD_PACKED) == declared.options.packed)?;
+    ensure(
+        option(message, proto::FIELD_OPTIONS, proto::FIELD_DEPRECATED)
+            == declared.options.deprecated,
+    )?;
     has_json_name(alloc, message, &declared.json_name)?;
-    ensure(flag(message, 17) == declared.states_optional)
+    ensure(flag(message, proto::FIELD_PROTO3_OPTIONAL) == declared.states_optional)
 }
 
 /// The messages state the fields, of a message type of that full name.
@@ -229,8 +256,8 @@ fn field_range(message: &Message, declared: ReservedFields) -> Result<(), Unstat
     ensures ok { OnOk result (StatesFieldRange (message_of message.now) declared) }
     ensures refused { OnErr result (StatesFieldRange (message_of message.now) declared → ⊥) }
 {
-    ensure(number(message, 1) == i128::from(declared.first))?;
-    ensure(number(message, 2) == i128::from(declared.last) + 1)
+    ensure(number(message, proto::RANGE_START) == i128::from(declared.first))?;
+    ensure(number(message, proto::RANGE_END) == i128::from(declared.last) + 1)
 }
 
 /// The messages state the reserved field numbers.

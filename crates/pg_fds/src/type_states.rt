@@ -13,6 +13,7 @@ ghost use Rattle.pg_fds.specs.StatesTypes.{StatesType, StatesTypes, is_entry, is
 use crate::entry_states::entries;
 use crate::error::Unstated;
 use crate::oneof_states::oneofs;
+use crate::proto;
 use crate::said::{children, ensure, option, text, texts};
 use crate::states::{enums, field_ranges, fields, is_within, same_texts};
 use pg_dyn::Message;
@@ -23,7 +24,7 @@ use std::alloc::{AllocError, Global};
 pub fn is_entry(message: &Message) -> bool
     ensures { result ≡ is_entry (message_of message.now) }
 {
-    match option(message, 7, 7) {
+    match option(message, proto::MESSAGE_OPTIONS, proto::MESSAGE_MAP_ENTRY) {
         Some(flag) => flag,
         None => false,
     }
@@ -90,11 +91,11 @@ fn own_type(
     ensures refused { IfErr result (λ r. IsSound source.now
         → StatesType (declared_in source.now) scope.now (message_of message.now) declared.now → r ≡ Memory) }
 {
-    let own = children(alloc, message, 2)?;
+    let own = children(alloc, message, proto::MESSAGE_FIELD)?;
     let declared_fields = declared_fields(alloc, source, id, declared)?;
-    let inside = children(alloc, message, 3)?;
+    let inside = children(alloc, message, proto::MESSAGE_NESTED_TYPE)?;
     let name = declared.name.as_str();
-    is_within(alloc, scope, text(message, 1)?, name)?;
+    is_within(alloc, scope, text(message, proto::MESSAGE_NAME)?, name)?;
     ensure(!is_entry(message))?;
     fields(alloc, source, name, &own, &declared_fields)?;
     entries(
@@ -103,13 +104,22 @@ fn own_type(
         &entries_of(alloc, &inside)?,
         &declared.fields,
     )?;
-    let enums_inside = children(alloc, message, 4)?;
+    let enums_inside = children(alloc, message, proto::MESSAGE_ENUM_TYPE)?;
     enums(alloc, source, name, &enums_inside, &declared.nested_enums)?;
-    ensure(option(message, 7, 3) == declared.options.deprecated)?;
-    let oneofs_inside = children(alloc, message, 8)?;
+    ensure(
+        option(message, proto::MESSAGE_OPTIONS, proto::MESSAGE_DEPRECATED)
+            == declared.options.deprecated,
+    )?;
+    let oneofs_inside = children(alloc, message, proto::MESSAGE_ONEOF_DECL)?;
     oneofs(alloc, &oneofs_inside, &own, declared, &declared_fields)?;
-    field_ranges(&children(alloc, message, 9)?, &declared.reserved_numbers)?;
-    same_texts(&texts(alloc, message, 10)?, &declared.reserved_names)?;
+    field_ranges(
+        &children(alloc, message, proto::MESSAGE_RESERVED_RANGE)?,
+        &declared.reserved_numbers,
+    )?;
+    same_texts(
+        &texts(alloc, message, proto::MESSAGE_RESERVED_NAME)?,
+        &declared.reserved_names,
+    )?;
     Ok(())
 }
 
@@ -137,7 +147,7 @@ pub fn types(
             return Err(Unstated::Reference);
         };
         own_type(alloc, source, scope, message, id, declared)?;
-        let all = children(alloc, message, 3)?;
+        let all = children(alloc, message, proto::MESSAGE_NESTED_TYPE)?;
         let inside = types_of(alloc, all.as_slice())?;
         let inner = inside.as_slice();
         let inner_ids = declared.nested_types.as_slice();

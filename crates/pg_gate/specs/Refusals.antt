@@ -5,7 +5,7 @@ use Rattle.pg_check.specs.declared.error.CheckError.{CheckError}
 use Rattle.pg_dyn.specs.ContentFaults.{code as message_code}
 use Rattle.pg_dyn.specs.Places.{place_of as message_place}
 use Rattle.pg_dyn.specs.declared.error.DynError.{DynError}
-use Rattle.pg_fds.specs.Codes.{code_of as set_code, place_of as set_place}
+use Rattle.pg_fds.specs.ErrorCodes.{code_of as set_code, place_of as set_place}
 use Rattle.pg_fds.specs.declared.error.FdsError.{FdsError}
 use Rattle.pg_link.specs.Codes.{code_of as link_code, place_of as link_place}
 use Rattle.pg_link.specs.declared.error.LinkError.{LinkError}

@@ -7,11 +7,5 @@ returns-clause-stated c = search rules
 pub returns-clause-sound : goal.returns-clause-sound
 returns-clause-sound c = search rules
 
-pub returns-clause-places : goal.returns-clause-places
-returns-clause-places c = search rules
-
 pub returns-clause-same : goal.returns-clause-same
 returns-clause-same c = search rules
-
-pub returns-clause-exact : goal.returns-clause-exact
-returns-clause-exact c = search rules

@@ -54,7 +54,7 @@ fn bytes_of<S: Sources>(
     }
 }
 
-/// The schema that the bytes state, which keeps to the rules and stands in order of declaration.
+/// The schema that the bytes state, which keeps to the rules.
 fn stated(alloc: Global, side: Side, bytes: &[u8]) -> Result<Schema, GateError>
     ensures stated { IfOk result (IsStated bytes.now) }
     ensures refused { IfErr result (IsErrorOf (IsFaultOfBytes bytes.now) side) }

@@ -15,13 +15,13 @@ returns c =
     let in_enums = placed_enums c.args.enums s.tree in
     let types = group c.in_ok-in_types.in_types in
     let enums = group c.in_ok-in_enums.in_enums in
-    let trees = ap (map (grouped_tree s.targets types enums)) (ap (map outline.message) c.deref-3.ensures.value ∙ c.in_ok-messages.ensures)
+    let trees = ap (map (grouped_tree s.targets types enums)) (ap (map outline.message) c.deref-4.ensures.value ∙ c.in_ok-messages.ensures)
     ∙ trees_are s.targets types enums in_types in_enums c.in_ok-in_types.ensures c.in_ok-in_enums.ensures (outline.file_messages s.tree) in
     record {
       of_types = subst (λ ts. EachIs IsTypeOf ts c.in_ok-types.types.items) trees c.in_ok-types.ensures;
-      of_enums = c.in_ok-enums.ensures ∙ ap (map made_enum) (ap (map outline.enumeration) c.deref-4.ensures.value ∙ c.in_ok-found.ensures);
+      of_enums = c.in_ok-enums.ensures ∙ ap (map made_enum) (ap (map outline.enumeration) c.deref-5.ensures.value ∙ c.in_ok-found.ensures);
       of_services = c.in_ok-made.ensures;
       of_file = subst (λ w. IsFileOf w c.in_ok-file.file) (shape_is types enums c.args.types c.args.enums c.args.services c.in_ok-ids.ids.items c.in_ok-ids.ids.items s
           c.in_ok-in_types.ensures c.in_ok-in_enums.ensures
-          (c.in_ok-ids.ensures ∙ ap (service_ids c.args.services) (ap (map service) c.deref-5.ensures.value ∙ c.in_ok-made.ensures))) c.in_ok-file.ensures;
+          (c.in_ok-ids.ensures ∙ ap (service_ids c.args.services) (ap (map service) c.deref-6.ensures.value ∙ c.in_ok-made.ensures))) c.in_ok-file.ensures;
     }

@@ -16,12 +16,12 @@ loop-id-preserved t c =
     let i = c.loop-id.id-index in
     let id = get_or ids i none in
     let types = c.args.source.now.types.items in
-    let inside : places_from 0 c.loop-id.end ++ enums_below (c.args.depth - 1) types c.in-Some.declared.now.nested_types.items ≡ places_from 0 c.in_ok-own.own =
-    ap (λ ns. places_from 0 c.loop-id.end ++ enums_below (c.args.depth - 1) types ns) (sym c.as_slice.ensures.value) ∙ c.in_ok-own.ensures.ok in
-    let own : places_from 0 c.in_ok-own.own ++ enum_places c.in-Some.declared.now.nested_enums.items ≡ places_from 0 c.in_ok-end.end =
-    ap (λ ns. places_from 0 c.in_ok-own.own ++ enum_places ns) (sym c.as_slice-in-loop-id.ensures.value) ∙ c.in_ok-end.ensures.ok in
+    let own : places_from 0 c.loop-id.end ++ enum_places c.in-Some.declared.now.nested_enums.items ≡ places_from 0 c.in_ok-own.own =
+    ap (λ ns. places_from 0 c.loop-id.end ++ enum_places ns) (sym c.as_slice.ensures.value) ∙ c.in_ok-own.ensures.ok in
+    let inside : places_from 0 c.in_ok-own.own ++ enums_below (c.args.depth - 1) types c.in-Some.declared.now.nested_types.items ≡ places_from 0 c.in_ok-end.end =
+    ap (λ ns. places_from 0 c.in_ok-own.own ++ enums_below (c.args.depth - 1) types ns) (sym c.as_slice-in-loop-id.ensures.value) ∙ c.in_ok-end.ensures.ok in
     enums_on c.args.depth types ids i id c.in-Some.declared.now (places_from 0 c.args.next) (places_from 0 c.loop-id.end) (places_from 0 c.in_ok-own.own) (places_from 0 c.in_ok-end.end)
-    c.if-depth-eq0.false c.loop-id-test.true (same_default ids i none id c.loop-id-test.true) (sym c.in-Some.ensures.exact) c.loop-id.invariant inside own
+    c.if-depth-eq0.false c.loop-id-test.true (same_default ids i none id c.loop-id-test.true) (sym c.in-Some.ensures.exact) c.loop-id.invariant own inside
 
 pub returns-in_default-clause-refused : goal.returns-in_default-clause-refused
 returns-in_default-clause-refused t c = λ sound scope later n scoped asked.
@@ -43,9 +43,8 @@ returns-in_err-own-clause-refused t c =
     (λ r sound scope later n scoped asked.
     let there = enums_asked c.args.depth types ids i id declared (places_from 0 c.args.next) (places_from 0 c.loop-id.end) later (places_from 0 n)
     c.if-depth-eq0.false c.loop-id-test.true (same_default ids i none id c.loop-id-test.true) (sym c.in-Some.ensures.exact) c.loop-id.invariant asked in
-    c.in_err-own.ensures.refused sound (string_bytes declared.name) (enum_places declared.nested_enums.items ++ there.0) n
-    (ap (are_types_in types (string_bytes declared.name)) c.as_slice.ensures.value ∙ inner_scoped c.args.source.now id.index declared sound (sym c.in-Some.ensures.exact))
-    (ap (λ xs. places_from 0 c.loop-id.end ++ (enums_below (c.args.depth - 1) types xs ++ (enum_places declared.nested_enums.items ++ there.0))) c.as_slice.ensures.value ∙ there.1))
+    let behind = enums_below (c.args.depth - 1) types declared.nested_types.items ++ there.0 in
+    c.in_err-own.ensures.refused behind n (ap (λ xs. places_from 0 c.loop-id.end ++ (enum_places xs ++ behind)) c.as_slice.ensures.value ∙ there.1))
 
 pub returns-in_err-end-clause-refused : goal.returns-in_err-end-clause-refused
 returns-in_err-end-clause-refused t c =
@@ -55,13 +54,14 @@ returns-in_err-end-clause-refused t c =
     let id = get_or ids i none in
     let types = c.args.source.now.types.items in
     let declared = c.in-Some.declared.now in
-    let inside : places_from 0 c.loop-id.end ++ enums_below (c.args.depth - 1) types declared.nested_types.items ≡ places_from 0 c.in_ok-own.own =
-    ap (λ ns. places_from 0 c.loop-id.end ++ enums_below (c.args.depth - 1) types ns) (sym c.as_slice.ensures.value) ∙ c.in_ok-own.ensures.ok in
+    let own : places_from 0 c.loop-id.end ++ enum_places declared.nested_enums.items ≡ places_from 0 c.in_ok-own.own =
+    ap (λ ns. places_from 0 c.loop-id.end ++ enum_places ns) (sym c.as_slice.ensures.value) ∙ c.in_ok-own.ensures.ok in
     MatchResult-from_err c.from_residual-in_err-end.result _ _ c.from_residual-in_err-end.ensures.0
     (λ r sound scope later n scoped asked.
     let there = enums_asked c.args.depth types ids i id declared (places_from 0 c.args.next) (places_from 0 c.loop-id.end) later (places_from 0 n)
     c.if-depth-eq0.false c.loop-id-test.true (same_default ids i none id c.loop-id-test.true) (sym c.in-Some.ensures.exact) c.loop-id.invariant asked in
-    c.in_err-end.ensures.refused there.0 n
-    (ap (λ xs. places_from 0 c.in_ok-own.own ++ (enum_places xs ++ there.0)) c.as_slice-in-loop-id.ensures.value
-    ∙ behind_part (places_from 0 c.loop-id.end) (enums_below (c.args.depth - 1) types declared.nested_types.items) (enum_places declared.nested_enums.items ++ there.0)
-    (places_from 0 c.in_ok-own.own) (places_from 0 n) inside there.1))
+    c.in_err-end.ensures.refused sound (string_bytes declared.name) there.0 n
+    (ap (are_types_in types (string_bytes declared.name)) c.as_slice-in-loop-id.ensures.value ∙ inner_scoped c.args.source.now id.index declared sound (sym c.in-Some.ensures.exact))
+    (ap (λ xs. places_from 0 c.in_ok-own.own ++ (enums_below (c.args.depth - 1) types xs ++ there.0)) c.as_slice-in-loop-id.ensures.value
+    ∙ behind_part (places_from 0 c.loop-id.end) (enum_places declared.nested_enums.items) (enums_below (c.args.depth - 1) types declared.nested_types.items ++ there.0)
+    (places_from 0 c.in_ok-own.own) (places_from 0 n) own there.1))

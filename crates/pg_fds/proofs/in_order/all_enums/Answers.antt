@@ -15,12 +15,11 @@ returns-in_err-own-clause-refused c =
     let i = c.loop-file.file-index in
     let f = c.file-item.result in
     let types = c.args.source.now.types.items in
-    let later = enum_places f.enums.items ++ flat_map (file_enums types) (drop (suc i) files) in
+    let later = enums_below most_deep types f.types.items ++ flat_map (file_enums types) (drop (suc i) files) in
     MatchResult-from_err c.from_residual.result _ _ c.from_residual.ensures.0
     (λ r sound n scopes asked.
-    c.in_err-own.ensures.refused sound (string_bytes f.package) later n
-    (ap (are_types_in types (string_bytes f.package)) c.as_slice.ensures.value ∙ file_scoped c.args.source.now files i f c.loop-file-test.true c.file-item.is scopes)
-    (ap (λ xs. places_from 0 c.loop-file.end ++ (enums_below most_deep types xs ++ later)) c.as_slice.ensures.value
+    c.in_err-own.ensures.refused later n
+    (ap (λ xs. places_from 0 c.loop-file.end ++ (enum_places xs ++ later)) c.as_slice.ensures.value
     ∙ file_enums_asked types files i f (places_from 0 c.loop-file.end) (places_from 0 n) c.loop-file-test.true c.file-item.is c.loop-file.invariant asked))
 
 pub returns-in_err-end-clause-refused : goal.returns-in_err-end-clause-refused
@@ -30,11 +29,12 @@ returns-in_err-end-clause-refused c =
     let f = c.file-item.result in
     let types = c.args.source.now.types.items in
     let later = flat_map (file_enums types) (drop (suc i) files) in
-    let inside : places_from 0 c.loop-file.end ++ enums_below most_deep types f.types.items ≡ places_from 0 c.in_ok-own.own =
-    ap (λ xs. places_from 0 c.loop-file.end ++ enums_below most_deep types xs) (sym c.as_slice.ensures.value) ∙ c.in_ok-own.ensures.ok in
+    let own : places_from 0 c.loop-file.end ++ enum_places f.enums.items ≡ places_from 0 c.in_ok-own.own =
+    ap (λ xs. places_from 0 c.loop-file.end ++ enum_places xs) (sym c.as_slice.ensures.value) ∙ c.in_ok-own.ensures.ok in
     MatchResult-from_err c.from_residual-in_err-end.result _ _ c.from_residual-in_err-end.ensures.0
     (λ r sound n scopes asked.
-    c.in_err-end.ensures.refused later n
-    (ap (λ xs. places_from 0 c.in_ok-own.own ++ (enum_places xs ++ later)) c.as_slice-in-loop-file.ensures.value
-    ∙ behind_part (places_from 0 c.loop-file.end) (enums_below most_deep types f.types.items) (enum_places f.enums.items ++ later) (places_from 0 c.in_ok-own.own) (places_from 0 n) inside
+    c.in_err-end.ensures.refused sound (string_bytes f.package) later n
+    (ap (are_types_in types (string_bytes f.package)) c.as_slice-in-loop-file.ensures.value ∙ file_scoped c.args.source.now files i f c.loop-file-test.true c.file-item.is scopes)
+    (ap (λ xs. places_from 0 c.in_ok-own.own ++ (enums_below most_deep types xs ++ later)) c.as_slice-in-loop-file.ensures.value
+    ∙ behind_part (places_from 0 c.loop-file.end) (enum_places f.enums.items) (enums_below most_deep types f.types.items ++ later) (places_from 0 c.in_ok-own.own) (places_from 0 n) own
     (file_enums_asked types files i f (places_from 0 c.loop-file.end) (places_from 0 n) c.loop-file-test.true c.file-item.is c.loop-file.invariant asked)))

@@ -2,7 +2,7 @@ use Rattle.std.proofs.Common.{◌≡◌, ◌<◌, ◌∷◌, [], Some, length, m
 use Rattle.std.proofs.lemmas.Result.{err_from_is_err_and}
 use Rattle.pg_dyn.specs.Kept.{message_of}
 use Rattle.pg_fds.specs.Outlines.{file_enums, file_services, file_types, files_at, row, type_row}
-use Rattle.pg_fds.specs.OutlinedPlaces.{behind_file, counts_of, file_places, no_counts, placed_file, placed_type, placed_types}
+use Rattle.pg_fds.specs.OutlinedPlaces.{behind_file, counts_of, file_places, inside_file, no_counts, placed_file, placed_type, placed_types}
 use Rattle.pg_fds.specs.Said.{children_at, text_at}
 use Rattle.pg_fds.proofs.FileLaws.{each_in, same_default}
 use Rattle.pg_fds.proofs.NameLoops.{seen}
@@ -49,7 +49,7 @@ loop-place-preserved c =
       services = files_on file_services before after m (map row mid.services.items) (map row new.services.items) more inv.services c.in_ok-outline_file.ensures.services;
       files = each_on (behind_file depth) (λ k f. file_places depth k f ∷ []) no_counts (counts_of mid) before after m [] (map placed_file mid.files.items) (map placed_file new.files.items) more inv.counts inv.files
           c.in_ok-outline_file.ensures.files;
-      placed = each_on (behind_file depth) (λ k f. placed_types depth (text_at 2 f) k (children_at 4 f)) no_counts (counts_of mid) before after m [] (map placed_type mid.types.items) (map placed_type new.types.items) more
+      placed = each_on (behind_file depth) (λ k f. placed_types depth (text_at 2 f) (inside_file k f) (children_at 4 f)) no_counts (counts_of mid) before after m [] (map placed_type mid.types.items) (map placed_type new.types.items) more
           inv.counts inv.placed c.in_ok-outline_file.ensures.placed;
       counts = counts_on (behind_file depth) no_counts (counts_of mid) (counts_of new) before after m more inv.counts
           (counts_are (counts_of new) (behind_file depth (counts_of mid) m) (rows_long type_row mid.types.items new.types.items (file_types depth m) c.in_ok-outline_file.ensures.types)

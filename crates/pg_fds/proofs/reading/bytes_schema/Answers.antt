@@ -6,7 +6,6 @@ pub returns : goal.returns
 returns c = record {
   ok = bytes_read c.args.bytes.now (message_of c.in_ok-set.set) c.set_schema.result c.in_ok-set.ensures.message c.set_schema.ensures.ok;
   sound = c.set_schema.ensures.sound;
-  places = c.set_schema.ensures.places;
   refused = bytes_refused c.args.bytes.now c.in_ok-set.set c.set_schema.result c.in_ok-set.ensures.message c.in_ok-set.ensures.fits c.set_schema.ensures.refused;
   same = bytes_same c.args.bytes.now c.in_ok-set.set c.set_schema.result c.in_ok-set.ensures.message c.in_ok-set.ensures.fits c.set_schema.ensures.same;
   none = bytes_none c.args.bytes.now c.in_ok-set.set c.set_schema.result c.in_ok-set.ensures.message c.in_ok-set.ensures.fits c.set_schema.ensures.none;

@@ -46,9 +46,8 @@ returns c =
     let seen : map message_of (lent all) ≡ children_at 1 set = ap (λ xs. map message_of (lent xs)) c.as_slice-all.ensures.value ∙ c.in_ok-all_files.ensures in
     let kept : map message_of (lent files) ≡ kept_files set = files_kept set all files seen (ap (λ xs. map message_of (lent xs)) c.as_slice-files.ensures.value ∙ c.in_ok-kept_files.ensures.ok) in
     record {
-      ok = stated set c.in_ok-skips.skips all files c.files_schema.result seen c.in_ok-skips.ensures.ok kept c.files_schema.ensures.ok;
+      ok = stated set c.in_ok-skips.skips all files c.files_schema.result seen c.in_ok-skips.ensures.ok kept c.files_schema.ensures.ok c.files_schema.ensures.places;
       sound = c.files_schema.ensures.sound;
-      places = c.files_schema.ensures.places;
       refused = set_refused set files c.files_schema.result kept c.files_schema.ensures.refused;
       same = set_same set c.in_ok-skips.skips all files c.files_schema.result seen c.in_ok-skips.ensures.ok kept c.files_schema.ensures.same;
       none = set_none set c.in_ok-skips.skips all files c.files_schema.result seen c.in_ok-skips.ensures.ok kept c.files_schema.ensures.none;

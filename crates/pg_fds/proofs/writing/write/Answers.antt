@@ -17,25 +17,29 @@ unfolding written_shape
 encode-requires c = subst (λ s. Fits s c.in_ok-message.message) (sym c.in_ok-table.ensures.shape) c.in_ok-message.ensures.kept.fits
 
 pub returns-in-Ok-clause-ok : goal.returns-in-Ok-clause-ok
-returns-in-Ok-clause-ok c =
-    c.in-Ok.ensures.ok.0 ∙ set_bytes (shape_of c.in_ok-table.table) c.args.schema.now c.in_ok-message.message c.in_ok-table.ensures.shape c.in_ok-message.ensures.kept c.in_ok-message.ensures.items
+returns-in-Ok-clause-ok c = (
+  c.in-Ok.ensures.ok.0 ∙ set_bytes (shape_of c.in_ok-table.table) c.args.schema.now c.in_ok-message.message c.in_ok-table.ensures.shape c.in_ok-message.ensures.kept c.in_ok-message.ensures.items,
+  c.in-Ok.ensures.ok.1,
+)
 
 pub returns-in-Ok-clause-stated : goal.returns-in-Ok-clause-stated
 unfolding written_shape
 returns-in-Ok-clause-stated c =
     λ readable.
     written_states c.reads_again.ensures c.args.schema.now c.in_ok-message.message c.in-Ok.bytes.items (subst IsShape c.in_ok-table.ensures.shape c.parts.ensures.checked.shape)
-    c.in_ok-message.ensures.kept c.in_ok-message.ensures.items
-    (c.in-Ok.ensures.ok.0 ∙ set_bytes (shape_of c.in_ok-table.table) c.args.schema.now c.in_ok-message.message c.in_ok-table.ensures.shape c.in_ok-message.ensures.kept c.in_ok-message.ensures.items)
-    c.in-Ok.ensures.ok.1 c.parts-parts.ensures.checked.sound readable
+    c.in_ok-message.ensures.kept c.in_ok-message.ensures.items (
+      c.in-Ok.ensures.ok.0 ∙ set_bytes (shape_of c.in_ok-table.table) c.args.schema.now c.in_ok-message.message c.in_ok-table.ensures.shape c.in_ok-message.ensures.kept c.in_ok-message.ensures.items,
+      c.in-Ok.ensures.ok.1,
+    ) c.parts-parts.ensures.checked.sound readable
 
 pub returns-in-Ok-clause-shallow : goal.returns-in-Ok-clause-shallow
 unfolding written_shape
 returns-in-Ok-clause-shallow c =
     written_shallow c.encoding_spells.ensures c.writing_splits.ensures c.args.schema.now c.in_ok-message.message c.in-Ok.bytes.items (subst IsShape c.in_ok-table.ensures.shape c.parts.ensures.checked.shape)
-    c.in_ok-message.ensures.kept c.in_ok-message.ensures.items
-    (c.in-Ok.ensures.ok.0 ∙ set_bytes (shape_of c.in_ok-table.table) c.args.schema.now c.in_ok-message.message c.in_ok-table.ensures.shape c.in_ok-message.ensures.kept c.in_ok-message.ensures.items)
-    c.in-Ok.ensures.ok.1
+    c.in_ok-message.ensures.kept c.in_ok-message.ensures.items (
+      c.in-Ok.ensures.ok.0 ∙ set_bytes (shape_of c.in_ok-table.table) c.args.schema.now c.in_ok-message.message c.in_ok-table.ensures.shape c.in_ok-message.ensures.kept c.in_ok-message.ensures.items,
+      c.in-Ok.ensures.ok.1,
+    )
 
 pub returns-in-Err-TooLong-clause-err : goal.returns-in-Err-TooLong-clause-err
 returns-in-Err-TooLong-clause-err c =

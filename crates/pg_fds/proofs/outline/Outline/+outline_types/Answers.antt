@@ -7,7 +7,7 @@ use Rattle.pg_schema.specs.DeclaredNames.{within}
 use Rattle.pg_schema.specs.Scopes.{enum_places, type_places}
 use Rattle.pg_dyn.specs.Kept.{message_of}
 use Rattle.pg_fds.specs.Lent.{lent}
-use Rattle.pg_fds.specs.Outlines.{AreEnumsNamed, AreTypesNamed, NameOneofs, enum_rows, row, rows_of_enums, rows_of_type, type_row, type_rows}
+use Rattle.pg_fds.specs.Outlines.{AreEnumsNamed, AreTypesNamed, NameOneofs, enum_rows, row, row_in, rows_in, rows_of_enums, rows_of_type, type_row, type_rows}
 use Rattle.pg_fds.specs.OutlinedPlaces.{behind_type, counts_of, each_from, inside_type, placed_type, placed_types, placed_with, places_of_types}
 use Rattle.pg_fds.specs.Said.{children_at}
 use Rattle.pg_fds.specs.SetNames.{Declares, full_name, type_names, types_names}
@@ -80,8 +80,8 @@ returns-in_err-id-clause-refused t c =
     (type_wanted (depth - 1) scope mm c.as_str-name.result.now here packages c.loop-message.self.names _
     (c.in_err-id.ensures.refused (omega (arith, room)) (oneofs_here depth scope ms i m some h c.message-item.is oneofs).0 packages)))
 
-pub returns-in_err-types-clause-refused : goal.returns-in_err-types-clause-refused
-returns-in_err-types-clause-refused t c =
+pub returns-in_err-enums-clause-refused : goal.returns-in_err-enums-clause-refused
+returns-in_err-enums-clause-refused t c =
     let ms = c.args.messages.now in
     let i = c.loop-message.message-index in
     let m = c.message-item.result in
@@ -92,24 +92,18 @@ returns-in_err-types-clause-refused t c =
     let some = c.if-depth-eq0.false in
     let h = c.loop-message-test.true in
     let at = c.as_str-name.result.now in
-    let inner = map message_of (lent c.as_slice-own.result.now) in
+    let found = map message_of (lent c.as_slice-own_enums.result.now) in
     let here : at ≡ full_name scope mm = c.as_str-name.ensures.value ∙ (c.in_ok-full.ensures ∙ ap (within scope) c.in_ok-own_name.ensures.ok) in
-    let types : inner ≡ filter is_no_entry (children_at 3 mm) =
-    ap (λ xs. map message_of (lent xs)) c.as_slice-own.ensures.value ∙ (c.in_ok-declared.ensures ∙ ap (filter is_no_entry) (ap (λ xs. map message_of (lent xs)) c.as_slice-inside.ensures.value ∙ c.in_ok-all_inside.ensures)) in
-    let same_types = ap (λ a. type_rows (depth - 1) a inner) here ∙ ap (type_rows (depth - 1) (full_name scope mm)) types in
-    let same_enums = ap (λ a. enum_rows (depth - 1) a inner) here ∙ ap (enum_rows (depth - 1) (full_name scope mm)) types in
-    let one = rows_long type_row c.loop-message.self.types.items c.outline_type.new.self.types.items ((at, mm) ∷ []) c.in_ok-id.ensures.rows in
-    let p = err_from_is_err_and c.from_residual-in_err-types.result c.from_residual-in_err-types.ensures.1 in
+    let all : found ≡ children_at 4 mm = ap (λ xs. map message_of (lent xs)) c.as_slice-own_enums.ensures.value ∙ c.in_ok-enums_inside.ensures in
+    let p = err_from_is_err_and c.from_residual-in_err-enums.result c.from_residual-in_err-enums.ensures.1 in
     rw (p.1, p.2) (λ room_types room_enums oneofs packages.
-    let a = few_types depth scope ms i m some h c.message-item.is c.args.self.now.types.items c.loop-message.self.types.items inv.rows room_types in
     let b = few_enums depth scope ms i m some h c.message-item.is c.args.self.now.enums.items c.loop-message.self.enums.items inv.enum_rows room_enums in
-    let deep = subst (NameOneofs (depth - 1)) (sym types) (oneofs_here depth scope ms i m some h c.message-item.is oneofs).1 in
     deep_wants depth scope ms i m some h c.message-item.is packages c.args.self.now.names c.loop-message.self.names _ (inv.declares packages)
-    (types_wanted (depth - 1) scope mm at here packages inner types c.loop-message.self.names c.outline_type.new.self.names (c.in_ok-id.ensures.declares packages) _
-    (c.in_err-types.ensures.refused (omega (arith, a, one, ap length same_types)) (omega (arith, b, ap length c.in_ok-id.ensures.others.0, ap length same_enums)) deep packages)))
+    (enums_wanted (depth - 1) scope mm at here packages c.loop-message.self.names c.outline_type.new.self.names (c.in_ok-id.ensures.declares packages) found all _
+    (c.in_err-enums.ensures.refused (omega (arith, b, ap length c.in_ok-id.ensures.others.0, ap length all, seen_long c.as_slice-own_enums.result.now)) packages)))
 
-pub returns-in_err-enums-clause-refused : goal.returns-in_err-enums-clause-refused
-returns-in_err-enums-clause-refused t c =
+pub returns-in_err-types-clause-refused : goal.returns-in_err-types-clause-refused
+returns-in_err-types-clause-refused t c =
     let ms = c.args.messages.now in
     let i = c.loop-message.message-index in
     let m = c.message-item.result in
@@ -126,15 +120,20 @@ returns-in_err-enums-clause-refused t c =
     let types : inner ≡ filter is_no_entry (children_at 3 mm) =
     ap (λ xs. map message_of (lent xs)) c.as_slice-own.ensures.value ∙ (c.in_ok-declared.ensures ∙ ap (filter is_no_entry) (ap (λ xs. map message_of (lent xs)) c.as_slice-inside.ensures.value ∙ c.in_ok-all_inside.ensures)) in
     let all : found ≡ children_at 4 mm = ap (λ xs. map message_of (lent xs)) c.as_slice-own_enums.ensures.value ∙ c.in_ok-enums_inside.ensures in
+    let same_types = ap (λ a. type_rows (depth - 1) a inner) here ∙ ap (type_rows (depth - 1) (full_name scope mm)) types in
     let same_enums = ap (λ a. enum_rows (depth - 1) a inner) here ∙ ap (enum_rows (depth - 1) (full_name scope mm)) types in
-    let deep = rows_long row c.outline_type.new.self.enums.items c.outline_types.new.self.enums.items (enum_rows (depth - 1) at inner) c.in_ok-types.ensures.enum_rows in
-    let p = err_from_is_err_and c.from_residual-in_err-enums.result c.from_residual-in_err-enums.ensures.1 in
+    let one = rows_long type_row c.loop-message.self.types.items c.outline_type.new.self.types.items ((at, mm) ∷ []) c.in_ok-id.ensures.rows in
+    let own = rows_long row c.outline_type.new.self.enums.items c.outline_enums.new.enums.items (rows_in at found) c.in_ok-enums.ensures.rows in
+    let p = err_from_is_err_and c.from_residual-in_err-types.result c.from_residual-in_err-types.ensures.1 in
     rw (p.1, p.2) (λ room_types room_enums oneofs packages.
+    let a = few_types depth scope ms i m some h c.message-item.is c.args.self.now.types.items c.loop-message.self.types.items inv.rows room_types in
     let b = few_enums depth scope ms i m some h c.message-item.is c.args.self.now.enums.items c.loop-message.self.enums.items inv.enum_rows room_enums in
+    let deep = subst (NameOneofs (depth - 1)) (sym types) (oneofs_here depth scope ms i m some h c.message-item.is oneofs).1 in
     deep_wants depth scope ms i m some h c.message-item.is packages c.args.self.now.names c.loop-message.self.names _ (inv.declares packages)
-    (enums_wanted (depth - 1) scope mm at here packages inner types c.loop-message.self.names c.outline_type.new.self.names (c.in_ok-id.ensures.declares packages) found all
-    c.outline_types.new.self.names (c.in_ok-types.ensures.declares packages) _
-    (c.in_err-enums.ensures.refused (omega (arith, b, deep, ap length c.in_ok-id.ensures.others.0, ap length same_enums, ap length all, seen_long c.as_slice-own_enums.result.now)) packages)))
+    (types_wanted (depth - 1) scope mm at here packages c.loop-message.self.names c.outline_type.new.self.names (c.in_ok-id.ensures.declares packages) found all
+    c.outline_enums.new.names (c.in_ok-enums.ensures.declares packages) inner types _
+    (c.in_err-types.ensures.refused (omega (arith, a, one, ap length same_types))
+    (omega (arith, b, own, ap length c.in_ok-id.ensures.others.0, ap length same_enums, ap length all, length-map found (row_in at))) deep packages)))
 
 pub loop-message-preserved : goal.loop-message-preserved
 loop-message-preserved t c =
@@ -155,8 +154,8 @@ loop-message-preserved t c =
     let all : found ≡ children_at 4 mm = ap (λ xs. map message_of (lent xs)) c.as_slice-own_enums.ensures.value ∙ c.in_ok-enums_inside.ensures in
     let t0 = c.loop-message.self.names in
     let t1 = c.outline_type.new.self.names in
-    let t2 = c.outline_types.new.self.names in
-    let t3 = c.outline_enums.new.names in
+    let t2 = c.outline_enums.new.names in
+    let t3 = c.outline_types.new.self.names in
     let last = c.place_inside.new.self in
     let same : t3 ≡ last.names = sym c.place_inside.ensures.others.0 in
     let old = c.args.self.now in
@@ -167,16 +166,15 @@ loop-message-preserved t c =
     type_rows_on (depth - 1) scope at mm inner (map type_row mid.types.items) (map type_row a.types.items) (map type_row last.types.items) here types c.in_ok-id.ensures.rows
     (c.place_inside.ensures.rows ∙ c.in_ok-types.ensures.rows) in
     let enums_there : map row last.enums.items ≡ map row mid.enums.items ++ rows_of_enums (enum_rows (depth - 1)) scope mm =
-    enum_rows_on (depth - 1) scope at mm inner found (map row mid.enums.items) (map row b.enums.items) (map row last.enums.items) here types all
-    (c.in_ok-types.ensures.enum_rows ∙ ap (λ es. map row es ++ enum_rows (depth - 1) at inner) c.in_ok-id.ensures.others.0)
-    (ap (map row) c.place_inside.ensures.others.1 ∙ c.in_ok-enums.ensures.rows) in
+    enum_rows_on (depth - 1) scope at mm inner found (map row mid.enums.items) (map row c.outline_enums.new.enums.items) (map row last.enums.items) here types all
+    (c.in_ok-enums.ensures.rows ∙ ap (λ es. map row es ++ rows_in at found) c.in_ok-id.ensures.others.0)
+    (ap (map row) c.place_inside.ensures.others.1 ∙ c.in_ok-types.ensures.enum_rows) in
     let services_same : last.services.items ≡ mid.services.items = c.place_inside.ensures.others.2 ∙ (c.in_ok-types.ensures.others.0 ∙ c.in_ok-id.ensures.others.1) in
     let one = rows_long type_row mid.types.items a.types.items ((at, mm) ∷ []) c.in_ok-id.ensures.rows in
-    let inside_counts : counts_of a ≡ inside_type (counts_of mid) =
-    counts_are (counts_of a) (inside_type (counts_of mid)) (omega (arith, one)) (ap length c.in_ok-id.ensures.others.0) (ap length c.in_ok-id.ensures.others.1) in
-    let deep = rows_long row a.enums.items b.enums.items (enum_rows (depth - 1) at inner) c.in_ok-types.ensures.enum_rows in
-    let counted : length b.enums.items ≡ (counts_of mid).enums + length (enum_rows (depth - 1) at inner) = omega (arith, deep, ap length c.in_ok-id.ensures.others.0) in
     let many : length c.as_slice-own_enums.result.now ≡ length (children_at 4 mm) = sym (seen_long c.as_slice-own_enums.result.now) ∙ ap length all in
+    let own = rows_long row a.enums.items c.outline_enums.new.enums.items (rows_in at found) c.in_ok-enums.ensures.rows in
+    let inside_counts : record { types = length a.types.items; enums = length c.outline_enums.new.enums.items; services = length a.services.items } ≡ inside_type (counts_of mid) mm =
+    counts_are _ (inside_type (counts_of mid) mm) (omega (arith, one)) (omega (arith, own, ap length c.in_ok-id.ensures.others.0, ap length all, length-map found (row_in at))) (ap length c.in_ok-id.ensures.others.1) in
     let at_place : length (map placed_type mid.types.items) ≡ c.in_ok-id.id.index = length-map mid.types.items placed_type ∙ sym c.in_ok-id.ensures.placed in
     let more = seen_more ms i m h c.message-item.is in
     let on = behind_type (depth - 1) scope in
@@ -190,9 +188,9 @@ loop-message-preserved t c =
       placed = each_on on (placed_with (depth - 1) (placed_types (depth - 1)) scope) (counts_of old) (counts_of mid) (seen (take i ms)) (seen (take (i + 1) ms)) mm (map placed_type old.types.items)
           (map placed_type mid.types.items) (map placed_type last.types.items) more inv.counts inv.placed
           (placed_on (depth - 1) scope at mm inner (map placed_type mid.types.items) (map placed_type a.types.items) (map placed_type b.types.items) (map placed_type last.types.items) (counts_of mid)
-          (type_places c.in_ok-types.types.items) (enum_places c.in_ok-enums.enums.items) (length b.enums.items) (length c.as_slice-own_enums.result.now) here types c.in_ok-id.ensures.empty
+          (type_places c.in_ok-types.types.items) (enum_places c.in_ok-enums.enums.items) (length a.enums.items) (length c.as_slice-own_enums.result.now) here types c.in_ok-id.ensures.empty
           (c.in_ok-types.ensures.placed ∙ ap (λ k. map placed_type a.types.items ++ placed_types (depth - 1) at k inner) inside_counts)
-          (c.in_ok-types.ensures.ids ∙ ap (λ k. places_of_types (depth - 1) at k inner) inside_counts) c.in_ok-enums.ensures.ids counted many
+          (c.in_ok-types.ensures.ids ∙ ap (λ k. places_of_types (depth - 1) at k inner) inside_counts) c.in_ok-enums.ensures.ids (ap length c.in_ok-id.ensures.others.0) many
           (λ behind r is. c.place_inside.ensures.inside (map placed_type mid.types.items) behind r is at_place));
       counts = counts_on on (counts_of old) (counts_of mid) (counts_of last) (seen (take i ms)) (seen (take (i + 1) ms)) mm more inv.counts
           (counts_are (counts_of last) (on (counts_of mid) mm) types_long enums_long (ap length services_same));
@@ -200,17 +198,17 @@ loop-message-preserved t c =
       named = λ before.
           subst (AreTypesNamed last.names) (sym c.place_inside.ensures.rows)
           (subst (λ table. AreTypesNamed table (map type_row b.types.items)) same
-          (types_still [] _ t2 t3 (c.in_ok-enums.ensures.declares []) (map type_row b.types.items) (c.in_ok-types.ensures.named (c.in_ok-id.ensures.named (inv.named before)))));
+          (c.in_ok-types.ensures.named (types_still [] _ t1 t2 (c.in_ok-enums.ensures.declares []) (map type_row a.types.items) (c.in_ok-id.ensures.named (inv.named before)))));
       enums_named = λ before.
           subst (AreEnumsNamed last.names) (sym (ap (map row) c.place_inside.ensures.others.1))
-          (subst (λ table. AreEnumsNamed table (map row c.outline_enums.new.enums.items)) same
-          (c.in_ok-enums.ensures.named (c.in_ok-types.ensures.enums_named
+          (subst (λ table. AreEnumsNamed table (map row b.enums.items)) same
+          (c.in_ok-types.ensures.enums_named (c.in_ok-enums.ensures.named
           (subst (λ es. AreEnumsNamed t1 (map row es)) (sym c.in_ok-id.ensures.others.0) (enums_still [] _ t0 t1 (c.in_ok-id.ensures.declares []) (map row mid.enums.items) (inv.enums_named before))))));
       declares = λ packages.
           subst (λ table. Declares packages (flat_map (type_names (types_names (depth - 1)) scope) (seen (take (i + 1) ms))) old.names table) same
           (loop_declares (type_names (types_names (depth - 1)) scope) ms i m h c.message-item.is packages old.names t0 t3 (inv.declares packages)
-          (type_declared (depth - 1) scope mm at here packages inner types t0 t1 (c.in_ok-id.ensures.declares packages) found all t2 (c.in_ok-types.ensures.declares packages) t3
-          (c.in_ok-enums.ensures.declares packages)));
+          (type_declared (depth - 1) scope mm at here packages t0 t1 (c.in_ok-id.ensures.declares packages) found all t2 (c.in_ok-enums.ensures.declares packages) inner types t3
+          (c.in_ok-types.ensures.declares packages)));
     }
 
 pub returns : goal.returns

@@ -1,4 +1,4 @@
-use Rattle.std.proofs.Common.{◌≡◌, ◌++◌, ◌∷◌, [], true, filter, length, map, sym, ap, ap₂, subst, ◌∙◌, arith, append_assoc, length-append}
+use Rattle.std.proofs.Common.{◌≡◌, ◌++◌, ◌∷◌, [], true, filter, length, map, refl, sym, ap, ap₂, subst, ◌∙◌, arith, append_assoc, length-append}
 use Rattle.std.proofs.lemmas.List.{length-map}
 use Rattle.std.proofs.lemmas.Result.{err_from_is_err_and}
 use Rattle.pg_schema.specs.Scopes.{enum_places, service_places, type_places}
@@ -6,7 +6,7 @@ use Rattle.pg_schema.specs.TextSets.{is_among}
 use Rattle.pg_dyn.specs.Kept.{message_of}
 use Rattle.pg_fds.specs.Lent.{lent}
 use Rattle.pg_fds.specs.Outlines.{NameOneofs, enum_rows, file_enums, file_types, row, row_in, rows_in, type_row, type_rows}
-use Rattle.pg_fds.specs.OutlinedPlaces.{counts_of, placed_file, placed_type, placed_types}
+use Rattle.pg_fds.specs.OutlinedPlaces.{counts_of, inside_file, placed_file, placed_type, placed_types, places_of_types}
 use Rattle.pg_fds.specs.Said.{children_at, text_at}
 use Rattle.pg_fds.specs.SetNames.{file_names}
 use Rattle.pg_fds.specs.StatesTypes.{is_entry}
@@ -14,7 +14,7 @@ use Rattle.pg_fds.proofs.NamedRows.{enums_still, types_still}
 use Rattle.pg_fds.proofs.NameTable.{wants_first}
 use Rattle.pg_fds.proofs.OutlinedFiles.{file_declared, file_enums_wanted, file_services_wanted, file_types_wanted, own_package}
 use Rattle.pg_fds.proofs.OutlinedNames.{rows_long, seen_long}
-use Rattle.pg_fds.proofs.OutlinedPlaces.{file_placed}
+use Rattle.pg_fds.proofs.OutlinedPlaces.{counts_are, file_placed}
 use Rattle.pg_fds.proofs.OrderSteps.{map_more}
 use Rattle.pg_fds.proofs.outline.Outline.outline_file.Goals as goal
 
@@ -39,6 +39,27 @@ returns-in_err-without_entries-clause-refused c =
     let p = err_from_is_err_and c.from_residual-in_err-without_entries.result c.from_residual-in_err-without_entries.ensures.1 in
     rw (p.1, p.2) (λ packages may later free. c.in_err-without_entries.ensures.refused (ap (filter is_entry) same_types ∙ may.no_entries))
 
+pub returns-in_err-enums-clause-refused : goal.returns-in_err-enums-clause-refused
+returns-in_err-enums-clause-refused c =
+    let m = message_of c.args.message.now in
+    let depth = c.args.depth in
+    let at = c.in_ok-scope.scope.now in
+    let here : at ≡ text_at 2 m = c.in_ok-scope.ensures.ok in
+    let enums = map message_of (lent c.as_slice-own_enums.result.now) in
+    let same_enums : enums ≡ children_at 5 m = ap (λ xs. map message_of (lent xs)) c.as_slice-own_enums.ensures.value ∙ c.in_ok-enums_inside.ensures in
+    let p = err_from_is_err_and c.from_residual-in_err-enums.result c.from_residual-in_err-enums.ensures.1 in
+    rw (p.1, p.2) (λ packages may.
+    let b = may.few_enums in
+    file_enums_wanted depth m packages at here enums same_enums c.args.self.now.names c.declare_scope.new.names (c.in_ok-declare_scope.ensures.declares packages (subst (λ a. is_among packages a ≡ true) (sym here) may.package_name)) _
+    (c.in_err-enums.ensures.refused (omega (
+      arith,
+      b,
+      ap length same_enums,
+      seen_long c.as_slice-own_enums.result.now,
+      length-map (children_at 5 m) (row_in (text_at 2 m)),
+      length-append (rows_in (text_at 2 m) (children_at 5 m)) (enum_rows depth (text_at 2 m) (children_at 4 m)),
+    )) packages))
+
 pub returns-in_err-types-clause-refused : goal.returns-in_err-types-clause-refused
 returns-in_err-types-clause-refused c =
     let m = message_of c.args.message.now in
@@ -49,42 +70,26 @@ returns-in_err-types-clause-refused c =
     let same_types : types ≡ children_at 4 m = ap (λ xs. map message_of (lent xs)) c.as_slice-own_types.ensures.value ∙ c.in_ok-types_inside.ensures in
     let type_count : type_rows depth at types ≡ file_types depth m = ap (λ a. type_rows depth a types) here ∙ ap (type_rows depth (text_at 2 m)) same_types in
     let enum_count : enum_rows depth at types ≡ enum_rows depth (text_at 2 m) (children_at 4 m) = ap (λ a. enum_rows depth a types) here ∙ ap (enum_rows depth (text_at 2 m)) same_types in
+    let enums = map message_of (lent c.as_slice-own_enums.result.now) in
+    let same_enums : enums ≡ children_at 5 m = ap (λ xs. map message_of (lent xs)) c.as_slice-own_enums.ensures.value ∙ c.in_ok-enums_inside.ensures in
+    let long = rows_long row c.args.self.now.enums.items c.outline_enums.new.enums.items (rows_in at enums) c.in_ok-enums.ensures.rows in
     let p = err_from_is_err_and c.from_residual-in_err-types.result c.from_residual-in_err-types.ensures.1 in
     rw (p.1, p.2) (λ packages may.
     let a = may.few_types in
     let b = may.few_enums in
-    file_types_wanted depth m packages at here types same_types c.args.self.now.names c.declare_scope.new.names (c.in_ok-declare_scope.ensures.declares packages (subst (λ a. is_among packages a ≡ true) (sym here) may.package_name)) _
+    file_types_wanted depth m packages at here enums same_enums c.args.self.now.names c.declare_scope.new.names (c.in_ok-declare_scope.ensures.declares packages (subst (λ a. is_among packages a ≡ true) (sym here) may.package_name))
+    c.outline_enums.new.names (c.in_ok-enums.ensures.declares packages) types same_types _
     (c.in_err-types.ensures.refused (omega (arith, a, ap length type_count))
-    (omega (arith, b, ap length enum_count, length-append (enum_rows depth (text_at 2 m) (children_at 4 m)) (rows_in (text_at 2 m) (children_at 5 m)))) (subst (NameOneofs depth) (sym same_types) may.oneofs) packages))
-
-pub returns-in_err-enums-clause-refused : goal.returns-in_err-enums-clause-refused
-returns-in_err-enums-clause-refused c =
-    let m = message_of c.args.message.now in
-    let depth = c.args.depth in
-    let at = c.in_ok-scope.scope.now in
-    let here : at ≡ text_at 2 m = c.in_ok-scope.ensures.ok in
-    let types = map message_of (lent c.as_slice-own_types.result.now) in
-    let same_types : types ≡ children_at 4 m = ap (λ xs. map message_of (lent xs)) c.as_slice-own_types.ensures.value ∙ c.in_ok-types_inside.ensures in
-    let type_count : type_rows depth at types ≡ file_types depth m = ap (λ a. type_rows depth a types) here ∙ ap (type_rows depth (text_at 2 m)) same_types in
-    let enum_count : enum_rows depth at types ≡ enum_rows depth (text_at 2 m) (children_at 4 m) = ap (λ a. enum_rows depth a types) here ∙ ap (enum_rows depth (text_at 2 m)) same_types in
-    let enums = map message_of (lent c.as_slice-own_enums.result.now) in
-    let same_enums : enums ≡ children_at 5 m = ap (λ xs. map message_of (lent xs)) c.as_slice-own_enums.ensures.value ∙ c.in_ok-enums_inside.ensures in
-    let long = rows_long row c.args.self.now.enums.items c.outline_types.new.self.enums.items (enum_rows depth at types) c.in_ok-types.ensures.enum_rows in
-    let p = err_from_is_err_and c.from_residual-in_err-enums.result c.from_residual-in_err-enums.ensures.1 in
-    rw (p.1, p.2) (λ packages may.
-    let b = may.few_enums in
-    file_enums_wanted depth m packages at here types same_types c.args.self.now.names c.declare_scope.new.names (c.in_ok-declare_scope.ensures.declares packages (subst (λ a. is_among packages a ≡ true) (sym here) may.package_name))
-    c.outline_types.new.self.names (c.in_ok-types.ensures.declares packages) enums same_enums _
-    (c.in_err-enums.ensures.refused (omega (
+    (omega (
       arith,
       b,
       long,
       ap length enum_count,
       ap length same_enums,
-      seen_long c.as_slice-own_enums.result.now,
+      length-map enums (row_in at),
       length-map (children_at 5 m) (row_in (text_at 2 m)),
-      length-append (enum_rows depth (text_at 2 m) (children_at 4 m)) (rows_in (text_at 2 m) (children_at 5 m)),
-    )) packages))
+      length-append (rows_in (text_at 2 m) (children_at 5 m)) (enum_rows depth (text_at 2 m) (children_at 4 m)),
+    )) (subst (NameOneofs depth) (sym same_types) may.oneofs) packages))
 
 pub returns-in_err-services-clause-refused : goal.returns-in_err-services-clause-refused
 returns-in_err-services-clause-refused c =
@@ -101,8 +106,8 @@ returns-in_err-services-clause-refused c =
     let p = err_from_is_err_and c.from_residual-in_err-services.result c.from_residual-in_err-services.ensures.1 in
     rw (p.1, p.2) (λ packages may.
     let few = may.few_services in
-    file_services_wanted depth m packages at here types same_types c.args.self.now.names c.declare_scope.new.names (c.in_ok-declare_scope.ensures.declares packages (subst (λ a. is_among packages a ≡ true) (sym here) may.package_name))
-    c.outline_types.new.self.names (c.in_ok-types.ensures.declares packages) enums same_enums c.outline_enums.new.names (c.in_ok-enums.ensures.declares packages) services same_services _
+    file_services_wanted depth m packages at here enums same_enums c.args.self.now.names c.declare_scope.new.names (c.in_ok-declare_scope.ensures.declares packages (subst (λ a. is_among packages a ≡ true) (sym here) may.package_name))
+    c.outline_enums.new.names (c.in_ok-enums.ensures.declares packages) types same_types c.outline_types.new.self.names (c.in_ok-types.ensures.declares packages) services same_services _
     (c.in_err-services.ensures.refused (omega (arith, few, ap length c.in_ok-types.ensures.others.0, ap length same_services, seen_long c.as_slice-own_services.result.now, length-map (children_at 6 m) (row_in (text_at 2 m)))) packages))
 
 pub returns : goal.returns
@@ -119,37 +124,40 @@ returns c =
     let same_services : services ≡ children_at 6 m = ap (λ xs. map message_of (lent xs)) c.as_slice-own_services.ensures.value ∙ c.in_ok-services_inside.ensures in
     let t0 = c.args.self.now.names in
     let t1 = c.declare_scope.new.names in
-    let t2 = c.outline_types.new.self.names in
-    let t3 = c.outline_enums.new.names in
+    let t2 = c.outline_enums.new.names in
+    let t3 = c.outline_types.new.self.names in
     let t4 = c.outline_services.new.names in
     let self = c.args.self.now in
     let deep = c.outline_types.new.self in
     let type_count : type_rows depth at types ≡ file_types depth m = ap (λ a. type_rows depth a types) here ∙ ap (type_rows depth (text_at 2 m)) same_types in
-    let enum_count : enum_rows depth at types ++ rows_in at enums ≡ file_enums depth m =
-    ap (λ a. enum_rows depth a types ++ rows_in a enums) here ∙ ap₂ (λ ts es. enum_rows depth (text_at 2 m) ts ++ rows_in (text_at 2 m) es) same_types same_enums in
+    let enum_count : rows_in at enums ++ enum_rows depth at types ≡ file_enums depth m =
+    ap (λ a. rows_in a enums ++ enum_rows depth a types) here ∙ ap₂ (λ es ts. rows_in (text_at 2 m) es ++ enum_rows depth (text_at 2 m) ts) same_enums same_types in
+    let own = rows_long row self.enums.items c.outline_enums.new.enums.items (rows_in at enums) c.in_ok-enums.ensures.rows in
+    let counts : record { types = length self.types.items; enums = length c.outline_enums.new.enums.items; services = length self.services.items } ≡ inside_file (counts_of self) m =
+    counts_are _ (inside_file (counts_of self) m) refl (omega (arith, own, ap length same_enums, length-map enums (row_in at))) refl in
     let first = c.in_ok-declare_scope.ensures.declares (at ∷ []) (own_package at) in
     record {
       types = c.in_ok-types.ensures.rows ∙ ap (λ rs. map type_row self.types.items ++ rs) type_count;
-      enums = c.in_ok-enums.ensures.rows ∙ (ap (λ rs. rs ++ rows_in at enums) c.in_ok-types.ensures.enum_rows
-          ∙ (append_assoc (map row self.enums.items) (enum_rows depth at types) (rows_in at enums) ∙ ap (λ rs. map row self.enums.items ++ rs) enum_count));
+      enums = c.in_ok-types.ensures.enum_rows ∙ (ap (λ rs. rs ++ enum_rows depth at types) c.in_ok-enums.ensures.rows
+          ∙ (append_assoc (map row self.enums.items) (rows_in at enums) (enum_rows depth at types) ∙ ap (λ rs. map row self.enums.items ++ rs) enum_count));
       services = c.in_ok-services.ensures.rows ∙ (ap (λ ss. map row ss ++ rows_in at services) c.in_ok-types.ensures.others.0
           ∙ ap (λ rs. map row self.services.items ++ rs) (ap (λ a. rows_in a services) here ∙ ap (rows_in (text_at 2 m)) same_services));
       files = ap (map placed_file) c.in_ok-push.ensures.items ∙ (map_more placed_file deep.files.items _ ∙ ap₂ (λ fs f. map placed_file fs ++ f ∷ []) c.in_ok-types.ensures.others.1
           (file_placed depth m at types (counts_of self) (type_places c.in_ok-types.types.items) (enum_places c.in_ok-enums.enums.items) (service_places c.in_ok-services.services.items)
-          (length deep.enums.items) (length c.as_slice-own_enums.result.now) (length deep.services.items) (length c.as_slice-own_services.result.now) here same_types c.in_ok-types.ensures.ids c.in_ok-enums.ensures.ids
-          (rows_long row self.enums.items deep.enums.items (enum_rows depth at types) c.in_ok-types.ensures.enum_rows) (sym (seen_long c.as_slice-own_enums.result.now) ∙ ap length same_enums)
+          (length self.enums.items) (length c.as_slice-own_enums.result.now) (length deep.services.items) (length c.as_slice-own_services.result.now) here same_types
+          (c.in_ok-types.ensures.ids ∙ ap (λ k. places_of_types depth at k types) counts) c.in_ok-enums.ensures.ids refl (sym (seen_long c.as_slice-own_enums.result.now) ∙ ap length same_enums)
           c.in_ok-services.ensures.ids (ap length c.in_ok-types.ensures.others.0) (sym (seen_long c.as_slice-own_services.result.now) ∙ ap length same_services)));
       placed = c.in_ok-types.ensures.placed
-          ∙ ap (λ ps. map placed_type self.types.items ++ ps) (ap (λ a. placed_types depth a (counts_of self) types) here ∙ ap (placed_types depth (text_at 2 m) (counts_of self)) same_types);
+          ∙ ap (λ ps. map placed_type self.types.items ++ ps) (ap (λ k. placed_types depth at k types) counts ∙ (ap (λ a. placed_types depth a (inside_file (counts_of self) m) types) here ∙ ap (placed_types depth (text_at 2 m) (inside_file (counts_of self) m)) same_types));
       named = λ before.
           types_still [] _ t3 t4 (c.in_ok-services.ensures.declares []) (map type_row deep.types.items)
-          (types_still [] _ t2 t3 (c.in_ok-enums.ensures.declares []) (map type_row deep.types.items)
-          (c.in_ok-types.ensures.named (types_still (at ∷ []) [] t0 t1 first (map type_row self.types.items) before)));
+          (c.in_ok-types.ensures.named (types_still [] _ t1 t2 (c.in_ok-enums.ensures.declares []) (map type_row self.types.items)
+          (types_still (at ∷ []) [] t0 t1 first (map type_row self.types.items) before)));
       enums_named = λ before.
-          enums_still [] _ t3 t4 (c.in_ok-services.ensures.declares []) (map row c.outline_enums.new.enums.items)
-          (c.in_ok-enums.ensures.named (c.in_ok-types.ensures.enums_named (enums_still (at ∷ []) [] t0 t1 first (map row self.enums.items) before)));
+          enums_still [] _ t3 t4 (c.in_ok-services.ensures.declares []) (map row deep.enums.items)
+          (c.in_ok-types.ensures.enums_named (c.in_ok-enums.ensures.named (enums_still (at ∷ []) [] t0 t1 first (map row self.enums.items) before)));
       declares = λ packages among.
-          file_declared depth m packages at here types same_types t0 t1 (c.in_ok-declare_scope.ensures.declares packages (subst (λ a. is_among packages a ≡ true) (sym here) among)) t2
-          (c.in_ok-types.ensures.declares packages) enums same_enums t3 (c.in_ok-enums.ensures.declares packages) services same_services t4 (c.in_ok-services.ensures.declares packages);
+          file_declared depth m packages at here enums same_enums t0 t1 (c.in_ok-declare_scope.ensures.declares packages (subst (λ a. is_among packages a ≡ true) (sym here) among)) t2
+          (c.in_ok-enums.ensures.declares packages) types same_types t3 (c.in_ok-types.ensures.declares packages) services same_services t4 (c.in_ok-services.ensures.declares packages);
       refused = tt;
     }

@@ -1,0 +1,5 @@
+use Rattle.pg_check.proofs.NumberedNames.{are_numbered}
+use Rattle.pg_check.proofs.laws.linked_numbers.Goals as goal
+
+pub returns : goal.returns
+returns c linked up = are_numbered linked up

@@ -1,0 +1,24 @@
+-- The number behind the E by which users know the error, and the byte of the set that it names.
+use Rattle.std.specs.Prelude.{ℕ, Option, Some, None}
+use Rattle.pg_check.specs.Codes.{code_of as rule_code}
+use Rattle.pg_dyn.specs.ContentFaults.{code as message_code}
+use Rattle.pg_dyn.specs.Places.{place_of as message_place}
+use Rattle.pg_fds.specs.declared.error.FdsError.{FdsError}
+use Rattle.pg_fds.specs.declared.error.FdsError.TheVariants as errors
+
+-- of the bytes of a set, and of a rule that it breaks, the code that says what is wrong there
+abbrev pub code_of : FdsError → ℕ
+code_of errors.Memory = 1
+code_of (errors.Bytes e) = message_code e
+code_of errors.NotProto3 = 702
+code_of errors.BadType = 703
+code_of errors.BadReference = 704
+code_of (errors.Rule e) = rule_code e
+
+abbrev pub place_of : FdsError → Option ℕ
+place_of errors.Memory = None
+place_of (errors.Bytes e) = message_place e
+place_of errors.NotProto3 = None
+place_of errors.BadType = None
+place_of errors.BadReference = None
+place_of (errors.Rule e) = None
