@@ -22,7 +22,6 @@ code_of (errors.EnumEmpty place) = 414
 code_of (errors.BadParts place) = 415
 code_of errors.Memory = 1
 
--- bad parts stand in no text
 abbrev pub place_of : CheckError → Option Place
 place_of (errors.BadNumber place) = Some place
 place_of (errors.DuplicateNumber place) = Some place
@@ -38,5 +37,5 @@ place_of (errors.BadOption place) = Some place
 place_of (errors.PackedNotAllowed place) = Some place
 place_of (errors.TooManyTypes place) = Some place
 place_of (errors.EnumEmpty place) = Some place
-place_of (errors.BadParts place) = None
+place_of (errors.BadParts place) = Some place
 place_of errors.Memory = None

@@ -89,7 +89,7 @@ impl CheckError {
         }
     }
 
-    /// The place of the fault in a text. Bad parts stand in none.
+    /// The place of the fault, but where memory was refused.
     pub fn place(self) -> Option<Place>
         ensures { result ≡ place_of self }
     {
@@ -107,8 +107,9 @@ impl CheckError {
             | CheckError::BadOption(place)
             | CheckError::PackedNotAllowed(place)
             | CheckError::TooManyTypes(place)
-            | CheckError::EnumEmpty(place) => Some(place),
-            CheckError::BadParts(_) | CheckError::Memory => None,
+            | CheckError::EnumEmpty(place)
+            | CheckError::BadParts(place) => Some(place),
+            CheckError::Memory => None,
         }
     }
 }

@@ -23,7 +23,7 @@ fn of_links(alloc: Global, source: &mut Source, options: Options) -> Result<Stri
     match linked(alloc, source, options) {
         Ok(linked) if options.asked.is_empty() => linked_files(alloc, &linked, options.names),
         Ok(linked) => answer_of(alloc, &linked, options.asked),
-        Err(error) => refusal(alloc, &error),
+        Err(error) => refusal(alloc, error),
     }
 }
 
@@ -36,7 +36,7 @@ fn of_read(
 ) -> Result<String, AllocError> {
     match read_file(alloc, source, folder, path) {
         Ok(bytes) => spelling(alloc, &bytes),
-        Err(error) => refusal(alloc, &error),
+        Err(error) => refusal(alloc, error),
     }
 }
 

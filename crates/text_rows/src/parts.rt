@@ -16,7 +16,7 @@ use types::element_of;
 fn admitted(alloc: Global, parts: Parts) -> Result<String, AllocError> {
     match admit(alloc, parts) {
         Ok(schema) => format!(in alloc; "taken {}", schema.parts().types.len()),
-        Err(error) => refusal(alloc, &error),
+        Err(error) => refusal(alloc, error),
     }
 }
 

@@ -69,7 +69,7 @@ fn of_schema(alloc: Global, schema: &Schema, asked: &str) -> Result<String, Allo
 fn of_linked(alloc: Global, linked: &Linked, asked: &str) -> Result<String, AllocError> {
     match build(alloc, linked) {
         Ok(schema) => of_schema(alloc, &schema, asked),
-        Err(error) => refusal(alloc, &error),
+        Err(error) => refusal(alloc, error),
     }
 }
 

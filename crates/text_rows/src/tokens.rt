@@ -5,7 +5,7 @@ use rows::{cut, number_of, text_of};
 use std::alloc::{AllocError, Global};
 
 // The code, and the byte at which the fault stands.
-fn fault(error: LexError) -> (u32, usize) {
+fn fault(error: LexError) -> (u16, usize) {
     match error {
         LexError::Memory => (1, 0),
         LexError::NotUtf8 { at } => (101, at),

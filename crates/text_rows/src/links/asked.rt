@@ -39,7 +39,7 @@ fn resolved(alloc: Global, linked: &Linked, words: &str) -> Result<String, Alloc
     let scope: Vec<&str> = words.split(' ').skip(1).collect(alloc)?;
     match full_name(alloc, linked, &scope) {
         Ok(name) => Ok(name),
-        Err(error) => refusal(alloc, &error),
+        Err(error) => refusal(alloc, error),
     }
 }
 

@@ -6,20 +6,15 @@ use std::alloc::{AllocError, Global};
 
 /// The code and the place of a refusal; of a text that is no file in its own right the code is E100
 /// or E200.
-pub fn refusal(alloc: Global, error: &LinkError) -> Result<String, AllocError> {
-    match error {
-        LinkError::MissingFile(place) => refusal_in(alloc, 301, place),
-        LinkError::ImportCycle(place) => refusal_in(alloc, 302, place),
-        LinkError::DuplicateImport(place) => refusal_in(alloc, 303, place),
-        LinkError::DuplicateName(place) => refusal_in(alloc, 304, place),
-        LinkError::UnknownName(place) => refusal_in(alloc, 305, place),
-        LinkError::NotAType(place) => refusal_in(alloc, 306, place),
-        LinkError::NotImported(place) => refusal_in(alloc, 307, place),
-        LinkError::TooManyFiles(place) => refusal_in(alloc, 308, place),
-        LinkError::SourceFailed(place) => refusal_in(alloc, 309, place),
-        LinkError::Lex(_, place) => refusal_in(alloc, 100, place),
-        LinkError::Syntax(_, place) => refusal_in(alloc, 200, place),
-        LinkError::Memory => Err(AllocError),
+pub fn refusal(alloc: Global, error: LinkError) -> Result<String, AllocError> {
+    let code = match &error {
+        LinkError::Lex(_, _) => 100,
+        LinkError::Syntax(_, _) => 200,
+        _ => error.code(),
+    };
+    match error.place() {
+        Some(place) => refusal_in(alloc, code, &place),
+        None => Err(AllocError),
     }
 }
 

@@ -6,7 +6,7 @@ use pg_syntax::{SyntaxError, parse};
 use std::alloc::{AllocError, Global};
 
 // The code, and the byte at which the fault stands.
-fn fault(error: SyntaxError) -> (u32, usize) {
+fn fault(error: SyntaxError) -> (u16, usize) {
     match error {
         SyntaxError::Memory => (1, 0),
         SyntaxError::NotProto3 { at } => (201, at),
