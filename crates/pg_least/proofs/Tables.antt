@@ -1,18 +1,13 @@
 -- Places of pairs.
-use Rattle.std.proofs.Common.{◌≡◌, ℕ, zero, suc, ◌+◌, ◌<◌, ◌≤◌, ◌⊎◌, ◌≢◌, nat_eq, eqb-true, eq-eqb, ne_eqb, List, [], ◌∷◌, ◌++◌, length, get_or, slice_get, set, take, map, flat_map, filter, Bool, true, false, ◌&&◌, cond, is_some, Option, Some, None, Vec, inl, inr, ⊎_elim, refl, ap, sym, ◌∙◌, subst, arith, append-nil, append_assoc, get_or-set_same, get_or-set_other, length-append, length-set}
+use Rattle.std.proofs.Common.{◌≡◌, ℕ, suc, ◌+◌, ◌<◌, ◌⊎◌, eq-eqb, List, [], ◌∷◌, ◌++◌, length, slice_get, map, flat_map, Bool, true, false, cond, is_some, Some, inl, inr, ⊎_elim, refl, ap, sym, ◌∙◌, subst, arith, append-nil, append_assoc}
 use Rattle.std.specs.BTreeMap.{BTreeMap, get, Updates}
 use Rattle.std.specs.List.{AllByRecursion}
-use Rattle.std.proofs.lemmas.Bool.{and_parts}
-use Rattle.std.proofs.lemmas.Option.{slice_get-get_or}
 use Rattle.pg_pairs.specs.declared.choice.Pair.{Pair}
-use Rattle.pg_pairs.specs.declared.edge.Edge.{Edge}
 use Rattle.pg_pairs.specs.Among.{IsAmong}
 use Rattle.pg_pairs.specs.ByIndices.{by_indices, equal_same}
 use Rattle.pg_pairs.specs.Covering.{same_pair}
-use Rattle.pg_least.specs.declared.arcs.Arc.{Arc}
-use Rattle.pg_least.specs.Places.{AreClosed, ArePlaces, IsPlaced}
+use Rattle.pg_least.specs.Places.{ArePlaces}
 use Rattle.pg_least.proofs.Grown.{same_pair-true}
-use Rattle.pg_least.proofs.Lists.{take_more}
 use Rattle.pg_least.proofs.Steps.{place_cases}
 
 same_pair-refl : (p : Pair) → same_pair p p ≡ true

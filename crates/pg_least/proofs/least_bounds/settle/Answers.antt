@@ -1,4 +1,4 @@
-use Rattle.std.proofs.Common.{◌≡◌, ℕ, ◌+◌, ◌<◌, ◌≤◌, List, Option, Bool, length, map, flat_map, filter, is_some, zero-add, take_at, true, ap, ap₂, sym, ◌∙◌, subst, subst₂, arith, IfSome}
+use Rattle.std.proofs.Common.{◌≡◌, ℕ, ◌+◌, ◌<◌, ◌≤◌, List, Option, Bool, length, map, flat_map, filter, is_some, zero-add, take_at, true, ap, ap₂, sym, ◌∙◌, subst, subst₂, IfSome}
 use Rattle.std.specs.List.{AllByRecursion}
 use Rattle.std.specs.List.Sorted.{IsPermutation}
 use Rattle.std.proofs.lemmas.List.{length-map}
