@@ -13,6 +13,7 @@ pub mod Comparing
 pub mod Members
 pub mod LeastMembers
 pub mod FirstSeen
+pub mod ByIndices
 pub mod Contents
 pub mod Laws
 pub mod FieldCosts
