@@ -66,8 +66,16 @@ impl DynError {
         ensures { result ≡ code self }
     {
         match self {
+            DynError::Memory => 1,
+            DynError::NoSuchField => 601,
+            DynError::WrongKind => 602,
+            DynError::OutOfRange => 603,
+            DynError::NotUtf8 { .. } => 604,
+            DynError::OneofTwice => 605,
+            DynError::DuplicateKey => 606,
+            DynError::TooLong => 607,
+            DynError::TooDeep { .. } => 608,
             DynError::Wire(_) => 609,
-            _ => self.code(),
         }
     }
 
