@@ -19,6 +19,7 @@ mod laws;
 mod least_cost;
 mod least_member;
 mod member;
+mod names;
 mod option_list;
 mod priced;
 mod prices;
@@ -43,6 +44,7 @@ pub use laws::{
     unseen_are_not_zero,
 };
 pub use least_cost::cheapest;
+pub use names::Names;
 pub use option_list::options;
 pub use priced::Priced;
 pub use prices::Prices;
