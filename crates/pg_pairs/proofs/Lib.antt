@@ -62,3 +62,4 @@ pub mod EdgeCosts
 pub mod EdgeLaws
 pub mod ChoicePlaces
 pub mod SameLengths
+pub mod LeastByName

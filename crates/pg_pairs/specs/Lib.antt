@@ -1,5 +1,9 @@
 pub mod Among
 pub mod Sight
+pub mod LeastNumbers
+pub mod LeastNumberLaws
+pub mod LeastByName
+pub mod NameLaws
 pub mod Views
 pub mod Likeness
 pub mod Gaps
