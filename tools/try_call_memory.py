@@ -52,6 +52,17 @@ CALLS = [
     Rows("set", "bytes_rows", ["equal keys among others come back in their order"], ["Memory {3:1 1:0 3:0 2:1} -"]),
     Rows("set", "bytes_rows", ["a map that is set by falling keys is written by rising ones"], ["Memory 7 -", "Memory {3:1 1:0} 1007"]),
     Rows("set", "bytes_rows", ["the second member is written alone"], ["Memory 7 -"]),
+    Rows("set", "bytes_rows", ["bytes are set as a text"], ["Memory #61 -"]),
+    Rows(
+        "set",
+        "bytes_rows",
+        ["contents of all shapes are set, and before the second member of the oneof the first"],
+        [
+            "Memory #63 -",
+            "Memory {2:#62 1:#61} 0a001a020201320163",
+            "Memory [message message] 0a001a0202012205080112016122050802120162320163",
+        ],
+    ),
     Rows("whole", "bytes_rows", ["messages in a list, a map and a field, and an explicit zero", "a map by falling keys is written by rising ones"]),
     Rows("decode", "bytes_rows", ["what is read holds the variant of its field"]),
     Rows("encode", "bytes_rows", ["a copy of all shapes and of unknown records", "what a type with the fields 4 doesn't have"]),
