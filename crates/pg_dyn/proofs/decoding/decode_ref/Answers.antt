@@ -3,7 +3,7 @@ use Rattle.std.proofs.Common.{ℕ, sym, subst}
 use Rattle.pg_schema.specs.Parts.{shape_of}
 use Rattle.pg_schema.specs.Shape.{fields}
 use Rattle.pg_dyn.specs.TooDeep.{TooDeepIn, the_root}
-use Rattle.pg_dyn.proofs.decoding.decode.Goals as goal
+use Rattle.pg_dyn.proofs.decoding.decode_ref.Goals as goal
 
 pub returns-then-limit-eq0-clause-refused : goal.returns-then-limit-eq0-clause-refused
 returns-then-limit-eq0-clause-refused c =
