@@ -65,6 +65,7 @@ CALLS = [
     ),
     Rows("whole", "bytes_rows", ["messages in a list, a map and a field, and an explicit zero", "a map by falling keys is written by rising ones"]),
     Rows("decode", "bytes_rows", ["what is read holds the variant of its field"]),
+    Rows("decode_ref, encode_ref", "bytes_rows", ["a message in two parts, each with contents of all shapes"]),
     Rows("encode", "bytes_rows", ["a copy of all shapes and of unknown records", "what a type with the fields 4 doesn't have"]),
     Rows("show", "bytes_rows", ["all of these and unknown records are shown"]),
     Rows("options, children", "answer_rows", ["the cheapest choice holds a child", "children beside two fields that meet"]),
