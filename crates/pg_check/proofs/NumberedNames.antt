@@ -20,7 +20,7 @@ use Rattle.pg_check.specs.Outline.{Enum, Message, all_enums, all_messages, enums
 use Rattle.pg_check.proofs.DeclaredTotals.{behind_dot, package_scope_is, scope_is, within_is}
 use Rattle.pg_check.proofs.ScopedEnums.{scoped_total}
 use Rattle.pg_check.proofs.Totals.{one, one_from, same_one, times, total_joined, total_map}
-use Rattle.pg_check.proofs.WordTrees.{IsGood, file_good, rows_good}
+use Rattle.pg_check.proofs.WordTrees.{IsGood, file_good, nodes_good, runs_good}
 use Rattle.pg_check.proofs.WordedFiles.{IsGoodFile, IsGoodPart, IsGoodStatement, good_file}
 use Rattle.pg_syntax.specs.declared.tree as tree
 use Rattle.pg_syntax.specs.declared.tree.EnumPart.TheVariants as enum_parts
@@ -109,12 +109,13 @@ mutual
   part_messages scope (parts.Map m) rest h = refl
   part_messages scope (parts.Field f) rest h = refl
 
-  row_messages_are : {n : _} (scope : List ℕ) (row : Row_of-Part n) → IsGood (view.part_row row)
+  row_messages_are : {n : _} (scope : List ℕ) (row : Row_of-Part n) → IsGood (view.row (view.part_nodes row))
       → message_names (names_in (behind_dot scope) (of_row row)) ≡ dotted_names message_full (row_messages scope row)
   row_messages_are scope end_of-Part h = refl
   row_messages_are scope (more_of-Part p rest) h =
+      let good = nodes_good (view.part p) (view.part_nodes rest) h in
       more_names message_full (messages_in scope p) (row_messages scope rest) (message_names (names_in (behind_dot scope) (of_part p (of_row rest)))) (message_names (names_in (behind_dot scope) (of_row rest)))
-      (part_messages scope p (of_row rest) h.0) (row_messages_are scope rest h.1)
+      (part_messages scope p (of_row rest) good.0) (row_messages_are scope rest good.1)
 
 body_messages : (scope : List ℕ) (ps : List Part) → AllByRecursion IsGoodPart ps
     → message_names (names_in (behind_dot scope) (all_of of_part ps Done)) ≡ dotted_names message_full (flat_map (messages_in scope) ps)
@@ -132,7 +133,7 @@ statement_messages_are scope (statements.Message m) rest h =
     let full = full_name scope m.name in
     let inner = names_in (linked_within (behind_dot scope) (string_bytes m.name.text)) (all_of of_part m.parts.items Done) in
     let of_inner : message_names inner ≡ dotted_names message_full (flat_map (messages_in full) m.parts.items) =
-    ap (λ t. message_names (names_in t (all_of of_part m.parts.items Done))) (scope_is scope (string_bytes m.name.text) h.1.0) ∙ body_messages full m.parts.items (rows_good view.part m.parts.items h.1.1.1.0) in
+    ap (λ t. message_names (names_in t (all_of of_part m.parts.items Done))) (scope_is scope (string_bytes m.name.text) h.1.0) ∙ body_messages full m.parts.items (runs_good view.part m.parts.items h.1.1.1.0) in
     ap₂ (λ n ns. n ∷ ns) (within_is scope (string_bytes m.name.text))
     (first_names is_message inner (names_in (behind_dot scope) rest) (dotted_names message_full (flat_map (messages_in full) m.parts.items)) of_inner)
 statement_messages_are scope (statements.Enum e) rest h =
@@ -199,12 +200,13 @@ mutual
   part_enums scope (parts.Map m) rest h = refl
   part_enums scope (parts.Field f) rest h = refl
 
-  row_enums_are : {n : _} (scope : List ℕ) (row : Row_of-Part n) → IsGood (view.part_row row)
+  row_enums_are : {n : _} (scope : List ℕ) (row : Row_of-Part n) → IsGood (view.row (view.part_nodes row))
       → enum_names (names_in (behind_dot scope) (of_row row)) ≡ dotted_names enum_full (row_enums scope row)
   row_enums_are scope end_of-Part h = refl
   row_enums_are scope (more_of-Part p rest) h =
+      let good = nodes_good (view.part p) (view.part_nodes rest) h in
       more_names enum_full (enums_in scope p) (row_enums scope rest) (enum_names (names_in (behind_dot scope) (of_part p (of_row rest)))) (enum_names (names_in (behind_dot scope) (of_row rest)))
-      (part_enums scope p (of_row rest) h.0) (row_enums_are scope rest h.1)
+      (part_enums scope p (of_row rest) good.0) (row_enums_are scope rest good.1)
 
 body_enums : (scope : List ℕ) (ps : List Part) → AllByRecursion IsGoodPart ps
     → enum_names (names_in (behind_dot scope) (all_of of_part ps Done)) ≡ dotted_names enum_full (flat_map (enums_in scope) ps)
@@ -222,7 +224,7 @@ statement_enums_are scope (statements.Message m) rest h =
     let full = full_name scope m.name in
     let inner = names_in (linked_within (behind_dot scope) (string_bytes m.name.text)) (all_of of_part m.parts.items Done) in
     let of_inner : enum_names inner ≡ dotted_names enum_full (flat_map (enums_in full) m.parts.items) =
-    ap (λ t. enum_names (names_in t (all_of of_part m.parts.items Done))) (scope_is scope (string_bytes m.name.text) h.1.0) ∙ body_enums full m.parts.items (rows_good view.part m.parts.items h.1.1.1.0) in
+    ap (λ t. enum_names (names_in t (all_of of_part m.parts.items Done))) (scope_is scope (string_bytes m.name.text) h.1.0) ∙ body_enums full m.parts.items (runs_good view.part m.parts.items h.1.1.1.0) in
     first_names is_enum inner (names_in (behind_dot scope) rest) (dotted_names enum_full (flat_map (enums_in full) m.parts.items)) of_inner
 statement_enums_are scope (statements.Enum e) rest h = enum_is scope e rest
 statement_enums_are scope (statements.Service s) rest h =
