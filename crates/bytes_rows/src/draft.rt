@@ -4,7 +4,7 @@
 use crate::types::{FIRST, SECOND};
 use pg_dyn::{Content, DynError, Message, Value};
 use pg_schema::{Schema, TypeId};
-use pg_show::bytes_of_hex;
+use pg_show::{HexError, bytes_of_hex};
 use std::alloc::{AllocError, Global};
 use std::mem::replace;
 
@@ -26,7 +26,8 @@ fn text(alloc: Global, text: &str) -> Result<Value, DynError> {
 fn bytes(alloc: Global, digits: &str) -> Result<Value, DynError> {
     match bytes_of_hex(alloc, digits) {
         Ok(bytes) => Ok(Value::Bytes(bytes)),
-        Err(_) => Err(UNSPELLED),
+        Err(HexError::Memory) => Err(DynError::Memory),
+        Err(HexError::BadHex) => Err(UNSPELLED),
     }
 }
 
