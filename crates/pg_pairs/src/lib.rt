@@ -19,6 +19,7 @@ mod laws;
 mod least_cost;
 mod least_member;
 mod member;
+mod named;
 mod names;
 mod option_list;
 mod priced;
@@ -44,6 +45,7 @@ pub use laws::{
     unseen_are_not_zero,
 };
 pub use least_cost::cheapest;
+pub use named::sees_by_name;
 pub use names::Names;
 pub use option_list::options;
 pub use priced::Priced;
