@@ -63,3 +63,4 @@ pub mod EdgeLaws
 pub mod ChoicePlaces
 pub mod SameLengths
 pub mod LeastByName
+pub mod NamedSights

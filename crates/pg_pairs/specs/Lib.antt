@@ -5,6 +5,7 @@ pub mod LeastNumberLaws
 pub mod LeastByName
 pub mod NameLaws
 pub mod Views
+pub mod SightBy
 pub mod Likeness
 pub mod Gaps
 pub mod Costs

@@ -6,7 +6,7 @@ ghost use Rattle.pg_pairs.specs.LeastNumbers.{least_number, lesser_of, number_co
 ghost use Rattle.pg_pairs.specs.LeastByName.{is_missing, missing_numbers};
 
 use crate::view::View;
-use pg_dyn::complement_64;
+use pg_dyn::{ViewName, complement_64};
 use pg_schema::{EnumType, EnumValue};
 
 /// The view that finds a number alike where not both enums declare it, or where both give it the same
@@ -107,14 +107,22 @@ fn least_missing(values: &[EnumValue], others: &[EnumValue], zero: bool) -> Opti
 }
 
 impl View for Names {
+    ghost use Rattle.std.specs.Prelude.{refl};
+    ghost use Rattle.pg_dyn.specs.declared.view_name.ViewName.TheVariants as views;
     ghost use Rattle.pg_pairs.specs.LeastByName.{alike_by_name, least_by_name};
     ghost use Rattle.pg_pairs.specs.NameLaws.{least_by_name_is};
+
+    const NAME: ViewName = ViewName::Names;
+
+    ghost NAME = { views.Names };
 
     ghost is_alike = { λ _. alike_by_name };
 
     ghost least_differing = { λ _. least_by_name };
 
     ghost least_is = { λ _. least_by_name_is };
+
+    ghost is_named = { λ _ _ _ _. refl };
 
     fn alike(&self, old: &EnumType, new: &EnumType, number: i32) -> bool {
         !(has_number(&old.values, number) && has_number(&new.values, number))
