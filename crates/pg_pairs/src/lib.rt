@@ -45,7 +45,7 @@ pub use laws::{
     unseen_are_not_zero,
 };
 pub use least_cost::cheapest;
-pub use named::sees_by_name;
+pub use named::{named_sights, sees_by_name};
 pub use names::Names;
 pub use option_list::options;
 pub use priced::Priced;
