@@ -4,6 +4,7 @@ pub mod LeastNumbers
 pub mod LeastNumberLaws
 pub mod LeastByName
 pub mod NameLaws
+pub mod NamedSight
 pub mod Views
 pub mod SightBy
 pub mod Likeness

@@ -37,7 +37,7 @@ pub use descent::{children, choice_child};
 pub use edge::{Edge, Part};
 pub use gap_kind::Gap;
 pub use least_cost::cheapest;
-pub use named::sees_by_name;
+pub use named::{named_sights, sees_by_name};
 pub use names::Names;
 pub use option_list::options;
 pub use priced::Priced;
