@@ -41,7 +41,8 @@ fn with_child(alloc: Global, choice: &Choice, child: Option<Pair>) -> Result<Str
     }
 }
 
-/// `cheapest | OLD | NEW | PAIR | BOUNDS`: the cheapest choice of the pair, and the child that its message holds.
+/// `cheapest | OLD | NEW | PAIR | BOUNDS`: the cheapest choice of the pair, and the child that its
+/// message holds.
 pub(crate) fn cheapest_choice<V: View>(
     alloc: Global,
     view: &V,

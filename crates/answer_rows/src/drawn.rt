@@ -10,9 +10,10 @@ use pg_pairs::{Edge, Pair, Part, Prices, Work};
 use pg_schema::TypeId;
 use std::alloc::{AllocError, Global};
 
-/// Nine pairs. Pair 0 costs 50, or three times what pair 1 does, which costs 7. Pairs 2 and 3 lead to each other and
-/// cost nothing else. Pair 4 costs 190, or 200 less what pair 5 or pair 6 costs, which cost 30 and 60. Pair 7 costs
-/// three times what pair 8 does, which costs 2^30: more than an encoding may have.
+/// Nine pairs. Pair 0 costs 50, or three times what pair 1 does, which costs 7. Pairs 2 and 3 lead
+/// to each other and cost nothing else. Pair 4 costs 190, or 200 less what pair 5 or pair 6 costs,
+/// which cost 30 and 60. Pair 7 costs three times what pair 8 does, which costs 2^30: more than an
+/// encoding may have.
 struct Drawn;
 
 fn pair(number: u32) -> Pair
@@ -131,7 +132,8 @@ impl Prices for Drawn {
 
     ghost bases_are_lengths = { λ _ pair known. base_is_length pair.new.index };
 
-    ghost edges_cost_more = { λ _ pair edge bound some known among. price_is_more edge.number bound some };
+    ghost edges_cost_more = { λ _ pair edge bound some known among.
+        price_is_more edge.number bound some };
 
     fn knows(&self, pair: Pair) -> bool {
         pair.old.index == 0 && pair.new.index < 9
@@ -156,8 +158,8 @@ impl Prices for Drawn {
     }
 }
 
-/// `drawn | NUMBER`: over the graph drawn by hand, the least bounds of the pairs that the pair of that number leads to, and
-/// their work as `counts` shows it.
+/// `drawn | NUMBER`: over the graph drawn by hand, the least bounds of the pairs that the pair of
+/// that number leads to, and their work as `counts` shows it.
 pub(crate) fn drawn_bounds(alloc: Global, words: &str) -> Result<String, AllocError> {
     let root = pair(number_at(words, 0));
     if !Drawn.knows(root) {

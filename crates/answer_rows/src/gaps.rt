@@ -23,8 +23,8 @@ fn shown(alloc: Global, old: &str, new: &str) -> Result<String, AllocError> {
     }
 }
 
-/// `gaps | SCALAR`: of the old scalar type beside each new one, `unlike`, `none`, or the body's bytes and the value of the least item that
-/// is lost.
+/// `gaps | SCALAR`: of the old scalar type beside each new one, `unlike`, `none`, or the body's
+/// bytes and the value of the least item that is lost.
 pub(crate) fn gaps(alloc: Global, old: &str) -> Result<String, AllocError> {
     let mut list = String::new(alloc);
     for new in SCALARS {

@@ -1,9 +1,12 @@
-//! What `pg_pairs`, `pg_cert` and `pg_least` answer of two schemas of a few types, for each line of standard input.
+//! What `pg_pairs`, `pg_cert` and `pg_least` answer of two schemas of a few types, for each line of
+//! standard input.
 //!
-//! A line is `WHAT IT SHOWS | CALL | OLD SCHEMA | NEW SCHEMA | WORDS`. The schemas are spelled as `tiny_schemas` says. A pair of types is
-//! spelled by their places, counted from 0, as `0 1`; a bound by its pair and a number or `none`, with `, ` between bounds; a choice by
-//! its number, case, part and cost; bytes by hexadecimal digits, and the text of a certificate with escapes. Words that are left out are
-//! zeros, and `-` is no bounds. The words of each call stand at its function.
+//! A line is `WHAT IT SHOWS | CALL | OLD SCHEMA | NEW SCHEMA | WORDS`. The schemas are spelled as
+//! `tiny_schemas` says. A pair of types is spelled by their places, counted from 0, as `0 1`; a
+//! bound by its pair and a number or `none`, with `, ` between bounds; a choice by its number,
+//! case, part and cost; bytes by hexadecimal digits, and the text of a certificate with escapes.
+//! Words that are left out are zeros, and `-` is no bounds. The words of each call stand at its
+//! function.
 #![tactic(auto)]
 
 mod certificates;

@@ -83,7 +83,9 @@ fn chosen<V: View>(
     table: &Bounds,
     wanted: &Choice,
 ) -> Result<Option<Choice>, AllocError>
-    ensures { IfOk result (λ found. IfSome found (IsChoiceOf (sight_of (V.is_alike view.now) (V.least_differing view.now) old.now new.now) (shape_of old.now) (shape_of new.now) pair)) }
+    ensures { IfOk result (λ found. IfSome found
+        (IsChoiceOf (sight_of (V.is_alike view.now) (V.least_differing view.now) old.now new.now)
+        (shape_of old.now) (shape_of new.now) pair)) }
 {
     for choice in &options(alloc, view, old, new, pair, table)? {
         if choice == wanted {
@@ -103,7 +105,9 @@ fn carried<V: View>(
     choice: &Choice,
     child: Option<Message>,
 ) -> Result<Option<Message>, AllocError>
-    requires { IsChoiceOf (sight_of (V.is_alike view.now) (V.least_differing view.now) old.now new.now) (shape_of old.now) (shape_of new.now) pair choice.now }
+    requires { IsChoiceOf (sight_of (V.is_alike view.now)
+        (V.least_differing view.now) old.now new.now) (shape_of old.now)
+        (shape_of new.now) pair choice.now }
 {
     match (choice_child(old, new, pair, choice), child) {
         (None, None) => Ok(Some(carry(alloc, view, old, new, pair, choice, None)?)),
@@ -138,7 +142,8 @@ fn with_verdict<V: View>(
     format!(in alloc; "{bytes} {verdict} at {}", choice.cost)
 }
 
-/// `message | OLD | NEW | PAIR | BOUNDS`: the message of the pair's cheapest choice, which holds no child.
+/// `message | OLD | NEW | PAIR | BOUNDS`: the message of the pair's cheapest choice, which holds no
+/// child.
 pub(crate) fn message<V: View>(
     alloc: Global,
     view: &V,
@@ -179,8 +184,8 @@ fn carry_words<V: View>(
     carried(alloc, view, old, new, pair, &choice, child)
 }
 
-/// `carry | OLD | NEW | PAIR | BOUNDS | CHOICE [| TYPE | BYTES]`: the message of a choice that the pair has under the bounds, round
-/// the child that the bytes spell, if one is given.
+/// `carry | OLD | NEW | PAIR | BOUNDS | CHOICE [| TYPE | BYTES]`: the message of a choice that the
+/// pair has under the bounds, round the child that the bytes spell, if one is given.
 pub(crate) fn carry_choice<V: View>(
     alloc: Global,
     view: &V,
@@ -199,7 +204,8 @@ pub(crate) fn carry_choice<V: View>(
     }
 }
 
-/// `breaks | OLD | NEW | PAIR | TYPE | BYTES`: whether the old type's message that the bytes spell breaks between the pair's types.
+/// `breaks | OLD | NEW | PAIR | TYPE | BYTES`: whether the old type's message that the bytes spell
+/// breaks between the pair's types.
 pub(crate) fn break_or_keep<V: View>(
     alloc: Global,
     view: &V,

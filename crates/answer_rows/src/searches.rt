@@ -59,8 +59,8 @@ fn beside(alloc: Global, old: &Schema, new: &Schema, root: Pair) -> Result<Strin
     witness_of(alloc, old, &found)
 }
 
-/// `search | OLD | NEW | ROOT`: the root of the certificate, its bounds, its witness with the type of the message beside it, and what the
-/// checker says of the bounds alone.
+/// `search | OLD | NEW | ROOT`: the root of the certificate, its bounds, its witness with the type
+/// of the message beside it, and what the checker says of the bounds alone.
 pub(crate) fn search_pair(
     alloc: Global,
     old: &Schema,
@@ -108,7 +108,8 @@ pub(crate) fn way_down(
     steps_of(alloc, &steps)
 }
 
-/// `counts | OLD | NEW | ROOT`: the pairs whose bound is a number, the edges whose child's bound is one, and the pairs.
+/// `counts | OLD | NEW | ROOT`: the pairs whose bound is a number, the edges whose child's bound is
+/// one, and the pairs.
 pub(crate) fn counts(
     alloc: Global,
     old: &Schema,

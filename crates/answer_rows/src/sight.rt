@@ -5,8 +5,8 @@ use std::alloc::{AllocError, Global};
 
 const FIRST: EnumId = EnumId { index: 0 };
 
-/// `sight | OLD | NEW | NUMBER`: whether the number is alike in the enums of both schemas, and the least numbers that aren't, where 0 counts
-/// and where it doesn't.
+/// `sight | OLD | NEW | NUMBER`: whether the number is alike in the enums of both schemas, and the
+/// least numbers that aren't, where 0 counts and where it doesn't.
 pub(crate) fn sight<V: View>(
     alloc: Global,
     view: &V,

@@ -15,7 +15,8 @@ pub(crate) fn name_of(alloc: Global, error: DynError) -> Result<String, AllocErr
     format!(in alloc; "{error:?}")
 }
 
-// An integer, `f` or `d` and the bits of a float or a double, `'` and a text, `#` and bytes, or a message.
+// An integer, `f` or `d` and the bits of a float or a double, `'` and a text, `#` and bytes, or a
+// message.
 fn spelled_value(alloc: Global, value: &Value) -> Result<String, AllocError> {
     match value {
         Value::Int(number) => format!(in alloc; "{number}"),
@@ -80,7 +81,8 @@ fn spelled_unknown(alloc: Global, record: &UnknownRecord) -> Result<String, Allo
     format!(in alloc; "?{}:{}", record.number, record.body_start)
 }
 
-/// `NUMBER=CONTENT` for each field, and `?NUMBER:START` for each unknown record; `-` where there are none.
+/// `NUMBER=CONTENT` for each field, and `?NUMBER:START` for each unknown record; `-` where there
+/// are none.
 pub(crate) fn spelled_message(alloc: Global, message: &Message) -> Result<String, AllocError> {
     let mut pieces = Vec::new(alloc);
     for (number, content) in message.contents() {

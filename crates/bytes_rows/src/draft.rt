@@ -1,6 +1,8 @@
-//! Contents that are spelled by words, each of which takes what the words before it left: a value, as `contents` spells it, or `M`
-//! and `N` for a message of the first and the second type with nothing in it; `=5` makes the last value the content of field 5, `=5*`
-//! all values a list and `=5:` all values a map; and `message` makes a message of the last content alone, which is a value.
+//! Contents that are spelled by words, each of which takes what the words before it left: a value,
+//! as `contents` spells it, or `M` and `N` for a message of the first and the second type with
+//! nothing in it; `=5` makes the last value the content of field 5, `=5*` all values a list and
+//! `=5:` all values a map; and `message` makes a message of the last content alone, which is a
+//! value.
 use crate::types::{FIRST, SECOND};
 use pg_dyn::{Content, DynError, Message, Value};
 use pg_schema::{Schema, TypeId};

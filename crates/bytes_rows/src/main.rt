@@ -1,8 +1,10 @@
-//! Answers each line of standard input, `WHAT IT SHOWS | CALL INPUT`, with `WHAT IT SHOWS | ANSWER`: what the calls of `pg_wire`,
-//! `pg_dyn` and `pg_show` make of bytes and of contents. Bytes are spelled in hexadecimal, and no bytes as `-`.
+//! Answers each line of standard input, `WHAT IT SHOWS | CALL INPUT`, with `WHAT IT SHOWS |
+//! ANSWER`: what the calls of `pg_wire`, `pg_dyn` and `pg_show` make of bytes and of contents.
+//! Bytes are spelled in hexadecimal, and no bytes as `-`.
 //!
-//! `type SCHEMA` and `other SCHEMA` make schemas, as `tiny_schemas` reads them. The first type of the one is that of the bytes and
-//! contents in the lines behind it, and that of the other is what `fits` and `outside` compare with.
+//! `type SCHEMA` and `other SCHEMA` make schemas, as `tiny_schemas` reads them. The first type of
+//! the one is that of the bytes and contents in the lines behind it, and that of the other is what
+//! `fits` and `outside` compare with.
 #![tactic(auto)]
 
 mod contents;

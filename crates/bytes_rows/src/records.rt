@@ -119,7 +119,8 @@ fn of_number(alloc: Global, call: &str, input: &str) -> Result<String, AllocErro
     }
 }
 
-/// What a call of `pg_wire` makes of bytes or of a number; `hex` gives back the bytes that `pg_show` reads a word as.
+/// What a call of `pg_wire` makes of bytes or of a number; `hex` gives back the bytes that
+/// `pg_show` reads a word as.
 pub(crate) fn answer_of_wire(alloc: Global, call: &str, input: &str) -> Result<String, DynError> {
     if matches!(call, "write" | "length" | "tag" | "zigzag") {
         return Ok(of_number(alloc, call, input)?);

@@ -1,4 +1,5 @@
-//! What rows don't show: large messages, tables and certificates that callers hold, and a chain of as many types as a schema may have.
+//! What rows don't show: large messages, tables and certificates that callers hold, and a chain of
+//! as many types as a schema may have.
 mod chain;
 mod large;
 mod tables;

@@ -34,15 +34,18 @@ pub fn get<'m, 'a>(message: &'m MessageRef<'a>, number: u32) -> Option<&'m Conte
     ensures content { MatchOption result (of_number number message.now ≡ [])
         (λ content. of_number number message.now ≡ borrowed.content_seen number content.now) }
     ensures filled { IfSome result (λ content. borrowed.IsFilled content.now) }
-    ensures fits { IfSome result (λ content. (shape : Shape) → IsShape shape → Fits shape message.now
-        → AllByRecursion (HoldsPart shape (type_of message.now)) (borrowed.content_seen number content.now)) }
+    ensures fits { IfSome result (λ content. (shape : Shape) → IsShape shape
+        → Fits shape message.now
+        → AllByRecursion (HoldsPart shape (type_of message.now))
+        (borrowed.content_seen number content.now)) }
 {
     message.get(number)
 }
 
 /// What `MessageRef::contents` answers.
 pub fn contents<'m, 'a>(message: &'m MessageRef<'a>) -> &'m [(u32, ContentRef<'a>)]
-    ensures whole { message.now ≡ borrowed.fields_onto result.now (ends (type_of message.now) (unknown_of message.now)) }
+    ensures whole { message.now ≡ borrowed.fields_onto result.now
+        (ends (type_of message.now) (unknown_of message.now)) }
     ensures rises { Rises result.now }
     ensures filled { AllByRecursion (λ f. borrowed.IsFilled f.1) result.now }
 {

@@ -1,4 +1,5 @@
-//! The promises of `pg_dyn`, said again of calls of it: the edits of `must-fail` turn each answer, and every one must be refused.
+//! The promises of `pg_dyn`, said again of calls of it: the edits of `must-fail` turn each answer,
+//! and every one must be refused.
 #![tactic(auto)]
 
 pub mod borrowed;

@@ -35,14 +35,16 @@ pub fn get(message: &Message, number: u32) -> Option<&Content>
     ensures content { MatchOption result (of_number number message.now ≡ [])
         (λ content. of_number number message.now ≡ content_seen number content.now) }
     ensures filled { IfSome result (λ content. IsFilled content.now) }
-    ensures fits { IfSome result (λ content. (shape : Shape) → IsShape shape → Fits shape message.now → HoldsContent shape (type_of message.now) (number, content.now)) }
+    ensures fits { IfSome result (λ content. (shape : Shape) → IsShape shape
+        → Fits shape message.now → HoldsContent shape (type_of message.now) (number, content.now)) }
 {
     message.get(number)
 }
 
 /// What `Message::contents` answers.
 pub fn contents(message: &Message) -> &[(u32, Content)]
-    ensures whole { message.now ≡ fields_onto result.now (ends (type_of message.now) (unknown_of message.now)) }
+    ensures whole { message.now ≡ fields_onto result.now
+        (ends (type_of message.now) (unknown_of message.now)) }
     ensures rises { Rises result.now }
     ensures filled { AllByRecursion (λ f. IsFilled f.1) result.now }
 {
@@ -78,10 +80,14 @@ pub fn set(
     content: Content,
 ) -> Result<(), (DynError, Content)>
     requires fits { Fits (shape_of schema.now) message.old }
-    ensures ok { OnOk result (IsSetTo (shape_of schema.now) number content message.old message.new) }
+    ensures ok { OnOk result (IsSetTo
+        (shape_of schema.now) number content message.old message.new) }
     ensures fits { OnOk result (Fits (shape_of schema.now) message.new) }
-    ensures accepted { OnOk result (HasNoFault (ContentFault (shape_of schema.now) (type_of message.old) number content)) }
-    ensures refused { IfErr result (λ e. (e.1 ≡ content) × (message.new ≡ message.old) × MayRefuseFor (ContentFault (shape_of schema.now) (type_of message.old) number content) e.0) }
+    ensures accepted { OnOk result (HasNoFault
+        (ContentFault (shape_of schema.now) (type_of message.old) number content)) }
+    ensures refused { IfErr result (λ e. (e.1 ≡ content) × (message.new ≡ message.old)
+        × MayRefuseFor (ContentFault (shape_of schema.now) (type_of message.old) number content)
+        e.0) }
 {
     message.set(schema, number, content)
 }
@@ -96,7 +102,8 @@ pub fn put(
     requires fits { Fits (shape_of schema.now) message.old }
     requires taken { TakesContent (shape_of schema.now) (type_of message.old) (number, content) }
     requires once { HasKeyTwice content → ⊥ }
-    ensures ok { OnOk result (IsSetTo (shape_of schema.now) number content message.old message.new) }
+    ensures ok { OnOk result (IsSetTo
+        (shape_of schema.now) number content message.old message.new) }
     ensures fits { OnOk result (Fits (shape_of schema.now) message.new) }
     ensures refused { IfErr result (λ back. (back ≡ content) × (message.new ≡ message.old)) }
 {
@@ -113,8 +120,10 @@ pub fn whole(
     requires type_id { type_id.index < length (shape_of schema.now) }
     ensures ok { IfOk result (IsWhole (shape_of schema.now) type_id contents.items) }
     ensures fits { IfOk result (Fits (shape_of schema.now)) }
-    ensures accepted { OnOk result (HasNoFault (ContentsFault (shape_of schema.now) type_id contents.items)) }
-    ensures refused { IfErr result (MayRefuseFor (ContentsFault (shape_of schema.now) type_id contents.items)) }
+    ensures accepted { OnOk result (HasNoFault
+        (ContentsFault (shape_of schema.now) type_id contents.items)) }
+    ensures refused { IfErr result (MayRefuseFor
+        (ContentsFault (shape_of schema.now) type_id contents.items)) }
 {
     Message::whole(alloc, schema, type_id, contents)
 }

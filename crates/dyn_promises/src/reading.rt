@@ -23,12 +23,18 @@ pub fn decode_ref<'a>(
     limit: usize,
 ) -> Result<MessageRef<'a>, DynError>
     requires type_id { type_id.index < length (shape_of schema.now) }
-    ensures message { IfOk result (λ m. dec (shape_of schema.now) type_id bytes.now ≡ Some (message_of m)) }
+    ensures message { IfOk result (λ m. dec (shape_of schema.now) type_id bytes.now
+        ≡ Some (message_of m)) }
     ensures fits { IfOk result (λ m. Fits (shape_of schema.now) m × (type_of m ≡ type_id)) }
-    ensures within { OnOk result ((place : ℕ) → TooDeepIn (shape_of schema.now) limit (fields (shape_of schema.now) type_id) bytes.now place → ⊥) }
-    ensures refused { IfErr result (λ e. MayRefuse (shape_of schema.now) type_id limit bytes.now e) }
-    ensures lacking { IfErr result (λ e. e ≡ errors.Memory → (is_some (dec (shape_of schema.now) type_id bytes.now) ≡ true)
-        × ((place : ℕ) → TooDeepIn (shape_of schema.now) limit (fields (shape_of schema.now) type_id) bytes.now place → ⊥)) }
+    ensures within { OnOk result ((place : ℕ)
+        → TooDeepIn (shape_of schema.now) limit
+        (fields (shape_of schema.now) type_id) bytes.now place → ⊥) }
+    ensures refused { IfErr result (λ e.
+        MayRefuse (shape_of schema.now) type_id limit bytes.now e) }
+    ensures lacking { IfErr result (λ e. e ≡ errors.Memory
+        → (is_some (dec (shape_of schema.now) type_id bytes.now) ≡ true)
+        × ((place : ℕ) → TooDeepIn (shape_of schema.now) limit
+        (fields (shape_of schema.now) type_id) bytes.now place → ⊥)) }
 {
     pg_dyn::decode_ref(alloc, schema, type_id, bytes, limit)
 }
@@ -42,12 +48,18 @@ pub fn decode(
     limit: usize,
 ) -> Result<Message, DynError>
     requires type_id { type_id.index < length (shape_of schema.now) }
-    ensures message { IfOk result (λ m. dec (shape_of schema.now) type_id bytes.now ≡ Some (message_of m)) }
+    ensures message { IfOk result (λ m. dec (shape_of schema.now) type_id bytes.now
+        ≡ Some (message_of m)) }
     ensures fits { IfOk result (λ m. Fits (shape_of schema.now) m × (type_of m ≡ type_id)) }
-    ensures within { OnOk result ((place : ℕ) → TooDeepIn (shape_of schema.now) limit (fields (shape_of schema.now) type_id) bytes.now place → ⊥) }
-    ensures refused { IfErr result (λ e. MayRefuse (shape_of schema.now) type_id limit bytes.now e) }
-    ensures lacking { IfErr result (λ e. e ≡ errors.Memory → (is_some (dec (shape_of schema.now) type_id bytes.now) ≡ true)
-        × ((place : ℕ) → TooDeepIn (shape_of schema.now) limit (fields (shape_of schema.now) type_id) bytes.now place → ⊥)) }
+    ensures within { OnOk result ((place : ℕ)
+        → TooDeepIn (shape_of schema.now) limit
+        (fields (shape_of schema.now) type_id) bytes.now place → ⊥) }
+    ensures refused { IfErr result (λ e.
+        MayRefuse (shape_of schema.now) type_id limit bytes.now e) }
+    ensures lacking { IfErr result (λ e. e ≡ errors.Memory
+        → (is_some (dec (shape_of schema.now) type_id bytes.now) ≡ true)
+        × ((place : ℕ) → TooDeepIn (shape_of schema.now) limit
+        (fields (shape_of schema.now) type_id) bytes.now place → ⊥)) }
 {
     pg_dyn::decode(alloc, schema, type_id, bytes, limit)
 }
@@ -60,8 +72,10 @@ pub fn decode_unlimited(
     bytes: &[u8],
 ) -> Result<Option<Message>, AllocError>
     requires type_id { type_id.index < length (shape_of schema.now) }
-    ensures message { IfOk result (λ found. option_map message_of found ≡ dec (shape_of schema.now) type_id bytes.now) }
-    ensures fits { IfOk result (λ found. IfSome found (λ m. Fits (shape_of schema.now) m × (type_of m ≡ type_id))) }
+    ensures message { IfOk result (λ found. option_map message_of found
+        ≡ dec (shape_of schema.now) type_id bytes.now) }
+    ensures fits { IfOk result (λ found. IfSome found
+        (λ m. Fits (shape_of schema.now) m × (type_of m ≡ type_id))) }
     ensures lacking { OnErr result (is_some (dec (shape_of schema.now) type_id bytes.now) ≡ true) }
 {
     pg_dyn::decode_unlimited(alloc, schema, type_id, bytes)

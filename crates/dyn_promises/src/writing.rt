@@ -17,8 +17,12 @@ use std::alloc::Global;
 /// What `encode` answers.
 pub fn encode(alloc: Global, schema: &Schema, message: &Message) -> Result<Vec<u8>, DynError>
     requires { Fits (shape_of schema.now) message.now }
-    ensures ok { IfOk result (λ bytes. (bytes.items ≡ enc (shape_of schema.now) (type_of message.now) (message_of message.now)) × (length bytes.items ≤ cap)) }
-    ensures err { IfErr result (λ e. MayNotWrite (length (enc (shape_of schema.now) (type_of message.now) (message_of message.now))) e) }
+    ensures ok { IfOk result (λ bytes.
+        (bytes.items ≡ enc (shape_of schema.now) (type_of message.now) (message_of message.now))
+        × (length bytes.items ≤ cap)) }
+    ensures err { IfErr result (λ e.
+        MayNotWrite (length (enc (shape_of schema.now) (type_of message.now)
+        (message_of message.now))) e) }
 {
     pg_dyn::encode(alloc, schema, message)
 }
@@ -30,8 +34,12 @@ pub fn encode_ref(
     message: &MessageRef<'_>,
 ) -> Result<Vec<u8>, DynError>
     requires { Fits (shape_of schema.now) message.now }
-    ensures ok { IfOk result (λ bytes. (bytes.items ≡ enc (shape_of schema.now) (type_of message.now) (message_of message.now)) × (length bytes.items ≤ cap)) }
-    ensures err { IfErr result (λ e. MayNotWrite (length (enc (shape_of schema.now) (type_of message.now) (message_of message.now))) e) }
+    ensures ok { IfOk result (λ bytes.
+        (bytes.items ≡ enc (shape_of schema.now) (type_of message.now) (message_of message.now))
+        × (length bytes.items ≤ cap)) }
+    ensures err { IfErr result (λ e.
+        MayNotWrite (length (enc (shape_of schema.now) (type_of message.now)
+        (message_of message.now))) e) }
 {
     pg_dyn::encode_ref(alloc, schema, message)
 }
@@ -45,8 +53,12 @@ pub fn encode_outside(
     other_type: TypeId,
 ) -> Result<Vec<u8>, DynError>
     requires { Fits (shape_of schema.now) message.now }
-    ensures ok { IfOk result (λ bytes. bytes.items ≡ unshared_bytes (shape_of schema.now) (type_of message.now) (fields (shape_of other.now) other_type) (message_of message.now)) }
-    ensures err { IfErr result (λ e. MayNotWrite (length (unshared_bytes (shape_of schema.now) (type_of message.now) (fields (shape_of other.now) other_type) (message_of message.now))) e) }
+    ensures ok { IfOk result (λ bytes. bytes.items
+        ≡ unshared_bytes (shape_of schema.now) (type_of message.now)
+        (fields (shape_of other.now) other_type) (message_of message.now)) }
+    ensures err { IfErr result (λ e.
+        MayNotWrite (length (unshared_bytes (shape_of schema.now) (type_of message.now)
+        (fields (shape_of other.now) other_type) (message_of message.now))) e) }
 {
     pg_dyn::encode_outside(alloc, schema, message, other, other_type)
 }
@@ -54,9 +66,12 @@ pub fn encode_outside(
 /// What `copy` answers.
 pub fn copy(alloc: Global, schema: &Schema, message: &Message) -> Result<Message, DynError>
     requires { Fits (shape_of schema.now) message.now }
-    ensures same { IfOk result (λ copy. (message_of copy ≡ message_of message.now) × (type_of copy ≡ type_of message.now)) }
+    ensures same { IfOk result (λ copy. (message_of copy ≡ message_of message.now)
+        × (type_of copy ≡ type_of message.now)) }
     ensures fits { IfOk result (λ copy. Fits (shape_of schema.now) copy) }
-    ensures refused { IfErr result (λ e. (e ≡ errors.Memory) ⊎ ((e ≡ errors.TooLong) × (cap < length (enc (shape_of schema.now) (type_of message.now) (message_of message.now))))) }
+    ensures refused { IfErr result (λ e. (e ≡ errors.Memory)
+        ⊎ ((e ≡ errors.TooLong) × (cap
+        < length (enc (shape_of schema.now) (type_of message.now) (message_of message.now))))) }
 {
     pg_dyn::copy(alloc, schema, message)
 }

@@ -1,5 +1,6 @@
-//! The promises of `pg_fds`, of what is written, said again of calls of it: the edits of `must-fail` turn each answer, and every one must be refused.
-//! Clauses that no edit here turns, such as what is read of the bytes, aren't said again.
+//! The promises of `pg_fds`, of what is written, said again of calls of it: the edits of
+//! `must-fail` turn each answer, and every one must be refused. Clauses that no edit here turns,
+//! such as what is read of the bytes, aren't said again.
 #![tactic(auto)]
 
 ghost use Rattle.std.specs.Prelude.{◌≡◌, ◌⊎◌, IfErr, IfOk};
@@ -54,7 +55,8 @@ pub fn write(alloc: Global, schema: &Schema) -> Result<Vec<u8>, FdsError>
 
 /// What `write` refuses.
 pub fn write_refused(alloc: Global, too_long: &Schema) -> Result<Vec<u8>, FdsError>
-    ensures { IfErr result (λ e. (e ≡ errors.Memory) ⊎ ((e ≡ errors.Bytes faults.TooLong) × HasNoSet too_long.now)) }
+    ensures { IfErr result (λ e. (e ≡ errors.Memory)
+        ⊎ ((e ≡ errors.Bytes faults.TooLong) × HasNoSet too_long.now)) }
 {
     pg_fds::write(alloc, too_long)
 }

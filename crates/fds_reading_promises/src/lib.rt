@@ -1,5 +1,6 @@
-//! The promises of `pg_fds`, of what is read, said again of calls of it: the edits of `must-fail` turn each answer, and every one must be refused.
-//! Clauses that no edit here turns, such as which of the schemas that a set states is read, aren't said again.
+//! The promises of `pg_fds`, of what is read, said again of calls of it: the edits of `must-fail`
+//! turn each answer, and every one must be refused. Clauses that no edit here turns, such as which
+//! of the schemas that a set states is read, aren't said again.
 #![tactic(auto)]
 
 ghost use Rattle.std.specs.Prelude.{ℕ, ◌≡◌, List, IfErr, IfOk};
@@ -31,9 +32,11 @@ pub fn read_refused(alloc: Global, bad: &[u8]) -> Result<Schema, FdsError>
 
 /// What `read_again` answers.
 pub fn read_again(alloc: Global, schema: &Schema) -> Result<Schema, FdsError>
-    ensures stated { IfOk result (λ made. (bytes : List ℕ) → fds schema.now bytes → fds_reads bytes made) }
+    ensures stated { IfOk result (λ made. (bytes : List ℕ) → fds schema.now bytes
+        → fds_reads bytes made) }
     ensures sound { IfOk result IsSound }
-    ensures same { IfOk result (λ made. IsReadAgain schema.now → parts_view made ≡ parts_view schema.now) }
+    ensures same { IfOk result (λ made. IsReadAgain schema.now
+        → parts_view made ≡ parts_view schema.now) }
 {
     pg_fds::read_again(alloc, schema)
 }

@@ -1,4 +1,5 @@
-//! Reads the descriptor set that each line of standard input spells, and prints the set of what it states, or its refusal.
+//! Reads the descriptor set that each line of standard input spells, and prints the set of what it
+//! states, or its refusal.
 #![tactic(auto)]
 
 mod code;

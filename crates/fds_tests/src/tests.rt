@@ -1,4 +1,5 @@
-//! What no row can say: the written schema itself, schemas of texts beside protoc's bytes, want of memory, and the place of a fault.
+//! What no row can say: the written schema itself, schemas of texts beside protoc's bytes, want of
+//! memory, and the place of a fault.
 
 use pg_check::build;
 use pg_dyn::{DynError, decode, encode};
@@ -33,8 +34,8 @@ const ONE_FIELD: &[u8] =
 //   optional int32 z = 20;
 //   optional int32 _w = 12;
 //   message N { option deprecated = true; }
-//   enum E { option allow_alias = true; A = 0; B = 0 [deprecated = true]; C = -1; reserved -5 to -3, 9; reserved "D"; }
-// }
+//   enum E { option allow_alias = true; A = 0; B = 0 [deprecated = true]; C = -1; reserved -5 to
+//   -3, 9; reserved "D"; } }
 // service S {
 //   option deprecated = true;
 //   rpc Call(stream M) returns (stream M.N) { option deprecated = true; }
@@ -57,7 +58,8 @@ const ALL_KINDS: &[u8] = b"\
     M\x1a\x08.p.q.M.N\x22\x03\x88\x02\x01(\x010\x01\x12%\x0a\x03Ask\x12\x06.p.q.M\x1a\x16.goog\
     le.protobuf.Empty\x1a\x03\x88\x02\x01B\x08\x0a\x01jH\x02\xb8\x01\x00P\x00b\x06proto3";
 
-// `protoc --descriptor_set_out=m.pb m.proto` of three texts: what is declared in them, and the bytes.
+// `protoc --descriptor_set_out=m.pb m.proto` of three texts: what is declared in them, and the
+// bytes.
 const TEXTS: &[(&str, &[u8])] = &[
     ("message M { int32 a = 1; }", ONE_FIELD),
     (
@@ -140,7 +142,8 @@ fn schemas_of_texts(rt: HostRuntime) -> Result<(), Fail> {
     Ok(())
 }
 
-// The enums of the package come before those of message types, in a set and in a text, wherever they stand.
+// The enums of the package come before those of message types, in a set and in a text, wherever
+// they stand.
 #[test]
 fn places_of_enums(rt: HostRuntime) -> Result<(), Fail> {
     let alloc = rt.alloc();
@@ -161,7 +164,8 @@ fn written_twice(alloc: Global, bytes: &[u8]) -> Result<Vec<u8>, FdsError> {
     write(alloc, &made)
 }
 
-// Each growth refused in turn, by `tools/try_memory.sh`; and what a set that is cut off is refused with, to the place.
+// Each growth refused in turn, by `tools/try_memory.sh`; and what a set that is cut off is refused
+// with, to the place.
 #[test]
 fn calls_without_memory(rt: HostRuntime) -> Result<(), Fail> {
     let alloc = rt.alloc();

@@ -1,4 +1,5 @@
-//! Runs the program once for each line of standard input, over the files that the line holds, and prints its status and text.
+//! Runs the program once for each line of standard input, over the files that the line holds, and
+//! prints its status and text.
 #![tactic(auto)]
 
 mod files;

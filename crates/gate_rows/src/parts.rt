@@ -1,4 +1,5 @@
-//! The parts of a text that a row asks for, where no more of the text is known from outside: `PART`, with ` ; ` between two.
+//! The parts of a text that a row asks for, where no more of the text is known from outside:
+//! `PART`, with ` ; ` between two.
 use std::alloc::{AllocError, Global};
 
 fn add(told: &mut String, part: &str) -> Result<(), AllocError> {

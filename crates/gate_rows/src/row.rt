@@ -1,4 +1,5 @@
-//! One row: `WHAT | WORDS | OLD FILES | NEW FILES`, and ` | PARTS` where only these are known of the text. Words have a blank between.
+//! One row: `WHAT | WORDS | OLD FILES | NEW FILES`, and ` | PARTS` where only these are known of
+//! the text. Words have a blank between.
 use crate::files::{File, files, lent};
 use crate::parts::told;
 use pg_gate::{Buffer, run};

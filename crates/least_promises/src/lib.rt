@@ -1,4 +1,5 @@
-//! The promises of `pg_least`, said again of calls of it: the edits of `must-fail` turn each answer, and every one must be refused.
+//! The promises of `pg_least`, said again of calls of it: the edits of `must-fail` turn each
+//! answer, and every one must be refused.
 #![tactic(auto)]
 
 ghost use Rattle.std.specs.Prelude.{◌≡◌, ◌<◌, true, is_some, length, IfOk};
@@ -20,8 +21,10 @@ use std::alloc::{AllocError, Global};
 pub fn find(alloc: Global, old: &Schema, new: &Schema, root: Pair) -> Result<Found, AllocError>
     requires old_type { root.old.index < length (shape_of old.now) }
     requires new_type { root.new.index < length (shape_of new.now) }
-    ensures searched { IfOk result (λ found. IsSearched by_numbers (shape_of old.now) (shape_of new.now) root found.certificate) }
-    ensures witness { IfOk result (λ found. IsBesideClaim by_numbers (shape_of old.now) (shape_of new.now) found.certificate found.witness) }
+    ensures searched { IfOk result (λ found. IsSearched by_numbers (shape_of old.now)
+        (shape_of new.now) root found.certificate) }
+    ensures witness { IfOk result (λ found. IsBesideClaim by_numbers (shape_of old.now)
+        (shape_of new.now) found.certificate found.witness) }
 {
     pg_least::find(alloc, old, new, root)
 }
@@ -35,7 +38,8 @@ pub fn search(
 ) -> Result<Certificate, AllocError>
     requires old_type { root.old.index < length (shape_of old.now) }
     requires new_type { root.new.index < length (shape_of new.now) }
-    ensures { IfOk result (λ certificate. IsSearched by_numbers (shape_of old.now) (shape_of new.now) root certificate) }
+    ensures { IfOk result (λ certificate. IsSearched by_numbers (shape_of old.now)
+        (shape_of new.now) root certificate) }
 {
     pg_least::search(alloc, old, new, root)
 }
@@ -49,8 +53,10 @@ pub fn search_counted(
 ) -> Result<(Certificate, Work), AllocError>
     requires old_type { root.old.index < length (shape_of old.now) }
     requires new_type { root.new.index < length (shape_of new.now) }
-    ensures searched { IfOk result (λ found. IsSearched by_numbers (shape_of old.now) (shape_of new.now) root found.0) }
-    ensures counted { IfOk result (λ found. IsCounted (edges (shape_of old.now) (shape_of new.now)) found.0.bounds found.1) }
+    ensures searched { IfOk result (λ found. IsSearched by_numbers (shape_of old.now)
+        (shape_of new.now) root found.0) }
+    ensures counted { IfOk result (λ found.
+        IsCounted (edges (shape_of old.now) (shape_of new.now)) found.0.bounds found.1) }
 {
     let (certificate, work) = pg_least::search_counted(alloc, old, new, root)?;
     Ok((certificate, work))
@@ -63,9 +69,11 @@ pub fn way(
     new: &Schema,
     certificate: &Certificate,
 ) -> Result<Vec<Step>, AllocError>
-    requires searched { IsSearched by_numbers (shape_of old.now) (shape_of new.now) certificate.now.root certificate.now }
+    requires searched { IsSearched by_numbers (shape_of old.now)
+        (shape_of new.now) certificate.now.root certificate.now }
     requires breaks { is_some certificate.now.witness ≡ true }
-    ensures { IfOk result (λ steps. IsWay by_numbers (shape_of old.now) (shape_of new.now) (bound_in certificate.now.bounds) certificate.now.root steps.items) }
+    ensures { IfOk result (λ steps. IsWay by_numbers (shape_of old.now) (shape_of new.now)
+        (bound_in certificate.now.bounds) certificate.now.root steps.items) }
 {
     pg_least::way(alloc, old, new, certificate)
 }
@@ -73,7 +81,8 @@ pub fn way(
 /// What `settle` answers.
 pub fn settle<G: Prices>(alloc: Global, graph: &G, root: Pair) -> Result<(Bounds, Work), AllocError>
     requires { G.is_known graph.now root ≡ true }
-    ensures settled { IfOk result (λ found. IsSettled (G.children_of graph.now) (G.edges_of graph.now) (G.base_of graph.now) (G.price_of graph.now) root found.0) }
+    ensures settled { IfOk result (λ found. IsSettled (G.children_of graph.now)
+        (G.edges_of graph.now) (G.base_of graph.now) (G.price_of graph.now) root found.0) }
     ensures counted { IfOk result (λ found. IsCounted (G.edges_of graph.now) found.0 found.1) }
 {
     let (bounds, work) = pg_least::settle(alloc, graph, root)?;

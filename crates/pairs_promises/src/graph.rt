@@ -14,7 +14,8 @@ use std::alloc::{AllocError, Global};
 
 /// Whether it knows the pair.
 pub fn knows<V: View>(graph: &Priced<'_, V>, pair: Pair) -> bool
-    ensures { result ≡ prices.is_pair (shape_of graph.now.old.now) (shape_of graph.now.new.now) pair }
+    ensures { result ≡ prices.is_pair (shape_of graph.now.old.now)
+        (shape_of graph.now.new.now) pair }
 {
     graph.knows(pair)
 }
@@ -25,8 +26,10 @@ pub fn children<V: View>(
     graph: &Priced<'_, V>,
     pair: Pair,
 ) -> Result<Vec<Pair>, AllocError>
-    requires { prices.is_pair (shape_of graph.now.old.now) (shape_of graph.now.new.now) pair ≡ true }
-    ensures { IfOk result (λ pairs. pairs.items ≡ covering.children (shape_of graph.now.old.now) (shape_of graph.now.new.now) pair) }
+    requires { prices.is_pair (shape_of graph.now.old.now) (shape_of graph.now.new.now) pair
+        ≡ true }
+    ensures { IfOk result (λ pairs. pairs.items
+        ≡ covering.children (shape_of graph.now.old.now) (shape_of graph.now.new.now) pair) }
 {
     graph.children(alloc, pair)
 }
@@ -37,8 +40,10 @@ pub fn edges<V: View>(
     graph: &Priced<'_, V>,
     pair: Pair,
 ) -> Result<Vec<Edge>, AllocError>
-    requires { prices.is_pair (shape_of graph.now.old.now) (shape_of graph.now.new.now) pair ≡ true }
-    ensures { IfOk result (λ edges. edges.items ≡ prices.edges (shape_of graph.now.old.now) (shape_of graph.now.new.now) pair) }
+    requires { prices.is_pair (shape_of graph.now.old.now) (shape_of graph.now.new.now) pair
+        ≡ true }
+    ensures { IfOk result (λ edges. edges.items
+        ≡ prices.edges (shape_of graph.now.old.now) (shape_of graph.now.new.now) pair) }
 {
     graph.edges(alloc, pair)
 }
@@ -50,9 +55,13 @@ pub fn base<V: View>(
     pair: Pair,
     work: &mut Work,
 ) -> Result<Option<u32>, AllocError>
-    requires known { prices.is_pair (shape_of graph.now.old.now) (shape_of graph.now.new.now) pair ≡ true }
+    requires known { prices.is_pair (shape_of graph.now.old.now) (shape_of graph.now.new.now) pair
+        ≡ true }
     requires room { work.old.opened + 1 < 2 ^ 64 }
-    ensures cost { IfOk result (λ cost. cost ≡ least_cost (sight_of (V.is_alike graph.now.view.now) (V.least_differing graph.now.view.now) graph.now.old.now graph.now.new.now) prices.no_bounds (shape_of graph.now.old.now) (shape_of graph.now.new.now) pair) }
+    ensures cost { IfOk result (λ cost. cost
+        ≡ least_cost (sight_of (V.is_alike graph.now.view.now)
+        (V.least_differing graph.now.view.now) graph.now.old.now graph.now.new.now) prices.no_bounds
+        (shape_of graph.now.old.now) (shape_of graph.now.new.now) pair) }
     ensures counted { OnOk result (work.new ≡ opened_more work.old) }
     ensures unchanged { OnErr result (work.new ≡ work.old) }
 {
@@ -66,8 +75,10 @@ pub fn edge_cost<V: View>(
     bound: u32,
     work: &mut Work,
 ) -> Option<u32>
-    requires known { prices.is_pair (shape_of graph.now.old.now) (shape_of graph.now.new.now) edge.now.from ≡ true }
-    requires edge { IsAmong edge.now (prices.edges (shape_of graph.now.old.now) (shape_of graph.now.new.now) edge.now.from) }
+    requires known { prices.is_pair (shape_of graph.now.old.now)
+        (shape_of graph.now.new.now) edge.now.from ≡ true }
+    requires edge { IsAmong edge.now
+        (prices.edges (shape_of graph.now.old.now) (shape_of graph.now.new.now) edge.now.from) }
     requires room { work.old.relaxed + 1 < 2 ^ 64 }
     ensures cost { result ≡ prices.edge_price (shape_of graph.now.old.now) edge.now bound }
     ensures counted { work.new ≡ relaxed_more work.old }

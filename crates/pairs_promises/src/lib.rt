@@ -1,4 +1,5 @@
-//! The promises of `pg_pairs`, said again of calls of it: the edits of `must-fail` turn each answer, and every one must be refused.
+//! The promises of `pg_pairs`, said again of calls of it: the edits of `must-fail` turn each
+//! answer, and every one must be refused.
 #![tactic(auto)]
 
 mod graph;
@@ -37,9 +38,15 @@ pub fn breaks<V: View>(
     message: &Message,
 ) -> Result<bool, DynError>
     requires { Fits (shape_of old.now) message.now }
-    ensures exact { IfOk result (λ b. IsTrue b ↔ ((type_of message.now ≡ pair.old) × Breaks (sight_of (V.is_alike view.now) (V.least_differing view.now) old.now new.now).alike (shape_of old.now) (shape_of new.now) pair.old pair.new (message_of message.now))) }
-    ensures encoded { OnOk result (length (enc (shape_of old.now) (type_of message.now) (message_of message.now)) ≤ cap) }
-    ensures refused { IfErr result (λ e. (e ≡ errors.Memory) ⊎ ((e ≡ errors.TooLong) × (cap < length (enc (shape_of old.now) (type_of message.now) (message_of message.now))))) }
+    ensures exact { IfOk result (λ b. IsTrue b
+        ↔ ((type_of message.now ≡ pair.old)
+        × Breaks (sight_of (V.is_alike view.now) (V.least_differing view.now) old.now new.now).alike
+        (shape_of old.now) (shape_of new.now) pair.old pair.new (message_of message.now))) }
+    ensures encoded { OnOk result (length
+        (enc (shape_of old.now) (type_of message.now) (message_of message.now)) ≤ cap) }
+    ensures refused { IfErr result (λ e. (e ≡ errors.Memory)
+        ⊎ ((e ≡ errors.TooLong) × (cap
+        < length (enc (shape_of old.now) (type_of message.now) (message_of message.now))))) }
 {
     pg_pairs::breaks(alloc, view, old, new, pair, message)
 }
@@ -54,15 +61,25 @@ pub fn carry<V: View>(
     choice: &Choice,
     child: Option<Message>,
 ) -> Result<Message, AllocError>
-    requires choice { carried.IsChoiceOf (sight_of (V.is_alike view.now) (V.least_differing view.now) old.now new.now) (shape_of old.now) (shape_of new.now) pair choice.now }
-    requires child { carried.ChildGiven (shape_of old.now) (carried.choice_child (shape_of old.now) (shape_of new.now) pair choice.now) child }
+    requires choice { carried.IsChoiceOf
+        (sight_of (V.is_alike view.now) (V.least_differing view.now) old.now new.now)
+        (shape_of old.now) (shape_of new.now) pair choice.now }
+    requires child { carried.ChildGiven (shape_of old.now)
+        (carried.choice_child (shape_of old.now) (shape_of new.now) pair choice.now) child }
     ensures fits { IfOk result (λ m. Fits (shape_of old.now) m) }
     ensures type_is { IfOk result (λ m. type_of m ≡ pair.old) }
-    ensures made { IfOk result (λ m. message_of m ≡ carried.carried (sight_of (V.is_alike view.now) (V.least_differing view.now) old.now new.now) (shape_of old.now) (shape_of new.now) pair choice.now (option_map message_of child)) }
+    ensures made { IfOk result (λ m. message_of m
+        ≡ carried.carried (sight_of (V.is_alike view.now)
+        (V.least_differing view.now) old.now new.now) (shape_of old.now)
+        (shape_of new.now) pair choice.now (option_map message_of child)) }
     ensures reached { IfOk result (λ m. (table : Table) →
         IsAmong choice.now (choices (sight_of (V.is_alike view.now) (V.least_differing view.now) old.now new.now) table (shape_of old.now) (shape_of new.now) pair)
-        → carried.ChildReached (sight_of (V.is_alike view.now) (V.least_differing view.now) old.now new.now) (shape_of old.now) (shape_of new.now) table (carried.choice_child (shape_of old.now) (shape_of new.now) pair choice.now) (option_map message_of child)
-        → ReachedBy (sight_of (V.is_alike view.now) (V.least_differing view.now) old.now new.now) (shape_of old.now) (shape_of new.now) pair (message_of m) choice.now.cost) }
+        → carried.ChildReached (sight_of (V.is_alike view.now)
+        (V.least_differing view.now) old.now new.now) (shape_of old.now) (shape_of new.now) table
+        (carried.choice_child (shape_of old.now) (shape_of new.now) pair choice.now)
+        (option_map message_of child)
+        → ReachedBy (sight_of (V.is_alike view.now) (V.least_differing view.now) old.now new.now)
+        (shape_of old.now) (shape_of new.now) pair (message_of m) choice.now.cost) }
 {
     pg_pairs::carry(alloc, view, old, new, pair, choice, child)
 }
@@ -74,7 +91,8 @@ pub fn children(
     new: &Schema,
     pair: Pair,
 ) -> Result<Vec<Pair>, AllocError>
-    ensures { IfOk result (λ pairs. pairs.items ≡ covering.children (shape_of old.now) (shape_of new.now) pair) }
+    ensures { IfOk result (λ pairs. pairs.items
+        ≡ covering.children (shape_of old.now) (shape_of new.now) pair) }
 {
     pg_pairs::children(alloc, old, new, pair)
 }
@@ -95,7 +113,10 @@ pub fn cheapest<V: View, T: Table>(
     pair: Pair,
     table: &T,
 ) -> Result<Option<Choice>, AllocError>
-    ensures { IfOk result (λ found. found ≡ least.cheapest (choices (sight_of (V.is_alike view.now) (V.least_differing view.now) old.now new.now) (T.bounds table.now) (shape_of old.now) (shape_of new.now) pair)) }
+    ensures { IfOk result (λ found. found
+        ≡ least.cheapest (choices (sight_of (V.is_alike view.now)
+        (V.least_differing view.now) old.now new.now) (T.bounds table.now) (shape_of old.now)
+        (shape_of new.now) pair)) }
 {
     pg_pairs::cheapest(alloc, view, old, new, pair, table)
 }
@@ -109,7 +130,9 @@ pub fn options<V: View, T: Table>(
     pair: Pair,
     table: &T,
 ) -> Result<Vec<Choice>, AllocError>
-    ensures { IfOk result (λ cs. cs.items ≡ choices (sight_of (V.is_alike view.now) (V.least_differing view.now) old.now new.now) (T.bounds table.now) (shape_of old.now) (shape_of new.now) pair) }
+    ensures { IfOk result (λ cs. cs.items
+        ≡ choices (sight_of (V.is_alike view.now) (V.least_differing view.now) old.now new.now)
+        (T.bounds table.now) (shape_of old.now) (shape_of new.now) pair) }
 {
     pg_pairs::options(alloc, view, old, new, pair, table)
 }

@@ -4,8 +4,8 @@ ghost use Rattle.std.specs.Prelude.{◌≡◌};
 use crate::bounds::PairBound;
 use std::hash::{BuildHasher, DefaultHasher, Hasher};
 
-/// Hashes each pair behind all pairs of the table. So pairs that collide can't be sought before the whole table is known:
-/// with another pair in it all hash otherwise. No clause speaks of hashes.
+/// Hashes each pair behind all pairs of the table. So pairs that collide can't be sought before the
+/// whole table is known: with another pair in it all hash otherwise. No clause speaks of hashes.
 #[derive(Clone, Copy, Debug)]
 pub(crate) struct PairKeys {
     pairs: DefaultHasher,

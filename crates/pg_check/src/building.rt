@@ -25,7 +25,8 @@ fn sources_of<'a>(
     places: &'a [usize],
 ) -> Result<Vec<Source<'a>>, AllocError>
     requires places { places.now ≡ enums.enum_places linked.now.files }
-    ensures sources { IfOk result (λ sources. map source sources.items ≡ linked_sources linked.now.files) }
+    ensures sources { IfOk result (λ sources. map source sources.items
+        ≡ linked_sources linked.now.files) }
     ensures linked { OnOk result (IsLinkedUp linked.now) }
 {
     let files = linked.files();
@@ -59,9 +60,9 @@ fn told(alloc: Global, files: &[Source<'_>], found: FileFault) -> Result<CheckEr
     Ok(error_of(found.fault.rule, place))
 }
 
-/// The schema that the files declare, whose parts are those of a schema where they break no rule. Refused
-/// where memory is, and where a file breaks a rule, with the first rule that the first of such files
-/// breaks at its place.
+/// The schema that the files declare, whose parts are those of a schema where they break no rule.
+/// Refused where memory is, and where a file breaks a rule, with the first rule that the first of
+/// such files breaks at its place.
 fn schema_of(alloc: Global, files: &[Source<'_>]) -> Result<Schema, CheckError>
     requires sound { (parts : Parts) → Declares (map source files.now) parts → IsSound parts }
     ensures built { IfOk result (λ schema. Declares (map source files.now) schema) }
@@ -80,14 +81,14 @@ fn schema_of(alloc: Global, files: &[Source<'_>]) -> Result<Schema, CheckError>
 }
 
 /// The schema that linked files declare: they keep to the rules of the language, and the schema has
-/// exactly the message types, fields and other parts that they state (proto3 language specification,
-/// "Proto file"): file after file, message types and services in order of declaration, enums scope by scope,
-/// those of the package before those of each message type.
+/// exactly the message types, fields and other parts that they state (proto3 language
+/// specification, "Proto file"): file after file, message types and services in order of
+/// declaration, enums scope by scope, those of the package before those of each message type.
 ///
-/// Refused are want of memory (`Memory`) and the first rule that is broken, by its error at its place:
-/// of the files, each behind those that it imports, the first that breaks one; in it by order of
-/// declaration, and of one declaration the lowest code. Files that break no rule are a schema: `BadParts`
-/// never comes.
+/// Refused are want of memory (`Memory`) and the first rule that is broken, by its error at its
+/// place: of the files, each behind those that it imports, the first that breaks one; in it by
+/// order of declaration, and of one declaration the lowest code. Files that break no rule are a
+/// schema: `BadParts` never comes.
 pub fn build(alloc: Global, linked: &Linked) -> Result<Schema, CheckError>
     // The schema has just what the files declare, which keep to the rules.
     ensures built { IfOk result (Declares (linked_sources linked.now.files)) }

@@ -52,7 +52,8 @@ struct Checked {
 
 /// Looks for the first rule that a file breaks, where so many more message types may stand.
 fn look_at(alloc: Global, file: &Source<'_>, left: usize) -> Result<Checked, AllocError>
-    ensures fault { IfOk result (λ c. c.fault ≡ files.file_fault (target_in file.now.targets) left file.now.tree.now) }
+    ensures fault { IfOk result (λ c. c.fault
+        ≡ files.file_fault (target_in file.now.targets) left file.now.tree.now) }
     ensures left { IfOk result (λ c. c.left ≡ left - length (file_messages file.now.tree.now)) }
 {
     let messages = file_messages(alloc, file.tree)?;

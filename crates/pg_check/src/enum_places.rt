@@ -29,7 +29,8 @@ fn declared_names(
     alloc: Global,
     files: &IndexMap<String, SourceFile>,
 ) -> Result<Vec<String>, AllocError>
-    ensures { IfOk result (λ names. map string_bytes names.items ≡ spec.declared_names files.now.entries) }
+    ensures { IfOk result (λ names. map string_bytes names.items
+        ≡ spec.declared_names files.now.entries) }
 {
     let mut names = Vec::new(alloc);
     for number in 0..files.len() {
@@ -47,7 +48,8 @@ fn scoped_names(
     alloc: Global,
     files: &IndexMap<String, SourceFile>,
 ) -> Result<Vec<String>, AllocError>
-    ensures { IfOk result (λ names. map string_bytes names.items ≡ spec.scoped_names files.now.entries) }
+    ensures { IfOk result (λ names. map string_bytes names.items
+        ≡ spec.scoped_names files.now.entries) }
 {
     let mut names = Vec::new(alloc);
     for number in 0..files.len() {
@@ -64,7 +66,8 @@ fn scoped_names(
 /// The place of each name, of its first one.
 fn places_of(alloc: Global, mut names: Vec<String>) -> Result<BTreeMap<String, usize>, AllocError>
     ensures { IfOk result (λ places. (name : List ℕ)
-        → get_by_text places name ≡ position_from (bytes_eq name) 0 (map string_bytes names.items)) }
+        → get_by_text places name ≡ position_from (bytes_eq name) 0
+        (map string_bytes names.items)) }
 {
     let mut places = BTreeMap::new(alloc);
     'names: while let Some(name) = names.pop() {

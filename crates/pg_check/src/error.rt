@@ -8,8 +8,9 @@ use pg_link::Place;
 use std::alloc::{AllocError, Global};
 use thiserror::Error;
 
-/// Why files or parts declare no schema. Of parts that come from no text, and of `BadParts`, the place is
-/// none; else it is that of the declared name, or of the first token of an option or a reserved item (proto3 language specification; proto3 language guide).
+/// Why files or parts declare no schema. Of parts that come from no text, and of `BadParts`, the
+/// place is none; else it is that of the declared name, or of the first token of an option or a
+/// reserved item (proto3 language specification; proto3 language guide).
 #[derive(Debug, PartialEq, Eq, Drop, Error)]
 pub enum CheckError {
     /// E401: the number of a field, a value or a reserved item is none that may stand.

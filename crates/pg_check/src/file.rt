@@ -100,7 +100,8 @@ fn push_lines<'a>(
     lines: &mut Vec<Stated<'a>>,
     statements: &'a [Statement],
 ) -> Result<(), AllocError>
-    ensures { OnOk result (map stated lines.new.items ≡ map stated lines.old.items ++ flat_map spec.file_line statements.now) }
+    ensures { OnOk result (map stated lines.new.items ≡ map stated lines.old.items
+        ++ flat_map spec.file_line statements.now) }
 {
     for statement in statements {
         if let Statement::Option(line) = statement {
@@ -147,7 +148,8 @@ fn messages_fault(
     targets: &Targets<'_>,
     messages: &[FoundMessage<'_>],
 ) -> Result<Option<Fault>, AllocError>
-    ensures { IfOk result (λ fault. fault ≡ earliest (spec.message_fault (target_in targets.now)) None (map message messages.now)) }
+    ensures { IfOk result (λ fault. fault
+        ≡ earliest (spec.message_fault (target_in targets.now)) None (map message messages.now)) }
 {
     let mut fault = None;
     for found in messages {
@@ -159,7 +161,8 @@ fn messages_fault(
 
 /// The first rule in the text that an enum breaks.
 fn enums_fault(alloc: Global, enums: &[FoundEnum<'_>]) -> Result<Option<Fault>, AllocError>
-    ensures { IfOk result (λ fault. fault ≡ earliest spec.found_fault None (map enumeration enums.now)) }
+    ensures { IfOk result (λ fault. fault
+        ≡ earliest spec.found_fault None (map enumeration enums.now)) }
 {
     let mut fault = None;
     for found in enums {

@@ -19,7 +19,8 @@ pub(crate) fn placed_messages(
     before: usize,
     found: &[FoundMessage<'_>],
 ) -> Result<Vec<(String, u32)>, AllocError>
-    ensures { IfOk result (λ list. map spec.placed list.items ≡ spec.placed_from before (map outline.message_scope (map outline.message found.now))) }
+    ensures { IfOk result (λ list. map spec.placed list.items
+        ≡ spec.placed_from before (map outline.message_scope (map outline.message found.now))) }
 {
     let mut list = Vec::new(alloc);
     for (index, one) in found.iter().enumerate() {
@@ -35,7 +36,8 @@ pub(crate) fn placed_enums(
     before: usize,
     found: &[FoundEnum<'_>],
 ) -> Result<Vec<(String, u32)>, AllocError>
-    ensures { IfOk result (λ list. map spec.placed list.items ≡ spec.placed_from before (map outline.enum_scope (map outline.enumeration found.now))) }
+    ensures { IfOk result (λ list. map spec.placed list.items
+        ≡ spec.placed_from before (map outline.enum_scope (map outline.enumeration found.now))) }
 {
     let mut list = Vec::new(alloc);
     for (index, one) in found.iter().enumerate() {
@@ -47,7 +49,8 @@ pub(crate) fn placed_enums(
 
 /// The places by their scopes.
 pub(crate) fn grouped(alloc: Global, list: &[(String, u32)]) -> Result<Groups, AllocError>
-    ensures { IfOk result (λ groups. (scope : List ℕ) → spec.group groups scope ≡ spec.places_in scope (map spec.placed list.now)) }
+    ensures { IfOk result (λ groups. (scope : List ℕ)
+        → spec.group groups scope ≡ spec.places_in scope (map spec.placed list.now)) }
 {
     let mut groups: Groups = BTreeMap::new(alloc);
     for (scope, place) in list {

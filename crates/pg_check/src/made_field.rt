@@ -135,7 +135,8 @@ fn made_number(one: &Member<'_>) -> u32
 
 /// The field.
 fn made_field(alloc: Global, targets: &Targets<'_>, one: &Member<'_>) -> Result<Field, AllocError>
-    ensures { IfOk result (λ made. spec.field made ≡ spec.made_field (target_in targets.now) (member one.now)) }
+    ensures { IfOk result (λ made. spec.field made
+        ≡ spec.made_field (target_in targets.now) (member one.now)) }
 {
     let name = String::from_str(alloc, &one.name().text)?;
     let json_name = json_name(alloc, *one)?;
@@ -157,7 +158,8 @@ pub(crate) fn made_fields(
     targets: &Targets<'_>,
     list: &[Member<'_>],
 ) -> Result<Vec<Field>, AllocError>
-    ensures { IfOk result (λ fields. map spec.field fields.items ≡ map (spec.made_field (target_in targets.now)) (map member list.now)) }
+    ensures { IfOk result (λ fields. map spec.field fields.items
+        ≡ map (spec.made_field (target_in targets.now)) (map member list.now)) }
 {
     let mut fields = Vec::new(alloc);
     for one in list {

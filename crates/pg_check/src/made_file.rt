@@ -16,7 +16,8 @@ fn push_imports(
     imports: &mut Vec<Import>,
     statements: &[Statement],
 ) -> Result<(), AllocError>
-    ensures { OnOk result (map spec.file_import imports.new.items ≡ map spec.file_import imports.old.items ++ flat_map spec.import_in statements.now) }
+    ensures { OnOk result (map spec.file_import imports.new.items
+        ≡ map spec.file_import imports.old.items ++ flat_map spec.import_in statements.now) }
 {
     for statement in statements {
         if let Statement::Import(import) = statement {
@@ -31,7 +32,8 @@ fn push_imports(
 
 /// The imports, in order.
 pub(crate) fn made_imports(alloc: Global, file: &FileTree) -> Result<Vec<Import>, AllocError>
-    ensures { IfOk result (λ imports. map spec.file_import imports.items ≡ spec.made_imports file.now) }
+    ensures { IfOk result (λ imports. map spec.file_import imports.items
+        ≡ spec.made_imports file.now) }
 {
     let mut imports = Vec::new(alloc);
     push_imports(alloc, &mut imports, &file.statements)?;
@@ -56,7 +58,8 @@ fn mode_word(word: &Dotted) -> Option<OptionValue>
 
 /// The value, where it is of the kind.
 fn made_value(alloc: Global, kind: Kind, value: &Value) -> Result<Option<OptionValue>, AllocError>
-    ensures { IfOk result (λ made. option_map spec.option_value made ≡ spec.made_value kind value.now) }
+    ensures { IfOk result (λ made. option_map spec.option_value made
+        ≡ spec.made_value kind value.now) }
 {
     match (kind, value) {
         (Kind::Flag, Value::Name(word)) => Ok(flag_word(word).map(OptionValue::Flag)),
@@ -72,7 +75,8 @@ fn push_option(
     options: &mut Vec<FileOption>,
     setting: &Setting,
 ) -> Result<(), AllocError>
-    ensures { OnOk result (map spec.file_option options.new.items ≡ map spec.file_option options.old.items ++ spec.setting_option setting.now) }
+    ensures { OnOk result (map spec.file_option options.new.items
+        ≡ map spec.file_option options.old.items ++ spec.setting_option setting.now) }
 {
     let Some(known) = known_by(Owner::File, &setting.name) else {
         return Ok(());
@@ -93,7 +97,8 @@ fn push_options(
     options: &mut Vec<FileOption>,
     statements: &[Statement],
 ) -> Result<(), AllocError>
-    ensures { OnOk result (map spec.file_option options.new.items ≡ map spec.file_option options.old.items ++ flat_map spec.option_in statements.now) }
+    ensures { OnOk result (map spec.file_option options.new.items
+        ≡ map spec.file_option options.old.items ++ flat_map spec.option_in statements.now) }
 {
     for statement in statements {
         if let Statement::Option(line) = statement {
@@ -105,7 +110,8 @@ fn push_options(
 
 /// The options by their numbers.
 fn by_number(mut options: Vec<FileOption>) -> Result<Vec<FileOption>, AllocError>
-    ensures { IfOk result (λ sorted. spec.AreOptions (map spec.file_option options.items) sorted.items) }
+    ensures { IfOk result (λ sorted. spec.AreOptions
+        (map spec.file_option options.items) sorted.items) }
 {
     options.sort_by_key(|option| option.number)?;
     Ok(options)

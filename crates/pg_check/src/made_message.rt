@@ -68,7 +68,8 @@ pub(crate) fn made_message(
     nested_types: Vec<TypeId>,
     nested_enums: Vec<EnumId>,
 ) -> Result<MessageType, AllocError>
-    ensures { IfOk result (spec.IsMessage (target_in targets.now) full.now body.now nested_types.items nested_enums.items) }
+    ensures { IfOk result (spec.IsMessage
+        (target_in targets.now) full.now body.now nested_types.items nested_enums.items) }
 {
     let name = String::from_str(alloc, full)?;
     let list = members(alloc, body)?;

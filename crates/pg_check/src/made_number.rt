@@ -1,5 +1,5 @@
-//! Numbers as a schema has them. One that its kind can't have comes to 0; a file that breaks no rule
-//! has none.
+//! Numbers as a schema has them. One that its kind can't have comes to 0; a file that breaks no
+//! rule has none.
 
 ghost use Rattle.std.specs.Prelude.{◌≡◌, ◌++◌, IfOk, OnOk, map};
 ghost use Rattle.pg_check.specs.MadeNumbers as spec;

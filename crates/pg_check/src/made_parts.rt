@@ -39,7 +39,8 @@ fn message_groups(
     found: &[FoundMessage<'_>],
 ) -> Result<Groups, AllocError>
     requires { map outline.message found.now ≡ outline.file_messages tree.now }
-    ensures { IfOk result (λ groups. (scope : List ℕ) → group groups scope ≡ places_in scope (spec.placed_messages before tree.now)) }
+    ensures { IfOk result (λ groups. (scope : List ℕ)
+        → group groups scope ≡ places_in scope (spec.placed_messages before tree.now)) }
 {
     let list = placed_messages(alloc, before, found)?;
     grouped(alloc, &list)
@@ -53,7 +54,8 @@ fn enum_groups(
     found: &[FoundEnum<'_>],
 ) -> Result<Groups, AllocError>
     requires { map outline.enumeration found.now ≡ outline.scoped_enums tree.now }
-    ensures { IfOk result (λ groups. (scope : List ℕ) → group groups scope ≡ places_in scope (spec.placed_enums before tree.now)) }
+    ensures { IfOk result (λ groups. (scope : List ℕ)
+        → group groups scope ≡ places_in scope (spec.placed_enums before tree.now)) }
 {
     let list = placed_enums(alloc, before, found)?;
     grouped(alloc, &list)
@@ -67,7 +69,9 @@ fn made_type(
     enums: &Groups,
     one: &FoundMessage<'_>,
 ) -> Result<MessageType, AllocError>
-    ensures { IfOk result (spec.IsTypeOf (spec.grouped_tree (target_in targets.now) (group types.now) (group enums.now) (outline.message one.now))) }
+    ensures { IfOk result (spec.IsTypeOf
+        (spec.grouped_tree (target_in targets.now) (group types.now) (group enums.now)
+        (outline.message one.now))) }
 {
     let full = one.full.as_str();
     let nested = types_in(alloc, types, full)?;
@@ -85,7 +89,9 @@ fn made_types(
     enums: &Groups,
     found: &[FoundMessage<'_>],
 ) -> Result<Vec<MessageType>, AllocError>
-    ensures { IfOk result (λ made. spec.EachIs spec.IsTypeOf (map (spec.grouped_tree (target_in targets.now) (group types.now) (group enums.now)) (map outline.message found.now)) made.items) }
+    ensures { IfOk result (λ made. spec.EachIs spec.IsTypeOf
+        (map (spec.grouped_tree (target_in targets.now) (group types.now) (group enums.now))
+        (map outline.message found.now)) made.items) }
 {
     let mut made = Vec::new(alloc);
     for one in found {
@@ -97,7 +103,8 @@ fn made_types(
 
 /// The enums.
 fn made_enums(alloc: Global, found: &[FoundEnum<'_>]) -> Result<Vec<EnumType>, AllocError>
-    ensures { IfOk result (λ made. map enumeration made.items ≡ map made_enum (map outline.enumeration found.now)) }
+    ensures { IfOk result (λ made. map enumeration made.items
+        ≡ map made_enum (map outline.enumeration found.now)) }
 {
     let mut made = Vec::new(alloc);
     for one in found {
@@ -108,7 +115,8 @@ fn made_enums(alloc: Global, found: &[FoundEnum<'_>]) -> Result<Vec<EnumType>, A
 
 /// The services of a file.
 fn file_services(alloc: Global, file: &Source<'_>) -> Result<Vec<Service>, AllocError>
-    ensures { IfOk result (λ services. map service services.items ≡ spec.file_services (source file.now)) }
+    ensures { IfOk result (λ services. map service services.items
+        ≡ spec.file_services (source file.now)) }
 {
     let package = package_of(alloc, file.tree)?;
     let mut services = Vec::new(alloc);
@@ -137,7 +145,8 @@ fn made_file(
     enums: &Groups,
     services: Vec<ServiceId>,
 ) -> Result<File, AllocError>
-    ensures { IfOk result (spec.IsFileOf (spec.grouped_shape (group types.now) (group enums.now) services.items (source file.now))) }
+    ensures { IfOk result (spec.IsFileOf
+        (spec.grouped_shape (group types.now) (group enums.now) services.items (source file.now))) }
 {
     let package = package_of(alloc, file.tree)?;
     let types = types_in(alloc, types, &package)?;
@@ -194,9 +203,12 @@ fn made_by(
 
 /// Puts what one file declares behind the others.
 fn push_made(parts: &mut Parts, made: Made) -> Result<(), AllocError>
-    ensures types { OnOk result (parts.new.types.items ≡ parts.old.types.items ++ made.types.items) }
-    ensures enums { OnOk result (parts.new.enums.items ≡ parts.old.enums.items ++ made.enums.items) }
-    ensures services { OnOk result (parts.new.services.items ≡ parts.old.services.items ++ made.services.items) }
+    ensures types { OnOk result (parts.new.types.items
+        ≡ parts.old.types.items ++ made.types.items) }
+    ensures enums { OnOk result (parts.new.enums.items
+        ≡ parts.old.enums.items ++ made.enums.items) }
+    ensures services { OnOk result (parts.new.services.items ≡ parts.old.services.items
+        ++ made.services.items) }
     ensures files { OnOk result (parts.new.files.items ≡ parts.old.files.items ++ made.file ∷ []) }
 {
     let Made {
@@ -214,7 +226,8 @@ fn push_made(parts: &mut Parts, made: Made) -> Result<(), AllocError>
 
 /// Puts what a file declares behind the others.
 fn push_file(alloc: Global, parts: &mut Parts, file: &Source<'_>) -> Result<(), AllocError>
-    ensures { OnOk result ((d : spec.Declared) → spec.States d parts.old → spec.States (spec.with_file d (source file.now)) parts.new) }
+    ensures { OnOk result ((d : spec.Declared) → spec.States d parts.old
+        → spec.States (spec.with_file d (source file.now)) parts.new) }
 {
     let types = parts.types.as_slice().len();
     let enums = parts.enums.as_slice().len();

@@ -43,7 +43,8 @@ fn rpc_flag(body: &[RpcPart]) -> Option<bool>
 
 /// A method.
 fn made_method(alloc: Global, targets: &Targets<'_>, rpc: &Rpc) -> Result<Method, AllocError>
-    ensures { IfOk result (λ made. spec.method made ≡ spec.made_method (target_in targets.now) rpc.now) }
+    ensures { IfOk result (λ made. spec.method made
+        ≡ spec.made_method (target_in targets.now) rpc.now) }
 {
     let name = String::from_str(alloc, &rpc.name.text)?;
     let deprecated = match &rpc.body {
@@ -66,7 +67,8 @@ fn made_methods(
     targets: &Targets<'_>,
     body: &[ServicePart],
 ) -> Result<Vec<Method>, AllocError>
-    ensures { IfOk result (λ methods. map spec.method methods.items ≡ spec.made_methods (target_in targets.now) body.now) }
+    ensures { IfOk result (λ methods. map spec.method methods.items
+        ≡ spec.made_methods (target_in targets.now) body.now) }
 {
     let mut methods = Vec::new(alloc);
     for part in body {
@@ -99,7 +101,8 @@ fn made_service(
     scope: &str,
     service: &tree::Service,
 ) -> Result<Service, AllocError>
-    ensures { IfOk result (λ made. spec.service made ≡ spec.made_service (target_in targets.now) scope.now service.now) }
+    ensures { IfOk result (λ made. spec.service made
+        ≡ spec.made_service (target_in targets.now) scope.now service.now) }
 {
     let name = full_name(alloc, scope, &service.name)?;
     let methods = made_methods(alloc, targets, &service.parts)?;
@@ -121,7 +124,8 @@ pub(crate) fn push_services(
     services: &mut Vec<Service>,
     statements: &[Statement],
 ) -> Result<(), AllocError>
-    ensures { OnOk result (map spec.service services.new.items ≡ map spec.service services.old.items ++ spec.made_services (target_in targets.now) scope.now statements.now) }
+    ensures { OnOk result (map spec.service services.new.items ≡ map spec.service services.old.items
+        ++ spec.made_services (target_in targets.now) scope.now statements.now) }
 {
     for statement in statements {
         if let Statement::Service(service) = statement {
@@ -137,7 +141,8 @@ pub(crate) fn service_ids(
     before: usize,
     services: &[Service],
 ) -> Result<Vec<ServiceId>, AllocError>
-    ensures { IfOk result (λ ids. ids.items ≡ spec.service_ids before (map spec.service services.now)) }
+    ensures { IfOk result (λ ids. ids.items
+        ≡ spec.service_ids before (map spec.service services.now)) }
 {
     let mut ids = Vec::new(alloc);
     for (index, _service) in services.iter().enumerate() {

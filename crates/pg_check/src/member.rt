@@ -56,7 +56,8 @@ fn push_oneof<'a>(
     place: usize,
     body: &'a [OneofPart],
 ) -> Result<(), AllocError>
-    ensures { OnOk result (map spec.member members.new.items ≡ map spec.member members.old.items ++ spec.oneof_members place body.now) }
+    ensures { OnOk result (map spec.member members.new.items ≡ map spec.member members.old.items
+        ++ spec.oneof_members place body.now) }
 {
     for part in body {
         match part {
@@ -112,7 +113,8 @@ pub(crate) fn names_of<'a>(
     alloc: Global,
     members: &[Member<'a>],
 ) -> Result<Vec<Called<'a>>, AllocError>
-    ensures { IfOk result (λ list. map names.called list.items ≡ map spec.named (map spec.member members.now)) }
+    ensures { IfOk result (λ list. map names.called list.items
+        ≡ map spec.named (map spec.member members.now)) }
 {
     let mut list = Vec::new(alloc);
     for member in members {
@@ -154,7 +156,8 @@ fn given_in(alloc: Global, settings: &[Setting]) -> Result<Option<String>, Alloc
 
 /// The JSON name that is given in brackets.
 fn given_json(alloc: Global, settings: &Option<Settings>) -> Result<Option<String>, AllocError>
-    ensures { IfOk result (λ text. option_map string_bytes text ≡ spec.given_json (spec.settings settings.now)) }
+    ensures { IfOk result (λ text. option_map string_bytes text
+        ≡ spec.given_json (spec.settings settings.now)) }
 {
     let Some(settings) = settings else {
         return Ok(None);
@@ -178,7 +181,8 @@ pub(crate) fn json_name(alloc: Global, member: Member<'_>) -> Result<String, All
 
 /// The members' JSON names.
 pub(crate) fn json_names(alloc: Global, members: &[Member<'_>]) -> Result<Vec<Titled>, AllocError>
-    ensures { IfOk result (λ list. map names.titled list.items ≡ map spec.json_named (map spec.member members.now)) }
+    ensures { IfOk result (λ list. map names.titled list.items
+        ≡ map spec.json_named (map spec.member members.now)) }
 {
     let mut list = Vec::new(alloc);
     for member in members {

@@ -251,7 +251,8 @@ fn member_packed(targets: &Targets<'_>, one: &Member<'_>) -> Option<Fault>
 
 /// The first member that states `packed = true` and may not.
 fn members_packed(targets: &Targets<'_>, list: &[Member<'_>]) -> Option<Fault>
-    ensures { result ≡ first_fault (spec.member_packed (target_in targets.now)) (map member list.now) }
+    ensures { result ≡ first_fault (spec.member_packed (target_in targets.now))
+        (map member list.now) }
 {
     for one in list {
         let fault = member_packed(targets, one);
@@ -284,7 +285,8 @@ fn names_fault(
     reserved: &[String],
     list: &[Member<'_>],
 ) -> Result<Option<Fault>, AllocError>
-    ensures { IfOk result (λ fault. fault ≡ spec.names_fault (map string_bytes reserved.now) (map member list.now)) }
+    ensures { IfOk result (λ fault. fault
+        ≡ spec.names_fault (map string_bytes reserved.now) (map member list.now)) }
 {
     let called = names_of(alloc, list)?;
     let among = names::first_among(alloc, reserved, &called)?;
@@ -302,7 +304,8 @@ fn shapes_fault(
     targets: &Targets<'_>,
     list: &[Member<'_>],
 ) -> Result<Option<Fault>, AllocError>
-    ensures { IfOk result (λ fault. fault ≡ spec.shapes_fault (target_in targets.now) (map member list.now)) }
+    ensures { IfOk result (λ fault. fault
+        ≡ spec.shapes_fault (target_in targets.now) (map member list.now)) }
 {
     let options = member_options(alloc, list)?;
     let packed = members_packed(targets, list);

@@ -38,7 +38,8 @@ pub(crate) fn first_among(
     reserved: &[String],
     names: &[Called<'_>],
 ) -> Result<Option<usize>, AllocError>
-    ensures { IfOk result (λ place. place ≡ spec.first_among (map string_bytes reserved.now) (map spec.called names.now)) }
+    ensures { IfOk result (λ place. place
+        ≡ spec.first_among (map string_bytes reserved.now) (map spec.called names.now)) }
 {
     let set = set_of(alloc, reserved)?;
     for name in names {

@@ -139,7 +139,8 @@ fn is_held(sorted: &[Numbers], tops: &[u128], number: u128) -> bool
 /// The items by rising first numbers.
 pub(crate) fn by_first(alloc: Global, items: &[Numbers]) -> Result<Vec<Numbers>, AllocError>
     ensures same { IfOk result (λ sorted. IsPermutation items.now sorted.items) }
-    ensures order { IfOk result (λ sorted. IsNonDecreasingBy (λ (r : Numbers). r.first) sorted.items) }
+    ensures order { IfOk result (λ sorted. IsNonDecreasingBy
+        (λ (r : Numbers). r.first) sorted.items) }
 {
     let mut sorted = Vec::from_slice(alloc, items)?;
     sorted.sort_unstable_by_key(|item| item.first);

@@ -24,7 +24,8 @@ fn places_of(alloc: Global, fields: &[Field]) -> Result<BTreeSet<usize>, AllocEr
 
 /// Each of so many oneofs is among the places.
 fn are_all_among(places: &BTreeSet<usize>, oneofs: usize) -> bool
-    ensures { (fields : List Field) → IsPlaceSet fields places.now → result ≡ have_members oneofs fields }
+    ensures { (fields : List Field) → IsPlaceSet fields places.now
+        → result ≡ have_members oneofs fields }
 {
     for place in 0..oneofs {
         if !places.contains(&place) {

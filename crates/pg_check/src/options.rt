@@ -203,7 +203,8 @@ fn push_settings<'a>(
     owner: Owner,
     settings: &'a [Setting],
 ) -> Result<(), AllocError>
-    ensures { OnOk result (map spec.stated list.new.items ≡ map spec.stated list.old.items ++ map (spec.in_brackets owner) settings.now) }
+    ensures { OnOk result (map spec.stated list.new.items ≡ map spec.stated list.old.items
+        ++ map (spec.in_brackets owner) settings.now) }
 {
     for setting in settings {
         list.push(option_at(owner, setting.span.from, setting))?;
@@ -217,7 +218,8 @@ pub(crate) fn in_settings<'a>(
     owner: Owner,
     settings: &'a Option<Settings>,
 ) -> Result<Vec<Stated<'a>>, AllocError>
-    ensures { IfOk result (λ list. map spec.stated list.items ≡ spec.in_settings owner settings.now) }
+    ensures { IfOk result (λ list. map spec.stated list.items
+        ≡ spec.in_settings owner settings.now) }
 {
     let mut list = Vec::new(alloc);
     if let Some(settings) = settings {
@@ -230,7 +232,8 @@ pub(crate) fn in_settings<'a>(
 
 /// The names of the options.
 fn names_of(alloc: Global, options: &[Stated<'_>]) -> Result<Vec<Titled>, AllocError>
-    ensures { IfOk result (λ names. map titled names.items ≡ map spec.name_of (map spec.stated options.now)) }
+    ensures { IfOk result (λ names. map titled names.items
+        ≡ map spec.name_of (map spec.stated options.now)) }
 {
     let mut names = Vec::new(alloc);
     for option in options {

@@ -43,7 +43,8 @@ fn push_part<'a>(
     scope: &str,
     part: &'a Part,
 ) -> Result<(), AllocError>
-    ensures { OnOk result (map spec.message found.new.items ≡ map spec.message found.old.items ++ spec.messages_in scope.now part.now) }
+    ensures { OnOk result (map spec.message found.new.items ≡ map spec.message found.old.items
+        ++ spec.messages_in scope.now part.now) }
 {
     match part {
         Part::Message(message) => {
@@ -68,7 +69,8 @@ fn push_parts<'a>(
     scope: &str,
     body: &'a [Part],
 ) -> Result<(), AllocError>
-    ensures { OnOk result (map spec.message found.new.items ≡ map spec.message found.old.items ++ flat_map (spec.messages_in scope.now) body.now) }
+    ensures { OnOk result (map spec.message found.new.items ≡ map spec.message found.old.items
+        ++ flat_map (spec.messages_in scope.now) body.now) }
 {
     for part in body {
         push_part(alloc, found, scope, part)?;
@@ -84,7 +86,8 @@ fn push_message<'a>(
     scope: &str,
     message: &'a Message,
 ) -> Result<(), AllocError>
-    ensures { OnOk result (map spec.message found.new.items ≡ map spec.message found.old.items ++ spec.messages_of scope.now message.now) }
+    ensures { OnOk result (map spec.message found.new.items ≡ map spec.message found.old.items
+        ++ spec.messages_of scope.now message.now) }
 {
     let full = full_name(alloc, scope, &message.name)?;
     let inner = full.clone()?;
@@ -103,7 +106,8 @@ fn push_enum<'a>(
     scope: &str,
     tree: &'a Enum,
 ) -> Result<(), AllocError>
-    ensures { OnOk result (map spec.enumeration found.new.items ≡ map spec.enumeration found.old.items ++ spec.an_enum scope.now tree.now) }
+    ensures { OnOk result (map spec.enumeration found.new.items
+        ≡ map spec.enumeration found.old.items ++ spec.an_enum scope.now tree.now) }
 {
     let full = full_name(alloc, scope, &tree.name)?;
     let scope = String::from_str(alloc, scope)?;
@@ -119,7 +123,8 @@ fn push_enums_in<'a>(
     scope: &str,
     part: &'a Part,
 ) -> Result<(), AllocError>
-    ensures { OnOk result (map spec.enumeration found.new.items ≡ map spec.enumeration found.old.items ++ spec.enums_in scope.now part.now) }
+    ensures { OnOk result (map spec.enumeration found.new.items
+        ≡ map spec.enumeration found.old.items ++ spec.enums_in scope.now part.now) }
 {
     match part {
         Part::Message(message) => {
@@ -144,7 +149,8 @@ fn push_body_enums<'a>(
     scope: &str,
     body: &'a [Part],
 ) -> Result<(), AllocError>
-    ensures { OnOk result (map spec.enumeration found.new.items ≡ map spec.enumeration found.old.items ++ flat_map (spec.enums_in scope.now) body.now) }
+    ensures { OnOk result (map spec.enumeration found.new.items
+        ≡ map spec.enumeration found.old.items ++ flat_map (spec.enums_in scope.now) body.now) }
 {
     for part in body {
         push_enums_in(alloc, found, scope, part)?;
@@ -160,7 +166,8 @@ fn push_enums_of<'a>(
     scope: &str,
     message: &'a Message,
 ) -> Result<(), AllocError>
-    ensures { OnOk result (map spec.enumeration found.new.items ≡ map spec.enumeration found.old.items ++ spec.enums_of scope.now message.now) }
+    ensures { OnOk result (map spec.enumeration found.new.items
+        ≡ map spec.enumeration found.old.items ++ spec.enums_of scope.now message.now) }
 {
     let inner = full_name(alloc, scope, &message.name)?;
     push_body_enums(alloc, found, &inner, &message.parts)
@@ -195,7 +202,8 @@ fn push_messages<'a>(
     scope: &str,
     statements: &'a [Statement],
 ) -> Result<(), AllocError>
-    ensures { OnOk result (map spec.message found.new.items ≡ map spec.message found.old.items ++ spec.all_messages scope.now statements.now) }
+    ensures { OnOk result (map spec.message found.new.items ≡ map spec.message found.old.items
+        ++ spec.all_messages scope.now statements.now) }
 {
     for statement in statements {
         if let Statement::Message(message) = statement {
@@ -212,7 +220,8 @@ fn push_enums<'a>(
     scope: &str,
     statements: &'a [Statement],
 ) -> Result<(), AllocError>
-    ensures { OnOk result (map spec.enumeration found.new.items ≡ map spec.enumeration found.old.items ++ spec.all_enums scope.now statements.now) }
+    ensures { OnOk result (map spec.enumeration found.new.items
+        ≡ map spec.enumeration found.old.items ++ spec.all_enums scope.now statements.now) }
 {
     for statement in statements {
         match statement {
@@ -234,7 +243,8 @@ fn push_own_enums<'a>(
     scope: &str,
     body: &'a [Part],
 ) -> Result<(), AllocError>
-    ensures { OnOk result (map spec.enumeration found.new.items ≡ map spec.enumeration found.old.items ++ flat_map (spec.enum_in scope.now) body.now) }
+    ensures { OnOk result (map spec.enumeration found.new.items
+        ≡ map spec.enumeration found.old.items ++ flat_map (spec.enum_in scope.now) body.now) }
 {
     for part in body {
         if let Part::Enum(tree) = part {
@@ -251,7 +261,8 @@ fn push_inner_enums<'a>(
     messages: &[FoundMessage<'a>],
 ) -> Result<(), AllocError>
     ensures { OnOk result (map spec.enumeration found.new.items
-        ≡ map spec.enumeration found.old.items ++ flat_map spec.own_enums (map spec.message messages.now)) }
+        ≡ map spec.enumeration found.old.items
+        ++ flat_map spec.own_enums (map spec.message messages.now)) }
 {
     for one in messages {
         let body = one.tree.parts.as_slice();
@@ -267,7 +278,9 @@ fn push_outer_enums<'a>(
     scope: &str,
     statements: &'a [Statement],
 ) -> Result<(), AllocError>
-    ensures { OnOk result (map spec.enumeration found.new.items ≡ map spec.enumeration found.old.items ++ flat_map (spec.enum_stated scope.now) statements.now) }
+    ensures { OnOk result (map spec.enumeration found.new.items
+        ≡ map spec.enumeration found.old.items
+        ++ flat_map (spec.enum_stated scope.now) statements.now) }
 {
     for statement in statements {
         if let Statement::Enum(tree) = statement {
@@ -315,8 +328,8 @@ pub(crate) fn file_enums<'a>(
     Ok(found)
 }
 
-/// The enums of a file scope by scope: those that stand outside of messages, and then those of each of its
-/// message types.
+/// The enums of a file scope by scope: those that stand outside of messages, and then those of each
+/// of its message types.
 pub(crate) fn scoped_enums<'a>(
     alloc: Global,
     file: &'a FileTree,

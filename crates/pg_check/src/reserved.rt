@@ -32,7 +32,8 @@ fn push_ranges(
     highest: u128,
     ranges: &[Range],
 ) -> Result<(), AllocError>
-    ensures { OnOk result (numbers.new.items ≡ numbers.old.items ++ map (spec.numbers_of highest) ranges.now) }
+    ensures { OnOk result (numbers.new.items
+        ≡ numbers.old.items ++ map (spec.numbers_of highest) ranges.now) }
 {
     for range in ranges {
         numbers.push(numbers_of(highest, range))?;
@@ -46,7 +47,8 @@ pub(crate) fn push_numbers(
     highest: u128,
     items: &ReservedItems,
 ) -> Result<(), AllocError>
-    ensures { OnOk result (numbers.new.items ≡ numbers.old.items ++ spec.numbers_in highest items.now) }
+    ensures { OnOk result (numbers.new.items
+        ≡ numbers.old.items ++ spec.numbers_in highest items.now) }
 {
     match items {
         ReservedItems::Names { .. } => Ok(()),
@@ -59,7 +61,8 @@ pub(crate) fn push_numbers(
 
 /// Puts the texts behind the others.
 fn push_texts(alloc: Global, names: &mut Vec<String>, texts: &[Text]) -> Result<(), AllocError>
-    ensures { OnOk result (map string_bytes names.new.items ≡ map string_bytes names.old.items ++ map spec.text_of texts.now) }
+    ensures { OnOk result (map string_bytes names.new.items ≡ map string_bytes names.old.items
+        ++ map spec.text_of texts.now) }
 {
     for text in texts {
         names.push(text.joined(alloc)?)?;
@@ -73,7 +76,8 @@ pub(crate) fn push_names(
     names: &mut Vec<String>,
     items: &ReservedItems,
 ) -> Result<(), AllocError>
-    ensures { OnOk result (map string_bytes names.new.items ≡ map string_bytes names.old.items ++ spec.names_in items.now) }
+    ensures { OnOk result (map string_bytes names.new.items ≡ map string_bytes names.old.items
+        ++ spec.names_in items.now) }
 {
     match items {
         ReservedItems::Names { first, more } => {

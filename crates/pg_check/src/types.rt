@@ -10,8 +10,8 @@ use pg_schema::{Element, Scalar};
 use pg_syntax::tree::TypeName;
 use std::collections::BTreeMap;
 
-/// What the type names of a file name, by the byte at which each begins; and for each enum, in order of
-/// declaration, its place in the schema.
+/// What the type names of a file name, by the byte at which each begins; and for each enum, in
+/// order of declaration, its place in the schema.
 #[derive(Drop)]
 pub(crate) struct Targets<'a> {
     pub found: BTreeMap<usize, Target>,

@@ -11,8 +11,8 @@ use crate::body::wire_type_of;
 use pg_schema::{Element, Field, Presence, Scalar};
 use pg_wire::WireType;
 
-/// The wire type of an element's own records: VARINT, I64, LEN or I32 (Protocol Buffers encoding guide, "Message
-/// Structure"). Of a packed list each body is of it, but the record is LEN.
+/// The wire type of an element's own records: VARINT, I64, LEN or I32 (Protocol Buffers encoding
+/// guide, "Message Structure"). Of a packed list each body is of it, but the record is LEN.
 pub fn element_wire_type(element: Element) -> WireType
     ensures { result ≡ form_wire (form element) }
 {
@@ -42,7 +42,9 @@ pub(crate) fn is_own(wire_type: WireType, element: Element) -> bool
 
 /// Whether the field accepts a record of the wire type.
 pub(crate) fn accepts(field: &Field, wire_type: WireType) -> bool
-    ensures { result ≡ (same_wire wire_type (own_wire (field_shape field.now)) || (same_wire wire_type Len && is_repeated field.now.presence && is_packable field.now.element)) }
+    ensures { result ≡ (same_wire wire_type (own_wire (field_shape field.now)) ||
+        (same_wire wire_type Len && is_repeated field.now.presence && is_packable
+        field.now.element)) }
 {
     match field.presence {
         Presence::Map { .. } => wire_type == WireType::Len,

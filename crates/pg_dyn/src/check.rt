@@ -61,7 +61,10 @@ fn is_double(scalar: Scalar, bits: u64) -> bool
 // Whether bytes are an item of the scalar: any are bytes, and UTF-8 is a text.
 fn check_bytes(scalar: Scalar, bytes: &[u8]) -> Result<(), DynError>
     ensures fits { IsOk result ↔ InRange (scalar_form scalar) (Bytes bytes.now) }
-    ensures fault { IfErr result (λ e. ((e ≡ errors.WrongKind) × (HoldsBytes (scalar_form scalar) → ⊥)) ⊎ ((at : ℕ) × (e ≡ errors.NotUtf8 at) × (scalar_form scalar ≡ Text) × IsValidUpTo bytes.now at)) }
+    ensures fault { IfErr result (λ e.
+        ((e ≡ errors.WrongKind) × (HoldsBytes (scalar_form scalar) → ⊥))
+        ⊎ ((at : ℕ) × (e ≡ errors.NotUtf8 at) × (scalar_form scalar ≡ Text)
+        × IsValidUpTo bytes.now at)) }
 {
     match scalar {
         Scalar::Bytes => Ok(()),
@@ -78,7 +81,8 @@ fn check_bytes(scalar: Scalar, bytes: &[u8]) -> Result<(), DynError>
 // Whether a text is an item of the scalar.
 fn check_text(scalar: Scalar, text: &str) -> Result<(), DynError>
     ensures fits { IsOk result ↔ InRange (scalar_form scalar) (Bytes text.now) }
-    ensures fault { IfErr result (λ e. (e ≡ errors.WrongKind) × (HoldsBytes (scalar_form scalar) → ⊥)) }
+    ensures fault { IfErr result (λ e. (e ≡ errors.WrongKind)
+        × (HoldsBytes (scalar_form scalar) → ⊥)) }
 {
     match scalar {
         Scalar::Bytes => check_bytes(scalar, text.as_bytes()),
@@ -87,8 +91,8 @@ fn check_text(scalar: Scalar, text: &str) -> Result<(), DynError>
     }
 }
 
-/// Whether an item is one of the scalar: of its kind, in its range, and a text UTF-8. The error is the first of
-/// these that fails.
+/// Whether an item is one of the scalar: of its kind, in its range, and a text UTF-8. The error is
+/// the first of these that fails.
 pub(crate) fn check_item(scalar: Scalar, value: &Value) -> Result<(), DynError>
     ensures fits { IsOk result ↔ IsItemOf scalar value.now }
     ensures fault { IfErr result (IsFaultOf scalar value.now) }
@@ -128,7 +132,8 @@ pub(crate) fn lower(
 // Whether an item is one of the element; an enum takes the numbers of int32.
 fn check_element(schema: &Schema, element: Element, value: &Value) -> Result<(), DynError>
     requires { IsSchema schema.now }
-    ensures { Tells (ItemFits (shape_of schema.now) element value.now) (ElementFault (shape_of schema.now) element value.now) result }
+    ensures { Tells (ItemFits (shape_of schema.now) element value.now)
+        (ElementFault (shape_of schema.now) element value.now) result }
 {
     match element {
         Element::Scalar(scalar) => check_item(scalar, value),
@@ -146,7 +151,8 @@ fn check_element(schema: &Schema, element: Element, value: &Value) -> Result<(),
 // The same of all items of a list.
 fn check_values(schema: &Schema, element: Element, values: &[Value]) -> Result<(), DynError>
     requires { IsSchema schema.now }
-    ensures { Tells (AllByRecursion (ItemFits (shape_of schema.now) element) values.now) (λ e. AnyOf (λ v. ElementFault (shape_of schema.now) element v e) values.now) result }
+    ensures { Tells (AllByRecursion (ItemFits (shape_of schema.now) element) values.now)
+        (λ e. AnyOf (λ v. ElementFault (shape_of schema.now) element v e) values.now) result }
 {
     let mut told = Ok(());
     for value in values {
@@ -163,7 +169,8 @@ fn check_entry(
     entry: &(Value, Value),
 ) -> Result<(), DynError>
     requires { IsSchema schema.now }
-    ensures { Tells (EntryFits (shape_of schema.now) key element entry.now) (EntryFault (shape_of schema.now) key element entry.now) result }
+    ensures { Tells (EntryFits (shape_of schema.now) key element entry.now)
+        (EntryFault (shape_of schema.now) key element entry.now) result }
 {
     let of_key = check_element(schema, Element::Scalar(key), &entry.0);
     lower(of_key, check_element(schema, element, &entry.1))
@@ -177,7 +184,8 @@ fn check_entries(
     entries: &[(Value, Value)],
 ) -> Result<(), DynError>
     requires { IsSchema schema.now }
-    ensures { Tells (AllByRecursion (EntryFits (shape_of schema.now) key element) entries.now) (λ e. AnyOf (λ x. EntryFault (shape_of schema.now) key element x e) entries.now) result }
+    ensures { Tells (AllByRecursion (EntryFits (shape_of schema.now) key element) entries.now)
+        (λ e. AnyOf (λ x. EntryFault (shape_of schema.now) key element x e) entries.now) result }
 {
     let mut told = Ok(());
     for entry in entries {
@@ -189,7 +197,8 @@ fn check_entries(
 // Whether the content is one of the field, but for keys that stand twice.
 fn check_field(schema: &Schema, field: &Field, content: &Content) -> Result<(), DynError>
     requires { IsSchema schema.now }
-    ensures { Tells (ItemsFit (shape_of schema.now) field.now.presence field.now.element content.now) (FieldFault (shape_of schema.now) (field_shape field.now) content.now) result }
+    ensures { Tells (ItemsFit (shape_of schema.now) field.now.presence field.now.element
+        content.now) (FieldFault (shape_of schema.now) (field_shape field.now) content.now) result }
 {
     match (field.presence, content) {
         (Presence::Implicit, Content::One(value)) => check_element(schema, field.element, value),
@@ -204,8 +213,8 @@ fn check_field(schema: &Schema, field: &Field, content: &Content) -> Result<(), 
     }
 }
 
-/// The field of the number, of which the content is to be one. The error is the first of what is wrong with the
-/// content, but for keys that stand twice.
+/// The field of the number, of which the content is to be one. The error is the first of what is
+/// wrong with the content, but for keys that stand twice.
 pub(crate) fn check_content<'a>(
     schema: &'a Schema,
     type_id: TypeId,
@@ -213,8 +222,10 @@ pub(crate) fn check_content<'a>(
     content: &Content,
 ) -> Result<&'a Field, DynError>
     requires { IsSchema schema.now }
-    ensures ok { IfOk result (λ f. IsTaken (shape_of schema.now) type_id number content.now (field_shape f.now)) }
-    ensures err { IfErr result (IsLowest (ContentFault (shape_of schema.now) type_id number content.now)) }
+    ensures ok { IfOk result (λ f. IsTaken (shape_of schema.now) type_id number content.now
+        (field_shape f.now)) }
+    ensures err { IfErr result (IsLowest
+        (ContentFault (shape_of schema.now) type_id number content.now)) }
     ensures early { IfErr result (λ e. code e < 605) }
 {
     let Some(field) = schema.field(type_id, number) else {

@@ -17,12 +17,16 @@ use std::alloc::Global;
 
 /// A copy of a message that fits the schema: what is read of its encoding is the message itself.
 ///
-/// The errors are `TooLong`, only where the encoding has more than 2,147,483,647 bytes, and `Memory`.
+/// The errors are `TooLong`, only where the encoding has more than 2,147,483,647 bytes, and
+/// `Memory`.
 pub fn copy(alloc: Global, schema: &Schema, message: &Message) -> Result<Message, DynError>
     requires { Fits (shape_of schema.now) message.now }
-    ensures same { IfOk result (λ copy. (message_of copy ≡ message_of message.now) × (type_of copy ≡ type_of message.now)) }
+    ensures same { IfOk result (λ copy. (message_of copy ≡ message_of message.now)
+        × (type_of copy ≡ type_of message.now)) }
     ensures fits { IfOk result (λ copy. Fits (shape_of schema.now) copy) }
-    ensures refused { IfErr result (λ e. (e ≡ errors.Memory) ⊎ ((e ≡ errors.TooLong) × (cap < length (enc (shape_of schema.now) (type_of message.now) (message_of message.now))))) }
+    ensures refused { IfErr result (λ e. (e ≡ errors.Memory)
+        ⊎ ((e ≡ errors.TooLong) × (cap
+        < length (enc (shape_of schema.now) (type_of message.now) (message_of message.now))))) }
 {
     // What holds of every schema, and of what is read of an encoding.
     schema.parts();

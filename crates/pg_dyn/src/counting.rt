@@ -1,4 +1,5 @@
-//! Lengths of encodings, counted before anything is written. A length above the most is counted as one more than it.
+//! Lengths of encodings, counted before anything is written. A length above the most is counted as
+//! one more than it.
 
 ghost use Rattle.std.specs.Prelude.{◌≡◌, ℕ, ◌+◌, ◌^◌, ◌<◌, ◌++◌, List, length, flat_map, true, IfOk, OnOk};
 ghost use Rattle.std.specs.List.{AllByRecursion};
@@ -70,7 +71,8 @@ pub(crate) fn body_len(scalar: Scalar, leaf: LeafRef<'_>) -> usize
 
 // How many bytes the length before a body of as many takes, which only LEN records have.
 fn length_len(wire_type: WireType, len: usize) -> usize
-    ensures { (bytes : List ℕ) → length bytes ≡ len → result ≡ length (length_before wire_type bytes) }
+    ensures { (bytes : List ℕ) → length bytes ≡ len
+        → result ≡ length (length_before wire_type bytes) }
 {
     match wire_type {
         WireType::Len => varint_len(len as u64),
@@ -81,7 +83,8 @@ fn length_len(wire_type: WireType, len: usize) -> usize
 /// How many bytes the record of a body of that length takes.
 pub(crate) fn record_len(number: u32, wire_type: WireType, len: usize) -> usize
     requires { number < 2 ^ 29 }
-    ensures { (bytes : List ℕ) → len ≡ capped (length bytes) → result ≡ capped (length (written number wire_type bytes).bytes) }
+    ensures { (bytes : List ℕ) → len ≡ capped (length bytes)
+        → result ≡ capped (length (written number wire_type bytes).bytes) }
 {
     let before = cap(tag_len(number)) + cap(length_len(wire_type, len));
     cap(before + cap(len))
@@ -141,8 +144,8 @@ fn packed_len<M: Lends>(element: Element, values: &[M::Value]) -> usize
     }
 }
 
-// How many bytes the record of a packed list takes, which an empty one doesn't have. The length of its body comes
-// behind the others.
+// How many bytes the record of a packed list takes, which an empty one doesn't have. The length of
+// its body comes behind the others.
 fn count_packed<M: Lends>(
     number: u32,
     element: Element,
@@ -151,8 +154,10 @@ fn count_packed<M: Lends>(
 ) -> Result<usize, AllocError>
     requires number { number < 2 ^ 29 }
     requires fit { LeavesFit M.item element values.now }
-    ensures len { IfOk result (λ len. len ≡ capped (length (packed_bytes M.item number element values.now))) }
-    ensures inner { OnOk result (inner.new.items ≡ inner.old.items ++ packed_lengths M.item element values.now) }
+    ensures len { IfOk result (λ len. len
+        ≡ capped (length (packed_bytes M.item number element values.now))) }
+    ensures inner { OnOk result (inner.new.items
+        ≡ inner.old.items ++ packed_lengths M.item element values.now) }
 {
     if values.is_empty() {
         return Ok(0);
@@ -165,7 +170,9 @@ fn count_packed<M: Lends>(
 /// How many bytes the body of an entry takes, of which the value's takes as many.
 pub(crate) fn entry_len(key: Scalar, leaf: LeafRef<'_>, wire_type: WireType, len: usize) -> usize
     requires { InRange (scalar_form key) (leaf_lent leaf) }
-    ensures { (bytes : List ℕ) → len ≡ capped (length bytes) → result ≡ capped (length ((item_record 1 (elements.Scalar key) (leaf_lent leaf.entry)).bytes ++ (written 2 wire_type bytes).bytes)) }
+    ensures { (bytes : List ℕ) → len ≡ capped (length bytes)
+        → result ≡ capped (length ((item_record 1 (elements.Scalar key)
+        (leaf_lent leaf.entry)).bytes ++ (written 2 wire_type bytes).bytes)) }
 {
     let first = record_len(1, wire_type_of(key), cap(body_len(key, leaf)));
     let second = record_len(2, wire_type, len);
@@ -193,8 +200,10 @@ fn count_item<M: Lends>(
 ) -> Result<usize, AllocError>
     requires is_schema { IsSchema schema.now }
     requires fits { BareFits (shape_of schema.now) element (M.item value.now) }
-    ensures len { IfOk result (λ len. len ≡ capped (length (item_body (shape_of schema.now) element (M.item value.now)))) }
-    ensures inner { IfOk result (λ len. inner.new.items ≡ inner.old.items ++ item_lengths (shape_of schema.now) (M.item value.now)) }
+    ensures len { IfOk result (λ len. len
+        ≡ capped (length (item_body (shape_of schema.now) element (M.item value.now)))) }
+    ensures inner { IfOk result (λ len. inner.new.items
+        ≡ inner.old.items ++ item_lengths (shape_of schema.now) (M.item value.now)) }
 {
     match (element, M::child(value)) {
         (Element::Message(_), Some(child)) => {
@@ -222,9 +231,14 @@ fn count_items<M: Lends>(
 ) -> Result<usize, AllocError>
     requires is_schema { IsSchema schema.now }
     requires number { number < 2 ^ 29 }
-    requires fit { AllByRecursion (λ v. BareFits (shape_of schema.now) element (M.item v)) values.now }
-    ensures len { IfOk result (λ len. len ≡ capped (length (flat_map (λ v. item_bytes (shape_of schema.now) number element (M.item v)) values.now))) }
-    ensures inner { IfOk result (λ len. inner.new.items ≡ inner.old.items ++ flat_map (λ v. item_lengths (shape_of schema.now) (M.item v)) values.now) }
+    requires fit { AllByRecursion (λ v. BareFits (shape_of schema.now) element (M.item v))
+        values.now }
+    ensures len { IfOk result (λ len. len
+        ≡ capped (length (flat_map (λ v. item_bytes (shape_of schema.now) number element (M.item v))
+        values.now))) }
+    ensures inner { IfOk result (λ len. inner.new.items
+        ≡ inner.old.items ++ flat_map
+        (λ v. item_lengths (shape_of schema.now) (M.item v)) values.now) }
 {
     let wire_type = element_wire_type(element);
     let mut total = 0;
@@ -248,10 +262,16 @@ fn count_entries<M: Lends>(
 ) -> Result<usize, AllocError>
     requires is_schema { IsSchema schema.now }
     requires number { number < 2 ^ 29 }
-    requires keys { AllByRecursion (λ e. InRange (scalar_form key) (bare_leaf (M.item (M.key_of e)))) entries.now }
-    requires fit { AllByRecursion (λ e. BareFits (shape_of schema.now) element (M.item (M.value_of e))) entries.now }
-    ensures len { IfOk result (λ len. len ≡ capped (length (flat_map (λ e. entry_record (shape_of schema.now) number key element (bare_leaf (M.item (M.key_of e))) (M.item (M.value_of e))) entries.now))) }
-    ensures inner { IfOk result (λ len. inner.new.items ≡ inner.old.items ++ flat_map (λ e. item_lengths (shape_of schema.now) (M.item (M.value_of e))) entries.now) }
+    requires keys { AllByRecursion (λ e. InRange (scalar_form key)
+        (bare_leaf (M.item (M.key_of e)))) entries.now }
+    requires fit { AllByRecursion (λ e. BareFits (shape_of schema.now) element
+        (M.item (M.value_of e))) entries.now }
+    ensures len { IfOk result (λ len. len
+        ≡ capped (length (flat_map (λ e. entry_record (shape_of schema.now) number key element
+        (bare_leaf (M.item (M.key_of e))) (M.item (M.value_of e))) entries.now))) }
+    ensures inner { IfOk result (λ len. inner.new.items
+        ≡ inner.old.items ++ flat_map
+        (λ e. item_lengths (shape_of schema.now) (M.item (M.value_of e))) entries.now) }
 {
     let wire_type = element_wire_type(element);
     let mut total = 0;
@@ -263,8 +283,8 @@ fn count_entries<M: Lends>(
     Ok(total)
 }
 
-/// How many bytes the records of a field's content take. The lengths of the messages in it, or of the body of a
-/// packed list, come behind the others.
+/// How many bytes the records of a field's content take. The lengths of the messages in it, or of
+/// the body of a packed list, come behind the others.
 #[cycle(count)]
 pub(crate) fn count_content<M: Lends>(
     content: &M::Content,
@@ -275,9 +295,14 @@ pub(crate) fn count_content<M: Lends>(
     requires is_schema { IsSchema schema.now }
     requires number { field.now.number < 2 ^ 29 }
     requires packed { CanBePacked field.now.presence field.now.element }
-    requires fit { AllByRecursion (IsPartOf (shape_of schema.now) (field_shape field.now)) (M.parts field.now.number content.now) }
-    ensures len { IfOk result (λ len. len ≡ capped (length (field_written (shape_of schema.now) (field_shape field.now) (M.parts field.now.number content.now)))) }
-    ensures inner { IfOk result (λ len. inner.new.items ≡ inner.old.items ++ field_lengths (shape_of schema.now) (field_shape field.now) (M.parts field.now.number content.now)) }
+    requires fit { AllByRecursion (IsPartOf (shape_of schema.now) (field_shape field.now))
+        (M.parts field.now.number content.now) }
+    ensures len { IfOk result (λ len. len
+        ≡ capped (length (field_written (shape_of schema.now) (field_shape field.now)
+        (M.parts field.now.number content.now)))) }
+    ensures inner { IfOk result (λ len. inner.new.items
+        ≡ inner.old.items ++ field_lengths (shape_of schema.now) (field_shape field.now)
+        (M.parts field.now.number content.now)) }
 {
     match map_key(field.presence) {
         Some(key) => {
@@ -294,8 +319,9 @@ pub(crate) fn count_content<M: Lends>(
     }
 }
 
-/// How many bytes the encoding of a message that fits takes. The lengths of the messages in it and of the bodies of
-/// its packed lists come behind the others, in the order in which they are written.
+/// How many bytes the encoding of a message that fits takes. The lengths of the messages in it and
+/// of the bodies of its packed lists come behind the others, in the order in which they are
+/// written.
 #[cycle(count)]
 pub(crate) fn count_message<M: Lends>(
     message: &M,
@@ -304,8 +330,10 @@ pub(crate) fn count_message<M: Lends>(
 ) -> Result<usize, AllocError>
     requires is_schema { IsSchema schema.now }
     requires fits { Fits (shape_of schema.now) (M.kept message.now) }
-    ensures len { IfOk result (λ len. len ≡ capped (length (own_bytes (shape_of schema.now) (M.kept message.now)))) }
-    ensures inner { IfOk result (λ len. inner.new.items ≡ inner.old.items ++ inner_lengths (shape_of schema.now) (M.kept message.now)) }
+    ensures len { IfOk result (λ len. len
+        ≡ capped (length (own_bytes (shape_of schema.now) (M.kept message.now)))) }
+    ensures inner { IfOk result (λ len. inner.new.items
+        ≡ inner.old.items ++ inner_lengths (shape_of schema.now) (M.kept message.now)) }
 {
     let type_id = message.message_type();
     let mut total = 0;

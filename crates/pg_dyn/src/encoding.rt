@@ -28,7 +28,8 @@ use std::alloc::{AllocError, Global};
 
 // Adds the length before a body of as many bytes, which only LEN records have.
 fn push_length(out: &mut Vec<u8>, wire_type: WireType, len: usize) -> Result<(), AllocError>
-    ensures ok { OnOk result ((bytes : List ℕ) → length bytes ≡ len → out.new.items ≡ out.old.items ++ length_before wire_type bytes) }
+    ensures ok { OnOk result ((bytes : List ℕ) → length bytes ≡ len
+        → out.new.items ≡ out.old.items ++ length_before wire_type bytes) }
 {
     match wire_type {
         WireType::Len => push_varint(out, len as u64),
@@ -56,7 +57,9 @@ fn push_front(
     wire_type: WireType,
     len: usize,
 ) -> Result<(), AllocError>
-    ensures ok { OnOk result ((bytes : List ℕ) → length bytes ≡ len → out.new.items ≡ out.old.items ++ (tag number wire_type ++ length_before wire_type bytes)) }
+    ensures ok { OnOk result ((bytes : List ℕ) → length bytes ≡ len
+        → out.new.items ≡ out.old.items
+        ++ (tag number wire_type ++ length_before wire_type bytes)) }
 {
     push_varint(out, 8 * u64::from(number) + wire_code(wire_type))?;
     push_length(out, wire_type, len)
@@ -71,13 +74,16 @@ fn push_record(
     leaf: LeafRef<'_>,
 ) -> Result<(), AllocError>
     requires { InRange (scalar_form scalar) (leaf_lent leaf) }
-    ensures ok { OnOk result (out.new.items ≡ out.old.items ++ (item_record number (elements.Scalar scalar) (leaf_lent leaf.entry)).bytes) }
+    ensures ok { OnOk result (out.new.items
+        ≡ out.old.items ++ (item_record number (elements.Scalar scalar)
+        (leaf_lent leaf.entry)).bytes) }
 {
     push_front(out, number, wire_type_of(scalar), body_len(scalar, leaf))?;
     push_body(out, scalar, leaf)
 }
 
-// The same of a lent item. Not inlined, so that a level of messages takes no more of the stack for it.
+// The same of a lent item. Not inlined, so that a level of messages takes no more of the stack for
+// it.
 #[inline(never)]
 fn push_item<M: Lends>(
     out: &mut Vec<u8>,
@@ -86,7 +92,9 @@ fn push_item<M: Lends>(
     value: &M::Value,
 ) -> Result<(), AllocError>
     requires { InRange (scalar_form scalar) (bare_leaf (M.item value.now)) }
-    ensures ok { OnOk result (out.new.items ≡ out.old.items ++ (item_record number (elements.Scalar scalar) (bare_leaf (M.item value.now))).bytes) }
+    ensures ok { OnOk result (out.new.items
+        ≡ out.old.items ++ (item_record number (elements.Scalar scalar)
+        (bare_leaf (M.item value.now))).bytes) }
 {
     push_record(out, number, scalar, M::leaf(value))
 }
@@ -95,7 +103,8 @@ fn push_item<M: Lends>(
 #[inline(always)]
 fn push_leaf(out: &mut Vec<u8>, element: Element, leaf: LeafRef<'_>) -> Result<(), AllocError>
     requires { LeafFits element (leaf_lent leaf) }
-    ensures ok { OnOk result (out.new.items ≡ out.old.items ++ body (form element) (leaf_lent leaf.entry)) }
+    ensures ok { OnOk result (out.new.items
+        ≡ out.old.items ++ body (form element) (leaf_lent leaf.entry)) }
 {
     match element {
         Element::Scalar(scalar) => push_body(out, scalar, leaf),
@@ -112,7 +121,8 @@ fn push_each<M: Lends>(
     values: &[M::Value],
 ) -> Result<(), AllocError>
     requires { LeavesFit M.item element values.now }
-    ensures ok { OnOk result (out.new.items ≡ out.old.items ++ packed_body M.item element values.now) }
+    ensures ok { OnOk result (out.new.items
+        ≡ out.old.items ++ packed_body M.item element values.now) }
 {
     for value in values {
         push_leaf(out, element, M::leaf(value))?;
@@ -120,7 +130,8 @@ fn push_each<M: Lends>(
     Ok(())
 }
 
-// Adds the bodies of a list, by a loop for each scalar of which lists are packed. Not inlined, as `push_item`.
+// Adds the bodies of a list, by a loop for each scalar of which lists are packed. Not inlined, as
+// `push_item`.
 #[inline(never)]
 fn push_bodies<M: Lends>(
     out: &mut Vec<u8>,
@@ -128,7 +139,8 @@ fn push_bodies<M: Lends>(
     values: &[M::Value],
 ) -> Result<(), AllocError>
     requires { LeavesFit M.item element values.now }
-    ensures ok { OnOk result (out.new.items ≡ out.old.items ++ packed_body M.item element values.now) }
+    ensures ok { OnOk result (out.new.items
+        ≡ out.old.items ++ packed_body M.item element values.now) }
 {
     match element {
         Element::Scalar(Scalar::Double) => push_each::<M>(
@@ -196,8 +208,8 @@ fn push_bodies<M: Lends>(
     }
 }
 
-// Adds the record of a packed list, where it isn't empty. The lengths then begin with that of its body; what is left of
-// them is answered.
+// Adds the record of a packed list, where it isn't empty. The lengths then begin with that of its
+// body; what is left of them is answered.
 fn push_packed<'a, M: Lends>(
     out: &mut Vec<u8>,
     number: u32,
@@ -206,8 +218,11 @@ fn push_packed<'a, M: Lends>(
     lengths: &'a [usize],
 ) -> Result<&'a [usize], DynError>
     requires { LeavesFit M.item element values.now }
-    ensures ok { IfOk result (λ left. Adds lengths.now (packed_lengths M.item element values.now) out.old.items (packed_bytes M.item number element values.now) out.new.items left.now) }
-    ensures err { IfErr result (MayNotAdd lengths.now (packed_lengths M.item element values.now) (packed_bytes M.item number element values.now)) }
+    ensures ok { IfOk result (λ left. Adds lengths.now
+        (packed_lengths M.item element values.now) out.old.items
+        (packed_bytes M.item number element values.now) out.new.items left.now) }
+    ensures err { IfErr result (MayNotAdd lengths.now (packed_lengths M.item element values.now)
+        (packed_bytes M.item number element values.now)) }
 {
     if values.is_empty() {
         return Ok(lengths);
@@ -235,7 +250,8 @@ fn not_too_long(len: usize) -> Result<usize, DynError>
 
 // Adds the records at the end.
 fn push_unknown<M: Lends>(out: &mut Vec<u8>, records: &[M::Unknown]) -> Result<(), AllocError>
-    ensures ok { OnOk result (out.new.items ≡ out.old.items ++ flat_map (λ r. (M.record_of r).bytes) records.now) }
+    ensures ok { OnOk result (out.new.items
+        ≡ out.old.items ++ flat_map (λ r. (M.record_of r).bytes) records.now) }
 {
     for found in records {
         out.extend_from_slice(M::record_bytes(found))?;
@@ -252,7 +268,9 @@ fn counted_len<M: Lends>(
     lengths: &[usize],
 ) -> usize
     requires { BareFits (shape_of schema.now) element (M.item value.now) }
-    ensures { (rest : List ℕ) → lengths.now ≡ item_lengths (shape_of schema.now) (M.item value.now) ++ rest → result ≡ capped (length (item_body (shape_of schema.now) element (M.item value.now))) }
+    ensures { (rest : List ℕ) → lengths.now ≡ item_lengths (shape_of schema.now) (M.item value.now)
+        ++ rest → result ≡ capped (length
+        (item_body (shape_of schema.now) element (M.item value.now))) }
 {
     match element {
         Element::Message(_) => match lengths {
@@ -264,8 +282,8 @@ fn counted_len<M: Lends>(
     }
 }
 
-// Adds the record of a message inside. The lengths begin with those that were noted of it; what is left of them is
-// answered.
+// Adds the record of a message inside. The lengths begin with those that were noted of it; what is
+// left of them is answered.
 #[cycle(write)]
 #[inline(always)]
 fn write_child<'a, M: Lends>(
@@ -277,8 +295,13 @@ fn write_child<'a, M: Lends>(
 ) -> Result<&'a [usize], DynError>
     requires is_schema { IsSchema schema.now }
     requires fits { Fits (shape_of schema.now) (M.kept child.now) }
-    ensures ok { IfOk result (λ left. Adds lengths.now (item_lengths (shape_of schema.now) (Child (M.kept child.now))) out.old.items (written number Len (own_bytes (shape_of schema.now) (M.kept child.now))).bytes out.new.items left.now) }
-    ensures err { IfErr result (MayNotAdd lengths.now (item_lengths (shape_of schema.now) (Child (M.kept child.now))) (written number Len (own_bytes (shape_of schema.now) (M.kept child.now))).bytes) }
+    ensures ok { IfOk result (λ left. Adds lengths.now
+        (item_lengths (shape_of schema.now) (Child (M.kept child.now))) out.old.items
+        (written number Len (own_bytes (shape_of schema.now) (M.kept child.now))).bytes
+        out.new.items left.now) }
+    ensures err { IfErr result (MayNotAdd lengths.now
+        (item_lengths (shape_of schema.now) (Child (M.kept child.now)))
+        (written number Len (own_bytes (shape_of schema.now) (M.kept child.now))).bytes) }
 {
     match lengths {
         [len, inner @ ..] => {
@@ -301,8 +324,13 @@ fn write_item<'a, M: Lends>(
 ) -> Result<&'a [usize], DynError>
     requires is_schema { IsSchema schema.now }
     requires fits { BareFits (shape_of schema.now) element (M.item value.now) }
-    ensures ok { IfOk result (λ left. Adds lengths.now (item_lengths (shape_of schema.now) (M.item value.now)) out.old.items (item_bytes (shape_of schema.now) number element (M.item value.now)) out.new.items left.now) }
-    ensures err { IfErr result (MayNotAdd lengths.now (item_lengths (shape_of schema.now) (M.item value.now)) (item_bytes (shape_of schema.now) number element (M.item value.now))) }
+    ensures ok { IfOk result (λ left. Adds lengths.now
+        (item_lengths (shape_of schema.now) (M.item value.now)) out.old.items
+        (item_bytes (shape_of schema.now) number element (M.item value.now)) out.new.items
+        left.now) }
+    ensures err { IfErr result (MayNotAdd lengths.now
+        (item_lengths (shape_of schema.now) (M.item value.now))
+        (item_bytes (shape_of schema.now) number element (M.item value.now))) }
 {
     match (element, M::child(value)) {
         (Element::Message(_), Some(child)) => write_child(child, out, schema, number, lengths),
@@ -330,9 +358,15 @@ fn write_items<'a, M: Lends>(
     lengths: &'a [usize],
 ) -> Result<&'a [usize], DynError>
     requires is_schema { IsSchema schema.now }
-    requires fit { AllByRecursion (λ v. BareFits (shape_of schema.now) element (M.item v)) values.now }
-    ensures ok { IfOk result (λ left. Adds lengths.now (flat_map (λ v. item_lengths (shape_of schema.now) (M.item v)) values.now) out.old.items (flat_map (λ v. item_bytes (shape_of schema.now) number element (M.item v)) values.now) out.new.items left.now) }
-    ensures err { IfErr result (MayNotAdd lengths.now (flat_map (λ v. item_lengths (shape_of schema.now) (M.item v)) values.now) (flat_map (λ v. item_bytes (shape_of schema.now) number element (M.item v)) values.now)) }
+    requires fit { AllByRecursion (λ v. BareFits (shape_of schema.now) element (M.item v))
+        values.now }
+    ensures ok { IfOk result (λ left. Adds lengths.now
+        (flat_map (λ v. item_lengths (shape_of schema.now) (M.item v)) values.now) out.old.items
+        (flat_map (λ v. item_bytes (shape_of schema.now) number element (M.item v)) values.now)
+        out.new.items left.now) }
+    ensures err { IfErr result (MayNotAdd lengths.now
+        (flat_map (λ v. item_lengths (shape_of schema.now) (M.item v)) values.now)
+        (flat_map (λ v. item_bytes (shape_of schema.now) number element (M.item v)) values.now)) }
 {
     let mut left = lengths;
     for value in values {
@@ -356,8 +390,15 @@ fn write_entry<'a, M: Lends>(
     requires is_schema { IsSchema schema.now }
     requires key { InRange (scalar_form key) (bare_leaf (M.item (M.key_of entry.now))) }
     requires fits { BareFits (shape_of schema.now) element (M.item (M.value_of entry.now)) }
-    ensures ok { IfOk result (λ left. Adds lengths.now (item_lengths (shape_of schema.now) (M.item (M.value_of entry.now))) out.old.items (entry_record (shape_of schema.now) number key element (bare_leaf (M.item (M.key_of entry.now))) (M.item (M.value_of entry.now))) out.new.items left.now) }
-    ensures err { IfErr result (MayNotAdd lengths.now (item_lengths (shape_of schema.now) (M.item (M.value_of entry.now))) (entry_record (shape_of schema.now) number key element (bare_leaf (M.item (M.key_of entry.now))) (M.item (M.value_of entry.now)))) }
+    ensures ok { IfOk result (λ left. Adds lengths.now
+        (item_lengths (shape_of schema.now) (M.item (M.value_of entry.now))) out.old.items
+        (entry_record (shape_of schema.now) number key element
+        (bare_leaf (M.item (M.key_of entry.now))) (M.item (M.value_of entry.now))) out.new.items
+        left.now) }
+    ensures err { IfErr result (MayNotAdd lengths.now
+        (item_lengths (shape_of schema.now) (M.item (M.value_of entry.now)))
+        (entry_record (shape_of schema.now) number key element
+        (bare_leaf (M.item (M.key_of entry.now))) (M.item (M.value_of entry.now)))) }
 {
     let entry_key = M::key(entry);
     let item = M::value(entry);
@@ -386,10 +427,19 @@ fn write_entries<'a, M: Lends>(
     lengths: &'a [usize],
 ) -> Result<&'a [usize], DynError>
     requires is_schema { IsSchema schema.now }
-    requires keys { AllByRecursion (λ e. InRange (scalar_form key) (bare_leaf (M.item (M.key_of e)))) entries.now }
-    requires fit { AllByRecursion (λ e. BareFits (shape_of schema.now) element (M.item (M.value_of e))) entries.now }
-    ensures ok { IfOk result (λ left. Adds lengths.now (flat_map (λ e. item_lengths (shape_of schema.now) (M.item (M.value_of e))) entries.now) out.old.items (flat_map (λ e. entry_record (shape_of schema.now) number key element (bare_leaf (M.item (M.key_of e))) (M.item (M.value_of e))) entries.now) out.new.items left.now) }
-    ensures err { IfErr result (MayNotAdd lengths.now (flat_map (λ e. item_lengths (shape_of schema.now) (M.item (M.value_of e))) entries.now) (flat_map (λ e. entry_record (shape_of schema.now) number key element (bare_leaf (M.item (M.key_of e))) (M.item (M.value_of e))) entries.now)) }
+    requires keys { AllByRecursion (λ e. InRange (scalar_form key)
+        (bare_leaf (M.item (M.key_of e)))) entries.now }
+    requires fit { AllByRecursion (λ e. BareFits (shape_of schema.now) element
+        (M.item (M.value_of e))) entries.now }
+    ensures ok { IfOk result (λ left. Adds lengths.now
+        (flat_map (λ e. item_lengths (shape_of schema.now) (M.item (M.value_of e))) entries.now)
+        out.old.items (flat_map (λ e. entry_record (shape_of schema.now) number key element
+        (bare_leaf (M.item (M.key_of e))) (M.item (M.value_of e))) entries.now) out.new.items
+        left.now) }
+    ensures err { IfErr result (MayNotAdd lengths.now
+        (flat_map (λ e. item_lengths (shape_of schema.now) (M.item (M.value_of e))) entries.now)
+        (flat_map (λ e. entry_record (shape_of schema.now) number key element
+        (bare_leaf (M.item (M.key_of e))) (M.item (M.value_of e))) entries.now)) }
 {
     let mut left = lengths;
     for entry in entries {
@@ -409,9 +459,18 @@ pub(crate) fn write_content<'a, M: Lends>(
 ) -> Result<&'a [usize], DynError>
     requires is_schema { IsSchema schema.now }
     requires packed { CanBePacked field.now.presence field.now.element }
-    requires fit { AllByRecursion (IsPartOf (shape_of schema.now) (field_shape field.now)) (M.parts field.now.number content.now) }
-    ensures ok { IfOk result (λ left. Adds lengths.now (field_lengths (shape_of schema.now) (field_shape field.now) (M.parts field.now.number content.now)) out.old.items (field_written (shape_of schema.now) (field_shape field.now) (M.parts field.now.number content.now)) out.new.items left.now) }
-    ensures err { IfErr result (MayNotAdd lengths.now (field_lengths (shape_of schema.now) (field_shape field.now) (M.parts field.now.number content.now)) (field_written (shape_of schema.now) (field_shape field.now) (M.parts field.now.number content.now))) }
+    requires fit { AllByRecursion (IsPartOf (shape_of schema.now) (field_shape field.now))
+        (M.parts field.now.number content.now) }
+    ensures ok { IfOk result (λ left. Adds lengths.now
+        (field_lengths (shape_of schema.now) (field_shape field.now)
+        (M.parts field.now.number content.now)) out.old.items
+        (field_written (shape_of schema.now) (field_shape field.now)
+        (M.parts field.now.number content.now)) out.new.items left.now) }
+    ensures err { IfErr result (MayNotAdd lengths.now
+        (field_lengths (shape_of schema.now) (field_shape field.now)
+        (M.parts field.now.number content.now))
+        (field_written (shape_of schema.now) (field_shape field.now)
+        (M.parts field.now.number content.now))) }
 {
     let number = field.number;
     let element = field.element;
@@ -440,8 +499,12 @@ fn write_message<'a, M: Lends>(
 ) -> Result<&'a [usize], DynError>
     requires is_schema { IsSchema schema.now }
     requires fits { Fits (shape_of schema.now) (M.kept message.now) }
-    ensures ok { IfOk result (λ left. Adds lengths.now (inner_lengths (shape_of schema.now) (M.kept message.now)) out.old.items (own_bytes (shape_of schema.now) (M.kept message.now)) out.new.items left.now) }
-    ensures err { IfErr result (MayNotAdd lengths.now (inner_lengths (shape_of schema.now) (M.kept message.now)) (own_bytes (shape_of schema.now) (M.kept message.now))) }
+    ensures ok { IfOk result (λ left. Adds lengths.now
+        (inner_lengths (shape_of schema.now) (M.kept message.now)) out.old.items
+        (own_bytes (shape_of schema.now) (M.kept message.now)) out.new.items left.now) }
+    ensures err { IfErr result (MayNotAdd lengths.now
+        (inner_lengths (shape_of schema.now) (M.kept message.now))
+        (own_bytes (shape_of schema.now) (M.kept message.now))) }
 {
     let type_id = message.message_type();
     let mut left = lengths;
@@ -459,8 +522,11 @@ fn write_message<'a, M: Lends>(
 // The encoding of a message that fits the schema.
 fn encode_lent<M: Lends>(alloc: Global, schema: &Schema, message: &M) -> Result<Vec<u8>, DynError>
     requires { Fits (shape_of schema.now) (M.kept message.now) }
-    ensures ok { IfOk result (λ bytes. (bytes.items ≡ own_bytes (shape_of schema.now) (M.kept message.now)) × (length bytes.items ≤ cap)) }
-    ensures err { IfErr result (MayNotWrite (length (own_bytes (shape_of schema.now) (M.kept message.now)))) }
+    ensures ok { IfOk result (λ bytes.
+        (bytes.items ≡ own_bytes (shape_of schema.now) (M.kept message.now))
+        × (length bytes.items ≤ cap)) }
+    ensures err { IfErr result (MayNotWrite
+        (length (own_bytes (shape_of schema.now) (M.kept message.now)))) }
 {
     // What holds of every schema.
     schema.parts();
@@ -475,30 +541,39 @@ fn encode_lent<M: Lends>(alloc: Global, schema: &Schema, message: &M) -> Result<
     Ok(out)
 }
 
-/// The encoding of a message that fits the schema: the records of its fields by rising number with the shortest
-/// varints, packed lists in one record, the entries of maps by rising key, always with key and value, and then
-/// the unknown records as they were read; likewise of each message inside (Protocol Buffers encoding guide,
-/// "Message Structure", "Packed Repeated Fields", "Maps").
+/// The encoding of a message that fits the schema: the records of its fields by rising number with
+/// the shortest varints, packed lists in one record, the entries of maps by rising key, always with
+/// key and value, and then the unknown records as they were read; likewise of each message inside
+/// (Protocol Buffers encoding guide, "Message Structure", "Packed Repeated Fields", "Maps").
 ///
-/// The errors are `TooLong`, only where the encoding has more than 2,147,483,647 bytes, and `Memory`.
+/// The errors are `TooLong`, only where the encoding has more than 2,147,483,647 bytes, and
+/// `Memory`.
 pub fn encode(alloc: Global, schema: &Schema, message: &Message) -> Result<Vec<u8>, DynError>
     requires { Fits (shape_of schema.now) message.now }
-    ensures ok { IfOk result (λ bytes. (bytes.items ≡ enc (shape_of schema.now) (type_of message.now) (message_of message.now)) × (length bytes.items ≤ cap)) }
-    ensures err { IfErr result (λ e. MayNotWrite (length (enc (shape_of schema.now) (type_of message.now) (message_of message.now))) e) }
+    ensures ok { IfOk result (λ bytes.
+        (bytes.items ≡ enc (shape_of schema.now) (type_of message.now) (message_of message.now))
+        × (length bytes.items ≤ cap)) }
+    ensures err { IfErr result (λ e.
+        MayNotWrite (length (enc (shape_of schema.now) (type_of message.now)
+        (message_of message.now))) e) }
 {
     encode_lent(alloc, schema, message)
 }
 
-/// The encoding of a message that borrows, as `encode` gives it of one that owns its parts. The condition and the errors
-/// are the same.
+/// The encoding of a message that borrows, as `encode` gives it of one that owns its parts. The
+/// condition and the errors are the same.
 pub fn encode_ref(
     alloc: Global,
     schema: &Schema,
     message: &MessageRef<'_>,
 ) -> Result<Vec<u8>, DynError>
     requires { Fits (shape_of schema.now) message.now }
-    ensures ok { IfOk result (λ bytes. (bytes.items ≡ enc (shape_of schema.now) (type_of message.now) (message_of message.now)) × (length bytes.items ≤ cap)) }
-    ensures err { IfErr result (λ e. MayNotWrite (length (enc (shape_of schema.now) (type_of message.now) (message_of message.now))) e) }
+    ensures ok { IfOk result (λ bytes.
+        (bytes.items ≡ enc (shape_of schema.now) (type_of message.now) (message_of message.now))
+        × (length bytes.items ≤ cap)) }
+    ensures err { IfErr result (λ e.
+        MayNotWrite (length (enc (shape_of schema.now) (type_of message.now)
+        (message_of message.now))) e) }
 {
     encode_lent(alloc, schema, message)
 }

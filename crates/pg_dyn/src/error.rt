@@ -17,8 +17,9 @@ pub enum DynError {
     /// E603: an integer is out of the range of its field's type.
     #[error("The number is out of range.")]
     OutOfRange,
-    /// E604: the bytes of a text aren't UTF-8. In bytes that are read, `at` is the first byte of the record that
-    /// holds the text; of contents that are set, the length of the longest front of the text that is UTF-8.
+    /// E604: the bytes of a text aren't UTF-8. In bytes that are read, `at` is the first byte of
+    /// the record that holds the text; of contents that are set, the length of the longest front of
+    /// the text that is UTF-8.
     #[error("The string is not UTF-8.")]
     NotUtf8 { at: usize },
     /// E605: two contents are of one field, or of two members of one oneof.
@@ -30,7 +31,8 @@ pub enum DynError {
     /// E607: the encoding has more than 2,147,483,647 bytes.
     #[error("The encoding has more than 2,147,483,647 bytes.")]
     TooLong,
-    /// E608: a message stands deeper than the limit; `at` is the first byte of its record, and 0 for the root.
+    /// E608: a message stands deeper than the limit; `at` is the first byte of its record, and 0
+    /// for the root.
     #[error("The message at byte {at} is nested too deep.")]
     TooDeep { at: usize },
     /// E501 to E505: the bytes aren't those of records.

@@ -36,8 +36,10 @@ fn body_place(found: &Record<'_>, at: usize) -> usize
 
 // Refuses a text that isn't UTF-8, whose record stands at that place.
 fn check_scalar(scalar: Scalar, found: &Record<'_>, at: usize) -> Result<(), DynError>
-    ensures readable { OnOk result (is_some (leaf_in (scalar_form scalar) found.now.body.now) ≡ true) }
-    ensures err { IfErr result (λ e. (e ≡ errors.NotUtf8 at) × (scalar_form scalar ≡ Text) × (is_utf8 found.now.body.now ≡ false)) }
+    ensures readable { OnOk result (is_some (leaf_in (scalar_form scalar) found.now.body.now)
+        ≡ true) }
+    ensures err { IfErr result (λ e. (e ≡ errors.NotUtf8 at) × (scalar_form scalar ≡ Text)
+        × (is_utf8 found.now.body.now ≡ false)) }
 {
     match scalar {
         Scalar::String => match simdutf8::compat::from_utf8(found.body) {
@@ -48,8 +50,8 @@ fn check_scalar(scalar: Scalar, found: &Record<'_>, at: usize) -> Result<(), Dyn
     }
 }
 
-// Refuses a record of the element's own wire type that has a fault. There may be as many levels of messages below the message
-// that holds the item.
+// Refuses a record of the element's own wire type that has a fault. There may be as many levels of
+// messages below the message that holds the item.
 #[cycle(faults)]
 fn check_item(
     schema: &Schema,
@@ -62,9 +64,12 @@ fn check_item(
     requires is_record { IsRecord (seen_record found.now) }
     requires wire { same_wire found.now.wire_type (form_wire (form element)) ≡ true }
     requires room { at + length found.now.bytes.now < 2 ^ 64 }
-    ensures readable { OnOk result (ItemReads (shape_of schema.now) element (seen_record found.now)) }
-    ensures shallow { OnOk result (IsShallowItem (shape_of schema.now) levels element (seen_record found.now)) }
-    ensures err { IfErr result (RefusedItem (shape_of schema.now) levels element (seen_record found.now) at) }
+    ensures readable { OnOk result (ItemReads (shape_of schema.now) element
+        (seen_record found.now)) }
+    ensures shallow { OnOk result (IsShallowItem (shape_of schema.now) levels element
+        (seen_record found.now)) }
+    ensures err { IfErr result (RefusedItem (shape_of schema.now) levels element
+        (seen_record found.now) at) }
     ensures not_memory { IfErr result (λ e. e ≡ errors.Memory → ⊥) }
 {
     match element {
@@ -92,10 +97,14 @@ fn check_part(
     requires is_schema { IsSchema schema.now }
     requires is_record { IsRecord (seen_record found.now) }
     requires room { at + length found.now.bytes.now < 2 ^ 64 }
-    ensures value { IfOk result (λ is_value. is_value ≡ takes (value_field element) (seen_record found.now)) }
-    ensures readable { OnOk result (all_readable (dec (shape_of schema.now)) (entry_fields key element) (seen_record found.now ∷ []) ≡ true) }
-    ensures shallow { OnOk result (IsShallowRecord (shape_of schema.now) levels (entry_fields key element) (seen_record found.now)) }
-    ensures err { IfErr result (RefusedRecord (shape_of schema.now) levels (entry_fields key element) (seen_record found.now) at) }
+    ensures value { IfOk result (λ is_value. is_value
+        ≡ takes (value_field element) (seen_record found.now)) }
+    ensures readable { OnOk result (all_readable (dec (shape_of schema.now))
+        (entry_fields key element) (seen_record found.now ∷ []) ≡ true) }
+    ensures shallow { OnOk result (IsShallowRecord (shape_of schema.now) levels
+        (entry_fields key element) (seen_record found.now)) }
+    ensures err { IfErr result (RefusedRecord (shape_of schema.now) levels
+        (entry_fields key element) (seen_record found.now) at) }
     ensures not_memory { IfErr result (λ e. e ≡ errors.Memory → ⊥) }
 {
     if found.number == 1 && is_own(found.wire_type, Element::Scalar(key)) {
@@ -109,7 +118,8 @@ fn check_part(
     Ok(false)
 }
 
-// Refuses an entry whose records, which begin at that place, have a fault. Answers whether one is of its value.
+// Refuses an entry whose records, which begin at that place, have a fault. Answers whether one is
+// of its value.
 #[cycle(faults)]
 fn check_parts(
     schema: &Schema,
@@ -122,8 +132,10 @@ fn check_parts(
     requires is_schema { IsSchema schema.now }
     requires room { start + length bytes.now < 2 ^ 64 }
     ensures readable { IfOk result (EntryReads (shape_of schema.now) key element bytes.now) }
-    ensures shallow { OnOk result (IsShallowIn (shape_of schema.now) (suc levels) (entry_fields key element) bytes.now) }
-    ensures err { IfErr result (RefusedIn (shape_of schema.now) (suc levels) (entry_fields key element) bytes.now start) }
+    ensures shallow { OnOk result (IsShallowIn (shape_of schema.now) (suc levels)
+        (entry_fields key element) bytes.now) }
+    ensures err { IfErr result (RefusedIn (shape_of schema.now) (suc levels)
+        (entry_fields key element) bytes.now start) }
     ensures not_memory { IfErr result (λ e. e ≡ errors.Memory → ⊥) }
 {
     let mut has_value = false;
@@ -140,7 +152,8 @@ fn check_parts(
     Ok(has_value)
 }
 
-// Refuses a record of a map field that has a fault. Where the entry lacks a value that is a message, the empty one stands for it.
+// Refuses a record of a map field that has a fault. Where the entry lacks a value that is a
+// message, the empty one stands for it.
 #[cycle(faults)]
 fn check_entry(
     schema: &Schema,
@@ -154,9 +167,12 @@ fn check_entry(
     requires is_record { IsRecord (seen_record found.now) }
     requires of_map { field.now.presence ≡ presences.Map key }
     requires room { at + length found.now.bytes.now < 2 ^ 64 }
-    ensures readable { OnOk result (FieldReads (shape_of schema.now) (field_shape field.now) (seen_record found.now)) }
-    ensures shallow { OnOk result (IsShallow (shape_of schema.now) levels (field_shape field.now) (seen_record found.now)) }
-    ensures err { IfErr result (RefusedOf (shape_of schema.now) levels (field_shape field.now) (seen_record found.now) at) }
+    ensures readable { OnOk result (FieldReads (shape_of schema.now) (field_shape field.now)
+        (seen_record found.now)) }
+    ensures shallow { OnOk result (IsShallow (shape_of schema.now) levels (field_shape field.now)
+        (seen_record found.now)) }
+    ensures err { IfErr result (RefusedOf (shape_of schema.now) levels (field_shape field.now)
+        (seen_record found.now) at) }
     ensures not_memory { IfErr result (λ e. e ≡ errors.Memory → ⊥) }
 {
     let start = body_place(found, at);
@@ -180,9 +196,12 @@ fn check_known(
     requires is_record { IsRecord (seen_record found.now) }
     requires taken { takes (field_shape field.now) (seen_record found.now) ≡ true }
     requires room { at + length found.now.bytes.now < 2 ^ 64 }
-    ensures readable { OnOk result (FieldReads (shape_of schema.now) (field_shape field.now) (seen_record found.now)) }
-    ensures shallow { OnOk result (IsShallow (shape_of schema.now) levels (field_shape field.now) (seen_record found.now)) }
-    ensures err { IfErr result (RefusedOf (shape_of schema.now) levels (field_shape field.now) (seen_record found.now) at) }
+    ensures readable { OnOk result (FieldReads (shape_of schema.now) (field_shape field.now)
+        (seen_record found.now)) }
+    ensures shallow { OnOk result (IsShallow (shape_of schema.now) levels (field_shape field.now)
+        (seen_record found.now)) }
+    ensures err { IfErr result (RefusedOf (shape_of schema.now) levels (field_shape field.now)
+        (seen_record found.now) at) }
     ensures not_memory { IfErr result (λ e. e ≡ errors.Memory → ⊥) }
 {
     if let Presence::Map { key } = field.presence {
@@ -206,9 +225,12 @@ fn check_record(
     requires is_schema { IsSchema schema.now }
     requires is_record { IsRecord (seen_record found.now) }
     requires room { at + length found.now.bytes.now < 2 ^ 64 }
-    ensures readable { OnOk result (all_readable (dec (shape_of schema.now)) (fields (shape_of schema.now) type_id) (seen_record found.now ∷ []) ≡ true) }
-    ensures shallow { OnOk result (IsShallowRecord (shape_of schema.now) levels (fields (shape_of schema.now) type_id) (seen_record found.now)) }
-    ensures err { IfErr result (RefusedRecord (shape_of schema.now) levels (fields (shape_of schema.now) type_id) (seen_record found.now) at) }
+    ensures readable { OnOk result (all_readable (dec (shape_of schema.now))
+        (fields (shape_of schema.now) type_id) (seen_record found.now ∷ []) ≡ true) }
+    ensures shallow { OnOk result (IsShallowRecord (shape_of schema.now) levels
+        (fields (shape_of schema.now) type_id) (seen_record found.now)) }
+    ensures err { IfErr result (RefusedRecord (shape_of schema.now) levels
+        (fields (shape_of schema.now) type_id) (seen_record found.now) at) }
     ensures not_memory { IfErr result (λ e. e ≡ errors.Memory → ⊥) }
 {
     match schema.field(type_id, found.number) {
@@ -219,8 +241,8 @@ fn check_record(
     }
 }
 
-/// Refuses bytes, which begin at that place, that have a fault, or a message that stands more than as many levels below
-/// theirs: the fault with its place, of several the first in the bytes.
+/// Refuses bytes, which begin at that place, that have a fault, or a message that stands more than
+/// as many levels below theirs: the fault with its place, of several the first in the bytes.
 #[cycle(faults)]
 pub(crate) fn find_fault(
     schema: &Schema,
@@ -232,8 +254,10 @@ pub(crate) fn find_fault(
     requires is_schema { IsSchema schema.now }
     requires room { start + length bytes.now < 2 ^ 64 }
     ensures readable { OnOk result (is_some (dec (shape_of schema.now) type_id bytes.now) ≡ true) }
-    ensures shallow { OnOk result (IsShallowIn (shape_of schema.now) (suc levels) (fields (shape_of schema.now) type_id) bytes.now) }
-    ensures err { IfErr result (RefusedIn (shape_of schema.now) (suc levels) (fields (shape_of schema.now) type_id) bytes.now start) }
+    ensures shallow { OnOk result (IsShallowIn (shape_of schema.now) (suc levels)
+        (fields (shape_of schema.now) type_id) bytes.now) }
+    ensures err { IfErr result (RefusedIn (shape_of schema.now) (suc levels)
+        (fields (shape_of schema.now) type_id) bytes.now start) }
     ensures not_memory { IfErr result (λ e. e ≡ errors.Memory → ⊥) }
 {
     let mut at = start;

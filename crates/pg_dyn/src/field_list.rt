@@ -23,7 +23,8 @@ pub(crate) fn place_of<C>(fields: &[(u32, C)], number: u32) -> usize
 /// Whether a content stands under the number.
 pub(crate) fn holds(fields: &[(u32, Content)], number: u32) -> bool
     requires { Rises fields.now }
-    ensures { IsTrue result → (place : ℕ) × (place < length fields.now) × ((d : ℕ × TheContent) → (get_or fields.now place d).0 ≡ number) }
+    ensures { IsTrue result → (place : ℕ) × (place < length fields.now)
+        × ((d : ℕ × TheContent) → (get_or fields.now place d).0 ≡ number) }
 {
     let place = place_of(fields, number);
     place < fields.len() && fields[place].0 == number

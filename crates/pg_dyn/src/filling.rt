@@ -23,7 +23,8 @@ use std::alloc::Global;
 // What is wrong with one content, but for keys that stand twice.
 fn check_one(schema: &Schema, type_id: TypeId, one: &(u32, Content)) -> Result<(), DynError>
     requires { IsSchema schema.now }
-    ensures { Tells (TakesContent (shape_of schema.now) type_id one.now) (ContentFault (shape_of schema.now) type_id one.now.0 one.now.1) result }
+    ensures { Tells (TakesContent (shape_of schema.now) type_id one.now)
+        (ContentFault (shape_of schema.now) type_id one.now.0 one.now.1) result }
 {
     match check_content(schema, type_id, one.0, &one.1) {
         Ok(_) => Ok(()),
@@ -38,7 +39,9 @@ fn check_contents(
     contents: &[(u32, Content)],
 ) -> Result<(), DynError>
     requires { IsSchema schema.now }
-    ensures { Tells (AllByRecursion (TakesContent (shape_of schema.now) type_id) contents.now) (λ e. AnyOf (λ c. ContentFault (shape_of schema.now) type_id c.0 c.1 e) contents.now) result }
+    ensures { Tells (AllByRecursion (TakesContent (shape_of schema.now) type_id) contents.now)
+        (λ e. AnyOf (λ c. ContentFault (shape_of schema.now) type_id c.0 c.1 e) contents.now)
+        result }
 {
     let mut told = Ok(());
     for one in contents {
@@ -57,7 +60,8 @@ fn check_all_keys(
     requires schema { IsSchema schema.now }
     requires taken { AllByRecursion (TakesContent (shape_of schema.now) type_id) contents.now }
     ensures ok { OnOk result (AllByRecursion (λ c. HasKeyTwice c.1 → ⊥) contents.now) }
-    ensures err { IfErr result (λ e. (e ≡ errors.Memory) ⊎ ((e ≡ errors.DuplicateKey) × AnyOf (λ c. HasKeyTwice c.1) contents.now)) }
+    ensures err { IfErr result (λ e. (e ≡ errors.Memory)
+        ⊎ ((e ≡ errors.DuplicateKey) × AnyOf (λ c. HasKeyTwice c.1) contents.now)) }
 {
     for (_, content) in contents {
         if let Err(error) = check_keys(alloc, content) {
@@ -94,11 +98,15 @@ impl Message {
         requires is_schema { IsSchema schema.now }
         requires taken { TakesContent (shape_of schema.now) (type_of self.old) (number, content) }
         requires once { HasKeyTwice content → ⊥ }
-        ensures ok { OnOk result ((f : FieldShape) → field_at (fields (shape_of schema.now) (type_of self.old)) number ≡ Some f
+        ensures ok { OnOk result ((f : FieldShape)
+            → field_at (fields (shape_of schema.now) (type_of self.old)) number ≡ Some f
             → self.new ≡ with_parts number (settled f (content_seen number content)) self.old) }
-        ensures fits { OnOk result ((f : FieldShape) → field_at (fields (shape_of schema.now) (type_of self.old)) number ≡ Some f
-            → Fits (shape_of schema.now) (without_rivals (fields (shape_of schema.now) (type_of self.old)) f self.old)
-            → Fits (shape_of schema.now) (without_rivals (fields (shape_of schema.now) (type_of self.old)) f self.new)) }
+        ensures fits { OnOk result ((f : FieldShape)
+            → field_at (fields (shape_of schema.now) (type_of self.old)) number ≡ Some f
+            → Fits (shape_of schema.now)
+            (without_rivals (fields (shape_of schema.now) (type_of self.old)) f self.old)
+            → Fits (shape_of schema.now)
+            (without_rivals (fields (shape_of schema.now) (type_of self.old)) f self.new)) }
         ensures err { IfErr result (λ e. e ≡ errors.Memory) }
     {
         let Some(field) = schema.field(self.type_id, number) else {
@@ -121,7 +129,8 @@ impl Message {
         requires schema { IsSchema schema.now }
         requires type_id { type_id.index < length (shape_of schema.now) }
         requires rises { Rises contents.items }
-        requires taken { AllByRecursion (TakesContent (shape_of schema.now) type_id) contents.items }
+        requires taken { AllByRecursion
+            (TakesContent (shape_of schema.now) type_id) contents.items }
         requires once { AllByRecursion (λ c. HasKeyTwice c.1 → ⊥) contents.items }
         requires apart { NoneRivals (fields (shape_of schema.now) type_id) contents.items }
         ensures ok { IfOk result (IsWhole (shape_of schema.now) type_id contents.items) }
@@ -138,13 +147,14 @@ impl Message {
         Ok(message)
     }
 
-    /// The message of the type with just these contents, each with the number of its field, in any order. A zero
-    /// in a field without presence, an empty list and an empty map leave none, texts and bytes are one kind, and a
-    /// map's entries may come in any order, as for `set`.
+    /// The message of the type with just these contents, each with the number of its field, in any
+    /// order. A zero in a field without presence, an empty list and an empty map leave none, texts
+    /// and bytes are one kind, and a map's entries may come in any order, as for `set`.
     ///
-    /// The errors are `NoSuchField`, `WrongKind`, `OutOfRange`, `NotUtf8`, `OneofTwice` where two contents are of
-    /// one number or of members of one oneof (proto3 language guide, "Oneof"), `DuplicateKey`, of several the
-    /// first in this order, whichever content has it, and `Memory`. The contents are then dropped.
+    /// The errors are `NoSuchField`, `WrongKind`, `OutOfRange`, `NotUtf8`, `OneofTwice` where two
+    /// contents are of one number or of members of one oneof (proto3 language guide, "Oneof"),
+    /// `DuplicateKey`, of several the first in this order, whichever content has it, and `Memory`.
+    /// The contents are then dropped.
     pub fn whole(
         alloc: Global,
         schema: &Schema,
@@ -154,8 +164,10 @@ impl Message {
         requires type_id { type_id.index < length (shape_of schema.now) }
         ensures ok { IfOk result (IsWhole (shape_of schema.now) type_id contents.items) }
         ensures fits { IfOk result (Fits (shape_of schema.now)) }
-        ensures accepted { OnOk result (HasNoFault (ContentsFault (shape_of schema.now) type_id contents.items)) }
-        ensures refused { IfErr result (MayRefuseFor (ContentsFault (shape_of schema.now) type_id contents.items)) }
+        ensures accepted { OnOk result
+            (HasNoFault (ContentsFault (shape_of schema.now) type_id contents.items)) }
+        ensures refused { IfErr result
+            (MayRefuseFor (ContentsFault (shape_of schema.now) type_id contents.items)) }
     {
         // What holds of every schema.
         schema.parts();

@@ -83,7 +83,9 @@ fn is_unknown(schema: &Schema, type_id: TypeId, found: &UnknownRecord) -> bool
 // Whether no field of the type accepts one of the records.
 fn unknown_fit(schema: &Schema, type_id: TypeId, unknown: &[UnknownRecord]) -> bool
     requires { IsSchema schema.now }
-    ensures { IsTrue result ↔ AllByRecursion (λ u. is_unknown (fields (shape_of schema.now) type_id) (record_seen u) ≡ true) unknown.now }
+    ensures { IsTrue result ↔ AllByRecursion
+        (λ u. is_unknown (fields (shape_of schema.now) type_id) (record_seen u) ≡ true)
+        unknown.now }
 {
     for found in unknown {
         if !is_unknown(schema, type_id, found) {
@@ -112,12 +114,13 @@ impl Value {
 }
 
 impl Content {
-    // Whether the content is one of the field: of its shape, with items of its element, and no zero in an
-    // implicit field.
+    // Whether the content is one of the field: of its shape, with items of its element, and no zero
+    // in an implicit field.
     #[cycle(fits)]
     fn fits(&self, schema: &Schema, field: &Field) -> bool
         requires { IsSchema schema.now }
-        ensures { IsTrue result ↔ ContentFits (shape_of schema.now) field.now.presence field.now.element self.now }
+        ensures { IsTrue result ↔ ContentFits
+            (shape_of schema.now) field.now.presence field.now.element self.now }
     {
         match (field.presence, self) {
             (Presence::Implicit, Content::One(value)) => {
@@ -173,10 +176,11 @@ impl Message {
     }
 }
 
-/// Whether the message is one of this schema: of a type that the schema has, each content one of a field of that
-/// type, of that field's shape and not empty, each item in its range, each text UTF-8, at most one member of each
-/// oneof, no zero in a field without presence, each message inside one of its field's type, and no unknown record
-/// that a field accepts (proto3 language guide, "Field Presence", "Oneof", "Unknown Fields").
+/// Whether the message is one of this schema: of a type that the schema has, each content one of a
+/// field of that type, of that field's shape and not empty, each item in its range, each text
+/// UTF-8, at most one member of each oneof, no zero in a field without presence, each message
+/// inside one of its field's type, and no unknown record that a field accepts (proto3 language
+/// guide, "Field Presence", "Oneof", "Unknown Fields").
 pub fn fits(schema: &Schema, message: &Message) -> bool
     ensures { IsTrue result ↔ Fits (shape_of schema.now) message.now }
 {

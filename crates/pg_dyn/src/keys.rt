@@ -35,7 +35,8 @@ impl Value {
         }
     }
 
-    // An order of all items, which of keys of one type is that of a map: numbers by value, texts by bytes.
+    // An order of all items, which of keys of one type is that of a map: numbers by value, texts by
+    // bytes.
     pub(crate) fn rank(&self, other: &Value) -> Ordering
         ensures { result ≡ rank_cmp (leaf_of self.now) (leaf_of other.now) }
     {
@@ -76,12 +77,13 @@ fn has_equal_neighbours(sorted: &[&(Value, Value)]) -> bool
     false
 }
 
-/// Whether no key stands twice in the content. The error is `DuplicateKey`, or `Memory`: keys out of order are sorted
-/// behind references, since the content may have to be handed back as it is.
+/// Whether no key stands twice in the content. The error is `DuplicateKey`, or `Memory`: keys out
+/// of order are sorted behind references, since the content may have to be handed back as it is.
 pub(crate) fn check_keys(alloc: Global, content: &Content) -> Result<(), DynError>
     requires { KeysAlike content.now }
     ensures ok { OnOk result (HasKeyTwice content.now → ⊥) }
-    ensures err { IfErr result (λ e. (e ≡ Memory) ⊎ ((e ≡ DuplicateKey) × HasKeyTwice content.now)) }
+    ensures err { IfErr result (λ e. (e ≡ Memory)
+        ⊎ ((e ≡ DuplicateKey) × HasKeyTwice content.now)) }
 {
     let Content::Map(entries) = content else {
         return Ok(());

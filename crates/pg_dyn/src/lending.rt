@@ -52,7 +52,9 @@ pub(crate) trait Lends {
 
     /// The contents of the fields, by rising number. None is empty.
     fn fields(&self) -> &[(u32, Self::Content)]
-        ensures whole { kept self.now ≡ kept_onto (all_parts parts result.now) (ends (type_of (kept self.now)) (unknown_of (kept self.now))) }
+        ensures whole { kept self.now
+            ≡ kept_onto (all_parts parts result.now)
+            (ends (type_of (kept self.now)) (unknown_of (kept self.now))) }
         ensures rises { Rises result.now }
         ensures filled { AllByRecursion (λ f. parts f.0 f.1 ≢ []) result.now }
         ensures numbered { AllByRecursion (λ f. AreOf f.0 (parts f.0 f.1)) result.now };
@@ -67,11 +69,14 @@ pub(crate) trait Lends {
 
     /// The items of a content that isn't a map's.
     fn items<'b>(content: &'b Self::Content) -> &'b [Self::Value]
-        ensures { (number : ℕ) → AreKeyless (parts number content.now) → (listed : Bool) × (parts number content.now ≡ map (item_part item number listed) result.now) };
+        ensures { (number : ℕ) → AreKeyless (parts number content.now)
+            → (listed : Bool) × (parts number content.now
+            ≡ map (item_part item number listed) result.now) };
 
     /// The entries of a map's content.
     fn entries<'b>(content: &'b Self::Content) -> &'b [Self::Entry]
-        ensures { (number : ℕ) → AreKeyed (parts number content.now) → parts number content.now ≡ map (entry_part item key_of value_of number) result.now };
+        ensures { (number : ℕ) → AreKeyed (parts number content.now)
+            → parts number content.now ≡ map (entry_part item key_of value_of number) result.now };
 
     /// The key of an entry.
     fn key<'b>(entry: &'b Self::Entry) -> &'b Self::Value
@@ -83,7 +88,8 @@ pub(crate) trait Lends {
 
     /// The message that an item is; `None` where it is none.
     fn child<'b>(value: &'b Self::Value) -> Option<&'b Self>
-        ensures { MatchOption result (IsLone (item value.now)) (λ child. item value.now ≡ Child (kept child.now)) };
+        ensures { MatchOption result (IsLone (item value.now))
+            (λ child. item value.now ≡ Child (kept child.now)) };
 
     /// The item, of a message no bytes.
     fn leaf<'b>(value: &'b Self::Value) -> LeafRef<'b>

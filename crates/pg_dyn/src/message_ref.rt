@@ -42,8 +42,8 @@ pub enum ContentRef<'a> {
     Map(Vec<EntryRef<'a>>),
 }
 
-/// A message of a type: its fields' contents by rising number, and its unknown records in the order read. Its texts,
-/// bytes and unknown records are those of the input.
+/// A message of a type: its fields' contents by rising number, and its unknown records in the order
+/// read. Its texts, bytes and unknown records are those of the input.
 #[cycle(message_ref)]
 #[derive(Drop)]
 pub struct MessageRef<'a> {
@@ -102,14 +102,16 @@ impl<'a> MessageRef<'a> {
         self.type_id
     }
 
-    /// The content of the field with the number, which is never empty; `None` where it has none (proto3
-    /// language guide, "Field Presence").
+    /// The content of the field with the number, which is never empty; `None` where it has none
+    /// (proto3 language guide, "Field Presence").
     pub fn get(&self, number: u32) -> Option<&ContentRef<'a>>
         ensures content { MatchOption result (of_number number self.now ≡ [])
             (λ content. of_number number self.now ≡ borrowed.content_seen number content.now) }
         ensures filled { IfSome result (λ content. borrowed.IsFilled content.now) }
-        ensures fits { IfSome result (λ content. (shape : Shape) → IsShape shape → Fits shape self.now
-            → AllByRecursion (HoldsPart shape (type_of self.now)) (borrowed.content_seen number content.now)) }
+        ensures fits { IfSome result
+            (λ content. (shape : Shape) → IsShape shape → Fits shape self.now
+            → AllByRecursion (HoldsPart shape (type_of self.now))
+            (borrowed.content_seen number content.now)) }
     {
         let place = place_of(&self.fields, number);
         if place < self.fields.len() && self.fields[place].0 == number {
@@ -120,14 +122,16 @@ impl<'a> MessageRef<'a> {
 
     /// The contents of the fields, by rising number. None is empty.
     pub fn contents(&self) -> &[(u32, ContentRef<'a>)]
-        ensures whole { self.now ≡ borrowed.fields_onto result.now (ends (type_of self.now) (unknown_of self.now)) }
+        ensures whole { self.now ≡ borrowed.fields_onto result.now
+            (ends (type_of self.now) (unknown_of self.now)) }
         ensures rises { Rises result.now }
         ensures filled { AllByRecursion (λ f. borrowed.IsFilled f.1) result.now }
     {
         self.fields.as_slice()
     }
 
-    /// The records that the type doesn't accept, in the order read (proto3 language guide, "Unknown Fields").
+    /// The records that the type doesn't accept, in the order read (proto3 language guide, "Unknown
+    /// Fields").
     pub fn unknown(&self) -> &[Record<'a>]
         ensures { map seen_record result.now ≡ unknown_of self.now }
     {

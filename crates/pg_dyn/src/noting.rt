@@ -1,4 +1,5 @@
-//! Which member of each oneof of a message was set last, so that it is found without going over all contents.
+//! Which member of each oneof of a message was set last, so that it is found without going over all
+//! contents.
 
 ghost use Rattle.std.specs.Prelude.{◌≡◌, ◌<◌, ℕ, true, get_or, length, IfSome};
 ghost use Rattle.pg_schema.specs.Parts.{field_shape, shape_of};
@@ -25,7 +26,8 @@ fn noted_member(noted: &[u32], field: &Field) -> Option<u32> {
     None
 }
 
-/// The other member of the field's oneof that was noted last, where a content stands under its number.
+/// The other member of the field's oneof that was noted last, where a content stands under its
+/// number.
 pub(crate) fn noted_rival(
     contents: &[(u32, Content)],
     noted: &[u32],
@@ -34,8 +36,10 @@ pub(crate) fn noted_rival(
     field: &Field,
 ) -> Option<u32>
     requires { Rises contents.now }
-    ensures rival { IfSome result (λ number. is_rival_number (fields (shape_of schema.now) type_id) (field_shape field.now) number ≡ true) }
-    ensures there { IfSome result (λ number. (place : ℕ) × (place < length contents.now) × ((d : ℕ × TheContent) → (get_or contents.now place d).0 ≡ number)) }
+    ensures rival { IfSome result (λ number. is_rival_number (fields (shape_of schema.now) type_id)
+        (field_shape field.now) number ≡ true) }
+    ensures there { IfSome result (λ number. (place : ℕ) × (place < length contents.now)
+        × ((d : ℕ × TheContent) → (get_or contents.now place d).0 ≡ number)) }
 {
     let number = noted_member(noted, field)?;
     if is_rival(schema, type_id, field, number) && holds(contents, number) {
@@ -73,7 +77,8 @@ pub(crate) fn note(noted: &mut Vec<u32>, contents: usize, field: &Field) {
         return;
     }
     let place = oneof as usize;
-    // A message of a type with far more oneofs than contents notes none of the last: that would take more than it saves.
+    // A message of a type with far more oneofs than contents notes none of the last: that would
+    // take more than it saves.
     if place >= contents.saturating_mul(8) {
         return;
     }

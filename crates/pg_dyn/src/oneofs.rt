@@ -23,7 +23,8 @@ pub(crate) fn is_same_oneof(first: Option<u32>, second: Option<u32>) -> bool
 
 // The oneof of which the field of the number is a member.
 fn oneof_of(schema: &Schema, type_id: TypeId, number: u32) -> Option<u32>
-    ensures { result ≡ option_and_then (λ f. f.oneof) (field_at (fields (shape_of schema.now) type_id) number) }
+    ensures { result ≡ option_and_then
+        (λ f. f.oneof) (field_at (fields (shape_of schema.now) type_id) number) }
 {
     match schema.field(type_id, number) {
         Some(field) => field.oneof,
@@ -47,7 +48,8 @@ fn end_with(end: usize, oneof: Option<u32>) -> usize
 // A number above each oneof of which a content is a member.
 fn oneofs_end(schema: &Schema, type_id: TypeId, contents: &[(u32, Content)]) -> usize
     ensures bound { result ≤ 2 ^ 32 }
-    ensures none { (oneof : ℕ) → result ≤ oneof → length (members (fields (shape_of schema.now) type_id) oneof contents.now) ≡ 0 }
+    ensures none { (oneof : ℕ) → result ≤ oneof
+        → length (members (fields (shape_of schema.now) type_id) oneof contents.now) ≡ 0 }
 {
     let mut end = 0;
     for (number, _) in contents {
@@ -67,8 +69,10 @@ fn once_in_window(
     contents: &[(u32, Content)],
     first: usize,
 ) -> bool
-    ensures twice { result ≡ false → (oneof : ℕ) × (1 < length (members (fields (shape_of schema.now) type_id) oneof contents.now)) }
-    ensures once { IsTrue result → (oneof : ℕ) → first ≤ oneof → oneof < first + 1024 → length (members (fields (shape_of schema.now) type_id) oneof contents.now) ≤ 1 }
+    ensures twice { result ≡ false → (oneof : ℕ)
+        × (1 < length (members (fields (shape_of schema.now) type_id) oneof contents.now)) }
+    ensures once { IsTrue result → (oneof : ℕ) → first ≤ oneof → oneof < first + 1024
+        → length (members (fields (shape_of schema.now) type_id) oneof contents.now) ≤ 1 }
 {
     let mut has_member = [false; WINDOW];
     for (number, _) in contents {
@@ -87,8 +91,10 @@ fn once_in_window(
 
 /// Whether each oneof has one content at most.
 pub(crate) fn each_oneof_once(schema: &Schema, type_id: TypeId, contents: &[(u32, Content)]) -> bool
-    ensures twice { result ≡ false → (oneof : ℕ) × (1 < length (members (fields (shape_of schema.now) type_id) oneof contents.now)) }
-    ensures once { IsTrue result → (oneof : ℕ) → length (members (fields (shape_of schema.now) type_id) oneof contents.now) ≤ 1 }
+    ensures twice { result ≡ false → (oneof : ℕ)
+        × (1 < length (members (fields (shape_of schema.now) type_id) oneof contents.now)) }
+    ensures once { IsTrue result → (oneof : ℕ)
+        → length (members (fields (shape_of schema.now) type_id) oneof contents.now) ≤ 1 }
 {
     let end = oneofs_end(schema, type_id, contents);
     let mut first = 0;

@@ -28,9 +28,14 @@ fn push_content(
     held: &(u32, Content),
 ) -> Result<(), DynError>
     requires is_schema { IsSchema schema.now }
-    requires holds { HoldsParts (shape_of schema.now) type_id held.now.0 (content_seen held.now.0 held.now.1) }
-    ensures ok { OnOk result (out.new.items ≡ out.old.items ++ parts_written (shape_of schema.now) type_id held.now.0 (content_seen held.now.0 held.now.1)) }
-    ensures err { IfErr result (λ e. MayNotWrite (length (parts_written (shape_of schema.now) type_id held.now.0 (content_seen held.now.0 held.now.1))) e) }
+    requires holds { HoldsParts (shape_of schema.now) type_id held.now.0
+        (content_seen held.now.0 held.now.1) }
+    ensures ok { OnOk result (out.new.items
+        ≡ out.old.items ++ parts_written (shape_of schema.now) type_id held.now.0
+        (content_seen held.now.0 held.now.1)) }
+    ensures err { IfErr result (λ e.
+        MayNotWrite (length (parts_written (shape_of schema.now) type_id held.now.0
+        (content_seen held.now.0 held.now.1))) e) }
 {
     let (number, content) = held;
     let Some(field) = schema.field(type_id, *number) else {
@@ -54,9 +59,14 @@ fn push_outside(
     held: &(u32, Content),
 ) -> Result<(), DynError>
     requires is_schema { IsSchema schemas.now.own.now }
-    requires holds { HoldsParts (shape_of schemas.now.own.now) type_id held.now.0 (content_seen held.now.0 held.now.1) }
-    ensures ok { OnOk result (out.new.items ≡ out.old.items ++ outside_written (shape_of schemas.now.own.now) type_id (fields (shape_of schemas.now.other.now) schemas.now.other_type) held.now) }
-    ensures err { IfErr result (λ e. MayNotWrite (length (outside_written (shape_of schemas.now.own.now) type_id (fields (shape_of schemas.now.other.now) schemas.now.other_type) held.now)) e) }
+    requires holds { HoldsParts (shape_of schemas.now.own.now) type_id held.now.0
+        (content_seen held.now.0 held.now.1) }
+    ensures ok { OnOk result (out.new.items
+        ≡ out.old.items ++ outside_written (shape_of schemas.now.own.now) type_id
+        (fields (shape_of schemas.now.other.now) schemas.now.other_type) held.now) }
+    ensures err { IfErr result (λ e.
+        MayNotWrite (length (outside_written (shape_of schemas.now.own.now) type_id
+        (fields (shape_of schemas.now.other.now) schemas.now.other_type) held.now)) e) }
 {
     match schemas.other.field(schemas.other_type, held.0) {
         Some(_) => Ok(()),
@@ -72,10 +82,12 @@ struct Other<'a> {
     other_type: TypeId,
 }
 
-/// Of a message's encoding the records of the fields whose numbers another type doesn't have, in their order: what a
-/// reader of that type keeps as unknown (proto3 language guide, "Unknown Fields").
+/// Of a message's encoding the records of the fields whose numbers another type doesn't have, in
+/// their order: what a reader of that type keeps as unknown (proto3 language guide, "Unknown
+/// Fields").
 ///
-/// The errors are `TooLong`, only where these records have more than 2,147,483,647 bytes, and `Memory`.
+/// The errors are `TooLong`, only where these records have more than 2,147,483,647 bytes, and
+/// `Memory`.
 pub fn encode_outside(
     alloc: Global,
     schema: &Schema,
@@ -84,8 +96,12 @@ pub fn encode_outside(
     other_type: TypeId,
 ) -> Result<Vec<u8>, DynError>
     requires { Fits (shape_of schema.now) message.now }
-    ensures ok { IfOk result (λ bytes. bytes.items ≡ unshared_bytes (shape_of schema.now) (type_of message.now) (fields (shape_of other.now) other_type) (message_of message.now)) }
-    ensures err { IfErr result (λ e. MayNotWrite (length (unshared_bytes (shape_of schema.now) (type_of message.now) (fields (shape_of other.now) other_type) (message_of message.now))) e) }
+    ensures ok { IfOk result (λ bytes. bytes.items
+        ≡ unshared_bytes (shape_of schema.now) (type_of message.now)
+        (fields (shape_of other.now) other_type) (message_of message.now)) }
+    ensures err { IfErr result (λ e.
+        MayNotWrite (length (unshared_bytes (shape_of schema.now) (type_of message.now)
+        (fields (shape_of other.now) other_type) (message_of message.now))) e) }
 {
     // What holds of every schema.
     schema.parts();

@@ -10,10 +10,11 @@ use crate::message::{Content, Message};
 use pg_schema::Schema;
 
 impl Message {
-    /// Sets a content that is one of the field with the number, as `set` does, without looking at its items: of a
-    /// message inside that is known to fit it costs nothing.
+    /// Sets a content that is one of the field with the number, as `set` does, without looking at
+    /// its items: of a message inside that is known to fit it costs nothing.
     ///
-    /// Refused only where memory is; then the message is unchanged and the content comes back as it was handed in.
+    /// Refused only where memory is; then the message is unchanged and the content comes back as it
+    /// was handed in.
     pub fn put(&mut self, schema: &Schema, number: u32, content: Content) -> Result<(), Content>
         requires fits { Fits (shape_of schema.now) self.old }
         requires taken { TakesContent (shape_of schema.now) (type_of self.old) (number, content) }

@@ -21,7 +21,8 @@ fn is_other_member(field: &Field, other: &Field) -> bool
 
 /// Whether the number is that of another member of the field's oneof.
 pub(crate) fn is_rival(schema: &Schema, type_id: TypeId, field: &Field, number: u32) -> bool
-    ensures { result ≡ is_rival_number (fields (shape_of schema.now) type_id) (field_shape field.now) number }
+    ensures { result ≡ is_rival_number (fields (shape_of schema.now) type_id)
+        (field_shape field.now) number }
 {
     // What holds of every schema.
     schema.parts();
@@ -31,9 +32,12 @@ pub(crate) fn is_rival(schema: &Schema, type_id: TypeId, field: &Field, number: 
     }
 }
 
-// Takes out the contents of the other members of the field's oneof, found by a look-up of each content.
+// Takes out the contents of the other members of the field's oneof, found by a look-up of each
+// content.
 fn keep_apart(contents: &mut Vec<(u32, Content)>, schema: &Schema, type_id: TypeId, field: &Field)
-    ensures { contents.new.items ≡ filter (λ c. not (is_rival_number (fields (shape_of schema.now) type_id) (field_shape field.now) c.0)) contents.old.items }
+    ensures { contents.new.items ≡ filter
+        (λ c. not (is_rival_number (fields (shape_of schema.now) type_id)
+        (field_shape field.now) c.0)) contents.old.items }
 {
     contents.retain(|content| !is_rival(schema, type_id, field, content.0));
 }
@@ -41,7 +45,9 @@ fn keep_apart(contents: &mut Vec<(u32, Content)>, schema: &Schema, type_id: Type
 // The same, by the fields of the type: a comparison of each, and a look-up of each member.
 fn remove_members(contents: &mut Vec<(u32, Content)>, members: &[Field], field: &Field)
     requires { Rises contents.old.items }
-    ensures { contents.new.items ≡ filter (λ c. not (is_rival_number (map field_shape members.now) (field_shape field.now) c.0)) contents.old.items }
+    ensures { contents.new.items ≡ filter
+        (λ c. not (is_rival_number (map field_shape members.now) (field_shape field.now) c.0))
+        contents.old.items }
 {
     for other in members {
         if !is_other_member(field, other) {
@@ -59,7 +65,9 @@ fn remove_rivals(
     field: &Field,
 )
     requires { Rises contents.old.items }
-    ensures { contents.new.items ≡ filter (λ c. not (is_rival_number (fields (shape_of schema.now) type_id) (field_shape field.now) c.0)) contents.old.items }
+    ensures { contents.new.items ≡ filter
+        (λ c. not (is_rival_number (fields (shape_of schema.now) type_id)
+        (field_shape field.now) c.0)) contents.old.items }
 {
     if let Some(found) = schema.message_type(type_id) {
         if found.fields.len() / 16 < contents.len() {
@@ -78,10 +86,11 @@ impl Message {
     ghost use Rattle.pg_dyn.specs.Kept.{type_of};
     ghost use Rattle.pg_dyn.specs.Replacing.{without_rivals};
 
-    /// Takes out the contents of the other members of the field's oneof (proto3 language guide, "Oneof"). Where the
-    /// field is in none, that costs nothing.
+    /// Takes out the contents of the other members of the field's oneof (proto3 language guide,
+    /// "Oneof"). Where the field is in none, that costs nothing.
     pub(crate) fn clear_rivals(&mut self, schema: &Schema, field: &Field)
-        ensures { self.new ≡ without_rivals (fields (shape_of schema.now) (type_of self.old)) (field_shape field.now) self.old }
+        ensures { self.new ≡ without_rivals (fields (shape_of schema.now) (type_of self.old))
+            (field_shape field.now) self.old }
     {
         let type_id = self.type_id;
         match field.oneof {
@@ -90,13 +99,18 @@ impl Message {
         }
     }
 
-    /// Fields among which is each other member of the field's oneof that the message holds, where that is known without
-    /// going over the type's fields: none where it holds the field itself, else the member that was noted last.
+    /// Fields among which is each other member of the field's oneof that the message holds, where
+    /// that is known without going over the type's fields: none where it holds the field itself,
+    /// else the member that was noted last.
     pub(crate) fn held_rivals<'a>(&self, schema: &'a Schema, field: &Field) -> Option<&'a [Field]>
         requires is_schema { IsSchema schema.now }
         requires fits { Fits (shape_of schema.now) self.now }
-        requires found { field_at (fields (shape_of schema.now) (type_of self.now)) field.now.number ≡ Some (field_shape field.now) }
-        ensures { IfSome result (λ members. without_rivals (map field_shape members.now) (field_shape field.now) self.now ≡ without_rivals (fields (shape_of schema.now) (type_of self.now)) (field_shape field.now) self.now) }
+        requires found { field_at (fields (shape_of schema.now) (type_of self.now)) field.now.number
+            ≡ Some (field_shape field.now) }
+        ensures { IfSome result (λ members. without_rivals (map field_shape members.now)
+            (field_shape field.now) self.now
+            ≡ without_rivals (fields (shape_of schema.now) (type_of self.now))
+            (field_shape field.now) self.now) }
     {
         let type_id = self.type_id;
         let number = field.number;
@@ -110,12 +124,14 @@ impl Message {
 
     // Takes out the contents of the other members of the field's oneof that are among these fields.
     fn clear_members(&mut self, members: &[Field], field: &Field)
-        ensures { self.new ≡ without_rivals (map field_shape members.now) (field_shape field.now) self.old }
+        ensures { self.new ≡ without_rivals (map field_shape members.now)
+            (field_shape field.now) self.old }
     {
         remove_members(&mut self.fields, members, field);
     }
 
-    // Notes the members of all oneofs among the contents, where none is noted yet: those of a message that was read.
+    // Notes the members of all oneofs among the contents, where none is noted yet: those of a
+    // message that was read.
     fn note_all(&mut self, schema: &Schema)
         ensures { self.new ≡ self.old }
     {
@@ -125,16 +141,20 @@ impl Message {
         }
     }
 
-    /// Takes out the contents of the other members of the field's oneof, which are among the fields that are given, if any
-    /// are, and notes the field as the one that was set last.
+    /// Takes out the contents of the other members of the field's oneof, which are among the fields
+    /// that are given, if any are, and notes the field as the one that was set last.
     pub(crate) fn settle_rivals(
         &mut self,
         schema: &Schema,
         field: &Field,
         members: Option<&[Field]>,
     )
-        requires { IfSome members (λ members. without_rivals (map field_shape members.now) (field_shape field.now) self.old ≡ without_rivals (fields (shape_of schema.now) (type_of self.old)) (field_shape field.now) self.old) }
-        ensures { self.new ≡ without_rivals (fields (shape_of schema.now) (type_of self.old)) (field_shape field.now) self.old }
+        requires { IfSome members (λ members. without_rivals (map field_shape members.now)
+            (field_shape field.now) self.old
+            ≡ without_rivals (fields (shape_of schema.now) (type_of self.old))
+            (field_shape field.now) self.old) }
+        ensures { self.new ≡ without_rivals (fields (shape_of schema.now) (type_of self.old))
+            (field_shape field.now) self.old }
     {
         match members {
             Some(members) => self.clear_members(members, field),

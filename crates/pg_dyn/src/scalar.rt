@@ -44,7 +44,8 @@ fn body_word(wire_type: WireType, body: &[u8]) -> u64
 pub(crate) fn word_item<'a>(scalar: Scalar, word: u64) -> ValueRef<'a>
     requires packable { is_packable (elements.Scalar scalar) ≡ true }
     requires bits { HasBits (form_wire (scalar_form scalar)) word }
-    ensures leaf { (body : List ℕ) → word_in (form_wire (scalar_form scalar)) body ≡ word → leaf_in (scalar_form scalar) body ≡ Some (leaf_of result) }
+    ensures leaf { (body : List ℕ) → word_in (form_wire (scalar_form scalar)) body ≡ word
+        → leaf_in (scalar_form scalar) body ≡ Some (leaf_of result) }
     ensures item { IsItemOf scalar result }
 {
     match scalar {
@@ -54,11 +55,13 @@ pub(crate) fn word_item<'a>(scalar: Scalar, word: u64) -> ValueRef<'a>
     }
 }
 
-/// The item of a body of the scalar's own wire type. Not inlined, so that a level of messages takes no more of the stack for it.
+/// The item of a body of the scalar's own wire type. Not inlined, so that a level of messages takes
+/// no more of the stack for it.
 #[inline(never)]
 pub(crate) fn item_in<'a>(scalar: Scalar, body: &'a [u8]) -> Result<ValueRef<'a>, Stop>
     requires { HasShape (form_wire (scalar_form scalar)) body.now }
-    ensures ok { IfOk result (λ value. (leaf_in (scalar_form scalar) body.now ≡ Some (leaf_of value)) × IsItemOf scalar value) }
+    ensures ok { IfOk result (λ value.
+        (leaf_in (scalar_form scalar) body.now ≡ Some (leaf_of value)) × IsItemOf scalar value) }
     ensures err { IfErr result (StopsFor (is_some (leaf_in (scalar_form scalar) body.now) ≡ true)) }
 {
     match scalar {

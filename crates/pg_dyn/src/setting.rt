@@ -14,15 +14,16 @@ use crate::message::{Content, Message};
 use pg_schema::{Field, Schema};
 
 impl Message {
-    /// Sets the content of the field with the number, in place of the one that stands there. A zero in a field
-    /// without presence, an empty list and an empty map take the content out. Setting a member of a oneof takes
-    /// out the other members (proto3 language guide, "Field Presence", "Oneof"). Texts and bytes are one kind
-    /// here: a text field takes bytes that are UTF-8 and keeps them as text, and a bytes field takes a text and
-    /// keeps it as bytes. A map's entries may come in any order, and are kept by rising key.
+    /// Sets the content of the field with the number, in place of the one that stands there. A zero
+    /// in a field without presence, an empty list and an empty map take the content out. Setting a
+    /// member of a oneof takes out the other members (proto3 language guide, "Field Presence",
+    /// "Oneof"). Texts and bytes are one kind here: a text field takes bytes that are UTF-8 and
+    /// keeps them as text, and a bytes field takes a text and keeps it as bytes. A map's entries
+    /// may come in any order, and are kept by rising key.
     ///
-    /// Refused, the message is unchanged and the content comes back as it was handed in. The errors are
-    /// `NoSuchField`, `WrongKind`, `OutOfRange`, `NotUtf8`, `DuplicateKey`, of several the first in this order,
-    /// and `Memory`.
+    /// Refused, the message is unchanged and the content comes back as it was handed in. The errors
+    /// are `NoSuchField`, `WrongKind`, `OutOfRange`, `NotUtf8`, `DuplicateKey`, of several the
+    /// first in this order, and `Memory`.
     pub fn set(
         &mut self,
         schema: &Schema,
@@ -32,8 +33,12 @@ impl Message {
         requires fits { Fits (shape_of schema.now) self.old }
         ensures ok { OnOk result (IsSetTo (shape_of schema.now) number content self.old self.new) }
         ensures fits { OnOk result (Fits (shape_of schema.now) self.new) }
-        ensures accepted { OnOk result (HasNoFault (ContentFault (shape_of schema.now) (type_of self.old) number content)) }
-        ensures refused { IfErr result (λ e. (e.1 ≡ content) × (self.new ≡ self.old) × MayRefuseFor (ContentFault (shape_of schema.now) (type_of self.old) number content) e.0) }
+        ensures accepted { OnOk result
+            (HasNoFault (ContentFault (shape_of schema.now) (type_of self.old) number content)) }
+        ensures refused { IfErr result
+            (λ e. (e.1 ≡ content) × (self.new ≡ self.old)
+            × MayRefuseFor (ContentFault (shape_of schema.now) (type_of self.old) number content)
+            e.0) }
     {
         // What holds of every schema.
         schema.parts();
@@ -63,8 +68,9 @@ impl Message {
     ghost use Rattle.pg_dyn.specs.Setting.{settled};
     ghost use Rattle.pg_dyn.specs.Told.{ItemsFit};
 
-    /// Puts a content that is one of the field, in place of the one that stands there, whatever stands in other
-    /// members of the field's oneof. Where memory is refused, the content comes back as it was handed in.
+    /// Puts a content that is one of the field, in place of the one that stands there, whatever
+    /// stands in other members of the field's oneof. Where memory is refused, the content comes
+    /// back as it was handed in.
     pub(crate) fn put_content(
         &mut self,
         schema: &Schema,
@@ -72,12 +78,20 @@ impl Message {
         content: Content,
     ) -> Result<(), Content>
         requires is_schema { IsSchema schema.now }
-        requires found { field_at (fields (shape_of schema.now) (type_of self.old)) field.now.number ≡ Some (field_shape field.now) }
-        requires items { ItemsFit (shape_of schema.now) field.now.presence field.now.element content }
+        requires found { field_at (fields (shape_of schema.now) (type_of self.old)) field.now.number
+            ≡ Some (field_shape field.now) }
+        requires items { ItemsFit (shape_of schema.now) field.now.presence field.now.element
+            content }
         requires once { HasKeyTwice content → ⊥ }
-        ensures ok { OnOk result (self.new ≡ with_parts field.now.number (settled (field_shape field.now) (content_seen field.now.number content)) self.old) }
-        ensures fits { OnOk result (Fits (shape_of schema.now) (without_rivals (fields (shape_of schema.now) (type_of self.old)) (field_shape field.now) self.old)
-            → Fits (shape_of schema.now) (without_rivals (fields (shape_of schema.now) (type_of self.old)) (field_shape field.now) self.new)) }
+        ensures ok { OnOk result (self.new
+            ≡ with_parts field.now.number
+            (settled (field_shape field.now) (content_seen field.now.number content)) self.old) }
+        ensures fits { OnOk result (Fits (shape_of schema.now)
+            (without_rivals (fields (shape_of schema.now) (type_of self.old))
+            (field_shape field.now) self.old)
+            → Fits (shape_of schema.now)
+            (without_rivals (fields (shape_of schema.now) (type_of self.old))
+            (field_shape field.now) self.new)) }
         ensures err { IfErr result (λ back. (back ≡ content) × (self.new ≡ self.old)) }
     {
         if content.is_nothing(field) {

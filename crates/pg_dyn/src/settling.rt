@@ -88,7 +88,8 @@ fn kept_entries(
 }
 
 impl Content {
-    /// Whether a field holds nothing of the content: of a zero where it has no presence, of an empty list or map.
+    /// Whether a field holds nothing of the content: of a zero where it has no presence, of an
+    /// empty list or map.
     pub(crate) fn is_nothing(&self, field: &Field) -> bool
         ensures { result ≡ is_nothing field.now.presence self.now }
     {
@@ -100,15 +101,17 @@ impl Content {
         }
     }
 
-    /// The content as the field holds it: texts and bytes as the field's kind, a map's entries by rising key. Takes
-    /// no memory.
+    /// The content as the field holds it: texts and bytes as the field's kind, a map's entries by
+    /// rising key. Takes no memory.
     pub(crate) fn settled(self, schema: &Schema, field: &Field) -> Content
         requires items { ItemsFit (shape_of schema.now) field.now.presence field.now.element self }
         requires alike { KeysAlike self }
         requires once { HasKeyTwice self → ⊥ }
         requires something { is_nothing field.now.presence self ≡ false }
-        ensures seen { (number : ℕ) → content_seen number result ≡ settled (field_shape field.now) (content_seen number self) }
-        ensures fits { ContentFits (shape_of schema.now) field.now.presence field.now.element result }
+        ensures seen { (number : ℕ) → content_seen number result
+            ≡ settled (field_shape field.now) (content_seen number self) }
+        ensures fits { ContentFits (shape_of schema.now) field.now.presence field.now.element
+            result }
         ensures filled { IsFilled result }
         ensures keys { HasKeys result }
     {

@@ -12,8 +12,8 @@ use crate::message::Message;
 use pg_schema::{Schema, TypeId};
 use std::alloc::{AllocError, Global};
 
-/// The message that bytes are read as, by the type, which the schema has, however deep its messages are nested;
-/// `None` where they have no reading.
+/// The message that bytes are read as, by the type, which the schema has, however deep its messages
+/// are nested; `None` where they have no reading.
 ///
 /// Refused only where memory is, for bytes that have a reading.
 pub fn decode_unlimited(
@@ -23,8 +23,10 @@ pub fn decode_unlimited(
     bytes: &[u8],
 ) -> Result<Option<Message>, AllocError>
     requires type_id { type_id.index < length (shape_of schema.now) }
-    ensures message { IfOk result (λ found. option_map message_of found ≡ dec (shape_of schema.now) type_id bytes.now) }
-    ensures fits { IfOk result (λ found. IfSome found (λ m. Fits (shape_of schema.now) m × (type_of m ≡ type_id))) }
+    ensures message { IfOk result (λ found. option_map message_of found
+        ≡ dec (shape_of schema.now) type_id bytes.now) }
+    ensures fits { IfOk result (λ found. IfSome found
+        (λ m. Fits (shape_of schema.now) m × (type_of m ≡ type_id))) }
     ensures lacking { OnErr result (is_some (dec (shape_of schema.now) type_id bytes.now) ≡ true) }
 {
     // No message stands deeper than the bytes are many.

@@ -5,7 +5,7 @@
 pub enum ViewName {
     /// By the number alone: it is the same item in both.
     Numbers,
-    /// By its names too: where both enums declare the number, it is the same item only if both give it
-    /// the same set of names, each without its scope.
+    /// By its names too: where both enums declare the number, it is the same item only if both give
+    /// it the same set of names, each without its scope.
     Names,
 }

@@ -71,18 +71,22 @@ fn see_places(schema: &Schema)
     see_types(&parts.types);
 }
 
-/// The schema that `read` makes of what `write` writes. Where each file imports no path twice and stands
-/// behind those that it imports, message types are nested at most 64 deep, and all is numbered as `read`
-/// numbers it, it is the schema that is written, and the errors are `Memory`, and `Bytes` of `TooLong`, only
-/// where the schema has no set.
+/// The schema that `read` makes of what `write` writes. Where each file imports no path twice and
+/// stands behind those that it imports, message types are nested at most 64 deep, and all is
+/// numbered as `read` numbers it, it is the schema that is written, and the errors are `Memory`,
+/// and `Bytes` of `TooLong`, only where the schema has no set.
 ///
-/// Of any other it is a schema that the same set states, and the errors are those of `write` and of `read`.
+/// Of any other it is a schema that the same set states, and the errors are those of `write` and of
+/// `read`.
 #[tactic(auto, using(crate::proofs::ReadAgain::write_told))]
 pub fn read_again(alloc: Global, schema: &Schema) -> Result<Schema, FdsError>
-    ensures stated { IfOk result (λ made. (bytes : List ℕ) → fds schema.now bytes → fds_reads bytes made) }
+    ensures stated { IfOk result (λ made. (bytes : List ℕ) → fds schema.now bytes
+        → fds_reads bytes made) }
     ensures sound { IfOk result IsSound }
-    ensures same { IfOk result (λ made. IsReadAgain schema.now → parts_view made ≡ parts_view schema.now) }
-    ensures refused { IfErr result (λ e. IsReadAgain schema.now → (e ≡ errors.Memory) ⊎ IsTooLong schema.now e) }
+    ensures same { IfOk result (λ made. IsReadAgain schema.now
+        → parts_view made ≡ parts_view schema.now) }
+    ensures refused { IfErr result (λ e. IsReadAgain schema.now
+        → (e ≡ errors.Memory) ⊎ IsTooLong schema.now e) }
     ensures told { IfErr result (MayRefuseAgain schema.now) }
 {
     see_places(schema);

@@ -41,7 +41,8 @@ fn put_one(
     requires behind { last_number message.old < number }
     requires field { HasOne type_id number element }
     requires fits { ItemFits written_shape element value }
-    ensures items { OnOk result (items_of message.new ≡ items_of message.old ++ rows.item number (shown value) ∷ []) }
+    ensures items { OnOk result (items_of message.new
+        ≡ items_of message.old ++ rows.item number (shown value) ∷ []) }
     ensures kept { OnOk result (IsOf type_id message.new) }
     ensures last { OnOk result (last_number message.new ≤ number) }
 {
@@ -65,7 +66,8 @@ pub fn put_all(
     requires behind { last_number message.old < number }
     requires field { HasMany type_id number element }
     requires fits { AllByRecursion (ItemFits written_shape element) values.items }
-    ensures items { OnOk result (items_of message.new ≡ items_of message.old ++ map (rows.item number) (map shown values.items)) }
+    ensures items { OnOk result (items_of message.new
+        ≡ items_of message.old ++ map (rows.item number) (map shown values.items)) }
     ensures kept { OnOk result (IsOf type_id message.new) }
     ensures last { OnOk result (last_number message.new ≤ number) }
 {
@@ -96,7 +98,8 @@ pub fn put_text(
     requires kept { IsOf type_id message.old }
     requires behind { last_number message.old < number }
     requires field { HasOne type_id number descriptor.text }
-    ensures items { OnOk result (items_of message.new ≡ items_of message.old ++ rows.text number value.now) }
+    ensures items { OnOk result (items_of message.new
+        ≡ items_of message.old ++ rows.text number value.now) }
     ensures kept { OnOk result (IsOf type_id message.new) }
     ensures last { OnOk result (last_number message.new ≤ number) }
 {
@@ -117,7 +120,8 @@ pub fn put_maybe_text(
     requires kept { IsOf type_id message.old }
     requires behind { last_number message.old < number }
     requires field { HasOne type_id number descriptor.text }
-    ensures items { OnOk result (items_of message.new ≡ items_of message.old ++ rows.maybe_text number (option_map string_bytes value)) }
+    ensures items { OnOk result (items_of message.new
+        ≡ items_of message.old ++ rows.maybe_text number (option_map string_bytes value)) }
     ensures kept { OnOk result (IsOf type_id message.new) }
     ensures last { OnOk result (last_number message.new ≤ number) }
 {
@@ -140,7 +144,8 @@ pub fn put_filled(
     requires kept { IsOf type_id message.old }
     requires behind { last_number message.old < number }
     requires field { HasOne type_id number descriptor.text }
-    ensures items { OnOk result (items_of message.new ≡ items_of message.old ++ rows.filled number value.now) }
+    ensures items { OnOk result (items_of message.new
+        ≡ items_of message.old ++ rows.filled number value.now) }
     ensures kept { OnOk result (IsOf type_id message.new) }
     ensures last { OnOk result (last_number message.new ≤ number) }
 {
@@ -165,7 +170,8 @@ pub fn put_count(
     requires field { HasOne type_id number element }
     requires whole { IsInt32 element }
     requires small { value < 2 ^ 31 }
-    ensures items { OnOk result (items_of message.new ≡ items_of message.old ++ rows.count number value) }
+    ensures items { OnOk result (items_of message.new
+        ≡ items_of message.old ++ rows.count number value) }
     ensures kept { OnOk result (IsOf type_id message.new) }
     ensures last { OnOk result (last_number message.new ≤ number) }
 {
@@ -186,7 +192,8 @@ pub fn put_maybe_count(
     requires behind { last_number message.old < number }
     requires field { HasOne type_id number descriptor.number }
     requires small { IfSome value (λ n. n < 2 ^ 31) }
-    ensures items { OnOk result (items_of message.new ≡ items_of message.old ++ rows.maybe_count number value) }
+    ensures items { OnOk result (items_of message.new
+        ≡ items_of message.old ++ rows.maybe_count number value) }
     ensures kept { OnOk result (IsOf type_id message.new) }
     ensures last { OnOk result (last_number message.new ≤ number) }
 {
@@ -208,7 +215,8 @@ pub fn put_whole(
     requires kept { IsOf type_id message.old }
     requires behind { last_number message.old < number }
     requires field { HasOne type_id number descriptor.number }
-    ensures items { OnOk result (items_of message.new ≡ items_of message.old ++ rows.whole number value) }
+    ensures items { OnOk result (items_of message.new
+        ≡ items_of message.old ++ rows.whole number value) }
     ensures kept { OnOk result (IsOf type_id message.new) }
     ensures last { OnOk result (last_number message.new ≤ number) }
 {
@@ -228,7 +236,8 @@ pub fn put_flag(
     requires kept { IsOf type_id message.old }
     requires behind { last_number message.old < number }
     requires field { HasOne type_id number descriptor.flag }
-    ensures items { OnOk result (items_of message.new ≡ items_of message.old ++ rows.flag number value) }
+    ensures items { OnOk result (items_of message.new
+        ≡ items_of message.old ++ rows.flag number value) }
     ensures kept { OnOk result (IsOf type_id message.new) }
     ensures last { OnOk result (last_number message.new ≤ number) }
 {
@@ -250,7 +259,8 @@ pub fn put_mark(
     requires kept { IsOf type_id message.old }
     requires behind { last_number message.old < number }
     requires field { HasOne type_id number descriptor.flag }
-    ensures items { OnOk result (items_of message.new ≡ items_of message.old ++ rows.mark number value) }
+    ensures items { OnOk result (items_of message.new
+        ≡ items_of message.old ++ rows.mark number value) }
     ensures kept { OnOk result (IsOf type_id message.new) }
     ensures last { OnOk result (last_number message.new ≤ number) }
 {
@@ -272,7 +282,8 @@ pub fn put_stated(
     requires kept { IsOf type_id message.old }
     requires behind { last_number message.old < number }
     requires field { HasOne type_id number descriptor.flag }
-    ensures items { OnOk result (items_of message.new ≡ items_of message.old ++ rows.stated number value) }
+    ensures items { OnOk result (items_of message.new
+        ≡ items_of message.old ++ rows.stated number value) }
     ensures kept { OnOk result (IsOf type_id message.new) }
     ensures last { OnOk result (last_number message.new ≤ number) }
 {
@@ -297,7 +308,8 @@ pub fn put_child(
     requires behind { last_number message.old < number }
     requires field { HasOne type_id number (elements.Message child_type) }
     requires child { IsOf child_type child }
-    ensures items { OnOk result (items_of message.new ≡ items_of message.old ++ rows.child number (items_of child)) }
+    ensures items { OnOk result (items_of message.new
+        ≡ items_of message.old ++ rows.child number (items_of child)) }
     ensures kept { OnOk result (IsOf type_id message.new) }
     ensures last { OnOk result (last_number message.new ≤ number) }
 {
@@ -321,7 +333,8 @@ pub fn put_options(
     requires behind { last_number message.old < number }
     requires field { HasOne type_id number (elements.Message child_type) }
     requires options { AreOptions child_type options }
-    ensures items { OnOk result (items_of message.new ≡ items_of message.old ++ rows.options number (stated_items options)) }
+    ensures items { OnOk result (items_of message.new
+        ≡ items_of message.old ++ rows.options number (stated_items options)) }
     ensures kept { OnOk result (IsOf type_id message.new) }
     ensures last { OnOk result (last_number message.new ≤ number) }
 {
@@ -345,7 +358,8 @@ pub fn put_children(
     requires behind { last_number message.old < number }
     requires field { HasMany type_id number (elements.Message child_type) }
     requires children { AreChildren child_type children.items }
-    ensures items { OnOk result (items_of message.new ≡ items_of message.old ++ rows.children number (items_within children.items)) }
+    ensures items { OnOk result (items_of message.new
+        ≡ items_of message.old ++ rows.children number (items_within children.items)) }
     ensures kept { OnOk result (IsOf type_id message.new) }
     ensures last { OnOk result (last_number message.new ≤ number) }
 {
@@ -362,7 +376,8 @@ pub fn push_child(
 ) -> Result<(), AllocError>
     requires kept { AreChildren type_id made.old.items }
     requires child { IsOf type_id message }
-    ensures items { OnOk result (items_within made.new.items ≡ items_within made.old.items ++ items_of message ∷ []) }
+    ensures items { OnOk result (items_within made.new.items ≡ items_within made.old.items
+        ++ items_of message ∷ []) }
     ensures kept { OnOk result (AreChildren type_id made.new.items) }
 {
     made.push(Value::Msg(Box::new(alloc, message)?))?;
@@ -371,8 +386,10 @@ pub fn push_child(
 
 // The texts as items.
 fn text_items(alloc: Global, texts: &[String]) -> Result<Vec<Value>, AllocError>
-    ensures shown { IfOk result (λ values. map shown values.items ≡ map (λ bytes. model.Plain (model.Bytes bytes)) (map string_bytes texts.now)) }
-    ensures fit { IfOk result (λ values. AllByRecursion (ItemFits written_shape descriptor.text) values.items) }
+    ensures shown { IfOk result (λ values. map shown values.items
+        ≡ map (λ bytes. model.Plain (model.Bytes bytes)) (map string_bytes texts.now)) }
+    ensures fit { IfOk result (λ values.
+        AllByRecursion (ItemFits written_shape descriptor.text) values.items) }
 {
     let mut values = Vec::new(alloc);
     for text in texts {
@@ -394,7 +411,8 @@ pub fn put_texts(
     requires kept { IsOf type_id message.old }
     requires behind { last_number message.old < number }
     requires field { HasMany type_id number descriptor.text }
-    ensures items { OnOk result (items_of message.new ≡ items_of message.old ++ rows.texts number (map string_bytes texts.now)) }
+    ensures items { OnOk result (items_of message.new
+        ≡ items_of message.old ++ rows.texts number (map string_bytes texts.now)) }
     ensures kept { OnOk result (IsOf type_id message.new) }
     ensures last { OnOk result (last_number message.new ≤ number) }
 {

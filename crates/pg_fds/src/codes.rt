@@ -45,14 +45,16 @@ const SCALARS: [Scalar; 15] = [
 
 // Whether the field's type is that scalar.
 fn has_code(field: &Message, scalar: Scalar) -> bool
-    ensures { result ≡ int_eq (number_at proto.field_type (message_of field.now)) (pos (scalar_code scalar)) }
+    ensures { result ≡ int_eq (number_at proto.field_type (message_of field.now))
+        (pos (scalar_code scalar)) }
 {
     number(field, proto::FIELD_TYPE) == i128::from(scalar_code(scalar))
 }
 
 /// The scalar that a field's type is. `None` of messages, enums and codes that aren't taken.
 pub fn scalar_of(field: &Message) -> Option<Scalar>
-    ensures { result ≡ find (λ s. int_eq (number_at proto.field_type (message_of field.now)) (pos (scalar_code s))) scalars }
+    ensures { result ≡ find (λ s. int_eq (number_at proto.field_type (message_of field.now))
+        (pos (scalar_code s))) scalars }
 {
     for scalar in SCALARS {
         let is_of = has_code(field, scalar);
@@ -125,7 +127,8 @@ fn are_taken(fields: &[&Message]) -> bool
     true
 }
 
-/// Whether the types and labels of all fields of the message types are taken, nested less deep than that.
+/// Whether the types and labels of all fields of the message types are taken, nested less deep than
+/// that.
 pub fn have_types(alloc: Global, depth: usize, messages: &[&Message]) -> Result<bool, AllocError>
     ensures { IfOk result (λ taken. taken ≡ have_types depth (map message_of (lent messages.now))) }
 {
@@ -159,7 +162,8 @@ fn file_has_types(alloc: Global, file: &Message) -> Result<bool, AllocError>
 
 /// Whether those of all files are.
 pub fn files_have_types(alloc: Global, files: &[&Message]) -> Result<bool, AllocError>
-    ensures { IfOk result (λ taken. taken ≡ list_all file_has_types (map message_of (lent files.now))) }
+    ensures { IfOk result (λ taken. taken
+        ≡ list_all file_has_types (map message_of (lent files.now))) }
 {
     for file in files {
         let taken = file_has_types(alloc, file)?;

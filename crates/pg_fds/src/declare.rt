@@ -1,5 +1,5 @@
-//! The table of the full names that a set declares. A name that may be declared is refused only where memory
-//! is.
+//! The table of the full names that a set declares. A name that may be declared is refused only
+//! where memory is.
 
 ghost use Rattle.std.specs.Prelude.{◌≡◌, ◌∷◌, [], ℕ, true, IfErr, IfOk, List, OnOk, Some, length, map};
 ghost use Rattle.std.specs.BTreeMap.{get_by_text};
@@ -40,8 +40,10 @@ pub fn declare(
     named: Named,
 ) -> Result<(), Unstated>
     ensures has { OnOk result (get_by_text names.new (string_bytes name) ≡ Some named) }
-    ensures declares { OnOk result ((packages : List (List ℕ)) → Declares packages (string_bytes name ∷ []) names.old names.new) }
-    ensures refused { IfErr result (λ e. (packages : List (List ℕ)) → WantsMemory packages (string_bytes name ∷ []) names.old e) }
+    ensures declares { OnOk result ((packages : List (List ℕ))
+        → Declares packages (string_bytes name ∷ []) names.old names.new) }
+    ensures refused { IfErr result (λ e. (packages : List (List ℕ))
+        → WantsMemory packages (string_bytes name ∷ []) names.old e) }
 {
     match names.insert(name, named)? {
         None => Ok(()),
@@ -57,9 +59,13 @@ fn declare_own(
     message: &Message,
     named: Named,
 ) -> Result<(), Unstated>
-    ensures has { OnOk result (get_by_text names.new (full_name scope.now (message_of message.now)) ≡ Some named) }
-    ensures declares { OnOk result ((packages : List (List ℕ)) → Declares packages (full_name scope.now (message_of message.now) ∷ []) names.old names.new) }
-    ensures refused { IfErr result (λ e. (packages : List (List ℕ)) → WantsMemory packages (full_name scope.now (message_of message.now) ∷ []) names.old e) }
+    ensures has { OnOk result (get_by_text names.new (full_name scope.now (message_of message.now))
+        ≡ Some named) }
+    ensures declares { OnOk result ((packages : List (List ℕ))
+        → Declares packages (full_name scope.now (message_of message.now) ∷ []) names.old
+        names.new) }
+    ensures refused { IfErr result (λ e. (packages : List (List ℕ))
+        → WantsMemory packages (full_name scope.now (message_of message.now) ∷ []) names.old e) }
 {
     let own = text(message, proto::NAME)?;
     let full = full_name(alloc, scope, own)?;
@@ -74,11 +80,15 @@ pub fn declare_each(
     messages: &[&Message],
     named: Named,
 ) -> Result<(), Unstated>
-    ensures has { OnOk result (AllByRecursion (λ m. get_by_text names.new (full_name scope.now m) ≡ Some named) (map message_of (lent messages.now))) }
+    ensures has { OnOk result (AllByRecursion
+        (λ m. get_by_text names.new (full_name scope.now m) ≡ Some named)
+        (map message_of (lent messages.now))) }
     ensures declares { OnOk result ((packages : List (List ℕ))
-        → Declares packages (full_names scope.now (map message_of (lent messages.now))) names.old names.new) }
+        → Declares packages (full_names scope.now (map message_of (lent messages.now))) names.old
+        names.new) }
     ensures refused { IfErr result (λ e. (packages : List (List ℕ))
-        → WantsMemory packages (full_names scope.now (map message_of (lent messages.now))) names.old e) }
+        → WantsMemory packages (full_names scope.now (map message_of (lent messages.now))) names.old
+        e) }
 {
     for message in messages {
         declare_own(alloc, names, scope, message, named)?;
@@ -94,7 +104,8 @@ pub fn real_oneofs<'a>(
     marks: &[bool],
 ) -> Result<Vec<&'a Message>, AllocError>
     requires { AreMarked numbers.now (length oneofs.now) marks.now }
-    ensures { IfOk result (λ real. map message_of (lent real.items) ≡ real_oneofs numbers.now 0 (map message_of (lent oneofs.now))) }
+    ensures { IfOk result (λ real. map message_of (lent real.items)
+        ≡ real_oneofs numbers.now 0 (map message_of (lent oneofs.now))) }
 {
     let mut real = Vec::new(alloc);
     for (place, oneof) in oneofs.iter().enumerate() {
@@ -107,9 +118,11 @@ pub fn real_oneofs<'a>(
 
 // Puts a part of a package in the table, which may have it as that.
 fn declare_part(names: &mut BTreeMap<String, Named>, part: String) -> Result<(), Unstated>
-    ensures declares { OnOk result ((packages : List (List ℕ)) (whole : List ℕ) → is_among packages whole ≡ true
+    ensures declares { OnOk result ((packages : List (List ℕ)) (whole : List ℕ)
+        → is_among packages whole ≡ true
         → is_front (string_bytes part) whole ≡ true → Declares packages [] names.old names.new) }
-    ensures refused { IfErr result (λ e. (packages : List (List ℕ)) (whole : List ℕ) → is_among packages whole ≡ true
+    ensures refused { IfErr result (λ e. (packages : List (List ℕ)) (whole : List ℕ)
+        → is_among packages whole ≡ true
         → is_front (string_bytes part) whole ≡ true → WantsMemory packages [] names.old e) }
 {
     match names.insert(part, Named::Package)? {
@@ -119,15 +132,17 @@ fn declare_part(names: &mut BTreeMap<String, Named>, part: String) -> Result<(),
     }
 }
 
-/// Puts the parts of a package in the table, which may have them as those of others: what stands before a dot
-/// of it, and the whole.
+/// Puts the parts of a package in the table, which may have them as those of others: what stands
+/// before a dot of it, and the whole.
 pub fn declare_package(
     alloc: Global,
     names: &mut BTreeMap<String, Named>,
     path: &str,
 ) -> Result<(), Unstated>
-    ensures declares { OnOk result ((packages : List (List ℕ)) → is_among packages path.now ≡ true → Declares packages [] names.old names.new) }
-    ensures refused { IfErr result (λ e. (packages : List (List ℕ)) → is_among packages path.now ≡ true → WantsMemory packages [] names.old e) }
+    ensures declares { OnOk result ((packages : List (List ℕ)) → is_among packages path.now ≡ true
+        → Declares packages [] names.old names.new) }
+    ensures refused { IfErr result (λ e. (packages : List (List ℕ))
+        → is_among packages path.now ≡ true → WantsMemory packages [] names.old e) }
 {
     let mut front = String::new(alloc);
     for letter in path.chars() {

@@ -37,7 +37,8 @@ fn field_message(
 ) -> Result<Message, AllocError>
     requires table { shape_of table.now ≡ written_shape }
     requires small { number < 2 ^ 31 }
-    ensures items { IfOk result (λ m. items_of m ≡ entry_field (declared_in source.now) name.now number element) }
+    ensures items { IfOk result (λ m. items_of m
+        ≡ entry_field (declared_in source.now) name.now number element) }
     ensures kept { IfOk result (IsOf FIELD) }
 {
     let mut message = empty(alloc, FIELD);
@@ -62,7 +63,8 @@ fn key_and_value(
 ) -> Result<Vec<Value>, AllocError>
     requires { shape_of table.now ≡ written_shape }
     ensures items { IfOk result (λ made. items_within made.items
-        ≡ entry_field (declared_in source.now) (codes "key") 1 (elements.Scalar key) ∷ entry_field (declared_in source.now) (codes "value") 2 value ∷ []) }
+        ≡ entry_field (declared_in source.now) (codes "key") 1 (elements.Scalar key)
+        ∷ entry_field (declared_in source.now) (codes "value") 2 value ∷ []) }
     ensures kept { IfOk result (λ made. AreChildren FIELD made.items) }
 {
     let element = Element::Scalar(key);
@@ -101,7 +103,8 @@ fn entry_message(
 ) -> Result<Message, AllocError>
     requires table { shape_of table.now ≡ written_shape }
     requires map { field.now.presence ≡ presences.Map key }
-    ensures items { IfOk result (λ m. items_of m ∷ [] ≡ entry_items (declared_in source.now) field.now) }
+    ensures items { IfOk result (λ m. items_of m ∷ []
+        ≡ entry_items (declared_in source.now) field.now) }
     ensures kept { IfOk result (IsOf MESSAGE) }
 {
     let mut message = empty(alloc, MESSAGE);
@@ -133,7 +136,8 @@ pub fn push_entries(
 ) -> Result<(), AllocError>
     requires table { shape_of table.now ≡ written_shape }
     requires kept { AreChildren MESSAGE made.old.items }
-    ensures items { OnOk result (items_within made.new.items ≡ items_within made.old.items ++ entries (declared_in source.now) (lent fields.now)) }
+    ensures items { OnOk result (items_within made.new.items ≡ items_within made.old.items
+        ++ entries (declared_in source.now) (lent fields.now)) }
     ensures kept { OnOk result (AreChildren MESSAGE made.new.items) }
 {
     for field in fields {

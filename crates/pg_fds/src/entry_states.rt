@@ -1,5 +1,5 @@
-//! Whether the messages of a set state the entry types of map fields. What they don't state is told as a
-//! bad reference.
+//! Whether the messages of a set state the entry types of map fields. What they don't state is told
+//! as a bad reference.
 
 ghost use Rattle.std.specs.Prelude.{◌≡◌, [], true, None, Some, IfErr, IfOk, OnErr, OnOk, length, filter, map};
 ghost use Rattle.std.specs.BTreeMap.{get_by_text};
@@ -84,8 +84,10 @@ fn entry_field(
     place: u32,
     element: Element,
 ) -> Result<(), Unstated>
-    ensures ok { OnOk result (StatesEntryField (declared_in source.now) name.now place element (message_of message.now)) }
-    ensures refused { IfErr result (λ r. StatesEntryField (declared_in source.now) name.now place element (message_of message.now) → r ≡ Memory) }
+    ensures ok { OnOk result (StatesEntryField (declared_in source.now) name.now place element
+        (message_of message.now)) }
+    ensures refused { IfErr result (λ r. StatesEntryField
+        (declared_in source.now) name.now place element (message_of message.now) → r ≡ Memory) }
 {
     let type_name = element_name(alloc, source, element)?;
     let json_name = default_json_name(alloc, name)?;
@@ -107,8 +109,10 @@ fn key_and_value(
     key: Scalar,
     value: Element,
 ) -> Result<(), Unstated>
-    ensures ok { OnOk result (AreKeyAndValue (declared_in source.now) key value (map message_of (lent messages.now))) }
-    ensures refused { IfErr result (λ r. AreKeyAndValue (declared_in source.now) key value (map message_of (lent messages.now)) → r ≡ Memory) }
+    ensures ok { OnOk result (AreKeyAndValue (declared_in source.now) key value
+        (map message_of (lent messages.now))) }
+    ensures refused { IfErr result (λ r. AreKeyAndValue (declared_in source.now) key value
+        (map message_of (lent messages.now)) → r ≡ Memory) }
 {
     match messages {
         [first, second] => {
@@ -126,8 +130,10 @@ fn entry(
     field: &Field,
     key: Scalar,
 ) -> Result<(), Unstated>
-    ensures ok { OnOk result (StatesEntry (declared_in source.now) field.now key (message_of message.now)) }
-    ensures refused { IfErr result (λ r. StatesEntry (declared_in source.now) field.now key (message_of message.now) → r ≡ Memory) }
+    ensures ok { OnOk result (StatesEntry (declared_in source.now) field.now key
+        (message_of message.now)) }
+    ensures refused { IfErr result (λ r. StatesEntry (declared_in source.now) field.now key
+        (message_of message.now) → r ≡ Memory) }
 {
     let name = entry_name(alloc, &field.name)?;
     same_text(text(message, proto::MESSAGE_NAME)?, &name)?;
@@ -143,9 +149,11 @@ fn entry(
 
 // The places of entry types by their names.
 fn places(alloc: Global, entries: &[&Message]) -> Result<BTreeMap<String, usize>, Unstated>
-    ensures index { IfOk result (λ places. are_distinct (map (text_at proto.message_name) (map message_of (lent entries.now))) ≡ true
+    ensures index { IfOk result (λ places.
+        are_distinct (map (text_at proto.message_name) (map message_of (lent entries.now))) ≡ true
         → IsIndex (map (text_at proto.message_name) (map message_of (lent entries.now))) places) }
-    ensures refused { IfErr result (λ r. AllByRecursion IsUtf8 (map (text_at proto.message_name) (map message_of (lent entries.now))) → r ≡ Memory) }
+    ensures refused { IfErr result (λ r. AllByRecursion IsUtf8
+        (map (text_at proto.message_name) (map message_of (lent entries.now))) → r ≡ Memory) }
 {
     let mut places = BTreeMap::new(alloc);
     for (place, message) in entries.iter().enumerate() {
@@ -161,8 +169,11 @@ fn place_of(
     places: &BTreeMap<String, usize>,
     field: &Field,
 ) -> Result<usize, Unstated>
-    ensures found { IfOk result (λ place. get_by_text places.now (entry_name (string_bytes field.now.name)) ≡ Some place) }
-    ensures refused { IfErr result (λ r. (get_by_text places.now (entry_name (string_bytes field.now.name)) ≡ None → ⊥) → r ≡ Memory) }
+    ensures found { IfOk result (λ place. get_by_text places.now
+        (entry_name (string_bytes field.now.name)) ≡ Some place) }
+    ensures refused { IfErr result (λ r.
+        (get_by_text places.now (entry_name (string_bytes field.now.name)) ≡ None → ⊥)
+        → r ≡ Memory) }
 {
     let name = entry_name(alloc, &field.name)?;
     match places.get(name.as_str()) {
@@ -180,9 +191,12 @@ fn names_entry(
     field: &Field,
     key: Scalar,
 ) -> Result<(), Unstated>
-    ensures ok { OnOk result (Any (StatesEntry (declared_in source.now) field.now key) (map message_of (lent entries.now))) }
-    ensures refused { IfErr result (λ r. IsIndex (map (text_at proto.message_name) (map message_of (lent entries.now))) places.now
-        → Any (StatesEntry (declared_in source.now) field.now key) (map message_of (lent entries.now)) → r ≡ Memory) }
+    ensures ok { OnOk result (Any (StatesEntry (declared_in source.now) field.now key)
+        (map message_of (lent entries.now))) }
+    ensures refused { IfErr result (λ r.
+        IsIndex (map (text_at proto.message_name) (map message_of (lent entries.now))) places.now
+        → Any (StatesEntry (declared_in source.now) field.now key)
+        (map message_of (lent entries.now)) → r ≡ Memory) }
 {
     let place = place_of(alloc, places, field)?;
     if place >= entries.len() {
@@ -199,9 +213,12 @@ fn has_entry(
     places: &BTreeMap<String, usize>,
     field: &Field,
 ) -> Result<(), Unstated>
-    ensures ok { OnOk result (HasEntry (declared_in source.now) (map message_of (lent entries.now)) field.now) }
-    ensures refused { IfErr result (λ r. IsIndex (map (text_at proto.message_name) (map message_of (lent entries.now))) places.now
-        → HasEntry (declared_in source.now) (map message_of (lent entries.now)) field.now → r ≡ Memory) }
+    ensures ok { OnOk result (HasEntry (declared_in source.now)
+        (map message_of (lent entries.now)) field.now) }
+    ensures refused { IfErr result (λ r.
+        IsIndex (map (text_at proto.message_name) (map message_of (lent entries.now))) places.now
+        → HasEntry (declared_in source.now) (map message_of (lent entries.now)) field.now
+        → r ≡ Memory) }
 {
     match field.presence {
         Presence::Map { key } => names_entry(alloc, source, entries, places, field, key),
@@ -222,18 +239,22 @@ fn map_count(fields: &[Field]) -> usize
     count
 }
 
-/// The messages state the entry types of the fields. Where names of these are texts and stand once, it is
-/// refused, memory aside, only where they don't.
+/// The messages state the entry types of the fields. Where names of these are texts and stand once,
+/// it is refused, memory aside, only where they don't.
 pub fn entries(
     alloc: Global,
     source: &Schema,
     messages: &[&Message],
     fields: &[Field],
 ) -> Result<(), Unstated>
-    ensures ok { OnOk result (StatesEntries (declared_in source.now) (map message_of (lent messages.now)) fields.now) }
-    ensures refused { IfErr result (λ r. AllByRecursion IsUtf8 (map (text_at proto.message_name) (map message_of (lent messages.now)))
-        → are_distinct (map (text_at proto.message_name) (map message_of (lent messages.now))) ≡ true
-        → StatesEntries (declared_in source.now) (map message_of (lent messages.now)) fields.now → r ≡ Memory) }
+    ensures ok { OnOk result (StatesEntries (declared_in source.now)
+        (map message_of (lent messages.now)) fields.now) }
+    ensures refused { IfErr result (λ r. AllByRecursion IsUtf8
+        (map (text_at proto.message_name) (map message_of (lent messages.now)))
+        → are_distinct (map (text_at proto.message_name) (map message_of (lent messages.now)))
+        ≡ true
+        → StatesEntries (declared_in source.now) (map message_of (lent messages.now)) fields.now
+        → r ≡ Memory) }
 {
     ensure(messages.len() == map_count(fields))?;
     let places = places(alloc, messages)?;

@@ -1,5 +1,5 @@
-//! Messages of enums, `EnumDescriptorProto` of descriptor.proto. Each call is refused only where memory
-//! is.
+//! Messages of enums, `EnumDescriptorProto` of descriptor.proto. Each call is refused only where
+//! memory is.
 
 ghost use Rattle.std.specs.Prelude.{◌≡◌, IfOk, map};
 ghost use Rattle.pg_schema.specs.Parts.{shape_of};
@@ -140,7 +140,8 @@ pub fn enums(
     ids: &[EnumId],
 ) -> Result<Vec<Value>, AllocError>
     requires { shape_of table.now ≡ written_shape }
-    ensures items { IfOk result (λ made. items_within made.items ≡ enums_items (declared_in source.now) ids.now) }
+    ensures items { IfOk result (λ made. items_within made.items
+        ≡ enums_items (declared_in source.now) ids.now) }
     ensures kept { IfOk result (λ made. AreChildren ENUM made.items) }
 {
     let mut made = Vec::new(alloc);

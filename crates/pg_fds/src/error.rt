@@ -20,8 +20,8 @@ pub enum FdsError {
     /// E703: a field has no type, or a code of a type or a label that isn't taken.
     #[error("A field of the set has an unsupported type or label.")]
     BadType,
-    /// E704: an import or a name isn't in the set, stands twice or is of another kind, imports go round, a
-    /// place is none, or an `optional` field or an entry type hasn't its form.
+    /// E704: an import or a name isn't in the set, stands twice or is of another kind, imports go
+    /// round, a place is none, or an `optional` field or an entry type hasn't its form.
     #[error("The set has an invalid reference.")]
     BadReference,
     /// E705: what the set declares breaks a rule of the language, by the rule's error at no place.
@@ -121,7 +121,8 @@ impl From<Unstated> for FdsError {
     ghost use Rattle.pg_fds.specs.declared.error.FdsError.TheVariants.{BadReference, Memory};
     ghost use Rattle.pg_fds.specs.declared.error.Unstated.TheVariants as unstated;
 
-    ghost from_gives = { λ u e. ((u ≡ unstated.Memory) × (e ≡ Memory)) ⊎ ((u ≡ unstated.Reference) × (e ≡ BadReference)) };
+    ghost from_gives = { λ u e. ((u ≡ unstated.Memory) × (e ≡ Memory))
+        ⊎ ((u ≡ unstated.Reference) × (e ≡ BadReference)) };
 
     fn from(error: Unstated) -> FdsError {
         match error {

@@ -1,5 +1,5 @@
-//! Messages of fields, `FieldDescriptorProto` of descriptor.proto. Each call is refused only where memory
-//! is.
+//! Messages of fields, `FieldDescriptorProto` of descriptor.proto. Each call is refused only where
+//! memory is.
 
 ghost use Rattle.std.specs.Prelude.{◌≡◌, ◌<◌, ◌≤◌, ◌^◌, IfOk, map, option_map};
 ghost use Rattle.std.specs.String.{string_bytes};
@@ -89,7 +89,8 @@ pub fn element_name(
     source: &Schema,
     element: Element,
 ) -> Result<Option<String>, AllocError>
-    ensures { IfOk result (λ name. option_map string_bytes name ≡ element_name (declared_in source.now) element) }
+    ensures { IfOk result (λ name. option_map string_bytes name
+        ≡ element_name (declared_in source.now) element) }
 {
     match element {
         Element::Scalar(_) => Ok(None),
@@ -111,7 +112,8 @@ pub fn named_type(
     scope: &str,
     field: &Field,
 ) -> Result<Option<String>, AllocError>
-    ensures { IfOk result (λ name. option_map string_bytes name ≡ named_type (declared_in source.now) scope.now field.now) }
+    ensures { IfOk result (λ name. option_map string_bytes name
+        ≡ named_type (declared_in source.now) scope.now field.now) }
 {
     match field.presence {
         Presence::Map { .. } => {
@@ -146,7 +148,8 @@ pub fn field_message(
     requires table { shape_of table.now ≡ written_shape }
     requires small { HasSmallNumbers field.now }
     requires next { next < 2 ^ 31 }
-    ensures items { IfOk result (λ m. items_of m ≡ field_items (declared_in source.now) scope.now next field.now) }
+    ensures items { IfOk result (λ m. items_of m
+        ≡ field_items (declared_in source.now) scope.now next field.now) }
     ensures kept { IfOk result (IsOf FIELD) }
 {
     let mut message = empty(alloc, FIELD);

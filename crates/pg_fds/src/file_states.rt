@@ -32,8 +32,8 @@ use pg_schema::{File, FileOption, Import, OptionValue, Schema};
 use std::alloc::Global;
 
 // In order: java_package, java_outer_classname, optimize_for,
-// java_multiple_files, go_package, deprecated, cc_enable_arenas, objc_class_prefix, csharp_namespace,
-// swift_prefix, php_class_prefix, php_namespace, ruby_package.
+// java_multiple_files, go_package, deprecated, cc_enable_arenas, objc_class_prefix,
+// csharp_namespace, swift_prefix, php_class_prefix, php_namespace, ruby_package.
 /// The options of files that are taken.
 pub const OPTIONS: [u32; 13] = [1, 8, 9, 10, 11, 23, 31, 36, 37, 39, 40, 41, 45];
 
@@ -47,13 +47,14 @@ pub fn is_descriptor(path: &str) -> bool
 /// Whether the file is proto3. Refused only where its syntax is no text.
 pub fn is_proto3(message: &Message) -> Result<bool, Unstated>
     ensures ok { IfOk result (λ proto3. proto3 ≡ is_proto3 (message_of message.now)) }
-    ensures refused { OnErr result (IsUtf8 (text_at proto.file_syntax (message_of message.now)) → ⊥) }
+    ensures refused { OnErr result (IsUtf8 (text_at proto.file_syntax (message_of message.now))
+        → ⊥) }
 {
     Ok(text(message, proto::FILE_SYNTAX)? == "proto3")
 }
 
-/// Whether the file is skipped: descriptor.proto, where it isn't proto3. Refused only where its name is no
-/// text.
+/// Whether the file is skipped: descriptor.proto, where it isn't proto3. Refused only where its
+/// name is no text.
 pub fn is_skipped(message: &Message) -> Result<bool, Unstated>
     ensures ok { IfOk result (λ skipped. skipped ≡ is_skipped (message_of message.now)) }
     ensures refused { OnErr result (IsUtf8 (text_at proto.file_name (message_of message.now)) → ⊥) }
@@ -102,8 +103,10 @@ fn stated(options: &[FileOption], number: u32) -> Option<&FileOption>
 }
 
 fn has_option(message: &Message, options: &[FileOption], number: u32) -> Result<(), Unstated>
-    ensures ok { OnOk result (item_at number (message_of message.now) ≡ stated_option options.now number) }
-    ensures refused { OnErr result (item_at number (message_of message.now) ≡ stated_option options.now number → ⊥) }
+    ensures ok { OnOk result (item_at number (message_of message.now)
+        ≡ stated_option options.now number) }
+    ensures refused { OnErr result (item_at number (message_of message.now)
+        ≡ stated_option options.now number → ⊥) }
 {
     match (item(message, number), stated(options, number)) {
         (None, None) => Ok(()),
@@ -125,7 +128,8 @@ fn has_options(message: &Message, options: &[FileOption]) -> Result<(), Unstated
 
 /// The message of a file's options, where there is one.
 pub fn own_options(message: &Message) -> Option<&Message>
-    ensures { unwrap_or (option_map message_of (option_copied result)) (ends []) ≡ options_at proto.file_options (message_of message.now) }
+    ensures { unwrap_or (option_map message_of (option_copied result)) (ends [])
+        ≡ options_at proto.file_options (message_of message.now) }
 {
     let found = item(message, proto::FILE_OPTIONS);
     match found {
@@ -136,7 +140,8 @@ pub fn own_options(message: &Message) -> Option<&Message>
 
 // The options that the file's message says.
 fn options(message: &Message, options: &[FileOption]) -> Result<(), Unstated>
-    ensures ok { OnOk result (StatesOptions (options_at proto.file_options (message_of message.now)) options.now) }
+    ensures ok { OnOk result (StatesOptions (options_at proto.file_options (message_of message.now))
+        options.now) }
     ensures refused { OnErr result (is_rising (0 ∷ option_numbers options.now) ≡ true
         → list_all is_file_option options.now ≡ true
         → StatesOptions (options_at proto.file_options (message_of message.now)) options.now → ⊥) }
@@ -168,8 +173,10 @@ fn kept_imports(
     imports: &[Import],
 ) -> Result<(), Unstated>
     requires { AreMarked public.now (length paths.now) marks.now }
-    ensures ok { OnOk result (kept_imports skips public.now 0 (lent paths.now) ≡ map import_of imports.now) }
-    ensures refused { OnErr result (kept_imports skips public.now 0 (lent paths.now) ≡ map import_of imports.now → ⊥) }
+    ensures ok { OnOk result (kept_imports skips public.now 0 (lent paths.now)
+        ≡ map import_of imports.now) }
+    ensures refused { OnErr result (kept_imports skips public.now 0 (lent paths.now)
+        ≡ map import_of imports.now → ⊥) }
 {
     let mut next = 0;
     for (place, path) in paths.iter().enumerate() {
@@ -188,8 +195,8 @@ fn kept_imports(
 
 // ---- files
 
-/// The message, which imports no path twice, states the file. Where the schema is sound and the file keeps to
-/// the rules, it is refused, memory aside, only where it doesn't.
+/// The message, which imports no path twice, states the file. Where the schema is sound and the
+/// file keeps to the rules, it is refused, memory aside, only where it doesn't.
 pub fn file(
     alloc: Global,
     source: &Schema,
@@ -198,9 +205,11 @@ pub fn file(
     declared: &File,
 ) -> Result<(), Unstated>
     requires { are_distinct (texts_at proto.file_dependency (message_of message.now)) ≡ true }
-    ensures ok { OnOk result (StatesFile (declared_in source.now) skips (message_of message.now) declared.now) }
+    ensures ok { OnOk result (StatesFile (declared_in source.now) skips
+        (message_of message.now) declared.now) }
     ensures refused { IfErr result (λ r. IsSound source.now → is_file declared.now ≡ true
-        → StatesFile (declared_in source.now) skips (message_of message.now) declared.now → r ≡ Memory) }
+        → StatesFile (declared_in source.now) skips (message_of message.now) declared.now
+        → r ≡ Memory) }
 {
     let paths = texts(alloc, message, proto::FILE_DEPENDENCY)?;
     let public = numbers(alloc, message, proto::FILE_PUBLIC_DEPENDENCY)?;

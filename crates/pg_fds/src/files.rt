@@ -1,5 +1,5 @@
-//! Messages of files, `FileDescriptorProto` of descriptor.proto, and of the set. Each call is refused
-//! only where memory is.
+//! Messages of files, `FileDescriptorProto` of descriptor.proto, and of the set. Each call is
+//! refused only where memory is.
 
 ghost use Rattle.std.specs.Prelude.{◌≡◌, ◌<◌, ◌≤◌, ◌^◌, ◌++◌, ◌∷◌, IfOk, OnOk, length, map, pos, true};
 ghost use Rattle.std.specs.List.{AllByRecursion, list_all};
@@ -60,7 +60,8 @@ fn put_option(
     requires kept { IsOf FILE_OPTIONS message.old }
     requires behind { last_number message.old < option.now.number }
     requires kind { is_file_option option.now ≡ true }
-    ensures items { OnOk result (items_of message.new ≡ items_of message.old ++ option_items option.now.number option.now.value) }
+    ensures items { OnOk result (items_of message.new
+        ≡ items_of message.old ++ option_items option.now.number option.now.value) }
     ensures kept { OnOk result (IsOf FILE_OPTIONS message.new) }
     ensures last { OnOk result (last_number message.new ≤ option.now.number) }
 {
@@ -98,7 +99,8 @@ fn options(
 
 // The paths of imports, in order.
 fn paths(alloc: Global, imports: &[Import]) -> Result<Vec<String>, AllocError>
-    ensures { IfOk result (λ paths. map string_bytes paths.items ≡ map (λ (i : Import). string_bytes i.path) imports.now) }
+    ensures { IfOk result (λ paths. map string_bytes paths.items
+        ≡ map (λ (i : Import). string_bytes i.path) imports.now) }
 {
     let mut paths = Vec::new(alloc);
     for import in imports {
@@ -110,8 +112,10 @@ fn paths(alloc: Global, imports: &[Import]) -> Result<Vec<String>, AllocError>
 // The places of the public imports as items, in order.
 fn public_places(alloc: Global, imports: &[Import]) -> Result<Vec<Value>, AllocError>
     requires { length imports.now < 2 ^ 31 }
-    ensures shown { IfOk result (λ places. map shown places.items ≡ map (λ n. model.Plain (model.Int (pos n))) (public_places 0 imports.now)) }
-    ensures fit { IfOk result (λ places. AllByRecursion (ItemFits written_shape descriptor.number) places.items) }
+    ensures shown { IfOk result (λ places. map shown places.items
+        ≡ map (λ n. model.Plain (model.Int (pos n))) (public_places 0 imports.now)) }
+    ensures fit { IfOk result (λ places.
+        AllByRecursion (ItemFits written_shape descriptor.number) places.items) }
 {
     let mut places = Vec::new(alloc);
     let mut next: u32 = 0;
@@ -137,7 +141,8 @@ fn put_places(
     requires kept { IsOf FILE message.old }
     requires behind { last_number message.old < 10 }
     requires few { length imports.now < 2 ^ 31 }
-    ensures items { OnOk result (items_of message.new ≡ items_of message.old ++ rows.counts 10 (public_places 0 imports.now)) }
+    ensures items { OnOk result (items_of message.new
+        ≡ items_of message.old ++ rows.counts 10 (public_places 0 imports.now)) }
     ensures kept { OnOk result (IsOf FILE message.new) }
     ensures last { OnOk result (last_number message.new ≤ 10) }
 {
@@ -145,7 +150,8 @@ fn put_places(
     put_all(message, table, FILE, FILE_PUBLIC_DEPENDENCY, NUMBER, places)
 }
 
-// The messages of the message types at these places, with what stands inside them, nested so many deep.
+// The messages of the message types at these places, with what stands inside them, nested so many
+// deep.
 fn types(
     alloc: Global,
     table: &Schema,
@@ -155,7 +161,8 @@ fn types(
 ) -> Result<Vec<Value>, AllocError>
     requires table { shape_of table.now ≡ written_shape }
     requires small { AllByRecursion IsSmallType source.now.types.items }
-    ensures items { IfOk result (λ made. items_within made.items ≡ types_items depth (declared_in source.now) ids.now) }
+    ensures items { IfOk result (λ made. items_within made.items
+        ≡ types_items depth (declared_in source.now) ids.now) }
     ensures kept { IfOk result (λ made. AreChildren MESSAGE made.items) }
 {
     let mut made = Vec::new(alloc);
@@ -231,7 +238,8 @@ pub fn files(
     requires table { shape_of table.now ≡ written_shape }
     requires types { AllByRecursion IsSmallType source.now.types.items }
     requires files { AllByRecursion IsWritable files.now }
-    ensures items { IfOk result (λ made. items_within made.items ≡ map (file_items (declared_in source.now)) files.now) }
+    ensures items { IfOk result (λ made. items_within made.items
+        ≡ map (file_items (declared_in source.now)) files.now) }
     ensures kept { IfOk result (λ made. AreChildren FILE made.items) }
 {
     let mut made = Vec::new(alloc);

@@ -1,5 +1,5 @@
-//! Whether message types, enums and services are numbered as those of a schema that a set states. What isn't
-//! is told as a bad reference. Counts go from one place to the one behind the last.
+//! Whether message types, enums and services are numbered as those of a schema that a set states.
+//! What isn't is told as a bad reference. Counts go from one place to the one behind the last.
 
 ghost use Rattle.std.specs.Prelude.{◌≡◌, ◌++◌, ◌∷◌, [], ℕ, List, true, IfOk, OnErr, OnOk, flat_map};
 ghost use Rattle.std.specs.List.{list_all};
@@ -15,7 +15,8 @@ use pg_schema::{EnumId, File, Schema, ServiceId, TypeId};
 // The place is the next one.
 fn behind(place: u32, next: usize) -> Result<usize, Unstated>
     ensures ok { IfOk result (λ end. places_from 0 next ++ place ∷ [] ≡ places_from 0 end) }
-    ensures refused { OnErr result ((later : List ℕ) (n : ℕ) → places_from 0 next ++ place ∷ later ≡ places_from 0 n → ⊥) }
+    ensures refused { OnErr result ((later : List ℕ) (n : ℕ)
+        → places_from 0 next ++ place ∷ later ≡ places_from 0 n → ⊥) }
 {
     let at = place as usize;
     if at != next {
@@ -25,7 +26,8 @@ fn behind(place: u32, next: usize) -> Result<usize, Unstated>
 }
 
 fn enums(ids: &[EnumId], next: usize) -> Result<usize, Unstated>
-    ensures ok { IfOk result (λ end. places_from 0 next ++ enum_places ids.now ≡ places_from 0 end) }
+    ensures ok { IfOk result (λ end. places_from 0 next ++ enum_places ids.now
+        ≡ places_from 0 end) }
     ensures refused { OnErr result ((later : List ℕ) (n : ℕ)
         → places_from 0 next ++ (enum_places ids.now ++ later) ≡ places_from 0 n → ⊥) }
 {
@@ -37,7 +39,8 @@ fn enums(ids: &[EnumId], next: usize) -> Result<usize, Unstated>
 }
 
 fn services(ids: &[ServiceId], next: usize) -> Result<usize, Unstated>
-    ensures ok { IfOk result (λ end. places_from 0 next ++ service_places ids.now ≡ places_from 0 end) }
+    ensures ok { IfOk result (λ end. places_from 0 next ++ service_places ids.now
+        ≡ places_from 0 end) }
     ensures refused { OnErr result ((later : List ℕ) (n : ℕ)
         → places_from 0 next ++ (service_places ids.now ++ later) ≡ places_from 0 n → ⊥) }
 {
@@ -50,10 +53,12 @@ fn services(ids: &[ServiceId], next: usize) -> Result<usize, Unstated>
 
 // The message types at these places, nested less deep than that.
 fn types(source: &Schema, depth: usize, ids: &[TypeId], next: usize) -> Result<usize, Unstated>
-    ensures ok { IfOk result (λ end. places_from 0 next ++ types_below depth source.now.types.items ids.now ≡ places_from 0 end) }
+    ensures ok { IfOk result (λ end. places_from 0 next
+        ++ types_below depth source.now.types.items ids.now ≡ places_from 0 end) }
     ensures refused { OnErr result (IsSound source.now → (scope later : List ℕ) (n : ℕ)
         → are_types_in source.now.types.items scope ids.now ≡ true
-        → places_from 0 next ++ (types_below depth source.now.types.items ids.now ++ later) ≡ places_from 0 n → ⊥) }
+        → places_from 0 next ++ (types_below depth source.now.types.items ids.now ++ later)
+        ≡ places_from 0 n → ⊥) }
 {
     let mut end = next;
     if depth == 0 {
@@ -76,10 +81,12 @@ fn inner_enums(
     ids: &[TypeId],
     next: usize,
 ) -> Result<usize, Unstated>
-    ensures ok { IfOk result (λ end. places_from 0 next ++ enums_below depth source.now.types.items ids.now ≡ places_from 0 end) }
+    ensures ok { IfOk result (λ end. places_from 0 next
+        ++ enums_below depth source.now.types.items ids.now ≡ places_from 0 end) }
     ensures refused { OnErr result (IsSound source.now → (scope later : List ℕ) (n : ℕ)
         → are_types_in source.now.types.items scope ids.now ≡ true
-        → places_from 0 next ++ (enums_below depth source.now.types.items ids.now ++ later) ≡ places_from 0 n → ⊥) }
+        → places_from 0 next ++ (enums_below depth source.now.types.items ids.now ++ later)
+        ≡ places_from 0 n → ⊥) }
 {
     let mut end = next;
     if depth == 0 {
@@ -96,9 +103,11 @@ fn inner_enums(
 }
 
 fn all_types(source: &Schema, files: &[File]) -> Result<usize, Unstated>
-    ensures ok { IfOk result (λ end. flat_map (file_types source.now.types.items) files.now ≡ places_from 0 end) }
+    ensures ok { IfOk result (λ end. flat_map (file_types source.now.types.items) files.now
+        ≡ places_from 0 end) }
     ensures refused { OnErr result (IsSound source.now → (n : ℕ)
-        → list_all (is_file_scope source.now.types.items source.now.enums.items source.now.services.items) files.now ≡ true
+        → list_all (is_file_scope source.now.types.items source.now.enums.items
+        source.now.services.items) files.now ≡ true
         → flat_map (file_types source.now.types.items) files.now ≡ places_from 0 n → ⊥) }
 {
     let mut end = 0;
@@ -109,9 +118,11 @@ fn all_types(source: &Schema, files: &[File]) -> Result<usize, Unstated>
 }
 
 fn all_enums(source: &Schema, files: &[File]) -> Result<usize, Unstated>
-    ensures ok { IfOk result (λ end. flat_map (file_enums source.now.types.items) files.now ≡ places_from 0 end) }
+    ensures ok { IfOk result (λ end. flat_map (file_enums source.now.types.items) files.now
+        ≡ places_from 0 end) }
     ensures refused { OnErr result (IsSound source.now → (n : ℕ)
-        → list_all (is_file_scope source.now.types.items source.now.enums.items source.now.services.items) files.now ≡ true
+        → list_all (is_file_scope source.now.types.items source.now.enums.items
+        source.now.services.items) files.now ≡ true
         → flat_map (file_enums source.now.types.items) files.now ≡ places_from 0 n → ⊥) }
 {
     let mut end = 0;

@@ -14,9 +14,9 @@ pub fn descriptor_rules()
     ensures { DescriptorIsSound }
 {}
 
-/// A schema that linked files declare is one whose set is read as that schema: each file imports no path twice
-/// and stands behind those that it imports, message types are nested at most 64 deep, and message types, enums
-/// and services are numbered as a set states them.
+/// A schema that linked files declare is one whose set is read as that schema: each file imports no
+/// path twice and stands behind those that it imports, message types are nested at most 64 deep,
+/// and message types, enums and services are numbered as a set states them.
 pub fn texts_are_read_again()
     ensures { TextsAreReadAgain }
 {
@@ -39,8 +39,8 @@ pub fn worked_reads()
     ensures { OneFieldRead }
 {}
 
-/// Places by small examples: those of nested message types and their enums, of an enum behind them, and of a
-/// file with one message type, whose set is read as the same schema.
+/// Places by small examples: those of nested message types and their enums, of an enum behind them,
+/// and of a file with one message type, whose set is read as the same schema.
 pub fn worked_places()
     ensures { WorkedPlaces }
 {}

@@ -1,5 +1,5 @@
-//! Descriptor sets: the set that a schema gives by descriptor.proto, written as bytes, with its definition and laws, and the schema of
-//! these messages.
+//! Descriptor sets: the set that a schema gives by descriptor.proto, written as bytes, with its
+//! definition and laws, and the schema of these messages.
 #![tactic(auto)]
 
 mod again;

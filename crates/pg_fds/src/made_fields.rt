@@ -36,8 +36,8 @@ use pg_schema::{Element, Field, FieldOptions, Presence, Scalar, default_json_nam
 use std::alloc::Global;
 use std::collections::BTreeMap;
 
-/// What the fields of a message type are made with: the full names of all files; the type's own full name;
-/// which of its oneofs are synthetic, and how many fields name each.
+/// What the fields of a message type are made with: the full names of all files; the type's own
+/// full name; which of its oneofs are synthetic, and how many fields name each.
 #[derive(Drop)]
 pub struct Scope<'a> {
     pub names: &'a BTreeMap<String, Named>,
@@ -59,8 +59,10 @@ fn behind_dot(dotted: &str) -> Result<&str, Unstated>
 
 /// What a full name with a dot in front is that of. Refused only where it is that of nothing.
 pub fn resolved(names: &BTreeMap<String, Named>, dotted: &str) -> Result<Named, Unstated>
-    ensures ok { IfOk result (λ named. (rest : List ℕ) → dotted.now ≡ 46 ∷ rest → get_by_text names.now rest ≡ Some named) }
-    ensures refused { OnErr result ((rest : List ℕ) (named : Meaning) → dotted.now ≡ 46 ∷ rest → get_by_text names.now rest ≡ Some named → ⊥) }
+    ensures ok { IfOk result (λ named. (rest : List ℕ) → dotted.now ≡ 46 ∷ rest
+        → get_by_text names.now rest ≡ Some named) }
+    ensures refused { OnErr result ((rest : List ℕ) (named : Meaning) → dotted.now ≡ 46 ∷ rest
+        → get_by_text names.now rest ≡ Some named → ⊥) }
 {
     let name = behind_dot(dotted)?;
     match names.get(name) {
@@ -71,8 +73,11 @@ pub fn resolved(names: &BTreeMap<String, Named>, dotted: &str) -> Result<Named, 
 
 // What a field's items are, where it names no type.
 fn scalar_element(message: &Message) -> Result<Element, Unstated>
-    ensures made { IfOk result (λ made. (s : StatedScalar) → number_at proto.field_type (message_of message.now) ≡ pos (scalar_code s) → made ≡ ScalarElement s) }
-    ensures refused { OnErr result ((s : StatedScalar) → number_at proto.field_type (message_of message.now) ≡ pos (scalar_code s) → ⊥) }
+    ensures made { IfOk result (λ made. (s : StatedScalar)
+        → number_at proto.field_type (message_of message.now) ≡ pos (scalar_code s)
+        → made ≡ ScalarElement s) }
+    ensures refused { OnErr result ((s : StatedScalar)
+        → number_at proto.field_type (message_of message.now) ≡ pos (scalar_code s) → ⊥) }
 {
     let scalar = scalar_of(message);
     match scalar {
@@ -96,7 +101,8 @@ fn meant(named: Named) -> Result<Element, Unstated>
 // The element, where its code is that of the field's type.
 fn of_its_code(message: &Message, element: Element) -> Result<Element, Unstated>
     ensures made { IfOk result (λ made. made ≡ element) }
-    ensures refused { OnErr result (number_at proto.field_type (message_of message.now) ≡ pos (element_code element) → ⊥) }
+    ensures refused { OnErr result (number_at proto.field_type (message_of message.now)
+        ≡ pos (element_code element) → ⊥) }
 {
     let code = element_code(element);
     if number(message, proto::FIELD_TYPE) != i128::from(code) {
@@ -111,9 +117,12 @@ fn named_element(
     message: &Message,
     name: &str,
 ) -> Result<Element, Unstated>
-    ensures made { IfOk result (λ made. (all : Declared) (e : StatedElement) → HasNames all names.now
-        → StatesElement all (message_of message.now) e → maybe_text_at proto.field_type_name (message_of message.now) ≡ Some name.now → made ≡ e) }
-    ensures refused { OnErr result ((all : Declared) (e : StatedElement) → HasNames all names.now → StatesElement all (message_of message.now) e
+    ensures made { IfOk result (λ made. (all : Declared) (e : StatedElement)
+        → HasNames all names.now
+        → StatesElement all (message_of message.now) e
+        → maybe_text_at proto.field_type_name (message_of message.now) ≡ Some name.now → made ≡ e) }
+    ensures refused { OnErr result ((all : Declared) (e : StatedElement) → HasNames all names.now
+        → StatesElement all (message_of message.now) e
         → maybe_text_at proto.field_type_name (message_of message.now) ≡ Some name.now → ⊥) }
 {
     let named = resolved(names, name)?;
@@ -123,9 +132,11 @@ fn named_element(
 
 /// What a field's items are, where it isn't a map. Refused only where it states none.
 pub fn element(names: &BTreeMap<String, Named>, message: &Message) -> Result<Element, Unstated>
-    ensures made { IfOk result (λ made. (all : Declared) (e : StatedElement) → HasNames all names.now
+    ensures made { IfOk result (λ made. (all : Declared) (e : StatedElement)
+        → HasNames all names.now
         → StatesElement all (message_of message.now) e → made ≡ e) }
-    ensures refused { OnErr result ((all : Declared) (e : StatedElement) → HasNames all names.now → StatesElement all (message_of message.now) e → ⊥) }
+    ensures refused { OnErr result ((all : Declared) (e : StatedElement) → HasNames all names.now
+        → StatesElement all (message_of message.now) e → ⊥) }
 {
     let name = maybe_text(message, proto::FIELD_TYPE_NAME)?;
     match name {
@@ -151,7 +162,8 @@ fn unmarked(marks: &[bool]) -> usize
 fn place_marked(marks: &[bool], number: &i128, mark: bool) -> Result<usize, Unstated>
     ensures ok { IfOk result (λ place. number.now ≡ pos place) }
     ensures within { IfOk result (λ place. place < length marks.now) }
-    ensures refused { OnErr result ((place : ℕ) → number.now ≡ pos place → slice_get marks.now place ≡ Some mark → ⊥) }
+    ensures refused { OnErr result ((place : ℕ) → number.now ≡ pos place
+        → slice_get marks.now place ≡ Some mark → ⊥) }
 {
     let place = place_in(number, marks.len())?;
     let found = marks[place];
@@ -163,8 +175,10 @@ fn place_marked(marks: &[bool], number: &i128, mark: bool) -> Result<usize, Unst
 
 // The oneof of a field that isn't `optional`, by its place among the real ones.
 fn real_oneof(synthetic: &[bool], named: Option<i128>) -> Result<Option<u32>, Unstated>
-    ensures made { IfOk result (λ made. (own : Option ℕ) → IsMember synthetic.now named own → made ≡ own) }
-    ensures refused { OnErr result ((own : Option ℕ) → IfSome own (λ place. place < 2 ^ 32) → IsMember synthetic.now named own → ⊥) }
+    ensures made { IfOk result (λ made. (own : Option ℕ) → IsMember synthetic.now named own
+        → made ≡ own) }
+    ensures refused { OnErr result ((own : Option ℕ) → IfSome own (λ place. place < 2 ^ 32)
+        → IsMember synthetic.now named own → ⊥) }
 {
     let Some(number) = named else {
         return Ok(None);
@@ -196,10 +210,15 @@ fn is_alone(synthetic: &[bool], members: &[usize], named: Option<i128>) -> Resul
 
 // The oneof that a field stands in: none where it is `optional`, whose oneof is its own.
 fn oneof(scope: &Scope<'_>, message: &Message) -> Result<Option<u32>, Unstated>
-    ensures made { IfOk result (λ made. (f : StatedField) → flag_at proto.field_proto3_optional (message_of message.now) ≡ f.states_optional
-        → StandsAt scope.now.synthetic.items scope.now.members.items (message_of message.now) f → made ≡ f.oneof) }
-    ensures refused { OnErr result ((f : StatedField) → flag_at proto.field_proto3_optional (message_of message.now) ≡ f.states_optional
-        → IfSome f.oneof (λ place. place < 2 ^ 32) → StandsAt scope.now.synthetic.items scope.now.members.items (message_of message.now) f → ⊥) }
+    ensures made { IfOk result (λ made. (f : StatedField)
+        → flag_at proto.field_proto3_optional (message_of message.now) ≡ f.states_optional
+        → StandsAt scope.now.synthetic.items scope.now.members.items (message_of message.now) f
+        → made ≡ f.oneof) }
+    ensures refused { OnErr result ((f : StatedField)
+        → flag_at proto.field_proto3_optional (message_of message.now) ≡ f.states_optional
+        → IfSome f.oneof (λ place. place < 2 ^ 32)
+        → StandsAt scope.now.synthetic.items scope.now.members.items (message_of message.now) f
+        → ⊥) }
 {
     let named = maybe_number(message, proto::FIELD_ONEOF_INDEX);
     let is_optional = flag(message, proto::FIELD_PROTO3_OPTIONAL);
@@ -210,7 +229,8 @@ fn oneof(scope: &Scope<'_>, message: &Message) -> Result<Option<u32>, Unstated>
     Ok(None)
 }
 
-// Whether a singular field of these items is explicit, where it is a member of a oneof or `optional`.
+// Whether a singular field of these items is explicit, where it is a member of a oneof or
+// `optional`.
 fn is_explicit(element: Element, member: bool, optional: bool) -> bool
     ensures { result ≡ (is_message element || member || optional) }
 {
@@ -223,7 +243,8 @@ fn is_explicit(element: Element, member: bool, optional: bool) -> bool
 // The presence of a singular field.
 fn singular(element: Element, member: bool, optional: bool) -> Presence
     ensures plain { is_map result ≡ false }
-    ensures made { (p : StatedPresence) → is_map p ≡ false → label p ≡ 1 → has_presence p element member optional ≡ true → result ≡ p }
+    ensures made { (p : StatedPresence) → is_map p ≡ false → label p ≡ 1
+        → has_presence p element member optional ≡ true → result ≡ p }
 {
     let explicit = is_explicit(element, member, optional);
     if explicit {
@@ -235,7 +256,8 @@ fn singular(element: Element, member: bool, optional: bool) -> Presence
 // The presence of a repeated field.
 fn repeated(element: Element, stated: Option<bool>) -> Presence
     ensures plain { is_map result ≡ false }
-    ensures made { (p : StatedPresence) → is_map p ≡ false → label p ≡ 3 → is_packed p element stated ≡ true → result ≡ p }
+    ensures made { (p : StatedPresence) → is_map p ≡ false → label p ≡ 3
+        → is_packed p element stated ≡ true → result ≡ p }
 {
     let default = element.is_packable();
     let packed = stated.unwrap_or(default);
@@ -249,9 +271,11 @@ fn presence(
     member: bool,
     packed: Option<bool>,
 ) -> Result<Presence, Unstated>
-    ensures made { IfOk result (λ made. (p : StatedPresence) → StatesPresence (message_of message.now) element member packed p → made ≡ p) }
+    ensures made { IfOk result (λ made. (p : StatedPresence)
+        → StatesPresence (message_of message.now) element member packed p → made ≡ p) }
     ensures plain { IfOk result (λ made. is_map made ≡ false) }
-    ensures refused { OnErr result ((p : StatedPresence) → StatesPresence (message_of message.now) element member packed p → ⊥) }
+    ensures refused { OnErr result ((p : StatedPresence)
+        → StatesPresence (message_of message.now) element member packed p → ⊥) }
 {
     let optional = flag(message, proto::FIELD_PROTO3_OPTIONAL);
     let label = label_of(message);
@@ -271,11 +295,13 @@ fn plain_parts(
     member: bool,
     packed: Option<bool>,
 ) -> Result<(Presence, Element), Unstated>
-    ensures made { IfOk result (λ made. (all : Declared) (e : StatedElement) (p : StatedPresence) → HasNames all names.now
+    ensures made { IfOk result (λ made. (all : Declared) (e : StatedElement) (p : StatedPresence)
+        → HasNames all names.now
         → StatesElement all (message_of message.now) e
         → StatesPresence (message_of message.now) e member packed p → (made.0 ≡ p) × (made.1 ≡ e)) }
     ensures plain { IfOk result (λ made. is_map made.0 ≡ false) }
-    ensures refused { OnErr result ((all : Declared) (e : StatedElement) (p : StatedPresence) → HasNames all names.now
+    ensures refused { OnErr result ((all : Declared) (e : StatedElement) (p : StatedPresence)
+        → HasNames all names.now
         → StatesElement all (message_of message.now) e
         → StatesPresence (message_of message.now) e member packed p → ⊥) }
 {
@@ -287,7 +313,8 @@ fn plain_parts(
 // The JSON name, given or default.
 fn json_name(alloc: Global, message: &Message) -> Result<String, Unstated>
     ensures ok { IfOk result (λ name. string_bytes name ≡ json_name_at (message_of message.now)) }
-    ensures refused { IfErr result (λ e. IsUtf8 (text_at proto.field_name (message_of message.now)) → IsUtf8 (json_name_at (message_of message.now)) → e ≡ Memory) }
+    ensures refused { IfErr result (λ e. IsUtf8 (text_at proto.field_name (message_of message.now))
+        → IsUtf8 (json_name_at (message_of message.now)) → e ≡ Memory) }
 {
     let given = maybe_text(message, proto::FIELD_JSON_NAME)?;
     match given {
@@ -306,14 +333,20 @@ fn parts<'a>(
     packed: Option<bool>,
 ) -> Result<(Presence, Element), Unstated>
     ensures made { IfOk result (λ made. (all : Declared) (f : StatedField)
-        → StatesKnown all scope.now.names.now scope.now.name.now (message_of message.now) f → HasNamedEntry all entries.old f
-        → has_presence f.presence f.element member f.states_optional ≡ true → is_packed f.presence f.element packed ≡ true
+        → StatesKnown all scope.now.names.now scope.now.name.now (message_of message.now) f
+        → HasNamedEntry all entries.old f
+        → has_presence f.presence f.element member f.states_optional ≡ true
+        → is_packed f.presence f.element packed ≡ true
         → (made.0 ≡ f.presence) × (made.1 ≡ f.element)) }
     ensures left { IfOk result (λ made. (name : List ℕ) → get_by_text entries.new name
-        ≡ (if is_map made.0 && bytes_eq (entry_name (text_at proto.field_name (message_of message.now))) name then None else get_by_text entries.old name)) }
+        ≡ (if is_map made.0 && bytes_eq
+        (entry_name (text_at proto.field_name (message_of message.now))) name then None else
+        get_by_text entries.old name)) }
     ensures refused { IfErr result (λ r. (all : Declared) (f : StatedField)
-        → StatesKnown all scope.now.names.now scope.now.name.now (message_of message.now) f → HasNamedEntry all entries.old f
-        → has_presence f.presence f.element member f.states_optional ≡ true → is_packed f.presence f.element packed ≡ true → r ≡ Memory) }
+        → StatesKnown all scope.now.names.now scope.now.name.now (message_of message.now) f
+        → HasNamedEntry all entries.old f
+        → has_presence f.presence f.element member f.states_optional ≡ true
+        → is_packed f.presence f.element packed ≡ true → r ≡ Memory) }
 {
     let is_map = is_map(scope.names, message)?;
     if !is_map {
@@ -323,8 +356,8 @@ fn parts<'a>(
     map_parts(alloc, scope.names, scope.name, entries, message)
 }
 
-/// The field of a message. A number that isn't above 0 is told as 0, which may not stand either. The entry
-/// types are those that no field has named yet.
+/// The field of a message. A number that isn't above 0 is told as 0, which may not stand either.
+/// The entry types are those that no field has named yet.
 pub fn made_field<'a>(
     alloc: Global,
     scope: &Scope<'_>,
@@ -332,12 +365,16 @@ pub fn made_field<'a>(
     message: &Message,
 ) -> Result<Field, Unstated>
     ensures made { IfOk result (λ made. (all : Declared) (f : StatedField)
-        → StatesFieldAt all scope.now.names.now scope.now.name.now scope.now.synthetic.items scope.now.members.items (message_of message.now) f
+        → StatesFieldAt all scope.now.names.now scope.now.name.now scope.now.synthetic.items
+        scope.now.members.items (message_of message.now) f
         → HasNamedEntry all entries.old f → field_view made ≡ field_view f) }
     ensures left { IfOk result (λ made. (name : List ℕ) → get_by_text entries.new name
-        ≡ (if is_map made.presence && bytes_eq (entry_name (text_at proto.field_name (message_of message.now))) name then None else get_by_text entries.old name)) }
+        ≡ (if is_map made.presence && bytes_eq
+        (entry_name (text_at proto.field_name (message_of message.now))) name then None else
+        get_by_text entries.old name)) }
     ensures refused { IfErr result (λ r. (all : Declared) (f : StatedField)
-        → StatesFieldAt all scope.now.names.now scope.now.name.now scope.now.synthetic.items scope.now.members.items (message_of message.now) f
+        → StatesFieldAt all scope.now.names.now scope.now.name.now scope.now.synthetic.items
+        scope.now.members.items (message_of message.now) f
         → HasNamedEntry all entries.old f → r ≡ Memory) }
 {
     let packed = option(message, proto::FIELD_OPTIONS, proto::FIELD_PACKED);

@@ -72,9 +72,11 @@ fn method(
     names: &BTreeMap<String, Named>,
     message: &Message,
 ) -> Result<Method, Unstated>
-    ensures made { IfOk result (λ made. (all : Declared) (d : StatedMethod) → HasNames all names.now → StatesMethod all (message_of message.now) d
+    ensures made { IfOk result (λ made. (all : Declared) (d : StatedMethod) → HasNames all names.now
+        → StatesMethod all (message_of message.now) d
         → method_view made ≡ method_view d) }
-    ensures refused { IfErr result (λ e. (all : Declared) (d : StatedMethod) → HasNames all names.now → StatesMethod all (message_of message.now) d
+    ensures refused { IfErr result (λ e. (all : Declared) (d : StatedMethod)
+        → HasNames all names.now → StatesMethod all (message_of message.now) d
         → e ≡ Memory) }
 {
     let name = String::from_str(alloc, text(message, proto::METHOD_NAME)?)?;
@@ -97,9 +99,12 @@ fn methods(
     names: &BTreeMap<String, Named>,
     messages: &[&Message],
 ) -> Result<Vec<Method>, Unstated>
-    ensures made { IfOk result (λ made. (all : Declared) (ds : List StatedMethod) → HasNames all names.now
-        → AllZip (StatesMethod all) (map message_of (lent messages.now)) ds → map method_view made.items ≡ map method_view ds) }
-    ensures refused { IfErr result (λ e. (all : Declared) (ds : List StatedMethod) → HasNames all names.now
+    ensures made { IfOk result (λ made. (all : Declared) (ds : List StatedMethod)
+        → HasNames all names.now
+        → AllZip (StatesMethod all) (map message_of (lent messages.now)) ds
+        → map method_view made.items ≡ map method_view ds) }
+    ensures refused { IfErr result (λ e. (all : Declared) (ds : List StatedMethod)
+        → HasNames all names.now
         → AllZip (StatesMethod all) (map message_of (lent messages.now)) ds → e ≡ Memory) }
 {
     let mut methods = Vec::new(alloc);
@@ -115,10 +120,14 @@ pub fn service(
     names: &BTreeMap<String, Named>,
     outlined: &Outlined<'_>,
 ) -> Result<Service, Unstated>
-    ensures made { IfOk result (λ made. (all : Declared) (scope : List ℕ) (s : StatedService) → HasNames all names.now
-        → string_bytes outlined.now.name ≡ within scope (text_at proto.service_name (message_of outlined.now.message.now))
-        → StatesService all scope (message_of outlined.now.message.now) s → service_view made ≡ service_view s) }
-    ensures refused { IfErr result (λ e. (all : Declared) (scope : List ℕ) (s : StatedService) → HasNames all names.now
+    ensures made { IfOk result (λ made. (all : Declared) (scope : List ℕ) (s : StatedService)
+        → HasNames all names.now
+        → string_bytes outlined.now.name
+        ≡ within scope (text_at proto.service_name (message_of outlined.now.message.now))
+        → StatesService all scope (message_of outlined.now.message.now) s
+        → service_view made ≡ service_view s) }
+    ensures refused { IfErr result (λ e. (all : Declared) (scope : List ℕ) (s : StatedService)
+        → HasNames all names.now
         → StatesService all scope (message_of outlined.now.message.now) s → e ≡ Memory) }
 {
     let message = outlined.message;
@@ -152,8 +161,8 @@ fn mode(found: i128) -> Option<OptimizeMode>
     None
 }
 
-// The value of the option of that number whose item is a number. A mode that isn't one is told as a flag, which
-// is of no mode's kind.
+// The value of the option of that number whose item is a number. A mode that isn't one is told as a
+// flag, which is of no mode's kind.
 fn numbered(number: u32, found: i128) -> OptionValue
     ensures { result ≡ numbered number found }
 {
@@ -168,8 +177,10 @@ fn numbered(number: u32, found: i128) -> OptionValue
 
 // The value of the option of that number.
 fn option_value(alloc: Global, number: u32, value: &Value) -> Result<OptionValue, Unstated>
-    ensures made { IfOk result (λ made. (v : StatedValue) → shown value.now ≡ option_item v → is_of_kind number v ≡ true → value_of made ≡ value_of v) }
-    ensures refused { IfErr result (λ e. (v : StatedValue) → shown value.now ≡ option_item v → e ≡ Memory) }
+    ensures made { IfOk result (λ made. (v : StatedValue) → shown value.now ≡ option_item v
+        → is_of_kind number v ≡ true → value_of made ≡ value_of v) }
+    ensures refused { IfErr result (λ e. (v : StatedValue) → shown value.now ≡ option_item v
+        → e ≡ Memory) }
 {
     if let Value::Int(_) = value {
         return Ok(numbered(number, number_in(value)));
@@ -185,9 +196,12 @@ fn options_under(
     message: &Message,
     numbers: &[u32],
 ) -> Result<Vec<FileOption>, Unstated>
-    ensures made { IfOk result (λ made. (os : List StatedOption) → StatesThese (message_of message.now) os numbers.now
-        → list_all is_file_option os ≡ true → map option_view made.items ≡ views_under os numbers.now) }
-    ensures refused { IfErr result (λ e. (os : List StatedOption) → StatesThese (message_of message.now) os numbers.now → e ≡ Memory) }
+    ensures made { IfOk result (λ made. (os : List StatedOption)
+        → StatesThese (message_of message.now) os numbers.now
+        → list_all is_file_option os ≡ true
+        → map option_view made.items ≡ views_under os numbers.now) }
+    ensures refused { IfErr result (λ e. (os : List StatedOption)
+        → StatesThese (message_of message.now) os numbers.now → e ≡ Memory) }
 {
     let mut options = Vec::new(alloc);
     for number in numbers {
@@ -203,9 +217,12 @@ fn options_under(
 
 // The options of a file, by rising number.
 fn options(alloc: Global, message: &Message) -> Result<Vec<FileOption>, Unstated>
-    ensures made { IfOk result (λ made. (os : List StatedOption) → StatesOptions (options_at proto.file_options (message_of message.now)) os
-        → is_rising (0 ∷ option_numbers os) ≡ true → list_all is_file_option os ≡ true → map option_view made.items ≡ map option_view os) }
-    ensures refused { IfErr result (λ e. (os : List StatedOption) → StatesOptions (options_at proto.file_options (message_of message.now)) os → e ≡ Memory) }
+    ensures made { IfOk result (λ made. (os : List StatedOption)
+        → StatesOptions (options_at proto.file_options (message_of message.now)) os
+        → is_rising (0 ∷ option_numbers os) ≡ true → list_all is_file_option os ≡ true
+        → map option_view made.items ≡ map option_view os) }
+    ensures refused { IfErr result (λ e. (os : List StatedOption)
+        → StatesOptions (options_at proto.file_options (message_of message.now)) os → e ≡ Memory) }
 {
     let own = own_options(message);
     match own {
@@ -214,8 +231,8 @@ fn options(alloc: Global, message: &Message) -> Result<Vec<FileOption>, Unstated
     }
 }
 
-// The imports of these paths, where those at places that are marked are public, without those that are
-// skipped.
+// The imports of these paths, where those at places that are marked are public, without those that
+// are skipped.
 fn kept(
     alloc: Global,
     skips: bool,
@@ -224,7 +241,8 @@ fn kept(
     paths: &[&str],
 ) -> Result<Vec<Import>, AllocError>
     requires { AreMarked public.now (length paths.now) marks.now }
-    ensures { IfOk result (λ made. map import_of made.items ≡ kept_imports skips public.now 0 (lent paths.now)) }
+    ensures { IfOk result (λ made. map import_of made.items
+        ≡ kept_imports skips public.now 0 (lent paths.now)) }
 {
     let mut imports = Vec::new(alloc);
     for (place, path) in paths.iter().enumerate() {
@@ -242,10 +260,13 @@ fn kept(
 // The imports of a file, without those that are skipped.
 fn imports(alloc: Global, skips: bool, message: &Message) -> Result<Vec<Import>, Unstated>
     ensures made { IfOk result (λ made. map import_of made.items
-        ≡ kept_imports skips (numbers_at proto.file_public_dependency (message_of message.now)) 0 (texts_at proto.file_dependency (message_of message.now))) }
+        ≡ kept_imports skips (numbers_at proto.file_public_dependency (message_of message.now)) 0
+        (texts_at proto.file_dependency (message_of message.now))) }
     ensures refused { IfErr result (λ e. (is : List StatedImport)
-        → kept_imports skips (numbers_at proto.file_public_dependency (message_of message.now)) 0 (texts_at proto.file_dependency (message_of message.now)) ≡ map import_of is
-        → list_all (is_place (length (texts_at proto.file_dependency (message_of message.now)))) (numbers_at proto.file_public_dependency (message_of message.now)) ≡ true → e ≡ Memory) }
+        → kept_imports skips (numbers_at proto.file_public_dependency (message_of message.now)) 0
+        (texts_at proto.file_dependency (message_of message.now)) ≡ map import_of is
+        → list_all (is_place (length (texts_at proto.file_dependency (message_of message.now))))
+        (numbers_at proto.file_public_dependency (message_of message.now)) ≡ true → e ≡ Memory) }
 {
     let paths = texts(alloc, message, proto::FILE_DEPENDENCY)?;
     let public = numbers(alloc, message, proto::FILE_PUBLIC_DEPENDENCY)?;
@@ -256,9 +277,11 @@ fn imports(alloc: Global, skips: bool, message: &Message) -> Result<Vec<Import>,
 
 /// The file of a message. Refused, memory aside, only where none is stated.
 pub fn file(alloc: Global, skips: bool, outlined: &OutlinedFile<'_>) -> Result<File, Unstated>
-    ensures made { IfOk result (λ made. (all : Declared) (f : StatedFile) → IsOutlinedFile all skips outlined.now f → is_file f ≡ true
+    ensures made { IfOk result (λ made. (all : Declared) (f : StatedFile)
+        → IsOutlinedFile all skips outlined.now f → is_file f ≡ true
         → file_view made ≡ file_view f) }
-    ensures refused { IfErr result (λ e. (all : Declared) (f : StatedFile) → IsOutlinedFile all skips outlined.now f → is_file f ≡ true → e ≡ Memory) }
+    ensures refused { IfErr result (λ e. (all : Declared) (f : StatedFile)
+        → IsOutlinedFile all skips outlined.now f → is_file f ≡ true → e ≡ Memory) }
 {
     let message = outlined.message;
     let own_name = text(message, proto::FILE_NAME)?;

@@ -50,7 +50,8 @@ fn check_entry_field(
     name: &str,
     place: i128,
 ) -> Result<(), Unstated>
-    ensures refused { IfErr result (λ r. (all : Declared) (n : ℕ) (e : StatedElement) → place ≡ pos n → default_json_name name.now ≡ name.now
+    ensures refused { IfErr result (λ r. (all : Declared) (n : ℕ) (e : StatedElement)
+        → place ≡ pos n → default_json_name name.now ≡ name.now
         → StatesEntryField all name.now n e (message_of message.now) → r ≡ Memory) }
 {
     same_text(text(message, proto::FIELD_NAME)?, name)?;
@@ -62,7 +63,8 @@ fn check_entry_field(
     ensure(!flag(message, proto::FIELD_PROTO3_OPTIONAL))
 }
 
-// What a map's keys are. A type that may not be one is told as that of floats, which may not either.
+// What a map's keys are. A type that may not be one is told as that of floats, which may not
+// either.
 fn key(names: &BTreeMap<String, Named>, message: &Message) -> Result<Scalar, Unstated>
     ensures made { IfOk result (λ made. (all : Declared) (s : StatedScalar) → HasNames all names.now
         → StatesElement all (message_of message.now) (ScalarElement s) → made ≡ s) }
@@ -82,10 +84,12 @@ fn key_and_value(
     names: &BTreeMap<String, Named>,
     fields: &[&Message],
 ) -> Result<(Scalar, Element), Unstated>
-    ensures made { IfOk result (λ made. (all : Declared) (k : StatedScalar) (v : StatedElement) → HasNames all names.now
+    ensures made { IfOk result (λ made. (all : Declared) (k : StatedScalar) (v : StatedElement)
+        → HasNames all names.now
         → is_known (length all.types) (length all.enums) v ≡ true
         → AreKeyAndValue all k v (map message_of (lent fields.now)) → (made.0 ≡ k) × (made.1 ≡ v)) }
-    ensures refused { IfErr result (λ r. (all : Declared) (k : StatedScalar) (v : StatedElement) → HasNames all names.now
+    ensures refused { IfErr result (λ r. (all : Declared) (k : StatedScalar) (v : StatedElement)
+        → HasNames all names.now
         → is_known (length all.types) (length all.enums) v ≡ true
         → AreKeyAndValue all k v (map message_of (lent fields.now)) → r ≡ Memory) }
 {
@@ -107,10 +111,12 @@ fn entry_parts(
     names: &BTreeMap<String, Named>,
     entry: &Message,
 ) -> Result<(Scalar, Element), Unstated>
-    ensures made { IfOk result (λ made. (all : Declared) (f : StatedField) (k : StatedScalar) → HasNames all names.now
+    ensures made { IfOk result (λ made. (all : Declared) (f : StatedField) (k : StatedScalar)
+        → HasNames all names.now
         → is_known (length all.types) (length all.enums) f.element ≡ true
         → StatesEntry all f k (message_of entry.now) → (made.0 ≡ k) × (made.1 ≡ f.element)) }
-    ensures refused { IfErr result (λ r. (all : Declared) (f : StatedField) (k : StatedScalar) → HasNames all names.now
+    ensures refused { IfErr result (λ r. (all : Declared) (f : StatedField) (k : StatedScalar)
+        → HasNames all names.now
         → is_known (length all.types) (length all.enums) f.element ≡ true
         → StatesEntry all f k (message_of entry.now) → r ≡ Memory) }
 {
@@ -130,7 +136,9 @@ fn taken<'a>(
     name: &str,
 ) -> Result<&'a Message, Unstated>
     ensures found { IfOk result (λ entry. get_by_text entries.old name.now ≡ Some entry) }
-    ensures left { OnOk result ((other : List ℕ) → get_by_text entries.new other ≡ (if bytes_eq name.now other then None else get_by_text entries.old other)) }
+    ensures left { OnOk result ((other : List ℕ)
+        → get_by_text entries.new other
+        ≡ (if bytes_eq name.now other then None else get_by_text entries.old other)) }
     ensures refused { OnErr result (get_by_text entries.old name.now ≡ None) }
 {
     match entries.remove(name) {
@@ -154,7 +162,8 @@ fn is_entry_type(named: Named) -> bool
 pub fn is_map(names: &BTreeMap<String, Named>, message: &Message) -> Result<bool, Unstated>
     ensures made { IfOk result (λ made. (all : Declared) (scope : List ℕ) (f : StatedField)
         → StatesKnown all names.now scope (message_of message.now) f → made ≡ is_map f.presence) }
-    ensures refused { OnErr result ((all : Declared) (scope : List ℕ) (f : StatedField) → StatesKnown all names.now scope (message_of message.now) f → ⊥) }
+    ensures refused { OnErr result ((all : Declared) (scope : List ℕ) (f : StatedField)
+        → StatesKnown all names.now scope (message_of message.now) f → ⊥) }
 {
     let name = maybe_text(message, proto::FIELD_TYPE_NAME)?;
     let Some(name) = name else {
@@ -170,7 +179,8 @@ pub fn is_map(names: &BTreeMap<String, Named>, message: &Message) -> Result<bool
 
 // The field names this type.
 fn names_type(message: &Message, full: &str) -> Result<(), Unstated>
-    ensures refused { OnErr result (maybe_text_at proto.field_type_name (message_of message.now) ≡ Some full.now → ⊥) }
+    ensures refused { OnErr result (maybe_text_at proto.field_type_name (message_of message.now)
+        ≡ Some full.now → ⊥) }
 {
     let name = maybe_text(message, proto::FIELD_TYPE_NAME)?;
     match name {
@@ -179,8 +189,9 @@ fn names_type(message: &Message, full: &str) -> Result<(), Unstated>
     }
 }
 
-/// The presence and element of a map field of a message type of that full name: its entry type is that of
-/// its name among these, which no other field has then. Refused, memory aside, only where it states no such field.
+/// The presence and element of a map field of a message type of that full name: its entry type is
+/// that of its name among these, which no other field has then. Refused, memory aside, only where
+/// it states no such field.
 pub fn map_parts<'a>(
     alloc: Global,
     names: &BTreeMap<String, Named>,
@@ -188,13 +199,16 @@ pub fn map_parts<'a>(
     entries: &mut BTreeMap<String, &'a Message>,
     message: &Message,
 ) -> Result<(Presence, Element), Unstated>
-    ensures made { IfOk result (λ made. (all : Declared) (f : StatedField) → StatesKnown all names.now scope.now (message_of message.now) f
+    ensures made { IfOk result (λ made. (all : Declared) (f : StatedField)
+        → StatesKnown all names.now scope.now (message_of message.now) f
         → is_map f.presence ≡ true → HasNamedEntry all entries.old f
         → (made.0 ≡ f.presence) × (made.1 ≡ f.element)) }
     ensures map { IfOk result (λ made. is_map made.0 ≡ true) }
     ensures left { OnOk result ((name : List ℕ) → get_by_text entries.new name
-        ≡ (if bytes_eq (entry_name (text_at proto.field_name (message_of message.now))) name then None else get_by_text entries.old name)) }
-    ensures refused { IfErr result (λ r. (all : Declared) (f : StatedField) → StatesKnown all names.now scope.now (message_of message.now) f
+        ≡ (if bytes_eq (entry_name (text_at proto.field_name (message_of message.now))) name then
+        None else get_by_text entries.old name)) }
+    ensures refused { IfErr result (λ r. (all : Declared) (f : StatedField)
+        → StatesKnown all names.now scope.now (message_of message.now) f
         → is_map f.presence ≡ true → HasNamedEntry all entries.old f → r ≡ Memory) }
 {
     same_number(label_of(message), REPEATED)?;

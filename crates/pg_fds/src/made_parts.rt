@@ -28,9 +28,11 @@ fn all_files(
     skips: bool,
     outlined: &[OutlinedFile<'_>],
 ) -> Result<Vec<File>, Unstated>
-    ensures made { IfOk result (λ made. (all : Declared) (cs : List StatedFile) → AllZip (IsMadeFile all skips) outlined.now cs
+    ensures made { IfOk result (λ made. (all : Declared) (cs : List StatedFile)
+        → AllZip (IsMadeFile all skips) outlined.now cs
         → map file_view made.items ≡ map file_view cs) }
-    ensures refused { IfErr result (λ e. (all : Declared) (cs : List StatedFile) → AllZip (IsMadeFile all skips) outlined.now cs → e ≡ Memory) }
+    ensures refused { IfErr result (λ e. (all : Declared) (cs : List StatedFile)
+        → AllZip (IsMadeFile all skips) outlined.now cs → e ≡ Memory) }
 {
     let mut files = Vec::new(alloc);
     for one in outlined {
@@ -46,9 +48,11 @@ fn all_types(
     names: &BTreeMap<String, Named>,
     outlined: &[OutlinedType<'_>],
 ) -> Result<Vec<MessageType>, Unstated>
-    ensures made { IfOk result (λ made. (all : Declared) (cs : List StatedType) → AllZip (IsMadeType all names.now) outlined.now cs
+    ensures made { IfOk result (λ made. (all : Declared) (cs : List StatedType)
+        → AllZip (IsMadeType all names.now) outlined.now cs
         → map type_view made.items ≡ map type_view cs) }
-    ensures refused { IfErr result (λ e. (all : Declared) (cs : List StatedType) → AllZip (IsMadeType all names.now) outlined.now cs → e ≡ Memory) }
+    ensures refused { IfErr result (λ e. (all : Declared) (cs : List StatedType)
+        → AllZip (IsMadeType all names.now) outlined.now cs → e ≡ Memory) }
 {
     let mut types = Vec::new(alloc);
     for one in outlined {
@@ -60,8 +64,10 @@ fn all_types(
 
 // The enums.
 fn all_enums(alloc: Global, outlined: &[Outlined<'_>]) -> Result<Vec<EnumType>, Unstated>
-    ensures made { IfOk result (λ made. (cs : List StatedEnum) → AllZip IsMadeEnum outlined.now cs → map enum_view made.items ≡ map enum_view cs) }
-    ensures refused { IfErr result (λ e. (cs : List StatedEnum) → AllZip IsMadeEnum outlined.now cs → e ≡ Memory) }
+    ensures made { IfOk result (λ made. (cs : List StatedEnum) → AllZip IsMadeEnum outlined.now cs
+        → map enum_view made.items ≡ map enum_view cs) }
+    ensures refused { IfErr result (λ e. (cs : List StatedEnum) → AllZip IsMadeEnum outlined.now cs
+        → e ≡ Memory) }
 {
     let mut enums = Vec::new(alloc);
     for one in outlined {
@@ -77,9 +83,12 @@ fn all_services(
     names: &BTreeMap<String, Named>,
     outlined: &[Outlined<'_>],
 ) -> Result<Vec<Service>, Unstated>
-    ensures made { IfOk result (λ made. (all : Declared) (cs : List StatedService) → HasNames all names.now
-        → AllZip (IsMadeService all) outlined.now cs → map service_view made.items ≡ map service_view cs) }
-    ensures refused { IfErr result (λ e. (all : Declared) (cs : List StatedService) → HasNames all names.now
+    ensures made { IfOk result (λ made. (all : Declared) (cs : List StatedService)
+        → HasNames all names.now
+        → AllZip (IsMadeService all) outlined.now cs
+        → map service_view made.items ≡ map service_view cs) }
+    ensures refused { IfErr result (λ e. (all : Declared) (cs : List StatedService)
+        → HasNames all names.now
         → AllZip (IsMadeService all) outlined.now cs → e ≡ Memory) }
 {
     let mut services = Vec::new(alloc);
@@ -90,12 +99,14 @@ fn all_services(
     Ok(services)
 }
 
-/// The parts that the outlined files declare. Refused, memory aside, only where none are stated that keep to the
-/// rules, of numbers that an int32 holds.
+/// The parts that the outlined files declare. Refused, memory aside, only where none are stated
+/// that keep to the rules, of numbers that an int32 holds.
 pub fn made_parts(alloc: Global, skips: bool, outline: &Outline<'_>) -> Result<Parts, Unstated>
-    ensures made { IfOk result (λ made. (parts : StatedParts) → IsSound parts → AllByRecursion IsSmallEnum parts.enums.items
+    ensures made { IfOk result (λ made. (parts : StatedParts) → IsSound parts
+        → AllByRecursion IsSmallEnum parts.enums.items
         → AreOutlined skips parts outline.now → parts_view made ≡ parts_view parts) }
-    ensures refused { IfErr result (λ e. (parts : StatedParts) → IsSound parts → AllByRecursion IsSmallEnum parts.enums.items
+    ensures refused { IfErr result (λ e. (parts : StatedParts) → IsSound parts
+        → AllByRecursion IsSmallEnum parts.enums.items
         → AreOutlined skips parts outline.now → e ≡ Memory) }
 {
     let names = &outline.names;

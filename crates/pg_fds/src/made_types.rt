@@ -69,7 +69,8 @@ fn whole(message: &Message, field: u32) -> Result<i32, Unstated>
 
 fn value(alloc: Global, message: &Message) -> Result<EnumValue, Unstated>
     ensures states { IfOk result (StatesValue (message_of message.now)) }
-    ensures refused { IfErr result (λ e. (v : StatedValue) → StatesValue (message_of message.now) v → IsSmallValue v → e ≡ Memory) }
+    ensures refused { IfErr result (λ e. (v : StatedValue) → StatesValue (message_of message.now) v
+        → IsSmallValue v → e ≡ Memory) }
 {
     Ok(EnumValue {
         name: String::from_str(alloc, text(message, proto::VALUE_NAME)?)?,
@@ -81,8 +82,10 @@ fn value(alloc: Global, message: &Message) -> Result<EnumValue, Unstated>
 }
 
 fn values(alloc: Global, messages: &[&Message]) -> Result<Vec<EnumValue>, Unstated>
-    ensures states { IfOk result (λ made. AllZip StatesValue (map message_of (lent messages.now)) made.items) }
-    ensures refused { IfErr result (λ e. (vs : List StatedValue) → AllZip StatesValue (map message_of (lent messages.now)) vs
+    ensures states { IfOk result (λ made. AllZip StatesValue
+        (map message_of (lent messages.now)) made.items) }
+    ensures refused { IfErr result (λ e. (vs : List StatedValue)
+        → AllZip StatesValue (map message_of (lent messages.now)) vs
         → AllByRecursion IsSmallValue vs → e ≡ Memory) }
 {
     let mut values = Vec::new(alloc);
@@ -95,7 +98,8 @@ fn values(alloc: Global, messages: &[&Message]) -> Result<Vec<EnumValue>, Unstat
 
 fn value_range(message: &Message) -> Result<ReservedValues, Unstated>
     ensures states { IfOk result (StatesValueRange (message_of message.now)) }
-    ensures refused { IfErr result (λ e. (r : StatedRange) → StatesValueRange (message_of message.now) r → AreSmallEnds r → e ≡ Memory) }
+    ensures refused { IfErr result (λ e. (r : StatedRange)
+        → StatesValueRange (message_of message.now) r → AreSmallEnds r → e ≡ Memory) }
 {
     Ok(ReservedValues {
         first: whole(message, proto::RANGE_START)?,
@@ -104,8 +108,10 @@ fn value_range(message: &Message) -> Result<ReservedValues, Unstated>
 }
 
 fn value_ranges(alloc: Global, messages: &[&Message]) -> Result<Vec<ReservedValues>, Unstated>
-    ensures states { IfOk result (λ made. AllZip StatesValueRange (map message_of (lent messages.now)) made.items) }
-    ensures refused { IfErr result (λ e. (rs : List StatedRange) → AllZip StatesValueRange (map message_of (lent messages.now)) rs
+    ensures states { IfOk result (λ made. AllZip StatesValueRange
+        (map message_of (lent messages.now)) made.items) }
+    ensures refused { IfErr result (λ e. (rs : List StatedRange)
+        → AllZip StatesValueRange (map message_of (lent messages.now)) rs
         → AllByRecursion AreSmallEnds rs → e ≡ Memory) }
 {
     let mut ranges = Vec::new(alloc);
@@ -116,12 +122,14 @@ fn value_ranges(alloc: Global, messages: &[&Message]) -> Result<Vec<ReservedValu
     Ok(ranges)
 }
 
-/// The enum of a message, which states it. Refused, memory aside, only where none is stated, of numbers
-/// that an int32 holds.
+/// The enum of a message, which states it. Refused, memory aside, only where none is stated, of
+/// numbers that an int32 holds.
 pub fn made_enum(alloc: Global, outlined: &Outlined<'_>) -> Result<EnumType, Unstated>
     ensures states { IfOk result (λ made. (scope : List ℕ) → string_bytes outlined.now.name
-        ≡ within scope (text_at proto.enum_name (message_of outlined.now.message.now)) → StatesEnum scope (message_of outlined.now.message.now) made) }
-    ensures refused { IfErr result (λ e. (scope : List ℕ) (stated : StatedEnum) → StatesEnum scope (message_of outlined.now.message.now) stated
+        ≡ within scope (text_at proto.enum_name (message_of outlined.now.message.now))
+        → StatesEnum scope (message_of outlined.now.message.now) made) }
+    ensures refused { IfErr result (λ e. (scope : List ℕ) (stated : StatedEnum)
+        → StatesEnum scope (message_of outlined.now.message.now) stated
         → IsSmallEnum stated → e ≡ Memory) }
 {
     let message = outlined.message;
@@ -148,7 +156,8 @@ pub fn made_enum(alloc: Global, outlined: &Outlined<'_>) -> Result<EnumType, Uns
 
 // The reserved numbers, which end before the second number.
 fn field_range(message: &Message) -> ReservedFields
-    ensures { (r : StatedFields) → StatesFieldRange (message_of message.now) r → is_reserved_range r ≡ true → result ≡ r }
+    ensures { (r : StatedFields) → StatesFieldRange (message_of message.now) r
+        → is_reserved_range r ≡ true → result ≡ r }
 {
     let end = count(message, proto::RANGE_END);
     ReservedFields {
@@ -158,7 +167,8 @@ fn field_range(message: &Message) -> ReservedFields
 }
 
 fn field_ranges(alloc: Global, messages: &[&Message]) -> Result<Vec<ReservedFields>, AllocError>
-    ensures { IfOk result (λ made. (rs : List StatedFields) → AllZip StatesFieldRange (map message_of (lent messages.now)) rs
+    ensures { IfOk result (λ made. (rs : List StatedFields)
+        → AllZip StatesFieldRange (map message_of (lent messages.now)) rs
         → list_all is_reserved_range rs ≡ true → made.items ≡ rs) }
 {
     let mut ranges = Vec::new(alloc);
@@ -171,7 +181,8 @@ fn field_ranges(alloc: Global, messages: &[&Message]) -> Result<Vec<ReservedFiel
 
 // The place of the oneof, among so many, that a field names, if it names one.
 fn named_place(field: &Message, count: usize) -> Result<Option<usize>, Unstated>
-    ensures ok { IfOk result (λ place. maybe_number_at proto.field_oneof_index (message_of field.now) ≡ option_map pos place) }
+    ensures ok { IfOk result (λ place. maybe_number_at proto.field_oneof_index
+        (message_of field.now) ≡ option_map pos place) }
     ensures within { IfOk result (λ found. IfSome found (λ place. place < count)) }
     ensures refused { OnErr result (has_place count (message_of field.now) ≡ false) }
 {
@@ -183,8 +194,10 @@ fn named_place(field: &Message, count: usize) -> Result<Option<usize>, Unstated>
 
 // How many of the fields name each of so many oneofs, where each names one of them or none.
 fn member_counts(alloc: Global, fields: &[&Message], count: usize) -> Result<Vec<usize>, Unstated>
-    ensures counted { IfOk result (λ counts. AreCounted (map message_of (lent fields.now)) count counts.items) }
-    ensures refused { IfErr result (λ e. list_all (has_place count) (map message_of (lent fields.now)) ≡ true → e ≡ Memory) }
+    ensures counted { IfOk result (λ counts.
+        AreCounted (map message_of (lent fields.now)) count counts.items) }
+    ensures refused { IfErr result (λ e. list_all (has_place count)
+        (map message_of (lent fields.now)) ≡ true → e ≡ Memory) }
 {
     let mut counts: Vec<usize> = vec![in alloc; 0; count]?;
     for field in fields {
@@ -202,7 +215,8 @@ fn entries<'a>(
     messages: &[&'a Message],
 ) -> Result<BTreeMap<String, &'a Message>, Unstated>
     ensures named { IfOk result (λ table. HasNamed table messages.now) }
-    ensures refused { IfErr result (λ e. AllByRecursion IsUtf8 (map (text_at proto.message_name) (map message_of (lent messages.now))) → e ≡ Memory) }
+    ensures refused { IfErr result (λ e. AllByRecursion IsUtf8
+        (map (text_at proto.message_name) (map message_of (lent messages.now))) → e ≡ Memory) }
 {
     let mut entries = BTreeMap::new(alloc);
     for message in messages {
@@ -219,11 +233,15 @@ fn fields<'a>(
     entries: BTreeMap<String, &'a Message>,
     messages: &[&Message],
 ) -> Result<Vec<Field>, Unstated>
-    ensures made { IfOk result (λ made. (all : Declared) (fs : List StatedField) → HasEntries all entries.entry fs
-        → AllZip (StatesFieldAt all scope.now.names.now scope.now.name.now scope.now.synthetic.items scope.now.members.items) (map message_of (lent messages.now)) fs
+    ensures made { IfOk result (λ made. (all : Declared) (fs : List StatedField)
+        → HasEntries all entries.entry fs
+        → AllZip (StatesFieldAt all scope.now.names.now scope.now.name.now scope.now.synthetic.items
+        scope.now.members.items) (map message_of (lent messages.now)) fs
         → map field_view made.items ≡ map field_view fs) }
-    ensures refused { IfErr result (λ e. (all : Declared) (fs : List StatedField) → HasEntries all entries.entry fs
-        → AllZip (StatesFieldAt all scope.now.names.now scope.now.name.now scope.now.synthetic.items scope.now.members.items) (map message_of (lent messages.now)) fs
+    ensures refused { IfErr result (λ e. (all : Declared) (fs : List StatedField)
+        → HasEntries all entries.entry fs
+        → AllZip (StatesFieldAt all scope.now.names.now scope.now.name.now scope.now.synthetic.items
+        scope.now.members.items) (map message_of (lent messages.now)) fs
         → e ≡ Memory) }
 {
     let mut left = entries;
@@ -250,14 +268,15 @@ fn numbers(alloc: Global, fields: &[Field]) -> Result<Vec<u32>, AllocError>
 // The fields by rising number.
 fn by_number(mut fields: Vec<Field>) -> Result<Vec<Field>, AllocError>
     ensures same { IfOk result (λ sorted. IsPermutation fields.items sorted.items) }
-    ensures rising { IfOk result (λ sorted. IsNonDecreasingBy (λ (f : StatedField). f.number) sorted.items) }
+    ensures rising { IfOk result (λ sorted. IsNonDecreasingBy
+        (λ (f : StatedField). f.number) sorted.items) }
 {
     fields.sort_by_key(|field| field.number)?;
     Ok(fields)
 }
 
-// The fields of a message type in order of declaration, made of these messages, where it is known which of its
-// oneofs are synthetic.
+// The fields of a message type in order of declaration, made of these messages, where it is known
+// which of its oneofs are synthetic.
 fn declared_fields(
     alloc: Global,
     names: &BTreeMap<String, Named>,
@@ -265,11 +284,16 @@ fn declared_fields(
     own: &[&Message],
     synthetic: Vec<bool>,
 ) -> Result<Vec<Field>, Unstated>
-    requires own { map message_of (lent own.now) ≡ children_at proto.message_field (message_of outlined.now.message.now) }
-    requires marked { AreMarked (stated_places (map message_of (lent own.now))) (length (children_at proto.message_oneof_decl (message_of outlined.now.message.now))) synthetic.items }
-    ensures made { IfOk result (λ made. (all : Declared) (scope : List ℕ) (t : StatedType) → StatesMadeType all names.now scope outlined.now t
+    requires own { map message_of (lent own.now)
+        ≡ children_at proto.message_field (message_of outlined.now.message.now) }
+    requires marked { AreMarked (stated_places (map message_of (lent own.now)))
+        (length (children_at proto.message_oneof_decl (message_of outlined.now.message.now)))
+        synthetic.items }
+    ensures made { IfOk result (λ made. (all : Declared) (scope : List ℕ) (t : StatedType)
+        → StatesMadeType all names.now scope outlined.now t
         → map field_view made.items ≡ map field_view (fields_of t)) }
-    ensures refused { IfErr result (λ e. (all : Declared) (scope : List ℕ) (t : StatedType) → StatesMadeType all names.now scope outlined.now t → e ≡ Memory) }
+    ensures refused { IfErr result (λ e. (all : Declared) (scope : List ℕ) (t : StatedType)
+        → StatesMadeType all names.now scope outlined.now t → e ≡ Memory) }
 {
     let inside = children(alloc, outlined.message, proto::MESSAGE_NESTED_TYPE)?;
     let messages = entries_of(alloc, &inside)?;
@@ -292,14 +316,19 @@ fn oneof_names(
     synthetic: &[bool],
 ) -> Result<Vec<String>, Unstated>
     requires { AreMarked places.now (length oneofs.now) synthetic.now }
-    ensures made { IfOk result (λ made. map string_bytes made.items ≡ map (text_at proto.oneof_name) (real_oneofs places.now 0 (map message_of (lent oneofs.now)))) }
-    ensures refused { IfErr result (λ e. AllByRecursion IsUtf8 (map (text_at proto.oneof_name) (real_oneofs places.now 0 (map message_of (lent oneofs.now)))) → e ≡ Memory) }
+    ensures made { IfOk result (λ made. map string_bytes made.items
+        ≡ map (text_at proto.oneof_name)
+        (real_oneofs places.now 0 (map message_of (lent oneofs.now)))) }
+    ensures refused { IfErr result (λ e. AllByRecursion IsUtf8
+        (map (text_at proto.oneof_name)
+        (real_oneofs places.now 0 (map message_of (lent oneofs.now)))) → e ≡ Memory) }
 {
     let names = real_names(alloc, oneofs, places, synthetic)?;
     Ok(copies(alloc, &names)?)
 }
 
-// The fields of a message type by rising number, their numbers in order of declaration, and its oneofs.
+// The fields of a message type by rising number, their numbers in order of declaration, and its
+// oneofs.
 #[derive(Drop)]
 struct Members {
     fields: Vec<Field>,
@@ -307,7 +336,8 @@ struct Members {
     oneofs: Vec<String>,
 }
 
-// The members of a message type, of its messages of fields and oneofs, where the synthetic ones are marked.
+// The members of a message type, of its messages of fields and oneofs, where the synthetic ones are
+// marked.
 fn marked_members(
     alloc: Global,
     names: &BTreeMap<String, Named>,
@@ -317,13 +347,17 @@ fn marked_members(
     places: &[i128],
     synthetic: Vec<bool>,
 ) -> Result<Members, Unstated>
-    requires own { map message_of (lent own.now) ≡ children_at proto.message_field (message_of outlined.now.message.now) }
-    requires inside { map message_of (lent inside.now) ≡ children_at proto.message_oneof_decl (message_of outlined.now.message.now) }
+    requires own { map message_of (lent own.now)
+        ≡ children_at proto.message_field (message_of outlined.now.message.now) }
+    requires inside { map message_of (lent inside.now)
+        ≡ children_at proto.message_oneof_decl (message_of outlined.now.message.now) }
     requires places { places.now ≡ stated_places (map message_of (lent own.now)) }
     requires marked { AreMarked places.now (length inside.now) synthetic.items }
-    ensures made { IfOk result (λ made. (all : Declared) (scope : List ℕ) (t : StatedType) → StatesMadeType all names.now scope outlined.now t
+    ensures made { IfOk result (λ made. (all : Declared) (scope : List ℕ) (t : StatedType)
+        → StatesMadeType all names.now scope outlined.now t
         → HasMembers made t) }
-    ensures refused { IfErr result (λ e. (all : Declared) (scope : List ℕ) (t : StatedType) → StatesMadeType all names.now scope outlined.now t → e ≡ Memory) }
+    ensures refused { IfErr result (λ e. (all : Declared) (scope : List ℕ) (t : StatedType)
+        → StatesMadeType all names.now scope outlined.now t → e ≡ Memory) }
 {
     let oneofs = oneof_names(alloc, inside, places, &synthetic)?;
     let made = declared_fields(alloc, names, outlined, own, synthetic)?;
@@ -344,11 +378,15 @@ fn members_of(
     own: &[&Message],
     inside: &[&Message],
 ) -> Result<Members, Unstated>
-    requires own { map message_of (lent own.now) ≡ children_at proto.message_field (message_of outlined.now.message.now) }
-    requires inside { map message_of (lent inside.now) ≡ children_at proto.message_oneof_decl (message_of outlined.now.message.now) }
-    ensures made { IfOk result (λ made. (all : Declared) (scope : List ℕ) (t : StatedType) → StatesMadeType all names.now scope outlined.now t
+    requires own { map message_of (lent own.now)
+        ≡ children_at proto.message_field (message_of outlined.now.message.now) }
+    requires inside { map message_of (lent inside.now)
+        ≡ children_at proto.message_oneof_decl (message_of outlined.now.message.now) }
+    ensures made { IfOk result (λ made. (all : Declared) (scope : List ℕ) (t : StatedType)
+        → StatesMadeType all names.now scope outlined.now t
         → HasMembers made t) }
-    ensures refused { IfErr result (λ e. (all : Declared) (scope : List ℕ) (t : StatedType) → StatesMadeType all names.now scope outlined.now t → e ≡ Memory) }
+    ensures refused { IfErr result (λ e. (all : Declared) (scope : List ℕ) (t : StatedType)
+        → StatesMadeType all names.now scope outlined.now t → e ≡ Memory) }
 {
     let places = synthetic_places(alloc, own)?;
     let synthetic = marks(alloc, &places, inside.len())?;
@@ -361,9 +399,11 @@ fn made_members(
     names: &BTreeMap<String, Named>,
     outlined: &OutlinedType<'_>,
 ) -> Result<Members, Unstated>
-    ensures made { IfOk result (λ made. (all : Declared) (scope : List ℕ) (t : StatedType) → StatesMadeType all names.now scope outlined.now t
+    ensures made { IfOk result (λ made. (all : Declared) (scope : List ℕ) (t : StatedType)
+        → StatesMadeType all names.now scope outlined.now t
         → HasMembers made t) }
-    ensures refused { IfErr result (λ e. (all : Declared) (scope : List ℕ) (t : StatedType) → StatesMadeType all names.now scope outlined.now t → e ≡ Memory) }
+    ensures refused { IfErr result (λ e. (all : Declared) (scope : List ℕ) (t : StatedType)
+        → StatesMadeType all names.now scope outlined.now t → e ≡ Memory) }
 {
     let own = children(alloc, outlined.message, proto::MESSAGE_FIELD)?;
     let inside = children(alloc, outlined.message, proto::MESSAGE_ONEOF_DECL)?;
@@ -376,9 +416,11 @@ pub fn made_type(
     names: &BTreeMap<String, Named>,
     outlined: &OutlinedType<'_>,
 ) -> Result<MessageType, Unstated>
-    ensures made { IfOk result (λ made. (all : Declared) (scope : List ℕ) (t : StatedType) → StatesMadeType all names.now scope outlined.now t
+    ensures made { IfOk result (λ made. (all : Declared) (scope : List ℕ) (t : StatedType)
+        → StatesMadeType all names.now scope outlined.now t
         → type_view made ≡ type_view t) }
-    ensures refused { IfErr result (λ e. (all : Declared) (scope : List ℕ) (t : StatedType) → StatesMadeType all names.now scope outlined.now t → e ≡ Memory) }
+    ensures refused { IfErr result (λ e. (all : Declared) (scope : List ℕ) (t : StatedType)
+        → StatesMadeType all names.now scope outlined.now t → e ≡ Memory) }
 {
     let message = outlined.message;
     let members = made_members(alloc, names, outlined)?;

@@ -1,5 +1,5 @@
-//! Messages of message types, `DescriptorProto` of descriptor.proto. Each call is refused only where
-//! memory is.
+//! Messages of message types, `DescriptorProto` of descriptor.proto. Each call is refused only
+//! where memory is.
 
 ghost use Rattle.std.specs.Prelude.{◌≡◌, ◌+◌, ◌<◌, ◌≤◌, ◌^◌, ◌++◌, IfOk, OnOk, Some, length, map};
 ghost use Rattle.std.specs.List.{AllByRecursion};
@@ -91,7 +91,8 @@ fn push_oneofs(
 ) -> Result<(), AllocError>
     requires table { shape_of table.now ≡ written_shape }
     requires kept { AreChildren ONEOF made.old.items }
-    ensures items { OnOk result (items_within made.new.items ≡ items_within made.old.items ++ map oneof_items (map string_bytes names.now)) }
+    ensures items { OnOk result (items_within made.new.items ≡ items_within made.old.items
+        ++ map oneof_items (map string_bytes names.now)) }
     ensures kept { OnOk result (AreChildren ONEOF made.new.items) }
 {
     for name in names {
@@ -112,7 +113,8 @@ fn oneofs(
 ) -> Result<Vec<Value>, AllocError>
     requires table { shape_of table.now ≡ written_shape }
     requires fields { lent fields.now ≡ declared_fields message_type.now }
-    ensures items { IfOk result (λ made. items_within made.items ≡ map oneof_items (oneof_names (declared_in source.now) message_type.now)) }
+    ensures items { IfOk result (λ made. items_within made.items
+        ≡ map oneof_items (oneof_names (declared_in source.now) message_type.now)) }
     ensures kept { IfOk result (λ made. AreChildren ONEOF made.items) }
 {
     let names = names_within(alloc, source, message_type)?;
@@ -134,7 +136,8 @@ fn fields_of<'a>(
     requires small { AllByRecursion HasSmallNumbers message_type.now.fields.items }
     ensures fields { IfOk result (λ fields. lent fields.items ≡ declared_fields message_type.now) }
     ensures small { IfOk result (λ fields. AllByRecursion HasSmallNumbers (lent fields.items)) }
-    ensures few { IfOk result (λ fields. length fields.items ≤ length message_type.now.declared.items) }
+    ensures few { IfOk result (λ fields. length fields.items
+        ≤ length message_type.now.declared.items) }
 {
     let mut fields = Vec::new(alloc);
     for number in &message_type.declared {
@@ -157,7 +160,8 @@ fn fields(
     requires table { shape_of table.now ≡ written_shape }
     requires small { AllByRecursion HasSmallNumbers (lent fields.now) }
     requires places { first + length fields.now < 2 ^ 31 }
-    ensures items { IfOk result (λ made. items_within made.items ≡ fields_items (declared_in source.now) scope.now first (lent fields.now)) }
+    ensures items { IfOk result (λ made. items_within made.items
+        ≡ fields_items (declared_in source.now) scope.now first (lent fields.now)) }
     ensures kept { IfOk result (λ made. AreChildren FIELD made.items) }
 {
     let mut made = Vec::new(alloc);
@@ -185,7 +189,8 @@ pub fn type_message(
     requires there { type_at source.now id ≡ Some message_type.now }
     requires small { IsSmallType message_type.now }
     requires nested { AreChildren MESSAGE nested.items }
-    ensures items { IfOk result (λ m. items_of m ≡ type_items (declared_in source.now) (items_within nested.items) message_type.now) }
+    ensures items { IfOk result (λ m. items_of m
+        ≡ type_items (declared_in source.now) (items_within nested.items) message_type.now) }
     ensures kept { IfOk result (IsOf MESSAGE) }
 {
     let mut message = empty(alloc, MESSAGE);

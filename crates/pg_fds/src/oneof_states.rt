@@ -24,7 +24,8 @@ use std::alloc::{AllocError, Global};
 pub fn marks(alloc: Global, numbers: &[i128], count: usize) -> Result<Vec<bool>, Unstated>
     ensures marks { IfOk result (λ marks. AreMarked numbers.now count marks.items) }
     ensures places { OnOk result (list_all (is_place count) numbers.now ≡ true) }
-    ensures refused { IfErr result (λ e. list_all (is_place count) numbers.now ≡ true → e ≡ Memory) }
+    ensures refused { IfErr result (λ e. list_all (is_place count) numbers.now ≡ true
+        → e ≡ Memory) }
 {
     let mut marks = vec![in alloc; false; count]?;
     for number in numbers {
@@ -36,7 +37,8 @@ pub fn marks(alloc: Global, numbers: &[i128], count: usize) -> Result<Vec<bool>,
 
 /// The places of the oneofs that fields marked `proto3_optional` name.
 pub fn synthetic_places(alloc: Global, fields: &[&Message]) -> Result<Vec<i128>, AllocError>
-    ensures { IfOk result (λ places. places.items ≡ synthetic_places (map message_of (lent fields.now))) }
+    ensures { IfOk result (λ places. places.items
+        ≡ synthetic_places (map message_of (lent fields.now))) }
 {
     let mut places = Vec::new(alloc);
     for field in fields {
@@ -72,8 +74,12 @@ pub fn real_names<'a>(
     marks: &[bool],
 ) -> Result<Vec<&'a str>, Unstated>
     requires { AreMarked numbers.now (length oneofs.now) marks.now }
-    ensures ok { IfOk result (λ names. lent names.items ≡ map (text_at proto.oneof_name) (real_oneofs numbers.now 0 (map message_of (lent oneofs.now)))) }
-    ensures refused { IfErr result (λ r. AllByRecursion IsUtf8 (map (text_at proto.oneof_name) (real_oneofs numbers.now 0 (map message_of (lent oneofs.now)))) → r ≡ Memory) }
+    ensures ok { IfOk result (λ names. lent names.items
+        ≡ map (text_at proto.oneof_name)
+        (real_oneofs numbers.now 0 (map message_of (lent oneofs.now)))) }
+    ensures refused { IfErr result (λ r. AllByRecursion IsUtf8
+        (map (text_at proto.oneof_name)
+        (real_oneofs numbers.now 0 (map message_of (lent oneofs.now)))) → r ≡ Memory) }
 {
     let mut names = Vec::new(alloc);
     for (place, oneof) in oneofs.iter().enumerate() {
@@ -94,8 +100,10 @@ fn names_oneof(
     own: u32,
 ) -> Result<(), Unstated>
     requires { AreMarked numbers.now (length oneofs.now) marks.now }
-    ensures ok { OnOk result (NamesOneof (map message_of (lent oneofs.now)) numbers.now (map string_bytes names.now) (Some named.now) (Some own)) }
-    ensures refused { OnErr result (NamesOneof (map message_of (lent oneofs.now)) numbers.now (map string_bytes names.now) (Some named.now) (Some own) → ⊥) }
+    ensures ok { OnOk result (NamesOneof (map message_of (lent oneofs.now)) numbers.now
+        (map string_bytes names.now) (Some named.now) (Some own)) }
+    ensures refused { OnErr result (NamesOneof (map message_of (lent oneofs.now)) numbers.now
+        (map string_bytes names.now) (Some named.now) (Some own) → ⊥) }
 {
     let place = place_in(named, oneofs.len())?;
     let own = own as usize;
@@ -118,8 +126,10 @@ fn stands_in(
     declared: &Field,
 ) -> Result<(), Unstated>
     requires { AreMarked numbers.now (length oneofs.now) marks.now }
-    ensures ok { OnOk result (StandsIn (map message_of (lent oneofs.now)) numbers.now (map string_bytes names.now) (message_of message.now) declared.now) }
-    ensures refused { OnErr result (StandsIn (map message_of (lent oneofs.now)) numbers.now (map string_bytes names.now) (message_of message.now) declared.now → ⊥) }
+    ensures ok { OnOk result (StandsIn (map message_of (lent oneofs.now)) numbers.now
+        (map string_bytes names.now) (message_of message.now) declared.now) }
+    ensures refused { OnErr result (StandsIn (map message_of (lent oneofs.now)) numbers.now
+        (map string_bytes names.now) (message_of message.now) declared.now → ⊥) }
 {
     if declared.states_optional {
         return Ok(());
@@ -143,8 +153,12 @@ fn members(
     declared: &[&Field],
 ) -> Result<(), Unstated>
     requires { AreMarked numbers.now (length oneofs.now) marks.now }
-    ensures ok { OnOk result (AllZip (StandsIn (map message_of (lent oneofs.now)) numbers.now (map string_bytes names.now)) (map message_of (lent messages.now)) (lent declared.now)) }
-    ensures refused { OnErr result (AllZip (StandsIn (map message_of (lent oneofs.now)) numbers.now (map string_bytes names.now)) (map message_of (lent messages.now)) (lent declared.now)
+    ensures ok { OnOk result (AllZip
+        (StandsIn (map message_of (lent oneofs.now)) numbers.now (map string_bytes names.now))
+        (map message_of (lent messages.now)) (lent declared.now)) }
+    ensures refused { OnErr result (AllZip
+        (StandsIn (map message_of (lent oneofs.now)) numbers.now (map string_bytes names.now))
+        (map message_of (lent messages.now)) (lent declared.now)
         → ⊥) }
 {
     ensure(messages.len() == declared.len())?;
@@ -166,8 +180,10 @@ fn marked_oneofs(
 ) -> Result<(), Unstated>
     requires synthetic { numbers.now ≡ synthetic_places (map message_of (lent messages.now)) }
     requires marked { AreMarked numbers.now (length oneofs.now) marks.now }
-    ensures ok { OnOk result (StatesOneofs (map message_of (lent oneofs.now)) (map message_of (lent messages.now)) message_type.now (lent declared.now)) }
-    ensures refused { IfErr result (λ r. StatesOneofs (map message_of (lent oneofs.now)) (map message_of (lent messages.now)) message_type.now (lent declared.now)
+    ensures ok { OnOk result (StatesOneofs (map message_of (lent oneofs.now))
+        (map message_of (lent messages.now)) message_type.now (lent declared.now)) }
+    ensures refused { IfErr result (λ r. StatesOneofs (map message_of (lent oneofs.now))
+        (map message_of (lent messages.now)) message_type.now (lent declared.now)
         → r ≡ Memory) }
 {
     let stated = message_type.oneofs.as_slice();
@@ -192,8 +208,10 @@ pub fn oneofs(
     message_type: &MessageType,
     declared: &[&Field],
 ) -> Result<(), Unstated>
-    ensures ok { OnOk result (StatesOneofs (map message_of (lent oneofs.now)) (map message_of (lent messages.now)) message_type.now (lent declared.now)) }
-    ensures refused { IfErr result (λ r. StatesOneofs (map message_of (lent oneofs.now)) (map message_of (lent messages.now)) message_type.now (lent declared.now)
+    ensures ok { OnOk result (StatesOneofs (map message_of (lent oneofs.now))
+        (map message_of (lent messages.now)) message_type.now (lent declared.now)) }
+    ensures refused { IfErr result (λ r. StatesOneofs (map message_of (lent oneofs.now))
+        (map message_of (lent messages.now)) message_type.now (lent declared.now)
         → r ≡ Memory) }
 {
     let numbers = synthetic_places(alloc, messages)?;

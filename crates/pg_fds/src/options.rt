@@ -47,7 +47,8 @@ pub fn two_flags(
     requires there { type_id.index < 18 }
     requires first { HasOne type_id 2 descriptor.flag }
     requires second { HasOne type_id 3 descriptor.flag }
-    ensures items { IfOk result (λ options. stated_items options ≡ rows.stated 2 first ++ rows.stated 3 second) }
+    ensures items { IfOk result (λ options. stated_items options
+        ≡ rows.stated 2 first ++ rows.stated 3 second) }
     ensures kept { IfOk result (λ options. AreOptions type_id options) }
 {
     if first.is_none() && second.is_none() {

@@ -32,7 +32,8 @@ struct Importing<'a> {
 fn places(alloc: Global, files: &[Importing<'_>]) -> Result<BTreeMap<String, usize>, Unstated>
     ensures index { IfOk result (λ places. IsIndex (paths_of (importers files.now)) places) }
     ensures once { OnOk result (are_distinct (paths_of (importers files.now)) ≡ true) }
-    ensures refused { IfErr result (λ e. (e ≡ errors.Memory) ⊎ (are_distinct (paths_of (importers files.now)) ≡ false)) }
+    ensures refused { IfErr result (λ e. (e ≡ errors.Memory)
+        ⊎ (are_distinct (paths_of (importers files.now)) ≡ false)) }
 {
     let mut places = BTreeMap::new(alloc);
     for (place, file) in files.iter().enumerate() {
@@ -48,7 +49,8 @@ fn places(alloc: Global, files: &[Importing<'_>]) -> Result<BTreeMap<String, usi
 // No path stands twice.
 fn are_apart(alloc: Global, paths: &[&str]) -> Result<(), Unstated>
     ensures once { OnOk result (are_distinct (lent paths.now) ≡ true) }
-    ensures refused { IfErr result (λ e. (e ≡ errors.Memory) ⊎ (are_distinct (lent paths.now) ≡ false)) }
+    ensures refused { IfErr result (λ e. (e ≡ errors.Memory)
+        ⊎ (are_distinct (lent paths.now) ≡ false)) }
 {
     let mut seen = BTreeSet::new(alloc);
     for path in paths {
@@ -60,15 +62,18 @@ fn are_apart(alloc: Global, paths: &[&str]) -> Result<(), Unstated>
     Ok(())
 }
 
-// The places of the files of these paths, of which each is there. Those that are skipped are left out.
+// The places of the files of these paths, of which each is there. Those that are skipped are left
+// out.
 fn imported(
     alloc: Global,
     places: &BTreeMap<String, usize>,
     skips: bool,
     paths: &[&str],
 ) -> Result<Vec<usize>, Unstated>
-    ensures ok { IfOk result (λ own. (all : List (List ℕ)) → IsIndex all places.now → StandAt all own.items (kept_paths skips (lent paths.now))) }
-    ensures refused { IfErr result (λ e. (e ≡ errors.Memory) ⊎ ((all : List (List ℕ)) → IsIndex all places.now
+    ensures ok { IfOk result (λ own. (all : List (List ℕ)) → IsIndex all places.now
+        → StandAt all own.items (kept_paths skips (lent paths.now))) }
+    ensures refused { IfErr result (λ e. (e ≡ errors.Memory)
+        ⊎ ((all : List (List ℕ)) → IsIndex all places.now
         → list_all (is_among all) (kept_paths skips (lent paths.now)) ≡ false)) }
 {
     let mut imported = Vec::new(alloc);
@@ -93,7 +98,8 @@ fn all_imported(
     ensures ok { IfOk result (λ all. ImportsAt skips (importers files.now) (lists_of all.items)) }
     ensures once { OnOk result (are_distinct (paths_of (importers files.now)) ≡ true) }
     ensures imports_once { OnOk result (list_all imports_once (importers files.now) ≡ true) }
-    ensures refused { IfErr result (λ e. (e ≡ errors.Memory) ⊎ HasNoOrder skips (importers files.now)) }
+    ensures refused { IfErr result (λ e. (e ≡ errors.Memory)
+        ⊎ HasNoOrder skips (importers files.now)) }
 {
     let places = places(alloc, files)?;
     let mut all = Vec::new(alloc);
@@ -104,11 +110,12 @@ fn all_imported(
     Ok(all)
 }
 
-// The places of the files in post-order of imports, begun at the files in their order. Refused, memory aside,
-// only where they have none.
+// The places of the files in post-order of imports, begun at the files in their order. Refused,
+// memory aside, only where they have none.
 fn order_of(alloc: Global, skips: bool, files: &[Importing<'_>]) -> Result<Vec<usize>, Unstated>
     ensures ok { IfOk result (λ order. AreOrdered skips (importers files.now) order.items) }
-    ensures refused { IfErr result (λ e. (e ≡ errors.Memory) ⊎ HasNoOrder skips (importers files.now)) }
+    ensures refused { IfErr result (λ e. (e ≡ errors.Memory)
+        ⊎ HasNoOrder skips (importers files.now)) }
 {
     let imported = all_imported(alloc, skips, files)?;
     post_order(alloc, &imported)
@@ -126,8 +133,10 @@ fn importing_file(alloc: Global, file: &Message) -> Result<Importing<'_>, Unstat
 
 // The same of all files.
 fn importing_files<'a>(alloc: Global, files: &[&'a Message]) -> Result<Vec<Importing<'a>>, Unstated>
-    ensures ok { IfOk result (λ found. importers found.items ≡ map importer_of (map message_of (lent files.now))) }
-    ensures refused { IfErr result (λ e. AllByRecursion HasPathTexts (map message_of (lent files.now)) → e ≡ errors.Memory) }
+    ensures ok { IfOk result (λ found. importers found.items
+        ≡ map importer_of (map message_of (lent files.now))) }
+    ensures refused { IfErr result (λ e. AllByRecursion HasPathTexts
+        (map message_of (lent files.now)) → e ≡ errors.Memory) }
 {
     let mut found = Vec::new(alloc);
     for file in files {
@@ -137,13 +146,16 @@ fn importing_files<'a>(alloc: Global, files: &[&'a Message]) -> Result<Vec<Impor
     Ok(found)
 }
 
-/// The places of the files in post-order of imports, begun at the files in their order: each stands behind
-/// those that it imports. Refused, memory aside, only where they have no order, or what one says of its name and
-/// its imports is no text.
+/// The places of the files in post-order of imports, begun at the files in their order: each stands
+/// behind those that it imports. Refused, memory aside, only where they have no order, or what one
+/// says of its name and its imports is no text.
 pub fn order(alloc: Global, skips: bool, files: &[&Message]) -> Result<Vec<usize>, Unstated>
-    ensures ok { IfOk result (λ order. AreOrdered skips (map importer_of (map message_of (lent files.now))) order.items) }
-    ensures refused { IfErr result (λ e. AllByRecursion HasPathTexts (map message_of (lent files.now))
-        → (e ≡ errors.Memory) ⊎ HasNoOrder skips (map importer_of (map message_of (lent files.now)))) }
+    ensures ok { IfOk result (λ order. AreOrdered skips
+        (map importer_of (map message_of (lent files.now))) order.items) }
+    ensures refused { IfErr result (λ e. AllByRecursion HasPathTexts
+        (map message_of (lent files.now))
+        → (e ≡ errors.Memory) ⊎ HasNoOrder skips
+        (map importer_of (map message_of (lent files.now)))) }
 {
     let found = importing_files(alloc, files)?;
     order_of(alloc, skips, &found)

@@ -1,5 +1,6 @@
-//! What a set declares: the places of message types, enums and services, and all full names. Memory aside, and
-//! bytes that are no text, names are refused only where one stands twice or is a part of a package.
+//! What a set declares: the places of message types, enums and services, and all full names. Memory
+//! aside, and bytes that are no text, names are refused only where one stands twice or is a part of
+//! a package.
 
 ghost use Rattle.std.specs.Prelude.{◌≡◌, ◌+◌, ◌<◌, ◌≤◌, ◌^◌, ◌++◌, ◌∷◌, [], ℕ, true, IfErr, IfOk, List, OnErr, OnOk, filter, flat_map, length, map};
 ghost use Rattle.std.specs.List.{AllByRecursion};
@@ -94,10 +95,14 @@ fn outline_enum<'a>(
     message: &'a Message,
 ) -> Result<EnumId, Unstated>
     ensures placed { IfOk result (λ id. id.index ≡ length enums.old.items) }
-    ensures rows { OnOk result (map row enums.new.items ≡ map row enums.old.items ++ row_in scope.now (message_of message.now) ∷ []) }
-    ensures named { OnOk result (AreEnumsNamed names.old (map row enums.old.items) → AreEnumsNamed names.new (map row enums.new.items)) }
-    ensures declares { OnOk result ((packages : List (List ℕ)) → Declares packages (enum_names scope.now (message_of message.now)) names.old names.new) }
-    ensures refused { IfErr result (λ e. length enums.old.items < 2 ^ 32 → (packages : List (List ℕ))
+    ensures rows { OnOk result (map row enums.new.items ≡ map row enums.old.items
+        ++ row_in scope.now (message_of message.now) ∷ []) }
+    ensures named { OnOk result (AreEnumsNamed names.old (map row enums.old.items)
+        → AreEnumsNamed names.new (map row enums.new.items)) }
+    ensures declares { OnOk result ((packages : List (List ℕ))
+        → Declares packages (enum_names scope.now (message_of message.now)) names.old names.new) }
+    ensures refused { IfErr result (λ e. length enums.old.items < 2 ^ 32
+        → (packages : List (List ℕ))
         → WantsMemory packages (enum_names scope.now (message_of message.now)) names.old e) }
 {
     let own = text(message, proto::ENUM_NAME)?;
@@ -119,13 +124,19 @@ fn outline_enums<'a>(
     scope: &str,
     messages: &[&'a Message],
 ) -> Result<Vec<EnumId>, Unstated>
-    ensures ids { IfOk result (λ ids. enum_places ids.items ≡ places_from (length enums.old.items) (length messages.now)) }
-    ensures rows { OnOk result (map row enums.new.items ≡ map row enums.old.items ++ rows_in scope.now (map message_of (lent messages.now))) }
-    ensures named { OnOk result (AreEnumsNamed names.old (map row enums.old.items) → AreEnumsNamed names.new (map row enums.new.items)) }
+    ensures ids { IfOk result (λ ids. enum_places ids.items
+        ≡ places_from (length enums.old.items) (length messages.now)) }
+    ensures rows { OnOk result (map row enums.new.items ≡ map row enums.old.items
+        ++ rows_in scope.now (map message_of (lent messages.now))) }
+    ensures named { OnOk result (AreEnumsNamed names.old (map row enums.old.items)
+        → AreEnumsNamed names.new (map row enums.new.items)) }
     ensures declares { OnOk result ((packages : List (List ℕ))
-        → Declares packages (enums_names scope.now (map message_of (lent messages.now))) names.old names.new) }
-    ensures refused { IfErr result (λ e. length enums.old.items + length messages.now ≤ 2 ^ 32 → (packages : List (List ℕ))
-        → WantsMemory packages (enums_names scope.now (map message_of (lent messages.now))) names.old e) }
+        → Declares packages (enums_names scope.now (map message_of (lent messages.now))) names.old
+        names.new) }
+    ensures refused { IfErr result (λ e. length enums.old.items + length messages.now ≤ 2 ^ 32
+        → (packages : List (List ℕ))
+        → WantsMemory packages (enums_names scope.now (map message_of (lent messages.now)))
+        names.old e) }
 {
     let mut ids = Vec::new(alloc);
     for message in messages {
@@ -146,9 +157,13 @@ fn outline_service<'a>(
     message: &'a Message,
 ) -> Result<ServiceId, Unstated>
     ensures placed { IfOk result (λ id. id.index ≡ length services.old.items) }
-    ensures rows { OnOk result (map row services.new.items ≡ map row services.old.items ++ row_in scope.now (message_of message.now) ∷ []) }
-    ensures declares { OnOk result ((packages : List (List ℕ)) → Declares packages (service_names scope.now (message_of message.now)) names.old names.new) }
-    ensures refused { IfErr result (λ e. length services.old.items < 2 ^ 32 → (packages : List (List ℕ))
+    ensures rows { OnOk result (map row services.new.items ≡ map row services.old.items
+        ++ row_in scope.now (message_of message.now) ∷ []) }
+    ensures declares { OnOk result ((packages : List (List ℕ))
+        → Declares packages (service_names scope.now (message_of message.now)) names.old
+        names.new) }
+    ensures refused { IfErr result (λ e. length services.old.items < 2 ^ 32
+        → (packages : List (List ℕ))
         → WantsMemory packages (service_names scope.now (message_of message.now)) names.old e) }
 {
     let own = text(message, proto::SERVICE_NAME)?;
@@ -176,12 +191,17 @@ fn outline_services<'a>(
     scope: &str,
     messages: &[&'a Message],
 ) -> Result<Vec<ServiceId>, Unstated>
-    ensures ids { IfOk result (λ ids. service_places ids.items ≡ places_from (length services.old.items) (length messages.now)) }
-    ensures rows { OnOk result (map row services.new.items ≡ map row services.old.items ++ rows_in scope.now (map message_of (lent messages.now))) }
+    ensures ids { IfOk result (λ ids. service_places ids.items
+        ≡ places_from (length services.old.items) (length messages.now)) }
+    ensures rows { OnOk result (map row services.new.items ≡ map row services.old.items
+        ++ rows_in scope.now (map message_of (lent messages.now))) }
     ensures declares { OnOk result ((packages : List (List ℕ))
-        → Declares packages (services_names scope.now (map message_of (lent messages.now))) names.old names.new) }
-    ensures refused { IfErr result (λ e. length services.old.items + length messages.now ≤ 2 ^ 32 → (packages : List (List ℕ))
-        → WantsMemory packages (services_names scope.now (map message_of (lent messages.now))) names.old e) }
+        → Declares packages (services_names scope.now (map message_of (lent messages.now)))
+        names.old names.new) }
+    ensures refused { IfErr result (λ e. length services.old.items + length messages.now ≤ 2 ^ 32
+        → (packages : List (List ℕ))
+        → WantsMemory packages (services_names scope.now (map message_of (lent messages.now)))
+        names.old e) }
 {
     let mut ids = Vec::new(alloc);
     for message in messages {
@@ -200,8 +220,10 @@ fn declare_members(
     full: &str,
     message: &Message,
 ) -> Result<(), Unstated>
-    ensures declares { OnOk result ((packages : List (List ℕ)) → Declares packages (member_names full.now (message_of message.now)) names.old names.new) }
-    ensures refused { IfErr result (λ e. NamesOneofs (message_of message.now) → (packages : List (List ℕ))
+    ensures declares { OnOk result ((packages : List (List ℕ))
+        → Declares packages (member_names full.now (message_of message.now)) names.old names.new) }
+    ensures refused { IfErr result (λ e. NamesOneofs (message_of message.now)
+        → (packages : List (List ℕ))
         → WantsMemory packages (member_names full.now (message_of message.now)) names.old e) }
 {
     let fields = children(alloc, message, proto::MESSAGE_FIELD)?;
@@ -223,8 +245,10 @@ fn declare_type(
     message: &Message,
 ) -> Result<(), Unstated>
     ensures has { OnOk result (IsTypeNamed names.new id.index (full.now, message_of message.now)) }
-    ensures declares { OnOk result ((packages : List (List ℕ)) → Declares packages (own_names full.now (message_of message.now)) names.old names.new) }
-    ensures refused { IfErr result (λ e. NamesOneofs (message_of message.now) → (packages : List (List ℕ))
+    ensures declares { OnOk result ((packages : List (List ℕ))
+        → Declares packages (own_names full.now (message_of message.now)) names.old names.new) }
+    ensures refused { IfErr result (λ e. NamesOneofs (message_of message.now)
+        → (packages : List (List ℕ))
         → WantsMemory packages (own_names full.now (message_of message.now)) names.old e) }
 {
     let name = String::from_str(alloc, full)?;
@@ -246,8 +270,10 @@ fn declare_scope(
     names: &mut BTreeMap<String, Named>,
     scope: &str,
 ) -> Result<(), Unstated>
-    ensures declares { OnOk result ((packages : List (List ℕ)) → is_among packages scope.now ≡ true → Declares packages [] names.old names.new) }
-    ensures refused { IfErr result (λ e. (packages : List (List ℕ)) → is_among packages scope.now ≡ true → WantsMemory packages [] names.old e) }
+    ensures declares { OnOk result ((packages : List (List ℕ)) → is_among packages scope.now ≡ true
+        → Declares packages [] names.old names.new) }
+    ensures refused { IfErr result (λ e. (packages : List (List ℕ))
+        → is_among packages scope.now ≡ true → WantsMemory packages [] names.old e) }
 {
     if scope.is_empty() {
         return Ok(());
@@ -258,7 +284,8 @@ fn declare_scope(
 // None of the messages is an entry type.
 fn without_entries(alloc: Global, messages: &[&Message]) -> Result<(), Unstated>
     ensures ok { OnOk result (filter is_entry (map message_of (lent messages.now)) ≡ []) }
-    ensures refused { IfErr result (λ e. filter is_entry (map message_of (lent messages.now)) ≡ [] → e ≡ Memory) }
+    ensures refused { IfErr result (λ e. filter is_entry (map message_of (lent messages.now)) ≡ []
+        → e ≡ Memory) }
 {
     let entries = entries_of(alloc, messages)?;
     if !entries.is_empty() {
@@ -276,17 +303,25 @@ impl<'a> Outline<'a> {
         message: &'a Message,
     ) -> Result<TypeId, Unstated>
         ensures placed { IfOk result (λ id. id.index ≡ length self.old.types.items) }
-        ensures rows { OnOk result (map type_row self.new.types.items ≡ map type_row self.old.types.items ++ (name.now, message_of message.now) ∷ []) }
+        ensures rows { OnOk result (map type_row self.new.types.items
+            ≡ map type_row self.old.types.items ++ (name.now, message_of message.now) ∷ []) }
         ensures empty { OnOk result (map placed_type self.new.types.items
-            ≡ map placed_type self.old.types.items ++ without_inside (name.now, message_of message.now) ∷ []) }
-        ensures others { OnOk result ((self.new.enums.items ≡ self.old.enums.items) × (self.new.services.items ≡ self.old.services.items)
+            ≡ map placed_type self.old.types.items
+            ++ without_inside (name.now, message_of message.now) ∷ []) }
+        ensures others { OnOk result
+            ((self.new.enums.items ≡ self.old.enums.items)
+            × (self.new.services.items ≡ self.old.services.items)
             × (self.new.files.items ≡ self.old.files.items)) }
-        ensures named { OnOk result (AreTypesNamed self.old.names (map type_row self.old.types.items)
+        ensures named { OnOk result (AreTypesNamed self.old.names
+            (map type_row self.old.types.items)
             → AreTypesNamed self.new.names (map type_row self.new.types.items)) }
         ensures declares { OnOk result ((packages : List (List ℕ))
-            → Declares packages (own_names name.now (message_of message.now)) self.old.names self.new.names) }
-        ensures refused { IfErr result (λ e. length self.old.types.items < 2 ^ 32 → NamesOneofs (message_of message.now)
-            → (packages : List (List ℕ)) → WantsMemory packages (own_names name.now (message_of message.now)) self.old.names e) }
+            → Declares packages (own_names name.now (message_of message.now)) self.old.names
+            self.new.names) }
+        ensures refused { IfErr result
+            (λ e. length self.old.types.items < 2 ^ 32 → NamesOneofs (message_of message.now)
+            → (packages : List (List ℕ))
+            → WantsMemory packages (own_names name.now (message_of message.now)) self.old.names e) }
     {
         let index = next_place(self.types.len())?;
         let id = TypeId { index };
@@ -303,12 +338,19 @@ impl<'a> Outline<'a> {
     // What stands inside a message type.
     fn place_inside(&mut self, id: TypeId, types: Vec<TypeId>, enums: Vec<EnumId>)
         ensures rows { map type_row self.new.types.items ≡ map type_row self.old.types.items }
-        ensures inside { (front behind : List PlacedType) (r : PlacedType) → map placed_type self.old.types.items ≡ front ++ r ∷ behind
+        ensures inside { (front behind : List PlacedType) (r : PlacedType)
+            → map placed_type self.old.types.items ≡ front ++ r ∷ behind
             → length front ≡ id.index
             → map placed_type self.new.types.items
-            ≡ front ++ record { named = r.named; types = type_places types.items; enums = enum_places enums.items } ∷ behind }
-        ensures others { (self.new.names ≡ self.old.names) × (self.new.enums.items ≡ self.old.enums.items)
-            × (self.new.services.items ≡ self.old.services.items) × (self.new.files.items ≡ self.old.files.items) }
+            ≡ front ++ record {
+              named = r.named;
+              types = type_places types.items;
+              enums = enum_places enums.items;
+            } ∷ behind }
+        ensures others { (self.new.names ≡ self.old.names)
+            × (self.new.enums.items ≡ self.old.enums.items)
+            × (self.new.services.items ≡ self.old.services.items)
+            × (self.new.files.items ≡ self.old.files.items) }
     {
         if let Some(outlined) = self.types.get_mut(id.index as usize) {
             outlined.types = types;
@@ -325,23 +367,38 @@ impl<'a> Outline<'a> {
         messages: &[&'a Message],
     ) -> Result<Vec<TypeId>, Unstated>
         ensures rows { OnOk result (map type_row self.new.types.items
-            ≡ map type_row self.old.types.items ++ type_rows depth scope.now (map message_of (lent messages.now))) }
+            ≡ map type_row self.old.types.items
+            ++ type_rows depth scope.now (map message_of (lent messages.now))) }
         ensures enum_rows { OnOk result (map row self.new.enums.items
-            ≡ map row self.old.enums.items ++ enum_rows depth scope.now (map message_of (lent messages.now))) }
-        ensures ids { IfOk result (λ ids. type_places ids.items ≡ places_of_types depth scope.now (counts_of self.old) (map message_of (lent messages.now))) }
+            ≡ map row self.old.enums.items
+            ++ enum_rows depth scope.now (map message_of (lent messages.now))) }
+        ensures ids { IfOk result (λ ids. type_places ids.items
+            ≡ places_of_types depth scope.now (counts_of self.old)
+            (map message_of (lent messages.now))) }
         ensures placed { OnOk result (map placed_type self.new.types.items
-            ≡ map placed_type self.old.types.items ++ placed_types depth scope.now (counts_of self.old) (map message_of (lent messages.now))) }
-        ensures others { OnOk result ((self.new.services.items ≡ self.old.services.items) × (self.new.files.items ≡ self.old.files.items)) }
-        ensures named { OnOk result (AreTypesNamed self.old.names (map type_row self.old.types.items)
+            ≡ map placed_type self.old.types.items
+            ++ placed_types depth scope.now (counts_of self.old)
+            (map message_of (lent messages.now))) }
+        ensures others { OnOk result
+            ((self.new.services.items ≡ self.old.services.items)
+            × (self.new.files.items ≡ self.old.files.items)) }
+        ensures named { OnOk result (AreTypesNamed self.old.names
+            (map type_row self.old.types.items)
             → AreTypesNamed self.new.names (map type_row self.new.types.items)) }
-        ensures enums_named { OnOk result (AreEnumsNamed self.old.names (map row self.old.enums.items)
+        ensures enums_named { OnOk result
+            (AreEnumsNamed self.old.names (map row self.old.enums.items)
             → AreEnumsNamed self.new.names (map row self.new.enums.items)) }
         ensures declares { OnOk result ((packages : List (List ℕ))
-            → Declares packages (types_names depth scope.now (map message_of (lent messages.now))) self.old.names self.new.names) }
-        ensures refused { IfErr result (λ e. length self.old.types.items + length (type_rows depth scope.now (map message_of (lent messages.now))) ≤ 2 ^ 32
-            → length self.old.enums.items + length (enum_rows depth scope.now (map message_of (lent messages.now))) ≤ 2 ^ 32
+            → Declares packages (types_names depth scope.now (map message_of (lent messages.now)))
+            self.old.names self.new.names) }
+        ensures refused { IfErr result
+            (λ e. length self.old.types.items + length
+            (type_rows depth scope.now (map message_of (lent messages.now))) ≤ 2 ^ 32
+            → length self.old.enums.items + length
+            (enum_rows depth scope.now (map message_of (lent messages.now))) ≤ 2 ^ 32
             → NameOneofs depth (map message_of (lent messages.now)) → (packages : List (List ℕ))
-            → WantsMemory packages (types_names depth scope.now (map message_of (lent messages.now))) self.old.names e) }
+            → WantsMemory packages (types_names depth scope.now
+            (map message_of (lent messages.now))) self.old.names e) }
     {
         let mut ids = Vec::new(alloc);
         if depth == 0 {
@@ -373,21 +430,35 @@ impl<'a> Outline<'a> {
         depth: usize,
         message: &'a Message,
     ) -> Result<(), Unstated>
-        ensures types { OnOk result (map type_row self.new.types.items ≡ map type_row self.old.types.items ++ file_types depth (message_of message.now)) }
-        ensures enums { OnOk result (map row self.new.enums.items ≡ map row self.old.enums.items ++ file_enums depth (message_of message.now)) }
-        ensures services { OnOk result (map row self.new.services.items ≡ map row self.old.services.items ++ file_services (message_of message.now)) }
+        ensures types { OnOk result (map type_row self.new.types.items
+            ≡ map type_row self.old.types.items ++ file_types depth (message_of message.now)) }
+        ensures enums { OnOk result (map row self.new.enums.items ≡ map row self.old.enums.items
+            ++ file_enums depth (message_of message.now)) }
+        ensures services { OnOk result
+            (map row self.new.services.items ≡ map row self.old.services.items
+            ++ file_services (message_of message.now)) }
         ensures files { OnOk result (map placed_file self.new.files.items
-            ≡ map placed_file self.old.files.items ++ file_places depth (counts_of self.old) (message_of message.now) ∷ []) }
+            ≡ map placed_file self.old.files.items ++ file_places depth (counts_of self.old)
+            (message_of message.now) ∷ []) }
         ensures placed { OnOk result (map placed_type self.new.types.items
-            ≡ map placed_type self.old.types.items ++ placed_types depth (text_at proto.file_package (message_of message.now)) (inside_file (counts_of self.old) (message_of message.now)) (children_at proto.file_message_type (message_of message.now))) }
-        ensures named { OnOk result (AreTypesNamed self.old.names (map type_row self.old.types.items)
+            ≡ map placed_type self.old.types.items
+            ++ placed_types depth (text_at proto.file_package (message_of message.now))
+            (inside_file (counts_of self.old) (message_of message.now))
+            (children_at proto.file_message_type (message_of message.now))) }
+        ensures named { OnOk result (AreTypesNamed self.old.names
+            (map type_row self.old.types.items)
             → AreTypesNamed self.new.names (map type_row self.new.types.items)) }
-        ensures enums_named { OnOk result (AreEnumsNamed self.old.names (map row self.old.enums.items)
+        ensures enums_named { OnOk result
+            (AreEnumsNamed self.old.names (map row self.old.enums.items)
             → AreEnumsNamed self.new.names (map row self.new.enums.items)) }
-        ensures declares { OnOk result ((packages : List (List ℕ)) → is_among packages (text_at proto.file_package (message_of message.now)) ≡ true
-            → Declares packages (file_names depth (message_of message.now)) self.old.names self.new.names) }
+        ensures declares { OnOk result
+            ((packages : List (List ℕ))
+            → is_among packages (text_at proto.file_package (message_of message.now)) ≡ true
+            → Declares packages (file_names depth (message_of message.now)) self.old.names
+            self.new.names) }
         ensures refused { IfErr result (λ e. (packages : List (List ℕ))
-            → MayPlace depth (length self.old.types.items) (length self.old.enums.items) (length self.old.services.items) packages (message_of message.now)
+            → MayPlace depth (length self.old.types.items) (length self.old.enums.items)
+            (length self.old.services.items) packages (message_of message.now)
             → WantsMemory packages (file_names depth (message_of message.now)) self.old.names e) }
     {
         let scope = text(message, proto::FILE_PACKAGE)?;
@@ -427,15 +498,20 @@ pub fn outline_files<'a>(
 ) -> Result<Outline<'a>, Unstated>
     ensures types { IfOk result (λ outline. map type_row outline.types.items
         ≡ flat_map (file_types depth) (files_at (map message_of (lent files.now)) order.now)) }
-    ensures enums { IfOk result (λ outline. map row outline.enums.items ≡ flat_map (file_enums depth) (files_at (map message_of (lent files.now)) order.now)) }
-    ensures services { IfOk result (λ outline. map row outline.services.items ≡ flat_map file_services (files_at (map message_of (lent files.now)) order.now)) }
+    ensures enums { IfOk result (λ outline. map row outline.enums.items
+        ≡ flat_map (file_enums depth) (files_at (map message_of (lent files.now)) order.now)) }
+    ensures services { IfOk result (λ outline. map row outline.services.items
+        ≡ flat_map file_services (files_at (map message_of (lent files.now)) order.now)) }
     ensures files { IfOk result (λ outline. map placed_file outline.files.items
         ≡ placed_files depth no_counts (files_at (map message_of (lent files.now)) order.now)) }
     ensures placed { IfOk result (λ outline. map placed_type outline.types.items
         ≡ types_of_files depth no_counts (files_at (map message_of (lent files.now)) order.now)) }
-    ensures named { IfOk result (λ outline. AreTypesNamed outline.names (map type_row outline.types.items)) }
-    ensures enums_named { IfOk result (λ outline. AreEnumsNamed outline.names (map row outline.enums.items)) }
-    ensures refused { IfErr result (λ e. AllByRecursion (λ place. place < length files.now) order.now
+    ensures named { IfOk result (λ outline. AreTypesNamed outline.names
+        (map type_row outline.types.items)) }
+    ensures enums_named { IfOk result
+        (λ outline. AreEnumsNamed outline.names (map row outline.enums.items)) }
+    ensures refused { IfErr result (λ e. AllByRecursion
+        (λ place. place < length files.now) order.now
         → MayDeclare depth (files_at (map message_of (lent files.now)) order.now) → e ≡ Memory) }
 {
     let mut outline = Outline {

@@ -43,7 +43,8 @@ use std::alloc::Global;
 
 // What is told of bytes that the codec refuses so.
 fn undecoded(error: DynError) -> FdsError
-    ensures refused { (bytes : List ℕ) → MayRefuse written_shape file_set most_deep bytes error → MayRefuseSet bytes result }
+    ensures refused { (bytes : List ℕ) → MayRefuse written_shape file_set most_deep bytes error
+        → MayRefuseSet bytes result }
     ensures of_bytes { IsOfBytes result }
 {
     match error {
@@ -54,7 +55,8 @@ fn undecoded(error: DynError) -> FdsError
 
 // The message of a set.
 fn decoded(alloc: Global, bytes: &[u8]) -> Result<Message, FdsError>
-    ensures message { IfOk result (λ set. dec written_shape file_set bytes.now ≡ Some (message_of set)) }
+    ensures message { IfOk result (λ set. dec written_shape file_set bytes.now
+        ≡ Some (message_of set)) }
     ensures fits { IfOk result (λ set. Fits written_shape set × (type_of set ≡ file_set)) }
     ensures refused { IfErr result (MayRefuseSet bytes.now) }
     ensures of_bytes { IfErr result IsOfBytes }
@@ -66,8 +68,8 @@ fn decoded(alloc: Global, bytes: &[u8]) -> Result<Message, FdsError>
     }
 }
 
-// Whether the files are all proto3. Refused only where the syntax of one is no text, so where they state no
-// schema.
+// Whether the files are all proto3. Refused only where the syntax of one is no text, so where they
+// state no schema.
 fn are_proto3(files: &[&Message]) -> Result<bool, Unstated>
     ensures ok { IfOk result (λ all. all ≡ list_all is_proto3 (map message_of (lent files.now))) }
     ensures none { OnErr result ((skips : Bool) (parts : StatedParts)
@@ -83,12 +85,13 @@ fn are_proto3(files: &[&Message]) -> Result<bool, Unstated>
     Ok(true)
 }
 
-// The parts that the files declare, in that order: they say what those say that the files state. Refused,
-// memory aside, only where they state none.
+// The parts that the files declare, in that order: they say what those say that the files state.
+// Refused, memory aside, only where they state none.
 fn parts(alloc: Global, skips: bool, files: &[&Message], order: &[usize]) -> Result<Parts, Unstated>
     requires { AreOrdered skips (map importer_of (map message_of (lent files.now))) order.now }
     ensures made { IfOk result (λ made. (parts : StatedParts) → CanBeMade parts
-        → StatesFiles skips (map message_of (lent files.now)) parts → parts_view made ≡ parts_view parts) }
+        → StatesFiles skips (map message_of (lent files.now)) parts
+        → parts_view made ≡ parts_view parts) }
     ensures none { IfErr result (λ e. (parts : StatedParts) → CanBeMade parts
         → StatesFiles skips (map message_of (lent files.now)) parts → e ≡ unstated.Memory) }
 {
@@ -99,7 +102,8 @@ fn parts(alloc: Global, skips: bool, files: &[&Message], order: &[usize]) -> Res
 // What is told of parts that are refused so.
 fn told(error: CheckError) -> FdsError
     ensures of_parts { (parts : StatedParts) → IsRefusedOf parts error → IsOfParts result }
-    ensures unsound { (parts : StatedParts) → IsRefusedOf parts error → IsSound parts → result ≡ errors.Memory }
+    ensures unsound { (parts : StatedParts) → IsRefusedOf parts error → IsSound parts
+        → result ≡ errors.Memory }
 {
     match error {
         CheckError::Memory => FdsError::Memory,
@@ -120,7 +124,8 @@ fn admitted(alloc: Global, parts: Parts) -> Result<Schema, FdsError>
     }
 }
 
-// The files state the schema, whose parts stand in order. Refused, memory aside, only where they don't.
+// The files state the schema, whose parts stand in order. Refused, memory aside, only where they
+// don't.
 fn compared(
     alloc: Global,
     schema: &Schema,
@@ -132,7 +137,8 @@ fn compared(
     ensures ok { OnOk result (StatesFiles skips (map message_of (lent files.now)) schema.now) }
     ensures places { OnOk result (StandInOrder schema.now) }
     ensures none { IfErr result (λ e. IsSound schema.now
-        → StatesFiles skips (map message_of (lent files.now)) schema.now → StandInOrder schema.now → e ≡ unstated.Memory) }
+        → StatesFiles skips (map message_of (lent files.now)) schema.now → StandInOrder schema.now
+        → e ≡ unstated.Memory) }
 {
     states_files(alloc, schema, skips, files, order)?;
     in_order(schema)
@@ -140,12 +146,14 @@ fn compared(
 
 // The schema that the files state, which are proto3 and have types that are taken.
 fn kept_schema(alloc: Global, skips: bool, files: &[&Message]) -> Result<Schema, FdsError>
-    ensures ok { IfOk result (λ schema. StatesFiles skips (map message_of (lent files.now)) schema) }
+    ensures ok { IfOk result (λ schema. StatesFiles skips
+        (map message_of (lent files.now)) schema) }
     ensures sound { IfOk result IsSound }
     ensures places { IfOk result (λ schema. StandInOrder schema) }
     ensures refused { IfErr result IsOfParts }
     ensures same { IfOk result (λ schema. (parts : StatedParts) → CanBeMade parts
-        → StatesFiles skips (map message_of (lent files.now)) parts → parts_view schema ≡ parts_view parts) }
+        → StatesFiles skips (map message_of (lent files.now)) parts
+        → parts_view schema ≡ parts_view parts) }
     ensures none { IfErr result (λ e. (parts : StatedParts) → CanBeMade parts
         → StatesFiles skips (map message_of (lent files.now)) parts → e ≡ errors.Memory) }
 {
@@ -159,13 +167,15 @@ fn kept_schema(alloc: Global, skips: bool, files: &[&Message]) -> Result<Schema,
 
 // The schema that the files state.
 fn files_schema(alloc: Global, skips: bool, files: &[&Message]) -> Result<Schema, FdsError>
-    ensures ok { IfOk result (λ schema. StatesFiles skips (map message_of (lent files.now)) schema) }
+    ensures ok { IfOk result (λ schema. StatesFiles skips
+        (map message_of (lent files.now)) schema) }
     ensures sound { IfOk result IsSound }
     ensures places { IfOk result (λ schema. StandInOrder schema) }
     ensures refused { IfErr result (λ e. AllByRecursion HasTexts (map message_of (lent files.now))
         → MayRefuseFiles (map message_of (lent files.now)) e) }
     ensures same { IfOk result (λ schema. (parts : StatedParts) → CanBeMade parts
-        → StatesFiles skips (map message_of (lent files.now)) parts → parts_view schema ≡ parts_view parts) }
+        → StatesFiles skips (map message_of (lent files.now)) parts
+        → parts_view schema ≡ parts_view parts) }
     ensures none { IfErr result (λ e. (parts : StatedParts) → CanBeMade parts
         → StatesFiles skips (map message_of (lent files.now)) parts → e ≡ errors.Memory) }
 {
@@ -184,11 +194,14 @@ fn files_schema(alloc: Global, skips: bool, files: &[&Message]) -> Result<Schema
 fn set_schema(alloc: Global, set: &Message) -> Result<Schema, FdsError>
     ensures ok { IfOk result (λ schema. States (message_of set.now) schema) }
     ensures sound { IfOk result IsSound }
-    ensures refused { IfErr result (λ e. AllByRecursion HasTexts (children_at proto.set_file (message_of set.now))
+    ensures refused { IfErr result (λ e. AllByRecursion HasTexts
+        (children_at proto.set_file (message_of set.now))
         → MayRefuseFiles (kept_files (message_of set.now)) e) }
-    ensures same { IfOk result (λ schema. (parts : StatedParts) → CanBeMade parts → States (message_of set.now) parts
+    ensures same { IfOk result (λ schema. (parts : StatedParts) → CanBeMade parts
+        → States (message_of set.now) parts
         → parts_view schema ≡ parts_view parts) }
-    ensures none { IfErr result (λ e. (parts : StatedParts) → CanBeMade parts → States (message_of set.now) parts
+    ensures none { IfErr result (λ e. (parts : StatedParts) → CanBeMade parts
+        → States (message_of set.now) parts
         → e ≡ errors.Memory) }
 {
     let all_files = children(alloc, set, proto::SET_FILE)?;
@@ -204,7 +217,8 @@ fn bytes_schema(alloc: Global, bytes: &[u8]) -> Result<Schema, FdsError>
     ensures ok { IfOk result (λ schema. fds_reads bytes.now schema) }
     ensures sound { IfOk result IsSound }
     ensures refused { IfErr result (MayRefuseSet bytes.now) }
-    ensures same { IfOk result (λ schema. (parts : StatedParts) → IsHeld parts → fds_reads bytes.now parts
+    ensures same { IfOk result (λ schema. (parts : StatedParts) → IsHeld parts
+        → fds_reads bytes.now parts
         → parts_view schema ≡ parts_view parts) }
     ensures none { IfErr result (λ e. (IsOfBytes e → ⊥) → StatesNoneHeld bytes.now) }
 {
@@ -212,26 +226,28 @@ fn bytes_schema(alloc: Global, bytes: &[u8]) -> Result<Schema, FdsError>
     set_schema(alloc, &set)
 }
 
-/// The schema that the bytes of a descriptor set state (descriptor.proto; docs/PROOFS.md, "Descriptor
-/// sets"). Files may come in any order; those of the schema stand in post-order of imports, begun at the
-/// set's in their order. File after file, message types and services are numbered in order of declaration, a
-/// message type before those inside it, and enums scope by scope, those of the package before those of each
-/// message type.
+/// The schema that the bytes of a descriptor set state (descriptor.proto; docs/PROOFS.md,
+/// "Descriptor sets"). Files may come in any order; those of the schema stand in post-order of
+/// imports, begun at the set's in their order. File after file, message types and services are
+/// numbered in order of declaration, a message type before those inside it, and enums scope by
+/// scope, those of the package before those of each message type.
 ///
-/// The errors, over the whole set and in this order: `Bytes` where the codec refuses the bytes, with
-/// messages nested at most 100 deep; `NotProto3` where a file isn't proto3; `BadType` where a field has a
-/// type or a label that isn't taken, or no type; `BadReference` where an import or a name isn't there,
-/// stands twice or is of another kind, imports go round, a place is none, or an `optional` field or an
-/// entry type hasn't its form; `Rule` with the error of the first rule that what is declared breaks. A
-/// file `google/protobuf/descriptor.proto` that isn't proto3 is left out, as are imports of it.
-/// `Memory` may come in place of any. `Bytes`, but of messages nested too deep, `NotProto3` and `BadType`
-/// come only where the bytes state no schema, `BadReference` and `Rule` only where they state none whose places
-/// 32 bits hold. Where they state such a one, the schema that is answered is that one.
+/// The errors, over the whole set and in this order: `Bytes` where the codec refuses the bytes,
+/// with messages nested at most 100 deep; `NotProto3` where a file isn't proto3; `BadType` where a
+/// field has a type or a label that isn't taken, or no type; `BadReference` where an import or a
+/// name isn't there, stands twice or is of another kind, imports go round, a place is none, or an
+/// `optional` field or an entry type hasn't its form; `Rule` with the error of the first rule that
+/// what is declared breaks. A file `google/protobuf/descriptor.proto` that isn't proto3 is left
+/// out, as are imports of it. `Memory` may come in place of any. `Bytes`, but of messages nested
+/// too deep, `NotProto3` and `BadType` come only where the bytes state no schema, `BadReference`
+/// and `Rule` only where they state none whose places 32 bits hold. Where they state such a one,
+/// the schema that is answered is that one.
 pub fn read(alloc: Global, bytes: &[u8]) -> Result<Schema, FdsError>
     ensures ok { IfOk result (λ schema. fds_reads bytes.now schema) }
     ensures sound { IfOk result IsSound }
     ensures refused { IfErr result (MayRefuseSet bytes.now) }
-    ensures same { IfOk result (λ schema. (parts : StatedParts) → IsHeld parts → fds_reads bytes.now parts
+    ensures same { IfOk result (λ schema. (parts : StatedParts) → IsHeld parts
+        → fds_reads bytes.now parts
         → parts_view schema ≡ parts_view parts) }
     ensures none_stated { IfErr result (NoneIsStated bytes.now) }
 {

@@ -1,5 +1,5 @@
-//! What the messages of a set say, by the numbers of their fields. An item of another kind than is asked for
-//! says what its kind says of that: a number no text, a text no number.
+//! What the messages of a set say, by the numbers of their fields. An item of another kind than is
+//! asked for says what its kind says of that: a number no text, a text no number.
 
 ghost use Rattle.std.specs.Prelude.{◌≡◌, ℕ, ◌<◌, ◌^◌, false, pos, true, IfErr, IfOk, OnErr, OnOk, map, option_map};
 ghost use Rattle.std.specs.List.{AllByRecursion};
@@ -72,7 +72,8 @@ pub fn item(message: &Message, number: u32) -> Option<&Value>
 
 /// The items of a repeated field.
 pub fn items(alloc: Global, message: &Message, number: u32) -> Result<Vec<&Value>, AllocError>
-    ensures { IfOk result (λ found. map shown (lent found.items) ≡ items_at number (message_of message.now)) }
+    ensures { IfOk result (λ found. map shown (lent found.items)
+        ≡ items_at number (message_of message.now)) }
 {
     match message.get(number) {
         None => Ok(Vec::new(alloc)),
@@ -123,7 +124,8 @@ pub fn number_in(value: &Value) -> i128
 
 /// The messages of a repeated field.
 pub fn children(alloc: Global, message: &Message, number: u32) -> Result<Vec<&Message>, AllocError>
-    ensures { IfOk result (λ found. map message_of (lent found.items) ≡ children_at number (message_of message.now)) }
+    ensures { IfOk result (λ found. map message_of (lent found.items)
+        ≡ children_at number (message_of message.now)) }
 {
     let values = items(alloc, message, number)?;
     let mut children = Vec::new(alloc);
@@ -140,7 +142,8 @@ pub fn children(alloc: Global, message: &Message, number: u32) -> Result<Vec<&Me
 
 /// The text of a singular field, where there is one. Refused are bytes that are no text.
 pub fn maybe_text(message: &Message, number: u32) -> Result<Option<&str>, Unstated>
-    ensures ok { IfOk result (λ text. option_copied text ≡ maybe_text_at number (message_of message.now)) }
+    ensures ok { IfOk result (λ text. option_copied text
+        ≡ maybe_text_at number (message_of message.now)) }
     ensures refused { OnErr result (IsUtf8 (text_at number (message_of message.now)) → ⊥) }
 {
     match item(message, number) {
@@ -162,8 +165,10 @@ pub fn text(message: &Message, number: u32) -> Result<&str, Unstated>
 
 /// The texts of a repeated field. Refused are bytes that are no text, and want of memory.
 pub fn texts(alloc: Global, message: &Message, number: u32) -> Result<Vec<&str>, Unstated>
-    ensures ok { IfOk result (λ found. lent found.items ≡ texts_at number (message_of message.now)) }
-    ensures refused { IfErr result (λ e. AllByRecursion IsUtf8 (texts_at number (message_of message.now)) → e ≡ Memory) }
+    ensures ok { IfOk result (λ found. lent found.items
+        ≡ texts_at number (message_of message.now)) }
+    ensures refused { IfErr result (λ e. AllByRecursion IsUtf8
+        (texts_at number (message_of message.now)) → e ≡ Memory) }
 {
     let values = items(alloc, message, number)?;
     let mut texts = Vec::new(alloc);

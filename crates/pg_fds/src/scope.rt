@@ -16,7 +16,8 @@ use std::alloc::{AllocError, Global};
 
 // Puts the names of the fields behind the others.
 fn push_fields(names: &mut Vec<String>, fields: &[Field]) -> Result<(), AllocError>
-    ensures { OnOk result (map string_bytes names.new.items ≡ map string_bytes names.old.items ++ field_names fields.now) }
+    ensures { OnOk result (map string_bytes names.new.items ≡ map string_bytes names.old.items
+        ++ field_names fields.now) }
 {
     for field in fields {
         names.push(field.name.clone()?)?;
@@ -26,7 +27,8 @@ fn push_fields(names: &mut Vec<String>, fields: &[Field]) -> Result<(), AllocErr
 
 // Puts these names behind the others.
 fn push_texts(names: &mut Vec<String>, texts: &[String]) -> Result<(), AllocError>
-    ensures { OnOk result (map string_bytes names.new.items ≡ map string_bytes names.old.items ++ map string_bytes texts.now) }
+    ensures { OnOk result (map string_bytes names.new.items ≡ map string_bytes names.old.items
+        ++ map string_bytes texts.now) }
 {
     for text in texts {
         names.push(text.clone()?)?;
@@ -36,7 +38,8 @@ fn push_texts(names: &mut Vec<String>, texts: &[String]) -> Result<(), AllocErro
 
 // Puts the names of the map fields' entry types behind the others.
 fn push_entries(alloc: Global, names: &mut Vec<String>, fields: &[Field]) -> Result<(), AllocError>
-    ensures { OnOk result (map string_bytes names.new.items ≡ map string_bytes names.old.items ++ entry_names fields.now) }
+    ensures { OnOk result (map string_bytes names.new.items ≡ map string_bytes names.old.items
+        ++ entry_names fields.now) }
 {
     for field in fields {
         if matches!(field.presence, Presence::Map { .. }) {
@@ -54,7 +57,8 @@ fn push_types(
     ids: &[TypeId],
 ) -> Result<(), AllocError>
     ensures { OnOk result (map string_bytes names.new.items ≡ map string_bytes names.old.items
-        ++ flat_map (λ (id : TypeId). where_found own_type_name (slice_get source.now.types.items id.index)) ids.now) }
+        ++ flat_map (λ (id : TypeId). where_found own_type_name
+        (slice_get source.now.types.items id.index)) ids.now) }
 {
     for id in ids {
         if let Some(declared) = source.message_type(*id) {
@@ -72,7 +76,8 @@ fn push_enums(
     ids: &[EnumId],
 ) -> Result<(), AllocError>
     ensures { OnOk result (map string_bytes names.new.items ≡ map string_bytes names.old.items
-        ++ flat_map (λ (id : EnumId). where_found own_enum_name (slice_get source.now.enums.items id.index)) ids.now) }
+        ++ flat_map (λ (id : EnumId). where_found own_enum_name
+        (slice_get source.now.enums.items id.index)) ids.now) }
 {
     for id in ids {
         if let Some(declared) = source.enum_type(*id) {
@@ -84,7 +89,8 @@ fn push_enums(
 
 // Puts the names of the values behind the others.
 fn push_values(names: &mut Vec<String>, values: &[EnumValue]) -> Result<(), AllocError>
-    ensures { OnOk result (map string_bytes names.new.items ≡ map string_bytes names.old.items ++ value_names values.now) }
+    ensures { OnOk result (map string_bytes names.new.items ≡ map string_bytes names.old.items
+        ++ value_names values.now) }
 {
     for value in values {
         names.push(value.name.clone()?)?;
@@ -98,7 +104,8 @@ fn push_values_at(
     source: &Schema,
     ids: &[EnumId],
 ) -> Result<(), AllocError>
-    ensures { OnOk result (map string_bytes names.new.items ≡ map string_bytes names.old.items ++ values_at source.now.enums.items ids.now) }
+    ensures { OnOk result (map string_bytes names.new.items ≡ map string_bytes names.old.items
+        ++ values_at source.now.enums.items ids.now) }
 {
     for id in ids {
         if let Some(declared) = source.enum_type(*id) {
@@ -115,7 +122,8 @@ pub fn names_within(
     source: &Schema,
     message_type: &MessageType,
 ) -> Result<Vec<String>, AllocError>
-    ensures { IfOk result (λ names. map string_bytes names.items ≡ names_within (declared_in source.now) message_type.now) }
+    ensures { IfOk result (λ names. map string_bytes names.items
+        ≡ names_within (declared_in source.now) message_type.now) }
 {
     let mut names = Vec::new(alloc);
     let to = &mut names;

@@ -26,8 +26,10 @@ fn called(
     number: u32,
     id: TypeId,
 ) -> Result<(), Unstated>
-    ensures ok { OnOk result (StatesCalled (declared_in source.now) (maybe_text_at number (message_of message.now)) id) }
-    ensures refused { IfErr result (λ r. StatesCalled (declared_in source.now) (maybe_text_at number (message_of message.now)) id → r ≡ Memory) }
+    ensures ok { OnOk result (StatesCalled (declared_in source.now)
+        (maybe_text_at number (message_of message.now)) id) }
+    ensures refused { IfErr result (λ r. StatesCalled (declared_in source.now)
+        (maybe_text_at number (message_of message.now)) id → r ≡ Memory) }
 {
     let Some(declared) = source.message_type(id) else {
         return Err(Unstated::Reference);
@@ -46,8 +48,10 @@ fn method(
     message: &Message,
     declared: &Method,
 ) -> Result<(), Unstated>
-    ensures ok { OnOk result (StatesMethod (declared_in source.now) (message_of message.now) declared.now) }
-    ensures refused { IfErr result (λ r. StatesMethod (declared_in source.now) (message_of message.now) declared.now → r ≡ Memory) }
+    ensures ok { OnOk result (StatesMethod (declared_in source.now)
+        (message_of message.now) declared.now) }
+    ensures refused { IfErr result (λ r. StatesMethod (declared_in source.now)
+        (message_of message.now) declared.now → r ≡ Memory) }
 {
     same_text(text(message, proto::METHOD_NAME)?, &declared.name)?;
     called(
@@ -78,8 +82,10 @@ fn methods(
     messages: &[&Message],
     declared: &[Method],
 ) -> Result<(), Unstated>
-    ensures ok { OnOk result (AllZip (StatesMethod (declared_in source.now)) (map message_of (lent messages.now)) declared.now) }
-    ensures refused { IfErr result (λ r. AllZip (StatesMethod (declared_in source.now)) (map message_of (lent messages.now)) declared.now → r ≡ Memory) }
+    ensures ok { OnOk result (AllZip (StatesMethod (declared_in source.now))
+        (map message_of (lent messages.now)) declared.now) }
+    ensures refused { IfErr result (λ r. AllZip (StatesMethod (declared_in source.now))
+        (map message_of (lent messages.now)) declared.now → r ≡ Memory) }
 {
     ensure(messages.len() == declared.len())?;
     for (place, message) in messages.iter().enumerate() {
@@ -95,8 +101,10 @@ fn service(
     message: &Message,
     declared: &Service,
 ) -> Result<(), Unstated>
-    ensures ok { OnOk result (StatesService (declared_in source.now) scope.now (message_of message.now) declared.now) }
-    ensures refused { IfErr result (λ r. StatesService (declared_in source.now) scope.now (message_of message.now) declared.now → r ≡ Memory) }
+    ensures ok { OnOk result (StatesService (declared_in source.now) scope.now
+        (message_of message.now) declared.now) }
+    ensures refused { IfErr result (λ r. StatesService (declared_in source.now) scope.now
+        (message_of message.now) declared.now → r ≡ Memory) }
 {
     is_within(
         alloc,
@@ -123,8 +131,10 @@ fn service_at(
     message: &Message,
     id: ServiceId,
 ) -> Result<(), Unstated>
-    ensures ok { OnOk result (IsSomeAnd (slice_get source.now.services.items id.index) (StatesService (declared_in source.now) scope.now (message_of message.now))) }
-    ensures refused { IfErr result (λ r. IsSomeAnd (slice_get source.now.services.items id.index) (StatesService (declared_in source.now) scope.now (message_of message.now))
+    ensures ok { OnOk result (IsSomeAnd (slice_get source.now.services.items id.index)
+        (StatesService (declared_in source.now) scope.now (message_of message.now))) }
+    ensures refused { IfErr result (λ r. IsSomeAnd (slice_get source.now.services.items id.index)
+        (StatesService (declared_in source.now) scope.now (message_of message.now))
         → r ≡ Memory) }
 {
     let parts = source.parts();
@@ -142,8 +152,10 @@ pub fn services(
     messages: &[&Message],
     ids: &[ServiceId],
 ) -> Result<(), Unstated>
-    ensures ok { OnOk result (StatesServices (declared_in source.now) scope.now (map message_of (lent messages.now)) ids.now) }
-    ensures refused { IfErr result (λ r. StatesServices (declared_in source.now) scope.now (map message_of (lent messages.now)) ids.now → r ≡ Memory) }
+    ensures ok { OnOk result (StatesServices (declared_in source.now) scope.now
+        (map message_of (lent messages.now)) ids.now) }
+    ensures refused { IfErr result (λ r. StatesServices (declared_in source.now) scope.now
+        (map message_of (lent messages.now)) ids.now → r ≡ Memory) }
 {
     ensure(messages.len() == ids.len())?;
     for (place, message) in messages.iter().enumerate() {

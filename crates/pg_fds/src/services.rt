@@ -1,5 +1,5 @@
-//! Messages of services, `ServiceDescriptorProto` of descriptor.proto. Each call is refused only where
-//! memory is.
+//! Messages of services, `ServiceDescriptorProto` of descriptor.proto. Each call is refused only
+//! where memory is.
 
 ghost use Rattle.std.specs.Prelude.{◌≡◌, IfOk, map, slice_get};
 ghost use Rattle.std.specs.Option.{option_copied};
@@ -31,7 +31,8 @@ fn method_message(
     method: &Method,
 ) -> Result<Message, AllocError>
     requires { shape_of table.now ≡ written_shape }
-    ensures items { IfOk result (λ m. items_of m ≡ method_items (declared_in source.now) method.now) }
+    ensures items { IfOk result (λ m. items_of m
+        ≡ method_items (declared_in source.now) method.now) }
     ensures kept { IfOk result (IsOf METHOD) }
 {
     let mut message = empty(alloc, METHOD);
@@ -77,7 +78,8 @@ fn methods(
     methods: &[Method],
 ) -> Result<Vec<Value>, AllocError>
     requires { shape_of table.now ≡ written_shape }
-    ensures items { IfOk result (λ made. items_within made.items ≡ map (method_items (declared_in source.now)) methods.now) }
+    ensures items { IfOk result (λ made. items_within made.items
+        ≡ map (method_items (declared_in source.now)) methods.now) }
     ensures kept { IfOk result (λ made. AreChildren METHOD made.items) }
 {
     let mut made = Vec::new(alloc);
@@ -96,7 +98,8 @@ fn service_message(
     service: &Service,
 ) -> Result<Message, AllocError>
     requires { shape_of table.now ≡ written_shape }
-    ensures items { IfOk result (λ m. items_of m ≡ service_items (declared_in source.now) service.now) }
+    ensures items { IfOk result (λ m. items_of m
+        ≡ service_items (declared_in source.now) service.now) }
     ensures kept { IfOk result (IsOf SERVICE) }
 {
     let mut message = empty(alloc, SERVICE);
@@ -140,7 +143,8 @@ pub fn services(
     ids: &[ServiceId],
 ) -> Result<Vec<Value>, AllocError>
     requires { shape_of table.now ≡ written_shape }
-    ensures items { IfOk result (λ made. items_within made.items ≡ services_items (declared_in source.now) ids.now) }
+    ensures items { IfOk result (λ made. items_within made.items
+        ≡ services_items (declared_in source.now) ids.now) }
     ensures kept { IfOk result (λ made. AreChildren SERVICE made.items) }
 {
     let mut made = Vec::new(alloc);

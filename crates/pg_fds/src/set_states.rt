@@ -29,8 +29,10 @@ use std::collections::BTreeSet;
 
 /// Whether one of the files is skipped. Refused only where the name of one is no text.
 pub fn skips(files: &[&Message]) -> Result<bool, Unstated>
-    ensures ok { IfOk result (λ skips. skips ≡ list_any is_skipped (map message_of (lent files.now))) }
-    ensures refused { OnErr result (AllByRecursion IsUtf8 (map (text_at proto.file_name) (map message_of (lent files.now))) → ⊥) }
+    ensures ok { IfOk result (λ skips. skips
+        ≡ list_any is_skipped (map message_of (lent files.now))) }
+    ensures refused { OnErr result (AllByRecursion IsUtf8
+        (map (text_at proto.file_name) (map message_of (lent files.now))) → ⊥) }
 {
     for file in files {
         let skipped = is_skipped(file)?;
@@ -41,11 +43,13 @@ pub fn skips(files: &[&Message]) -> Result<bool, Unstated>
     Ok(false)
 }
 
-/// The files that aren't skipped, in their order. Refused, memory aside, only where the name of one is no
-/// text.
+/// The files that aren't skipped, in their order. Refused, memory aside, only where the name of one
+/// is no text.
 pub fn kept<'a>(alloc: Global, files: &[&'a Message]) -> Result<Vec<&'a Message>, Unstated>
-    ensures ok { IfOk result (λ kept. map message_of (lent kept.items) ≡ filter (λ m. not (is_skipped m)) (map message_of (lent files.now))) }
-    ensures refused { IfErr result (λ r. AllByRecursion IsUtf8 (map (text_at proto.file_name) (map message_of (lent files.now))) → r ≡ Memory) }
+    ensures ok { IfOk result (λ kept. map message_of (lent kept.items)
+        ≡ filter (λ m. not (is_skipped m)) (map message_of (lent files.now))) }
+    ensures refused { IfErr result (λ r. AllByRecursion IsUtf8
+        (map (text_at proto.file_name) (map message_of (lent files.now))) → r ≡ Memory) }
 {
     let mut kept = Vec::new(alloc);
     for file in files {
@@ -58,8 +62,10 @@ pub fn kept<'a>(alloc: Global, files: &[&'a Message]) -> Result<Vec<&'a Message>
 
 // What is imported is among the names.
 fn has_imports(names: &BTreeSet<String>, imports: &[Import]) -> Result<(), Unstated>
-    ensures ok { OnOk result ((texts : List (List ℕ)) → IsSetOf texts names.now → imports_among texts imports.now ≡ true) }
-    ensures refused { OnErr result ((texts : List (List ℕ)) → IsSetOf texts names.now → imports_among texts imports.now ≡ true → ⊥) }
+    ensures ok { OnOk result ((texts : List (List ℕ)) → IsSetOf texts names.now
+        → imports_among texts imports.now ≡ true) }
+    ensures refused { OnErr result ((texts : List (List ℕ)) → IsSetOf texts names.now
+        → imports_among texts imports.now ≡ true → ⊥) }
 {
     for import in imports {
         ensure(names.contains(import.path.as_str()))?;
@@ -94,10 +100,15 @@ fn states_file(
     declared: &File,
 ) -> Result<(), Unstated>
     requires { list_all imports_once (map importer_of (map message_of (lent messages.now))) ≡ true }
-    ensures states { OnOk result (Any (λ m. StatesFile (declared_in source.now) skips m declared.now) (map message_of (lent messages.now))) }
-    ensures named { OnOk result (name_at (paths_of (map importer_of (map message_of (lent messages.now)))) place ≡ file_name declared.now) }
+    ensures states { OnOk result (Any
+        (λ m. StatesFile (declared_in source.now) skips m declared.now)
+        (map message_of (lent messages.now))) }
+    ensures named { OnOk result (name_at
+        (paths_of (map importer_of (map message_of (lent messages.now)))) place
+        ≡ file_name declared.now) }
     ensures refused { IfErr result (λ r. IsSound source.now → is_file declared.now ≡ true
-        → IsSomeAnd (slice_get (map message_of (lent messages.now)) place) (λ m. StatesFile (declared_in source.now) skips m declared.now)
+        → IsSomeAnd (slice_get (map message_of (lent messages.now)) place)
+        (λ m. StatesFile (declared_in source.now) skips m declared.now)
         → r ≡ Memory) }
 {
     if place >= messages.len() {
@@ -117,11 +128,16 @@ fn states_each(
     files: &[File],
 ) -> Result<(), Unstated>
     requires { list_all imports_once (map importer_of (map message_of (lent messages.now))) ≡ true }
-    ensures named { OnOk result (map (name_at (paths_of (map importer_of (map message_of (lent messages.now))))) places.now ≡ map file_name files.now) }
-    ensures states { OnOk result (AllByRecursion (λ (f : File). Any (λ m. StatesFile (declared_in source.now) skips m f) (map message_of (lent messages.now))) files.now) }
+    ensures named { OnOk result (map
+        (name_at (paths_of (map importer_of (map message_of (lent messages.now))))) places.now
+        ≡ map file_name files.now) }
+    ensures states { OnOk result (AllByRecursion
+        (λ (f : File). Any (λ m. StatesFile (declared_in source.now) skips m f)
+        (map message_of (lent messages.now))) files.now) }
     ensures refused { IfErr result (λ r. IsSound source.now → list_all is_file files.now ≡ true
         → AllByRecursion (λ place. place < length messages.now) places.now
-        → AllZip (StatesFile (declared_in source.now) skips) (files_at (map message_of (lent messages.now)) places.now) files.now
+        → AllZip (StatesFile (declared_in source.now) skips)
+        (files_at (map message_of (lent messages.now)) places.now) files.now
         → r ≡ Memory) }
 {
     ensure(places.len() == files.len())?;
@@ -131,9 +147,9 @@ fn states_each(
     Ok(())
 }
 
-/// The files that aren't skipped state the schema, whose files are those at these places, which are in
-/// post-order of imports. Where they are all there, it is refused, memory aside, only where these don't state
-/// it, one by one.
+/// The files that aren't skipped state the schema, whose files are those at these places, which are
+/// in post-order of imports. Where they are all there, it is refused, memory aside, only where
+/// these don't state it, one by one.
 pub fn states_files(
     alloc: Global,
     source: &Schema,
@@ -143,8 +159,10 @@ pub fn states_files(
 ) -> Result<(), Unstated>
     requires { AreOrdered skips (map importer_of (map message_of (lent messages.now))) places.now }
     ensures ok { OnOk result (StatesFiles skips (map message_of (lent messages.now)) source.now) }
-    ensures refused { IfErr result (λ r. AllByRecursion (λ place. place < length messages.now) places.now
-        → AllZip (StatesFile (declared_in source.now) skips) (files_at (map message_of (lent messages.now)) places.now)
+    ensures refused { IfErr result (λ r. AllByRecursion
+        (λ place. place < length messages.now) places.now
+        → AllZip (StatesFile (declared_in source.now) skips)
+        (files_at (map message_of (lent messages.now)) places.now)
         source.now.files.items
         → StatesFiles skips (map message_of (lent messages.now)) source.now → r ≡ Memory) }
 {

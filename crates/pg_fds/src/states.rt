@@ -1,5 +1,5 @@
-//! Whether the messages of a set state enums, fields and the entry types of map fields. What they don't
-//! state is told as a bad reference.
+//! Whether the messages of a set state enums, fields and the entry types of map fields. What they
+//! don't state is told as a bad reference.
 
 ghost use Rattle.std.specs.Prelude.{◌≡◌, IfErr, OnErr, OnOk, map, option_map, slice_get, IsSomeAnd};
 ghost use Rattle.std.specs.List.{AllZip};
@@ -70,8 +70,10 @@ fn value(message: &Message, declared: &EnumValue) -> Result<(), Unstated>
 }
 
 fn values(messages: &[&Message], declared: &[EnumValue]) -> Result<(), Unstated>
-    ensures ok { OnOk result (AllZip StatesValue (map message_of (lent messages.now)) declared.now) }
-    ensures refused { OnErr result (AllZip StatesValue (map message_of (lent messages.now)) declared.now → ⊥) }
+    ensures ok { OnOk result (AllZip StatesValue
+        (map message_of (lent messages.now)) declared.now) }
+    ensures refused { OnErr result (AllZip StatesValue
+        (map message_of (lent messages.now)) declared.now → ⊥) }
 {
     ensure(messages.len() == declared.len())?;
     for (place, message) in messages.iter().enumerate() {
@@ -89,8 +91,10 @@ fn value_range(message: &Message, declared: ReservedValues) -> Result<(), Unstat
 }
 
 fn value_ranges(messages: &[&Message], declared: &[ReservedValues]) -> Result<(), Unstated>
-    ensures ok { OnOk result (AllZip StatesValueRange (map message_of (lent messages.now)) declared.now) }
-    ensures refused { OnErr result (AllZip StatesValueRange (map message_of (lent messages.now)) declared.now → ⊥) }
+    ensures ok { OnOk result (AllZip StatesValueRange
+        (map message_of (lent messages.now)) declared.now) }
+    ensures refused { OnErr result (AllZip StatesValueRange
+        (map message_of (lent messages.now)) declared.now → ⊥) }
 {
     ensure(messages.len() == declared.len())?;
     for (place, message) in messages.iter().enumerate() {
@@ -106,7 +110,8 @@ fn enum_type(
     declared: &EnumType,
 ) -> Result<(), Unstated>
     ensures ok { OnOk result (StatesEnum scope.now (message_of message.now) declared.now) }
-    ensures refused { IfErr result (λ r. StatesEnum scope.now (message_of message.now) declared.now → r ≡ Memory) }
+    ensures refused { IfErr result (λ r. StatesEnum scope.now (message_of message.now) declared.now
+        → r ≡ Memory) }
 {
     is_within(
         alloc,
@@ -142,8 +147,10 @@ fn enum_at(
     message: &Message,
     id: EnumId,
 ) -> Result<(), Unstated>
-    ensures ok { OnOk result (IsSomeAnd (slice_get source.now.enums.items id.index) (StatesEnum scope.now (message_of message.now))) }
-    ensures refused { IfErr result (λ r. IsSomeAnd (slice_get source.now.enums.items id.index) (StatesEnum scope.now (message_of message.now)) → r ≡ Memory) }
+    ensures ok { OnOk result (IsSomeAnd (slice_get source.now.enums.items id.index)
+        (StatesEnum scope.now (message_of message.now))) }
+    ensures refused { IfErr result (λ r. IsSomeAnd (slice_get source.now.enums.items id.index)
+        (StatesEnum scope.now (message_of message.now)) → r ≡ Memory) }
 {
     match source.enum_type(id) {
         Some(declared) => enum_type(alloc, scope, message, declared),
@@ -159,8 +166,10 @@ pub fn enums(
     messages: &[&Message],
     ids: &[EnumId],
 ) -> Result<(), Unstated>
-    ensures ok { OnOk result (StatesEnums (declared_in source.now) scope.now (map message_of (lent messages.now)) ids.now) }
-    ensures refused { IfErr result (λ r. StatesEnums (declared_in source.now) scope.now (map message_of (lent messages.now)) ids.now → r ≡ Memory) }
+    ensures ok { OnOk result (StatesEnums (declared_in source.now) scope.now
+        (map message_of (lent messages.now)) ids.now) }
+    ensures refused { IfErr result (λ r. StatesEnums (declared_in source.now) scope.now
+        (map message_of (lent messages.now)) ids.now → r ≡ Memory) }
 {
     ensure(messages.len() == ids.len())?;
     for (place, message) in messages.iter().enumerate() {
@@ -184,7 +193,8 @@ pub fn label_of(message: &Message) -> i128
 /// The field has this JSON name, given or default.
 pub fn has_json_name(alloc: Global, message: &Message, stated: &str) -> Result<(), Unstated>
     ensures ok { OnOk result (json_name_at (message_of message.now) ≡ stated.now) }
-    ensures refused { IfErr result (λ r. IsUtf8 (text_at proto.field_name (message_of message.now)) → json_name_at (message_of message.now) ≡ stated.now → r ≡ Memory) }
+    ensures refused { IfErr result (λ r. IsUtf8 (text_at proto.field_name (message_of message.now))
+        → json_name_at (message_of message.now) ≡ stated.now → r ≡ Memory) }
 {
     match maybe_text(message, proto::FIELD_JSON_NAME)? {
         Some(given) => same_text(given, stated),
@@ -197,8 +207,10 @@ pub fn has_json_name(alloc: Global, message: &Message, stated: &str) -> Result<(
 
 /// The field names this type, or none.
 pub fn has_type_name(message: &Message, stated: &Option<String>) -> Result<(), Unstated>
-    ensures ok { OnOk result (maybe_text_at proto.field_type_name (message_of message.now) ≡ option_map string_bytes stated.now) }
-    ensures refused { OnErr result (maybe_text_at proto.field_type_name (message_of message.now) ≡ option_map string_bytes stated.now → ⊥) }
+    ensures ok { OnOk result (maybe_text_at proto.field_type_name (message_of message.now)
+        ≡ option_map string_bytes stated.now) }
+    ensures refused { OnErr result (maybe_text_at proto.field_type_name (message_of message.now)
+        ≡ option_map string_bytes stated.now → ⊥) }
 {
     match (maybe_text(message, proto::FIELD_TYPE_NAME)?, stated) {
         (Some(found), Some(name)) => same_text(found, name),
@@ -214,8 +226,10 @@ fn field(
     message: &Message,
     declared: &Field,
 ) -> Result<(), Unstated>
-    ensures ok { OnOk result (StatesField (declared_in source.now) scope.now (message_of message.now) declared.now) }
-    ensures refused { IfErr result (λ r. StatesField (declared_in source.now) scope.now (message_of message.now) declared.now → r ≡ Memory) }
+    ensures ok { OnOk result (StatesField (declared_in source.now) scope.now
+        (message_of message.now) declared.now) }
+    ensures refused { IfErr result (λ r. StatesField (declared_in source.now) scope.now
+        (message_of message.now) declared.now → r ≡ Memory) }
 {
     let code = type_code(declared.presence, declared.element);
     let type_name = named_type(alloc, source, scope, declared)?;
@@ -241,8 +255,10 @@ pub fn fields(
     messages: &[&Message],
     declared: &[&Field],
 ) -> Result<(), Unstated>
-    ensures ok { OnOk result (AllZip (StatesField (declared_in source.now) scope.now) (map message_of (lent messages.now)) (lent declared.now)) }
-    ensures refused { IfErr result (λ r. AllZip (StatesField (declared_in source.now) scope.now) (map message_of (lent messages.now)) (lent declared.now)
+    ensures ok { OnOk result (AllZip (StatesField (declared_in source.now) scope.now)
+        (map message_of (lent messages.now)) (lent declared.now)) }
+    ensures refused { IfErr result (λ r. AllZip (StatesField (declared_in source.now) scope.now)
+        (map message_of (lent messages.now)) (lent declared.now)
         → r ≡ Memory) }
 {
     ensure(messages.len() == declared.len())?;
@@ -262,8 +278,10 @@ fn field_range(message: &Message, declared: ReservedFields) -> Result<(), Unstat
 
 /// The messages state the reserved field numbers.
 pub fn field_ranges(messages: &[&Message], declared: &[ReservedFields]) -> Result<(), Unstated>
-    ensures ok { OnOk result (AllZip StatesFieldRange (map message_of (lent messages.now)) declared.now) }
-    ensures refused { OnErr result (AllZip StatesFieldRange (map message_of (lent messages.now)) declared.now → ⊥) }
+    ensures ok { OnOk result (AllZip StatesFieldRange
+        (map message_of (lent messages.now)) declared.now) }
+    ensures refused { OnErr result (AllZip StatesFieldRange
+        (map message_of (lent messages.now)) declared.now → ⊥) }
 {
     ensure(messages.len() == declared.len())?;
     for (place, message) in messages.iter().enumerate() {

@@ -38,7 +38,8 @@ fn freed(
     tries: usize,
     name: String,
 ) -> Result<String, AllocError>
-    ensures { IfOk result (λ made. (names : List (List ℕ)) → IsSetOf names taken.now → string_bytes made ≡ freed tries names (string_bytes name)) }
+    ensures { IfOk result (λ made. (names : List (List ℕ)) → IsSetOf names taken.now
+        → string_bytes made ≡ freed tries names (string_bytes name)) }
 {
     let mut made = name;
     for _ in 0..tries {
@@ -61,7 +62,8 @@ fn set_of(alloc: Global, names: &[String]) -> Result<BTreeSet<String>, AllocErro
     Ok(set)
 }
 
-// Puts the name of a field's synthetic oneof behind the others, and among so many names that are taken.
+// Puts the name of a field's synthetic oneof behind the others, and among so many names that are
+// taken.
 fn push_synthetic(
     alloc: Global,
     taken: &mut BTreeSet<String>,
@@ -69,9 +71,12 @@ fn push_synthetic(
     made: &mut Vec<String>,
     field: &Field,
 ) -> Result<(), AllocError>
-    ensures name { OnOk result ((names : List (List ℕ)) → IsSetOf names taken.old → tries ≡ length names
-        → map string_bytes made.new.items ≡ map string_bytes made.old.items ++ synthetic_name names (string_bytes field.now.name) ∷ []) }
-    ensures taken { OnOk result ((names : List (List ℕ)) → IsSetOf names taken.old → tries ≡ length names
+    ensures name { OnOk result ((names : List (List ℕ)) → IsSetOf names taken.old
+        → tries ≡ length names
+        → map string_bytes made.new.items ≡ map string_bytes made.old.items
+        ++ synthetic_name names (string_bytes field.now.name) ∷ []) }
+    ensures taken { OnOk result ((names : List (List ℕ)) → IsSetOf names taken.old
+        → tries ≡ length names
         → IsSetOf (synthetic_name names (string_bytes field.now.name) ∷ names) taken.new) }
 {
     let begun = with_underscore(alloc, &field.name)?;
@@ -87,7 +92,8 @@ pub fn synthetic_oneofs(
     names: &[String],
     fields: &[&Field],
 ) -> Result<Vec<String>, AllocError>
-    ensures { IfOk result (λ made. map string_bytes made.items ≡ synthetic_oneofs (map string_bytes names.now) (lent fields.now)) }
+    ensures { IfOk result (λ made. map string_bytes made.items
+        ≡ synthetic_oneofs (map string_bytes names.now) (lent fields.now)) }
 {
     let mut taken = set_of(alloc, names)?;
     let mut made = Vec::new(alloc);

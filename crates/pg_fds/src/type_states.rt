@@ -1,4 +1,5 @@
-//! Whether the messages of a set state message types. What they don't state is told as a bad reference.
+//! Whether the messages of a set state message types. What they don't state is told as a bad
+//! reference.
 
 ghost use Rattle.std.specs.Prelude.{◌≡◌, IfErr, IfOk, OnOk, Some, filter, map};
 ghost use Rattle.pg_dyn.specs.Kept.{message_of};
@@ -35,7 +36,8 @@ pub fn entries_of<'a>(
     alloc: Global,
     messages: &[&'a Message],
 ) -> Result<Vec<&'a Message>, AllocError>
-    ensures { IfOk result (λ found. map message_of (lent found.items) ≡ filter is_entry (map message_of (lent messages.now))) }
+    ensures { IfOk result (λ found. map message_of (lent found.items)
+        ≡ filter is_entry (map message_of (lent messages.now))) }
 {
     let mut found = Vec::new(alloc);
     for message in messages {
@@ -48,7 +50,8 @@ pub fn entries_of<'a>(
 
 /// Those of the messages that aren't, in their order.
 pub fn types_of<'a>(alloc: Global, messages: &[&'a Message]) -> Result<Vec<&'a Message>, AllocError>
-    ensures { IfOk result (λ found. map message_of (lent found.items) ≡ filter is_no_entry (map message_of (lent messages.now))) }
+    ensures { IfOk result (λ found. map message_of (lent found.items)
+        ≡ filter is_no_entry (map message_of (lent messages.now))) }
 {
     let mut found = Vec::new(alloc);
     for message in messages {
@@ -87,9 +90,11 @@ fn own_type(
     declared: &MessageType,
 ) -> Result<(), Unstated>
     requires { type_at source.now id ≡ Some declared.now }
-    ensures ok { OnOk result (StatesType (declared_in source.now) scope.now (message_of message.now) declared.now) }
+    ensures ok { OnOk result (StatesType (declared_in source.now) scope.now
+        (message_of message.now) declared.now) }
     ensures refused { IfErr result (λ r. IsSound source.now
-        → StatesType (declared_in source.now) scope.now (message_of message.now) declared.now → r ≡ Memory) }
+        → StatesType (declared_in source.now) scope.now (message_of message.now) declared.now
+        → r ≡ Memory) }
 {
     let own = children(alloc, message, proto::MESSAGE_FIELD)?;
     let declared_fields = declared_fields(alloc, source, id, declared)?;
@@ -123,8 +128,8 @@ fn own_type(
     Ok(())
 }
 
-/// The messages state the message types at these places, nested less deep than that. Where the schema is sound,
-/// it is refused, memory aside, only where they don't.
+/// The messages state the message types at these places, nested less deep than that. Where the
+/// schema is sound, it is refused, memory aside, only where they don't.
 pub fn types(
     alloc: Global,
     source: &Schema,
@@ -133,9 +138,11 @@ pub fn types(
     messages: &[&Message],
     ids: &[TypeId],
 ) -> Result<(), Unstated>
-    ensures ok { OnOk result (StatesTypes depth (declared_in source.now) scope.now (map message_of (lent messages.now)) ids.now) }
+    ensures ok { OnOk result (StatesTypes depth (declared_in source.now) scope.now
+        (map message_of (lent messages.now)) ids.now) }
     ensures refused { IfErr result (λ r. IsSound source.now
-        → StatesTypes depth (declared_in source.now) scope.now (map message_of (lent messages.now)) ids.now → r ≡ Memory) }
+        → StatesTypes depth (declared_in source.now) scope.now
+        (map message_of (lent messages.now)) ids.now → r ≡ Memory) }
 {
     ensure(messages.len() == ids.len())?;
     if depth == 0 {

@@ -15,7 +15,8 @@ use std::alloc::{AllocError, Global};
 /// Number, name, presence and element of a field.
 pub type FieldRow<'a> = (u32, &'a str, Presence, Element);
 
-/// The full name of a message type, its fields, and the message types and enums that are declared in it.
+/// The full name of a message type, its fields, and the message types and enums that are declared
+/// in it.
 pub type TypeRow<'a> = (&'a str, &'a [FieldRow<'a>], &'a [TypeId], &'a [EnumId]);
 
 /// Number and name of an enum's value.

@@ -36,7 +36,8 @@ impl Walk {
     fn enter(&mut self, place: usize) -> Result<(), Unstated>
         requires { place < length self.old.seen.items }
         ensures entered { OnOk result (Enters place self.old self.new) }
-        ensures refused { IfErr result (λ e. (e ≡ errors.Memory) ⊎ (slice_get self.old.seen.items place ≡ Some seen.Open)) }
+        ensures refused { IfErr result
+            (λ e. (e ≡ errors.Memory) ⊎ (slice_get self.old.seen.items place ≡ Some seen.Open)) }
     {
         match self.seen[place] {
             Seen::Done => Ok(()),
@@ -52,9 +53,12 @@ impl Walk {
     // Goes on with the file that was opened last: with its next import, or to its end.
     fn step(&mut self, imported: &[Vec<usize>], top: Open) -> Result<(), Unstated>
         requires within { AreWithin (length imported.now) (lists_of imported.now) }
-        requires walk { IsWalk (lists_of imported.now) self.old.seen.items (self.old.opened.items ++ top ∷ []) self.old.done.items }
-        ensures step { OnOk result (IsStep (lists_of imported.now) self.old.seen.items (self.old.opened.items ++ top ∷ []) self.old.done.items self.new) }
-        ensures refused { IfErr result (λ e. (e ≡ errors.Memory) ⊎ ((rank : ℕ → ℕ) → Falls rank (lists_of imported.now) → ⊥)) }
+        requires walk { IsWalk (lists_of imported.now) self.old.seen.items
+            (self.old.opened.items ++ top ∷ []) self.old.done.items }
+        ensures step { OnOk result (IsStep (lists_of imported.now) self.old.seen.items
+            (self.old.opened.items ++ top ∷ []) self.old.done.items self.new) }
+        ensures refused { IfErr result
+            (λ e. (e ≡ errors.Memory) ⊎ ((rank : ℕ → ℕ) → Falls rank (lists_of imported.now) → ⊥)) }
     {
         let own = imported[top.place].as_slice();
         if top.next >= own.len() {
@@ -72,11 +76,15 @@ impl Walk {
     // Goes on until no file is open.
     fn finish(&mut self, imported: &[Vec<usize>]) -> Result<(), Unstated>
         requires within { AreWithin (length imported.now) (lists_of imported.now) }
-        requires walk { IsWalk (lists_of imported.now) self.old.seen.items self.old.opened.items self.old.done.items }
-        ensures walk { OnOk result (IsWalk (lists_of imported.now) self.new.seen.items [] self.new.done.items) }
+        requires walk { IsWalk (lists_of imported.now) self.old.seen.items self.old.opened.items
+            self.old.done.items }
+        ensures walk { OnOk result (IsWalk
+            (lists_of imported.now) self.new.seen.items [] self.new.done.items) }
         ensures closed { OnOk result (self.new.opened.items ≡ []) }
-        ensures on { OnOk result (Ends (lists_of imported.now) self.old.opened.items self.old.done.items self.new.done.items) }
-        ensures refused { IfErr result (λ e. (e ≡ errors.Memory) ⊎ ((rank : ℕ → ℕ) → Falls rank (lists_of imported.now) → ⊥)) }
+        ensures on { OnOk result (Ends
+            (lists_of imported.now) self.old.opened.items self.old.done.items self.new.done.items) }
+        ensures refused { IfErr result
+            (λ e. (e ≡ errors.Memory) ⊎ ((rank : ℕ → ℕ) → Falls rank (lists_of imported.now) → ⊥)) }
     {
         while let Some(top) = self.opened.pop() {
             self.step(imported, top)?;
@@ -85,12 +93,14 @@ impl Walk {
     }
 }
 
-/// The places of the files, each behind those that it imports: in post-order, begun at the files in their order. Refused, memory aside,
-/// only where imports go round.
+/// The places of the files, each behind those that it imports: in post-order, begun at the files in
+/// their order. Refused, memory aside, only where imports go round.
 pub fn post_order(alloc: Global, imported: &[Vec<usize>]) -> Result<Vec<usize>, Unstated>
     requires { AreWithin (length imported.now) (lists_of imported.now) }
-    ensures ok { IfOk result (λ order. Walks (lists_of imported.now) [] (places_from 0 (length imported.now)) order.items) }
-    ensures refused { IfErr result (λ e. (e ≡ errors.Memory) ⊎ ((rank : ℕ → ℕ) → Falls rank (lists_of imported.now) → ⊥)) }
+    ensures ok { IfOk result (λ order. Walks (lists_of imported.now) []
+        (places_from 0 (length imported.now)) order.items) }
+    ensures refused { IfErr result (λ e. (e ≡ errors.Memory)
+        ⊎ ((rank : ℕ → ℕ) → Falls rank (lists_of imported.now) → ⊥)) }
 {
     let mut walk = Walk {
         seen: vec![in alloc; Seen::Not; imported.len()]?,

@@ -39,8 +39,8 @@ fn have_counted_imports(files: &[File]) -> bool
     true
 }
 
-// The places of imports are those of an int32. Where they aren't, the set is too long: an import takes two bytes at
-// least.
+// The places of imports are those of an int32. Where they aren't, the set is too long: an import
+// takes two bytes at least.
 #[tactic(auto, using(crate::proofs::LongSets::set_too_long))]
 fn are_counted(parts: &Parts) -> bool
     ensures counted { result ≡ list_all has_counted_imports parts.now.files.items }
@@ -66,18 +66,21 @@ fn set(alloc: Global, table: &Schema, source: &Schema) -> Result<Message, AllocE
 }
 
 /// The bytes of the schema's descriptor set: a `FileDescriptorSet` of its files, in their order
-/// (descriptor.proto; docs/PROOFS.md, "Descriptor sets"). They are those of the definition, and at most
-/// 2,147,483,647. Where each file stands behind those that it imports, no path twice, and messages are
-/// nested at most 100 deep, they state the schema, as `read` asks it of a set. Where messages are nested at
-/// most 64 deep, no message of the set stands deeper than `read` takes.
+/// (descriptor.proto; docs/PROOFS.md, "Descriptor sets"). They are those of the definition, and at
+/// most 2,147,483,647. Where each file stands behind those that it imports, no path twice, and
+/// messages are nested at most 100 deep, they state the schema, as `read` asks it of a set. Where
+/// messages are nested at most 64 deep, no message of the set stands deeper than `read` takes.
 ///
 /// The errors are `Memory`, and `Bytes` of `TooLong`: only where the set would have more than
 /// 2,147,483,647 bytes.
 pub fn write(alloc: Global, schema: &Schema) -> Result<Vec<u8>, FdsError>
     ensures ok { IfOk result (λ bytes. fds schema.now bytes.items) }
-    ensures stated { IfOk result (λ bytes. IsReadable schema.now → fds_reads bytes.items schema.now) }
-    ensures shallow { IfOk result (λ bytes. are_shallow schema.now ≡ true → IsNotTooDeep bytes.items) }
-    ensures err { IfErr result (λ e. (e ≡ errors.Memory) ⊎ ((e ≡ errors.Bytes faults.TooLong) × HasNoSet schema.now)) }
+    ensures stated { IfOk result (λ bytes. IsReadable schema.now
+        → fds_reads bytes.items schema.now) }
+    ensures shallow { IfOk result (λ bytes. are_shallow schema.now ≡ true
+        → IsNotTooDeep bytes.items) }
+    ensures err { IfErr result (λ e. (e ≡ errors.Memory)
+        ⊎ ((e ≡ errors.Bytes faults.TooLong) × HasNoSet schema.now)) }
 {
     let parts = schema.parts();
     if !are_counted(parts) {

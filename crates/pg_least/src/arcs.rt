@@ -55,9 +55,15 @@ fn add_arcs(
     from: usize,
     edges: &[Edge],
 ) -> Result<(), AllocError>
-    requires { AllByRecursion (λ (e : Edge). is_some (get by_indices places.now (e.child.old.index, e.child.new.index)) ≡ true) edges.now }
-    ensures edges { OnOk result (map (λ a. a.edge) arcs.new.items ≡ map (λ a. a.edge) arcs.old.items ++ edges.now) }
-    ensures placed { OnOk result ((pairs : List Pair) → ArePlaces pairs (length pairs) places.now → AllByRecursion (λ (e : Edge). slice_get pairs from ≡ Some e.from) edges.now → AllByRecursion (IsPlaced pairs) arcs.old.items → AllByRecursion (IsPlaced pairs) arcs.new.items) }
+    requires { AllByRecursion (λ (e : Edge).
+        is_some (get by_indices places.now (e.child.old.index, e.child.new.index)) ≡ true)
+        edges.now }
+    ensures edges { OnOk result (map (λ a. a.edge) arcs.new.items ≡ map (λ a. a.edge) arcs.old.items
+        ++ edges.now) }
+    ensures placed { OnOk result ((pairs : List Pair) → ArePlaces pairs (length pairs) places.now
+        → AllByRecursion (λ (e : Edge). slice_get pairs from ≡ Some e.from) edges.now
+        → AllByRecursion (IsPlaced pairs) arcs.old.items
+        → AllByRecursion (IsPlaced pairs) arcs.new.items) }
 {
     for edge in edges {
         let child = place_of(places, edge.child);
@@ -78,7 +84,8 @@ fn arcs_in_order<G: Prices>(
 ) -> Result<Vec<Arc>, AllocError>
     requires known { AllByRecursion (λ p. G.is_known graph.now p ≡ true) pairs.now }
     requires closed { AreClosed (G.children_of graph.now) pairs.now }
-    ensures edges { IfOk result (λ arcs. map (λ a. a.edge) arcs.items ≡ flat_map (G.edges_of graph.now) pairs.now) }
+    ensures edges { IfOk result (λ arcs. map (λ a. a.edge) arcs.items
+        ≡ flat_map (G.edges_of graph.now) pairs.now) }
     ensures placed { IfOk result (λ arcs. AllByRecursion (IsPlaced pairs.now) arcs.items) }
 {
     let places = places_of(alloc, pairs)?;
@@ -90,7 +97,8 @@ fn arcs_in_order<G: Prices>(
     Ok(arcs)
 }
 
-/// The edges of those pairs, with the places of the pairs that they lead from and to, by the places that they lead to.
+/// The edges of those pairs, with the places of the pairs that they lead from and to, by the places
+/// that they lead to.
 pub(crate) fn arcs_of<G: Prices>(
     alloc: Global,
     graph: &G,
@@ -98,7 +106,8 @@ pub(crate) fn arcs_of<G: Prices>(
 ) -> Result<Vec<Arc>, AllocError>
     requires known { AllByRecursion (λ p. G.is_known graph.now p ≡ true) pairs.now }
     requires closed { AreClosed (G.children_of graph.now) pairs.now }
-    ensures edges { IfOk result (λ arcs. IsPermutation (flat_map (G.edges_of graph.now) pairs.now) (map (λ a. a.edge) arcs.items)) }
+    ensures edges { IfOk result (λ arcs. IsPermutation (flat_map (G.edges_of graph.now) pairs.now)
+        (map (λ a. a.edge) arcs.items)) }
     ensures placed { IfOk result (λ arcs. AllByRecursion (IsPlaced pairs.now) arcs.items) }
     ensures by_child { IfOk result (λ arcs. AreByChild arcs.items) }
 {

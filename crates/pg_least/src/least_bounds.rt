@@ -68,14 +68,16 @@ fn count_numbers(costs: &[Option<u32>]) -> u64
     count
 }
 
-/// The least bounds of a pair that the graph knows and of the pairs that it leads to, breadth first, each the least of
-/// the pair's base and of what its edges cost at the bounds of their children, 'none' where there is none; and the
-/// work that they took: the pairs whose bound is a number, the edges whose child's bound is one, and the pairs.
+/// The least bounds of a pair that the graph knows and of the pairs that it leads to, breadth
+/// first, each the least of the pair's base and of what its edges cost at the bounds of their
+/// children, 'none' where there is none; and the work that they took: the pairs whose bound is a
+/// number, the edges whose child's bound is one, and the pairs.
 ///
 /// Refused only where memory is.
 pub fn settle<G: Prices>(alloc: Global, graph: &G, root: Pair) -> Result<(Bounds, Work), AllocError>
     requires { G.is_known graph.now root ≡ true }
-    ensures settled { IfOk result (λ found. IsSettled (G.children_of graph.now) (G.edges_of graph.now) (G.base_of graph.now) (G.price_of graph.now) root found.0) }
+    ensures settled { IfOk result (λ found. IsSettled (G.children_of graph.now)
+        (G.edges_of graph.now) (G.base_of graph.now) (G.price_of graph.now) root found.0) }
     ensures counted { IfOk result (λ found. IsCounted (G.edges_of graph.now) found.0 found.1) }
 {
     let mut work = Work {

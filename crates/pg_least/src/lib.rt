@@ -1,4 +1,5 @@
-//! The search: for a pair of types the shortest message that breaks, and the table of bounds that shows it.
+//! The search: for a pair of types the shortest message that breaks, and the table of bounds that
+//! shows it.
 #![tactic(auto)]
 
 mod arcs;

@@ -28,7 +28,8 @@ impl Queue {
 
     /// Adds a place.
     pub(crate) fn push(&mut self, cost: u32, at: usize) -> Result<(), AllocError>
-        ensures { OnOk result (IsOneMore (heap_items self.old.heap) cost at (heap_items self.new.heap)) }
+        ensures { OnOk result (IsOneMore (heap_items self.old.heap) cost at
+            (heap_items self.new.heap)) }
     {
         self.heap.push(Reverse((cost, at)))?;
         Ok(())
@@ -37,7 +38,8 @@ impl Queue {
     /// Takes a place of the least cost.
     pub(crate) fn pop(&mut self) -> Option<(u32, usize)>
         ensures len { OnSome result (heap_len self.new.heap + 1 ≡ heap_len self.old.heap) }
-        ensures least { IfSome result (λ e. IsLeastTaken (heap_items self.old.heap) e.0 e.1 (heap_items self.new.heap)) }
+        ensures least { IfSome result
+            (λ e. IsLeastTaken (heap_items self.old.heap) e.0 e.1 (heap_items self.new.heap)) }
         ensures none { IfNone result (heap_items self.old.heap ≡ []) }
         ensures unchanged { IfNone result (heap_items self.new.heap ≡ heap_items self.old.heap) }
     {

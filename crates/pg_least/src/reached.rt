@@ -31,8 +31,8 @@ fn add_unseen(
     Ok(())
 }
 
-/// The root, which the graph knows, then the children of each pair in turn, each pair once, where it was first seen. The
-/// graph knows them all.
+/// The root, which the graph knows, then the children of each pair in turn, each pair once, where
+/// it was first seen. The graph knows them all.
 ///
 /// Refused only where memory is.
 pub(crate) fn reached<G: Prices>(
@@ -41,10 +41,12 @@ pub(crate) fn reached<G: Prices>(
     root: Pair,
 ) -> Result<Vec<Pair>, AllocError>
     requires { G.is_known graph.now root ≡ true }
-    ensures in_order { IfOk result (λ pairs. IsReachedInOrder (G.children_of graph.now) root pairs.items) }
+    ensures in_order { IfOk result (λ pairs. IsReachedInOrder
+        (G.children_of graph.now) root pairs.items) }
     ensures once { IfOk result (λ pairs. distinct pairs.items ≡ pairs.items) }
     ensures closed { IfOk result (λ pairs. AreClosed (G.children_of graph.now) pairs.items) }
-    ensures known { IfOk result (λ pairs. AllByRecursion (λ p. G.is_known graph.now p ≡ true) pairs.items) }
+    ensures known { IfOk result (λ pairs. AllByRecursion
+        (λ p. G.is_known graph.now p ≡ true) pairs.items) }
 {
     one_pair_more();
     let mut pairs = Vec::new(alloc);

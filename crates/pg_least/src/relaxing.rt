@@ -37,7 +37,9 @@ fn relax<G: Prices>(
 ) -> Result<(), AllocError>
     requires arc { IsArc (G.is_known graph.now) (G.edges_of graph.now) (length costs.old) arc.now }
     requires room { work.old.relaxed + 1 < 2 ^ 64 }
-    ensures relaxed { OnOk result (IsRelaxed arc.now.from (G.price_of graph.now arc.now.edge bound) costs.old (heap_items queue.old.heap) costs.new (heap_items queue.new.heap)) }
+    ensures relaxed { OnOk result (IsRelaxed arc.now.from
+        (G.price_of graph.now arc.now.edge bound) costs.old (heap_items queue.old.heap) costs.new
+        (heap_items queue.new.heap)) }
     ensures counted { OnOk result (work.new ≡ relaxed_more work.old) }
 {
     let Some(cost) = graph.edge_cost(&arc.edge, bound, work) else {
@@ -60,9 +62,17 @@ fn relax_all<G: Prices>(
     queue: &mut Queue,
     work: &mut Work,
 ) -> Result<(), AllocError>
-    requires arcs { AllByRecursion (IsArc (G.is_known graph.now) (G.edges_of graph.now) (length costs.old)) arcs.now }
+    requires arcs { AllByRecursion (IsArc (G.is_known graph.now) (G.edges_of graph.now)
+        (length costs.old)) arcs.now }
     requires room { work.old.relaxed + length arcs.now < 2 ^ 64 }
-    ensures stands { OnOk result ((all done : List Arc) (bases : List (Option ℕ)) (settled : List Bool) → AllByRecursion (λ a. IsAmong a all × (is_set settled a.child ≡ true) × (cost_at costs.old a.child ≡ Some bound)) arcs.now → Stands (arcs_by (G.price_of graph.now)) all bases done costs.old settled (heap_items queue.old.heap) bound → Stands (arcs_by (G.price_of graph.now)) all bases (done ++ arcs.now) costs.new settled (heap_items queue.new.heap) bound) }
+    ensures stands { OnOk result ((all done : List Arc) (bases : List (Option ℕ))
+        (settled : List Bool) → AllByRecursion
+        (λ a. IsAmong a all × (is_set settled a.child ≡ true)
+        × (cost_at costs.old a.child ≡ Some bound)) arcs.now
+        → Stands (arcs_by (G.price_of graph.now)) all bases done costs.old settled
+        (heap_items queue.old.heap) bound
+        → Stands (arcs_by (G.price_of graph.now)) all bases (done ++ arcs.now) costs.new settled
+        (heap_items queue.new.heap) bound) }
     ensures counted { OnOk result (work.new ≡ relaxed_by (length arcs.now) work.old) }
 {
     for arc in arcs {
@@ -77,7 +87,8 @@ fn is_live(costs: &[Option<u32>], settled: &[bool], cost: u32, at: usize) -> boo
     ensures within { result ≡ true → at < length costs.now }
     ensures fresh { result ≡ true → is_set settled.now at ≡ false }
     ensures costs { result ≡ true → cost_at costs.now at ≡ Some cost }
-    ensures stale { result ≡ false → is_set settled.now at ≡ false → cost_at costs.now at ≡ Some cost → ⊥ }
+    ensures stale { result ≡ false → is_set settled.now at ≡ false
+        → cost_at costs.now at ≡ Some cost → ⊥ }
 {
     at < costs.len() && !settled[at] && costs[at] == Some(cost)
 }
@@ -88,8 +99,15 @@ fn next_live(queue: &mut Queue, costs: &[Option<u32>], settled: &[bool]) -> Opti
     ensures within { IfSome result (λ e. e.1 < length costs.now) }
     ensures fresh { IfSome result (λ e. is_set settled.now e.1 ≡ false) }
     ensures costs { IfSome result (λ e. cost_at costs.now e.1 ≡ Some e.0) }
-    ensures settles { IfSome result (λ e. (g : Arcs Arc) (all done : List Arc) (bases : List (Option ℕ)) (level : ℕ) → Stands g all bases done costs.now settled.now (heap_items queue.old.heap) level → Stands g all bases done costs.now (set settled.now e.1 true) (heap_items queue.new.heap) e.0) }
-    ensures none { IfNone result ((g : Arcs Arc) (all done : List Arc) (bases : List (Option ℕ)) (level : ℕ) → Stands g all bases done costs.now settled.now (heap_items queue.old.heap) level → (i c : ℕ) → cost_at costs.now i ≡ Some c → is_set settled.now i ≡ true) }
+    ensures settles { IfSome result (λ e. (g : Arcs Arc) (all done : List Arc)
+        (bases : List (Option ℕ)) (level : ℕ)
+        → Stands g all bases done costs.now settled.now (heap_items queue.old.heap) level
+        → Stands g all bases done costs.now (set settled.now e.1 true)
+        (heap_items queue.new.heap) e.0) }
+    ensures none { IfNone result ((g : Arcs Arc) (all done : List Arc) (bases : List (Option ℕ))
+        (level : ℕ) → Stands g all bases done costs.now settled.now
+        (heap_items queue.old.heap) level → (i c : ℕ) → cost_at costs.now i ≡ Some c
+        → is_set settled.now i ≡ true) }
 {
     while let Some((cost, at)) = queue.pop() {
         if is_live(costs, settled, cost, at) {
@@ -101,7 +119,8 @@ fn next_live(queue: &mut Queue, costs: &[Option<u32>], settled: &[bool]) -> Opti
 
 // All places that have a cost.
 fn waiting(alloc: Global, costs: &[Option<u32>]) -> Result<Queue, AllocError>
-    ensures { IfOk result (λ queue. (i c : ℕ) → cost_at costs.now i ≡ Some c → waits (heap_items queue.heap) c i ≡ true) }
+    ensures { IfOk result (λ queue. (i c : ℕ) → cost_at costs.now i ≡ Some c
+        → waits (heap_items queue.heap) c i ≡ true) }
 {
     let mut queue = Queue::new(alloc);
     for at in 0..costs.len() {
@@ -112,8 +131,9 @@ fn waiting(alloc: Global, costs: &[Option<u32>]) -> Result<Queue, AllocError>
     Ok(queue)
 }
 
-/// Lowers the costs of places, which are those that they have without an arc, until each is the least of this
-/// and of what its arcs cost at the costs of their children. The arcs stand by the places that they lead to.
+/// Lowers the costs of places, which are those that they have without an arc, until each is the
+/// least of this and of what its arcs cost at the costs of their children. The arcs stand by the
+/// places that they lead to.
 ///
 /// Refused only where memory is.
 pub(crate) fn settle_all<G: Prices>(
@@ -124,11 +144,14 @@ pub(crate) fn settle_all<G: Prices>(
     work: &mut Work,
 ) -> Result<(), AllocError>
     requires by_child { AreByChild arcs.now }
-    requires arcs { AllByRecursion (IsArc (G.is_known graph.now) (G.edges_of graph.now) (length costs.old)) arcs.now }
+    requires arcs { AllByRecursion (IsArc (G.is_known graph.now) (G.edges_of graph.now)
+        (length costs.old)) arcs.now }
     requires numbers { AreNumbers costs.old }
     requires room { work.old.relaxed + length arcs.now < 2 ^ 64 }
-    ensures balanced { OnOk result (IsBalanced (arcs_by (G.price_of graph.now)) arcs.now costs.old costs.new) }
-    ensures counted { OnOk result (work.new ≡ relaxed_by (length (arcs_to_numbers arcs.now costs.new)) work.old) }
+    ensures balanced { OnOk result (IsBalanced
+        (arcs_by (G.price_of graph.now)) arcs.now costs.old costs.new) }
+    ensures counted { OnOk result (work.new
+        ≡ relaxed_by (length (arcs_to_numbers arcs.now costs.new)) work.old) }
 {
     let mut settled = vec![in alloc; false; costs.len()]?;
     let mut queue = waiting(alloc, costs)?;

@@ -37,8 +37,10 @@ pub struct Found {
 // The bytes of a message that an encoding has room for.
 fn written(alloc: Global, schema: &Schema, message: &Message) -> Result<Vec<u8>, AllocError>
     requires fits { Fits (shape_of schema.now) message.now }
-    requires room { length (enc (shape_of schema.now) (type_of message.now) (message_of message.now)) ≤ cap }
-    ensures { IfOk result (λ bytes. bytes.items ≡ enc (shape_of schema.now) (type_of message.now) (message_of message.now)) }
+    requires room { length (enc (shape_of schema.now) (type_of message.now)
+        (message_of message.now)) ≤ cap }
+    ensures { IfOk result (λ bytes. bytes.items
+        ≡ enc (shape_of schema.now) (type_of message.now) (message_of message.now)) }
 {
     match encode(alloc, schema, message) {
         Ok(bytes) => Ok(bytes),
@@ -56,10 +58,16 @@ fn broken<V: View>(
     root: Pair,
     bounds: Bounds,
 ) -> Result<Found, AllocError>
-    requires table { IsTableOf (sight_of (V.is_alike view.now) (V.least_differing view.now) old.now new.now) (shape_of old.now) (shape_of new.now) root bounds }
+    requires table { IsTableOf (sight_of (V.is_alike view.now)
+        (V.least_differing view.now) old.now new.now) (shape_of old.now)
+        (shape_of new.now) root bounds }
     requires number { is_some (number_for (bound_in bounds) root) ≡ true }
-    ensures searched { IfOk result (λ found. IsSearched (sight_of (V.is_alike view.now) (V.least_differing view.now) old.now new.now) (shape_of old.now) (shape_of new.now) root found.certificate) }
-    ensures witness { IfOk result (λ found. IsBesideClaim (sight_of (V.is_alike view.now) (V.least_differing view.now) old.now new.now) (shape_of old.now) (shape_of new.now) found.certificate found.witness) }
+    ensures searched { IfOk result (λ found.
+        IsSearched (sight_of (V.is_alike view.now) (V.least_differing view.now) old.now new.now)
+        (shape_of old.now) (shape_of new.now) root found.certificate) }
+    ensures witness { IfOk result (λ found.
+        IsBesideClaim (sight_of (V.is_alike view.now) (V.least_differing view.now) old.now new.now)
+        (shape_of old.now) (shape_of new.now) found.certificate found.witness) }
     ensures bounds { IfOk result (λ found. found.certificate.bounds ≡ bounds) }
 {
     // What holds of every schema, every view and every table.
@@ -83,10 +91,16 @@ fn broken<V: View>(
 
 // The certificate of a root that no message breaks.
 fn unbroken<V: View>(view: &V, old: &Schema, new: &Schema, root: Pair, bounds: Bounds) -> Found
-    requires table { IsTableOf (sight_of (V.is_alike view.now) (V.least_differing view.now) old.now new.now) (shape_of old.now) (shape_of new.now) root bounds }
+    requires table { IsTableOf (sight_of (V.is_alike view.now)
+        (V.least_differing view.now) old.now new.now) (shape_of old.now)
+        (shape_of new.now) root bounds }
     requires none { is_some (number_for (bound_in bounds) root) ≡ false }
-    ensures searched { IsSearched (sight_of (V.is_alike view.now) (V.least_differing view.now) old.now new.now) (shape_of old.now) (shape_of new.now) root result.certificate }
-    ensures witness { IsBesideClaim (sight_of (V.is_alike view.now) (V.least_differing view.now) old.now new.now) (shape_of old.now) (shape_of new.now) result.certificate result.witness }
+    ensures searched { IsSearched (sight_of (V.is_alike view.now)
+        (V.least_differing view.now) old.now new.now) (shape_of old.now)
+        (shape_of new.now) root result.certificate }
+    ensures witness { IsBesideClaim (sight_of (V.is_alike view.now)
+        (V.least_differing view.now) old.now new.now) (shape_of old.now)
+        (shape_of new.now) result.certificate result.witness }
     ensures bounds { result.certificate.bounds ≡ bounds }
 {
     // What holds of every schema and every view.
@@ -114,9 +128,15 @@ fn certified<V: View>(
     root: Pair,
     bounds: Bounds,
 ) -> Result<Found, AllocError>
-    requires { IsTableOf (sight_of (V.is_alike view.now) (V.least_differing view.now) old.now new.now) (shape_of old.now) (shape_of new.now) root bounds }
-    ensures searched { IfOk result (λ found. IsSearched (sight_of (V.is_alike view.now) (V.least_differing view.now) old.now new.now) (shape_of old.now) (shape_of new.now) root found.certificate) }
-    ensures witness { IfOk result (λ found. IsBesideClaim (sight_of (V.is_alike view.now) (V.least_differing view.now) old.now new.now) (shape_of old.now) (shape_of new.now) found.certificate found.witness) }
+    requires { IsTableOf (sight_of (V.is_alike view.now)
+        (V.least_differing view.now) old.now new.now) (shape_of old.now)
+        (shape_of new.now) root bounds }
+    ensures searched { IfOk result (λ found.
+        IsSearched (sight_of (V.is_alike view.now) (V.least_differing view.now) old.now new.now)
+        (shape_of old.now) (shape_of new.now) root found.certificate) }
+    ensures witness { IfOk result (λ found.
+        IsBesideClaim (sight_of (V.is_alike view.now) (V.least_differing view.now) old.now new.now)
+        (shape_of old.now) (shape_of new.now) found.certificate found.witness) }
     ensures bounds { IfOk result (λ found. found.certificate.bounds ≡ bounds) }
 {
     match bounds.bound(root) {
@@ -135,8 +155,11 @@ fn settled<V: View>(
 ) -> Result<(Bounds, Work), AllocError>
     requires old_type { root.old.index < length (shape_of old.now) }
     requires new_type { root.new.index < length (shape_of new.now) }
-    ensures table { IfOk result (λ found. IsTableOf (sight_of (V.is_alike view.now) (V.least_differing view.now) old.now new.now) (shape_of old.now) (shape_of new.now) root found.0) }
-    ensures counted { IfOk result (λ found. IsCounted (edges (shape_of old.now) (shape_of new.now)) found.0 found.1) }
+    ensures table { IfOk result (λ found.
+        IsTableOf (sight_of (V.is_alike view.now) (V.least_differing view.now) old.now new.now)
+        (shape_of old.now) (shape_of new.now) root found.0) }
+    ensures counted { IfOk result (λ found.
+        IsCounted (edges (shape_of old.now) (shape_of new.now)) found.0 found.1) }
 {
     // What holds of every schema, and of all choices.
     old.parts();
@@ -156,33 +179,43 @@ fn find_with<V: View>(
 ) -> Result<(Found, Work), AllocError>
     requires old_type { root.old.index < length (shape_of old.now) }
     requires new_type { root.new.index < length (shape_of new.now) }
-    ensures searched { IfOk result (λ found. IsSearched (sight_of (V.is_alike view.now) (V.least_differing view.now) old.now new.now) (shape_of old.now) (shape_of new.now) root found.0.certificate) }
-    ensures witness { IfOk result (λ found. IsBesideClaim (sight_of (V.is_alike view.now) (V.least_differing view.now) old.now new.now) (shape_of old.now) (shape_of new.now) found.0.certificate found.0.witness) }
-    ensures counted { IfOk result (λ found. IsCounted (edges (shape_of old.now) (shape_of new.now)) found.0.certificate.bounds found.1) }
+    ensures searched { IfOk result (λ found.
+        IsSearched (sight_of (V.is_alike view.now) (V.least_differing view.now) old.now new.now)
+        (shape_of old.now) (shape_of new.now) root found.0.certificate) }
+    ensures witness { IfOk result (λ found.
+        IsBesideClaim (sight_of (V.is_alike view.now) (V.least_differing view.now) old.now new.now)
+        (shape_of old.now) (shape_of new.now) found.0.certificate found.0.witness) }
+    ensures counted { IfOk result (λ found.
+        IsCounted (edges (shape_of old.now) (shape_of new.now)) found.0.certificate.bounds
+        found.1) }
 {
     let (bounds, work) = settled(alloc, view, old, new, root)?;
     let found = certified(alloc, view, old, new, root, bounds)?;
     Ok((found, work))
 }
 
-/// The certificate of a pair of types: the bounds of all pairs that it leads to, each the length of the
-/// shortest message of its pair that breaks, or 'none' where no message does; and where the pair's own
-/// bound is a number, a breaking message of just so many bytes. Both types of the pair have to be there.
+/// The certificate of a pair of types: the bounds of all pairs that it leads to, each the length of
+/// the shortest message of its pair that breaks, or 'none' where no message does; and where the
+/// pair's own bound is a number, a breaking message of just so many bytes. Both types of the pair
+/// have to be there.
 ///
 /// Refused only where memory is.
 pub fn find(alloc: Global, old: &Schema, new: &Schema, root: Pair) -> Result<Found, AllocError>
     requires old_type { root.old.index < length (shape_of old.now) }
     requires new_type { root.new.index < length (shape_of new.now) }
-    ensures searched { IfOk result (λ found. IsSearched by_numbers (shape_of old.now) (shape_of new.now) root found.certificate) }
-    ensures witness { IfOk result (λ found. IsBesideClaim by_numbers (shape_of old.now) (shape_of new.now) found.certificate found.witness) }
+    ensures searched { IfOk result (λ found. IsSearched by_numbers (shape_of old.now)
+        (shape_of new.now) root found.certificate) }
+    ensures witness { IfOk result (λ found. IsBesideClaim by_numbers (shape_of old.now)
+        (shape_of new.now) found.certificate found.witness) }
 {
     numbers_are_alike();
     let (found, _) = find_with(alloc, &Numbers, old, new, root)?;
     Ok(found)
 }
 
-/// The certificate that `find` answers of a pair of types, and the work that its bounds took: the pairs whose bound is a
-/// number, the edges whose child's bound is one, and the pairs. Both types of the pair have to be there.
+/// The certificate that `find` answers of a pair of types, and the work that its bounds took: the
+/// pairs whose bound is a number, the edges whose child's bound is one, and the pairs. Both types
+/// of the pair have to be there.
 ///
 /// Refused only where memory is.
 pub fn search_counted(
@@ -193,16 +226,18 @@ pub fn search_counted(
 ) -> Result<(Certificate, Work), AllocError>
     requires old_type { root.old.index < length (shape_of old.now) }
     requires new_type { root.new.index < length (shape_of new.now) }
-    ensures searched { IfOk result (λ found. IsSearched by_numbers (shape_of old.now) (shape_of new.now) root found.0) }
-    ensures counted { IfOk result (λ found. IsCounted (edges (shape_of old.now) (shape_of new.now)) found.0.bounds found.1) }
+    ensures searched { IfOk result (λ found. IsSearched by_numbers (shape_of old.now)
+        (shape_of new.now) root found.0) }
+    ensures counted { IfOk result (λ found.
+        IsCounted (edges (shape_of old.now) (shape_of new.now)) found.0.bounds found.1) }
 {
     numbers_are_alike();
     let (found, work) = find_with(alloc, &Numbers, old, new, root)?;
     Ok((found.certificate, work))
 }
 
-/// The certificate that `find` answers of a pair of types, without the message beside it. Both types of the pair have to
-/// be there.
+/// The certificate that `find` answers of a pair of types, without the message beside it. Both
+/// types of the pair have to be there.
 ///
 /// Refused only where memory is.
 pub fn search(
@@ -213,7 +248,8 @@ pub fn search(
 ) -> Result<Certificate, AllocError>
     requires old_type { root.old.index < length (shape_of old.now) }
     requires new_type { root.new.index < length (shape_of new.now) }
-    ensures { IfOk result (λ certificate. IsSearched by_numbers (shape_of old.now) (shape_of new.now) root certificate) }
+    ensures { IfOk result (λ certificate. IsSearched by_numbers (shape_of old.now)
+        (shape_of new.now) root certificate) }
 {
     let (certificate, _) = search_counted(alloc, old, new, root)?;
     Ok(certificate)

@@ -36,10 +36,14 @@ fn step_at<V: View>(
     bounds: &Bounds,
     pair: Pair,
 ) -> Result<Step, AllocError>
-    requires exact { IsExactTable (sight_of (V.is_alike view.now) (V.least_differing view.now) old.now new.now) (shape_of old.now) (shape_of new.now) (bound_in bounds.now) }
+    requires exact { IsExactTable (sight_of (V.is_alike view.now)
+        (V.least_differing view.now) old.now new.now) (shape_of old.now) (shape_of new.now)
+        (bound_in bounds.now) }
     requires number { is_some (number_for (bound_in bounds.now) pair) ≡ true }
     ensures pair { IfOk result (λ step. step.pair ≡ pair) }
-    ensures step { IfOk result (λ step. IsStep (sight_of (V.is_alike view.now) (V.least_differing view.now) old.now new.now) (shape_of old.now) (shape_of new.now) (bound_in bounds.now) step) }
+    ensures step { IfOk result (λ step.
+        IsStep (sight_of (V.is_alike view.now) (V.least_differing view.now) old.now new.now)
+        (shape_of old.now) (shape_of new.now) (bound_in bounds.now) step) }
 {
     // The cheapest choice costs what an exact bound says.
     cheapest_is_least();
@@ -58,10 +62,14 @@ fn steps_down<V: View>(
     bounds: &Bounds,
     pair: Pair,
 ) -> Result<(Vec<Step>, Step), AllocError>
-    requires exact { IsExactTable (sight_of (V.is_alike view.now) (V.least_differing view.now) old.now new.now) (shape_of old.now) (shape_of new.now) (bound_in bounds.now) }
+    requires exact { IsExactTable (sight_of (V.is_alike view.now)
+        (V.least_differing view.now) old.now new.now) (shape_of old.now) (shape_of new.now)
+        (bound_in bounds.now) }
     requires number { is_some (number_for (bound_in bounds.now) pair) ≡ true }
     ensures first { IfOk result (λ steps. (first_step steps.0.items steps.1).pair ≡ pair) }
-    ensures whole { IfOk result (λ steps. IsWholeWay (sight_of (V.is_alike view.now) (V.least_differing view.now) old.now new.now) (shape_of old.now) (shape_of new.now) (bound_in bounds.now) steps.0.items steps.1) }
+    ensures whole { IfOk result (λ steps.
+        IsWholeWay (sight_of (V.is_alike view.now) (V.least_differing view.now) old.now new.now)
+        (shape_of old.now) (shape_of new.now) (bound_in bounds.now) steps.0.items steps.1) }
 {
     // What holds of every schema and every view, so that the costs fall.
     old.parts();
@@ -87,10 +95,14 @@ fn carried<V: View>(
     child: Option<Message>,
 ) -> Result<Message, AllocError>
     requires child { IfSome child (Fits (shape_of old.now)) }
-    requires round { IsChoiceRound (sight_of (V.is_alike view.now) (V.least_differing view.now) old.now new.now) (shape_of old.now) (shape_of new.now) step.pair step.choice child }
+    requires round { IsChoiceRound (sight_of (V.is_alike view.now)
+        (V.least_differing view.now) old.now new.now) (shape_of old.now)
+        (shape_of new.now) step.pair step.choice child }
     ensures fits { IfOk result (λ m. Fits (shape_of old.now) m) }
     ensures type_is { IfOk result (λ m. type_of m ≡ step.pair.old) }
-    ensures reached { IfOk result (λ m. ReachedBy (sight_of (V.is_alike view.now) (V.least_differing view.now) old.now new.now) (shape_of old.now) (shape_of new.now) step.pair (message_of m) step.choice.cost) }
+    ensures reached { IfOk result (λ m.
+        ReachedBy (sight_of (V.is_alike view.now) (V.least_differing view.now) old.now new.now)
+        (shape_of old.now) (shape_of new.now) step.pair (message_of m) step.choice.cost) }
 {
     carry(alloc, view, old, new, step.pair, &step.choice, child)
 }
@@ -104,10 +116,15 @@ fn built<V: View>(
     mut steps: Vec<Step>,
     last: Step,
 ) -> Result<Message, AllocError>
-    requires { (table : Table) × IsWholeWay (sight_of (V.is_alike view.now) (V.least_differing view.now) old.now new.now) (shape_of old.now) (shape_of new.now) table steps.items last }
+    requires { (table : Table) × IsWholeWay
+        (sight_of (V.is_alike view.now) (V.least_differing view.now) old.now new.now)
+        (shape_of old.now) (shape_of new.now) table steps.items last }
     ensures fits { IfOk result (λ m. Fits (shape_of old.now) m) }
     ensures type_is { IfOk result (λ m. type_of m ≡ (first_step steps.items last).pair.old) }
-    ensures reached { IfOk result (λ m. ReachedBy (sight_of (V.is_alike view.now) (V.least_differing view.now) old.now new.now) (shape_of old.now) (shape_of new.now) (first_step steps.items last).pair (message_of m) (first_step steps.items last).choice.cost) }
+    ensures reached { IfOk result (λ m.
+        ReachedBy (sight_of (V.is_alike view.now) (V.least_differing view.now) old.now new.now)
+        (shape_of old.now) (shape_of new.now) (first_step steps.items last).pair (message_of m)
+        (first_step steps.items last).choice.cost) }
 {
     let mut message = carried(alloc, view, old, new, last, None)?;
     while let Some(step) = steps.pop() {
@@ -116,8 +133,8 @@ fn built<V: View>(
     Ok(message)
 }
 
-/// The message of the cheapest choices of a pair and of their children in turn: one that breaks and has as many
-/// bytes as the pair's bound says, which is a number.
+/// The message of the cheapest choices of a pair and of their children in turn: one that breaks and
+/// has as many bytes as the pair's bound says, which is a number.
 ///
 /// Refused only where memory is.
 pub(crate) fn witness<V: View>(
@@ -128,11 +145,15 @@ pub(crate) fn witness<V: View>(
     bounds: &Bounds,
     pair: Pair,
 ) -> Result<Message, AllocError>
-    requires exact { IsExactTable (sight_of (V.is_alike view.now) (V.least_differing view.now) old.now new.now) (shape_of old.now) (shape_of new.now) (bound_in bounds.now) }
+    requires exact { IsExactTable (sight_of (V.is_alike view.now)
+        (V.least_differing view.now) old.now new.now) (shape_of old.now) (shape_of new.now)
+        (bound_in bounds.now) }
     requires number { is_some (number_for (bound_in bounds.now) pair) ≡ true }
     ensures fits { IfOk result (λ m. Fits (shape_of old.now) m) }
     ensures type_is { IfOk result (λ m. type_of m ≡ pair.old) }
-    ensures reached { IfOk result (λ m. (bytes : ℕ) → bound_in bounds.now pair ≡ Some (Some bytes) → ReachedBy (sight_of (V.is_alike view.now) (V.least_differing view.now) old.now new.now) (shape_of old.now) (shape_of new.now) pair (message_of m) bytes) }
+    ensures reached { IfOk result (λ m. (bytes : ℕ) → bound_in bounds.now pair ≡ Some (Some bytes)
+        → ReachedBy (sight_of (V.is_alike view.now) (V.least_differing view.now) old.now new.now)
+        (shape_of old.now) (shape_of new.now) pair (message_of m) bytes) }
 {
     let (steps, last) = steps_down(alloc, view, old, new, bounds, pair)?;
     built(alloc, view, old, new, steps, last)
@@ -146,9 +167,14 @@ fn way_with<V: View>(
     new: &Schema,
     certificate: &Certificate,
 ) -> Result<Vec<Step>, AllocError>
-    requires searched { IsSearched (sight_of (V.is_alike view.now) (V.least_differing view.now) old.now new.now) (shape_of old.now) (shape_of new.now) certificate.now.root certificate.now }
+    requires searched { IsSearched (sight_of (V.is_alike view.now)
+        (V.least_differing view.now) old.now new.now) (shape_of old.now)
+        (shape_of new.now) certificate.now.root certificate.now }
     requires breaks { is_some certificate.now.witness ≡ true }
-    ensures { IfOk result (λ steps. IsWay (sight_of (V.is_alike view.now) (V.least_differing view.now) old.now new.now) (shape_of old.now) (shape_of new.now) (bound_in certificate.now.bounds) certificate.now.root steps.items) }
+    ensures { IfOk result (λ steps. IsWay
+        (sight_of (V.is_alike view.now) (V.least_differing view.now) old.now new.now)
+        (shape_of old.now) (shape_of new.now) (bound_in certificate.now.bounds) certificate.now.root
+        steps.items) }
 {
     let root = certificate.root();
     let (mut steps, last) = steps_down(alloc, view, old, new, certificate.bounds(), root)?;
@@ -156,9 +182,10 @@ fn way_with<V: View>(
     Ok(steps)
 }
 
-/// The way of the witness of a certificate that a search answers: from the root by the cheapest choice of each pair to
-/// the pair of the message that the choice holds, as long as it holds one. The certificate has to be one that `find` or
-/// `search` answered for these two schemas, with a witness.
+/// The way of the witness of a certificate that a search answers: from the root by the cheapest
+/// choice of each pair to the pair of the message that the choice holds, as long as it holds one.
+/// The certificate has to be one that `find` or `search` answered for these two schemas, with a
+/// witness.
 ///
 /// Refused only where memory is.
 pub fn way(
@@ -167,9 +194,11 @@ pub fn way(
     new: &Schema,
     certificate: &Certificate,
 ) -> Result<Vec<Step>, AllocError>
-    requires searched { IsSearched by_numbers (shape_of old.now) (shape_of new.now) certificate.now.root certificate.now }
+    requires searched { IsSearched by_numbers (shape_of old.now)
+        (shape_of new.now) certificate.now.root certificate.now }
     requires breaks { is_some certificate.now.witness ≡ true }
-    ensures { IfOk result (λ steps. IsWay by_numbers (shape_of old.now) (shape_of new.now) (bound_in certificate.now.bounds) certificate.now.root steps.items) }
+    ensures { IfOk result (λ steps. IsWay by_numbers (shape_of old.now) (shape_of new.now)
+        (bound_in certificate.now.bounds) certificate.now.root steps.items) }
 {
     numbers_are_alike();
     way_with(alloc, &Numbers, old, new, certificate)

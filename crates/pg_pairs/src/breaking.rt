@@ -17,11 +17,13 @@ use pg_dyn::{DynError, Message, decode_unlimited, encode};
 use pg_schema::Schema;
 use std::alloc::Global;
 
-/// Whether the message breaks: it is one of the pair's old type without unknown records, and the new type's reader,
-/// at any depth, can't read its encoding or sees something else in it than was meant. The message is one of the old
-/// schema; of another type it doesn't break, nor where the new schema hasn't the pair's new type.
+/// Whether the message breaks: it is one of the pair's old type without unknown records, and the
+/// new type's reader, at any depth, can't read its encoding or sees something else in it than was
+/// meant. The message is one of the old schema; of another type it doesn't break, nor where the new
+/// schema hasn't the pair's new type.
 ///
-/// The errors are `TooLong`, just where the message's encoding has more than 2,147,483,647 bytes, and `Memory`.
+/// The errors are `TooLong`, just where the message's encoding has more than 2,147,483,647 bytes,
+/// and `Memory`.
 pub fn breaks<V: View>(
     alloc: Global,
     view: &V,
@@ -31,9 +33,15 @@ pub fn breaks<V: View>(
     message: &Message,
 ) -> Result<bool, DynError>
     requires { Fits (shape_of old.now) message.now }
-    ensures exact { IfOk result (λ b. IsTrue b ↔ ((type_of message.now ≡ pair.old) × Breaks (sight_by V.View view.now old.now new.now).alike (shape_of old.now) (shape_of new.now) pair.old pair.new (message_of message.now))) }
-    ensures encoded { OnOk result (length (enc (shape_of old.now) (type_of message.now) (message_of message.now)) ≤ cap) }
-    ensures refused { IfErr result (λ e. (e ≡ errors.Memory) ⊎ ((e ≡ errors.TooLong) × (cap < length (enc (shape_of old.now) (type_of message.now) (message_of message.now))))) }
+    ensures exact { IfOk result (λ b. IsTrue b
+        ↔ ((type_of message.now ≡ pair.old)
+        × Breaks (sight_by V.View view.now old.now new.now).alike (shape_of old.now)
+        (shape_of new.now) pair.old pair.new (message_of message.now))) }
+    ensures encoded { OnOk result (length
+        (enc (shape_of old.now) (type_of message.now) (message_of message.now)) ≤ cap) }
+    ensures refused { IfErr result (λ e. (e ≡ errors.Memory)
+        ⊎ ((e ≡ errors.TooLong) × (cap
+        < length (enc (shape_of old.now) (type_of message.now) (message_of message.now))))) }
 {
     // What holds of every schema.
     old.parts();

@@ -34,8 +34,11 @@ pub(crate) struct Beside<'a> {
 
 // A content of one item, of a field that is no map.
 fn plain_content(alloc: Global, field: &Field, value: Value) -> Result<Content, AllocError>
-    ensures seen { IfOk result (λ content. Puts field.now.number content (with_part field.now.number None (value_item value))) }
-    ensures taken { IfOk result (λ content. (shape : Shape) → is_map field.now.presence ≡ false → ItemFits shape field.now.element value → IsTakenBy shape field.now.presence field.now.element content) }
+    ensures seen { IfOk result (λ content. Puts field.now.number content
+        (with_part field.now.number None (value_item value))) }
+    ensures taken { IfOk result (λ content. (shape : Shape) → is_map field.now.presence ≡ false
+        → ItemFits shape field.now.element value
+        → IsTakenBy shape field.now.presence field.now.element content) }
 {
     if let Presence::Repeated { .. } = field.presence {
         let mut values = Vec::new(alloc);
@@ -47,8 +50,11 @@ fn plain_content(alloc: Global, field: &Field, value: Value) -> Result<Content, 
 
 // A content of one entry.
 fn entry_content(alloc: Global, key: Value, value: Value) -> Result<Content, AllocError>
-    ensures seen { IfOk result (λ content. (number : ℕ) → Puts number content (with_part number (Some (leaf_of key)) (value_item value))) }
-    ensures taken { IfOk result (λ content. (shape : Shape) (scalar : Scalar) (element : Element) → IsItemOf scalar key → ItemFits shape element value → IsTakenBy shape (Presence.Map scalar) element content) }
+    ensures seen { IfOk result (λ content. (number : ℕ)
+        → Puts number content (with_part number (Some (leaf_of key)) (value_item value))) }
+    ensures taken { IfOk result (λ content. (shape : Shape) (scalar : Scalar) (element : Element)
+        → IsItemOf scalar key → ItemFits shape element value
+        → IsTakenBy shape (Presence.Map scalar) element content) }
 {
     let mut entries = Vec::new(alloc);
     entries.push((key, value))?;
@@ -57,8 +63,12 @@ fn entry_content(alloc: Global, key: Value, value: Value) -> Result<Content, All
 
 // A content of one item that is short so, in a map under zero.
 fn small_content(alloc: Global, field: &Field, small: Small) -> Result<Content, AllocError>
-    ensures seen { IfOk result (λ content. Puts field.now.number content (with_part field.now.number (least_key field.now.presence) (item_by (leaf_by small) field.now.element))) }
-    ensures taken { IfOk result (λ content. (shape : Shape) → ElementFits (length shape) field.now.element → IsTakenBy shape field.now.presence field.now.element content) }
+    ensures seen { IfOk result (λ content. Puts field.now.number content
+        (with_part field.now.number (least_key field.now.presence)
+        (item_by (leaf_by small) field.now.element))) }
+    ensures taken { IfOk result (λ content. (shape : Shape)
+        → ElementFits (length shape) field.now.element
+        → IsTakenBy shape field.now.presence field.now.element content) }
 {
     let value = small_item(alloc, field.element, small)?;
     match field.presence {
@@ -69,8 +79,11 @@ fn small_content(alloc: Global, field: &Field, small: Small) -> Result<Content, 
 
 /// The least content of a field.
 pub(crate) fn least_content(alloc: Global, field: &Field) -> Result<Content, AllocError>
-    ensures seen { IfOk result (λ content. Puts field.now.number content (least_part (field_shape field.now))) }
-    ensures taken { IfOk result (λ content. (shape : Shape) → ElementFits (length shape) field.now.element → IsTakenBy shape field.now.presence field.now.element content) }
+    ensures seen { IfOk result (λ content. Puts field.now.number content
+        (least_part (field_shape field.now))) }
+    ensures taken { IfOk result (λ content. (shape : Shape)
+        → ElementFits (length shape) field.now.element
+        → IsTakenBy shape field.now.presence field.now.element content) }
 {
     match field.presence {
         Presence::Implicit => small_content(alloc, field, Small::NotZero),
@@ -80,8 +93,11 @@ pub(crate) fn least_content(alloc: Global, field: &Field) -> Result<Content, All
 
 // That of unlike fields; where zero doesn't count an item that isn't zero.
 fn unlike_content(alloc: Global, old: &Field, new: &Field) -> Result<Content, AllocError>
-    ensures seen { IfOk result (λ content. content_alone old.now.number content ≡ unlike_message (field_shape old.now) (field_shape new.now)) }
-    ensures taken { IfOk result (λ content. (shape : Shape) → ElementFits (length shape) old.now.element → IsTakenBy shape old.now.presence old.now.element content) }
+    ensures seen { IfOk result (λ content. content_alone old.now.number content
+        ≡ unlike_message (field_shape old.now) (field_shape new.now)) }
+    ensures taken { IfOk result (λ content. (shape : Shape)
+        → ElementFits (length shape) old.now.element
+        → IsTakenBy shape old.now.presence old.now.element content) }
 {
     let small = if zero_counts(old, new) {
         Small::Zero
@@ -105,9 +121,14 @@ fn some_content(
     item: Option<Value>,
 ) -> Result<Option<Content>, AllocError>
     requires { IfSome item IsKey }
-    ensures some { IfOk result (λ found. is_some found ≡ (not (is_map field.now.presence) && is_some item)) }
-    ensures seen { IfOk result (λ found. IfSome found (λ content. content_alone field.now.number content ≡ leaf_alone field.now.number None (option_map leaf_of item))) }
-    ensures taken { IfOk result (λ found. (shape : Shape) → IfSome item (ItemFits shape field.now.element) → IfSome found (IsTakenBy shape field.now.presence field.now.element)) }
+    ensures some { IfOk result (λ found. is_some found
+        ≡ (not (is_map field.now.presence) && is_some item)) }
+    ensures seen { IfOk result (λ found. IfSome found
+        (λ content. content_alone field.now.number content
+        ≡ leaf_alone field.now.number None (option_map leaf_of item))) }
+    ensures taken { IfOk result (λ found. (shape : Shape)
+        → IfSome item (ItemFits shape field.now.element)
+        → IfSome found (IsTakenBy shape field.now.presence field.now.element)) }
 {
     if is_map(field) {
         return Ok(None);
@@ -124,9 +145,13 @@ fn child_content(
     field: &Field,
     child: Option<Message>,
 ) -> Result<Option<Content>, AllocError>
-    ensures some { IfOk result (λ found. is_some found ≡ (not (is_map field.now.presence) && is_child_of field.now.element child)) }
-    ensures seen { IfOk result (λ found. IfSome found (λ content. content_alone field.now.number content ≡ child_alone field.now.number None (option_map message_of child))) }
-    ensures taken { IfOk result (λ found. (shape : Shape) → IfSome child (Fits shape) → IfSome found (IsTakenBy shape field.now.presence field.now.element)) }
+    ensures some { IfOk result (λ found. is_some found
+        ≡ (not (is_map field.now.presence) && is_child_of field.now.element child)) }
+    ensures seen { IfOk result (λ found. IfSome found
+        (λ content. content_alone field.now.number content
+        ≡ child_alone field.now.number None (option_map message_of child))) }
+    ensures taken { IfOk result (λ found. (shape : Shape) → IfSome child (Fits shape)
+        → IfSome found (IsTakenBy shape field.now.presence field.now.element)) }
 {
     if is_map(field) {
         return Ok(None);
@@ -140,10 +165,15 @@ fn child_content(
     }
 }
 
-// A list that the new field doesn't keep: two zeros beside an explicit field, of which one is read, else one.
+// A list that the new field doesn't keep: two zeros beside an explicit field, of which one is read,
+// else one.
 fn lost_items(alloc: Global, old: &Field, new: &Field) -> Result<Content, AllocError>
-    ensures seen { IfOk result (λ content. content_alone old.now.number content ≡ lost_onto old.now.number old.now.presence new.now.presence (item_by zero_leaf old.now.element)) }
-    ensures taken { IfOk result (λ content. (shape : Shape) → is_map old.now.presence ≡ false → ElementFits (length shape) old.now.element → IsTakenBy shape old.now.presence old.now.element content) }
+    ensures seen { IfOk result (λ content. content_alone old.now.number content
+        ≡ lost_onto old.now.number old.now.presence new.now.presence
+        (item_by zero_leaf old.now.element)) }
+    ensures taken { IfOk result (λ content. (shape : Shape) → is_map old.now.presence ≡ false
+        → ElementFits (length shape) old.now.element
+        → IsTakenBy shape old.now.presence old.now.element content) }
 {
     let zero = small_item(alloc, old.element, Small::Zero)?;
     match (old.presence, new.presence) {
@@ -160,8 +190,13 @@ fn lost_items(alloc: Global, old: &Field, new: &Field) -> Result<Content, AllocE
 // The same, of a field that is no map.
 fn lost_content(alloc: Global, old: &Field, new: &Field) -> Result<Option<Content>, AllocError>
     ensures some { IfOk result (λ found. is_some found ≡ not (is_map old.now.presence)) }
-    ensures seen { IfOk result (λ found. IfSome found (λ content. content_alone old.now.number content ≡ lost_onto old.now.number old.now.presence new.now.presence (item_by zero_leaf old.now.element))) }
-    ensures taken { IfOk result (λ found. (shape : Shape) → ElementFits (length shape) old.now.element → IfSome found (IsTakenBy shape old.now.presence old.now.element)) }
+    ensures seen { IfOk result (λ found. IfSome found
+        (λ content. content_alone old.now.number content
+        ≡ lost_onto old.now.number old.now.presence new.now.presence
+        (item_by zero_leaf old.now.element))) }
+    ensures taken { IfOk result (λ found. (shape : Shape)
+        → ElementFits (length shape) old.now.element
+        → IfSome found (IsTakenBy shape old.now.presence old.now.element)) }
 {
     if is_map(old) {
         return Ok(None);
@@ -186,9 +221,17 @@ fn key_gap_content<V: View>(
     field: &Field,
     keys: (Scalar, Scalar),
 ) -> Result<Option<Content>, AllocError>
-    ensures some { IfOk result (λ found. is_some found ≡ is_some (gap_item (sight_by V.View sides.now.view.now sides.now.old.now sides.now.new.now) true (Element.Scalar keys.0) (Element.Scalar keys.1))) }
-    ensures seen { IfOk result (λ found. IfSome found (λ content. content_alone field.now.number content ≡ key_alone field.now.number field.now.element (gap_item (sight_by V.View sides.now.view.now sides.now.old.now sides.now.new.now) true (Element.Scalar keys.0) (Element.Scalar keys.1)))) }
-    ensures taken { IfOk result (λ found. (shape : Shape) → ElementFits (length shape) field.now.element → IfSome found (IsTakenBy shape (Presence.Map keys.0) field.now.element)) }
+    ensures some { IfOk result (λ found. is_some found
+        ≡ is_some (gap_item (sight_by V.View sides.now.view.now sides.now.old.now sides.now.new.now)
+        true (Element.Scalar keys.0) (Element.Scalar keys.1))) }
+    ensures seen { IfOk result (λ found. IfSome found
+        (λ content. content_alone field.now.number content
+        ≡ key_alone field.now.number field.now.element
+        (gap_item (sight_by V.View sides.now.view.now sides.now.old.now sides.now.new.now) true
+        (Element.Scalar keys.0) (Element.Scalar keys.1)))) }
+    ensures taken { IfOk result (λ found. (shape : Shape)
+        → ElementFits (length shape) field.now.element
+        → IfSome found (IsTakenBy shape (Presence.Map keys.0) field.now.element)) }
 {
     let keys = (Element::Scalar(keys.0), Element::Scalar(keys.1));
     match gap_item(alloc, sides, true, keys)? {
@@ -207,9 +250,14 @@ fn child_entry(
     key: Scalar,
     child: Message,
 ) -> Result<Option<Content>, AllocError>
-    ensures some { IfOk result (λ found. is_some found ≡ is_child_of field.now.element (Some child)) }
-    ensures seen { IfOk result (λ found. IfSome found (λ content. content_alone field.now.number content ≡ value_alone field.now.number (zero_leaf (scalar_form key)) (Some (message_of child)) None)) }
-    ensures taken { IfOk result (λ found. (shape : Shape) → Fits shape child → IfSome found (IsTakenBy shape (Presence.Map key) field.now.element)) }
+    ensures some { IfOk result (λ found. is_some found
+        ≡ is_child_of field.now.element (Some child)) }
+    ensures seen { IfOk result (λ found. IfSome found
+        (λ content. content_alone field.now.number content
+        ≡ value_alone field.now.number (zero_leaf (scalar_form key))
+        (Some (message_of child)) None)) }
+    ensures taken { IfOk result (λ found. (shape : Shape) → Fits shape child
+        → IfSome found (IsTakenBy shape (Presence.Map key) field.now.element)) }
 {
     match child_item(alloc, field.element, child)? {
         Some(value) => {
@@ -227,9 +275,16 @@ fn value_gap_content<V: View>(
     fields: &Beside<'_>,
     key: Scalar,
 ) -> Result<Option<Content>, AllocError>
-    ensures some { IfOk result (λ found. is_some found ≡ is_some (gap_item (sight_by V.View sides.now.view.now sides.now.old.now sides.now.new.now) true fields.now.old.now.element fields.now.new.now.element)) }
-    ensures seen { IfOk result (λ found. IfSome found (λ content. content_alone fields.now.old.now.number content ≡ value_alone fields.now.old.now.number (zero_leaf (scalar_form key)) None (gap_item (sight_by V.View sides.now.view.now sides.now.old.now sides.now.new.now) true fields.now.old.now.element fields.now.new.now.element))) }
-    ensures taken { IfOk result (λ found. (shape : Shape) → IfSome found (IsTakenBy shape (Presence.Map key) fields.now.old.now.element)) }
+    ensures some { IfOk result (λ found. is_some found
+        ≡ is_some (gap_item (sight_by V.View sides.now.view.now sides.now.old.now sides.now.new.now)
+        true fields.now.old.now.element fields.now.new.now.element)) }
+    ensures seen { IfOk result (λ found. IfSome found
+        (λ content. content_alone fields.now.old.now.number content
+        ≡ value_alone fields.now.old.now.number (zero_leaf (scalar_form key)) None
+        (gap_item (sight_by V.View sides.now.view.now sides.now.old.now sides.now.new.now) true
+        fields.now.old.now.element fields.now.new.now.element))) }
+    ensures taken { IfOk result (λ found. (shape : Shape)
+        → IfSome found (IsTakenBy shape (Presence.Map key) fields.now.old.now.element)) }
 {
     let (old, new) = (fields.old, fields.new);
     match gap_item(alloc, sides, true, (old.element, new.element))? {
@@ -249,9 +304,18 @@ fn value_content<V: View>(
     key: Scalar,
     child: Option<Message>,
 ) -> Result<Option<Content>, AllocError>
-    ensures some { IfOk result (λ found. is_some found ≡ has_value fields.now.old.now.element child (gap_item (sight_by V.View sides.now.view.now sides.now.old.now sides.now.new.now) true fields.now.old.now.element fields.now.new.now.element)) }
-    ensures seen { IfOk result (λ found. IfSome found (λ content. content_alone fields.now.old.now.number content ≡ value_alone fields.now.old.now.number (zero_leaf (scalar_form key)) (option_map message_of child) (gap_item (sight_by V.View sides.now.view.now sides.now.old.now sides.now.new.now) true fields.now.old.now.element fields.now.new.now.element))) }
-    ensures taken { IfOk result (λ found. (shape : Shape) → IfSome child (Fits shape) → IfSome found (IsTakenBy shape (Presence.Map key) fields.now.old.now.element)) }
+    ensures some { IfOk result (λ found. is_some found
+        ≡ has_value fields.now.old.now.element child
+        (gap_item (sight_by V.View sides.now.view.now sides.now.old.now sides.now.new.now) true
+        fields.now.old.now.element fields.now.new.now.element)) }
+    ensures seen { IfOk result (λ found. IfSome found
+        (λ content. content_alone fields.now.old.now.number content
+        ≡ value_alone fields.now.old.now.number (zero_leaf (scalar_form key))
+        (option_map message_of child)
+        (gap_item (sight_by V.View sides.now.view.now sides.now.old.now sides.now.new.now) true
+        fields.now.old.now.element fields.now.new.now.element))) }
+    ensures taken { IfOk result (λ found. (shape : Shape) → IfSome child (Fits shape)
+        → IfSome found (IsTakenBy shape (Presence.Map key) fields.now.old.now.element)) }
 {
     match child {
         Some(child) => child_entry(alloc, fields.old, key, child),
@@ -276,8 +340,13 @@ fn apart_content(
     fields: &Beside<'_>,
     keys: (Scalar, Scalar),
 ) -> Result<Content, AllocError>
-    ensures seen { IfOk result (λ content. content_alone fields.now.old.now.number content ≡ alone fields.now.old.now.number (Some (apart_leaf (Element.Scalar keys.0) (Element.Scalar keys.1))) (apart_item fields.now.old.now.element fields.now.new.now.element)) }
-    ensures taken { IfOk result (λ content. (shape : Shape) → ElementFits (length shape) fields.now.old.now.element → IsTakenBy shape (Presence.Map keys.0) fields.now.old.now.element content) }
+    ensures seen { IfOk result (λ content. content_alone fields.now.old.now.number content
+        ≡ alone fields.now.old.now.number
+        (Some (apart_leaf (Element.Scalar keys.0) (Element.Scalar keys.1)))
+        (apart_item fields.now.old.now.element fields.now.new.now.element)) }
+    ensures taken { IfOk result (λ content. (shape : Shape)
+        → ElementFits (length shape) fields.now.old.now.element
+        → IsTakenBy shape (Presence.Map keys.0) fields.now.old.now.element content) }
 {
     let (old, new) = (fields.old, fields.new);
     let far_key = apart_small(Element::Scalar(keys.0), Element::Scalar(keys.1));
@@ -295,9 +364,20 @@ fn broken_entry<V: View>(
     part: u32,
     child: Option<Message>,
 ) -> Result<Option<Content>, AllocError>
-    ensures some { IfOk result (λ found. is_some found ≡ (is_map fields.now.old.now.presence && has_entry (sight_by V.View sides.now.view.now sides.now.old.now sides.now.new.now) (field_shape fields.now.old.now) (key_of fields.now.old.now.presence) (key_of fields.now.new.now.presence) fields.now.new.now.element part child)) }
-    ensures seen { IfOk result (λ found. IfSome found (λ content. content_alone fields.now.old.now.number content ≡ entry_message (sight_by V.View sides.now.view.now sides.now.old.now sides.now.new.now) fields.now.old.now.number (key_of fields.now.old.now.presence) (key_of fields.now.new.now.presence) fields.now.old.now.element fields.now.new.now.element part (option_map message_of child))) }
-    ensures taken { IfOk result (λ found. (shape : Shape) → ElementFits (length shape) fields.now.old.now.element → IfSome child (Fits shape) → IfSome found (IsTakenBy shape fields.now.old.now.presence fields.now.old.now.element)) }
+    ensures some { IfOk result (λ found. is_some found
+        ≡ (is_map fields.now.old.now.presence && has_entry
+        (sight_by V.View sides.now.view.now sides.now.old.now sides.now.new.now)
+        (field_shape fields.now.old.now) (key_of fields.now.old.now.presence)
+        (key_of fields.now.new.now.presence) fields.now.new.now.element part child)) }
+    ensures seen { IfOk result (λ found. IfSome found
+        (λ content. content_alone fields.now.old.now.number content
+        ≡ entry_message (sight_by V.View sides.now.view.now sides.now.old.now sides.now.new.now)
+        fields.now.old.now.number (key_of fields.now.old.now.presence)
+        (key_of fields.now.new.now.presence) fields.now.old.now.element fields.now.new.now.element
+        part (option_map message_of child))) }
+    ensures taken { IfOk result (λ found. (shape : Shape)
+        → ElementFits (length shape) fields.now.old.now.element → IfSome child (Fits shape)
+        → IfSome found (IsTakenBy shape fields.now.old.now.presence fields.now.old.now.element)) }
 {
     let Presence::Map { key } = fields.old.presence else {
         return Ok(None);
@@ -310,8 +390,8 @@ fn broken_entry<V: View>(
     }
 }
 
-/// The content of the old field that breaks in the message of a choice of that case and part, round the child where
-/// it has one. `None` where the field takes no such content.
+/// The content of the old field that breaks in the message of a choice of that case and part, round
+/// the child where it has one. `None` where the field takes no such content.
 pub(crate) fn broken_content<V: View>(
     alloc: Global,
     sides: &Sides<'_, V>,
@@ -319,9 +399,19 @@ pub(crate) fn broken_content<V: View>(
     choice: &Choice,
     child: Option<Message>,
 ) -> Result<Option<Content>, AllocError>
-    ensures some { IfOk result (λ found. is_some found ≡ has_content (sight_by V.View sides.now.view.now sides.now.old.now sides.now.new.now) (field_shape fields.now.old.now) (field_shape fields.now.new.now) choice.now.case choice.now.part child) }
-    ensures seen { IfOk result (λ found. IfSome found (λ content. content_alone fields.now.old.now.number content ≡ carried_field (sight_by V.View sides.now.view.now sides.now.old.now sides.now.new.now) (field_shape fields.now.old.now) (field_shape fields.now.new.now) choice.now.case choice.now.part (option_map message_of child))) }
-    ensures taken { IfOk result (λ found. (shape : Shape) → ElementFits (length shape) fields.now.old.now.element → IfSome child (Fits shape) → IfSome found (IsTakenBy shape fields.now.old.now.presence fields.now.old.now.element)) }
+    ensures some { IfOk result (λ found. is_some found
+        ≡ has_content (sight_by V.View sides.now.view.now sides.now.old.now sides.now.new.now)
+        (field_shape fields.now.old.now)
+        (field_shape fields.now.new.now) choice.now.case choice.now.part child) }
+    ensures seen { IfOk result (λ found. IfSome found
+        (λ content. content_alone fields.now.old.now.number content
+        ≡ carried_field (sight_by V.View sides.now.view.now sides.now.old.now sides.now.new.now)
+        (field_shape fields.now.old.now)
+        (field_shape fields.now.new.now) choice.now.case choice.now.part
+        (option_map message_of child))) }
+    ensures taken { IfOk result (λ found. (shape : Shape)
+        → ElementFits (length shape) fields.now.old.now.element → IfSome child (Fits shape)
+        → IfSome found (IsTakenBy shape fields.now.old.now.presence fields.now.old.now.element)) }
 {
     let (old, new) = (fields.old, fields.new);
     match choice.case {

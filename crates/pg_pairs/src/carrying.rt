@@ -29,9 +29,11 @@ fn add(
     content: Content,
 ) -> Result<(), AllocError>
     requires fits { Fits (shape_of schema.now) message.old }
-    requires found { field_at (fields (shape_of schema.now) (type_of message.old)) field.now.number ≡ Some (field_shape field.now) }
+    requires found { field_at (fields (shape_of schema.now) (type_of message.old)) field.now.number
+        ≡ Some (field_shape field.now) }
     requires taken { IsTakenBy (shape_of schema.now) field.now.presence field.now.element content }
-    ensures set { OnOk result (IsSetTo (shape_of schema.now) field.now.number content message.old message.new) }
+    ensures set { OnOk result (IsSetTo (shape_of schema.now) field.now.number content message.old
+        message.new) }
     ensures fits { OnOk result (Fits (shape_of schema.now) message.new) }
     ensures type_is { OnOk result (type_of message.new ≡ type_of message.old) }
 {
@@ -45,7 +47,8 @@ fn add(
 // The field of a number that the type has.
 fn field_there(schema: &Schema, type_id: TypeId, number: u32) -> &Field
     requires { is_some (field_at (fields (shape_of schema.now) type_id) number) ≡ true }
-    ensures { field_at (fields (shape_of schema.now) type_id) number ≡ Some (field_shape result.now) }
+    ensures { field_at (fields (shape_of schema.now) type_id) number
+        ≡ Some (field_shape result.now) }
 {
     match schema.field(type_id, number) {
         Some(field) => field,
@@ -53,11 +56,13 @@ fn field_there(schema: &Schema, type_id: TypeId, number: u32) -> &Field
     }
 }
 
-/// The message by which the choice is reached, a message of the pair's old type, built round the child. It breaks and has
-/// just the choice's cost, if the child breaks and has the length of the bound of its pair.
+/// The message by which the choice is reached, a message of the pair's old type, built round the
+/// child. It breaks and has just the choice's cost, if the child breaks and has the length of the
+/// bound of its pair.
 ///
-/// The choice has to be one that `options` gives for the pair under this view and some table. A child has to come just
-/// where the choice has one (`choice_child`), and to be a message of the old type of that pair.
+/// The choice has to be one that `options` gives for the pair under this view and some table. A
+/// child has to come just where the choice has one (`choice_child`), and to be a message of the old
+/// type of that pair.
 ///
 /// Refused only where memory is; then the child is dropped.
 pub fn carry<V: View>(
@@ -69,15 +74,22 @@ pub fn carry<V: View>(
     choice: &Choice,
     child: Option<Message>,
 ) -> Result<Message, AllocError>
-    requires choice { IsChoiceOf (sight_by V.View view.now old.now new.now) (shape_of old.now) (shape_of new.now) pair choice.now }
-    requires child { ChildGiven (shape_of old.now) (choice_child (shape_of old.now) (shape_of new.now) pair choice.now) child }
+    requires choice { IsChoiceOf (sight_by V.View view.now old.now new.now) (shape_of old.now)
+        (shape_of new.now) pair choice.now }
+    requires child { ChildGiven (shape_of old.now)
+        (choice_child (shape_of old.now) (shape_of new.now) pair choice.now) child }
     ensures fits { IfOk result (λ m. Fits (shape_of old.now) m) }
     ensures type_is { IfOk result (λ m. type_of m ≡ pair.old) }
-    ensures made { IfOk result (λ m. message_of m ≡ carried (sight_by V.View view.now old.now new.now) (shape_of old.now) (shape_of new.now) pair choice.now (option_map message_of child)) }
+    ensures made { IfOk result (λ m. message_of m
+        ≡ carried (sight_by V.View view.now old.now new.now) (shape_of old.now)
+        (shape_of new.now) pair choice.now (option_map message_of child)) }
     ensures reached { IfOk result (λ m. (table : Table) →
         IsAmong choice.now (choices (sight_by V.View view.now old.now new.now) table (shape_of old.now) (shape_of new.now) pair)
-        → ChildReached (sight_by V.View view.now old.now new.now) (shape_of old.now) (shape_of new.now) table (choice_child (shape_of old.now) (shape_of new.now) pair choice.now) (option_map message_of child)
-        → ReachedBy (sight_by V.View view.now old.now new.now) (shape_of old.now) (shape_of new.now) pair (message_of m) choice.now.cost) }
+        → ChildReached (sight_by V.View view.now old.now new.now) (shape_of old.now)
+        (shape_of new.now) table (choice_child (shape_of old.now)
+        (shape_of new.now) pair choice.now) (option_map message_of child)
+        → ReachedBy (sight_by V.View view.now old.now new.now) (shape_of old.now)
+        (shape_of new.now) pair (message_of m) choice.now.cost) }
 {
     // What holds of every schema.
     old.parts();

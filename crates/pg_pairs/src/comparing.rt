@@ -27,7 +27,9 @@ use std::alloc::{AllocError, Global};
 fn is_alike<V: View>(sides: &Sides<'_, V>, fields: &Beside<'_>, value: &Value) -> bool
     requires key { IsKey value.now }
     requires fits { ItemFits (shape_of sides.now.old.now) fields.now.old.now.element value.now }
-    ensures { result ≡ is_alike_leaf (V.is_alike sides.now.view.now) sides.now.old.now sides.now.new.now fields.now.old.now.element fields.now.new.now.element (leaf_of value.now) }
+    ensures { result ≡ is_alike_leaf
+        (V.is_alike sides.now.view.now) sides.now.old.now sides.now.new.now
+        fields.now.old.now.element fields.now.new.now.element (leaf_of value.now) }
 {
     let (Element::Enum(old), Element::Enum(new)) = (fields.old.element, fields.new.element) else {
         return true;
@@ -48,7 +50,8 @@ fn push_outside(
     type_id: TypeId,
     found: &UnknownRecord,
 ) -> Result<(), AllocError>
-    ensures { OnOk result (bytes.new.items ≡ bytes.old.items ++ outside_record (fields (shape_of schema.now) type_id) found.now) }
+    ensures { OnOk result (bytes.new.items
+        ≡ bytes.old.items ++ outside_record (fields (shape_of schema.now) type_id) found.now) }
 {
     match schema.field(type_id, found.number) {
         Some(_) => Ok(()),
@@ -58,7 +61,9 @@ fn push_outside(
 
 // The bytes of the records whose numbers the type of the message hasn't.
 fn outside_bytes(alloc: Global, schema: &Schema, message: &Message) -> Result<Vec<u8>, AllocError>
-    ensures { IfOk result (λ bytes. bytes.items ≡ bytes_of (records_outside (fields (shape_of schema.now) (type_of message.now)) (unknown_of message.now))) }
+    ensures { IfOk result (λ bytes. bytes.items
+        ≡ bytes_of (records_outside (fields (shape_of schema.now) (type_of message.now))
+        (unknown_of message.now))) }
 {
     let type_id = message.type_id();
     let unknown = message.unknown();
@@ -79,7 +84,10 @@ fn is_same_outside<V: View>(
 ) -> Result<bool, AllocError>
     requires fits { Fits (shape_of sides.now.old.now) message.now }
     requires encoded { HasEncoding (shape_of sides.now.old.now) message.now }
-    ensures { IfOk result (λ is. is ≡ bytes_eq (bytes_of (records_outside (fields (shape_of sides.now.new.now) (type_of read.now)) (unknown_of read.now))) (unshared_bytes (shape_of sides.now.old.now) (type_of message.now) (fields (shape_of sides.now.new.now) (type_of read.now)) (message_of message.now))) }
+    ensures { IfOk result (λ is. is ≡ bytes_eq
+        (bytes_of (records_outside (fields (shape_of sides.now.new.now) (type_of read.now))
+        (unknown_of read.now))) (unshared_bytes (shape_of sides.now.old.now) (type_of message.now)
+        (fields (shape_of sides.now.new.now) (type_of read.now)) (message_of message.now))) }
 {
     let kept = outside_bytes(alloc, sides.new, read)?;
     match encode_outside(alloc, sides.old, message, sides.new, read.type_id()) {
@@ -104,7 +112,9 @@ fn is_same_item<V: View>(
     requires fits { ItemFits (shape_of sides.now.old.now) fields.now.old.now.element value.now }
     requires encoded { ItemHasEncoding (shape_of sides.now.old.now) value.now }
     requires read_fits { ItemFits (shape_of sides.now.new.now) fields.now.new.now.element read.now }
-    ensures { IfOk result (λ is. is ≡ items_meet (V.is_alike sides.now.view.now) sides.now.old.now sides.now.new.now (field_shape fields.now.old.now) (field_shape fields.now.new.now) value.now read.now) }
+    ensures { IfOk result (λ is. is ≡ items_meet
+        (V.is_alike sides.now.view.now) sides.now.old.now sides.now.new.now
+        (field_shape fields.now.old.now) (field_shape fields.now.new.now) value.now read.now) }
 {
     match (value, read) {
         (Value::Msg(child), Value::Msg(other)) => is_same_message(alloc, sides, child, other),
@@ -124,10 +134,16 @@ fn is_same_content<V: View>(
 ) -> Result<bool, AllocError>
     requires old_schema { IsSchema sides.now.old.now }
     requires new_schema { IsSchema sides.now.new.now }
-    requires fits { ContentFits (shape_of sides.now.old.now) fields.now.old.now.presence fields.now.old.now.element content.now }
-    requires encoded { AllByRecursion (λ x. ItemHasEncoding (shape_of sides.now.old.now) x.1) (keyed content.now) }
-    requires read_fits { ContentFits (shape_of sides.now.new.now) fields.now.new.now.presence fields.now.new.now.element read.now }
-    ensures { IfOk result (λ is. is ≡ all_meet (V.is_alike sides.now.view.now) sides.now.old.now sides.now.new.now (field_shape fields.now.old.now) (field_shape fields.now.new.now) (keyed content.now) (keyed read.now)) }
+    requires fits { ContentFits (shape_of sides.now.old.now) fields.now.old.now.presence
+        fields.now.old.now.element content.now }
+    requires encoded { AllByRecursion (λ x. ItemHasEncoding (shape_of sides.now.old.now) x.1)
+        (keyed content.now) }
+    requires read_fits { ContentFits (shape_of sides.now.new.now) fields.now.new.now.presence
+        fields.now.new.now.element read.now }
+    ensures { IfOk result (λ is. is ≡ all_meet
+        (V.is_alike sides.now.view.now) sides.now.old.now sides.now.new.now
+        (field_shape fields.now.old.now) (field_shape fields.now.new.now) (keyed content.now)
+        (keyed read.now)) }
 {
     let len = count(content);
     if len != count(read) {
@@ -146,7 +162,8 @@ fn is_same_content<V: View>(
     Ok(true)
 }
 
-// Whether the new type's field of the number shows what the old field means; where there is none, nothing is shown.
+// Whether the new type's field of the number shows what the old field means; where there is none,
+// nothing is shown.
 #[cycle(same)]
 fn is_same_field<V: View>(
     alloc: Global,
@@ -160,8 +177,12 @@ fn is_same_field<V: View>(
     requires fits { Fits (shape_of sides.now.old.now) message.now }
     requires encoded { HasEncoding (shape_of sides.now.old.now) message.now }
     requires read_fits { Fits (shape_of sides.now.new.now) read.now }
-    requires found { field_at (fields (shape_of sides.now.old.now) (type_of message.now)) field.now.number ≡ Some (field_shape field.now) }
-    ensures { IfOk result (λ is. is ≡ is_same_beside (V.is_alike sides.now.view.now) sides.now.old.now sides.now.new.now message.now read.now (field_shape field.now) (field_at (fields (shape_of sides.now.new.now) (type_of read.now)) field.now.number)) }
+    requires found { field_at (fields (shape_of sides.now.old.now) (type_of message.now))
+        field.now.number ≡ Some (field_shape field.now) }
+    ensures { IfOk result (λ is. is ≡ is_same_beside
+        (V.is_alike sides.now.view.now) sides.now.old.now sides.now.new.now message.now read.now
+        (field_shape field.now) (field_at (fields (shape_of sides.now.new.now) (type_of read.now))
+        field.now.number)) }
 {
     let Some(beside) = sides.new.field(read.type_id(), field.number) else {
         return Ok(true);
@@ -193,8 +214,13 @@ fn are_same_fields<V: View>(
     requires fits { Fits (shape_of sides.now.old.now) message.now }
     requires encoded { HasEncoding (shape_of sides.now.old.now) message.now }
     requires read_fits { Fits (shape_of sides.now.new.now) read.now }
-    requires found { AllByRecursion (λ f. field_at (fields (shape_of sides.now.old.now) (type_of message.now)) f.number ≡ Some (field_shape f)) list.now }
-    ensures { IfOk result (λ is. is ≡ list_all (λ f. is_same_beside (V.is_alike sides.now.view.now) sides.now.old.now sides.now.new.now message.now read.now (field_shape f) (field_at (fields (shape_of sides.now.new.now) (type_of read.now)) f.number)) list.now) }
+    requires found { AllByRecursion (λ f.
+        field_at (fields (shape_of sides.now.old.now) (type_of message.now)) f.number
+        ≡ Some (field_shape f)) list.now }
+    ensures { IfOk result (λ is. is ≡ list_all
+        (λ f. is_same_beside (V.is_alike sides.now.view.now) sides.now.old.now sides.now.new.now
+        message.now read.now (field_shape f)
+        (field_at (fields (shape_of sides.now.new.now) (type_of read.now)) f.number)) list.now) }
 {
     for field in list {
         if !is_same_field(alloc, sides, field, message, read)? {
@@ -204,7 +230,8 @@ fn are_same_fields<V: View>(
     Ok(true)
 }
 
-/// Whether the new message shows what the old one means, at every depth. The old message has to have an encoding.
+/// Whether the new message shows what the old one means, at every depth. The old message has to
+/// have an encoding.
 ///
 /// Refused only where memory is.
 #[cycle(same)]
@@ -219,7 +246,8 @@ pub(crate) fn is_same_message<V: View>(
     requires fits { Fits (shape_of sides.now.old.now) message.now }
     requires encoded { HasEncoding (shape_of sides.now.old.now) message.now }
     requires read_fits { Fits (shape_of sides.now.new.now) read.now }
-    ensures { IfOk result (λ is. is ≡ is_same (V.is_alike sides.now.view.now) sides.now.old.now sides.now.new.now message.now read.now) }
+    ensures { IfOk result (λ is. is ≡ is_same
+        (V.is_alike sides.now.view.now) sides.now.old.now sides.now.new.now message.now read.now) }
 {
     if let Some(message_type) = sides.old.message_type(message.type_id()) {
         if !are_same_fields(alloc, sides, &message_type.fields, message, read)? {

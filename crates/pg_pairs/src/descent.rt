@@ -41,7 +41,8 @@ fn field_child(old: &Field, new: &Field) -> Option<Pair>
 
 /// The child of a field beside the new type's field of its number.
 pub(crate) fn child_beside(new: &Schema, type_id: TypeId, field: &Field) -> Option<Pair>
-    ensures { option_to_list result ≡ children_beside (field_shape field.now) (field_at (fields (shape_of new.now) type_id) field.now.number) }
+    ensures { option_to_list result ≡ children_beside (field_shape field.now)
+        (field_at (fields (shape_of new.now) type_id) field.now.number) }
 {
     field_child(field, new.field(type_id, field.number)?)
 }
@@ -53,7 +54,8 @@ fn children_of(
     type_id: TypeId,
     list: &[Field],
 ) -> Result<Vec<Pair>, AllocError>
-    ensures { IfOk result (λ pairs. pairs.items ≡ distinct (all_children (fields (shape_of new.now) type_id) (map field_shape list.now))) }
+    ensures { IfOk result (λ pairs. pairs.items
+        ≡ distinct (all_children (fields (shape_of new.now) type_id) (map field_shape list.now))) }
 {
     let mut pairs = Vec::new(alloc);
     let mut seen = BTreeSet::new(alloc);
@@ -67,8 +69,8 @@ fn children_of(
     Ok(pairs)
 }
 
-/// The pairs of types of the messages that stand in shared fields of a pair, each once, by the least
-/// number of such a field.
+/// The pairs of types of the messages that stand in shared fields of a pair, each once, by the
+/// least number of such a field.
 ///
 /// Refused only where memory is.
 pub fn children(
@@ -77,7 +79,8 @@ pub fn children(
     new: &Schema,
     pair: Pair,
 ) -> Result<Vec<Pair>, AllocError>
-    ensures { IfOk result (λ pairs. pairs.items ≡ children (shape_of old.now) (shape_of new.now) pair) }
+    ensures { IfOk result (λ pairs. pairs.items
+        ≡ children (shape_of old.now) (shape_of new.now) pair) }
 {
     match old.message_type(pair.old) {
         Some(message_type) => children_of(alloc, new, pair.new, &message_type.fields),
@@ -85,7 +88,8 @@ pub fn children(
     }
 }
 
-// Whether a choice of that case and part has a child: an item that is one, or the value of an entry.
+// Whether a choice of that case and part has a child: an item that is one, or the value of an
+// entry.
 fn has_child(case: u8, part: u32) -> bool
     ensures { result ≡ has_child case part }
 {

@@ -72,7 +72,8 @@ fn item_cost(field: &Field, body: Option<u64>) -> Option<u64>
 fn key_cost(field: &Field, body: Option<u64>) -> Option<u64>
     requires number { field.now.number < 2 ^ 29 }
     requires body { IfSome body (λ body. body < 2 ^ 33) }
-    ensures { result ≡ option_map (λ body. entry_cost field.now.number body (least_body field.now.element)) body }
+    ensures { result ≡ option_map (λ body. entry_cost field.now.number body
+        (least_body field.now.element)) body }
 {
     Some(entry_cost(field.number, body?, least_body(field.element)))
 }
@@ -85,7 +86,8 @@ pub(crate) fn offer(
     part: u32,
     cost: Option<u64>,
 ) -> Result<(), AllocError>
-    ensures { OnOk result (choices.new.items ≡ choices.old.items ++ affordable (choice_of number case part cost)) }
+    ensures { OnOk result (choices.new.items
+        ≡ choices.old.items ++ affordable (choice_of number case part cost)) }
 {
     let Some(cost) = cost else {
         return Ok(());
@@ -119,7 +121,11 @@ fn offer_plain<V: View, T: Table>(
     new: &Field,
 ) -> Result<(), AllocError>
     requires { old.now.number < 2 ^ 29 }
-    ensures { OnOk result (choices.new.items ≡ choices.old.items ++ affordable (plain_choices (sight_by V.View between.now.view.now between.now.old.now between.now.new.now) (T.bounds between.now.table.now) (field_shape old.now) (field_shape new.now))) }
+    ensures { OnOk result (choices.new.items
+        ≡ choices.old.items ++ affordable
+        (plain_choices (sight_by V.View between.now.view.now between.now.old.now
+        between.now.new.now) (T.bounds between.now.table.now) (field_shape old.now)
+        (field_shape new.now))) }
 {
     let number = old.number;
     let elements = (old.element, new.element);
@@ -143,7 +149,11 @@ fn offer_map<V: View, T: Table>(
     keys: (Scalar, Scalar),
 ) -> Result<(), AllocError>
     requires { old.now.number < 2 ^ 29 }
-    ensures { OnOk result (choices.new.items ≡ choices.old.items ++ affordable (map_choices (sight_by V.View between.now.view.now between.now.old.now between.now.new.now) (T.bounds between.now.table.now) (field_shape old.now) (field_shape new.now) keys.0 keys.1)) }
+    ensures { OnOk result (choices.new.items
+        ≡ choices.old.items ++ affordable
+        (map_choices (sight_by V.View between.now.view.now between.now.old.now between.now.new.now)
+        (T.bounds between.now.table.now) (field_shape old.now)
+        (field_shape new.now) keys.0 keys.1)) }
 {
     let number = old.number;
     let keys = (Element::Scalar(keys.0), Element::Scalar(keys.1));
@@ -167,7 +177,11 @@ pub(crate) fn offer_field<V: View, T: Table>(
     new: &Field,
 ) -> Result<(), AllocError>
     requires { old.now.number < 2 ^ 29 }
-    ensures { OnOk result (choices.new.items ≡ choices.old.items ++ affordable (field_choices (sight_by V.View between.now.view.now between.now.old.now between.now.new.now) (T.bounds between.now.table.now) (field_shape old.now) (field_shape new.now))) }
+    ensures { OnOk result (choices.new.items
+        ≡ choices.old.items ++ affordable
+        (field_choices (sight_by V.View between.now.view.now between.now.old.now
+        between.now.new.now) (T.bounds between.now.table.now) (field_shape old.now)
+        (field_shape new.now))) }
 {
     match (old.presence, new.presence) {
         (Presence::Map { key: old_key }, Presence::Map { key: new_key }) => {
@@ -188,7 +202,11 @@ pub(crate) fn offer_beside<V: View, T: Table>(
     field: &Field,
 ) -> Result<(), AllocError>
     requires { field.now.number < 2 ^ 29 }
-    ensures { OnOk result (choices.new.items ≡ choices.old.items ++ affordable (choices_beside (sight_by V.View between.now.view.now between.now.old.now between.now.new.now) (T.bounds between.now.table.now) (field_shape field.now) (field_at (fields (shape_of between.now.new.now) type_id) field.now.number))) }
+    ensures { OnOk result (choices.new.items
+        ≡ choices.old.items ++ affordable
+        (choices_beside (sight_by V.View between.now.view.now between.now.old.now
+        between.now.new.now) (T.bounds between.now.table.now) (field_shape field.now)
+        (field_at (fields (shape_of between.now.new.now) type_id) field.now.number))) }
 {
     match between.new.field(type_id, field.number) {
         Some(beside) => offer_field(between, choices, field, beside),

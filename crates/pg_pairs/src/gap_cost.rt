@@ -20,7 +20,8 @@ use pg_schema::{Element, EnumId, Scalar, Schema};
 
 // The body of the gap's item between two scalar types.
 fn scalar_gap_body(old: Scalar, new: Scalar) -> Option<u64>
-    ensures body { result ≡ option_map (body_length (scalar_form old)) (item_of (scalar_form old) (gap old new)) }
+    ensures body { result ≡ option_map (body_length (scalar_form old))
+        (item_of (scalar_form old) (gap old new)) }
     ensures few { IfSome result (λ body. body < 2 ^ 33) }
 {
     match gap(old, new) {
@@ -46,7 +47,8 @@ fn enum_gap_body<V: View>(
     zero: bool,
     pair: (EnumId, EnumId),
 ) -> Option<u64>
-    ensures body { result ≡ gap_body (sight_by V.View view.now old.now new.now) zero (Element.Enum pair.0) (Element.Enum pair.1) }
+    ensures body { result ≡ gap_body (sight_by V.View view.now old.now new.now) zero
+        (Element.Enum pair.0) (Element.Enum pair.1) }
     ensures few { IfSome result (λ body. body < 2 ^ 33) }
 {
     let (Some(from), Some(to)) = (old.enum_type(pair.0), new.enum_type(pair.1)) else {

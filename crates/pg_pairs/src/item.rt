@@ -22,7 +22,8 @@ use pg_dyn::{Message, Value};
 use pg_schema::{Element, EnumId, Scalar, Schema};
 use std::alloc::{AllocError, Global};
 
-/// An item with a short body: zero; one that isn't zero; or zero but for integers, of which it is 1.
+/// An item with a short body: zero; one that isn't zero; or zero but for integers, of which it is
+/// 1.
 #[derive(Clone, Copy)]
 pub(crate) enum Small {
     Zero,
@@ -74,7 +75,8 @@ pub(crate) fn small_leaf(alloc: Global, scalar: Scalar, small: Small) -> Result<
 /// Such an item of the element; of messages it is the empty one.
 pub(crate) fn small_item(alloc: Global, element: Element, small: Small) -> Result<Value, AllocError>
     ensures seen { IfOk result (λ value. value_item value ≡ item_by (leaf_by small) element) }
-    ensures fits { IfOk result (λ value. (shape : Shape) → ElementFits (length shape) element → ItemFits shape element value) }
+    ensures fits { IfOk result (λ value. (shape : Shape) → ElementFits (length shape) element
+        → ItemFits shape element value) }
 {
     match element {
         Element::Message(type_id) => {
@@ -92,8 +94,10 @@ pub(crate) fn child_item(
     child: Message,
 ) -> Result<Option<Value>, AllocError>
     ensures some { IfOk result (λ found. is_some found ≡ is_child_of element (Some child)) }
-    ensures seen { IfOk result (λ found. IfSome found (λ value. value_item value ≡ Msg (message_of child))) }
-    ensures fits { IfOk result (λ found. (shape : Shape) → Fits shape child → IfSome found (ItemFits shape element)) }
+    ensures seen { IfOk result (λ found. IfSome found
+        (λ value. value_item value ≡ Msg (message_of child))) }
+    ensures fits { IfOk result (λ found. (shape : Shape) → Fits shape child
+        → IfSome found (ItemFits shape element)) }
 {
     let Element::Message(type_id) = element else {
         return Ok(None);
@@ -106,7 +110,8 @@ pub(crate) fn child_item(
 
 // The item of the gap between two scalar types, where there is one.
 fn scalar_gap_item(alloc: Global, old: Scalar, new: Scalar) -> Result<Option<Value>, AllocError>
-    ensures item { IfOk result (λ item. option_map leaf_of item ≡ item_of (scalar_form old) (gap old new)) }
+    ensures item { IfOk result (λ item. option_map leaf_of item
+        ≡ item_of (scalar_form old) (gap old new)) }
     ensures key { IfOk result (λ item. IfSome item IsKey) }
     ensures fits { IfOk result (λ item. IfSome item (IsItemOf old)) }
 {
@@ -130,7 +135,9 @@ fn enum_gap_item<V: View>(
     zero: bool,
     pair: (EnumId, EnumId),
 ) -> Option<Value>
-    ensures item { option_map leaf_of result ≡ gap_item (sight_by V.View view.now old.now new.now) zero (Element.Enum pair.0) (Element.Enum pair.1) }
+    ensures item { option_map leaf_of result
+        ≡ gap_item (sight_by V.View view.now old.now new.now) zero (Element.Enum pair.0)
+        (Element.Enum pair.1) }
     ensures key { IfSome result IsKey }
     ensures fits { IfSome result (IsItemOf Scalar.Int32) }
 {
@@ -141,15 +148,18 @@ fn enum_gap_item<V: View>(
     Some(Value::Int(i128::from(number)))
 }
 
-/// The item of the gap between two elements, where there is one: one that counts, with the least body of those that
-/// the new element's reader doesn't read as the same item. A scalar beside an enum goes by int32.
+/// The item of the gap between two elements, where there is one: one that counts, with the least
+/// body of those that the new element's reader doesn't read as the same item. A scalar beside an
+/// enum goes by int32.
 pub(crate) fn gap_item<V: View>(
     alloc: Global,
     sides: &Sides<'_, V>,
     zero: bool,
     pair: (Element, Element),
 ) -> Result<Option<Value>, AllocError>
-    ensures item { IfOk result (λ item. option_map leaf_of item ≡ gap_item (sight_by V.View sides.now.view.now sides.now.old.now sides.now.new.now) zero pair.0 pair.1) }
+    ensures item { IfOk result (λ item. option_map leaf_of item
+        ≡ gap_item (sight_by V.View sides.now.view.now sides.now.old.now sides.now.new.now) zero
+        pair.0 pair.1) }
     ensures key { IfOk result (λ item. IfSome item IsKey) }
     ensures fits { IfOk result (λ item. (shape : Shape) → IfSome item (ItemFits shape pair.0)) }
 {

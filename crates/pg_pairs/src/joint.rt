@@ -21,7 +21,11 @@ use std::alloc::AllocError;
 fn offer_meeting(choices: &mut Vec<Choice>, first: &Field, second: &Field) -> Result<(), AllocError>
     requires first { first.now.number < 2 ^ 29 }
     requires second { second.now.number < 2 ^ 29 }
-    ensures { OnOk result (choices.new.items ≡ choices.old.items ++ affordable (if not (same_oneof first.now.oneof second.now.oneof) then choice first.now.number 6 second.now.number (least_content (field_shape first.now) + least_content (field_shape second.now)) ∷ [] else [])) }
+    ensures { OnOk result (choices.new.items
+        ≡ choices.old.items ++ affordable
+        (if not (same_oneof first.now.oneof second.now.oneof) then choice first.now.number 6
+        second.now.number (least_content (field_shape first.now) + least_content
+        (field_shape second.now)) ∷ [] else [])) }
 {
     if same_oneof(first.oneof, second.oneof) {
         return Ok(());
@@ -30,7 +34,8 @@ fn offer_meeting(choices: &mut Vec<Choice>, first: &Field, second: &Field) -> Re
     offer(choices, first.number, 6, second.number, Some(cost))
 }
 
-// The place that a field goes on to behind a later one: where this is in its old oneof, past that oneof.
+// The place that a field goes on to behind a later one: where this is in its old oneof, past that
+// oneof.
 fn behind(field: &Field, later: &Field, next: usize, other: usize) -> usize
     ensures { result ≡ (if same_oneof field.now.oneof later.now.oneof then other else next) }
 {
@@ -41,7 +46,8 @@ fn behind(field: &Field, later: &Field, next: usize, other: usize) -> usize
 }
 
 /// Puts the choices of a field with each later one of its new oneof behind the others. A link leads
-/// from each field to the next of its new oneof, and `others` to the next that isn't in its old oneof.
+/// from each field to the next of its new oneof, and `others` to the next that isn't in its old
+/// oneof.
 pub(crate) fn offer_joined(
     choices: &mut Vec<Choice>,
     list: &[Field],
@@ -55,7 +61,9 @@ pub(crate) fn offer_joined(
     requires oneofs { length oneofs.now ≡ length list.now }
     requires next { next.now ≡ links 0 oneofs.now }
     requires others { PassesBy list.now oneofs.now others.now }
-    ensures { OnOk result ((gs : List FieldShape) → oneofs.now ≡ map (λ f. new_oneof gs (field_shape f)) list.now → JoinsWith gs list.now at choices.old.items choices.new.items) }
+    ensures { OnOk result ((gs : List FieldShape)
+        → oneofs.now ≡ map (λ f. new_oneof gs (field_shape f)) list.now
+        → JoinsWith gs list.now at choices.old.items choices.new.items) }
 {
     let mut place = next[at];
     while place < list.len() {

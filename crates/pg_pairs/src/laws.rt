@@ -19,13 +19,14 @@ pub fn small_pairs()
     ensures { SmallPairs }
 {}
 
-/// The table of gaps is true: each value is a shortest item that isn't seen, and where there is none each item is seen.
+/// The table of gaps is true: each value is a shortest item that isn't seen, and where there is
+/// none each item is seen.
 pub fn gap_table()
     ensures { GapTable }
 {}
 
-/// The gap between any two like elements that are no messages, under any view of enum items, is a least item that isn't
-/// seen; where there is none each is seen.
+/// The gap between any two like elements that are no messages, under any view of enum items, is a
+/// least item that isn't seen; where there is none each is seen.
 pub fn element_gaps()
     ensures { ElementGaps }
 {}
@@ -45,18 +46,20 @@ pub fn numbers_are_alike()
     ensures { NumbersAreAlike }
 {}
 
-/// A content that breaks alone has at least the bytes of one of its field's choices: of scalars, lists
-/// and maps, and of children that are as long as the table says.
+/// A content that breaks alone has at least the bytes of one of its field's choices: of scalars,
+/// lists and maps, and of children that are as long as the table says.
 pub fn contents_cost()
     ensures { ContentsCost }
 {}
 
-/// A message that breaks with one scalar or enum in a singular field alone has at least the bytes of the field's cheapest choice.
+/// A message that breaks with one scalar or enum in a singular field alone has at least the bytes
+/// of the field's cheapest choice.
 pub fn single_scalars_cost()
     ensures { SingleScalarsCost }
 {}
 
-/// So has one that breaks with a list alone, of scalars or of children, under a table that covers the pair.
+/// So has one that breaks with a list alone, of scalars or of children, under a table that covers
+/// the pair.
 pub fn lists_cost()
     ensures { ListsCost }
 {}
@@ -81,13 +84,14 @@ pub fn none_is_compatible()
     ensures { NoneIsCompatible }
 {}
 
-/// Each choice of a pair is the length of a message that breaks, if for each smaller number in the table there is one.
+/// Each choice of a pair is the length of a message that breaks, if for each smaller number in the
+/// table there is one.
 pub fn each_choice_is_reached()
     ensures { EachChoiceIsReached }
 {}
 
-/// The message of a choice breaks and has the choice's cost, if its child, where it has one, breaks and has the
-/// length of its pair's bound.
+/// The message of a choice breaks and has the choice's cost, if its child, where it has one, breaks
+/// and has the length of its pair's bound.
 pub fn each_choice_is_carried()
     ensures { EachChoiceIsCarried }
 {}
@@ -97,12 +101,14 @@ pub fn each_child_costs_less()
     ensures { EachChildCostsLess }
 {}
 
-/// The cheapest of choices is one of them, of which none costs less; there is none only of no choices.
+/// The cheapest of choices is one of them, of which none costs less; there is none only of no
+/// choices.
 pub fn cheapest_is_least()
     ensures { CheapestIsLeast }
 {}
 
-/// A table whose every bound is the least cost of its pair's choices says the least length of each pair's breaking messages.
+/// A table whose every bound is the least cost of its pair's choices says the least length of each
+/// pair's breaking messages.
 pub fn exact_is_least()
     ensures { ExactIsLeast }
 {}
@@ -122,13 +128,14 @@ pub fn least_costs_are_exact()
     ensures { LeastCostsAreExact }
 {}
 
-/// A choice of a pair under a table is one without bounds or that of an edge at its child's bound; and these are all choices.
+/// A choice of a pair under a table is one without bounds or that of an edge at its child's bound;
+/// and these are all choices.
 pub fn choices_by_edges()
     ensures { ChoicesByEdges }
 {}
 
-/// So a pair's least cost under a table is the least of its least cost without bounds and of what its edges cost at the
-/// bounds of their children.
+/// So a pair's least cost under a table is the least of its least cost without bounds and of what
+/// its edges cost at the bounds of their children.
 pub fn least_costs_by_edges()
     ensures { LeastCostsByEdges }
 {}

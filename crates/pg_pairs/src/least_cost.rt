@@ -46,8 +46,8 @@ fn first_of(former: Option<Choice>, later: Option<Choice>) -> Option<Choice>
     }
 }
 
-// The cheapest choice of those fields. They are gone through from the last on: of all choices of a field
-// with later ones of its new oneof the cheapest is enough.
+// The cheapest choice of those fields. They are gone through from the last on: of all choices of a
+// field with later ones of its new oneof the cheapest is enough.
 fn cheapest_of<V: View, T: Table>(
     alloc: Global,
     between: &Between<'_, V, T>,
@@ -55,7 +55,11 @@ fn cheapest_of<V: View, T: Table>(
     list: &[Field],
 ) -> Result<Option<Choice>, AllocError>
     requires { AllByRecursion (λ (f : Field). f.number < 2 ^ 29) list.now }
-    ensures { IfOk result (λ found. found ≡ cheapest (affordable (all_choices (sight_by V.View between.now.view.now between.now.old.now between.now.new.now) (T.bounds between.now.table.now) (fields (shape_of between.now.new.now) type_id) (map field_shape list.now)))) }
+    ensures { IfOk result (λ found. found
+        ≡ cheapest (affordable (all_choices
+        (sight_by V.View between.now.view.now between.now.old.now between.now.new.now)
+        (T.bounds between.now.table.now) (fields (shape_of between.now.new.now) type_id)
+        (map field_shape list.now)))) }
 {
     let mut kept = HashMap::new(alloc);
     let mut choices = Vec::new(alloc);
@@ -77,8 +81,8 @@ fn cheapest_of<V: View, T: Table>(
     Ok(found)
 }
 
-/// The choice of the pair with the least cost, of several the first by number, case and part; `None`
-/// where it has no choice. Children cost what the table says of them.
+/// The choice of the pair with the least cost, of several the first by number, case and part;
+/// `None` where it has no choice. Children cost what the table says of them.
 ///
 /// Refused only where memory is.
 pub fn cheapest<V: View, T: Table>(
@@ -89,7 +93,9 @@ pub fn cheapest<V: View, T: Table>(
     pair: Pair,
     table: &T,
 ) -> Result<Option<Choice>, AllocError>
-    ensures { IfOk result (λ found. found ≡ cheapest (choices (sight_by V.View view.now old.now new.now) (T.bounds table.now) (shape_of old.now) (shape_of new.now) pair)) }
+    ensures { IfOk result (λ found. found
+        ≡ cheapest (choices (sight_by V.View view.now old.now new.now) (T.bounds table.now)
+        (shape_of old.now) (shape_of new.now) pair)) }
 {
     // What holds of every schema.
     old.parts();

@@ -69,7 +69,9 @@ fn beside(two: Option<Two>, oneof: Option<u32>) -> Option<Member>
 
 // The two with one more field before the others.
 fn with_member(two: Option<Two>, member: Member) -> Two
-    ensures met { IsOrdered two → (old : Option ℕ) → beside (Some result) old ≡ (if not (same_oneof old member.oneof) then Some (lesser member (beside two old)) else beside two old) }
+    ensures met { IsOrdered two → (old : Option ℕ)
+        → beside (Some result) old ≡ (if not (same_oneof old member.oneof) then Some
+        (lesser member (beside two old)) else beside two old) }
     ensures ordered { IsOrdered two → IsOrdered (Some result) }
 {
     let Some(later) = two else {
@@ -99,7 +101,8 @@ fn offer_with(
     member: &Member,
     met: Option<Member>,
 ) -> Result<(), AllocError>
-    ensures { OnOk result (choices.new.items ≡ choices.old.items ++ affordable (met_choices member.now met)) }
+    ensures { OnOk result (choices.new.items
+        ≡ choices.old.items ++ affordable (met_choices member.now met)) }
 {
     let Some(met) = met else {
         return Ok(());
@@ -122,7 +125,12 @@ pub(crate) fn meet(
     oneof: Option<u32>,
 ) -> Result<(), AllocError>
     requires { field.now.number < 2 ^ 29 }
-    ensures { OnOk result ((gs fs : List FieldShape) → oneof ≡ new_oneof gs (field_shape field.now) → KeepsLeast gs fs kept.old → (choices.new.items ≡ choices.old.items ++ affordable (met_choices (member_of (field_shape field.now)) (least_member gs oneof field.now.oneof fs))) × KeepsLeast gs (field_shape field.now ∷ fs) kept.new) }
+    ensures { OnOk result ((gs fs : List FieldShape) → oneof ≡ new_oneof gs (field_shape field.now)
+        → KeepsLeast gs fs kept.old → (choices.new.items
+        ≡ choices.old.items ++ affordable
+        (met_choices (member_of (field_shape field.now))
+        (least_member gs oneof field.now.oneof fs)))
+        × KeepsLeast gs (field_shape field.now ∷ fs) kept.new) }
 {
     let Some(oneof) = oneof else {
         return Ok(());

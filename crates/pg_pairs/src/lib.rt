@@ -1,4 +1,5 @@
-//! Pairs of an old and a new type: what of the one the other doesn't see, and how long the shortest message is that shows it.
+//! Pairs of an old and a new type: what of the one the other doesn't see, and how long the shortest
+//! message is that shows it.
 #![tactic(auto)]
 
 mod breaking;

@@ -24,7 +24,8 @@ pub(crate) fn new_oneofs(
     type_id: TypeId,
     list: &[Field],
 ) -> Result<Vec<Option<u32>>, AllocError>
-    ensures { IfOk result (λ oneofs. oneofs.items ≡ map (λ f. new_oneof (fields (shape_of new.now) type_id) (field_shape f)) list.now) }
+    ensures { IfOk result (λ oneofs. oneofs.items
+        ≡ map (λ f. new_oneof (fields (shape_of new.now) type_id) (field_shape f)) list.now) }
 {
     let mut oneofs = Vec::with_capacity(alloc, list.len())?;
     for field in list {
@@ -33,7 +34,8 @@ pub(crate) fn new_oneofs(
     Ok(oneofs)
 }
 
-// The next place in the oneof, of those that `heads` keeps; the oneof's first place is then this one.
+// The next place in the oneof, of those that `heads` keeps; the oneof's first place is then this
+// one.
 fn link(
     heads: &mut HashMap<u32, usize>,
     oneof: Option<u32>,
@@ -82,7 +84,8 @@ fn lead_past(others: &mut Vec<usize>, list: &[Field], at: usize)
     requires at { at < length list.now }
     requires long { vec_len others.old ≡ length list.now }
     ensures long { vec_len others.new ≡ length list.now }
-    ensures passes { (oneofs : List (Option ℕ)) → PassesBy list.now oneofs others.old.items → PassesBy list.now oneofs others.new.items }
+    ensures passes { (oneofs : List (Option ℕ)) → PassesBy list.now oneofs others.old.items
+        → PassesBy list.now oneofs others.new.items }
 {
     let next = others[at];
     if next >= list.len() {
@@ -93,15 +96,16 @@ fn lead_past(others: &mut Vec<usize>, list: &[Field], at: usize)
     }
 }
 
-/// For each place the next one in its new oneof that isn't in its old oneof, and the end where there is
-/// none. A link leads from each place to the next of its new oneof.
+/// For each place the next one in its new oneof that isn't in its old oneof, and the end where
+/// there is none. A link leads from each place to the next of its new oneof.
 pub(crate) fn others_of(
     alloc: Global,
     list: &[Field],
     next: &[usize],
 ) -> Result<Vec<usize>, AllocError>
     requires { length next.now ≡ length list.now }
-    ensures { IfOk result (λ others. (oneofs : List (Option ℕ)) → length oneofs ≡ length list.now → next.now ≡ links 0 oneofs → PassesBy list.now oneofs others.items) }
+    ensures { IfOk result (λ others. (oneofs : List (Option ℕ)) → length oneofs ≡ length list.now
+        → next.now ≡ links 0 oneofs → PassesBy list.now oneofs others.items) }
 {
     let mut others = next.to_vec(alloc)?;
     let mut at = list.len();

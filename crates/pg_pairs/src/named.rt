@@ -7,7 +7,8 @@ ghost use Rattle.pg_pairs.specs.SightBy.{sight_by};
 use crate::view::View;
 use pg_schema::Schema;
 
-/// What the view of a name sees keeps the law of views, and finds alike what the view of that name does.
+/// What the view of a name sees keeps the law of views, and finds alike what the view of that name
+/// does.
 pub fn named_sights()
     ensures { NamedSights }
 {}

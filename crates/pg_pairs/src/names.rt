@@ -9,8 +9,8 @@ use crate::view::View;
 use pg_dyn::{ViewName, complement_64};
 use pg_schema::{EnumType, EnumValue};
 
-/// The view that finds a number alike where not both enums declare it, or where both give it the same
-/// set of names, each without its scope.
+/// The view that finds a number alike where not both enums declare it, or where both give it the
+/// same set of names, each without its scope.
 #[derive(Clone, Copy, Debug)]
 pub struct Names;
 
@@ -87,7 +87,8 @@ fn counts(number: i32, zero: bool) -> bool
 
 // Whether the value's number counts, and its name is missing among the others.
 fn is_counted(others: &[EnumValue], value: &EnumValue, zero: bool) -> bool
-    ensures { result ≡ (number_counts zero value.now.number && is_missing (map named others.now) (named value.now)) }
+    ensures { result ≡ (number_counts zero value.now.number && is_missing (map named others.now)
+        (named value.now)) }
 {
     counts(value.number, zero) && is_missing(others, value)
 }
@@ -95,7 +96,8 @@ fn is_counted(others: &[EnumValue], value: &EnumValue, zero: bool) -> bool
 // The least number that counts and that these values give a name that the others don't give it,
 // though they have it.
 fn least_missing(values: &[EnumValue], others: &[EnumValue], zero: bool) -> Option<i32>
-    ensures { result ≡ least_number (missing_numbers zero (map named values.now) (map named others.now)) }
+    ensures { result ≡ least_number (missing_numbers zero (map named values.now)
+        (map named others.now)) }
 {
     let mut least = None;
     for value in values {

@@ -25,7 +25,10 @@ fn choices_of<V: View, T: Table>(
     list: &[Field],
 ) -> Result<Vec<Choice>, AllocError>
     requires { AllByRecursion (λ (f : Field). f.number < 2 ^ 29) list.now }
-    ensures { IfOk result (λ choices. choices.items ≡ affordable (all_choices (sight_by V.View between.now.view.now between.now.old.now between.now.new.now) (T.bounds between.now.table.now) (fields (shape_of between.now.new.now) type_id) (map field_shape list.now))) }
+    ensures { IfOk result (λ choices. choices.items
+        ≡ affordable (all_choices (sight_by V.View between.now.view.now between.now.old.now
+        between.now.new.now) (T.bounds between.now.table.now)
+        (fields (shape_of between.now.new.now) type_id) (map field_shape list.now))) }
 {
     let oneofs = new_oneofs(alloc, between.new, type_id, list)?;
     let next = links_of(alloc, &oneofs)?;
@@ -51,7 +54,9 @@ pub fn options<V: View, T: Table>(
     pair: Pair,
     table: &T,
 ) -> Result<Vec<Choice>, AllocError>
-    ensures { IfOk result (λ cs. cs.items ≡ choices (sight_by V.View view.now old.now new.now) (T.bounds table.now) (shape_of old.now) (shape_of new.now) pair) }
+    ensures { IfOk result (λ cs. cs.items
+        ≡ choices (sight_by V.View view.now old.now new.now) (T.bounds table.now) (shape_of old.now)
+        (shape_of new.now) pair) }
 {
     // What holds of every schema.
     old.parts();

@@ -21,9 +21,9 @@ use crate::work::Work;
 use pg_schema::{Field, Presence, Schema};
 use std::alloc::{AllocError, Global};
 
-/// Two schemas under a view, as a graph of the pairs of their message types. Without a child a pair costs the least that
-/// its choices do; it has an edge for each field that holds messages in both types, in maps as values under like
-/// keys, which costs what the choice of such a child does.
+/// Two schemas under a view, as a graph of the pairs of their message types. Without a child a pair
+/// costs the least that its choices do; it has an edge for each field that holds messages in both
+/// types, in maps as values under like keys, which costs what the choice of such a child does.
 #[derive(Drop)]
 pub struct Priced<'a, V> {
     pub view: &'a V,
@@ -63,7 +63,10 @@ fn edges_of(
     pair: Pair,
     list: &[Field],
 ) -> Result<Vec<Edge>, AllocError>
-    ensures { IfOk result (λ edges. edges.items ≡ flat_map (λ f. map (edge_to pair f) (children_beside f (field_at (fields (shape_of new.now) pair.new) f.number))) (map field_shape list.now)) }
+    ensures { IfOk result (λ edges. edges.items
+        ≡ flat_map (λ f. map (edge_to pair f)
+        (children_beside f (field_at (fields (shape_of new.now) pair.new) f.number)))
+        (map field_shape list.now)) }
 {
     let mut edges = Vec::new(alloc);
     for field in list {
@@ -111,21 +114,31 @@ impl<'a, V: View> Prices for Priced<'a, V> {
 
     ghost edges_of = { λ it pair. edges (shape_of it.old.now) (shape_of it.new.now) pair };
 
-    ghost base_of = { λ it pair. least_cost (sight_of (V.is_alike it.view.now) (V.least_differing it.view.now) it.old.now it.new.now) no_bounds (shape_of it.old.now) (shape_of it.new.now) pair };
+    ghost base_of = { λ it pair. least_cost
+        (sight_of (V.is_alike it.view.now) (V.least_differing it.view.now) it.old.now it.new.now)
+        no_bounds (shape_of it.old.now) (shape_of it.new.now) pair };
 
     ghost price_of = { λ it edge bound. edge_price (shape_of it.old.now) edge bound };
 
-    ghost known_are_few = { λ it pairs once known. ∥∥₁_elim it.priced (Prim.hlevel props) (λ priced. priced.pairs_few pairs once known) };
+    ghost known_are_few = { λ it pairs once known. ∥∥₁_elim it.priced (Prim.hlevel props)
+        (λ priced. priced.pairs_few pairs once known) };
 
-    ghost children_are_known = { λ it pair child known among. ∥∥₁_elim it.priced (Prim.hlevel props) (λ priced. priced.children_there pair child among) };
+    ghost children_are_known = { λ it pair child known among. ∥∥₁_elim it.priced (Prim.hlevel props)
+        (λ priced. priced.children_there pair child among) };
 
-    ghost edges_are_few = { λ it pair known. ∥∥₁_elim it.priced (Prim.hlevel props) (λ priced. priced.edges_few pair) };
+    ghost edges_are_few = { λ it pair known. ∥∥₁_elim it.priced (Prim.hlevel props)
+        (λ priced. priced.edges_few pair) };
 
-    ghost edges_lead_to_children = { λ it pair edge known among. edge_leads (shape_of it.old.now) (shape_of it.new.now) pair edge among };
+    ghost edges_lead_to_children = { λ it pair edge known among. edge_leads (shape_of it.old.now)
+        (shape_of it.new.now) pair edge among };
 
-    ghost bases_are_lengths = { λ it pair known. ∥∥₁_elim it.priced (Prim.hlevel props) (λ priced. priced.bases_are_lengths (sight_of (V.is_alike it.view.now) (V.least_differing it.view.now) it.old.now it.new.now) pair) };
+    ghost bases_are_lengths = { λ it pair known. ∥∥₁_elim it.priced (Prim.hlevel props)
+        (λ priced. priced.bases_are_lengths
+        (sight_of (V.is_alike it.view.now) (V.least_differing it.view.now) it.old.now it.new.now)
+        pair) };
 
-    ghost edges_cost_more = { λ it pair edge bound some known among. ∥∥₁_elim it.priced (Prim.hlevel props) (λ priced. priced.costs_more edge bound) };
+    ghost edges_cost_more = { λ it pair edge bound some known among. ∥∥₁_elim it.priced
+        (Prim.hlevel props) (λ priced. priced.costs_more edge bound) };
 
     fn knows(&self, pair: Pair) -> bool {
         self.old.has(pair.old) && self.new.has(pair.new)

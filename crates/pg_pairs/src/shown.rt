@@ -30,7 +30,8 @@ fn is_implicit(field: &Field) -> bool
 
 // Whether zeros aren't shown between the two fields.
 fn hides_zero(fields: &Beside<'_>) -> bool
-    ensures { result ≡ hides_zero (field_shape fields.now.old.now) (field_shape fields.now.new.now) }
+    ensures { result ≡ hides_zero (field_shape fields.now.old.now)
+        (field_shape fields.now.new.now) }
 {
     is_singular(fields.old)
         && is_singular(fields.new)
@@ -112,7 +113,8 @@ pub(crate) fn held_at(content: &Content, at: usize) -> Held<'_>
 pub(crate) fn is_same_key(first: Option<&Value>, second: Option<&Value>) -> bool
     requires first { IfSome first (λ key. IsKey key.now) }
     requires second { IfSome second (λ key. IsKey key.now) }
-    ensures { result ≡ same_key (option_map leaf_of (option_copied first.entry)) (option_map leaf_of (option_copied second.entry)) }
+    ensures { result ≡ same_key (option_map leaf_of (option_copied first.entry))
+        (option_map leaf_of (option_copied second.entry)) }
 {
     match (first, second) {
         (Some(first), Some(second)) => is_same_leaf(first, second),
@@ -123,9 +125,12 @@ pub(crate) fn is_same_key(first: Option<&Value>, second: Option<&Value>) -> bool
 
 /// What is shown of a content of one of the two fields.
 pub(crate) fn shown<'a>(fields: &Beside<'_>, content: Option<&'a Content>) -> Option<&'a Content>
-    requires { hides_zero (field_shape fields.now.old.now) (field_shape fields.now.new.now) ≡ true → IsSingle (option_copied content) }
+    requires { hides_zero (field_shape fields.now.old.now) (field_shape fields.now.new.now) ≡ true
+        → IsSingle (option_copied content) }
     ensures same { IfSome result (λ shown. option_copied content.entry ≡ Some shown.now) }
-    ensures items { keyed_if (option_copied result) ≡ keyed_shown (hides_zero (field_shape fields.now.old.now) (field_shape fields.now.new.now)) (option_copied content.entry) }
+    ensures items { keyed_if (option_copied result)
+        ≡ keyed_shown (hides_zero (field_shape fields.now.old.now) (field_shape fields.now.new.now))
+        (option_copied content.entry) }
 {
     if !hides_zero(fields) {
         return content;

@@ -10,7 +10,8 @@ use crate::choice::Pair;
 pub trait Table {
     ghost bounds: { Self → Table };
 
-    /// The pair's bound: `None` where the pair isn't there, `Some(None)` where no message of it breaks.
+    /// The pair's bound: `None` where the pair isn't there, `Some(None)` where no message of it
+    /// breaks.
     fn bound(&self, pair: Pair) -> Option<Option<u32>>
         ensures { result ≡ bounds self.now pair };
 }

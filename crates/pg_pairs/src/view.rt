@@ -12,10 +12,10 @@ use pg_schema::{EnumType, Schema};
 
 /// How the numbers of an old enum are compared with those of a new one.
 ///
-/// The law `least_is`: `least` gives, of the numbers from -2,147,483,648 to 2,147,483,647 that aren't
-/// alike, without 0 where `zero` is false, one with the shortest body, and of these the least number;
-/// none only where there is no such number. The law `is_named`: it finds a number alike where the view of
-/// its name does.
+/// The law `least_is`: `least` gives, of the numbers from -2,147,483,648 to 2,147,483,647 that
+/// aren't alike, without 0 where `zero` is false, one with the shortest body, and of these the
+/// least number; none only where there is no such number. The law `is_named`: it finds a number
+/// alike where the view of its name does.
 pub trait View {
     /// The name of the view.
     const NAME: ViewName;
@@ -30,13 +30,16 @@ pub trait View {
     fn alike(&self, old: &EnumType, new: &EnumType, number: i32) -> bool
         ensures { result ≡ is_alike self.now old.now new.now number };
 
-    /// The least of the shortest numbers that aren't alike; 0 only where `zero` says that it counts.
+    /// The least of the shortest numbers that aren't alike; 0 only where `zero` says that it
+    /// counts.
     fn least(&self, old: &EnumType, new: &EnumType, zero: bool) -> Option<i32>
         ensures { result ≡ least_differing self.now old.now new.now zero };
 
-    ghost least_is: { (view : Self) (old new : EnumType) (zero : Bool) → IsLeastOf (is_alike view old new) zero (least_differing view old new zero) };
+    ghost least_is: { (view : Self) (old new : EnumType) (zero : Bool)
+        → IsLeastOf (is_alike view old new) zero (least_differing view old new zero) };
 
-    ghost is_named: { (view : Self) (old new : EnumType) (number : ℤ) → is_alike view old new number ≡ alike_under NAME old new number };
+    ghost is_named: { (view : Self) (old new : EnumType) (number : ℤ)
+        → is_alike view old new number ≡ alike_under NAME old new number };
 }
 
 /// The view that finds every number alike.
@@ -71,5 +74,6 @@ impl View for Numbers {
 
 /// What a view sees between two schemas keeps the view's law, for enums that aren't there too.
 pub fn sees<V: View>(_view: &V, _old: &Schema, _new: &Schema)
-    ensures { IsSight (sight_of (V.is_alike _view.now) (V.least_differing _view.now) _old.now _new.now) }
+    ensures { IsSight (sight_of (V.is_alike _view.now)
+        (V.least_differing _view.now) _old.now _new.now) }
 {}

@@ -1,4 +1,5 @@
-//! A chain of types, each with the one before it in a field: its witness is far deeper than most readers go.
+//! A chain of types, each with the one before it in a field: its witness is far deeper than most
+//! readers go.
 use super::schema_of;
 use super::tables::{line, table};
 use pg_cert::{Bounds, Certificate, PairBound, Verdict, check};
@@ -42,7 +43,8 @@ fn bound_of(index: u32, bytes: &[u8]) -> PairBound {
     line(same(index), u32::try_from(bytes.len()).ok())
 }
 
-// The bounds of the chain's pairs, the first type's first, and the bytes of the last one's witness, from uint32 to int32.
+// The bounds of the chain's pairs, the first type's first, and the bytes of the last one's witness,
+// from uint32 to int32.
 fn witness(alloc: Global) -> Result<(Vec<PairBound>, Vec<u8>), AllocError> {
     let mut bytes = Vec::from_slice(alloc, b"\x08\x80\x80\x80\x80\x08")?;
     let mut bounds = Vec::new(alloc);

@@ -1,4 +1,5 @@
-//! The tables and certificates that callers hold. What the checker and texts answer stands in the rows of `answer_rows`.
+//! The tables and certificates that callers hold. What the checker and texts answer stands in the
+//! rows of `answer_rows`.
 use super::M;
 use pg_cert::{Bounds, BoundsError, Certificate, PairBound};
 use pg_pairs::{Pair, Table};

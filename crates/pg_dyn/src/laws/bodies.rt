@@ -1,5 +1,5 @@
-//! Laws of bodies that are read as items, whichever element's writer made them. Each is the contract of a function that
-//! does nothing.
+//! Laws of bodies that are read as items, whichever element's writer made them. Each is the
+//! contract of a function that does nothing.
 
 ghost use Rattle.pg_dyn.specs.Bodies.{BodiesReadAgain, EntryBodiesRead, PackedBodiesRead, SingleBodiesRead};
 

@@ -1,22 +1,23 @@
-//! Laws of a type's fields, of what is written and read of them, and of the contents that a message holds. Each is the
-//! contract of a function that does nothing.
+//! Laws of a type's fields, of what is written and read of them, and of the contents that a message
+//! holds. Each is the contract of a function that does nothing.
 
 ghost use Rattle.pg_dyn.specs.FieldLaws.{ContentsAreSeen, EqualLeaves, FieldsAreFound, LastItems, LastOfEachKey, OwnContents, PackableWires, PartsKeepTypes, PlainIsKept, RecordsOfFields, RisingEntriesStay, UnknownIsKept};
 
-/// The fields of each type of a sound schema are sound; the field that is found by a number has it; each field of a
-/// type is found by its number; the type of a message field is that of its children.
+/// The fields of each type of a sound schema are sound; the field that is found by a number has it;
+/// each field of a type is found by its number; the type of a message field is that of its
+/// children.
 pub fn fields_are_found()
     ensures { FieldsAreFound }
 {}
 
-/// The records that are written of a field have its number, and there are none without content; a field takes records
-/// of its own number.
+/// The records that are written of a field have its number, and there are none without content; a
+/// field takes records of its own number.
 pub fn records_of_fields()
     ensures { RecordsOfFields }
 {}
 
-/// Of no parts there are no records, and of no records there is no content; whether two contents of a field are the
-/// same depends on the field's own parts alone.
+/// Of no parts there are no records, and of no records there is no content; whether two contents of
+/// a field are the same depends on the field's own parts alone.
 pub fn own_contents()
     ensures { OwnContents }
 {}
@@ -46,12 +47,14 @@ pub fn parts_keep_types()
     ensures { PartsKeepTypes }
 {}
 
-/// The parts of a content have the number under which it stands, and an item of a scalar is no message.
+/// The parts of a content have the number under which it stands, and an item of a scalar is no
+/// message.
 pub fn contents_are_seen()
     ensures { ContentsAreSeen }
 {}
 
-/// What is kept of a message holds no unknown records just where the message that it means holds none.
+/// What is kept of a message holds no unknown records just where the message that it means holds
+/// none.
 pub fn plain_is_kept()
     ensures { PlainIsKept }
 {}

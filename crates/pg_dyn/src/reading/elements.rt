@@ -3,7 +3,8 @@ ghost use Rattle.pg_dyn.specs.Held.{read_as};
 
 use pg_schema::{Element, Scalar};
 
-/// The scalar as which an element's items are read that are no messages: numbers of an enum are those of int32.
+/// The scalar as which an element's items are read that are no messages: numbers of an enum are
+/// those of int32.
 pub(crate) fn scalar_of(element: Element) -> Scalar
     ensures { result ≡ read_as element }
 {

@@ -16,8 +16,10 @@ fn place_of_key<'a>(entries: &[EntryRef<'a>], key: &ValueRef<'a>) -> usize
     requires rises { KeysRise entries.now }
     requires alike { IsAlike (leaf_of key.now) entries.now }
     ensures inside { result ≤ length entries.now }
-    ensures below { AllByRecursion (λ e. key_cmp (key_of e) (leaf_of key.now) ≡ Less) (take result entries.now) }
-    ensures from_there { AllByRecursion (λ e. key_cmp (key_of e) (leaf_of key.now) ≡ Less → ⊥) (drop result entries.now) }
+    ensures below { AllByRecursion (λ e. key_cmp (key_of e) (leaf_of key.now) ≡ Less)
+        (take result entries.now) }
+    ensures from_there { AllByRecursion (λ e. key_cmp (key_of e) (leaf_of key.now) ≡ Less → ⊥)
+        (drop result entries.now) }
 {
     let mut low = 0;
     let mut high = entries.len();
@@ -39,7 +41,8 @@ fn place_of_key<'a>(entries: &[EntryRef<'a>], key: &ValueRef<'a>) -> usize
 fn has_key<'a>(entries: &[EntryRef<'a>], place: usize, key: &ValueRef<'a>) -> bool
     requires { IsAlike (leaf_of key.now) entries.now }
     ensures here { IsTrue result → (place < length entries.now)
-        × ((d : TheEntry) → key_cmp (leaf_of key.now) (key_of (get_or entries.now place d)) ≡ Equal) }
+        × ((d : TheEntry) → key_cmp (leaf_of key.now) (key_of (get_or entries.now place d))
+        ≡ Equal) }
     ensures not_here { result ≡ false → (d : TheEntry) → place < length entries.now
         → key_cmp (leaf_of key.now) (key_of (get_or entries.now place d)) ≡ Equal → ⊥ }
 {

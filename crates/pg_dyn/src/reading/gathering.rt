@@ -47,8 +47,10 @@ impl<'a> Gathered<'a> {
     fn add(&mut self, schema: &Schema, type_id: TypeId, found: Record<'a>) -> Result<(), Stop>
         requires is_schema { IsSchema schema.now }
         requires is_record { IsRecord (seen_record found) }
-        ensures ok { OnOk result ((rs : List WireRecord) → AreGathered (shape_of schema.now) type_id rs self.old
-            → AreGathered (shape_of schema.now) type_id (rs ++ seen_record found.entry ∷ []) self.new) }
+        ensures ok { OnOk result ((rs : List WireRecord)
+            → AreGathered (shape_of schema.now) type_id rs self.old
+            → AreGathered (shape_of schema.now) type_id
+            (rs ++ seen_record found.entry ∷ []) self.new) }
         ensures err { IfErr result (λ e. e ≡ stops.Memory) }
     {
         match schema.field(type_id, found.number) {
@@ -70,8 +72,11 @@ impl<'a> Gathered<'a> {
     ) -> Result<(), Stop>
         requires is_schema { IsSchema schema.now }
         ensures ok { OnOk result ((rs : List WireRecord) × (records_of bytes.now ≡ Ok rs)
-            × ((before : List WireRecord) → AreGathered (shape_of schema.now) type_id before self.old → AreGathered (shape_of schema.now) type_id (before ++ rs) self.new)) }
-        ensures err { IfErr result (StopsFor ((rs : List WireRecord) × (records_of bytes.now ≡ Ok rs))) }
+            × ((before : List WireRecord)
+            → AreGathered (shape_of schema.now) type_id before self.old
+            → AreGathered (shape_of schema.now) type_id (before ++ rs) self.new)) }
+        ensures err { IfErr result (StopsFor
+            ((rs : List WireRecord) × (records_of bytes.now ≡ Ok rs))) }
     {
         for found in Records::new(bytes) {
             match found {

@@ -1,5 +1,6 @@
-//! Messages, of which any field may hold messages again. What isn't on the way from a message to one inside it, or only in a list, in a
-//! map or in a oneof, isn't inlined, so that a level takes less of the stack.
+//! Messages, of which any field may hold messages again. What isn't on the way from a message to
+//! one inside it, or only in a list, in a map or in a oneof, isn't inlined, so that a level takes
+//! less of the stack.
 
 ghost use Rattle.std.specs.Prelude.{◌≡◌, ◌≢◌, ◌<◌, List, [], ◌∷◌, map, length, suc, true, false, Some, OnOk, IfOk, IfErr, is_some};
 ghost use Rattle.std.specs.List.{AllByRecursion};
@@ -34,7 +35,8 @@ use pg_schema::{Element, Field, Presence, Scalar, Schema, TypeId};
 use pg_wire::Record;
 use std::alloc::Global;
 
-// The message that the records' bodies are read as, one after the other. It may have as many levels, with its own.
+// The message that the records' bodies are read as, one after the other. It may have as many
+// levels, with its own.
 #[cycle(reading)]
 fn read_child<'a>(
     alloc: Global,
@@ -47,8 +49,10 @@ fn read_child<'a>(
     requires type_id { type_id.index < length (shape_of schema.now) }
     ensures ok { IfOk result (IsChildOf (shape_of schema.now) type_id (map seen_record run.now)) }
     ensures fits { IfOk result (ItemFits (shape_of schema.now) (elements.Message type_id)) }
-    ensures good { OnOk result (BodiesGood (shape_of schema.now) levels type_id (map seen_record run.now)) }
-    ensures err { IfErr result (StopsFor (BodiesGood (shape_of schema.now) levels type_id (map seen_record run.now))) }
+    ensures good { OnOk result (BodiesGood (shape_of schema.now) levels type_id
+        (map seen_record run.now)) }
+    ensures err { IfErr result (StopsFor
+        (BodiesGood (shape_of schema.now) levels type_id (map seen_record run.now))) }
 {
     if levels == 0 {
         return Err(Stop::Fault);
@@ -78,10 +82,13 @@ fn read_children<'a>(
     requires some { run.now ≢ [] }
     requires repeated { is_repeated field.now.presence ≡ true }
     requires of_type { field.now.element ≡ elements.Message type_id }
-    ensures ok { IfOk result (HoldsOf (shape_of schema.now) (field_shape field.now) (map seen_record run.now)) }
+    ensures ok { IfOk result (HoldsOf (shape_of schema.now) (field_shape field.now)
+        (map seen_record run.now)) }
     ensures fits { IfOk result (HeldFits (shape_of schema.now) (field_shape field.now)) }
-    ensures good { OnOk result (AreGood (shape_of schema.now) levels (field_shape field.now) (map seen_record run.now)) }
-    ensures err { IfErr result (StopsFor (AreGood (shape_of schema.now) levels (field_shape field.now) (map seen_record run.now))) }
+    ensures good { OnOk result (AreGood (shape_of schema.now) levels (field_shape field.now)
+        (map seen_record run.now)) }
+    ensures err { IfErr result (StopsFor
+        (AreGood (shape_of schema.now) levels (field_shape field.now) (map seen_record run.now))) }
 {
     let mut values = Vec::with_capacity(alloc, run.len())?;
     for place in 0..run.len() {
@@ -91,7 +98,8 @@ fn read_children<'a>(
     Ok(Some(ContentRef::Many(values)))
 }
 
-// The key and the value of the entry that a record of a map field holds. A missing one is its default.
+// The key and the value of the entry that a record of a map field holds. A missing one is its
+// default.
 #[cycle(reading)]
 fn read_entry<'a>(
     alloc: Global,
@@ -104,9 +112,13 @@ fn read_entry<'a>(
     requires is_schema { IsSchema schema.now }
     requires is_field { IsField (length (shape_of schema.now)) (field_shape field.now) }
     requires of_map { field.now.presence ≡ presences.Map key }
-    ensures ok { IfOk result (IsEntryRead (shape_of schema.now) key field.now.element (seen_record found.now)) }
-    ensures good { OnOk result (AreGood (shape_of schema.now) levels (field_shape field.now) (seen_record found.now ∷ [])) }
-    ensures err { IfErr result (StopsFor (AreGood (shape_of schema.now) levels (field_shape field.now) (seen_record found.now ∷ []))) }
+    ensures ok { IfOk result (IsEntryRead (shape_of schema.now) key field.now.element
+        (seen_record found.now)) }
+    ensures good { OnOk result (AreGood (shape_of schema.now) levels (field_shape field.now)
+        (seen_record found.now ∷ [])) }
+    ensures err { IfErr result (StopsFor
+        (AreGood (shape_of schema.now) levels (field_shape field.now)
+        (seen_record found.now ∷ []))) }
 {
     let element = field.element;
     let parts = read_parts(alloc, key, element, found.body)?;
@@ -139,10 +151,13 @@ fn read_map<'a>(
     requires run { AreOf (field_shape field.now) (map seen_record run.now) }
     requires some { run.now ≢ [] }
     requires of_map { field.now.presence ≡ presences.Map key }
-    ensures ok { IfOk result (HoldsOf (shape_of schema.now) (field_shape field.now) (map seen_record run.now)) }
+    ensures ok { IfOk result (HoldsOf (shape_of schema.now) (field_shape field.now)
+        (map seen_record run.now)) }
     ensures fits { IfOk result (HeldFits (shape_of schema.now) (field_shape field.now)) }
-    ensures good { OnOk result (AreGood (shape_of schema.now) levels (field_shape field.now) (map seen_record run.now)) }
-    ensures err { IfErr result (StopsFor (AreGood (shape_of schema.now) levels (field_shape field.now) (map seen_record run.now))) }
+    ensures good { OnOk result (AreGood (shape_of schema.now) levels (field_shape field.now)
+        (map seen_record run.now)) }
+    ensures err { IfErr result (StopsFor
+        (AreGood (shape_of schema.now) levels (field_shape field.now) (map seen_record run.now))) }
 {
     let mut entries = Vec::with_capacity(alloc, run.len())?;
     for record in run {
@@ -164,10 +179,13 @@ fn read_content<'a>(
     requires is_field { IsField (length (shape_of schema.now)) (field_shape field.now) }
     requires run { AreOf (field_shape field.now) (map seen_record run.now) }
     requires some { run.now ≢ [] }
-    ensures ok { IfOk result (HoldsOf (shape_of schema.now) (field_shape field.now) (map seen_record run.now)) }
+    ensures ok { IfOk result (HoldsOf (shape_of schema.now) (field_shape field.now)
+        (map seen_record run.now)) }
     ensures fits { IfOk result (HeldFits (shape_of schema.now) (field_shape field.now)) }
-    ensures good { OnOk result (AreGood (shape_of schema.now) levels (field_shape field.now) (map seen_record run.now)) }
-    ensures err { IfErr result (StopsFor (AreGood (shape_of schema.now) levels (field_shape field.now) (map seen_record run.now))) }
+    ensures good { OnOk result (AreGood (shape_of schema.now) levels (field_shape field.now)
+        (map seen_record run.now)) }
+    ensures err { IfErr result (StopsFor
+        (AreGood (shape_of schema.now) levels (field_shape field.now) (map seen_record run.now))) }
 {
     match (field.presence, field.element) {
         (Presence::Map { key }, _) => read_map(alloc, schema, field, key, run, levels),
@@ -196,12 +214,19 @@ fn counted<'a>(
 ) -> Result<Vec<Record<'a>>, Stop>
     requires is_schema { IsSchema schema.now }
     requires are_records { AllByRecursion IsRecord (map seen_record known.now) }
-    requires known { AllByRecursion (λ r. is_unknown (fields (shape_of schema.now) type_id) r ≡ false) (map seen_record known.now) }
-    requires streaks { AreStreaks (fields (shape_of schema.now) type_id) (map seen_record known.now) streaks.now }
-    ensures ok { IfOk result (λ left. IsCounted (fields (shape_of schema.now) type_id) (map seen_record known.now) (map seen_record left.items)) }
-    ensures good { IfOk result (λ left. RecordsGood (shape_of schema.now) levels (fields (shape_of schema.now) type_id) (map seen_record left.items)
-        → RecordsGood (shape_of schema.now) levels (fields (shape_of schema.now) type_id) (map seen_record known.now)) }
-    ensures err { IfErr result (StopsFor (RecordsGood (shape_of schema.now) levels (fields (shape_of schema.now) type_id) (map seen_record known.now))) }
+    requires known { AllByRecursion (λ r. is_unknown (fields (shape_of schema.now) type_id) r
+        ≡ false) (map seen_record known.now) }
+    requires streaks { AreStreaks (fields (shape_of schema.now) type_id)
+        (map seen_record known.now) streaks.now }
+    ensures ok { IfOk result (λ left. IsCounted (fields (shape_of schema.now) type_id)
+        (map seen_record known.now) (map seen_record left.items)) }
+    ensures good { IfOk result (λ left. RecordsGood (shape_of schema.now) levels
+        (fields (shape_of schema.now) type_id) (map seen_record left.items)
+        → RecordsGood (shape_of schema.now) levels (fields (shape_of schema.now) type_id)
+        (map seen_record known.now)) }
+    ensures err { IfErr result (StopsFor
+        (RecordsGood (shape_of schema.now) levels (fields (shape_of schema.now) type_id)
+        (map seen_record known.now))) }
 {
     let mut counted = Vec::new(alloc);
     for place in 0..known.len() {
@@ -230,13 +255,19 @@ fn read_contents<'a>(
     requires type_id { type_id.index < length (shape_of schema.now) }
     requires rise { NumbersRise sorted.now }
     requires count { AllCount (fields (shape_of schema.now) type_id) (map seen_record sorted.now) }
-    ensures ok { IfOk result (λ contents. read_records (dec (shape_of schema.now)) (fields (shape_of schema.now) type_id) (map seen_record sorted.now)
+    ensures ok { IfOk result (λ contents. read_records (dec (shape_of schema.now))
+        (fields (shape_of schema.now) type_id) (map seen_record sorted.now)
         ≡ Some (message_of (fields_onto contents.items (ends type_id [])))) }
-    ensures fits { IfOk result (λ contents. Fits (shape_of schema.now) (fields_onto contents.items (ends type_id []))) }
-    ensures kept { IfOk result (λ contents. Rises contents.items × AllByRecursion (λ c. IsFilled c.1) contents.items
+    ensures fits { IfOk result (λ contents. Fits (shape_of schema.now)
+        (fields_onto contents.items (ends type_id []))) }
+    ensures kept { IfOk result (λ contents. Rises contents.items
+        × AllByRecursion (λ c. IsFilled c.1) contents.items
         × AllByRecursion (λ c. HasKeys c.1) contents.items) }
-    ensures good { OnOk result (RecordsGood (shape_of schema.now) levels (fields (shape_of schema.now) type_id) (map seen_record sorted.now)) }
-    ensures err { IfErr result (StopsFor (RecordsGood (shape_of schema.now) levels (fields (shape_of schema.now) type_id) (map seen_record sorted.now))) }
+    ensures good { OnOk result (RecordsGood (shape_of schema.now) levels
+        (fields (shape_of schema.now) type_id) (map seen_record sorted.now)) }
+    ensures err { IfErr result (StopsFor
+        (RecordsGood (shape_of schema.now) levels (fields (shape_of schema.now) type_id)
+        (map seen_record sorted.now))) }
 {
     let mut contents = Vec::new(alloc);
     let mut place = 0;
@@ -269,14 +300,20 @@ fn read_gathered<'a>(
 ) -> Result<MessageRef<'a>, Stop>
     requires is_schema { IsSchema schema.now }
     requires type_id { type_id.index < length (shape_of schema.now) }
-    requires gathered { (rs : List WireRecord) × AreGathered (shape_of schema.now) type_id rs gathered }
-    ensures ok { IfOk result (λ m. (rs : List WireRecord) → AreGathered (shape_of schema.now) type_id rs gathered.entry
-        → read_records (dec (shape_of schema.now)) (fields (shape_of schema.now) type_id) rs ≡ Some (message_of m)) }
+    requires gathered { (rs : List WireRecord)
+        × AreGathered (shape_of schema.now) type_id rs gathered }
+    ensures ok { IfOk result (λ m. (rs : List WireRecord)
+        → AreGathered (shape_of schema.now) type_id rs gathered.entry
+        → read_records (dec (shape_of schema.now)) (fields (shape_of schema.now) type_id) rs
+        ≡ Some (message_of m)) }
     ensures fits { IfOk result (λ m. Fits (shape_of schema.now) m × (type_of m ≡ type_id)) }
-    ensures good { OnOk result ((rs : List WireRecord) → AreGathered (shape_of schema.now) type_id rs gathered.entry
+    ensures good { OnOk result ((rs : List WireRecord)
+        → AreGathered (shape_of schema.now) type_id rs gathered.entry
         → RecordsGood (shape_of schema.now) levels (fields (shape_of schema.now) type_id) rs) }
-    ensures err { IfErr result (λ e. (rs : List WireRecord) → AreGathered (shape_of schema.now) type_id rs gathered.entry
-        → StopsFor (RecordsGood (shape_of schema.now) levels (fields (shape_of schema.now) type_id) rs) e) }
+    ensures err { IfErr result (λ e. (rs : List WireRecord)
+        → AreGathered (shape_of schema.now) type_id rs gathered.entry
+        → StopsFor (RecordsGood (shape_of schema.now) levels
+        (fields (shape_of schema.now) type_id) rs) e) }
 {
     let Gathered {
         known,
@@ -297,7 +334,8 @@ fn read_gathered<'a>(
     })
 }
 
-/// The message of the type that bytes are read as. There may be as many levels of messages below it.
+/// The message of the type that bytes are read as. There may be as many levels of messages below
+/// it.
 pub(crate) fn read_message<'a>(
     alloc: Global,
     schema: &Schema,
@@ -307,11 +345,15 @@ pub(crate) fn read_message<'a>(
 ) -> Result<MessageRef<'a>, Stop>
     requires is_schema { IsSchema schema.now }
     requires type_id { type_id.index < length (shape_of schema.now) }
-    ensures ok { IfOk result (λ m. dec (shape_of schema.now) type_id bytes.now ≡ Some (message_of m)) }
+    ensures ok { IfOk result (λ m. dec (shape_of schema.now) type_id bytes.now
+        ≡ Some (message_of m)) }
     ensures fits { IfOk result (λ m. Fits (shape_of schema.now) m × (type_of m ≡ type_id)) }
-    ensures shallow { OnOk result (IsShallowIn (shape_of schema.now) (suc levels) (fields (shape_of schema.now) type_id) bytes.now) }
-    ensures err { IfErr result (StopsFor ((is_some (dec (shape_of schema.now) type_id bytes.now) ≡ true)
-        × IsShallowIn (shape_of schema.now) (suc levels) (fields (shape_of schema.now) type_id) bytes.now)) }
+    ensures shallow { OnOk result (IsShallowIn (shape_of schema.now) (suc levels)
+        (fields (shape_of schema.now) type_id) bytes.now) }
+    ensures err { IfErr result (StopsFor
+        ((is_some (dec (shape_of schema.now) type_id bytes.now) ≡ true)
+        × IsShallowIn (shape_of schema.now) (suc levels)
+        (fields (shape_of schema.now) type_id) bytes.now)) }
 {
     let mut gathered = Gathered::new(alloc);
     gathered.add_all(schema, type_id, bytes)?;

@@ -9,8 +9,8 @@ use crate::reading::entries::put_in;
 use crate::reading::keys::keys_rise;
 use std::alloc::{AllocError, Global};
 
-// The entries, each put in its place or in that of the one of its key. Entries by rising key come behind all others at
-// once.
+// The entries, each put in its place or in that of the one of its key. Entries by rising key come
+// behind all others at once.
 fn put_all<'a>(alloc: Global, entries: Vec<EntryRef<'a>>) -> Result<Vec<EntryRef<'a>>, AllocError>
     requires { AreAlike entries.items }
     ensures { IfOk result (λ v. v.items ≡ placed key_of [] entries.entry.items) }

@@ -39,8 +39,10 @@ impl<'a> Parts<'a> {
     // Adds one of the records. One that neither the key nor the value takes is dropped.
     fn add(&mut self, key: Scalar, element: Element, found: Record<'a>) -> Result<(), Stop>
         requires { IsRecord (seen_record found) }
-        ensures ok { OnOk result ((rs : List WireRecord) → AreParts key element rs self.old → AreParts key element (rs ++ seen_record found.entry ∷ []) self.new) }
-        ensures err { IfErr result (StopsFor (ScalarsGood key element (seen_record found.entry ∷ []))) }
+        ensures ok { OnOk result ((rs : List WireRecord) → AreParts key element rs self.old
+            → AreParts key element (rs ++ seen_record found.entry ∷ []) self.new) }
+        ensures err { IfErr result (StopsFor
+            (ScalarsGood key element (seen_record found.entry ∷ []))) }
     {
         if found.number == 1 && is_own(found.wire_type, Element::Scalar(key)) {
             self.key = Some(item_in(key, found.body)?);
@@ -63,8 +65,10 @@ pub(crate) fn read_parts<'a>(
     element: Element,
     bytes: &'a [u8],
 ) -> Result<Parts<'a>, Stop>
-    ensures ok { IfOk result (λ parts. (rs : List WireRecord) × (records_of bytes.now ≡ Ok rs) × AreParts key element rs parts) }
-    ensures err { IfErr result (StopsFor ((rs : List WireRecord) × (records_of bytes.now ≡ Ok rs) × ScalarsGood key element rs)) }
+    ensures ok { IfOk result (λ parts. (rs : List WireRecord) × (records_of bytes.now ≡ Ok rs)
+        × AreParts key element rs parts) }
+    ensures err { IfErr result (StopsFor
+        ((rs : List WireRecord) × (records_of bytes.now ≡ Ok rs) × ScalarsGood key element rs)) }
 {
     let mut parts = Parts {
         key: None,
@@ -82,8 +86,10 @@ pub(crate) fn read_parts<'a>(
 
 /// The item, or the zero of the scalar where there is none.
 pub(crate) fn or_zero<'a>(scalar: Scalar, held: Option<ValueRef<'a>>) -> ValueRef<'a>
-    ensures whole { (shape : Shape) (element : TheElement) → IsNoMessage element → read_as element ≡ scalar → WholeItem shape element held.entry result }
-    ensures fits { (shape : Shape) (element : TheElement) → IsNoMessage element → read_as element ≡ scalar → PartFits shape element held.entry
+    ensures whole { (shape : Shape) (element : TheElement) → IsNoMessage element
+        → read_as element ≡ scalar → WholeItem shape element held.entry result }
+    ensures fits { (shape : Shape) (element : TheElement) → IsNoMessage element
+        → read_as element ≡ scalar → PartFits shape element held.entry
         → ItemFits shape element result }
 {
     match held {

@@ -23,10 +23,14 @@ use pg_wire::{WireError, WireType, read_varint};
 #[inline(always)]
 #[tactic(auto, unfolding(crate::specs::Coding::word_in))]
 fn front_word(wire_type: WireType, bytes: &[u8]) -> Result<(u64, usize), WireError>
-    ensures ok { IfOk result (λ read. (element_at wire_type bytes.now ≡ Ok (take read.1 bytes.now, drop read.1 bytes.now)) × (1 ≤ read.1)
+    ensures ok { IfOk result (λ read.
+        (element_at wire_type bytes.now ≡ Ok (take read.1 bytes.now, drop read.1 bytes.now))
+        × (1 ≤ read.1)
         × (read.1 ≤ length bytes.now)) }
-    ensures word { IfOk result (λ read. (word_in wire_type (take read.1 bytes.now) ≡ read.0) × HasBits wire_type read.0) }
-    ensures err { IfErr result (λ e. (fault : Fault) × (element_at wire_type bytes.now ≡ Err fault) × (e ≡ error_at fault 0)) }
+    ensures word { IfOk result (λ read. (word_in wire_type (take read.1 bytes.now) ≡ read.0)
+        × HasBits wire_type read.0) }
+    ensures err { IfErr result (λ e. (fault : Fault) × (element_at wire_type bytes.now ≡ Err fault)
+        × (e ≡ error_at fault 0)) }
 {
     match wire_type {
         WireType::Varint => read_varint(bytes),
@@ -53,7 +57,8 @@ fn ends_in(piece: &[u8]) -> u8
     count
 }
 
-// How many varints end in the bytes. They are counted in pieces, of which each count is a byte: so many bytes are added at a time.
+// How many varints end in the bytes. They are counted in pieces, of which each count is a byte: so
+// many bytes are added at a time.
 fn varints_in(body: &[u8]) -> usize {
     let mut count: usize = 0;
     for piece in body.chunks(128) {
@@ -72,7 +77,8 @@ fn row_len(wire_type: WireType, body: &[u8]) -> usize {
     }
 }
 
-// Reads a packed list of words of the wire type behind the items. Inlined, so that there is a loop for each scalar.
+// Reads a packed list of words of the wire type behind the items. Inlined, so that there is a loop
+// for each scalar.
 #[inline(always)]
 fn push_words(
     wire_type: WireType,
@@ -83,7 +89,8 @@ fn push_words(
     requires packable { is_packable (elements.Scalar scalar) ≡ true }
     requires wire { wire_type ≡ form_wire (scalar_form scalar) }
     ensures ok { OnOk result (RowReads scalar body.now values.old.items values.new.items) }
-    ensures err { IfErr result (StopsFor (is_some (packed_leaves (scalar_form scalar) body.now) ≡ true)) }
+    ensures err { IfErr result (StopsFor
+        (is_some (packed_leaves (scalar_form scalar) body.now) ≡ true)) }
 {
     let mut start = 0;
     while start < body.len() {
@@ -97,8 +104,9 @@ fn push_words(
     Ok(())
 }
 
-/// Reads a packed list behind the items (Protocol Buffers encoding guide, "Packed Repeated Fields"). Room for all of them is made
-/// at once. Not inlined, so that a level of messages takes no more of the stack for it.
+/// Reads a packed list behind the items (Protocol Buffers encoding guide, "Packed Repeated
+/// Fields"). Room for all of them is made at once. Not inlined, so that a level of messages takes
+/// no more of the stack for it.
 #[inline(never)]
 pub(crate) fn push_packed(
     scalar: Scalar,
@@ -107,7 +115,8 @@ pub(crate) fn push_packed(
 ) -> Result<(), Stop>
     requires { is_packable (elements.Scalar scalar) ≡ true }
     ensures ok { OnOk result (RowReads scalar body.now values.old.items values.new.items) }
-    ensures err { IfErr result (StopsFor (is_some (packed_leaves (scalar_form scalar) body.now) ≡ true)) }
+    ensures err { IfErr result (StopsFor
+        (is_some (packed_leaves (scalar_form scalar) body.now) ≡ true)) }
 {
     values.reserve(row_len(wire_type_of(scalar), body))?;
     match scalar {

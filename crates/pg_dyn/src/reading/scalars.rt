@@ -30,10 +30,15 @@ pub(crate) fn read_last<'a>(
     requires singular { is_repeated field.now.presence ≡ false }
     requires no_map { is_map field.now.presence ≡ false }
     requires no_message { IsNoMessage field.now.element }
-    ensures ok { IfOk result (λ held. (shape : Shape) → HoldsOf shape (field_shape field.now) (map seen_record run.now) held) }
-    ensures fits { IfOk result (λ held. (shape : Shape) → HeldFits shape (field_shape field.now) held) }
-    ensures good { (shape : Shape) (levels : ℕ) → OnOk result (AreGood shape levels (field_shape field.now) (map seen_record run.now)) }
-    ensures err { (shape : Shape) (levels : ℕ) → IfErr result (StopsFor (AreGood shape levels (field_shape field.now) (map seen_record run.now))) }
+    ensures ok { IfOk result (λ held. (shape : Shape)
+        → HoldsOf shape (field_shape field.now) (map seen_record run.now) held) }
+    ensures fits { IfOk result (λ held. (shape : Shape)
+        → HeldFits shape (field_shape field.now) held) }
+    ensures good { (shape : Shape) (levels : ℕ)
+        → OnOk result (AreGood shape levels (field_shape field.now) (map seen_record run.now)) }
+    ensures err { (shape : Shape) (levels : ℕ)
+        → IfErr result (StopsFor (AreGood shape levels (field_shape field.now)
+        (map seen_record run.now))) }
 {
     let scalar = scalar_of(field.element);
     let mut held = None;
@@ -55,8 +60,10 @@ fn read_items<'a>(
     requires run { AreOf (field_shape field.now) (map seen_record run.now) }
     requires repeated { is_repeated field.now.presence ≡ true }
     requires no_message { IsNoMessage field.now.element }
-    ensures ok { IfOk result (λ values. AreItemsOf (field_shape field.now) (map seen_record run.now) values.items) }
-    ensures err { IfErr result (StopsFor (AllRead (field_shape field.now) (map seen_record run.now))) }
+    ensures ok { IfOk result (λ values. AreItemsOf (field_shape field.now)
+        (map seen_record run.now) values.items) }
+    ensures err { IfErr result (StopsFor
+        (AllRead (field_shape field.now) (map seen_record run.now))) }
 {
     let scalar = scalar_of(field.element);
     let mut values = Vec::new(alloc);
@@ -81,10 +88,15 @@ pub(crate) fn read_list<'a>(
     requires some { run.now ≢ [] }
     requires repeated { is_repeated field.now.presence ≡ true }
     requires no_message { IsNoMessage field.now.element }
-    ensures ok { IfOk result (λ held. (shape : Shape) → HoldsOf shape (field_shape field.now) (map seen_record run.now) held) }
-    ensures fits { IfOk result (λ held. (shape : Shape) → HeldFits shape (field_shape field.now) held) }
-    ensures good { (shape : Shape) (levels : ℕ) → OnOk result (AreGood shape levels (field_shape field.now) (map seen_record run.now)) }
-    ensures err { (shape : Shape) (levels : ℕ) → IfErr result (StopsFor (AreGood shape levels (field_shape field.now) (map seen_record run.now))) }
+    ensures ok { IfOk result (λ held. (shape : Shape)
+        → HoldsOf shape (field_shape field.now) (map seen_record run.now) held) }
+    ensures fits { IfOk result (λ held. (shape : Shape)
+        → HeldFits shape (field_shape field.now) held) }
+    ensures good { (shape : Shape) (levels : ℕ)
+        → OnOk result (AreGood shape levels (field_shape field.now) (map seen_record run.now)) }
+    ensures err { (shape : Shape) (levels : ℕ)
+        → IfErr result (StopsFor (AreGood shape levels (field_shape field.now)
+        (map seen_record run.now))) }
 {
     Ok(list_left(read_items(alloc, field, run)?))
 }

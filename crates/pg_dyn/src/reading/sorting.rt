@@ -39,8 +39,11 @@ pub(crate) fn run_end(records: &[Record<'_>], place: usize) -> usize
     requires { place < length records.now }
     ensures later { place < result }
     ensures inside { result ≤ length records.now }
-    ensures run { (d : TheRecord) → AllByRecursion (λ (r : TheRecord). r.number ≡ (get_or records.now place d).number) (take (result - place) (drop place records.now)) }
-    ensures beyond { (d : TheRecord) → result < length records.now → (get_or records.now result d).number ≢ (get_or records.now place d).number }
+    ensures run { (d : TheRecord) → AllByRecursion
+        (λ (r : TheRecord). r.number ≡ (get_or records.now place d).number)
+        (take (result - place) (drop place records.now)) }
+    ensures beyond { (d : TheRecord) → result < length records.now
+        → (get_or records.now result d).number ≢ (get_or records.now place d).number }
 {
     let number = records[place].number;
     let mut end = place + 1;

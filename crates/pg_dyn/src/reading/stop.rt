@@ -1,6 +1,7 @@
 use std::alloc::{AllocError, AllocFailed};
 
-/// Why bytes aren't read as a message: memory was refused, or they have a fault, of which `find_fault` tells the place.
+/// Why bytes aren't read as a message: memory was refused, or they have a fault, of which
+/// `find_fault` tells the place.
 #[derive(Clone, Copy, Debug, PartialEq, Eq, Drop)]
 pub(crate) enum Stop {
     Memory,

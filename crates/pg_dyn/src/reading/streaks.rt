@@ -1,5 +1,5 @@
-//! Which records of a oneof's members count: those behind the last of another member (Protocol Buffers language guide,
-//! "Oneof").
+//! Which records of a oneof's members count: those behind the last of another member (Protocol
+//! Buffers language guide, "Oneof").
 
 ghost use Rattle.std.specs.Prelude.{◌≡◌, ◌∷◌, ◌++◌, [], true, length, Some, OnOk, IfErr};
 ghost use Rattle.pg_schema.specs.Parts.{field_shape};
@@ -11,7 +11,8 @@ use pg_schema::Field;
 use std::alloc::Global;
 use std::collections::BTreeMap;
 
-/// The last records of a oneof that are of one member: its number, and the place of the first of them.
+/// The last records of a oneof that are of one member: its number, and the place of the first of
+/// them.
 #[derive(Clone, Copy, Debug, Drop)]
 pub(crate) struct Streak {
     pub(crate) number: u32,
@@ -43,10 +44,13 @@ impl Streaks {
         }
     }
 
-    /// Notes a record that the field accepts, which stands at that place among all that some field accepts.
+    /// Notes a record that the field accepts, which stands at that place among all that some field
+    /// accepts.
     pub(crate) fn note(&mut self, field: &Field, place: usize) -> Result<(), Stop>
-        ensures ok { OnOk result ((fs : List FieldShape) (rs : List WireRecord) (r : WireRecord) → Rising fs → field_at fs field.now.number ≡ Some (field_shape field.now)
-            → takes (field_shape field.now) r ≡ true → length rs ≡ place → AreStreaks fs rs self.old → AreStreaks fs (rs ++ r ∷ []) self.new) }
+        ensures ok { OnOk result ((fs : List FieldShape) (rs : List WireRecord) (r : WireRecord)
+            → Rising fs → field_at fs field.now.number ≡ Some (field_shape field.now)
+            → takes (field_shape field.now) r ≡ true → length rs ≡ place → AreStreaks fs rs self.old
+            → AreStreaks fs (rs ++ r ∷ []) self.new) }
         ensures err { IfErr result (λ e. e ≡ stops.Memory) }
     {
         let Some(oneof) = field.oneof else {
