@@ -1,6 +1,6 @@
 -- The enums of texts stand scope by scope, file after file.
 use Rattle.std.proofs.Common.{◌≡◌, ◌∙◌, ℕ, zero, suc, ◌+◌, ◌^◌, ◌≤◌, Bool, true, false, cond, not, ◌&&◌, ◌||◌, List, [], ◌∷◌, ◌++◌, map, flat_map, length, Option, Some, None, slice_get, refl, sym, ap, ap₂, subst, arith, length-append}
-use Rattle.std.specs.List.{AllByRecursion, list_all}
+use Rattle.std.specs.List.{AllByRecursion, filter, list_all}
 use Rattle.std.specs.Str.{bytes_eq}
 use Rattle.std.proofs.lemmas.Bool.{false≢true}
 use Rattle.std.proofs.lemmas.Grind.{flat_map-append}
@@ -56,7 +56,9 @@ abbrev found : List ℕ → ℕ → List (List ℕ) → List ℕ
 found scope k rest = places_in scope (placed_from k rest)
 
 one_found : (scope : List ℕ) (k : ℕ) (s : List ℕ) (rest : List (List ℕ)) → found scope k (s ∷ rest) ≡ cond (bytes_eq scope s) (index_of k ∷ found scope (k + 1) rest) (found scope (k + 1) rest)
-one_found scope k s rest = one_place (bytes_eq scope s) (record { scope = s; index = index_of k }) _
+one_found scope k s rest =
+    one_place (bytes_eq scope s) (record { scope = s; index = index_of k })
+    (filter (λ (p : Placed). bytes_eq scope p.scope) (placed_from (k + 1) rest))
 
 repeated_long : (n : ℕ) (s : List ℕ) → length (repeated n s) ≡ n
 repeated_long zero s = refl
