@@ -1,5 +1,5 @@
 -- The least word of some numbers is that of the shortest and least one, and there is only one such number.
-use Rattle.std.proofs.Common.{◌≡◌, ◌≤◌, ◌^◌, ◌-◌, suc, ℤ, pos, negsuc, List, [], ◌∷◌, ◌++◌, length, Bool, true, false, nat_le, cond, Option, Some, None, ◌⊎◌, inl, inr, ⊎_elim, refl, ap, sym, ◌∙◌, arith}
+use Rattle.std.proofs.Common.{◌≡◌, ◌≤◌, ◌^◌, ◌-◌, suc, ℤ, pos, negsuc, List, [], ◌∷◌, ◌++◌, length, Bool, true, false, nat_le, cond, Option, Some, None, inl, inr, ⊎_elim, refl, ap, sym, ◌∙◌, arith}
 use Rattle.std.proofs.lemmas.Bool.{leb-true, leb-false, le-leb, lt-leb}
 use Rattle.std.proofs.lemmas.Int.{ints}
 use Rattle.std.specs.Int.Signed.{◌≤ℤ◌}
