@@ -1,5 +1,6 @@
--- For tests: a graph of seven pairs, drawn by hand. Pair 0 costs 50, or three times what pair 1 does, which costs 7. Pairs 2 and 3 lead to
--- each other and cost nothing else. Pair 4 costs 190, or 200 less what pair 5 or pair 6 costs, which cost 30 and 60.
+-- For tests: a graph of nine pairs, drawn by hand. Pair 0 costs 50, or three times what pair 1 does, which costs 7. Pairs 2 and 3 lead to
+-- each other and cost nothing else. Pair 4 costs 190, or 200 less what pair 5 or pair 6 costs, which cost 30 and 60. Pair 7 costs three times
+-- what pair 8 does, which costs 2^30: more than an encoding may have.
 use Rattle.std.specs.Prelude.{◌≡◌, ℕ, ◌+◌, ◌-◌, ◌*◌, ◌^◌, ◌<◌, ◌≤◌, nat_eq, nat_le, nat_lt, Bool, true, false, not, ◌&&◌, ◌||◌, cond, if◌then◌else◌, List, [], ◌∷◌, map, filter, length, Option, Some, None, IfSome}
 use Rattle.std.specs.List.{AllByRecursion, IsDistinct, list_any}
 use Rattle.std.proofs.Common.{⊎_elim, inl, inr, refl, ap, sym, ◌∙◌, subst, arith, eqb, eqb-true, eq-eqb, ne_eqb, ltb-true, leb-true}
@@ -14,7 +15,7 @@ use Rattle.pg_pairs.specs.Among.{IsAmong}
 use Rattle.pg_pairs.specs.Covering.{distinct, same_pair}
 
 abbrev pub is_drawn : Pair → Bool
-is_drawn p = nat_eq p.old.index 0 && nat_lt p.new.index 7
+is_drawn p = nat_eq p.old.index 0 && nat_lt p.new.index 9
 
 abbrev pub pair : ℕ → Pair
 pair number = record { old = record { index = 0 }; new = record { index = number } }
@@ -28,6 +29,7 @@ edges_from p =
     if nat_eq p.new.index 0 then to p 1 1 ∷ []
     else if nat_eq p.new.index 2 then to p 3 1 ∷ []
     else if nat_eq p.new.index 3 then to p 2 1 ∷ []
+    else if nat_eq p.new.index 7 then to p 8 1 ∷ []
     else if nat_eq p.new.index 4 then to p 5 2 ∷ to p 6 2 ∷ []
     else []
 
@@ -41,6 +43,7 @@ base_at n =
     else if nat_eq n 4 then Some 190
     else if nat_eq n 5 then Some 30
     else if nat_eq n 6 then Some 60
+    else if nat_eq n 8 then Some 1073741824
     else None
 
 -- three times the bound by field 1, else 200 less it
@@ -52,15 +55,16 @@ price number bound =
 
 -- What holds of this graph.
 
-each_edge : (P : Edge → Type 0) (p : Pair) → P (to p 1 1) → P (to p 3 1) → P (to p 2 1) → P (to p 5 2) → P (to p 6 2) → AllByRecursion P (edges_from p)
-each_edge P p a b c d e = of (nat_eq p.new.index 0) (nat_eq p.new.index 2) (nat_eq p.new.index 3) (nat_eq p.new.index 4)
+each_edge : (P : Edge → Type 0) (p : Pair) → P (to p 1 1) → P (to p 3 1) → P (to p 2 1) → P (to p 8 1) → P (to p 5 2) → P (to p 6 2) → AllByRecursion P (edges_from p)
+each_edge P p a b c d e f = of (nat_eq p.new.index 0) (nat_eq p.new.index 2) (nat_eq p.new.index 3) (nat_eq p.new.index 7) (nat_eq p.new.index 4)
   where
-    of : (w x y z : Bool) → AllByRecursion P (if w then to p 1 1 ∷ [] else if x then to p 3 1 ∷ [] else if y then to p 2 1 ∷ [] else if z then to p 5 2 ∷ to p 6 2 ∷ [] else [])
-    of true x y z = (a, tt)
-    of false true y z = (b, tt)
-    of false false true z = (c, tt)
-    of false false false true = (d, (e, tt))
-    of false false false false = tt
+    of : (v w x y z : Bool) → AllByRecursion P (if v then to p 1 1 ∷ [] else if w then to p 3 1 ∷ [] else if x then to p 2 1 ∷ [] else if y then to p 8 1 ∷ [] else if z then to p 5 2 ∷ to p 6 2 ∷ [] else [])
+    of true w x y z = (a, tt)
+    of false true x y z = (b, tt)
+    of false false true y z = (c, tt)
+    of false false false true z = (d, tt)
+    of false false false false true = (e, (f, tt))
+    of false false false false false = tt
 
 among_each : {A : Type 0} (P : A → Type 0) (x : A) (xs : List A) → IsAmong x xs → AllByRecursion P xs → P x
 among_each P x [] among h = absurd among
@@ -71,7 +75,7 @@ map_among e [] h = absurd h
 map_among e (x ∷ es) h = ⊎_elim (λ same. inl (ap (λ (y : Edge). y.child) same)) (λ later. inr (map_among e es later)) h
 
 pub edge_leads : (p : Pair) (e : Edge) → IsAmong e (edges_from p) → (e.from ≡ p) × IsAmong e.child (children_from p)
-edge_leads p e among = (among_each (λ (x : Edge). x.from ≡ p) e (edges_from p) among (each_edge (λ x. x.from ≡ p) p refl refl refl refl refl), map_among e (edges_from p) among)
+edge_leads p e among = (among_each (λ (x : Edge). x.from ≡ p) e (edges_from p) among (each_edge (λ x. x.from ≡ p) p refl refl refl refl refl refl), map_among e (edges_from p) among)
 
 children_drawn : (es : List Edge) → AllByRecursion (λ (e : Edge). is_drawn e.child ≡ true) es → AllByRecursion (λ q. is_drawn q ≡ true) (map (λ (e : Edge). e.child) es)
 children_drawn [] h = tt
@@ -79,28 +83,30 @@ children_drawn (e ∷ es) h = (h.0, children_drawn es h.1)
 
 pub child_is_drawn : (p child : Pair) → IsAmong child (children_from p) → is_drawn child ≡ true
 child_is_drawn p child among =
-    among_each (λ q. is_drawn q ≡ true) child (children_from p) among (children_drawn (edges_from p) (each_edge (λ (e : Edge). is_drawn e.child ≡ true) p refl refl refl refl refl))
+    among_each (λ q. is_drawn q ≡ true) child (children_from p) among (children_drawn (edges_from p) (each_edge (λ (e : Edge). is_drawn e.child ≡ true) p refl refl refl refl refl refl))
 
 pub edges_are_few : (p : Pair) → length (edges_from p) ≤ 2 ^ 30
-edges_are_few p = of (nat_eq p.new.index 0) (nat_eq p.new.index 2) (nat_eq p.new.index 3) (nat_eq p.new.index 4)
+edges_are_few p = of (nat_eq p.new.index 0) (nat_eq p.new.index 2) (nat_eq p.new.index 3) (nat_eq p.new.index 7) (nat_eq p.new.index 4)
   where
-    of : (w x y z : Bool) → length (if w then to p 1 1 ∷ [] else if x then to p 3 1 ∷ [] else if y then to p 2 1 ∷ [] else if z then to p 5 2 ∷ to p 6 2 ∷ [] else []) ≤ 1073741824
-    of true x y z = omega arith
-    of false true y z = omega arith
-    of false false true z = omega arith
-    of false false false true = omega arith
-    of false false false false = omega arith
+    of : (v w x y z : Bool) → length (if v then to p 1 1 ∷ [] else if w then to p 3 1 ∷ [] else if x then to p 2 1 ∷ [] else if y then to p 8 1 ∷ [] else if z then to p 5 2 ∷ to p 6 2 ∷ [] else []) ≤ 1073741824
+    of true w x y z = omega arith
+    of false true x y z = omega arith
+    of false false true y z = omega arith
+    of false false false true z = omega arith
+    of false false false false true = omega arith
+    of false false false false false = omega arith
 
 pub base_is_length : (n : ℕ) → IfSome (base_at n) (λ cost. (1 ≤ cost) × (cost ≤ cap))
-base_is_length n = of (nat_eq n 0) (nat_eq n 1) (nat_eq n 4) (nat_eq n 5) (nat_eq n 6)
+base_is_length n = of (nat_eq n 0) (nat_eq n 1) (nat_eq n 4) (nat_eq n 5) (nat_eq n 6) (nat_eq n 8)
   where
-    of : (v w x y z : Bool) → IfSome (if v then Some 50 else if w then Some 7 else if x then Some 190 else if y then Some 30 else if z then Some 60 else None) (λ cost. (1 ≤ cost) × (cost ≤ cap))
-    of true w x y z = (omega arith, omega arith)
-    of false true x y z = (omega arith, omega arith)
-    of false false true y z = (omega arith, omega arith)
-    of false false false true z = (omega arith, omega arith)
-    of false false false false true = (omega arith, omega arith)
-    of false false false false false = tt
+    of : (u v w x y z : Bool) → IfSome (if u then Some 50 else if v then Some 7 else if w then Some 190 else if x then Some 30 else if y then Some 60 else if z then Some 1073741824 else None) (λ cost. (1 ≤ cost) × (cost ≤ cap))
+    of true v w x y z = (omega arith, omega arith)
+    of false true w x y z = (omega arith, omega arith)
+    of false false true x y z = (omega arith, omega arith)
+    of false false false true y z = (omega arith, omega arith)
+    of false false false false true z = (omega arith, omega arith)
+    of false false false false false true = (omega arith, omega arith)
+    of false false false false false false = tt
 
 pub price_is_more : (number bound : ℕ) → 1 ≤ bound → IfSome (price number bound) (λ cost. (bound < cost) × (cost ≤ cap))
 price_is_more number bound some = of (nat_eq number 1) (nat_le (3 * bound) cap) (nat_lt bound 100) refl refl
@@ -119,8 +125,8 @@ number p = p.new.index
 numbers_apart : (p q : Pair) → is_drawn p ≡ true → is_drawn q ≡ true → same_pair p q ≡ false → eqb (number p) (number q) ≡ false
 numbers_apart p q drawn_p drawn_q apart =
     ne_eqb (number p) (number q) (λ same.
-    let old_p = eqb-true p.old.index 0 (and_parts (nat_eq p.old.index 0) (nat_lt p.new.index 7) drawn_p).0 in
-    let old_q = eqb-true q.old.index 0 (and_parts (nat_eq q.old.index 0) (nat_lt q.new.index 7) drawn_q).0 in
+    let old_p = eqb-true p.old.index 0 (and_parts (nat_eq p.old.index 0) (nat_lt p.new.index 9) drawn_p).0 in
+    let old_q = eqb-true q.old.index 0 (and_parts (nat_eq q.old.index 0) (nat_lt q.new.index 9) drawn_q).0 in
     let alike : same_pair p q ≡ true = rw (eq-eqb p.old.index q.old.index (old_p ∙ sym old_q), eq-eqb p.new.index q.new.index same) refl in
     let no : true ≡ false = sym alike ∙ apart in cc)
 
@@ -173,7 +179,7 @@ numbers_below (p ∷ ps) each k h = of (eqb k (number p)) refl h (numbers_below 
     of : (b : Bool) → eqb k (number p) ≡ b → b || list_any (eqb k) (map number ps) ≡ true → (list_any (eqb k) (map number ps) ≡ true → k < 16777216) → k < 16777216
     of true is any later =
         let same : k ≡ p.new.index = eqb-true k (number p) is in
-        let below = ltb-true p.new.index 7 (and_parts (nat_eq p.old.index 0) (nat_lt p.new.index 7) each.0).1 in
+        let below = ltb-true p.new.index 9 (and_parts (nat_eq p.old.index 0) (nat_lt p.new.index 9) each.0).1 in
         omega arith
     of false is any later = later any
 

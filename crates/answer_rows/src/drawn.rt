@@ -10,8 +10,9 @@ use pg_pairs::{Edge, Pair, Part, Prices, Work};
 use pg_schema::TypeId;
 use std::alloc::{AllocError, Global};
 
-/// Seven pairs. Pair 0 costs 50, or three times what pair 1 does, which costs 7. Pairs 2 and 3 lead to each other and
-/// cost nothing else. Pair 4 costs 190, or 200 less what pair 5 or pair 6 costs, which cost 30 and 60.
+/// Nine pairs. Pair 0 costs 50, or three times what pair 1 does, which costs 7. Pairs 2 and 3 lead to each other and
+/// cost nothing else. Pair 4 costs 190, or 200 less what pair 5 or pair 6 costs, which cost 30 and 60. Pair 7 costs
+/// three times what pair 8 does, which costs 2^30: more than an encoding may have.
 struct Drawn;
 
 fn pair(number: u32) -> Pair
@@ -55,6 +56,9 @@ fn edges_from(alloc: Global, from: Pair) -> Result<Vec<Edge>, AllocError>
     if from.new.index == 3 {
         return one(alloc, to(from, 2, 1));
     }
+    if from.new.index == 7 {
+        return one(alloc, to(from, 8, 1));
+    }
     if from.new.index != 4 {
         return Ok(Vec::new(alloc));
     }
@@ -82,6 +86,7 @@ fn base_at(number: u32) -> Option<u32>
         4 => Some(190),
         5 => Some(30),
         6 => Some(60),
+        8 => Some(0x4000_0000),
         _ => None,
     }
 }
@@ -129,7 +134,7 @@ impl Prices for Drawn {
     ghost edges_cost_more = { λ _ pair edge bound some known among. price_is_more edge.number bound some };
 
     fn knows(&self, pair: Pair) -> bool {
-        pair.old.index == 0 && pair.new.index < 7
+        pair.old.index == 0 && pair.new.index < 9
     }
 
     fn children(&self, alloc: Global, pair: Pair) -> Result<Vec<Pair>, AllocError> {

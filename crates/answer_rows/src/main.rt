@@ -7,7 +7,6 @@
 #![tactic(auto)]
 
 mod certificates;
-mod changed;
 mod choices;
 mod drawn;
 mod gaps;

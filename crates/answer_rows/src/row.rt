@@ -1,7 +1,6 @@
 //! Which call a row is of.
-use crate::changed::Changed;
 use crate::{certificates, choices, drawn, gaps, messages, searches, sight};
-use pg_pairs::{Numbers, View};
+use pg_pairs::{Names, Numbers, View};
 use pg_schema::Schema;
 use rows::cut;
 use std::alloc::{AllocError, Global};
@@ -42,8 +41,8 @@ fn between(
         "search" => searches::search_pair(alloc, old, new, words),
         "way" => searches::way_down(alloc, old, new, words),
         "counts" => searches::counts(alloc, old, new, words),
-        _ => match call.strip_prefix("changed ") {
-            Some(call) => seen(alloc, &Changed, call, old, new, words),
+        _ => match call.strip_prefix("names ") {
+            Some(call) => seen(alloc, &Names, call, old, new, words),
             None => seen(alloc, &Numbers, call, old, new, words),
         },
     }

@@ -1,7 +1,10 @@
 //! What is made of bytes by a type.
 use crate::contents::{spelled_message, word};
 use crate::types::FIRST;
-use pg_dyn::{DynError, Message, copy, decode, decode_unlimited, encode, encode_outside, fits};
+use pg_dyn::{
+    DynError, Message, copy, decode, decode_ref, decode_unlimited, encode, encode_outside,
+    encode_ref, fits,
+};
 use pg_schema::Schema;
 use pg_show::{HexError, bytes_of_hex, show};
 use std::alloc::{AllocError, Global};
@@ -33,10 +36,26 @@ pub(crate) fn written(
     Ok(word(alloc, &encode(alloc, schema, message)?)?)
 }
 
-// What is written again of bytes that are read.
+// What is written again of bytes that are read, by a message that borrows from them.
+fn rewritten_lent(alloc: Global, schema: &Schema, bytes: &[u8]) -> Result<String, DynError> {
+    if !schema.has(FIRST) {
+        return Err(DynError::NoSuchField);
+    }
+    match decode_ref(alloc, schema, FIRST, bytes, 100) {
+        Ok(message) => Ok(word(alloc, &encode_ref(alloc, schema, &message)?)?),
+        Err(error) => Err(error),
+    }
+}
+
+// What is written again of bytes that are read; of a message that borrows from them it is the same.
 fn rewritten(alloc: Global, schema: &Schema, bytes: &[u8]) -> Result<String, DynError> {
+    let lent = rewritten_lent(alloc, schema, bytes)?;
     let message = read(alloc, schema, bytes, 100)?;
-    written(alloc, schema, &message)
+    let owned = written(alloc, schema, &message)?;
+    if owned.as_str() != lent.as_str() {
+        return text(alloc, "written otherwise where it borrows");
+    }
+    Ok(owned)
 }
 
 // The same, or `refused` where the bytes have a fault, whichever it is.

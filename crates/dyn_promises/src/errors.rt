@@ -1,14 +1,13 @@
 //! The codes and places of errors.
 
 ghost use Rattle.std.specs.Prelude.{◌≡◌};
-ghost use Rattle.pg_dyn.specs.ContentFaults as faults;
-ghost use Rattle.pg_dyn.specs.Places.{place_of};
+ghost use Rattle.pg_dyn.specs.Codes.{code_of, place_of};
 
 use pg_dyn::DynError;
 
 /// What `DynError::code` answers.
 pub fn code(error: DynError) -> u16
-    ensures { result ≡ faults.code error }
+    ensures { result ≡ code_of error }
 {
     error.code()
 }

@@ -10,9 +10,28 @@ ghost use Rattle.pg_dyn.specs.Refusals.{MayRefuse};
 ghost use Rattle.pg_dyn.specs.TooDeep.{TooDeepIn};
 ghost use Rattle.pg_dyn.specs.declared.error.DynError.TheVariants as errors;
 
-use pg_dyn::{DynError, Message};
+use pg_dyn::{DynError, Message, MessageRef};
 use pg_schema::{Schema, TypeId};
 use std::alloc::{AllocError, Global};
+
+/// What `decode_ref` answers.
+pub fn decode_ref<'a>(
+    alloc: Global,
+    schema: &Schema,
+    type_id: TypeId,
+    bytes: &'a [u8],
+    limit: usize,
+) -> Result<MessageRef<'a>, DynError>
+    requires type_id { type_id.index < length (shape_of schema.now) }
+    ensures message { IfOk result (λ m. dec (shape_of schema.now) type_id bytes.now ≡ Some (message_of m)) }
+    ensures fits { IfOk result (λ m. Fits (shape_of schema.now) m × (type_of m ≡ type_id)) }
+    ensures within { OnOk result ((place : ℕ) → TooDeepIn (shape_of schema.now) limit (fields (shape_of schema.now) type_id) bytes.now place → ⊥) }
+    ensures refused { IfErr result (λ e. MayRefuse (shape_of schema.now) type_id limit bytes.now e) }
+    ensures lacking { IfErr result (λ e. e ≡ errors.Memory → (is_some (dec (shape_of schema.now) type_id bytes.now) ≡ true)
+        × ((place : ℕ) → TooDeepIn (shape_of schema.now) limit (fields (shape_of schema.now) type_id) bytes.now place → ⊥)) }
+{
+    pg_dyn::decode_ref(alloc, schema, type_id, bytes, limit)
+}
 
 /// What `decode` answers.
 pub fn decode(

@@ -10,7 +10,7 @@ ghost use Rattle.pg_dyn.specs.Kept.{message_of, type_of};
 ghost use Rattle.pg_dyn.specs.Written.{MayNotWrite};
 ghost use Rattle.pg_dyn.specs.declared.error.DynError.TheVariants as errors;
 
-use pg_dyn::{DynError, Message};
+use pg_dyn::{DynError, Message, MessageRef};
 use pg_schema::{Schema, TypeId};
 use std::alloc::Global;
 
@@ -21,6 +21,19 @@ pub fn encode(alloc: Global, schema: &Schema, message: &Message) -> Result<Vec<u
     ensures err { IfErr result (λ e. MayNotWrite (length (enc (shape_of schema.now) (type_of message.now) (message_of message.now))) e) }
 {
     pg_dyn::encode(alloc, schema, message)
+}
+
+/// What `encode_ref` answers.
+pub fn encode_ref(
+    alloc: Global,
+    schema: &Schema,
+    message: &MessageRef<'_>,
+) -> Result<Vec<u8>, DynError>
+    requires { Fits (shape_of schema.now) message.now }
+    ensures ok { IfOk result (λ bytes. (bytes.items ≡ enc (shape_of schema.now) (type_of message.now) (message_of message.now)) × (length bytes.items ≤ cap)) }
+    ensures err { IfErr result (λ e. MayNotWrite (length (enc (shape_of schema.now) (type_of message.now) (message_of message.now))) e) }
+{
+    pg_dyn::encode_ref(alloc, schema, message)
 }
 
 /// What `encode_outside` answers.

@@ -1,8 +1,9 @@
 //! What the graph of two schemas answers.
 
-ghost use Rattle.std.specs.Prelude.{◌≡◌, ◌+◌, ◌<◌, ◌^◌, true, IfOk, OnOk};
+ghost use Rattle.std.specs.Prelude.{◌≡◌, ◌+◌, ◌<◌, ◌^◌, true, IfOk, OnErr, OnOk};
 ghost use Rattle.pg_schema.specs.Parts.{shape_of};
 ghost use Rattle.pg_pairs.specs.Among.{IsAmong};
+ghost use Rattle.pg_pairs.specs.Covering as covering;
 ghost use Rattle.pg_pairs.specs.Edges as prices;
 ghost use Rattle.pg_pairs.specs.LeastCosts.{least_cost};
 ghost use Rattle.pg_pairs.specs.Views.{sight_of};
@@ -16,6 +17,18 @@ pub fn knows<V: View>(graph: &Priced<'_, V>, pair: Pair) -> bool
     ensures { result ≡ prices.is_pair (shape_of graph.now.old.now) (shape_of graph.now.new.now) pair }
 {
     graph.knows(pair)
+}
+
+/// The children of the pair.
+pub fn children<V: View>(
+    alloc: Global,
+    graph: &Priced<'_, V>,
+    pair: Pair,
+) -> Result<Vec<Pair>, AllocError>
+    requires { prices.is_pair (shape_of graph.now.old.now) (shape_of graph.now.new.now) pair ≡ true }
+    ensures { IfOk result (λ pairs. pairs.items ≡ covering.children (shape_of graph.now.old.now) (shape_of graph.now.new.now) pair) }
+{
+    graph.children(alloc, pair)
 }
 
 /// The edges of the pair.
@@ -41,6 +54,7 @@ pub fn base<V: View>(
     requires room { work.old.opened + 1 < 2 ^ 64 }
     ensures cost { IfOk result (λ cost. cost ≡ least_cost (sight_of (V.is_alike graph.now.view.now) (V.least_differing graph.now.view.now) graph.now.old.now graph.now.new.now) prices.no_bounds (shape_of graph.now.old.now) (shape_of graph.now.new.now) pair) }
     ensures counted { OnOk result (work.new ≡ opened_more work.old) }
+    ensures unchanged { OnErr result (work.new ≡ work.old) }
 {
     graph.base(alloc, pair, work)
 }

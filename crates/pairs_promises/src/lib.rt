@@ -2,6 +2,7 @@
 #![tactic(auto)]
 
 mod graph;
+mod names;
 
 ghost use Rattle.std.specs.Prelude.{◌≡◌, ◌↔◌, ◌⊎◌, ◌<◌, ◌≤◌, length, option_map, true, None, IsTrue, IfErr, IfOk, OnOk};
 ghost use Rattle.pg_schema.specs.Parts.{shape_of};
@@ -20,6 +21,7 @@ ghost use Rattle.pg_pairs.specs.Laws.{ReachedBy};
 ghost use Rattle.pg_pairs.specs.Views.{sight_of};
 
 pub use graph::{base, edge_cost, edges, knows};
+pub use names::{alike_by_name, least_by_name};
 use pg_dyn::{DynError, Message};
 use pg_pairs::{Choice, Gap, Numbers, Pair, Table, View};
 use pg_schema::{EnumType, Scalar, Schema};

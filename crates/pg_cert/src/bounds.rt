@@ -5,6 +5,7 @@ ghost use Rattle.pg_cert.specs.declared.bounds.BoundsError.TheVariants.{Invarian
 ghost use Rattle.pg_cert.specs.Bounds.{are_bounds, is_bound, bound_in, with_bound};
 ghost use Rattle.pg_cert.specs.Entries.{bound_of};
 
+use crate::pair_keys::PairKeys;
 use indexmap::IndexMap;
 use pg_pairs::{Pair, Table};
 use pg_schema::TypeId;
@@ -31,7 +32,7 @@ pub enum BoundsError {
     Invariant,
 }
 
-type Entries = IndexMap<(u32, u32), Option<u32>>;
+type Entries = IndexMap<(u32, u32), Option<u32>, PairKeys>;
 
 /// Bounds of distinct pairs, in an order. Contracts see the list.
 #[derive(Drop)]
@@ -69,7 +70,7 @@ fn entries_of(alloc: Global, bounds: &[PairBound]) -> Result<Entries, BoundsErro
         × (are_bounds bounds.now ≡ true)) }
     ensures broken { IfErr result (λ e. e ≡ Invariant → are_bounds bounds.now ≡ false) }
 {
-    let mut entries = IndexMap::new(alloc);
+    let mut entries = IndexMap::with_hasher(alloc, PairKeys::of(bounds));
     for line in bounds {
         if !is_bound(line.bound) {
             return Err(BoundsError::Invariant);

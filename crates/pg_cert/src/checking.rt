@@ -16,10 +16,8 @@ use crate::error::CertError;
 use crate::laws::{covers_without_fault, verdicts_are_true, witness_faults_are_real};
 use crate::verdict::Verdict;
 use crate::witness::check_witness;
-use pg_pairs::{
-    Choice, Numbers, Pair, Table, cheapest, cheapest_is_least, children, numbers_are_alike,
-    numbers_sight, options,
-};
+use pg_pairs::laws::{cheapest_is_least, numbers_are_alike, numbers_sight};
+use pg_pairs::{Choice, Numbers, Pair, Table, cheapest, children, options};
 use pg_schema::Schema;
 use std::alloc::{AllocError, Global};
 

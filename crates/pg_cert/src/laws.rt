@@ -5,7 +5,7 @@ ghost use Rattle.pg_cert.specs.Worked.{WorkedCertificates};
 ghost use Rattle.pg_cert.specs.WorkedTexts.{WorkedTexts};
 
 use pg_dyn::laws::{reads_again, self_compatible, worked_examples};
-use pg_pairs::{covering_bounds, none_is_compatible};
+use pg_pairs::laws::{covering_bounds, none_is_compatible};
 
 /// Small certificates that hold, and faults of others.
 pub fn worked_certificates()

@@ -6,6 +6,7 @@ mod certificate;
 mod checking;
 mod error;
 mod laws;
+mod pair_keys;
 mod reading;
 mod verdict;
 mod witness;

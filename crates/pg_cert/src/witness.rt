@@ -14,7 +14,8 @@ ghost use Rattle.pg_cert.specs.Faults.{IsReadBack, WitnessFault};
 use crate::error::CertError;
 use pg_dyn::laws::reads_again;
 use pg_dyn::{DynError, Message, decode_unlimited, encode};
-use pg_pairs::{Numbers, Pair, breaks, numbers_are_alike};
+use pg_pairs::laws::numbers_are_alike;
+use pg_pairs::{Numbers, Pair, breaks};
 use pg_schema::Schema;
 use std::alloc::{AllocError, Global};
 

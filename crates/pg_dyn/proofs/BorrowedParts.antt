@@ -40,7 +40,7 @@ pub fields_keep : (fs : List (ℕ × ContentRef)) (later : Kept) → (unknown_of
 fields_keep fs later = (unknown_of-kept_onto (all_seen fs) later, type_of-kept_onto (all_seen fs) later)
 
 -- the parts of a content are all of its number
-content_number : (n : ℕ) (c : ContentRef) → AllByRecursion (λ (p : Part KeptItem). p.number ≡ n) (content_seen n c)
+pub content_number : (n : ℕ) (c : ContentRef) → AllByRecursion (λ (p : Part KeptItem). p.number ≡ n) (content_seen n c)
 content_number n (contents.One v) = (refl, tt)
 content_number n (contents.Many vs) = each-map (λ (p : Part KeptItem). p.number ≡ n) (item_part n true) vs.items (each_of_all (λ v. n ≡ n) (λ v. refl) vs.items)
 content_number n (contents.Map es) = each-map (λ (p : Part KeptItem). p.number ≡ n) (entry_part n) es.items (each_of_all (λ e. n ≡ n) (λ e. refl) es.items)

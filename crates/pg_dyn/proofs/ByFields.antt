@@ -1,37 +1,32 @@
 -- Records that are read field by field: what is read so far, one field more, and the message that all of them are.
-use Rattle.std.proofs.Common.{◌≡◌, ◌≢◌, ℕ, ◌<◌, ◌≤◌, List, [], ◌∷◌, ◌++◌, length, map, filter, Bool, true, false, cond, ◌&&◌, ◌||◌, nat_eq, Option, Some, None, option_and_then, refl, ap, ap₂, sym, subst, ◌∙◌, arith, ⊎_elim, ne_eqb, eqb-true, append-nil}
+use Rattle.std.proofs.Common.{◌≡◌, ◌≢◌, ℕ, ◌<◌, ◌≤◌, List, [], ◌∷◌, ◌++◌, length, map, filter, Bool, true, false, cond, ◌&&◌, ◌||◌, nat_eq, Option, Some, None, option_and_then, refl, ap, ap₂, sym, subst, ◌∙◌, arith, ⊎_elim, ne_eqb, eq-eqb, eqb-true, append-nil}
 use Rattle.std.specs.List.{AllByRecursion, list_any}
 use Rattle.std.proofs.lemmas.Bool.{or_right, or_left, cases_eq}
 use Rattle.pg_schema.specs.declared.field.TypeId.{TypeId}
-use Rattle.pg_schema.specs.declared.field.Element.{Element}
-use Rattle.pg_schema.specs.declared.field.Presence.{Presence}
-use Rattle.pg_schema.specs.declared.field.Presence.TheVariants as presences
 use Rattle.pg_schema.specs.Shape.{Shape, FieldShape, fields, field_at, Rising}
 use Rattle.pg_wire.specs.Records.{WireRecord}
-use Rattle.pg_dyn.specs.declared.message.Content.{Content}
-use Rattle.pg_dyn.specs.declared.message.Content.TheVariants as contents
-use Rattle.pg_dyn.specs.declared.message.Value.{Value}
+use Rattle.pg_dyn.specs.declared.message_ref.ContentRef.{ContentRef}
 use Rattle.pg_dyn.specs.ByFields.{AllCount, HoldsOf}
 use Rattle.pg_dyn.specs.Content.{content, is_accepted, is_rival, is_unknown, takes}
-use Rattle.pg_dyn.specs.ContentFits.{AreApart, ContentFits, HoldsContent, ItemFits, NoneRivals}
+use Rattle.pg_dyn.specs.ContentFits.{AreApart, NoneRivals}
 use Rattle.pg_dyn.specs.Decoding.{all_readable, dec, field_parts, read_part, read_records}
 use Rattle.pg_dyn.specs.Fits.{Fits}
 use Rattle.pg_dyn.specs.Kept.{KeptItem, ends, message_of}
 use Rattle.pg_dyn.specs.Message.{Part, is_of, message_from, parts, place_of}
 use Rattle.pg_dyn.specs.Optional.{after_last_of, all_some}
-use Rattle.pg_dyn.specs.ScalarItems.{IsItemOf}
-use Rattle.pg_dyn.specs.Seen.{HasKeys, IsFilled, IsKey, Rises, content_seen, fields_onto}
+use Rattle.pg_dyn.specs.Seen.{Rises}
+use Rattle.pg_dyn.specs.Borrowed.{HasKeys, IsFilled, content_seen, fields_onto}
 use Rattle.pg_dyn.specs.Steps.{HeldFits, Taken, part_of, parts_held}
-use Rattle.pg_dyn.proofs.FitsByContents.{contents_to, fits_from_contents}
 use Rattle.pg_dyn.proofs.Flat.{is_rival_sym}
 use Rattle.pg_dyn.proofs.GoodRecords.{known_is, same_found}
-use Rattle.pg_dyn.proofs.ItemLeaves.{item_is_key}
-use Rattle.pg_dyn.proofs.KeptParts.{own_content, other_content}
+use Rattle.pg_dyn.proofs.BorrowedParts.{content_number}
 use Rattle.pg_dyn.proofs.Lists.{each-append, each_weaker, filter-append', filter_all, filter_none, flat_map-append', list_any_at}
 use Rattle.pg_dyn.proofs.RecordsRead.{assembled}
+use Rattle.pg_dyn.proofs.PartsToFits.{HoldsParts, contents_whole, fits_of_contents}
 use Rattle.pg_dyn.proofs.Order.{NeverFalls, never_falls, of_each, of_each_is, places-parts}
 use Rattle.pg_dyn.proofs.ReadSplits.{parts-message_from}
-use Rattle.pg_dyn.proofs.ReplacingLaws.{all_seen, fields_from, filter-part_item, message_of-kept_from}
+use Rattle.pg_dyn.proofs.ReplacingLaws.{filter-part_item, message_of-kept_from}
+use Rattle.pg_dyn.specs.Borrowed.{all_seen}
 use Rattle.pg_dyn.proofs.Splitting.{each_found, found_number, takes_number}
 
 -- Of records of which all count, the members of a oneof have those of one member at most.
@@ -100,48 +95,49 @@ rival_absent fs rs all f g found_f found_g some_f some_g = of (is_rival f g) ref
 
 -- What a content keeps.
 
--- a content that fits has keys
-keys_of_fits : (shape : Shape) (p : Presence) (e : Element) (c : Content) → ContentFits shape p e c → HasKeys c
-keys_of_fits shape p e (contents.One v) h = tt
-keys_of_fits shape p e (contents.Many vs) h = tt
-keys_of_fits shape presences.Implicit e (contents.Map es) h = absurd h
-keys_of_fits shape presences.Explicit e (contents.Map es) h = absurd h
-keys_of_fits shape (presences.Repeated packed) e (contents.Map es) h = absurd h
-keys_of_fits shape (presences.Map key) e (contents.Map es) h =
-    each_weaker (λ (x : Value × Value). IsItemOf key x.0 × ItemFits shape e x.1) (λ (x : Value × Value). IsKey x.0)
-    (λ x k. item_is_key key x.0 k.0) es.items h.0
+module _ (n : ℕ) where
+  own_parts : (ps : List (Part KeptItem)) → AllByRecursion (λ (p : Part KeptItem). p.number ≡ n) ps → filter (is_of n) ps ≡ ps
+  own_parts ps h =
+      filter_all (is_of n) ps
+      (each_weaker (λ (p : Part KeptItem). p.number ≡ n) (λ (p : Part KeptItem). is_of n p ≡ true) (λ p e. eq-eqb p.number n e) ps h)
 
-own_held : (n : ℕ) (held : Option Content) → filter (is_of n) (parts_held n held) ≡ parts_held n held
+  other_parts : (m : ℕ) (ps : List (Part KeptItem)) → n ≢ m → AllByRecursion (λ (p : Part KeptItem). p.number ≡ n) ps → filter (is_of m) ps ≡ []
+  other_parts m ps apart h =
+      filter_none (is_of m) ps
+      (each_weaker (λ (p : Part KeptItem). p.number ≡ n) (λ (p : Part KeptItem). is_of m p ≡ false)
+      (λ p e. ne_eqb p.number m (λ k. apart (sym e ∙ k))) ps h)
+
+own_held : (n : ℕ) (held : Option ContentRef) → filter (is_of n) (parts_held n held) ≡ parts_held n held
 own_held n None = refl
-own_held n (Some c) = own_content n c
+own_held n (Some c) = own_parts n (content_seen n c) (content_number n c)
 
-other_held : (n m : ℕ) (held : Option Content) → n ≢ m → filter (is_of m) (parts_held n held) ≡ []
+other_held : (n m : ℕ) (held : Option ContentRef) → n ≢ m → filter (is_of m) (parts_held n held) ≡ []
 other_held n m None apart = refl
-other_held n m (Some c) apart = other_content n m c apart
+other_held n m (Some c) apart = other_parts n m (content_seen n c) apart (content_number n c)
 
 -- the content of a field, where it has one, by its number
-abbrev pub with_held : ℕ → Option Content → List (ℕ × Content)
+abbrev pub with_held : ℕ → Option ContentRef → List (ℕ × ContentRef)
 with_held n None = []
 with_held n (Some c) = (n, c) ∷ []
 
-seen_held : (n : ℕ) (held : Option Content) → all_seen (with_held n held) ≡ parts_held n held
+seen_held : (n : ℕ) (held : Option ContentRef) → all_seen (with_held n held) ≡ parts_held n held
 seen_held n None = refl
 seen_held n (Some c) = append-nil (content_seen n c)
 
-none_seen : (n : ℕ) (cs : List (ℕ × Content)) → AllByRecursion (λ (c : ℕ × Content). c.0 < n) cs → filter (is_of n) (all_seen cs) ≡ []
+none_seen : (n : ℕ) (cs : List (ℕ × ContentRef)) → AllByRecursion (λ (c : ℕ × ContentRef). c.0 < n) cs → filter (is_of n) (all_seen cs) ≡ []
 none_seen n [] h = refl
 none_seen n (c ∷ cs) h =
     filter-append' (is_of n) (content_seen c.0 c.1) (all_seen cs)
-    ∙ ap₂ (λ xs ys. xs ++ ys) (other_content c.0 n c.1 (λ e. absurd (omega (arith, h.0)))) (none_seen n cs h.1)
+    ∙ ap₂ (λ xs ys. xs ++ ys) (other_parts c.0 n (content_seen c.0 c.1) (λ e. absurd (omega (arith, h.0))) (content_number c.0 c.1)) (none_seen n cs h.1)
 
 -- a content at the end, with the greatest number
-rises_end : (n : ℕ) (held : Option Content) (cs : List (ℕ × Content)) → AllByRecursion (λ (c : ℕ × Content). c.0 < n) cs → Rises cs
+rises_end : (n : ℕ) (held : Option ContentRef) (cs : List (ℕ × ContentRef)) → AllByRecursion (λ (c : ℕ × ContentRef). c.0 < n) cs → Rises cs
     → Rises (cs ++ with_held n held)
 rises_end n None [] below h = tt
 rises_end n (Some c) [] below h = (tt, tt)
-rises_end n held (c ∷ cs) below h = (each-append (λ (d : ℕ × Content). c.0 < d.0) cs (with_held n held) h.0 (last held), rises_end n held cs below.1 h.1)
+rises_end n held (c ∷ cs) below h = (each-append (λ (d : ℕ × ContentRef). c.0 < d.0) cs (with_held n held) h.0 (last held), rises_end n held cs below.1 h.1)
   where
-    last : (o : Option Content) → AllByRecursion (λ (d : ℕ × Content). c.0 < d.0) (with_held n o)
+    last : (o : Option ContentRef) → AllByRecursion (λ (d : ℕ × ContentRef). c.0 < d.0) (with_held n o)
     last None = tt
     last (Some d) = (below.0, tt)
 
@@ -168,27 +164,27 @@ Say shape f rs ps = option_and_then (λ xs. all_some (map (read_part (dec shape)
 
 module _ (shape : Shape) (type : TypeId) where
   -- a content of a field that takes some of the records
-  pub record IsBacked (rs : List WireRecord) (c : ℕ × Content) : Type 0 where
-    pub holds : HoldsContent shape type c
+  pub record IsBacked (rs : List WireRecord) (c : ℕ × ContentRef) : Type 0 where
+    pub holds : HoldsParts content_seen shape type c
     pub some : filter (takes holds.field) rs ≢ []
 
   -- The contents are what the records say.
-  pub record ReadSoFar (rs : List WireRecord) (cs : List (ℕ × Content)) : Type 0 where
+  pub record ReadSoFar (rs : List WireRecord) (cs : List (ℕ × ContentRef)) : Type 0 where
     pub each : (f : FieldShape) → field_at (fields shape type) f.number ≡ Some f → Say shape f (filter (takes f) rs) (filter (is_of f.number) (all_seen cs))
     pub backed : AllByRecursion (IsBacked rs) cs
     pub rises : Rises cs
-    pub filled : AllByRecursion (λ (c : ℕ × Content). IsFilled c.1) cs
-    pub keys : AllByRecursion (λ (c : ℕ × Content). HasKeys c.1) cs
+    pub filled : AllByRecursion (λ (c : ℕ × ContentRef). IsFilled c.1) cs
+    pub keys : AllByRecursion (λ (c : ℕ × ContentRef). HasKeys c.1) cs
 
   -- The records of one field more, whose number is above those of all before.
-  module _ (rs more : List WireRecord) (cs : List (ℕ × Content)) (was : ReadSoFar rs cs) (f : FieldShape)
+  module _ (rs more : List WireRecord) (cs : List (ℕ × ContentRef)) (was : ReadSoFar rs cs) (f : FieldShape)
       (found : field_at (fields shape type) f.number ≡ Some f)
       (below : AllByRecursion (λ (r : WireRecord). r.number < f.number) rs) (own : AllByRecursion (λ r. takes f r ≡ true) more) (some : more ≢ [])
-      (held : Option Content) (holds : HoldsOf shape f more held) (fits : HeldFits shape f held) where
-    lower : AllByRecursion (λ (c : ℕ × Content). c.0 < f.number) cs
-    lower = each_weaker (IsBacked rs) (λ (c : ℕ × Content). c.0 < f.number) one cs was.backed
+      (held : Option ContentRef) (holds : HoldsOf shape f more held) (fits : HeldFits shape f held) where
+    lower : AllByRecursion (λ (c : ℕ × ContentRef). c.0 < f.number) cs
+    lower = each_weaker (IsBacked rs) (λ (c : ℕ × ContentRef). c.0 < f.number) one cs was.backed
       where
-        one : (c : ℕ × Content) → IsBacked rs c → c.0 < f.number
+        one : (c : ℕ × ContentRef) → IsBacked rs c → c.0 < f.number
         one c k =
             let (r, low, taken) = first_kept (λ (r : WireRecord). r.number < f.number) (takes k.holds.field) rs below k.some in
             omega (
@@ -215,7 +211,7 @@ module _ (shape : Shape) (type : TypeId) where
     seen_of : (n : ℕ) → filter (is_of n) (all_seen
         (cs ++ with_held f.number held)) ≡ filter (is_of n) (all_seen cs) ++ filter (is_of n) (parts_held f.number held)
     seen_of n =
-        ap (filter (is_of n)) (flat_map-append' (λ (c : ℕ × Content). content_seen c.0 c.1) cs (with_held f.number held)
+        ap (filter (is_of n)) (flat_map-append' (λ (c : ℕ × ContentRef). content_seen c.0 c.1) cs (with_held f.number held)
         ∙ ap (λ ps. all_seen cs ++ ps) (seen_held f.number held))
         ∙ filter-append' (is_of n) (all_seen cs) (parts_held f.number held)
 
@@ -237,24 +233,24 @@ module _ (shape : Shape) (type : TypeId) where
         (subst (λ xs. Say shape g xs (filter (is_of g.number) (all_seen cs))) (sym (other_rows g apart)) (was.each g there)))
         (cases_eq g.number f.number)
 
-    grown : (c : ℕ × Content) → IsBacked rs c → IsBacked (rs ++ more) c
+    grown : (c : ℕ × ContentRef) → IsBacked rs c → IsBacked (rs ++ more) c
     grown c k = record {
       holds = k.holds;
       some = λ none. k.some (append_none (filter (takes k.holds.field) rs) (filter (takes k.holds.field) more)
           (sym (filter-append' (takes k.holds.field) rs more) ∙ none));
     }
 
-    last_backed : (o : Option Content) → HeldFits shape f o → AllByRecursion (IsBacked (rs ++ more)) (with_held f.number o)
+    last_backed : (o : Option ContentRef) → HeldFits shape f o → AllByRecursion (IsBacked (rs ++ more)) (with_held f.number o)
     last_backed None h = tt
-    last_backed (Some c) h = (record { holds = record { field = f; found = found; fits = h.0 }; some = λ none. some (sym own_rows ∙ none) }, tt)
+    last_backed (Some c) h = (record { holds = record { field = f; found = found; holds = h.0 }; some = λ none. some (sym own_rows ∙ none) }, tt)
 
-    last_filled : (o : Option Content) → HeldFits shape f o → AllByRecursion (λ (c : ℕ × Content). IsFilled c.1) (with_held f.number o)
+    last_filled : (o : Option ContentRef) → HeldFits shape f o → AllByRecursion (λ (c : ℕ × ContentRef). IsFilled c.1) (with_held f.number o)
     last_filled None h = tt
     last_filled (Some c) h = (h.1, tt)
 
-    last_keys : (o : Option Content) → HeldFits shape f o → AllByRecursion (λ (c : ℕ × Content). HasKeys c.1) (with_held f.number o)
+    last_keys : (o : Option ContentRef) → HeldFits shape f o → AllByRecursion (λ (c : ℕ × ContentRef). HasKeys c.1) (with_held f.number o)
     last_keys None h = tt
-    last_keys (Some c) h = (keys_of_fits shape f.presence f.element c h.0, tt)
+    last_keys (Some c) h = (h.2, tt)
 
     pub one_field : ReadSoFar (rs ++ more) (cs ++ with_held f.number held)
     one_field = record {
@@ -262,14 +258,14 @@ module _ (shape : Shape) (type : TypeId) where
       backed = each-append (IsBacked (rs ++ more)) cs (with_held f.number held) (each_weaker (IsBacked rs) (IsBacked (rs ++ more)) grown cs was.backed)
           (last_backed held fits);
       rises = rises_end f.number held cs lower was.rises;
-      filled = each-append (λ (c : ℕ × Content). IsFilled c.1) cs (with_held f.number held) was.filled (last_filled held fits);
-      keys = each-append (λ (c : ℕ × Content). HasKeys c.1) cs (with_held f.number held) was.keys (last_keys held fits);
+      filled = each-append (λ (c : ℕ × ContentRef). IsFilled c.1) cs (with_held f.number held) was.filled (last_filled held fits);
+      keys = each-append (λ (c : ℕ × ContentRef). HasKeys c.1) cs (with_held f.number held) was.keys (last_keys held fits);
     }
 
   -- All records, which all count.
-  module _ (rs : List WireRecord) (cs : List (ℕ × Content)) (rising : Rising (fields shape type)) (all : AllCount (fields shape type) rs)
+  module _ (rs : List WireRecord) (cs : List (ℕ × ContentRef)) (rising : Rising (fields shape type)) (all : AllCount (fields shape type) rs)
       (was : ReadSoFar rs cs) where
-    apart_of : (c d : ℕ × Content) → IsBacked rs c → IsBacked rs d → AreApart (fields shape type) c.0 d.0
+    apart_of : (c d : ℕ × ContentRef) → IsBacked rs c → IsBacked rs d → AreApart (fields shape type) c.0 d.0
     apart_of c d h k f g at_f at_g =
         let is_f = same_found f h.holds.field (sym at_f ∙ h.holds.found) in
         let is_g = same_found g k.holds.field (sym at_g ∙ k.holds.found) in
@@ -279,27 +275,25 @@ module _ (shape : Shape) (type : TypeId) where
         (subst (λ x. is_rival h.holds.field x ≡ false) (sym is_g)
         (rival_absent (fields shape type) rs all h.holds.field k.holds.field found_h found_k h.some k.some))
 
-    none_rivals : (ds : List (ℕ × Content)) → AllByRecursion (IsBacked rs) ds → NoneRivals (fields shape type) ds
+    none_rivals : (ds : List (ℕ × ContentRef)) → AllByRecursion (IsBacked rs) ds → NoneRivals (fields shape type) ds
     none_rivals [] h = tt
     none_rivals (d ∷ ds) h =
-        (each_weaker (IsBacked rs) (λ (l : ℕ × Content). AreApart (fields shape type) d.0 l.0) (λ l k. apart_of d l h.0 k) ds h.1, none_rivals ds h.1)
+        (each_weaker (IsBacked rs) (λ (l : ℕ × ContentRef). AreApart (fields shape type) d.0 l.0) (λ l k. apart_of d l h.0 k) ds h.1, none_rivals ds h.1)
 
-    holding : AllByRecursion (HoldsContent shape type) cs
-    holding = each_weaker (IsBacked rs) (HoldsContent shape type) (λ c k. k.holds) cs was.backed
+    holding : AllByRecursion (HoldsParts content_seen shape type) cs
+    holding = each_weaker (IsBacked rs) (HoldsParts content_seen shape type) (λ c k. k.holds) cs was.backed
 
     pub whole_fits : type.index < length shape → Fits shape (fields_onto cs (ends type []))
-    whole_fits there =
-        fits_from_contents shape type cs [] (fields_onto cs (ends type [])) refl was.rises
-        (record { type_is_there = there; each = holding; apart = none_rivals cs was.backed; unknown = tt })
+    whole_fits there = fits_of_contents content_seen shape type cs [] there was.rises holding (none_rivals cs was.backed) tt
 
     message_is : message_of (fields_onto cs (ends type [])) ≡ message_from (map part_of (all_seen cs)) []
-    message_is = ap message_of (fields_from cs (ends type [])) ∙ message_of-kept_from type (all_seen cs) []
+    message_is = message_of-kept_from type (all_seen cs) []
 
     in_order : of_each (fields shape type) (map part_of (all_seen cs)) ≡ map part_of (all_seen cs)
     in_order =
         let m = message_of (fields_onto cs (ends type [])) in
         let parts_are : parts m ≡ map part_of (all_seen cs) = ap parts message_is ∙ (parts-message_from (map part_of (all_seen cs)) []).0 in
-        let is_message = (contents_to shape type cs [] was.rises holding (none_rivals cs was.backed) tt).0 in
+        let is_message = (contents_whole content_seen shape type cs [] was.rises holding (none_rivals cs was.backed) tt).0 in
         of_each_is (fields shape type) (map part_of (all_seen cs)) rising
         (subst (λ ps. NeverFalls (fields shape type) (map place_of ps)) parts_are
         (subst (NeverFalls (fields shape type)) (sym (places-parts m)) (never_falls shape type m is_message)))

@@ -1,28 +1,25 @@
 -- What fields of messages hold, from the bodies of their records.
-use Rattle.std.proofs.Common.{Global, Vec, drop, ◌≡◌, ◌≢◌, ℕ, zero, suc, ◌+◌, ◌<◌, List, [], ◌∷◌, ◌++◌, map, take, length, true, false, cond, Some, None, is_some, option_map, option_and_then, refl, ap, sym, ◌∙◌, subst, append-nil}
+use Rattle.std.proofs.Common.{drop, ◌≡◌, ◌≢◌, ℕ, zero, suc, ◌+◌, ◌<◌, List, [], ◌∷◌, ◌++◌, map, take, length, true, false, cond, Some, None, is_some, option_map, option_and_then, refl, ap, sym, ◌∙◌, subst, append-nil}
 use Rattle.std.specs.Bool.{⊤}
 use Rattle.std.specs.List.{AllByRecursion}
 use Rattle.std.proofs.lemmas.Bool.{and_parts}
 use Rattle.std.proofs.lemmas.List.{map-append}
 use Rattle.pg_schema.specs.declared.field.TypeId.{TypeId}
-use Rattle.pg_schema.specs.declared.field.Element.{Element}
 use Rattle.pg_schema.specs.declared.field.Element.TheVariants as elements
-use Rattle.pg_schema.specs.declared.field.Presence.{Presence}
-use Rattle.pg_schema.specs.declared.field.Presence.TheVariants as presences
 use Rattle.pg_schema.specs.Shape.{Shape, FieldShape, fields, is_map, is_repeated}
 use Rattle.pg_wire.specs.declared.record.Record.{Record}
 use Rattle.pg_wire.specs.Reads.{seen_record}
 use Rattle.pg_wire.specs.Records.{IsRecord, WireRecord}
-use Rattle.pg_dyn.specs.declared.message.Content.TheVariants as contents
-use Rattle.pg_dyn.specs.declared.message.Value.{Value}
-use Rattle.pg_dyn.specs.declared.message.Value.TheVariants as values
+use Rattle.pg_dyn.specs.declared.message_ref.ContentRef.TheVariants as contents
+use Rattle.pg_dyn.specs.declared.message_ref.ValueRef.{ValueRef}
+use Rattle.pg_dyn.specs.declared.message_ref.ValueRef.TheVariants as values
 use Rattle.pg_dyn.specs.ByFields.{AreGood, AreOf, BodiesGood, HoldsOf, IsChildOf}
 use Rattle.pg_dyn.specs.Content.{content, last_item, leaf_bytes, leaves_in, merged, plain_content, takes}
-use Rattle.pg_dyn.specs.ContentFits.{ContentFits, ItemFits}
+use Rattle.pg_dyn.specs.BorrowedItems.{ItemFits}
 use Rattle.pg_dyn.specs.Decoding.{dec, is_child, read_item, read_part}
 use Rattle.pg_dyn.specs.Message.{Bytes, Item, Leaf, Msg, Part}
 use Rattle.pg_dyn.specs.Optional.{all_some, joined}
-use Rattle.pg_dyn.specs.Seen.{item_seen}
+use Rattle.pg_dyn.specs.Borrowed.{item_seen}
 use Rattle.pg_dyn.specs.Steps.{FieldReads, IsShallow, IsShallowIn, item_of, part_of}
 use Rattle.pg_dyn.specs.TooDeep.{TooDeepOf}
 use Rattle.pg_dyn.specs.TooDeep as deep
@@ -90,7 +87,7 @@ module _ (shape : Shape) (f : FieldShape) (t : TypeId) (is_message : f.element �
       ∙ ap (λ e. all_some (map (read_part (dec shape) e) (map part leaves))) is_message ∙ k
 
 -- a message that was read is the item of its bytes
-pub child_item : (shape : Shape) (t : TypeId) (rs : List WireRecord) (listed : _) (v : Value) → IsChildOf shape t rs v
+pub child_item : (shape : Shape) (t : TypeId) (rs : List WireRecord) (listed : _) (v : ValueRef) → IsChildOf shape t rs v
     → read_item (dec shape) (elements.Message t) (Bytes (bodies_of rs)) ≡ Some (item_of (item_seen listed v))
 child_item shape t rs listed (values.Msg child) h = ap (option_map Msg) h
 child_item shape t rs listed (values.Int x) h = absurd h
@@ -100,31 +97,31 @@ child_item shape t rs listed (values.Text x) h = absurd h
 child_item shape t rs listed (values.Bytes x) h = absurd h
 
 -- each record's body is read as the message at its place
-abbrev pub AreChildren : Shape → TypeId → List WireRecord → List Value → Type 0
+abbrev pub AreChildren : Shape → TypeId → List WireRecord → List ValueRef → Type 0
 AreChildren shape t [] [] = ⊤
 AreChildren shape t [] (v ∷ vs) = ⊥
 AreChildren shape t (r ∷ rs) [] = ⊥
 AreChildren shape t (r ∷ rs) (v ∷ vs) = IsChildOf shape t (r ∷ []) v × AreChildren shape t rs vs
 
-pub children_more : (shape : Shape) (t : TypeId) (rs : List WireRecord) (vs : List Value) (r : WireRecord) (v : Value) → AreChildren shape t rs vs
+pub children_more : (shape : Shape) (t : TypeId) (rs : List WireRecord) (vs : List ValueRef) (r : WireRecord) (v : ValueRef) → AreChildren shape t rs vs
     → IsChildOf shape t (r ∷ []) v → AreChildren shape t (rs ++ r ∷ []) (vs ++ v ∷ [])
 children_more shape t [] [] r v h k = (k, tt)
 children_more shape t [] (w ∷ vs) r v h k = absurd h
 children_more shape t (s ∷ rs) [] r v h k = absurd h
 children_more shape t (s ∷ rs) (w ∷ vs) r v h k = (h.0, children_more shape t rs vs r v h.1 k)
 
-pub children_filled : (shape : Shape) (t : TypeId) (rs : List WireRecord) (vs : List Value) → rs ≢ [] → AreChildren shape t rs vs → vs ≢ []
+pub children_filled : (shape : Shape) (t : TypeId) (rs : List WireRecord) (vs : List ValueRef) → rs ≢ [] → AreChildren shape t rs vs → vs ≢ []
 children_filled shape t [] vs some h none = some refl
 children_filled shape t (r ∷ rs) [] some h none = h
-children_filled shape t (r ∷ rs) (v ∷ vs) some h none = let e : ◌≡◌ {A = List Value} (v ∷ vs) [] = none in absurd (cc)
+children_filled shape t (r ∷ rs) (v ∷ vs) some h none = let e : ◌≡◌ {A = List ValueRef} (v ∷ vs) [] = none in absurd (cc)
 
 module _ (shape : Shape) (f : FieldShape) (t : TypeId) (is_message : f.element ≡ elements.Message t) (no_map : is_map f.presence ≡ false) where
-  child_part : (rs : List WireRecord) (listed : _) (v : Value) → IsChildOf shape t rs v
+  child_part : (rs : List WireRecord) (listed : _) (v : ValueRef) → IsChildOf shape t rs v
       → read_part (dec shape) (elements.Message t) (record { number = f.number; key = None; item = Bytes (bodies_of rs) })
       ≡ Some (part_of (record { number = f.number; key = None; item = item_seen listed v }))
   child_part rs listed v h = ap (option_map (λ item. record { number = f.number; key = None; item = item })) (child_item shape t rs listed v h)
 
-  children_parts : (rs : List WireRecord) (vs : List Value) → AreChildren shape t rs vs
+  children_parts : (rs : List WireRecord) (vs : List ValueRef) → AreChildren shape t rs vs
       → all_some (map (read_part (dec shape) (elements.Message t))
       (map (λ leaf. record { number = f.number; key = None; item = leaf }) (map (λ (r : WireRecord). Bytes r.body) rs)))
       ≡ Some (map part_of (map (λ value. record { number = f.number; key = None; item = item_seen true value }) vs))
@@ -138,7 +135,7 @@ module _ (shape : Shape) (f : FieldShape) (t : TypeId) (is_message : f.element �
       rw (one, children_parts rs vs h.1)
 
   -- A repeated field holds a message for each record.
-  pub children_held : (rs : List WireRecord) (vs : List Value) → is_repeated f.presence ≡ true → AreOf f rs → AreChildren shape t rs vs
+  pub children_held : (rs : List WireRecord) (vs : List ValueRef) → is_repeated f.presence ≡ true → AreOf f rs → AreChildren shape t rs vs
       → HasParts shape f rs (map part_of (map (λ value. record { number = f.number; key = None; item = item_seen true value }) vs))
   children_held rs vs repeated are h =
       holds_by_leaves shape f t is_message no_map rs (map (λ (r : WireRecord). Bytes r.body) rs) _
@@ -160,18 +157,11 @@ module _ (shape : Shape) (f : FieldShape) (t : TypeId) (is_message : f.element �
       ∙ rw (singular, is_message) (ap (λ xs. Some (merged xs)) (joined-map_single (λ (r : WireRecord). Bytes r.body) rs))
 
   -- A singular field holds the message of all bodies.
-  pub child_held : (rs : List WireRecord) (v : Value) → is_repeated f.presence ≡ false → rs ≢ [] → AreOf f rs → IsChildOf shape t rs v
+  pub child_held : (rs : List WireRecord) (v : ValueRef) → is_repeated f.presence ≡ false → rs ≢ [] → AreOf f rs → IsChildOf shape t rs v
       → HoldsOf shape f rs (Some (contents.One v))
   child_held rs v singular some are h =
       holds_by_leaves shape f t is_message no_map rs (Bytes (bodies_of rs) ∷ []) _
       (merged_content rs singular are ∙ ap (λ xs. Some xs) (merged_are rs some)) (rw (child_part rs false v h))
-
-pub list_fits : (shape : Shape) (p : Presence) (e : Element) (vs : Vec Value Global) → is_repeated p ≡ true → AllByRecursion (ItemFits shape e) vs.items
-    → ContentFits shape p e (contents.Many vs)
-list_fits shape presences.Implicit e vs h fits = absurd (cc)
-list_fits shape presences.Explicit e vs h fits = absurd (cc)
-list_fits shape (presences.Repeated packed) e vs h fits = fits
-list_fits shape (presences.Map key) e vs h fits = absurd (cc)
 
 pub seen_some : (run : List Record) → run ≢ [] → map seen_record run ≢ []
 seen_some [] some e = some refl
@@ -183,7 +173,7 @@ seen_some (r ∷ run) some e = not_nil (seen_record r) (map seen_record run) e
 -- A repeated field, record by record.
 
 -- a message for each record so far
-pub record AreRead (shape : Shape) (levels : ℕ) (f : FieldShape) (t : TypeId) (rs : List WireRecord) (vs : List Value) : Type 0 where
+pub record AreRead (shape : Shape) (levels : ℕ) (f : FieldShape) (t : TypeId) (rs : List WireRecord) (vs : List ValueRef) : Type 0 where
   pub read : AreChildren shape t rs vs
   pub fits : AllByRecursion (ItemFits shape (elements.Message t)) vs
   pub good : AreGood shape levels f rs
@@ -197,7 +187,7 @@ module _ (shape : Shape) (levels : ℕ) (f : FieldShape) (t : TypeId) (is_messag
   one = take n (drop place run)
 
   -- one record more
-  pub read_more : (vs new : List Value) (v : Value) → AreOf f (map seen_record run) → AreRead shape levels f t (map seen_record (take place run)) vs
+  pub read_more : (vs new : List ValueRef) (v : ValueRef) → AreOf f (map seen_record run) → AreRead shape levels f t (map seen_record (take place run)) vs
       → IsChildOf shape t (map seen_record one) v → ItemFits shape (elements.Message t) v
       → BodiesGood shape levels t (map seen_record one) → new ≡ vs ++ v ∷ [] → AreRead shape levels f t (map seen_record (take (place + 1) run)) new
   read_more vs new v are h child fits bodies is =

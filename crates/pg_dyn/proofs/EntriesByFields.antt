@@ -15,20 +15,21 @@ use Rattle.pg_wire.specs.Reading.{Fault}
 use Rattle.pg_wire.specs.Reads.{seen_record}
 use Rattle.pg_wire.specs.Records.{IsRecord, Spells, WireRecord, records_of}
 use Rattle.pg_wire.proofs.RecordLaws.{Spells_from_records_of}
-use Rattle.pg_dyn.specs.declared.message.Value.{Value}
+use Rattle.pg_dyn.specs.declared.message_ref.EntryRef.{EntryRef}
+use Rattle.pg_dyn.specs.declared.message_ref.ValueRef.{ValueRef}
 use Rattle.pg_dyn.specs.declared.reading.parts.Parts.{Parts}
 use Rattle.pg_dyn.specs.ByFields.{AreGood, AreOf, BodiesGood, IsChildOf, IsEntryRead}
 use Rattle.pg_dyn.specs.Coding.{form, zero_leaf}
 use Rattle.pg_dyn.specs.Content.{entry_part, is_accepted, key_field, leaves_in, merged, option_from, takes, value_field}
-use Rattle.pg_dyn.specs.ContentFits.{ItemFits}
+use Rattle.pg_dyn.specs.BorrowedItems.{ItemFits}
 use Rattle.pg_dyn.specs.Decoding.{all_plain_readable, dec, entry_records, is_plain_readable, is_readable}
 use Rattle.pg_dyn.specs.EntryParts.{AreParts, AreReadable, ScalarsGood}
 use Rattle.pg_dyn.specs.EntrySteps.{IsMessageOf, IsReadFrom, PartFits, PartRead, WholeItem, entry_fields}
 use Rattle.pg_dyn.specs.Message.{Bytes, Item, Leaf, Plain}
 use Rattle.pg_dyn.specs.Optional.{first_or}
 use Rattle.pg_dyn.specs.ReadingOn.{IsNoMessage}
-use Rattle.pg_dyn.specs.ScalarItems.{IsItemOf}
-use Rattle.pg_dyn.specs.Seen.{leaf_of}
+use Rattle.pg_dyn.specs.BorrowedItems.{IsItemOf}
+use Rattle.pg_dyn.specs.Borrowed.{leaf_of}
 use Rattle.pg_dyn.specs.Steps.{FieldReads, IsShallow, IsShallowIn, IsShallowRecord, Taken, item_of}
 use Rattle.pg_dyn.specs.TooDeep.{TooDeepOf}
 use Rattle.pg_dyn.specs.TooDeep as deep
@@ -37,7 +38,7 @@ use Rattle.pg_dyn.proofs.ChildrenByFields as children
 use Rattle.pg_dyn.proofs.PlainFields.{no_child}
 use Rattle.pg_dyn.proofs.Faulty.{entry_records_of}
 use Rattle.pg_dyn.proofs.FieldKinds.{message_clash}
-use Rattle.pg_dyn.proofs.ItemLeaves.{item_is_key, key_seen}
+use Rattle.pg_dyn.proofs.BorrowedItems.{item_is_key, key_seen}
 use Rattle.pg_dyn.proofs.Joining.{implied}
 use Rattle.pg_dyn.proofs.MapsByFields.{AreEntriesRead, one_entry_more}
 use Rattle.pg_dyn.proofs.Lists.{each-append, each-filter, each_at, each_both, each_weaker, list_all_each, list_all_true}
@@ -247,16 +248,16 @@ module _ (shape : Shape) (levels : ℕ) (key : Scalar) (e : Element) (t : TypeId
 -- What an entry holds.
 
 -- the part of a whole entry, and what is read of it
-abbrev pub PartWhole : Shape → FieldShape → List WireRecord → Value → Type 0
+abbrev pub PartWhole : Shape → FieldShape → List WireRecord → ValueRef → Type 0
 PartWhole shape g rs v = (leaf : Leaf) × (entry_part g rs ≡ Some leaf) × IsReadFrom shape g.element leaf v
 
-pub part_whole : (shape : Shape) (g : FieldShape) (rs : List WireRecord) (held : Option Value) (v : Value) → PartRead shape g rs held
+pub part_whole : (shape : Shape) (g : FieldShape) (rs : List WireRecord) (held : Option ValueRef) (v : ValueRef) → PartRead shape g rs held
     → WholeItem shape g.element held v → PartWhole shape g rs v
 part_whole shape g rs None v part whole = (zero_leaf (form g.element), ap (option_map (first_or (zero_leaf (form g.element)))) part, whole)
 part_whole shape g rs (Some w) v part whole =
     (part.0, ap (option_map (first_or (zero_leaf (form g.element)))) part.1, subst (IsReadFrom shape g.element part.0) whole part.2)
 
-pub child_whole : (shape : Shape) (e : Element) (t : TypeId) (rs : List WireRecord) (v : Value) → e ≡ elements.Message t → AllByRecursion IsRecord rs
+pub child_whole : (shape : Shape) (e : Element) (t : TypeId) (rs : List WireRecord) (v : ValueRef) → e ≡ elements.Message t → AllByRecursion IsRecord rs
     → IsChildOf shape t (own (value_field e) rs) v → PartWhole shape (value_field e) rs v
 child_whole shape e t rs v is are h =
     let run = own (value_field e) rs in (
@@ -276,9 +277,9 @@ child_whole shape e t rs v is are h =
 plain_same : (a b : Leaf) → ◌≡◌ {A = Option Item} (Some (Plain a)) (Some (Plain b)) → a ≡ b
 plain_same a b k = cc
 
-pub entry_is_read : (shape : Shape) (key : Scalar) (e : Element) (r : WireRecord) (rs : List WireRecord) (k v : Value) → records_of r.body ≡ Ok rs
+pub entry_is_read : (shape : Shape) (key : Scalar) (e : Element) (r : WireRecord) (rs : List WireRecord) (k v : ValueRef) → records_of r.body ≡ Ok rs
     → PartWhole shape (key_field key) rs k → PartWhole shape (value_field e) rs v
-    → IsItemOf key k → ItemFits shape e v → IsEntryRead shape key e r (k, v)
+    → IsItemOf key k → ItemFits shape e v → IsEntryRead shape key e r (record { key = k; value = v })
 entry_is_read shape key e r rs k v records a b item fits =
     let k_is : a.0 ≡ leaf_of k = plain_same a.0 (leaf_of k) (a.2 ∙ ap (λ i. Some (item_of i)) (key_seen k (item_is_key key k item))) in (
       b.0,
@@ -308,16 +309,16 @@ module _ (shape : Shape) (levels : ℕ) (f : FieldShape) (key : Scalar) (of_map 
     are = let spells = Spells_from_records_of r.body found.0 found.1 in spells.each
 
     -- the key is the one that was read, or the default
-    abbrev pub IsWholeKey : Value → Type 0
+    abbrev pub IsWholeKey : ValueRef → Type 0
     IsWholeKey k = WholeItem shape (elements.Scalar key) parts.key k × (PartFits shape (elements.Scalar key) parts.key → IsItemOf key k)
 
-    key_whole : (k : Value) → IsWholeKey k → PartWhole shape (key_field key) found.0 k
+    key_whole : (k : ValueRef) → IsWholeKey k → PartWhole shape (key_field key) found.0 k
     key_whole k h = part_whole shape (key_field key) found.0 parts.key k (found.2.key_read shape) h.0
 
     -- Of a value that is no message.
     module _ (scalar : IsNoMessage f.element) where
-      pub scalar_entry : (k v : Value) → IsWholeKey k → WholeItem shape f.element parts.value v
-          → (PartFits shape f.element parts.value → ItemFits shape f.element v) → IsEntryRead shape key f.element r (k, v)
+      pub scalar_entry : (k v : ValueRef) → IsWholeKey k → WholeItem shape f.element parts.value v
+          → (PartFits shape f.element parts.value → ItemFits shape f.element v) → IsEntryRead shape key f.element r (record { key = k; value = v })
       scalar_entry k v h whole fits =
           entry_is_read shape key f.element r found.0 k v found.1 (key_whole k h)
           (part_whole shape (value_field f.element) found.0 parts.value v (found.2.value_read scalar shape) whole)
@@ -331,8 +332,8 @@ module _ (shape : Shape) (levels : ℕ) (f : FieldShape) (key : Scalar) (of_map 
       run_is : map seen_record run ≡ own (value_field f.element) found.0
       run_is = ap (map seen_record) taken ∙ found.2.child (subst IsMessageOf (sym is) tt)
 
-      pub child_entry : (k v : Value) → IsWholeKey k → IsChildOf shape t (map seen_record run) v → ItemFits shape (elements.Message t) v
-          → IsEntryRead shape key f.element r (k, v)
+      pub child_entry : (k v : ValueRef) → IsWholeKey k → IsChildOf shape t (map seen_record run) v → ItemFits shape (elements.Message t) v
+          → IsEntryRead shape key f.element r (record { key = k; value = v })
       child_entry k v h child fits =
           entry_is_read shape key f.element r found.0 k v found.1 (key_whole k h)
           (child_whole shape f.element t found.0 v is are (subst (λ rs. IsChildOf shape t rs v) run_is child))
@@ -356,7 +357,7 @@ pub key_of_map : (p : Presence) (key : Scalar) (e : Element) (oneof : Option ℕ
 key_of_map p key e oneof is fits = let k : PresenceFits (presences.Map key) e oneof = subst (λ q. PresenceFits q e oneof) is fits in k.1
 
 -- an entry for each record so far
-pub record EntriesSoFar (shape : Shape) (levels : ℕ) (f : FieldShape) (key : Scalar) (rs : List WireRecord) (es : List (Value × Value)) : Type 0 where
+pub record EntriesSoFar (shape : Shape) (levels : ℕ) (f : FieldShape) (key : Scalar) (rs : List WireRecord) (es : List EntryRef) : Type 0 where
   pub read : AreEntriesRead shape key f.element rs es
   pub good : AreGood shape levels f rs
 
@@ -364,7 +365,7 @@ module _ (shape : Shape) (levels : ℕ) (f : FieldShape) (key : Scalar) (run : L
   abbrev one : WireRecord
   one = seen_record (get_or run place d)
 
-  pub entries_more : (es new : List (Value × Value)) (e : Value × Value) → EntriesSoFar shape levels f key (map seen_record (take place run)) es
+  pub entries_more : (es new : List EntryRef) (e : EntryRef) → EntriesSoFar shape levels f key (map seen_record (take place run)) es
       → IsEntryRead shape key f.element one e → AreGood shape levels f (one ∷ [])
       → new ≡ es ++ e ∷ [] → EntriesSoFar shape levels f key (map seen_record (take (place + 1) run)) new
   entries_more es new e h read good is =

@@ -15,28 +15,28 @@ use Rattle.pg_wire.specs.declared.record.Record.{Record}
 use Rattle.pg_wire.specs.declared.record.WireType.TheVariants.{Len}
 use Rattle.pg_wire.specs.Reads.{seen_record}
 use Rattle.pg_wire.specs.Records.{WireRecord}
-use Rattle.pg_dyn.specs.declared.message.Value.{Value}
+use Rattle.pg_dyn.specs.declared.message_ref.ValueRef.{ValueRef}
 use Rattle.pg_dyn.specs.declared.reading.parts.Parts.{Parts}
 use Rattle.pg_dyn.specs.Coding.{form, form_wire, leaf_in, scalar_form}
 use Rattle.pg_dyn.specs.Content.{is_accepted, key_field, leaves_in, plain_content, same_wire, takes, value_field}
-use Rattle.pg_dyn.specs.ContentFits.{ItemFits}
+use Rattle.pg_dyn.specs.BorrowedItems.{ItemFits}
 use Rattle.pg_dyn.specs.Decoding.{dec, is_child, is_plain_readable}
 use Rattle.pg_dyn.specs.EntryParts.{AreParts, AreReadable, ScalarsGood}
 use Rattle.pg_dyn.specs.EntrySteps.{IsMessageOf, IsReadFrom, PartIs, PartFits, PartRead}
 use Rattle.pg_dyn.specs.Held.{read_as}
 use Rattle.pg_dyn.specs.Message.{Leaf}
 use Rattle.pg_dyn.specs.ReadingOn.{IsNoMessage}
-use Rattle.pg_dyn.specs.ScalarItems.{IsItemOf}
-use Rattle.pg_dyn.specs.Seen.{leaf_of}
+use Rattle.pg_dyn.specs.BorrowedItems.{IsItemOf}
+use Rattle.pg_dyn.specs.Borrowed.{leaf_of}
 use Rattle.pg_dyn.specs.Steps.{item_of}
 use Rattle.pg_dyn.proofs.FieldKinds.{form_as, no_both}
 use Rattle.pg_dyn.proofs.FieldRecords.{own_leaves, reads_scalar}
-use Rattle.pg_dyn.proofs.ItemLeaves.{item_is_key, key_seen}
+use Rattle.pg_dyn.proofs.BorrowedItems.{item_is_key, key_seen}
 use Rattle.pg_dyn.proofs.Lists.{each-append, filter-append'}
 use Rattle.pg_dyn.proofs.ReadsOn.{singular_on}
 use Rattle.pg_dyn.proofs.RecordFronts.{Front}
 
-pub item_as : (shape : Shape) (e : Element) (v : Value) → IsNoMessage e → IsItemOf (read_as e) v → ItemFits shape e v
+pub item_as : (shape : Shape) (e : Element) (v : ValueRef) → IsNoMessage e → IsItemOf (read_as e) v → ItemFits shape e v
 item_as shape (elements.Scalar s) v h item = item
 item_as shape (elements.Enum x) v h item = item
 item_as shape (elements.Message t) v h item = absurd h
@@ -70,7 +70,7 @@ other_number m n e r is apart = not_explicit n e r (inl (λ k. apart (sym is ∙
 -- One record more, for a field of the entry.
 
 module _ (f : FieldShape) (rs : List WireRecord) (r : WireRecord) where
-  same_read : (shape : Shape) (held : Option Value) → takes f r ≡ false → PartRead shape f rs held → PartRead shape f (rs ++ r ∷ []) held
+  same_read : (shape : Shape) (held : Option ValueRef) → takes f r ≡ false → PartRead shape f rs held → PartRead shape f (rs ++ r ∷ []) held
   same_read shape held other h = subst (λ xs. PartIs shape f.element (plain_content f xs) held) (sym (none_taken f rs r other)) h
 
   more_readable : AreReadable f rs → ((shape : Shape) → takes f r ≡ true → is_plain_readable (dec shape) f r ≡ true) → AreReadable f (rs ++ r ∷ [])
@@ -79,22 +79,22 @@ module _ (f : FieldShape) (rs : List WireRecord) (r : WireRecord) where
   same_readable : AreReadable f rs → takes f r ≡ false → AreReadable f (rs ++ r ∷ [])
   same_readable h other = more_readable h (λ shape taken. absurd (true≢false (sym taken ∙ other)))
 
-some_leaves : (shape : Shape) (e : Element) (o : Option (List Leaf)) (held : Option Value) → PartIs shape e o held → (old : List Leaf) × (o ≡ Some old)
+some_leaves : (shape : Shape) (e : Element) (o : Option (List Leaf)) (held : Option ValueRef) → PartIs shape e o held → (old : List Leaf) × (o ≡ Some old)
 some_leaves shape e o None h = ([], h)
 some_leaves shape e o (Some v) h = (h.0 ∷ [], h.1)
 
-plain_read : (shape : Shape) (e : Element) (v : Value) → IsNoMessage e → ItemFits shape e v → IsReadFrom shape e (leaf_of v) v
+plain_read : (shape : Shape) (e : Element) (v : ValueRef) → IsNoMessage e → ItemFits shape e v → IsReadFrom shape e (leaf_of v) v
 plain_read shape (elements.Scalar s) v h fits = ap (λ i. Some (item_of i)) (sym (key_seen v (item_is_key s v fits)))
 plain_read shape (elements.Enum x) v h fits = ap (λ i. Some (item_of i)) (sym (key_seen v (item_is_key Int32 v fits)))
 plain_read shape (elements.Message t) v h fits = absurd h
 
 module _ (n : ℕ) (e : Element) (scalar : IsNoMessage e) (rs : List WireRecord) (r : WireRecord) (at : r.number ≡ n)
-    (own : same_wire r.wire (form_wire (form e)) ≡ true) (v : Value) (leaf : leaf_in (scalar_form (read_as e)) r.body ≡ Some (leaf_of v))
+    (own : same_wire r.wire (form_wire (form e)) ≡ true) (v : ValueRef) (leaf : leaf_in (scalar_form (read_as e)) r.body ≡ Some (leaf_of v))
     (item : IsItemOf (read_as e) v) where
   leaves : leaves_in (explicit n e) r ≡ Some (leaf_of v ∷ [])
   leaves = own_leaves (explicit n e) r (leaf_of v) own (ap (λ x. leaf_in x r.body) (form_as e) ∙ leaf)
 
-  one_read : (shape : Shape) (held : Option Value) → PartRead shape (explicit n e) rs held → PartRead shape (explicit n e) (rs ++ r ∷ []) (Some v)
+  one_read : (shape : Shape) (held : Option ValueRef) → PartRead shape (explicit n e) rs held → PartRead shape (explicit n e) (rs ++ r ∷ []) (Some v)
   one_read shape held h =
       let f = explicit n e in
       let (old, old_is) = some_leaves shape e (plain_content f (filter (takes f) rs)) held h in (
@@ -122,7 +122,7 @@ unreadable n e r at own h =
 -- One record more of an entry.
 
 module _ (key : Scalar) (element : Element) (rs : List WireRecord) (r : WireRecord) (parts new : Parts) (h : AreParts key element rs parts) where
-  pub key_added : (v : Value) → r.number ≡ 1 → same_wire r.wire (form_wire (form (elements.Scalar key))) ≡ true
+  pub key_added : (v : ValueRef) → r.number ≡ 1 → same_wire r.wire (form_wire (form (elements.Scalar key))) ≡ true
       → leaf_in (scalar_form key) r.body ≡ Some (leaf_of v) → IsItemOf key v
       → new.key ≡ Some v → new.value ≡ parts.value → new.child ≡ parts.child → AreParts key element (rs ++ r ∷ []) new
   key_added v at own leaf item key_is value_is child_is =
@@ -142,7 +142,7 @@ module _ (key : Scalar) (element : Element) (rs : List WireRecord) (r : WireReco
             ∙ sym (none_taken (value_field element) rs r other);
       }
 
-  pub value_added : (v : Value) → IsNoMessage element → r.number ≡ 2 → same_wire r.wire (form_wire (form element)) ≡ true
+  pub value_added : (v : ValueRef) → IsNoMessage element → r.number ≡ 2 → same_wire r.wire (form_wire (form element)) ≡ true
       → leaf_in (scalar_form (read_as element)) r.body ≡ Some (leaf_of v) → IsItemOf (read_as element) v
       → new.key ≡ parts.key → new.value ≡ Some v → AreParts key element (rs ++ r ∷ []) new
   value_added v scalar at own leaf item key_is value_is =

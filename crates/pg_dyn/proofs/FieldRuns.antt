@@ -8,14 +8,14 @@ use Rattle.pg_schema.specs.Shape.{Shape, FieldShape, fields, field_at, Rising}
 use Rattle.pg_wire.specs.declared.record.Record.{Record}
 use Rattle.pg_wire.specs.Reads.{seen_record}
 use Rattle.pg_wire.specs.Records.{WireRecord, IsRecord}
-use Rattle.pg_dyn.specs.declared.message.Content.{Content}
+use Rattle.pg_dyn.specs.declared.message_ref.ContentRef.{ContentRef}
 use Rattle.pg_dyn.specs.ByFields.{AllCount, AreGood, AreOf, HoldsOf, RecordsGood}
 use Rattle.pg_dyn.specs.Content.{takes}
 use Rattle.pg_dyn.specs.Decoding.{dec, read_records}
 use Rattle.pg_dyn.specs.Fits.{Fits}
 use Rattle.pg_dyn.specs.Gathering.{NumbersRise}
 use Rattle.pg_dyn.specs.Kept.{ends, message_of}
-use Rattle.pg_dyn.specs.Seen.{fields_onto}
+use Rattle.pg_dyn.specs.Borrowed.{fields_onto}
 use Rattle.pg_dyn.specs.Steps.{FieldReads, HeldFits, IsShallow, Taken}
 use Rattle.pg_dyn.proofs.ByFields.{ReadSoFar, one_field, whole_fits, whole_read, with_held}
 use Rattle.pg_dyn.proofs.GoodRecords.{IsGood, each_good, good_by_field, good_each, good_of_field, same_found}
@@ -84,7 +84,7 @@ module _ (shape : Shape) (levels : ℕ) (type : TypeId) (sorted : List Record) w
   Below place r = AllByRecursion (λ (s : Record). r.number < s.number) (drop place sorted)
 
   -- The contents are what the records before the place say, and those from the place on have greater numbers.
-  pub record ReadUpTo (place : ℕ) (cs : List (ℕ × Content)) : Type 0 where
+  pub record ReadUpTo (place : ℕ) (cs : List (ℕ × ContentRef)) : Type 0 where
     pub inside : place ≤ length sorted
     pub below : AllByRecursion (Below place) (take place sorted)
     pub read : ReadSoFar shape type (map seen_record (take place sorted)) cs
@@ -151,7 +151,7 @@ module _ (shape : Shape) (levels : ℕ) (type : TypeId) (sorted : List Record) w
           (λ r both. good_of_field shape levels (fields shape type) r f both.1.1 both.0) (map seen_record rows)
           (each_both (IsGood shape levels (fields shape type)) (Own f) (map seen_record rows) these own_rows)
 
-      module _ (cs : List (ℕ × Content)) (was : ReadUpTo place cs)
+      module _ (cs : List (ℕ × ContentRef)) (was : ReadUpTo place cs)
           (beyond : (e : Record) → end < length sorted → (get_or sorted end e).number ≢ (get_or sorted place e).number) where
         till : place + (end - place) ≡ end
         till = omega arith
@@ -190,7 +190,7 @@ module _ (shape : Shape) (levels : ℕ) (type : TypeId) (sorted : List Record) w
             (λ r h. let at = (subst (AllByRecursion (λ (s : Record). r.number < s.number)) (drop-cons sorted place d here) h).0 in omega
             (arith, number, at)) (take place sorted) was.below)
 
-        pub onward : (held : Option Content) → HoldsOf shape f (map seen_record (take (end - place) (drop place sorted))) held → HeldFits shape f held
+        pub onward : (held : Option ContentRef) → HoldsOf shape f (map seen_record (take (end - place) (drop place sorted))) held → HeldFits shape f held
             → AreGood shape levels f (map seen_record (take (end - place) (drop place sorted))) → ReadUpTo end (cs ++ with_held f.number held)
         onward held holds fits good =
             let joined : map seen_record (take end sorted) ≡ map seen_record (take place sorted) ++ map seen_record rows =
@@ -211,7 +211,7 @@ module _ (shape : Shape) (levels : ℕ) (type : TypeId) (sorted : List Record) w
             }
 
   -- All records.
-  module _ (rising : Rising (fields shape type)) (all : AllCount (fields shape type) (map seen_record sorted)) (place : ℕ) (cs : List (ℕ × Content))
+  module _ (rising : Rising (fields shape type)) (all : AllCount (fields shape type) (map seen_record sorted)) (place : ℕ) (cs : List (ℕ × ContentRef))
       (was : ReadUpTo place cs) (none_left : length sorted ≤ place) where
     all_taken : take place sorted ≡ sorted
     all_taken = take_all place sorted none_left

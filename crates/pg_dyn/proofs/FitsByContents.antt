@@ -1,8 +1,7 @@
 -- A message fits where each of its contents does, no two are members of one oneof, and its unknown records are unknown.
-use Rattle.std.proofs.Common.{Vec, Global, ◌≡◌, ◌≢◌, ℕ, ◌<◌, ◌⊎◌, List, [], ◌∷◌, ◌++◌, length, map, Bool, true, false, not, ◌&&◌, Option, Some, None, refl, ap, sym, subst, ◌∙◌, arith, ⊎_elim, inl, inr, eq-eqb}
+use Rattle.std.proofs.Common.{Vec, Global, ◌≡◌, ◌≢◌, ℕ, ◌<◌, List, [], ◌∷◌, ◌++◌, length, map, Bool, true, false, Option, Some, None, refl, ap, sym, subst, ◌∙◌, arith, ⊎_elim}
 use Rattle.std.specs.List.{AllByRecursion}
 use Rattle.std.specs.declared.cmp.Ordering.TheVariants.{Less}
-use Rattle.std.proofs.Math.Bool.{and-false}
 use Rattle.pg_schema.specs.declared.field.Scalar.{Scalar}
 use Rattle.pg_schema.specs.declared.field.TypeId.{TypeId}
 use Rattle.pg_schema.specs.declared.field.Element.{Element}
@@ -15,19 +14,23 @@ use Rattle.pg_dyn.specs.declared.message.Content.{Content}
 use Rattle.pg_dyn.specs.declared.message.Content.TheVariants as contents
 use Rattle.pg_dyn.specs.declared.message.Value.{Value}
 use Rattle.pg_dyn.specs.declared.message.Value.TheVariants as values
-use Rattle.pg_dyn.specs.Message.{Leaf, Place, places, key_cmp}
-use Rattle.pg_dyn.specs.Content.{same_oneof, is_rival}
+use Rattle.pg_dyn.specs.Message.{Leaf, Part, Place, places, key_cmp}
+use Rattle.pg_dyn.specs.Content.{is_rival}
 use Rattle.pg_dyn.specs.Encoding.{child_type}
-use Rattle.pg_dyn.specs.Kept.{Kept, ends, holds, type_of, message_of}
-use Rattle.pg_dyn.specs.Seen.{leaf_of, value_onto, items_onto, entries_onto, content_onto, fields_onto, Rises, IsFilled, IsKey, HasKeys}
+use Rattle.pg_dyn.specs.Kept.{Kept, KeptItem, ends, holds, type_of, message_of}
+use Rattle.pg_dyn.specs.Seen.{leaf_of, content_seen, item_seen, value_onto, items_onto, entries_onto, content_onto, fields_onto, Rises, IsFilled, IsKey, HasKeys}
 use Rattle.pg_dyn.specs.Belonging.{KeyFits, MayFollow, ComesBefore, IsPart, IsUnknown, IsMessage}
 use Rattle.pg_dyn.specs.Fits.{Fits, PartsAgree, is_listed, is_listed_by}
+use Rattle.pg_dyn.specs.PartsFit.{FieldHolds, HoldsItem, IsPartOf}
 use Rattle.pg_dyn.specs.ScalarItems.{IsItemOf}
 use Rattle.pg_dyn.specs.ContentFits.{ItemFits, KeysRise, ContentFits, HoldsContent, AreApart, NoneRivals, FitsByContents}
 use Rattle.pg_dyn.proofs.Belonging.{child_type_is, fields-IsType}
 use Rattle.pg_dyn.proofs.KeptParts.{unknown_of-items, unknown_of-entries, fields_keep}
-use Rattle.pg_dyn.proofs.Lists.{each_weaker, each-append, each_at, each_before, each_after}
+use Rattle.pg_dyn.proofs.Lists.{each_weaker, each_at, each_before, each_after}
 use Rattle.pg_dyn.proofs.ItemLeaves.{in_range, item_of_range, ZeroFits, zero_of_child, leaf_to, leaf_back, child_of}
+use Rattle.pg_dyn.proofs.Fields.{field_of}
+use Rattle.pg_dyn.proofs.PartsToFits.{HoldsParts, contents_whole}
+use Rattle.pg_dyn.proofs.ReplacingLaws.{fields_from}
 use Rattle.pg_dyn.proofs.Splitting.{found_number}
 
 -- Where parts stand.
@@ -54,9 +57,6 @@ places-entries_onto : (n : ℕ) (es : List (Value × Value)) (later : Kept) → 
 places-entries_onto n [] later = refl
 places-entries_onto n (e ∷ es) later = places-value_onto n (Some (leaf_of e.0)) false e.1 (entries_onto n es later) ∙ ap (λ ps. key_place n e ∷ ps) (places-entries_onto n es later)
 
-pub own_rival : (f : FieldShape) → is_rival f f ≡ false
-own_rival f = ap (λ b. same_oneof f.oneof f.oneof && not b) (eq-eqb f.number f.number refl) ∙ and-false (same_oneof f.oneof f.oneof)
-
 module _ (shape : Shape) (type : TypeId) where
   abbrev pub Whole : Kept → Type 0
   Whole m = IsMessage shape type (message_of m) × PartsAgree shape m
@@ -73,34 +73,14 @@ module _ (shape : Shape) (type : TypeId) where
   Here n k l v later =
       (part : IsPart (fields shape type) n k (places (message_of later))) × (is_repeated part.field.presence ≡ l) × ItemFits shape part.field.element v × ZeroFits part.field.presence v
 
-  listed_is : (n : ℕ) (l : Bool) (later : Kept) (f : FieldShape) → type_of later ≡ type → field_at (fields shape type) n ≡ Some f → is_repeated f.presence ≡ l → is_listed (fields shape (type_of later)) n ≡ l
-  listed_is n l later f same found is = ap (λ t. is_listed (fields shape t) n) same ∙ ap is_listed_by found ∙ is
-
   listed_back : (n : ℕ) (l : Bool) (later : Kept) (f : FieldShape) → type_of later ≡ type → field_at (fields shape type) n ≡ Some f → is_listed (fields shape (type_of later)) n ≡ l → is_repeated f.presence ≡ l
   listed_back n l later f same found is = sym (ap (λ t. is_listed (fields shape t) n) same ∙ ap is_listed_by found) ∙ is
-
-  leaf_onto : (n : ℕ) (k : Option Leaf) (l : Bool) (v : Value) (later : Kept) → IsKey v → type_of later ≡ type → Here n k l v later → Whole later → Whole (holds n k l (leaf_of v) later)
-  leaf_onto n k l v later key same (part, listed, item, zero) whole =
-      ((part, leaf_to shape part.field.number part.field.presence part.field.element part.field.oneof v key item zero, whole.0), (listed_is n l later part.field same part.found listed, whole.1))
 
   leaf_off : (n : ℕ) (k : Option Leaf) (l : Bool) (v : Value) (later : Kept) → IsKey v → type_of later ≡ type → Whole (holds n k l (leaf_of v) later) → Here n k l v later × Whole later
   leaf_off n k l v later key same h =
       let part = h.0.0 in
       let fits = leaf_back shape part.field.number part.field.presence part.field.element part.field.oneof v key h.0.1 in
       ((part, listed_back n l later part.field same part.found h.1.0, fits.0, fits.1), (h.0.2, h.1.1))
-
-  pub value_to : (n : ℕ) (k : Option Leaf) (l : Bool) (v : Value) (later : Kept) → type_of later ≡ type → Here n k l v later → Whole later → Whole (value_onto n k l v later)
-  value_to n k l (values.Int x) later same here whole = leaf_onto n k l (values.Int x) later tt same here whole
-  value_to n k l (values.F32 x) later same here whole = leaf_onto n k l (values.F32 x) later tt same here whole
-  value_to n k l (values.F64 x) later same here whole = leaf_onto n k l (values.F64 x) later tt same here whole
-  value_to n k l (values.Text x) later same here whole = leaf_onto n k l (values.Text x) later tt same here whole
-  value_to n k l (values.Bytes x) later same here whole = leaf_onto n k l (values.Bytes x) later tt same here whole
-  value_to n k l (values.Msg child) later same (part, listed, item, zero) whole =
-      let (t, is, fits, of_type) = child_of shape part.field.element child item in
-      let agrees : child_type (fields shape (type_of later)) n ≡ type_of child.value = ap (λ x. child_type (fields shape x) n) same ∙ child_type_is (fields shape type) n part.field t part.found is ∙ sym of_type in (
-        (part, t, is, subst (λ x. IsMessage shape x (message_of child.value)) of_type fits.is_message, whole.0),
-        (listed_is n l later part.field same part.found listed, agrees, fits.parts_agree, whole.1),
-      )
 
   pub value_back : IsShape shape → (n : ℕ) (k : Option Leaf) (l : Bool) (v : Value) (later : Kept) → type_of later ≡ type → Whole (value_onto n k l v later) → Here n k l v later × Whole later
   value_back is_shape n k l (values.Int x) later same h = leaf_off n k l (values.Int x) later tt same h
@@ -123,41 +103,8 @@ module _ (shape : Shape) (type : TypeId) where
         (h.0.4, h.1.3),
       )
 
-  -- The places behind a part: of its own field, or of a later one that is no rival.
-
-  abbrev Own : ℕ → FieldShape → Option Leaf → Place → Type 0
-  Own n f k p = (p.number ≡ n) × MayFollow f.presence k p.key
-
   abbrev NotRival : FieldShape → ℕ → Type 0
   NotRival f number = (g : FieldShape) → field_at (fields shape type) number ≡ Some g → is_rival f g ≡ false
-
-  abbrev Beyond : ℕ → FieldShape → ℕ → Type 0
-  Beyond n f number = (n < number) × NotRival f number
-
-  abbrev Behind : ℕ → FieldShape → Option Leaf → Place → Type 0
-  Behind n f k p = Own n f k p ⊎ Beyond n f p.number
-
-  make_here : (n : ℕ) (k : Option Leaf) (l : Bool) (v : Value) (f : FieldShape) (later : Kept) → field_at (fields shape type) n ≡ Some f → KeyFits f.presence k → AllByRecursion (Behind n f k) (places (message_of later))
-      → is_repeated f.presence ≡ l → ItemFits shape f.element v → ZeroFits f.presence v → Here n k l v later
-  make_here n k l v f later found key each listed item zero = (
-    record {
-      field = f;
-      found = found;
-      key_fits = key;
-      before = each_weaker (Behind n f k) (λ (p : Place). (f.number < p.number) ⊎ ((f.number ≡ p.number) × MayFollow f.presence k p.key))
-          (λ p. ⊎_elim (λ own. inr (number ∙ sym own.0, own.1)) (λ far. let low : f.number < p.number = omega (arith, far.0, number) in inl low)) (places (message_of later)) each;
-      alone = each_weaker (Behind n f k) (λ (p : Place). NotRival f p.number) (λ p. ⊎_elim (own_alone p) (λ far. far.1)) (places (message_of later)) each;
-    },
-    listed,
-    item,
-    zero,
-  )
-    where
-      number : f.number ≡ n
-      number = found_number (fields shape type) n f found
-
-      own_alone : (p : Place) → Own n f k p → NotRival f p.number
-      own_alone p own g there = subst (λ x. is_rival f x ≡ false) (same_found n f g found (ap (field_at (fields shape type)) (sym own.0) ∙ there)) (own_rival f)
 
   -- what each shape of a content says of its field's presence
   one_gives : (p : Presence) (e : Element) (v : Value) → ContentFits shape p e (contents.One v) → KeyFits p None × (is_repeated p ≡ false) × ItemFits shape e v × ZeroFits p v
@@ -216,68 +163,79 @@ module _ (shape : Shape) (type : TypeId) where
 
   -- From the contents to the message.
 
-  module _ (n : ℕ) (f : FieldShape) (found : field_at (fields shape type) n ≡ Some f) (later : Kept) (same : type_of later ≡ type) (beyond : AllByRecursion (λ (p : Place). Beyond n f p.number) (places (message_of later))) (whole : Whole later) where
-    items_to : is_repeated f.presence ≡ true → (vs : List Value) → AllByRecursion (ItemFits shape f.element) vs → Whole (items_onto n vs later)
-    items_to listed [] h = whole
-    items_to listed (v ∷ vs) h =
-        value_to n None true v (items_onto n vs later) ((unknown_of-items n vs later).1 ∙ same)
-        (make_here n None true v f (items_onto n vs later) found (keyless f.presence listed) (subst (AllByRecursion (Behind n f None)) (sym (places-items_onto n vs later)) behind) listed h.0 (zero_listed f.presence v listed))
-        (items_to listed vs h.1)
+  item_holds : (n : ℕ) (p : Presence) (e : Element) (o : Option ℕ) (l : Bool) (v : Value) → is_repeated p ≡ l → ItemFits shape e v → ZeroFits p v
+      → HoldsItem shape (field_of n p e o) (item_seen l v)
+  item_holds n p e o l (values.Int x) listed item zero = (listed, leaf_to shape n p e o (values.Int x) tt item zero)
+  item_holds n p e o l (values.F32 x) listed item zero = (listed, leaf_to shape n p e o (values.F32 x) tt item zero)
+  item_holds n p e o l (values.F64 x) listed item zero = (listed, leaf_to shape n p e o (values.F64 x) tt item zero)
+  item_holds n p e o l (values.Text x) listed item zero = (listed, leaf_to shape n p e o (values.Text x) tt item zero)
+  item_holds n p e o l (values.Bytes x) listed item zero = (listed, leaf_to shape n p e o (values.Bytes x) tt item zero)
+  item_holds n p e o l (values.Msg child) listed item zero =
+      let (t, is, fits, of_type) = child_of shape e child item in (listed, fits, is ∙ ap elements.Message (sym of_type))
+
+  module _ (n : ℕ) (f : FieldShape) (number : n ≡ f.number) where
+    one_part : (k : Option Leaf) (l : Bool) (v : Value) → KeyFits f.presence k → is_repeated f.presence ≡ l → ItemFits shape f.element v
+        → ZeroFits f.presence v → IsPartOf shape f (record { number = n; key = k; item = item_seen l v })
+    one_part k l v key listed item zero = record {
+      number_is = number;
+      key_fits = key;
+      item = item_holds f.number f.presence f.element f.oneof l v listed item zero;
+    }
+
+    items_hold : is_repeated f.presence ≡ true → (vs : List Value) → AllByRecursion (ItemFits shape f.element) vs
+        → FieldHolds shape f (map (λ value. record { number = n; key = None; item = item_seen true value }) vs)
+    items_hold listed [] h = record { each = tt; in_order = tt }
+    items_hold listed (v ∷ vs) h =
+        let rest = items_hold listed vs h.1 in
+        record {
+          each = (one_part None true v (keyless f.presence listed) listed h.0 (zero_listed f.presence v listed), rest.each);
+          in_order = (behind vs, rest.in_order);
+        }
       where
-        owns : (xs : List Value) → AllByRecursion (Behind n f None) (map (λ (x : Value). place_at n None) xs)
-        owns [] = tt
-        owns (x ∷ xs) = (inl (refl, follows f.presence listed), owns xs)
+        behind : (xs : List Value)
+            → AllByRecursion (λ (q : Part KeptItem). MayFollow f.presence None q.key) (map (λ value. record { number = n; key = None; item = item_seen true value }) xs)
+        behind [] = tt
+        behind (x ∷ xs) = (follows f.presence listed, behind xs)
 
-        behind : AllByRecursion (Behind n f None) (map (λ (x : Value). place_at n None) vs ++ places (message_of later))
-        behind = each-append (Behind n f None) (map (λ (x : Value). place_at n None) vs) (places (message_of later)) (owns vs)
-            (each_weaker (λ (p : Place). Beyond n f p.number) (Behind n f None) (λ p b. inr b) (places (message_of later)) beyond)
-
-    entries_to : (key : Scalar) → f.presence ≡ presences.Map key → (es : List (Value × Value)) → AllByRecursion (EntryFits key f.element) es → KeysRise es → Whole (entries_onto n es later)
-    entries_to key is [] h rise = whole
-    entries_to key is (e ∷ es) h rise =
-        value_to n (Some (leaf_of e.0)) false e.1 (entries_onto n es later) ((unknown_of-entries n es later).1 ∙ same)
-        (make_here n (Some (leaf_of e.0)) false e.1 f (entries_onto n es later) found (subst (λ p. KeyFits p (Some (leaf_of e.0))) (sym is) (in_range key e.0 h.0.0)) (subst (AllByRecursion (Behind n f (Some (leaf_of e.0)))) (sym (places-entries_onto n es later)) behind)
-        (ap is_repeated is) h.0.1 (subst (λ p. ZeroFits p e.1) (sym is) tt)) (entries_to key is es h.1 rise.1)
+    entries_hold : (key : Scalar) → f.presence ≡ presences.Map key → (es : List (Value × Value)) → AllByRecursion (EntryFits key f.element) es → KeysRise es
+        → FieldHolds shape f (map (λ (e : Value × Value). record { number = n; key = Some (leaf_of e.0); item = item_seen false e.1 }) es)
+    entries_hold key is [] h rise = record { each = tt; in_order = tt }
+    entries_hold key is (e ∷ es) h rise =
+        let rest = entries_hold key is es h.1 rise.1 in
+        record {
+          each = (
+            one_part (Some (leaf_of e.0)) false e.1 (subst (λ p. KeyFits p (Some (leaf_of e.0))) (sym is) (in_range key e.0 h.0.0)) (ap is_repeated is) h.0.1
+                (subst (λ p. ZeroFits p e.1) (sym is) tt),
+            rest.each,
+          );
+          in_order = (behind es rise.0, rest.in_order);
+        }
       where
-        owns : (xs : List (Value × Value)) → AllByRecursion (λ (x : Value × Value). key_cmp (leaf_of e.0) (leaf_of x.0) ≡ Less) xs → AllByRecursion (Behind n f (Some (leaf_of e.0))) (map (key_place n) xs)
-        owns [] k = tt
-        owns (x ∷ xs) k = (inl (refl, subst (λ p. MayFollow p (Some (leaf_of e.0)) (Some (leaf_of x.0))) (sym is) k.0), owns xs k.1)
+        behind : (xs : List (Value × Value)) → AllByRecursion (λ (x : Value × Value). key_cmp (leaf_of e.0) (leaf_of x.0) ≡ Less) xs
+            → AllByRecursion (λ (q : Part KeptItem). MayFollow f.presence (Some (leaf_of e.0)) q.key)
+            (map (λ (x : Value × Value). record { number = n; key = Some (leaf_of x.0); item = item_seen false x.1 }) xs)
+        behind [] k = tt
+        behind (x ∷ xs) k = (subst (λ p. MayFollow p (Some (leaf_of e.0)) (Some (leaf_of x.0))) (sym is) k.0, behind xs k.1)
 
-        behind : AllByRecursion (Behind n f (Some (leaf_of e.0))) (map (key_place n) es ++ places (message_of later))
-        behind = each-append (Behind n f (Some (leaf_of e.0))) (map (key_place n) es) (places (message_of later)) (owns es rise.0)
-            (each_weaker (λ (p : Place). Beyond n f p.number) (Behind n f (Some (leaf_of e.0))) (λ p b. inr b) (places (message_of later)) beyond)
-
-    content_to : (c : Content) → ContentFits shape f.presence f.element c → Whole (content_onto n c later)
-    content_to (contents.One v) h =
+    content_holds : (c : Content) → ContentFits shape f.presence f.element c → FieldHolds shape f (content_seen n c)
+    content_holds (contents.One v) h =
         let k = one_gives f.presence f.element v h in
-        value_to n None false v later same (make_here n None false v f later found k.0 (each_weaker (λ (p : Place). Beyond n f p.number) (Behind n f None) (λ p b. inr b) (places (message_of later)) beyond) k.1 k.2 k.3) whole
-    content_to (contents.Many vs) h = let k = many_gives f.presence f.element (contents.Many vs) vs refl h in items_to k.0 vs.items k.1
-    content_to (contents.Map es) h = let k = map_gives f.presence f.element (contents.Map es) es refl h in entries_to k.0 k.1 es.items k.2 k.3
+        record { each = (one_part None false v k.0 k.1 k.2 k.3, tt); in_order = (tt, tt) }
+    content_holds (contents.Many vs) h = let k = many_gives f.presence f.element (contents.Many vs) vs refl h in items_hold k.0 vs.items k.1
+    content_holds (contents.Map es) h = let k = map_gives f.presence f.element (contents.Map es) es refl h in entries_hold k.0 k.1 es.items k.2 k.3
+
+  holds_parts : (c : ℕ × Content) → HoldsContent shape type c → HoldsParts content_seen shape type c
+  holds_parts c h = record {
+    field = h.field;
+    found = h.found;
+    holds = content_holds c.0 h.field (sym (found_number (fields shape type) c.0 h.field h.found)) c.1 h.fits;
+  }
 
   abbrev shown : List (ℕ × Content) → List WireRecord → Kept
   shown ms us = fields_onto ms (ends type us)
 
-  -- each place is of one of the contents' numbers, and each number has a place
+  -- each of the contents' numbers has a place
   module _ (Q : ℕ → Type 0) where
-    own_places : (n : ℕ) (c : Content) (later : Kept) → Q n → AllByRecursion (λ (p : Place). Q p.number) (places (message_of later)) → AllByRecursion (λ (p : Place). Q p.number) (places (message_of (content_onto n c later)))
-    own_places n (contents.One v) later q rest = subst (AllByRecursion (λ (p : Place). Q p.number)) (sym (places-value_onto n None false v later)) (q, rest)
-    own_places n (contents.Many vs) later q rest =
-        subst (AllByRecursion (λ (p : Place). Q p.number)) (sym (places-items_onto n vs.items later)) (each-append (λ (p : Place). Q p.number) (map (λ (x : Value). place_at n None) vs.items) (places (message_of later)) (owns vs.items) rest)
-      where
-        owns : (xs : List Value) → AllByRecursion (λ (p : Place). Q p.number) (map (λ (x : Value). place_at n None) xs)
-        owns [] = tt
-        owns (x ∷ xs) = (q, owns xs)
-    own_places n (contents.Map es) later q rest =
-        subst (AllByRecursion (λ (p : Place). Q p.number)) (sym (places-entries_onto n es.items later)) (each-append (λ (p : Place). Q p.number) (map (key_place n) es.items) (places (message_of later)) (owns es.items) rest)
-      where
-        owns : (xs : List (Value × Value)) → AllByRecursion (λ (p : Place). Q p.number) (map (key_place n) xs)
-        owns [] = tt
-        owns (x ∷ xs) = (q, owns xs)
-
-    places_from : (ms : List (ℕ × Content)) (us : List WireRecord) → AllByRecursion (λ (m : ℕ × Content). Q m.0) ms → AllByRecursion (λ (p : Place). Q p.number) (places (message_of (shown ms us)))
-    places_from [] us h = tt
-    places_from (m ∷ ms) us h = own_places m.0 m.1 (shown ms us) h.0 (places_from ms us h.1)
-
     places_off : (n : ℕ) (c : Content) (later : Kept) → IsFilled c → AllByRecursion (λ (p : Place). Q p.number) (places (message_of (content_onto n c later))) → Q n × AllByRecursion (λ (p : Place). Q p.number) (places (message_of later))
     places_off n (contents.One v) later filled h = let k = subst (AllByRecursion (λ (p : Place). Q p.number)) (places-value_onto n None false v later) h in (k.0, k.1)
     places_off n (contents.Many vs) later filled h =
@@ -299,17 +257,11 @@ module _ (shape : Shape) (type : TypeId) where
     numbers_from [] us filled h = tt
     numbers_from (m ∷ ms) us filled h = let k = places_off m.0 m.1 (shown ms us) filled.0 h in (k.0, numbers_from ms us filled.1 k.1)
 
-  each_both' : {A : Type 0} (P R : A → Type 0) (xs : List A) → AllByRecursion P xs → AllByRecursion R xs → AllByRecursion (λ x. P x × R x) xs
-  each_both' P R [] p r = tt
-  each_both' P R (x ∷ xs) p r = ((p.0, r.0), each_both' P R xs p.1 r.1)
-
-  pub contents_to : (ms : List (ℕ × Content)) (us : List WireRecord) → Rises ms → AllByRecursion (HoldsContent shape type) ms → NoneRivals (fields shape type) ms → AllByRecursion (IsUnknown (fields shape type)) us → Whole (shown ms us)
-  contents_to [] us rises each apart unknown = (unknown, tt)
-  contents_to (m ∷ ms) us rises each apart unknown =
-      let f = each.0.field in
-      let far = each_weaker (λ (l : ℕ × Content). (m.0 < l.0) × AreApart (fields shape type) m.0 l.0) (λ (l : ℕ × Content). Beyond m.0 f l.0) (λ l k. (k.0, λ g there. k.1 f g each.0.found there)) ms
-      (each_both' (λ (l : ℕ × Content). m.0 < l.0) (λ (l : ℕ × Content). AreApart (fields shape type) m.0 l.0) ms rises.0 apart.0) in
-      content_to m.0 f each.0.found (shown ms us) (fields_keep ms (ends type us)).1 (places_from (Beyond m.0 f) ms us far) (contents_to ms us rises.1 each.1 apart.1 unknown) m.1 each.0.fits
+  contents_to : (ms : List (ℕ × Content)) (us : List WireRecord) → Rises ms → AllByRecursion (HoldsContent shape type) ms → NoneRivals (fields shape type) ms
+      → AllByRecursion (IsUnknown (fields shape type)) us → Whole (shown ms us)
+  contents_to ms us rises each apart unknown =
+      subst Whole (sym (fields_from ms (ends type us)))
+      (contents_whole content_seen shape type ms us rises (each_weaker (HoldsContent shape type) (HoldsParts content_seen shape type) holds_parts ms each) apart unknown)
 
   -- And back.
 

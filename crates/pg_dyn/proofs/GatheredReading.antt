@@ -1,12 +1,12 @@
 -- What gathered records are read as: those that count, by rising number, say what all of them say.
-use Rattle.std.proofs.Common.{◌≡◌, ℕ, List, [], ◌∷◌, map, filter, Bool, true, false, not, cond, nat_eq, Some, option_and_then, refl, ap, ap₂, sym, subst, ◌∙◌, eq-eqb}
+use Rattle.std.proofs.Common.{◌≡◌, ◌<◌, ℕ, List, [], ◌∷◌, length, map, filter, Bool, true, false, not, cond, nat_eq, Some, option_and_then, refl, ap, ap₂, sym, subst, ◌∙◌, eq-eqb}
 use Rattle.std.specs.List.{AllByRecursion}
 use Rattle.pg_schema.specs.declared.field.TypeId.{TypeId}
-use Rattle.pg_schema.specs.Shape.{Shape, FieldShape, IsShape, fields, field_at, Rising}
+use Rattle.pg_schema.specs.Shape.{Shape, FieldShape, fields, field_at, Rising}
 use Rattle.pg_wire.specs.declared.record.Record.{Record}
 use Rattle.pg_wire.specs.Reads.{seen_record}
 use Rattle.pg_wire.specs.Records.{WireRecord, IsRecord}
-use Rattle.pg_dyn.specs.declared.message.Content.{Content}
+use Rattle.pg_dyn.specs.declared.message_ref.ContentRef.{ContentRef}
 use Rattle.pg_dyn.specs.declared.reading.gathering.Gathered.{Gathered}
 use Rattle.pg_dyn.specs.Belonging.{IsUnknown}
 use Rattle.pg_dyn.specs.ByFields.{AllCount, RecordsGood}
@@ -17,16 +17,17 @@ use Rattle.pg_dyn.specs.Gathering.{AreByNumber, AreGathered, AreStreaks, IsCount
 use Rattle.pg_dyn.specs.Kept.{ends, message_of}
 use Rattle.pg_dyn.specs.Message.{Message, message_from, parts}
 use Rattle.pg_dyn.specs.Optional.{all_some, joined}
-use Rattle.pg_dyn.specs.Seen.{HasKeys, IsFilled, Rises, fields_onto, record_seen}
+use Rattle.pg_dyn.specs.Borrowed.{fields_onto}
 use Rattle.pg_dyn.specs.Steps.{part_of}
-use Rattle.pg_dyn.proofs.FitsByContents.{contents_from_fits, fits_from_contents}
+use Rattle.pg_dyn.proofs.PartsToFits.{fits_with_unknown}
 use Rattle.pg_dyn.proofs.Gathered.{all_counted, each_by_number, known_counted, known_taken, seen_each, sorted_all_count, sorted_counted}
 use Rattle.pg_dyn.proofs.GoodRecords.{IsGood, each_good, good_each, good_unknown}
 use Rattle.pg_dyn.proofs.Joining.{each_after_last}
 use Rattle.pg_dyn.proofs.Lists.{each-filter, each-map, each_filtered, each_of_all, each_unfiltered, each_weaker, map_same}
 use Rattle.pg_dyn.proofs.RecordsRead.{built, pieces_of}
 use Rattle.pg_dyn.proofs.ReadSplits.{parts-message_from}
-use Rattle.pg_dyn.proofs.ReplacingLaws.{all_seen, fields_from, message_of-kept_from}
+use Rattle.pg_dyn.proofs.ReplacingLaws.{message_of-kept_from}
+use Rattle.pg_dyn.specs.Borrowed.{all_seen}
 use Rattle.pg_dyn.proofs.Splitting.{each_found, found_number}
 
 -- records of which each field counts the same as of others, and none of which is unknown, say the others' message without the unknown
@@ -115,21 +116,16 @@ module _ (shape : Shape) (levels : ℕ) (type : TypeId) (rs : List WireRecord) (
       (each_filtered (IsGood shape levels (fields shape type)) (λ r. not (is_unknown (fields shape type) r)) rs
       (good_each shape levels (fields shape type) rs k)))
 
-  pub unknown_are : AllByRecursion (IsUnknown (fields shape type)) (map record_seen g.unknown.items)
+  pub unknown_are : AllByRecursion (IsUnknown (fields shape type)) (map seen_record g.unknown.items)
   unknown_are =
       subst (AllByRecursion (IsUnknown (fields shape type))) (sym h.unknown)
       (each_weaker (λ r. IsRecord r × (is_unknown (fields shape type) r ≡ true)) (IsUnknown (fields shape type))
       (λ r k. record { is_record = k.0; not_accepted = k.1 }) (filter (is_unknown (fields shape type)) rs)
       (each-filter IsRecord (is_unknown (fields shape type)) rs h.are_records))
 
-  pub fits_of_all : IsShape shape → (cs : List (ℕ × Content)) → Rises cs → AllByRecursion (λ (c : ℕ × Content). IsFilled c.1) cs
-      → AllByRecursion (λ (c : ℕ × Content). HasKeys c.1) cs
-      → Fits shape (fields_onto cs (ends type [])) → Fits shape (fields_onto cs (ends type (map record_seen g.unknown.items)))
-  fits_of_all is_shape cs rises filled keys fits =
-      let us = map record_seen g.unknown.items in
-      let k = contents_from_fits shape type cs [] (fields_onto cs (ends type [])) refl is_shape filled keys fits in
-      fits_from_contents shape type cs us (fields_onto cs (ends type us)) refl rises
-      (record { type_is_there = k.type_is_there; each = k.each; apart = k.apart; unknown = unknown_are })
+  pub fits_of_all : (cs : List (ℕ × ContentRef)) → type.index < length shape → Fits shape (fields_onto cs (ends type []))
+      → Fits shape (fields_onto cs (ends type (map seen_record g.unknown.items)))
+  fits_of_all cs there fits = fits_with_unknown shape type (all_seen cs) [] (map seen_record g.unknown.items) there unknown_are fits
 
   module _ (rising : Rising (fields shape type)) (left sorted : List Record) (is_left : IsLeft shape levels (fields shape type) rs left)
       (by : AreByNumber left sorted) where
@@ -174,15 +170,15 @@ module _ (shape : Shape) (levels : ℕ) (type : TypeId) (rs : List WireRecord) (
         not_not true e = refl
         not_not false e = absurd (cc)
 
-    pub read_of_all : (cs : List (ℕ × Content)) → RecordsGood shape levels (fields shape type) (map seen_record sorted)
+    pub read_of_all : (cs : List (ℕ × ContentRef)) → RecordsGood shape levels (fields shape type) (map seen_record sorted)
         → read_records (dec shape) (fields shape type) (map seen_record sorted) ≡ Some (message_of (fields_onto cs (ends type [])))
-        → read_records (dec shape) (fields shape type) rs ≡ Some (message_of (fields_onto cs (ends type (map record_seen g.unknown.items))))
+        → read_records (dec shape) (fields shape type) rs ≡ Some (message_of (fields_onto cs (ends type (map seen_record g.unknown.items))))
     read_of_all cs good read =
         let fs = fields shape type in
-        let us = map record_seen g.unknown.items in
+        let us = map seen_record g.unknown.items in
         let sorted_are = sorted_counted fs rising (known_of fs rs) left sorted is_left.counted by in
         let message : (vs : List WireRecord) → message_of (fields_onto cs (ends type vs)) ≡ message_from (map part_of (all_seen cs)) vs =
-        λ vs. ap message_of (fields_from cs (ends type vs)) ∙ message_of-kept_from type (all_seen cs) vs in
+        λ vs. message_of-kept_from type (all_seen cs) vs in
         rearranged (dec shape) fs rs (map seen_record sorted) (message_of (fields_onto cs (ends type []))) rising
         (λ f found. all_count.count f found ∙ sorted_are.which f found ∙ known_counted fs f found rs) (good_after good).0 read
         ∙ ap₂ (λ ps vs. Some (message_from ps vs)) (ap parts (message []) ∙ (parts-message_from (map part_of (all_seen cs)) []).0) (sym h.unknown)

@@ -1,5 +1,5 @@
 -- One more record is gathered.
-use Rattle.std.proofs.Common.{◌≡◌, ℕ, List, [], ◌∷◌, ◌++◌, length, map, filter, true, false, not, Result, Ok, ap, ap₂, sym, subst, ◌∙◌, append_assoc}
+use Rattle.std.proofs.Common.{◌≡◌, ℕ, List, [], ◌∷◌, ◌++◌, length, map, filter, true, false, not, Result, Ok, ap, sym, subst, ◌∙◌, append_assoc}
 use Rattle.std.proofs.lemmas.List.{append-nil, length-map, map-append}
 use Rattle.pg_schema.specs.declared.field.TypeId.{TypeId}
 use Rattle.pg_schema.specs.Shape.{Shape, FieldShape, fields}
@@ -7,11 +7,9 @@ use Rattle.pg_wire.specs.declared.error.WireError.{WireError}
 use Rattle.pg_wire.specs.declared.record.Record.{Record}
 use Rattle.pg_wire.specs.Reads.{results, seen_record}
 use Rattle.pg_wire.specs.Records.{WireRecord, IsRecord, records_of}
-use Rattle.pg_dyn.specs.declared.message.UnknownRecord.{UnknownRecord}
 use Rattle.pg_dyn.specs.declared.reading.gathering.Gathered.{Gathered}
 use Rattle.pg_dyn.specs.Content.{is_unknown}
 use Rattle.pg_dyn.specs.Gathering.{AreGathered, AreStreaks, known_of}
-use Rattle.pg_dyn.specs.Seen.{record_seen}
 use Rattle.pg_dyn.proofs.Lists.{each-append, filter-append'}
 use Rattle.pg_dyn.proofs.RecordFronts.{Front, all_read, none_yet, one_read}
 
@@ -45,19 +43,20 @@ module _ (shape : Shape) (type : TypeId) (rs : List WireRecord) (old new : Gathe
         are_records = each-append IsRecord rs (r ∷ []) h.are_records (is, tt);
         known = ap (map seen_record) items ∙ map-append seen_record old.known.items (found ∷ []) ∙ ap (λ xs. xs ++ r ∷ []) h.known
             ∙ sym (known_more fs rs r known);
-        unknown = ap (λ (us : _). map record_seen us.items) same ∙ h.unknown ∙ sym (unknown_same fs rs r known);
+        unknown = ap (λ (us : _). map seen_record us.items) same ∙ h.unknown ∙ sym (unknown_same fs rs r known);
         streaks = subst (λ xs. AreStreaks fs xs new.streaks) (sym (known_more fs rs r known)) streaks;
       }
 
-  pub unknown_added : (r : WireRecord) → IsRecord r → is_unknown (fields shape type) r ≡ true → (kept : UnknownRecord) → record_seen kept ≡ r
-      → new.unknown.items ≡ old.unknown.items ++ kept ∷ [] → new.known ≡ old.known → new.streaks ≡ old.streaks
-      → AreGathered shape type (rs ++ r ∷ []) new
-  unknown_added r is unknown kept seen items same streaks =
+  pub unknown_added : (found : Record) → IsRecord (seen_record found) → is_unknown (fields shape type) (seen_record found) ≡ true
+      → new.unknown.items ≡ old.unknown.items ++ found ∷ [] → new.known ≡ old.known → new.streaks ≡ old.streaks
+      → AreGathered shape type (rs ++ seen_record found ∷ []) new
+  unknown_added found is unknown items same streaks =
+      let r = seen_record found in
       let fs = fields shape type in
       record {
         are_records = each-append IsRecord rs (r ∷ []) h.are_records (is, tt);
         known = ap (λ (us : _). map seen_record us.items) same ∙ h.known ∙ sym (known_same fs rs r unknown);
-        unknown = ap (map record_seen) items ∙ map-append record_seen old.unknown.items (kept ∷ []) ∙ ap₂ (λ xs x. xs ++ x ∷ []) h.unknown seen
+        unknown = ap (map seen_record) items ∙ map-append seen_record old.unknown.items (found ∷ []) ∙ ap (λ xs. xs ++ r ∷ []) h.unknown
             ∙ sym (unknown_more fs rs r unknown);
         streaks = subst (λ xs. AreStreaks fs xs new.streaks) (sym (known_same fs rs r unknown))
             (subst (AreStreaks fs (known_of fs rs)) (sym streaks) h.streaks);

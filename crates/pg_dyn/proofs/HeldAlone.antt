@@ -9,7 +9,7 @@ use Rattle.pg_dyn.specs.ContentFits.{AreApart, NoneRivals}
 use Rattle.pg_dyn.specs.FieldList.{remove_field}
 use Rattle.pg_dyn.specs.Replacing.{is_rival_number}
 use Rattle.pg_dyn.specs.Seen.{Rises}
-use Rattle.pg_dyn.proofs.FitsByContents.{own_rival}
+use Rattle.pg_dyn.proofs.PartsToFits.{own_rival}
 use Rattle.pg_dyn.proofs.Flat.{is_rival_sym}
 use Rattle.pg_dyn.proofs.KeptParts.{at_index}
 use Rattle.pg_dyn.proofs.Lists.{each_weaker}

@@ -1,6 +1,6 @@
 -- Entries in the order of their keys.
 use Rattle.std.proofs.Common.{Bor, ◌≡◌, ℕ, ℤ, zero, suc, ◌<◌, ◌≤◌, ◌+◌, List, [], ◌∷◌, length, map, filter, get_or, Bool, true, false, true≢false, cond, ◌⊎◌, inl, inr, ⊎_elim, refl, ap, ap₂, sym, subst, ◌∙◌, arith, add-one}
-use Rattle.std.specs.Prelude.{⊤, ◌<ℤ◌, sum_by}
+use Rattle.std.specs.Prelude.{◌<ℤ◌, sum_by}
 use Rattle.std.specs.List.{AllByRecursion}
 use Rattle.std.specs.List.Sorted.{IsPermutation, IsSortedBy}
 use Rattle.std.specs.Cmp.{IsTotalOrder, IsStrictWeakOrder}
@@ -18,7 +18,7 @@ use Rattle.pg_dyn.specs.declared.message.Value.TheVariants as values
 use Rattle.pg_dyn.specs.Content.{leaf_bytes}
 use Rattle.pg_dyn.specs.ContentFaults.{HasEntryTwice, PassTwice}
 use Rattle.pg_dyn.specs.ContentFits.{KeysRise}
-use Rattle.pg_dyn.specs.KeyOrder.{AreAlike, IsNumber, IsText, number_in, rank_cmp, ranks_below}
+use Rattle.pg_dyn.specs.KeyOrder.{AreAlike, AreSame, IsNumber, IsText, number_in, rank_cmp, ranks_below}
 use Rattle.pg_dyn.specs.Message.{Leaf, Int, F32, F64, Bytes, key_cmp, leaf_eq}
 use Rattle.pg_dyn.specs.Seen.{IsKey, leaf_of}
 use Rattle.pg_dyn.proofs.FitsSteps.{IsBelow, fact_at, rises_from, same_default}
@@ -33,11 +33,6 @@ pub ranks_entries : IsStrictWeakOrder ranks_below
 ranks_entries = ranks_by rank_total (λ (e : Value × Value). leaf_of e.0)
 
 -- Two keys of one kind.
-
-abbrev pub AreSame : Leaf → Leaf → Type 0
-AreSame (Int m) (Int n) = ⊤
-AreSame (Bytes a) (Bytes b) = ⊤
-AreSame k l = ⊥
 
 then_equal : (o : Ordering) → ordering_then o Equal ≡ o
 then_equal Less = refl

@@ -9,13 +9,13 @@ use Rattle.pg_dyn.specs.declared.message.Value.{Value}
 use Rattle.pg_dyn.specs.ContentFaults.{HasEntryTwice}
 use Rattle.pg_dyn.specs.ContentFits.{KeysRise}
 use Rattle.pg_dyn.specs.Kept.{KeptItem}
-use Rattle.pg_dyn.specs.KeyOrder.{AreAlike, IsNumber, IsText}
+use Rattle.pg_dyn.specs.KeyOrder.{AreAlike, AreSame, IsNumber, IsText}
 use Rattle.pg_dyn.specs.Message.{Part, key_cmp, leaf_eq}
 use Rattle.pg_dyn.specs.Seen.{item_seen, leaf_of}
 use Rattle.pg_dyn.specs.Setting.{put_entry, by_rising_key}
 use Rattle.pg_dyn.proofs.FitsSteps.{key_trans}
 use Rattle.pg_dyn.proofs.Standing.{StandsIn, all_in, moved_in, one_in, passes_once}
-use Rattle.pg_dyn.proofs.KeyLaws.{AreSame, compared, key_less_self, later_twice, number_same, text_same}
+use Rattle.pg_dyn.proofs.KeyLaws.{compared, key_less_self, later_twice, number_same, text_same}
 use Rattle.pg_dyn.proofs.Leaves.{leaf_eq_self}
 
 abbrev Entry : Type 0

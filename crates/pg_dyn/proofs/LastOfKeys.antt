@@ -1,26 +1,18 @@
 -- Entries that are put in their places one by one: their keys rise, and of each key the last is there.
-use Rattle.std.proofs.Common.{◌≡◌, List, [], ◌∷◌, fold, filter, Bool, true, false, cond, ◌⊎◌, inl, inr, ⊎_elim, refl, ap, ap₂, sym, subst, ◌∙◌}
-use Rattle.std.specs.Prelude.{⊤}
+use Rattle.std.proofs.Common.{◌≡◌, List, [], ◌∷◌, filter, Bool, true, false, cond, ◌⊎◌, inl, inr, ⊎_elim, refl, ap, ap₂, sym, subst, ◌∙◌}
 use Rattle.std.specs.List.{AllByRecursion}
 use Rattle.std.specs.declared.cmp.Ordering.{Ordering}
 use Rattle.std.specs.declared.cmp.Ordering.TheVariants.{Less, Equal, Greater}
-use Rattle.pg_dyn.specs.KeyOrder.{Rise}
+use Rattle.pg_dyn.specs.KeyOrder.{AreSame, IsOfKind, Rise}
 use Rattle.pg_dyn.specs.Message.{Leaf, Int, F32, F64, Bytes, key_cmp, leaf_eq}
 use Rattle.pg_dyn.specs.Optional.{last_of}
+use Rattle.pg_dyn.specs.Settled as settled
 use Rattle.pg_dyn.proofs.EntryPlaces.{less_from_above}
 use Rattle.pg_dyn.proofs.FitsSteps.{key_trans}
-use Rattle.pg_dyn.proofs.KeyLaws.{AreSame, equal_leaves, key_less_self, rank_is}
+use Rattle.pg_dyn.proofs.KeyLaws.{equal_leaves, key_less_self, rank_is}
 use Rattle.pg_dyn.proofs.Leaves.{leaf_eq_self, same_leaf}
 use Rattle.pg_dyn.proofs.Lists.{each_weaker}
 use Rattle.pg_dyn.proofs.Standing.{StandsIn, one_in}
-
--- Keys that are all numbers, or all texts.
-
-abbrev pub IsOfKind : Bool → Leaf → Type 0
-IsOfKind true (Int n) = ⊤
-IsOfKind true leaf = ⊥
-IsOfKind false (Bytes bytes) = ⊤
-IsOfKind false leaf = ⊥
 
 pub same_kind : (b : Bool) (k l : Leaf) → IsOfKind b k → IsOfKind b l → AreSame k l
 same_kind true (Int m) (Int n) h i = tt
@@ -42,18 +34,11 @@ equal_keys : (b : Bool) (k l : Leaf) → IsOfKind b k → IsOfKind b l → key_c
 equal_keys b k l h i e = let same = same_kind b k l h i in equal_leaves k l same (rank_is k l same ∙ e)
 
 module _ {A : Type 0} (key : A → Leaf) where
-  -- the entry in its place, or in that of the one of its key
   abbrev pub place : A → List A → List A
-  place e [] = e ∷ []
-  place e (x ∷ xs) = at (key_cmp (key e) (key x)) (place e xs)
-    where
-      at : Ordering → List A → List A
-      at Less later = e ∷ x ∷ xs
-      at Equal later = e ∷ xs
-      at Greater later = x ∷ later
+  place e xs = settled.place key e xs
 
   abbrev pub placed : List A → List A → List A
-  placed before es = fold (λ xs e. place e xs) before es
+  placed before es = settled.placed key before es
 
   abbrev pub has_key : Leaf → A → Bool
   has_key k e = leaf_eq (key e) k

@@ -16,28 +16,28 @@ use Rattle.pg_dyn.specs.Content.{by_key, entry_in, entry_part, key_field, leaves
 use Rattle.pg_dyn.specs.FieldLaws.{EntriesRise, LastOfEachKey}
 use Rattle.pg_dyn.specs.Message.{Bytes, Leaf, key_cmp, leaf_eq}
 use Rattle.pg_dyn.specs.Optional.{all_some, first_or, joined, last_of}
-use Rattle.pg_dyn.specs.KeyOrder.{Rise}
-use Rattle.pg_dyn.proofs.LastOfKeys.{IsOfKind, OfKind, last_placed, place, placed, rise_all}
+use Rattle.pg_dyn.specs.KeyOrder.{IsOfKind, Rise}
+use Rattle.pg_dyn.proofs.LastOfKeys.{OfKind, last_placed, place, placed, rise_all}
 use Rattle.pg_dyn.proofs.Lists.{and_then_some, each-append, option_map_some}
 use Rattle.pg_dyn.proofs.ReadSplits.{Gives, all_some_gives}
 
 -- The keys that are read are of one kind.
 
-abbrev kind : Form → Bool
+abbrev pub kind : Form → Bool
 kind (Integer whole) = true
 kind Single = false
 kind Double = false
 kind Text = false
 kind Raw = false
 
-abbrev IsKeyForm : Form → Type 0
+abbrev pub IsKeyForm : Form → Type 0
 IsKeyForm (Integer whole) = ⊤
 IsKeyForm Single = ⊥
 IsKeyForm Double = ⊥
 IsKeyForm Text = ⊤
 IsKeyForm Raw = ⊤
 
-key_form : (s : Scalar) → is_key s ≡ true → IsKeyForm (scalar_form s)
+pub key_form : (s : Scalar) → is_key s ≡ true → IsKeyForm (scalar_form s)
 key_form scalars.Double h = absurd (cc)
 key_form scalars.Float h = absurd (cc)
 key_form scalars.Int32 h = tt

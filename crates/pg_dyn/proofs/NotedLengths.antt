@@ -4,23 +4,20 @@ use Rattle.std.proofs.lemmas.Bool.{ne_eqb}
 use Rattle.std.specs.List.{AllByRecursion}
 use Rattle.pg_schema.specs.declared.field.TypeId.{TypeId}
 use Rattle.pg_schema.specs.declared.field.Element.{Element}
-use Rattle.pg_schema.specs.declared.field.Presence.{Presence}
-use Rattle.pg_schema.specs.declared.field.Presence.TheVariants as presences
 use Rattle.pg_schema.specs.Shape.{Shape, FieldShape, IsShape, fields, field_at}
 use Rattle.pg_wire.specs.Records.{WireRecord}
-use Rattle.pg_dyn.specs.declared.message.Content.{Content}
-use Rattle.pg_dyn.specs.declared.message.Content.TheVariants as contents
-use Rattle.pg_dyn.specs.declared.message.Value.{Value}
-use Rattle.pg_dyn.specs.declared.message.Value.TheVariants as values
-use Rattle.pg_dyn.specs.Message.{Leaf}
+use Rattle.pg_dyn.specs.Message.{Leaf, Part}
 use Rattle.pg_dyn.specs.Coding.{body, form}
-use Rattle.pg_dyn.specs.ContentFits.{ContentFits, HoldsContent}
-use Rattle.pg_dyn.specs.Kept.{Kept, ends}
-use Rattle.pg_dyn.specs.Seen.{IsKey, Rises, content_onto, entries_onto, fields_onto, items_onto, leaf_of, value_onto}
-use Rattle.pg_dyn.specs.Written.{CanBePacked, LeafFits, capped, content_lengths, field_lengths, front_bodies, inner_lengths, is_packed, lengths_behind, lengths_by, packed_body, packed_lengths, row_behind, row_by, value_lengths}
-use Rattle.pg_dyn.proofs.EncodeSteps.{field_is, leaf_is_key, packed_leaves, packed_no_lengths, packs}
-use Rattle.pg_dyn.proofs.KeptParts.{fields_keep}
+use Rattle.pg_dyn.specs.Kept.{Kept, ends, holds, KeptItem, Plain, Msg, type_of, unknown_of}
+use Rattle.pg_dyn.specs.Lending.{AreOf, HoldsParts, IsLone, all_parts, bare, bare_leaf}
+use Rattle.pg_dyn.specs.PartsFit.{IsPartOf}
+use Rattle.pg_dyn.specs.Replacing.{kept_onto, kept_part}
+use Rattle.pg_dyn.specs.Seen.{Rises}
+use Rattle.pg_dyn.specs.Written.{capped, field_lengths, front_bodies, inner_lengths, is_packed, item_lengths, lengths_behind, lengths_by, packed_body, packed_lengths, parts_lengths, row_behind, row_by}
+use Rattle.pg_dyn.proofs.EncodedFields.{held_numbered}
+use Rattle.pg_dyn.proofs.EncodeSteps.{HeldContents, field_is, lone_of_part, packable, packed_no_lengths, packs}
 use Rattle.pg_dyn.proofs.Lists.{each_weaker}
+use Rattle.pg_dyn.proofs.ReplacingLaws.{kept_onto-append}
 use Rattle.pg_dyn.proofs.Splitting.{found_number}
 
 if_same : (b : Bool) → ◌≡◌ {A = List ℕ} (cond b [] []) []
@@ -29,45 +26,26 @@ if_same false = refl
 
 -- The bodies at the front.
 
-value_front : (e : Element) (n k : ℕ) (key : Option Leaf) (l : Bool) (v : Value) (later : Kept) → nat_eq k n ≡ false → front_bodies e n (value_onto k key l v later) ≡ []
-value_front e n k key l (values.Int x) later other = ap (λ b. cond b (body (form e) (leaf_of (values.Int x)) ++ front_bodies e n later) []) other
-value_front e n k key l (values.F32 x) later other = ap (λ b. cond b (body (form e) (leaf_of (values.F32 x)) ++ front_bodies e n later) []) other
-value_front e n k key l (values.F64 x) later other = ap (λ b. cond b (body (form e) (leaf_of (values.F64 x)) ++ front_bodies e n later) []) other
-value_front e n k key l (values.Text x) later other = ap (λ b. cond b (body (form e) (leaf_of (values.Text x)) ++ front_bodies e n later) []) other
-value_front e n k key l (values.Bytes x) later other = ap (λ b. cond b (body (form e) (leaf_of (values.Bytes x)) ++ front_bodies e n later) []) other
-value_front e n k key l (values.Msg x) later other = refl
+other_front : (e : Element) (n k : ℕ) (key : Option Leaf) (item : KeptItem) (later : Kept) → nat_eq k n ≡ false → front_bodies e n (kept_part k key item later) ≡ []
+other_front e n k key (Plain l leaf) later other = ap (λ b. cond b (body (form e) leaf ++ front_bodies e n later) []) other
+other_front e n k key (Msg l m) later other = refl
 
-items_front : (e : Element) (n k : ℕ) (vs : List Value) (later : Kept) → nat_eq k n ≡ false → front_bodies e n later ≡ [] → front_bodies e n (items_onto k vs later) ≡ []
-items_front e n k [] later other none = none
-items_front e n k (v ∷ vs) later other none = value_front e n k None true v (items_onto k vs later) other
+parts_front : (e : Element) (n k : ℕ) (ps : List (Part KeptItem)) (later : Kept) → AreOf k ps → nat_eq k n ≡ false → front_bodies e n later ≡ [] → front_bodies e n (kept_onto ps later) ≡ []
+parts_front e n k [] later numbered other none = none
+parts_front e n k (p ∷ ps) later numbered other none = other_front e n p.number p.key p.item (kept_onto ps later) (ap (λ x. nat_eq x n) numbered.0 ∙ other)
 
-entries_front : (e : Element) (n k : ℕ) (es : List (Value × Value)) (later : Kept) → nat_eq k n ≡ false → front_bodies e n later ≡ [] → front_bodies e n (entries_onto k es later) ≡ []
-entries_front e n k [] later other none = none
-entries_front e n k (x ∷ es) later other none = value_front e n k (Some (leaf_of x.0)) false x.1 (entries_onto k es later) other
+own_front : (e : Element) (n : ℕ) (key : Option Leaf) (item : KeptItem) (later : Kept) → IsLone (bare item) → front_bodies e n (kept_part n key item later) ≡ body (form e) (bare_leaf (bare item)) ++ front_bodies e n later
+own_front e n key (Plain l leaf) later lone = ap (λ b. cond b (body (form e) leaf ++ front_bodies e n later) []) (eq-eqb n n refl)
+own_front e n key (Msg l m) later lone = absurd lone
 
-content_front : (e : Element) (n k : ℕ) (c : Content) (later : Kept) → nat_eq k n ≡ false → front_bodies e n later ≡ [] → front_bodies e n (content_onto k c later) ≡ []
-content_front e n k (contents.One v) later other none = value_front e n k None false v later other
-content_front e n k (contents.Many vs) later other none = items_front e n k vs.items later other none
-content_front e n k (contents.Map es) later other none = entries_front e n k es.items later other none
+row_front : (e : Element) (n : ℕ) (ps : List (Part KeptItem)) (later : Kept) → AreOf n ps → AllByRecursion (λ (p : Part KeptItem). IsLone (bare p.item)) ps → front_bodies e n later ≡ []
+    → front_bodies e n (kept_onto ps later) ≡ packed_body (λ (p : Part KeptItem). bare p.item) e ps
+row_front e n [] later numbered lone none = none
+row_front e n (p ∷ ps) later numbered lone none =
+    ap (λ k. front_bodies e n (kept_part k p.key p.item (kept_onto ps later))) numbered.0
+    ∙ own_front e n p.key p.item (kept_onto ps later) lone.0 ∙ ap (λ xs. body (form e) (bare_leaf (bare p.item)) ++ xs) (row_front e n ps later numbered.1 lone.1 none)
 
--- none of a number below those of all fields
-fields_front : (e : Element) (n : ℕ) (ms : List (ℕ × Content)) (type : TypeId) (us : List WireRecord) → AllByRecursion (λ (m : ℕ × Content). n < m.0) ms → front_bodies e n (fields_onto ms (ends type us)) ≡ []
-fields_front e n [] type us below = refl
-fields_front e n (m ∷ ms) type us below = content_front e n m.0 m.1 (fields_onto ms (ends type us)) (ne_eqb m.0 n (λ same. omega (arith, same, below.0))) (fields_front e n ms type us below.1)
-
-own_front : (e : Element) (n : ℕ) (v : Value) (later : Kept) → IsKey v → front_bodies e n (value_onto n None true v later) ≡ body (form e) (leaf_of v) ++ front_bodies e n later
-own_front e n (values.Int x) later key = ap (λ b. cond b (body (form e) (leaf_of (values.Int x)) ++ front_bodies e n later) []) (eq-eqb n n refl)
-own_front e n (values.F32 x) later key = ap (λ b. cond b (body (form e) (leaf_of (values.F32 x)) ++ front_bodies e n later) []) (eq-eqb n n refl)
-own_front e n (values.F64 x) later key = ap (λ b. cond b (body (form e) (leaf_of (values.F64 x)) ++ front_bodies e n later) []) (eq-eqb n n refl)
-own_front e n (values.Text x) later key = ap (λ b. cond b (body (form e) (leaf_of (values.Text x)) ++ front_bodies e n later) []) (eq-eqb n n refl)
-own_front e n (values.Bytes x) later key = ap (λ b. cond b (body (form e) (leaf_of (values.Bytes x)) ++ front_bodies e n later) []) (eq-eqb n n refl)
-own_front e n (values.Msg x) later key = absurd key
-
-row_front : (e : Element) (n : ℕ) (vs : List Value) (later : Kept) → AllByRecursion (LeafFits e) vs → front_bodies e n later ≡ [] → front_bodies e n (items_onto n vs later) ≡ packed_body e vs
-row_front e n [] later fit none = none
-row_front e n (v ∷ vs) later fit none = own_front e n v (items_onto n vs later) (leaf_is_key e v fit.0) ∙ ap (λ xs. body (form e) (leaf_of v) ++ xs) (row_front e n vs later fit.1 none)
-
--- The lengths of a row of items.
+-- The lengths of a row of parts.
 
 module _ (shape : Shape) (fs : List FieldShape) where
   -- nothing is noted of a list at that number
@@ -81,100 +59,100 @@ module _ (shape : Shape) (fs : List FieldShape) where
   not_packed n f found single before m =
       ap (λ xs. cond (nat_eq n before) [] xs) (ap (λ o. row_by o n m) found ∙ ap (λ b. cond b (capped (length (front_bodies f.element n m)) ∷ []) []) single) ∙ if_same (nat_eq n before)
 
-  value_inner : (n : ℕ) (k : Option Leaf) (l : Bool) (v : Value) (later : Kept) (before : ℕ) → NoRow before n → lengths_behind shape fs before (value_onto n k l v later) ≡ value_lengths shape v ++ lengths_behind shape fs n later
-  value_inner n k l (values.Int x) later before none = ap (λ xs. xs ++ lengths_behind shape fs n later) (none (value_onto n k l (values.Int x) later))
-  value_inner n k l (values.F32 x) later before none = ap (λ xs. xs ++ lengths_behind shape fs n later) (none (value_onto n k l (values.F32 x) later))
-  value_inner n k l (values.F64 x) later before none = ap (λ xs. xs ++ lengths_behind shape fs n later) (none (value_onto n k l (values.F64 x) later))
-  value_inner n k l (values.Text x) later before none = ap (λ xs. xs ++ lengths_behind shape fs n later) (none (value_onto n k l (values.Text x) later))
-  value_inner n k l (values.Bytes x) later before none = ap (λ xs. xs ++ lengths_behind shape fs n later) (none (value_onto n k l (values.Bytes x) later))
-  value_inner n k l (values.Msg x) later before none = refl
+  part_inner : (n : ℕ) (k : Option Leaf) (item : KeptItem) (later : Kept) (before : ℕ) → NoRow before n → lengths_behind shape fs before (kept_part n k item later) ≡ item_lengths shape (bare item) ++ lengths_behind shape fs n later
+  part_inner n k (Plain l leaf) later before none = ap (λ xs. xs ++ lengths_behind shape fs n later) (none (holds n k l leaf later))
+  part_inner n k (Msg l m) later before none = refl
 
-  leaf_inner : (n : ℕ) (v : Value) (later : Kept) (before : ℕ) → IsKey v → lengths_behind shape fs before (value_onto n None true v later) ≡ row_behind fs before n (value_onto n None true v later) ++ lengths_behind shape fs n later
-  leaf_inner n (values.Int x) later before key = refl
-  leaf_inner n (values.F32 x) later before key = refl
-  leaf_inner n (values.F64 x) later before key = refl
-  leaf_inner n (values.Text x) later before key = refl
-  leaf_inner n (values.Bytes x) later before key = refl
-  leaf_inner n (values.Msg x) later before key = absurd key
+  leaf_inner : (n : ℕ) (k : Option Leaf) (item : KeptItem) (later : Kept) (before : ℕ) → IsLone (bare item)
+      → lengths_behind shape fs before (kept_part n k item later) ≡ row_behind fs before n (kept_part n k item later) ++ lengths_behind shape fs n later
+  leaf_inner n k (Plain l leaf) later before lone = refl
+  leaf_inner n k (Msg l m) later before lone = absurd lone
+
+  abbrev noted : List (Part KeptItem) → List ℕ
+  noted ps = flat_map (λ (p : Part KeptItem). item_lengths shape (bare p.item)) ps
 
   -- Of what comes later the lengths are the same, whether an item stands before it or none.
 
-  items_inner : (n : ℕ) (vs : List Value) (later : Kept) (after : List ℕ) (before : ℕ) → NoRow before n → lengths_behind shape fs before later ≡ after → lengths_behind shape fs n later ≡ after
-      → lengths_behind shape fs before (items_onto n vs later) ≡ flat_map (value_lengths shape) vs ++ after
-  items_inner n [] later after before none here there = here
-  items_inner n (v ∷ vs) later after before none here there =
-      value_inner n None true v (items_onto n vs later) before none ∙ ap (λ xs. value_lengths shape v ++ xs) (items_inner n vs later after n (same_row n) there there)
-      ∙ sym (append_assoc (value_lengths shape v) (flat_map (value_lengths shape) vs) after)
+  parts_inner : (n : ℕ) (ps : List (Part KeptItem)) (later : Kept) (after : List ℕ) (before : ℕ) → AreOf n ps → NoRow before n → lengths_behind shape fs before later ≡ after → lengths_behind shape fs n later ≡ after
+      → lengths_behind shape fs before (kept_onto ps later) ≡ noted ps ++ after
+  parts_inner n [] later after before numbered none here there = here
+  parts_inner n (p ∷ ps) later after before numbered none here there =
+      ap (λ k. lengths_behind shape fs before (kept_part k p.key p.item (kept_onto ps later))) numbered.0
+      ∙ part_inner n p.key p.item (kept_onto ps later) before none
+      ∙ ap (λ xs. item_lengths shape (bare p.item) ++ xs) (parts_inner n ps later after n numbered.1 (same_row n) there there)
+      ∙ sym (append_assoc (item_lengths shape (bare p.item)) (noted ps) after)
 
-  entries_inner : (n : ℕ) (es : List (Value × Value)) (later : Kept) (after : List ℕ) (before : ℕ) → NoRow before n → lengths_behind shape fs before later ≡ after → lengths_behind shape fs n later ≡ after
-      → lengths_behind shape fs before (entries_onto n es later) ≡ flat_map (λ (x : Value × Value). value_lengths shape x.1) es ++ after
-  entries_inner n [] later after before none here there = here
-  entries_inner n (x ∷ es) later after before none here there =
-      value_inner n (Some (leaf_of x.0)) false x.1 (entries_onto n es later) before none ∙ ap (λ xs. value_lengths shape x.1 ++ xs) (entries_inner n es later after n (same_row n) there there)
-      ∙ sym (append_assoc (value_lengths shape x.1) (flat_map (λ (y : Value × Value). value_lengths shape y.1) es) after)
-
-  row_inner : (n : ℕ) (f : FieldShape) → field_at fs n ≡ Some f → is_packed f.presence ≡ true → (vs : List Value) (later : Kept) (after : List ℕ) (before : ℕ) → AllByRecursion (LeafFits f.element) vs → nat_eq n before ≡ false
-      → front_bodies f.element n later ≡ [] → lengths_behind shape fs before later ≡ after → lengths_behind shape fs n later ≡ after → lengths_behind shape fs before (items_onto n vs later) ≡ packed_lengths f.element vs ++ after
-  row_inner n f found packed [] later after before fit other none here there = here
-  row_inner n f found packed (v ∷ vs) later after before fit other none here there =
-      let m = items_onto n (v ∷ vs) later in
-      let noted : row_behind fs before n m ≡ capped (length (packed_body f.element (v ∷ vs))) ∷ [] =
+  row_inner : (n : ℕ) (f : FieldShape) → field_at fs n ≡ Some f → is_packed f.presence ≡ true → (ps : List (Part KeptItem)) (later : Kept) (after : List ℕ) (before : ℕ) → AreOf n ps
+      → AllByRecursion (λ (p : Part KeptItem). IsLone (bare p.item)) ps → nat_eq n before ≡ false → front_bodies f.element n later ≡ [] → lengths_behind shape fs before later ≡ after → lengths_behind shape fs n later ≡ after
+      → lengths_behind shape fs before (kept_onto ps later) ≡ packed_lengths (λ (p : Part KeptItem). bare p.item) f.element ps ++ after
+  row_inner n f found packed [] later after before numbered lone other none here there = here
+  row_inner n f found packed (p ∷ ps) later after before numbered lone other none here there =
+      let m = kept_part n p.key p.item (kept_onto ps later) in
+      let front = ap (λ k. front_bodies f.element n (kept_part k p.key p.item (kept_onto ps later))) (sym numbered.0) ∙ row_front f.element n (p ∷ ps) later numbered lone none in
+      let row : row_behind fs before n (kept_part n p.key p.item (kept_onto ps later)) ≡ capped (length (packed_body (λ (q : Part KeptItem). bare q.item) f.element (p ∷ ps))) ∷ [] =
       ap (λ b. cond b [] (row_by (field_at fs n) n m)) other ∙ ap (λ o. row_by o n m) found
-      ∙ ap (λ b. cond b (capped (length (front_bodies f.element n m)) ∷ []) []) packed ∙ ap (λ (xs : List ℕ). capped (length xs) ∷ []) (row_front f.element n (v ∷ vs) later fit none) in
-      let rest = items_inner n vs later after n (same_row n) there there ∙ ap (λ xs. xs ++ after) (packed_no_lengths shape f.element vs fit.1) in
-      leaf_inner n v (items_onto n vs later) before (leaf_is_key f.element v fit.0) ∙ ap₂ (λ xs ys. xs ++ ys) noted rest
+      ∙ ap (λ b. cond b (capped (length (front_bodies f.element n m)) ∷ []) []) packed ∙ ap (λ (xs : List ℕ). capped (length xs) ∷ []) front in
+      let rest = parts_inner n ps later after n numbered.1 (same_row n) there there ∙ ap (λ xs. xs ++ after) (packed_no_lengths (λ (q : Part KeptItem). bare q.item) shape ps lone.1) in
+      ap (λ k. lengths_behind shape fs before (kept_part k p.key p.item (kept_onto ps later))) numbered.0
+      ∙ leaf_inner n p.key p.item (kept_onto ps later) before lone.0 ∙ ap₂ (λ xs ys. xs ++ ys) row rest
 
-  content_inner : (n : ℕ) (p : Presence) (e : Element) (o : Option ℕ) → field_at fs n ≡ Some (record { number = n; presence = p; element = e; oneof = o }) → (c : Content) (later : Kept) (after : List ℕ) (before : ℕ)
-      → CanBePacked p e → ContentFits shape p e c → nat_eq n before ≡ false → front_bodies e n later ≡ [] → lengths_behind shape fs before later ≡ after → lengths_behind shape fs n later ≡ after
-      → lengths_behind shape fs before (content_onto n c later) ≡ content_lengths shape p e c ++ after
-  content_inner n presences.Implicit e o found (contents.One v) later after before can fit other none here there =
-      value_inner n None false v later before (not_packed n _ found refl before) ∙ ap (λ xs. value_lengths shape v ++ xs) there
-  content_inner n presences.Explicit e o found (contents.One v) later after before can fit other none here there =
-      value_inner n None false v later before (not_packed n _ found refl before) ∙ ap (λ xs. value_lengths shape v ++ xs) there
-  content_inner n (presences.Repeated true) e o found (contents.Many vs) later after before can fit other none here there =
-      row_inner n _ found refl vs.items later after before (packed_leaves shape e vs.items can fit) other none here there
-  content_inner n (presences.Repeated false) e o found (contents.Many vs) later after before can fit other none here there =
-      items_inner n vs.items later after before (not_packed n _ found refl before) here there
-  content_inner n (presences.Map key) e o found (contents.Map es) later after before can fit other none here there =
-      entries_inner n es.items later after before (not_packed n _ found refl before) here there
-  content_inner n (presences.Repeated true) e o found (contents.One v) later after before can fit other none here there = absurd fit
-  content_inner n (presences.Repeated false) e o found (contents.One v) later after before can fit other none here there = absurd fit
-  content_inner n (presences.Map key) e o found (contents.One v) later after before can fit other none here there = absurd fit
-  content_inner n presences.Implicit e o found (contents.Many vs) later after before can fit other none here there = absurd fit
-  content_inner n presences.Explicit e o found (contents.Many vs) later after before can fit other none here there = absurd fit
-  content_inner n (presences.Map key) e o found (contents.Many vs) later after before can fit other none here there = absurd fit
-  content_inner n presences.Implicit e o found (contents.Map es) later after before can fit other none here there = absurd fit
-  content_inner n presences.Explicit e o found (contents.Map es) later after before can fit other none here there = absurd fit
-  content_inner n (presences.Repeated true) e o found (contents.Map es) later after before can fit other none here there = absurd fit
-  content_inner n (presences.Repeated false) e o found (contents.Map es) later after before can fit other none here there = absurd fit
+  content_inner : (n : ℕ) (f : FieldShape) → field_at fs n ≡ Some f → (ps : List (Part KeptItem)) (later : Kept) (after : List ℕ) (before : ℕ) → AreOf n ps
+      → (is_packed f.presence ≡ true → AllByRecursion (λ (p : Part KeptItem). IsLone (bare p.item)) ps) → nat_eq n before ≡ false → front_bodies f.element n later ≡ [] → lengths_behind shape fs before later ≡ after
+      → lengths_behind shape fs n later ≡ after → lengths_behind shape fs before (kept_onto ps later) ≡ field_lengths shape f ps ++ after
+  content_inner n f found ps later after before numbered lone other none here there = of (is_packed f.presence) refl
+    where
+      of : (b : Bool) → is_packed f.presence ≡ b → lengths_behind shape fs before (kept_onto ps later) ≡ field_lengths shape f ps ++ after
+      of true packed =
+          row_inner n f found packed ps later after before numbered (lone packed) other none here there
+          ∙ ap (λ b. cond b (packed_lengths (λ (p : Part KeptItem). bare p.item) f.element ps) (noted ps) ++ after) (sym packed)
+      of false packed =
+          parts_inner n ps later after before numbered (not_packed n f found packed before) here there
+          ∙ ap (λ b. cond b (packed_lengths (λ (p : Part KeptItem). bare p.item) f.element ps) (noted ps) ++ after) (sym packed)
 
 -- The lengths of a message.
 
-module _ (shape : Shape) (type : TypeId) (is_shape : IsShape shape) where
-  held_inner : (m : ℕ × Content) → HoldsContent shape type m → (later : Kept) (after : List ℕ) (before : ℕ) → before < m.0 → ((e : Element) → front_bodies e m.0 later ≡ [])
-      → lengths_behind shape (fields shape type) before later ≡ after → lengths_behind shape (fields shape type) m.0 later ≡ after
-      → lengths_behind shape (fields shape type) before (content_onto m.0 m.1 later) ≡ field_lengths shape type m ++ after
-  held_inner m held later after before below none here there =
+module _ {C : Type 0} (parts : ℕ → C → List (Part KeptItem)) (shape : Shape) (m : Kept) where
+  abbrev Numbered : List (ℕ × C) → Type 0
+  Numbered ms = AllByRecursion (λ (c : ℕ × C). AreOf c.0 (parts c.0 c.1)) ms
+
+  -- none of a number below those of all fields
+  fields_front : (e : Element) (n : ℕ) (ms : List (ℕ × C)) (type : TypeId) (us : List WireRecord) → AllByRecursion (λ (c : ℕ × C). n < c.0) ms → HeldContents parts shape m ms → front_bodies e n (kept_onto (all_parts parts ms) (ends type us)) ≡ []
+  fields_front e n [] type us below held = refl
+  fields_front e n (c ∷ ms) type us below held =
+      ap (front_bodies e n) (kept_onto-append (parts c.0 c.1) (all_parts parts ms) (ends type us))
+      ∙ parts_front e n c.0 (parts c.0 c.1) (kept_onto (all_parts parts ms) (ends type us)) (held_numbered shape (type_of m) c.0 (parts c.0 c.1) held.0) (ne_eqb c.0 n (λ same. omega (arith, same, below.0))) (fields_front e n ms type us below.1 held.1)
+
+  abbrev pub content_lengths : ℕ × C → List ℕ
+  content_lengths c = parts_lengths shape (type_of m) c.0 (parts c.0 c.1)
+
+  pub field_noted : (c : ℕ × C) (f : FieldShape) → field_at (fields shape (type_of m)) c.0 ≡ Some f → field_lengths shape f (parts f.number c.1) ≡ content_lengths c
+  field_noted c f found =
+      ap (λ k. field_lengths shape f (parts k c.1)) (found_number (fields shape (type_of m)) c.0 f found) ∙ ap (λ o. lengths_by shape o (parts c.0 c.1)) (sym found)
+
+  held_inner : IsShape shape → (c : ℕ × C) → HoldsParts shape (type_of m) c.0 (parts c.0 c.1) → (later : Kept) (after : List ℕ) (before : ℕ) → before < c.0 → ((e : Element) → front_bodies e c.0 later ≡ [])
+      → lengths_behind shape (fields shape (type_of m)) before later ≡ after → lengths_behind shape (fields shape (type_of m)) c.0 later ≡ after
+      → lengths_behind shape (fields shape (type_of m)) before (kept_onto (parts c.0 c.1) later) ≡ content_lengths c ++ after
+  held_inner is_shape c held later after before below none here there =
       let f = held.field in
-      let number : f.number ≡ m.0 = found_number (fields shape type) m.0 f held.found in
-      let found : field_at (fields shape type) m.0 ≡ Some (record { number = m.0; presence = f.presence; element = f.element; oneof = f.oneof }) =
-      held.found ∙ ap (λ k. Some (record { number = k; presence = f.presence; element = f.element; oneof = f.oneof })) number in
-      content_inner shape (fields shape type) m.0 f.presence f.element f.oneof found m.1 later after before (packs shape type is_shape m.0 f held.found) held.fits (ne_eqb m.0 before (λ same. omega (arith, same, below))) (none f.element) here there
-      ∙ ap (λ o. lengths_by shape o m ++ after) (sym held.found)
+      content_inner shape (fields shape (type_of m)) c.0 f held.found (parts c.0 c.1) later after before (held_numbered shape (type_of m) c.0 (parts c.0 c.1) held)
+      (λ packed. lone_of_part shape f (parts c.0 c.1) (packable f.presence f.element packed (packs shape (type_of m) is_shape c.0 f held.found)) held.each)
+      (ne_eqb c.0 before (λ same. omega (arith, same, below))) (none f.element) here there
+      ∙ ap (λ o. lengths_by shape o (parts c.0 c.1) ++ after) (sym held.found)
 
-  fields_inner : (ms : List (ℕ × Content)) (us : List WireRecord) (before : ℕ) → AllByRecursion (λ (m : ℕ × Content). before < m.0) ms → Rises ms → AllByRecursion (HoldsContent shape type) ms
-      → lengths_behind shape (fields shape type) before (fields_onto ms (ends type us)) ≡ flat_map (field_lengths shape type) ms
-  fields_inner [] us before below rises hold = refl
-  fields_inner (m ∷ ms) us before below rises hold =
-      held_inner m hold.0 (fields_onto ms (ends type us)) (flat_map (field_lengths shape type) ms) before below.0 (λ e. fields_front e m.0 ms type us rises.0)
-      (fields_inner ms us before below.1 rises.1 hold.1) (fields_inner ms us m.0 rises.0 rises.1 hold.1)
+  fields_inner : IsShape shape → (ms : List (ℕ × C)) (us : List WireRecord) (before : ℕ) → AllByRecursion (λ (c : ℕ × C). before < c.0) ms → Rises ms → HeldContents parts shape m ms
+      → lengths_behind shape (fields shape (type_of m)) before (kept_onto (all_parts parts ms) (ends (type_of m) us)) ≡ flat_map content_lengths ms
+  fields_inner is_shape [] us before below rises held = refl
+  fields_inner is_shape (c ∷ ms) us before below rises held =
+      ap (lengths_behind shape (fields shape (type_of m)) before) (kept_onto-append (parts c.0 c.1) (all_parts parts ms) (ends (type_of m) us))
+      ∙ held_inner is_shape c held.0 (kept_onto (all_parts parts ms) (ends (type_of m) us)) (flat_map content_lengths ms) before below.0 (λ e. fields_front e c.0 ms (type_of m) us rises.0 held.1)
+      (fields_inner is_shape ms us before below.1 rises.1 held.1) (fields_inner is_shape ms us c.0 rises.0 rises.1 held.1)
 
-  above_zero : (ms : List (ℕ × Content)) → AllByRecursion (HoldsContent shape type) ms → AllByRecursion (λ (m : ℕ × Content). 0 < m.0) ms
-  above_zero ms hold = each_weaker (HoldsContent shape type) (λ (m : ℕ × Content). 0 < m.0) above ms hold
+  above_zero : IsShape shape → (ms : List (ℕ × C)) → HeldContents parts shape m ms → AllByRecursion (λ (c : ℕ × C). 0 < c.0) ms
+  above_zero is_shape ms held = each_weaker (λ (c : ℕ × C). HoldsParts shape (type_of m) c.0 (parts c.0 c.1)) (λ (c : ℕ × C). 0 < c.0) above ms held
     where
-      above : (m : ℕ × Content) → HoldsContent shape type m → 0 < m.0
-      above m held = let number = found_number (fields shape type) m.0 held.field held.found in let is_field = field_is shape type is_shape m.0 held.field held.found in omega (arith, number, is_field.number_above)
+      above : (c : ℕ × C) → HoldsParts shape (type_of m) c.0 (parts c.0 c.1) → 0 < c.0
+      above c h = let number = found_number (fields shape (type_of m)) c.0 h.field h.found in let is_field = field_is shape (type_of m) is_shape c.0 h.field h.found in omega (arith, number, is_field.number_above)
 
-  pub inner_is : (ms : List (ℕ × Content)) (us : List WireRecord) (m : Kept) → fields_onto ms (ends type us) ≡ m → Rises ms → AllByRecursion (HoldsContent shape type) ms → flat_map (field_lengths shape type) ms ≡ inner_lengths shape m
-  inner_is ms us m view rises hold =
-      sym (ap (λ t. lengths_behind shape (fields shape t) 0 (fields_onto ms (ends type us))) (fields_keep ms (ends type us)).1 ∙ fields_inner ms us 0 (above_zero ms hold) rises hold) ∙ ap (inner_lengths shape) view
+  pub inner_is : (ms : List (ℕ × C)) → IsShape shape → m ≡ kept_onto (all_parts parts ms) (ends (type_of m) (unknown_of m)) → Rises ms → HeldContents parts shape m ms → flat_map content_lengths ms ≡ inner_lengths shape m
+  inner_is ms is_shape whole rises held =
+      sym (ap (lengths_behind shape (fields shape (type_of m)) 0) whole ∙ fields_inner is_shape ms (unknown_of m) 0 (above_zero is_shape ms held) rises held)

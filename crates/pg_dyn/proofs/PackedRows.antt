@@ -13,13 +13,13 @@ use Rattle.pg_wire.specs.Reads.{value_at}
 use Rattle.pg_wire.specs.Varint.{varint_at, varint_value}
 use Rattle.pg_wire.proofs.RecordLaws.{exactly_takes}
 use Rattle.pg_wire.proofs.Varints.{varint_at_takes, length-IsVarint}
-use Rattle.pg_dyn.specs.declared.message.Value.{Value}
+use Rattle.pg_dyn.specs.declared.message_ref.ValueRef.{ValueRef}
 use Rattle.pg_dyn.specs.WordOf.{HasBits}
 use Rattle.pg_dyn.specs.Coding.{form_wire, leaf_in, element_at, scalar_form, word_in}
 use Rattle.pg_dyn.specs.Content.{packed_leaves, option_from}
 use Rattle.pg_dyn.specs.Optional.{all_some}
-use Rattle.pg_dyn.specs.ScalarItems.{IsItemOf}
-use Rattle.pg_dyn.specs.Seen.{leaf_of}
+use Rattle.pg_dyn.specs.BorrowedItems.{IsItemOf}
+use Rattle.pg_dyn.specs.Borrowed.{leaf_of}
 use Rattle.pg_dyn.proofs.Lists.{each-append}
 use Rattle.pg_dyn.proofs.ReadsOn.{all_some-append}
 
@@ -102,17 +102,17 @@ element_shortens I32 bytes a rest h = let taken = exactly_takes 4 bytes a rest h
 element_shortens Len bytes a rest h = absurd (cc)
 
 -- the items that are read of a packed list up to a place
-pub record RowSoFar (s : Scalar) (body : List ℕ) (start : ℕ) (old now : List Value) : Type 0 where
+pub record RowSoFar (s : Scalar) (body : List ℕ) (start : ℕ) (old now : List ValueRef) : Type 0 where
   pub inside : start ≤ length body
   pub done : List (List ℕ)
-  pub values : List Value
+  pub values : List ValueRef
   pub now_is : now ≡ old ++ values
   pub leaves : all_some (map (leaf_in (scalar_form s)) done) ≡ Some (map leaf_of values)
   pub items : AllByRecursion (IsItemOf s) values
   pub row_ok : (others : List (List ℕ)) → row (element_at (form_wire (scalar_form s))) (drop start body) ≡ Ok others → row (element_at (form_wire (scalar_form s))) body ≡ Ok (done ++ others)
   pub row_err : (f : Fault) → row (element_at (form_wire (scalar_form s))) (drop start body) ≡ Err f → row (element_at (form_wire (scalar_form s))) body ≡ Err f
 
-module _ (s : Scalar) (body : List ℕ) (old : List Value) where
+module _ (s : Scalar) (body : List ℕ) (old : List ValueRef) where
   pub row_begin : RowSoFar s body 0 old old
   row_begin = record {
     inside = omega arith;
@@ -125,8 +125,8 @@ module _ (s : Scalar) (body : List ℕ) (old : List Value) where
     row_err = λ f h. h;
   }
 
-  module _ (start : ℕ) (now : List Value) (a : RowSoFar s body start old now) where
-    pub row_done : length body ≤ start → (values : List Value) × (now ≡ old ++ values) × (packed_leaves (scalar_form s) body ≡ Some (map leaf_of values)) × AllByRecursion (IsItemOf s) values
+  module _ (start : ℕ) (now : List ValueRef) (a : RowSoFar s body start old now) where
+    pub row_done : length body ≤ start → (values : List ValueRef) × (now ≡ old ++ values) × (packed_leaves (scalar_form s) body ≡ Some (map leaf_of values)) × AllByRecursion (IsItemOf s) values
     row_done end =
         let none : drop start body ≡ [] = drop_all start body end in
         let whole = a.row_ok [] (ap (row (element_at (form_wire (scalar_form s)))) none ∙ row-end (element_at (form_wire (scalar_form s))) (element_shortens (form_wire (scalar_form s)))) in
@@ -135,7 +135,7 @@ module _ (s : Scalar) (body : List ℕ) (old : List Value) where
     pub row_broken : start < length body → (f : Fault) → element_at (form_wire (scalar_form s)) (drop start body) ≡ Err f → row (element_at (form_wire (scalar_form s))) body ≡ Err f
     row_broken inside f h = a.row_err f (row-stop (element_at (form_wire (scalar_form s))) (element_shortens (form_wire (scalar_form s))) (drop start body) f (omega (arith, length-drop start body)) h)
 
-    pub row_onward : (n : ℕ) (v : Value) → IsOne (form_wire (scalar_form s)) (drop start body) n → leaf_in (scalar_form s) (take n (drop start body)) ≡ Some (leaf_of v) → IsItemOf s v → RowSoFar s body (start + n) old (now ++ v ∷ [])
+    pub row_onward : (n : ℕ) (v : ValueRef) → IsOne (form_wire (scalar_form s)) (drop start body) n → leaf_in (scalar_form s) (take n (drop start body)) ≡ Some (leaf_of v) → IsItemOf s v → RowSoFar s body (start + n) old (now ++ v ∷ [])
     row_onward n v one read item =
         let rest_is : drop n (drop start body) ≡ drop (start + n) body = drop-drop n start body in
         let step = row-step (element_at (form_wire (scalar_form s))) (element_shortens (form_wire (scalar_form s))) (drop start body) (take n (drop start body)) (drop n (drop start body)) one.0

@@ -1,18 +1,13 @@
 -- Packed lists whose bodies are all of one length.
 use Rattle.std.proofs.Common.{◌≡◌, ◌+◌, ◌*◌, ℕ, List, [], ◌∷◌, length, refl, ap, ap₂, ◌∙◌, arith, length-append}
 use Rattle.std.specs.List.{AllByRecursion}
-use Rattle.pg_schema.specs.declared.field.Scalar.{Scalar}
-use Rattle.pg_schema.specs.declared.field.Scalar.TheVariants.{Int32}
 use Rattle.pg_schema.specs.declared.field.Element.{Element}
 use Rattle.pg_schema.specs.declared.field.Element.TheVariants as elements
 use Rattle.pg_wire.specs.declared.record.WireType.TheVariants.{I64, I32}
-use Rattle.pg_dyn.specs.declared.message.Value.{Value}
-use Rattle.pg_dyn.specs.declared.message.Value.TheVariants as values
 use Rattle.pg_dyn.specs.Message.{Leaf, Int, F32, F64, Bytes}
-use Rattle.pg_dyn.specs.Coding.{Form, Integer, Single, Double, Text, Raw, InRange, body, form, form_wire, scalar_form, word_bytes}
-use Rattle.pg_dyn.specs.ScalarItems.{IsItemOf}
-use Rattle.pg_dyn.specs.Seen.{leaf_of}
-use Rattle.pg_dyn.specs.Written.{LeafFits, packed_body}
+use Rattle.pg_dyn.specs.Coding.{Form, Integer, Single, Double, Text, Raw, InRange, body, form, form_wire, word_bytes}
+use Rattle.pg_dyn.specs.Lending.{Bare, bare_leaf}
+use Rattle.pg_dyn.specs.Written.{LeafFits, LeavesFit, packed_body}
 use Rattle.pg_dyn.proofs.Lists.{each_weaker}
 
 eight_bytes : (f : Form) (l : Leaf) → form_wire f ≡ I64 → InRange f l → length (body f l) ≡ 8
@@ -33,28 +28,21 @@ four_bytes Text (Bytes bytes) is fits = absurd (cc)
 four_bytes Raw (Bytes bytes) is fits = absurd (cc)
 four_bytes f l is fits = absurd fits
 
-in_range_of : (s : Scalar) (v : Value) → IsItemOf s v → InRange (scalar_form s) (leaf_of v)
-in_range_of s (values.Int n) fits = fits
-in_range_of s (values.F32 bits) fits = fits
-in_range_of s (values.F64 bits) fits = fits
-in_range_of s (values.Text text) fits = fits
-in_range_of s (values.Bytes bytes) fits = fits
-in_range_of s (values.Msg child) fits = absurd fits
+in_range : (e : Element) (leaf : Leaf) → LeafFits e leaf → InRange (form e) leaf
+in_range (elements.Scalar s) leaf fits = fits
+in_range (elements.Enum e) leaf fits = fits
+in_range (elements.Message t) leaf fits = absurd fits
 
-in_range : (e : Element) (v : Value) → LeafFits e v → InRange (form e) (leaf_of v)
-in_range (elements.Scalar s) v fits = in_range_of s v fits
-in_range (elements.Enum e) v fits = in_range_of Int32 v fits
-in_range (elements.Message t) v fits = absurd fits
+module _ {V : Type 0} (item : V → Bare) where
+  all_of : (k : ℕ) (e : Element) (vs : List V) → AllByRecursion (λ v. length (body (form e) (bare_leaf (item v))) ≡ k) vs → length (packed_body item e vs) ≡ length vs * k
+  all_of k e [] h = omega arith
+  all_of k e (v ∷ vs) h =
+      length-append (body (form e) (bare_leaf (item v))) (packed_body item e vs) ∙ ap₂ (λ m n. m + n) h.0 (all_of k e vs h.1) ∙ omega arith
 
-all_of : (k : ℕ) (e : Element) (vs : List Value) → AllByRecursion (λ v. length (body (form e) (leaf_of v)) ≡ k) vs → length (packed_body e vs) ≡ length vs * k
-all_of k e [] h = omega arith
-all_of k e (v ∷ vs) h =
-    length-append (body (form e) (leaf_of v)) (packed_body e vs) ∙ ap₂ (λ m n. m + n) h.0 (all_of k e vs h.1) ∙ omega arith
+  pub packed_eights : (e : Element) (vs : List V) → form_wire (form e) ≡ I64 → LeavesFit item e vs → length (packed_body item e vs) ≡ length vs * 8
+  packed_eights e vs is fits =
+      all_of 8 e vs (each_weaker (λ v. LeafFits e (bare_leaf (item v))) (λ v. length (body (form e) (bare_leaf (item v))) ≡ 8) (λ v h. eight_bytes (form e) (bare_leaf (item v)) is (in_range e (bare_leaf (item v)) h)) vs fits)
 
-pub packed_eights : (e : Element) (vs : List Value) → form_wire (form e) ≡ I64 → AllByRecursion (LeafFits e) vs → length (packed_body e vs) ≡ length vs * 8
-packed_eights e vs is fits =
-    all_of 8 e vs (each_weaker (LeafFits e) (λ v. length (body (form e) (leaf_of v)) ≡ 8) (λ v h. eight_bytes (form e) (leaf_of v) is (in_range e v h)) vs fits)
-
-pub packed_fours : (e : Element) (vs : List Value) → form_wire (form e) ≡ I32 → AllByRecursion (LeafFits e) vs → length (packed_body e vs) ≡ length vs * 4
-packed_fours e vs is fits =
-    all_of 4 e vs (each_weaker (LeafFits e) (λ v. length (body (form e) (leaf_of v)) ≡ 4) (λ v h. four_bytes (form e) (leaf_of v) is (in_range e v h)) vs fits)
+  pub packed_fours : (e : Element) (vs : List V) → form_wire (form e) ≡ I32 → LeavesFit item e vs → length (packed_body item e vs) ≡ length vs * 4
+  packed_fours e vs is fits =
+      all_of 4 e vs (each_weaker (λ v. LeafFits e (bare_leaf (item v))) (λ v. length (body (form e) (bare_leaf (item v))) ≡ 4) (λ v h. four_bytes (form e) (bare_leaf (item v)) is (in_range e (bare_leaf (item v)) h)) vs fits)

@@ -31,7 +31,8 @@ use Rattle.pg_dyn.specs.Setting.{is_zero_kept, is_key_below, put_entry, by_risin
 use Rattle.pg_dyn.specs.Told.{EntryFits, is_nothing, ItemsFit}
 use Rattle.pg_dyn.proofs.TypeFields.{is_type, rising}
 use Rattle.pg_dyn.proofs.FieldListLaws.{rises-filter, rises_put, rises_remove, each_put, each_removed}
-use Rattle.pg_dyn.proofs.FitsByContents.{own_rival, fits_from_contents, contents_from_fits}
+use Rattle.pg_dyn.proofs.FitsByContents.{fits_from_contents, contents_from_fits}
+use Rattle.pg_dyn.proofs.PartsToFits.{own_rival}
 use Rattle.pg_dyn.proofs.FitsChecks.{same_field}
 use Rattle.pg_dyn.proofs.Flat.{is_rival_sym}
 use Rattle.pg_dyn.proofs.Lists.{filter_all, filter-append', filter_swap, each_weaker, each_both, each-filter, each_at}

@@ -44,7 +44,7 @@ content_part n (contents.One v) later = value_part n None false v later
 content_part n (contents.Many vs) later = items_part n vs.items later
 content_part n (contents.Map es) later = entries_part n es.items later
 
-kept_onto-append : (ps qs : List (Part KeptItem)) (later : Kept) → kept_onto (ps ++ qs) later ≡ kept_onto ps (kept_onto qs later)
+pub kept_onto-append : (ps qs : List (Part KeptItem)) (later : Kept) → kept_onto (ps ++ qs) later ≡ kept_onto ps (kept_onto qs later)
 kept_onto-append [] qs later = refl
 kept_onto-append (p ∷ ps) qs later = ap (kept_part p.number p.key p.item) (kept_onto-append ps qs later)
 

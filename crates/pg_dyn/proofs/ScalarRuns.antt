@@ -10,42 +10,42 @@ use Rattle.pg_schema.specs.declared.field.Presence.TheVariants as presences
 use Rattle.pg_schema.specs.declared.field.Scalar.{Scalar}
 use Rattle.pg_schema.specs.Shape.{FieldShape, Shape, is_implicit, is_map, is_packable, is_repeated}
 use Rattle.pg_wire.specs.Records.{IsRecord, WireRecord}
-use Rattle.pg_dyn.specs.declared.message.Content.{Content}
-use Rattle.pg_dyn.specs.declared.message.Content.TheVariants as contents
-use Rattle.pg_dyn.specs.declared.message.Value.{Value}
-use Rattle.pg_dyn.specs.declared.message.Value.TheVariants as values
+use Rattle.pg_dyn.specs.declared.message_ref.ContentRef.{ContentRef}
+use Rattle.pg_dyn.specs.declared.message_ref.ContentRef.TheVariants as contents
+use Rattle.pg_dyn.specs.declared.message_ref.ValueRef.{ValueRef}
 use Rattle.pg_dyn.specs.ByFields.{AreGood, HoldsOf}
 use Rattle.pg_dyn.specs.Coding.{form, form_wire, leaf_in, scalar_form}
 use Rattle.pg_dyn.specs.Content.{content, last_item, leaves_in, packed_leaves, plain_content, same_wire, takes}
-use Rattle.pg_dyn.specs.ContentFits.{ContentFits, ItemFits, is_zero_value}
+use Rattle.pg_dyn.specs.BorrowedItems.{ItemFits, is_zero_value}
 use Rattle.pg_dyn.specs.Decoding.{dec, is_child, read_part}
 use Rattle.pg_dyn.specs.Held.{IsHeldList, item_left, read_as}
 use Rattle.pg_dyn.specs.ItemRuns.{AllRead, AreItemsOf}
-use Rattle.pg_dyn.specs.Kept as kept
 use Rattle.pg_dyn.specs.Message.{Item, Leaf, Part, Plain, is_zero}
 use Rattle.pg_dyn.specs.Optional.{all_some, joined, last_of}
 use Rattle.pg_dyn.specs.ReadingOn.{IsNoMessage}
-use Rattle.pg_dyn.specs.ScalarItems.{HasShape, IsItemOf}
-use Rattle.pg_dyn.specs.Seen.{IsKey, item_seen, leaf_of}
+use Rattle.pg_dyn.specs.ScalarItems.{HasShape}
+use Rattle.pg_dyn.specs.BorrowedItems.{IsItemOf}
+use Rattle.pg_dyn.specs.Borrowed.{IsKey, item_seen, leaf_of}
 use Rattle.pg_dyn.specs.Steps.{FieldReads, HeldFits, IsShallow, item_of, part_of, parts_held}
 use Rattle.pg_dyn.proofs.FieldKinds.{form_as, lists_no_map}
 use Rattle.pg_dyn.proofs.FieldRecords.{own_leaves, packable_of, reads_scalar, row_leaves, shape_of_body}
 use Rattle.pg_dyn.proofs.PlainFields.{readable_is}
 use Rattle.pg_dyn.proofs.EntryByParts.{item_as}
 use Rattle.pg_dyn.proofs.Fields.{field_of}
-use Rattle.pg_dyn.proofs.ItemLeaves.{item_is_key, zero_of_key, key_seen}
+use Rattle.pg_dyn.proofs.BorrowedItems.{LeafMayBeZero, item_is_key, key_listed, key_seen, zero_of_key}
+use Rattle.pg_dyn.proofs.HeldFields.{list_held, one_held}
 use Rattle.pg_dyn.proofs.Lists.{and_then_some, each-append, option_map_some}
 use Rattle.pg_dyn.proofs.ReadsOn.{all_some-append, joined-append, last_of-append}
 use Rattle.pg_dyn.proofs.ShallowRecords.{scalar_shallow}
 
 -- The items of the records so far.
-pub record ItemsSoFar (f : FieldShape) (rs : List WireRecord) (values : List Value) : Type 0 where
+pub record ItemsSoFar (f : FieldShape) (rs : List WireRecord) (values : List ValueRef) : Type 0 where
   pub rows : List (List Leaf)
   pub read : all_some (map (leaves_in f) rs) ≡ Some rows
   pub joined_is : joined rows ≡ map leaf_of values
   pub items : AllByRecursion (IsItemOf (read_as f.element)) values
 
-pub more_items : (f : FieldShape) (rs : List WireRecord) (r : WireRecord) (old more new : List Value) → ItemsSoFar f rs old
+pub more_items : (f : FieldShape) (rs : List WireRecord) (r : WireRecord) (old more new : List ValueRef) → ItemsSoFar f rs old
     → leaves_in f r ≡ Some (map leaf_of more) → AllByRecursion (IsItemOf (read_as f.element)) more
     → new ≡ old ++ more → ItemsSoFar f (rs ++ r ∷ []) new
 more_items f rs r old more new h read items is = record {
@@ -58,17 +58,17 @@ more_items f rs r old more new h read items is = record {
 
 -- The last item so far.
 
-abbrev held_list : Option Value → List Value
+abbrev held_list : Option ValueRef → List ValueRef
 held_list None = []
 held_list (Some v) = v ∷ []
 
-pub record LastSoFar (f : FieldShape) (rs : List WireRecord) (held : Option Value) : Type 0 where
-  pub values : List Value
+pub record LastSoFar (f : FieldShape) (rs : List WireRecord) (held : Option ValueRef) : Type 0 where
+  pub values : List ValueRef
   pub so_far : ItemsSoFar f rs values
   pub last_is : last_of values ≡ held_list held
   pub none : held ≡ None → rs ≡ []
 
-pub new_last : (f : FieldShape) (rs : List WireRecord) (r : WireRecord) (held : Option Value) (v : Value) → LastSoFar f rs held
+pub new_last : (f : FieldShape) (rs : List WireRecord) (r : WireRecord) (held : Option ValueRef) (v : ValueRef) → LastSoFar f rs held
     → leaves_in f r ≡ Some (leaf_of v ∷ []) → IsItemOf (read_as f.element) v → LastSoFar f (rs ++ r ∷ []) (Some v)
 new_last f rs r held v h read item = record {
   values = h.values ++ v ∷ [];
@@ -135,7 +135,7 @@ module _ (f : FieldShape) (no_map : is_map f.presence ≡ false) (scalar : IsNoM
         go xs k.1,
       )
 
-  pub items_good : (shape : Shape) (levels : ℕ) (rs : List WireRecord) (vs : List Value) → AreItemsOf f rs vs → AreGood shape levels f rs
+  pub items_good : (shape : Shape) (levels : ℕ) (rs : List WireRecord) (vs : List ValueRef) → AreItemsOf f rs vs → AreGood shape levels f rs
   items_good shape levels rs vs h =
       let (rows, is, made) = option_map_some joined (all_some (map (leaves_in f) rs)) (map leaf_of vs) h.0 in all_good shape levels rs rows is
 
@@ -168,7 +168,7 @@ content_plain n presences.Explicit e o rs h = refl
 content_plain n (presences.Repeated packed) e o rs h = refl
 content_plain n (presences.Map key) e o rs h = absurd (cc)
 
-plain_holds : (shape : Shape) (f : FieldShape) (rs : List WireRecord) (ls : List Leaf) (held : Option Content) → is_map f.presence ≡ false
+plain_holds : (shape : Shape) (f : FieldShape) (rs : List WireRecord) (ls : List Leaf) (held : Option ContentRef) → is_map f.presence ≡ false
     → IsNoMessage f.element → plain_content f rs ≡ Some ls
     → leaf_parts f.number ls ≡ map part_of (parts_held f.number held) → HoldsOf shape f rs held
 plain_holds shape f rs ls held no_map scalar read is =
@@ -176,21 +176,13 @@ plain_holds shape f rs ls held no_map scalar read is =
     (content_plain f.number f.presence f.element f.oneof rs no_map ∙ ap (option_map (map (λ leaf. record { number = f.number; key = None; item = leaf }))) read)
     ∙ parts_read shape f.number f.element ls scalar ∙ ap (λ ps. Some ps) is
 
-key_listed : (v : Value) → IsKey v → item_seen true v ≡ kept.Plain true (leaf_of v)
-key_listed (values.Int x) k = refl
-key_listed (values.F32 x) k = refl
-key_listed (values.F64 x) k = refl
-key_listed (values.Text x) k = refl
-key_listed (values.Bytes x) k = refl
-key_listed (values.Msg x) k = absurd k
-
 -- A list.
 
-list_parts : (n : ℕ) (e : Element) (vs : List Value) → AllByRecursion (IsItemOf (read_as e)) vs
+list_parts : (n : ℕ) (e : Element) (vs : List ValueRef) → AllByRecursion (IsItemOf (read_as e)) vs
     → leaf_parts n (map leaf_of vs) ≡ map part_of (map (λ value. record { number = n; key = None; item = item_seen true value }) vs)
 list_parts n e [] h = refl
 list_parts n e (v ∷ vs) h =
-    ap₂ (λ (i : Item) ps. record { number = n; key = None; item = i } ∷ ps) (ap item_of (sym (key_listed v (item_is_key (read_as e) v h.0))))
+    ap₂ (λ (i : Item) ps. record { number = n; key = None; item = i } ∷ ps) (ap item_of (sym (key_listed true v (item_is_key (read_as e) v h.0))))
     (list_parts n e vs h.1)
 
 repeated_is : (p : Presence) → is_repeated p ≡ true → (packed : Bool) × (p ≡ presences.Repeated packed)
@@ -200,13 +192,13 @@ repeated_is (presences.Repeated packed) h = (packed, refl)
 repeated_is (presences.Map key) h = absurd (cc)
 
 module _ (shape : Shape) (f : FieldShape) (repeated : is_repeated f.presence ≡ true) (scalar : IsNoMessage f.element) (rs : List WireRecord)
-    (vs : List Value) (held : Option Content) (h : AreItemsOf f rs vs) (is : IsHeldList vs held) where
+    (vs : List ValueRef) (held : Option ContentRef) (h : AreItemsOf f rs vs) (is : IsHeldList vs held) where
   rows_content : (o : Option (List (List Leaf))) → option_map joined o ≡ Some (map leaf_of vs)
       → option_map (λ rows. cond (is_repeated f.presence) (joined rows) (last_item f.presence f.element (joined rows))) o ≡ Some (map leaf_of vs)
   rows_content None e = absurd (cc)
   rows_content (Some rows) e = rw repeated e
 
-  held_parts : (ws : List Value) (o : Option Content) → AllByRecursion (IsItemOf (read_as f.element)) ws → IsHeldList ws o
+  held_parts : (ws : List ValueRef) (o : Option ContentRef) → AllByRecursion (IsItemOf (read_as f.element)) ws → IsHeldList ws o
       → leaf_parts f.number (map leaf_of ws) ≡ map part_of (parts_held f.number o)
   held_parts [] None items k = refl
   held_parts [] (Some c) items k = absurd k
@@ -222,22 +214,19 @@ module _ (shape : Shape) (f : FieldShape) (repeated : is_repeated f.presence ≡
       plain_holds shape f rs (map leaf_of vs) held (lists_no_map f.presence repeated) scalar (rows_content (all_some (map (leaves_in f) rs)) h.0)
       (held_parts vs held h.1 is)
 
-  each_fits : (ws : List Value) → AllByRecursion (IsItemOf (read_as f.element)) ws → AllByRecursion (ItemFits shape f.element) ws
+  each_fits : (ws : List ValueRef) → AllByRecursion (IsItemOf (read_as f.element)) ws → AllByRecursion (ItemFits shape f.element) ws
   each_fits [] k = tt
   each_fits (w ∷ ws) k = (item_as shape f.element w scalar k.0, each_fits ws k.1)
 
-  fits_held : (ws : List Value) (o : Option Content) → AllByRecursion (ItemFits shape f.element) ws → IsHeldList ws o → HeldFits shape f o
+  fits_held : (ws : List ValueRef) (o : Option ContentRef) → AllByRecursion (ItemFits shape f.element) ws → IsHeldList ws o → HeldFits shape f o
   fits_held ws None each k = tt
   fits_held [] (Some c) each k = absurd k
   fits_held (w ∷ ws) (Some (contents.One v)) each k = absurd k
   fits_held (w ∷ ws) (Some (contents.Map es)) each k = absurd k
-  fits_held (w ∷ ws) (Some (contents.Many us)) each k = (
-    subst (λ p. ContentFits shape p f.element (contents.Many us)) (sym (repeated_is f.presence repeated).1)
-        (subst (AllByRecursion (ItemFits shape f.element)) (sym k) each),
-    λ none. some_none w ws (sym k ∙ none),
-  )
+  fits_held (w ∷ ws) (Some (contents.Many us)) each k =
+      list_held shape f us repeated (subst (AllByRecursion (ItemFits shape f.element)) (sym k) each) (λ none. some_none w ws (sym k ∙ none))
     where
-      some_none : (x : Value) (xs : List Value) → ◌≡◌ {A = List Value} (x ∷ xs) [] → ⊥
+      some_none : (x : ValueRef) (xs : List ValueRef) → ◌≡◌ {A = List ValueRef} (x ∷ xs) [] → ⊥
       some_none x xs e = cc
 
   pub list_fits : HeldFits shape f held
@@ -245,12 +234,12 @@ module _ (shape : Shape) (f : FieldShape) (repeated : is_repeated f.presence ≡
 
 -- The last item.
 
-map_last : (vs : List Value) → last_of (map leaf_of vs) ≡ map leaf_of (last_of vs)
+map_last : (vs : List ValueRef) → last_of (map leaf_of vs) ≡ map leaf_of (last_of vs)
 map_last [] = refl
 map_last (v ∷ []) = refl
 map_last (v ∷ w ∷ vs) = map_last (w ∷ vs)
 
-each_last : (P : Value → Type 0) (vs : List Value) → AllByRecursion P vs → AllByRecursion P (last_of vs)
+each_last : (P : ValueRef → Type 0) (vs : List ValueRef) → AllByRecursion P vs → AllByRecursion P (last_of vs)
 each_last P [] h = tt
 each_last P (v ∷ []) h = h
 each_last P (v ∷ w ∷ vs) h = each_last P (w ∷ vs) h.1
@@ -264,7 +253,7 @@ last_item_is p (elements.Scalar s) ls scalar = refl
 last_item_is p (elements.Enum x) ls scalar = refl
 
 -- what is left of an item
-left_parts : (n : ℕ) (p : Presence) (v : Value) → IsKey v
+left_parts : (n : ℕ) (p : Presence) (v : ValueRef) → IsKey v
     → leaf_parts n (cond (is_implicit p) (filter (λ leaf. not (is_zero leaf)) (leaf_of v ∷ [])) (leaf_of v ∷ [])) ≡ map part_of (parts_held n (item_left p v))
 left_parts n p v key = of (is_implicit p) (is_zero_value v) refl
   where
@@ -279,8 +268,20 @@ left_parts n p v key = of (is_implicit p) (is_zero_value v) refl
     of true true is = let zero : is_zero (leaf_of v) ≡ true = sym (zero_of_key v key) ∙ is in rw (zero, is)
     of true false is = let zero : is_zero (leaf_of v) ≡ false = sym (zero_of_key v key) ∙ is in rw (zero, is) one
 
+not_implicit : (p : Presence) (v : ValueRef) → IsKey v → is_implicit p ≡ false → LeafMayBeZero p (item_seen false v)
+not_implicit presences.Implicit v key h = absurd (cc)
+not_implicit presences.Explicit v key h = rw (key_seen v key) tt
+not_implicit (presences.Repeated packed) v key h = rw (key_seen v key) tt
+not_implicit (presences.Map k) v key h = rw (key_seen v key) tt
+
+not_zero : (p : Presence) (v : ValueRef) → IsKey v → is_zero (leaf_of v) ≡ false → LeafMayBeZero p (item_seen false v)
+not_zero presences.Implicit v key h = rw (key_seen v key) h
+not_zero presences.Explicit v key h = rw (key_seen v key) tt
+not_zero (presences.Repeated packed) v key h = rw (key_seen v key) tt
+not_zero (presences.Map k) v key h = rw (key_seen v key) tt
+
 module _ (shape : Shape) (f : FieldShape) (singular : is_repeated f.presence ≡ false) (no_map : is_map f.presence ≡ false) (scalar : IsNoMessage f.element)
-    (rs : List WireRecord) (v : Value) (h : LastSoFar f rs (Some v)) where
+    (rs : List WireRecord) (v : ValueRef) (h : LastSoFar f rs (Some v)) where
   item : IsItemOf (read_as f.element) v
   item = let k = subst (AllByRecursion (IsItemOf (read_as f.element))) h.last_is (each_last (IsItemOf (read_as f.element)) h.values h.so_far.items) in k.0
 
@@ -295,12 +296,18 @@ module _ (shape : Shape) (f : FieldShape) (singular : is_repeated f.presence ≡
       (left_parts f.number f.presence v (item_is_key (read_as f.element) v item))
 
   pub last_fits : HeldFits shape f (item_left f.presence v)
-  last_fits = of f.presence singular no_map (is_zero_value v) refl (item_as shape f.element v scalar item)
+  last_fits = of (is_implicit f.presence) (is_zero_value v) refl refl
     where
-      of : (p : Presence) → is_repeated p ≡ false → is_map p ≡ false → (z : Bool) → is_zero_value v ≡ z → ItemFits shape f.element v
-          → HeldFits shape (field_of f.number p f.element f.oneof) (item_left p v)
-      of presences.Implicit one two true is fits = rw is tt
-      of presences.Implicit one two false is fits = rw is ((fits, is), tt)
-      of presences.Explicit one two z is fits = (fits, tt)
-      of (presences.Repeated packed) one two z is fits = absurd (cc)
-      of (presences.Map key) one two z is fits = absurd (cc)
+      fits : ItemFits shape f.element v
+      fits = item_as shape f.element v scalar item
+
+      key : IsKey v
+      key = item_is_key (read_as f.element) v item
+
+      held : LeafMayBeZero f.presence (item_seen false v) → HeldFits shape f (Some (contents.One v))
+      held zero = one_held shape f v singular no_map fits zero
+
+      of : (b z : Bool) → is_implicit f.presence ≡ b → is_zero_value v ≡ z → HeldFits shape f (cond (b && z) None (Some (contents.One v)))
+      of false z implicit is = held (not_implicit f.presence v key implicit)
+      of true true implicit is = tt
+      of true false implicit is = held (not_zero f.presence v key (sym (zero_of_key v key) ∙ is))

@@ -7,20 +7,21 @@ use Rattle.pg_schema.specs.declared.field.Scalar.{Scalar}
 use Rattle.pg_schema.specs.declared.field.Element.{Element}
 use Rattle.pg_schema.specs.Shape.{Shape, FieldShape, fields, field_at}
 use Rattle.pg_wire.specs.Records.{WireRecord, IsRecord}
-use Rattle.pg_dyn.specs.declared.message.Content.{Content}
-use Rattle.pg_dyn.specs.declared.message.Value.{Value}
-use Rattle.pg_dyn.specs.declared.message.Value.TheVariants as values
+use Rattle.pg_dyn.specs.declared.message_ref.EntryRef.{EntryRef}
+use Rattle.pg_dyn.specs.declared.message_ref.ContentRef.{ContentRef}
+use Rattle.pg_dyn.specs.declared.message_ref.ValueRef.{ValueRef}
+use Rattle.pg_dyn.specs.declared.message_ref.ValueRef.TheVariants as values
 use Rattle.pg_dyn.specs.declared.reading.stop.Stop.{Stop}
 use Rattle.pg_dyn.specs.declared.reading.stop.Stop.TheVariants as stops
 use Rattle.pg_dyn.specs.Optional.{all_some}
 use Rattle.pg_dyn.specs.Message.{Leaf}
 use Rattle.pg_dyn.specs.Content.{content, counted, entry_in, takes}
-use Rattle.pg_dyn.specs.ContentFits.{ItemFits}
+use Rattle.pg_dyn.specs.BorrowedItems.{ItemFits}
 use Rattle.pg_dyn.specs.Decoding.{all_readable, dec, read_part}
 use Rattle.pg_dyn.specs.EntrySteps.{IsReadFrom}
 use Rattle.pg_dyn.specs.Kept.{message_of}
-use Rattle.pg_dyn.specs.ScalarItems.{IsItemOf}
-use Rattle.pg_dyn.specs.Seen.{leaf_of}
+use Rattle.pg_dyn.specs.BorrowedItems.{IsItemOf}
+use Rattle.pg_dyn.specs.Borrowed.{leaf_of}
 use Rattle.pg_dyn.specs.Steps.{FieldReads, IsShallow, IsShallowIn, IsShallowRecord, Taken, part_of, parts_held}
 
 -- why reading stops of what should be so: memory was refused, or it isn't so
@@ -29,7 +30,7 @@ StopsFor Good stops.Memory = ⊤
 StopsFor Good stops.Fault = Good → ⊥
 
 -- what the field holds after these records, which it accepts and which all count
-abbrev pub HoldsOf : Shape → FieldShape → List WireRecord → Option Content → Type 0
+abbrev pub HoldsOf : Shape → FieldShape → List WireRecord → Option ContentRef → Type 0
 HoldsOf shape f rs held =
     option_and_then (λ ps. all_some (map (read_part (dec shape) f.element) ps)) (content f rs) ≡ Some (map part_of (parts_held f.number held))
 
@@ -42,7 +43,7 @@ abbrev pub AreOf : FieldShape → List WireRecord → Type 0
 AreOf f rs = AllByRecursion (λ r. IsRecord r × (takes f r ≡ true)) rs
 
 -- the value is the message that the records' bodies are read as, one after the other
-abbrev pub IsChildOf : Shape → TypeId → List WireRecord → Value → Type 0
+abbrev pub IsChildOf : Shape → TypeId → List WireRecord → ValueRef → Type 0
 IsChildOf shape type rs (values.Msg child) = dec shape type (flat_map (λ (r : WireRecord). r.body) rs) ≡ Some (message_of child.value)
 IsChildOf shape type rs value = ⊥
 
@@ -52,9 +53,9 @@ BodiesGood shape levels type rs =
     (levels ≡ 0 → ⊥) × AllByRecursion (λ (r : WireRecord). (is_some (dec shape type r.body) ≡ true) × IsShallowIn shape levels (fields shape type) r.body) rs
 
 -- the key and the value of the entry that the record holds
-abbrev pub IsEntryRead : Shape → Scalar → Element → WireRecord → Value × Value → Type 0
+abbrev pub IsEntryRead : Shape → Scalar → Element → WireRecord → EntryRef → Type 0
 IsEntryRead shape key element r e =
-    (leaf : Leaf) × (entry_in key element r ≡ Some (leaf_of e.0, leaf)) × IsReadFrom shape element leaf e.1 × IsItemOf key e.0 × ItemFits shape element e.1
+    (leaf : Leaf) × (entry_in key element r ≡ Some (leaf_of e.key, leaf)) × IsReadFrom shape element leaf e.value × IsItemOf key e.key × ItemFits shape element e.value
 
 -- each record that a field accepts has a reading, and holds no message that stands too deep
 abbrev pub RecordsGood : Shape → ℕ → List FieldShape → List WireRecord → Type 0

@@ -8,7 +8,6 @@ use Rattle.pg_schema.specs.declared.field.Element.TheVariants as elements
 use Rattle.pg_schema.specs.declared.field.Presence.{Presence}
 use Rattle.pg_schema.specs.declared.field.Presence.TheVariants as presences
 use Rattle.pg_schema.specs.Shape.{Shape, FieldShape, fields, field_at}
-use Rattle.pg_wire.specs.Codes.{code_of as wire_code}
 use Rattle.pg_dyn.specs.declared.error.DynError.{DynError}
 use Rattle.pg_dyn.specs.declared.error.DynError.TheVariants as errors
 use Rattle.pg_dyn.specs.declared.message.Content.{Content}
@@ -107,7 +106,7 @@ abbrev pub ContentsFault : Shape → TypeId → List (ℕ × Content) → DynErr
 ContentsFault shape type cs errors.OneofTwice = HasFieldTwice (fields shape type) cs
 ContentsFault shape type cs e = AnyOf (λ (c : ℕ × Content). ContentFault shape type c.0 c.1 e) cs
 
--- the number after the E by which users know the error
+-- The order of faults: by the number after the E. What bytes are refused for is never the fault of a content, and stands above all.
 abbrev pub code : DynError → ℕ
 code errors.Memory = 1
 code errors.NoSuchField = 601
@@ -118,7 +117,7 @@ code errors.OneofTwice = 605
 code errors.DuplicateKey = 606
 code errors.TooLong = 607
 code (errors.TooDeep at) = 608
-code (errors.Wire e) = wire_code e
+code (errors.Wire e) = 609
 
 -- of what is wrong, the error has the lowest code
 abbrev pub IsLowest : (DynError → Type 0) → DynError → Type 0

@@ -63,9 +63,9 @@ are_rivals_by None g = false
 abbrev pub AreApart : List FieldShape → ℕ → ℕ → Type 0
 AreApart fs a b = (f g : FieldShape) → field_at fs a ≡ Some f → field_at fs b ≡ Some g → is_rival f g ≡ false
 
-abbrev pub NoneRivals : List FieldShape → List (ℕ × Content) → Type 0
+abbrev pub NoneRivals : {A : Type 0} → List FieldShape → List (ℕ × A) → Type 0
 NoneRivals fs [] = ⊤
-NoneRivals fs (m ∷ ms) = AllByRecursion (λ (l : ℕ × Content). AreApart fs m.0 l.0) ms × NoneRivals fs ms
+NoneRivals {A} fs (m ∷ ms) = AllByRecursion (λ (l : ℕ × A). AreApart fs m.0 l.0) ms × NoneRivals fs ms
 
 -- a message of the type with these contents and unknown records fits
 pub record FitsByContents (shape : Shape) (type : TypeId) (ms : List (ℕ × Content)) (us : List WireRecord) : Type 0 where

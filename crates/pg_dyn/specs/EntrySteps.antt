@@ -5,13 +5,13 @@ use Rattle.pg_schema.specs.declared.field.Element.{Element}
 use Rattle.pg_schema.specs.declared.field.Element.TheVariants as elements
 use Rattle.pg_schema.specs.Shape.{Shape, FieldShape}
 use Rattle.pg_wire.specs.Records.{WireRecord}
-use Rattle.pg_dyn.specs.declared.message.Value.{Value}
+use Rattle.pg_dyn.specs.declared.message_ref.ValueRef.{ValueRef}
 use Rattle.pg_dyn.specs.Message.{Leaf}
 use Rattle.pg_dyn.specs.Coding.{form, zero_leaf}
 use Rattle.pg_dyn.specs.Content.{takes, plain_content, key_field, value_field}
-use Rattle.pg_dyn.specs.ContentFits.{ItemFits}
+use Rattle.pg_dyn.specs.BorrowedItems.{ItemFits}
 use Rattle.pg_dyn.specs.Decoding.{read_item, dec}
-use Rattle.pg_dyn.specs.Seen.{item_seen}
+use Rattle.pg_dyn.specs.Borrowed.{item_seen}
 use Rattle.pg_dyn.specs.Steps.{item_of}
 
 -- the fields of an entry
@@ -24,22 +24,22 @@ IsMessageOf (elements.Enum e) = ⊥
 IsMessageOf (elements.Message t) = ⊤
 
 -- the item is that of what stands in the bytes
-abbrev pub IsReadFrom : Shape → Element → Leaf → Value → Type 0
+abbrev pub IsReadFrom : Shape → Element → Leaf → ValueRef → Type 0
 IsReadFrom shape element leaf value = read_item (dec shape) element leaf ≡ Some (item_of (item_seen false value))
 
 -- what is read so far of a part of an entry, if anything is
-abbrev pub PartIs : Shape → Element → Option (List Leaf) → Option Value → Type 0
+abbrev pub PartIs : Shape → Element → Option (List Leaf) → Option ValueRef → Type 0
 PartIs shape element leaves None = leaves ≡ Some []
 PartIs shape element leaves (Some value) = (leaf : Leaf) × (leaves ≡ Some (leaf ∷ [])) × IsReadFrom shape element leaf value
 
-abbrev pub PartFits : Shape → Element → Option Value → Type 0
+abbrev pub PartFits : Shape → Element → Option ValueRef → Type 0
 PartFits shape element None = ⊤
 PartFits shape element (Some value) = ItemFits shape element value
 
-abbrev pub PartRead : Shape → FieldShape → List WireRecord → Option Value → Type 0
+abbrev pub PartRead : Shape → FieldShape → List WireRecord → Option ValueRef → Type 0
 PartRead shape f rs held = PartIs shape f.element (plain_content f (filter (takes f) rs)) held
 
 -- the part of a whole entry: the one that was read, or the default
-abbrev pub WholeItem : Shape → Element → Option Value → Value → Type 0
+abbrev pub WholeItem : Shape → Element → Option ValueRef → ValueRef → Type 0
 WholeItem shape element (Some value) whole = value ≡ whole
 WholeItem shape element None whole = IsReadFrom shape element (zero_leaf (form element)) whole

@@ -13,7 +13,6 @@ use Rattle.pg_dyn.specs.declared.reading.gathering.Gathered.{Gathered}
 use Rattle.pg_dyn.specs.declared.reading.streaks.Streak.{Streak}
 use Rattle.pg_dyn.specs.declared.reading.streaks.Streaks.{Streaks}
 use Rattle.pg_dyn.specs.Content.{counted, is_unknown, takes}
-use Rattle.pg_dyn.specs.Seen.{record_seen}
 
 -- the elements that pass the test, which is told their places
 abbrev pub filter_at : {A : Type 0} → (ℕ → A → Bool) → ℕ → List A → List A
@@ -46,7 +45,7 @@ pub record AreStreaks (fs : List FieldShape) (rs : List WireRecord) (streaks : S
 pub record AreGathered (shape : Shape) (type : TypeId) (rs : List WireRecord) (g : Gathered) : Type 0 where
   pub are_records : AllByRecursion IsRecord rs
   pub known : map seen_record g.known.items ≡ known_of (fields shape type) rs
-  pub unknown : map record_seen g.unknown.items ≡ filter (is_unknown (fields shape type)) rs
+  pub unknown : map seen_record g.unknown.items ≡ filter (is_unknown (fields shape type)) rs
   pub streaks : AreStreaks (fields shape type) (known_of (fields shape type) rs) g.streaks
 
 -- the records' numbers never fall

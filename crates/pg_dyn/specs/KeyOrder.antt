@@ -1,5 +1,5 @@
 -- The order by which a map's entries are sorted, and by which equal keys stand side by side: numbers by value, texts by bytes.
-use Rattle.std.specs.Prelude.{◌≡◌, ℤ, pos, ⊤, ◌⊎◌, List, [], ◌∷◌, Bool}
+use Rattle.std.specs.Prelude.{◌≡◌, ℤ, pos, ⊤, ◌⊎◌, List, [], ◌∷◌, Bool, true, false}
 use Rattle.std.specs.List.{AllByRecursion}
 use Rattle.std.specs.declared.cmp.Ordering.{Ordering}
 use Rattle.std.specs.declared.cmp.Ordering.TheVariants.{Less}
@@ -9,7 +9,7 @@ use Rattle.pg_dyn.specs.declared.message.Content.{Content}
 use Rattle.pg_dyn.specs.declared.message.Content.TheVariants as contents
 use Rattle.pg_dyn.specs.declared.message.Value.{Value}
 use Rattle.pg_dyn.specs.declared.message.Value.TheVariants as values
-use Rattle.pg_dyn.specs.Message.{Leaf, Int, key_cmp}
+use Rattle.pg_dyn.specs.Message.{Leaf, Int, Bytes, key_cmp}
 use Rattle.pg_dyn.specs.Content.{leaf_bytes}
 use Rattle.pg_dyn.specs.Seen.{leaf_of}
 
@@ -28,6 +28,19 @@ rank_cmp k l = ordering_then (int_cmp (number_in k) (number_in l)) (slice_cmp na
 
 abbrev pub ranks_below : Value × Value → Value × Value → Bool
 ranks_below a b = is_lt (rank_cmp (leaf_of a.0) (leaf_of b.0))
+
+-- two numbers, or two texts
+abbrev pub AreSame : Leaf → Leaf → Type 0
+AreSame (Int m) (Int n) = ⊤
+AreSame (Bytes a) (Bytes b) = ⊤
+AreSame k l = ⊥
+
+-- a key that is a number, or one that is a text
+abbrev pub IsOfKind : Bool → Leaf → Type 0
+IsOfKind true (Int n) = ⊤
+IsOfKind true leaf = ⊥
+IsOfKind false (Bytes bytes) = ⊤
+IsOfKind false leaf = ⊥
 
 -- the keys are all numbers, or all texts
 abbrev pub IsNumber : Value → Type 0

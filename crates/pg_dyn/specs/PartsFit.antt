@@ -1,12 +1,30 @@
 -- The parts of a message that fits, one by one (proto3 language guide, "Field Presence", "Maps").
-use Rattle.std.specs.Prelude.{◌≡◌, Some}
+use Rattle.std.specs.Prelude.{◌≡◌, ⊤, List, [], ◌∷◌, Some}
+use Rattle.std.specs.List.{AllByRecursion}
 use Rattle.pg_schema.specs.declared.field.TypeId.{TypeId}
+use Rattle.pg_schema.specs.declared.field.Element.{Element}
 use Rattle.pg_schema.specs.declared.field.Element.TheVariants as elements
+use Rattle.pg_schema.specs.declared.field.Scalar.{Scalar}
+use Rattle.pg_schema.specs.declared.field.Scalar.TheVariants.{Int32}
+use Rattle.pg_schema.specs.declared.field.Presence.{Presence}
 use Rattle.pg_schema.specs.Shape.{Shape, FieldShape, fields, field_at, is_repeated}
-use Rattle.pg_dyn.specs.Belonging.{KeyFits, LeafFits}
+use Rattle.pg_dyn.specs.Belonging.{KeyFits, LeafFits, MayFollow}
+use Rattle.pg_dyn.specs.Coding.{InRange, scalar_form}
 use Rattle.pg_dyn.specs.Fits.{Fits}
 use Rattle.pg_dyn.specs.Kept.{KeptItem, Plain, Msg, type_of}
 use Rattle.pg_dyn.specs.Message.{Part}
+
+-- the item is one of the scalar: of its kind, in its range, a text UTF-8
+abbrev pub IsScalarItem : Scalar → KeptItem → Type 0
+IsScalarItem s (Plain listed leaf) = InRange (scalar_form s) leaf
+IsScalarItem s (Msg listed child) = ⊥
+
+-- the item is one of the element; an enum takes the numbers of int32
+abbrev pub IsElementItem : Shape → Element → KeptItem → Type 0
+IsElementItem shape (elements.Scalar s) item = IsScalarItem s item
+IsElementItem shape (elements.Enum e) item = IsScalarItem Int32 item
+IsElementItem shape (elements.Message t) (Plain listed leaf) = ⊥
+IsElementItem shape (elements.Message t) (Msg listed child) = Fits shape child × (type_of child ≡ t)
 
 -- the item is one of the field: in a list just where the field is repeated, and a leaf of its element, or a message of its type that fits
 abbrev pub HoldsItem : Shape → FieldShape → KeptItem → Type 0
@@ -19,3 +37,19 @@ pub record HoldsPart (shape : Shape) (type : TypeId) (p : Part KeptItem) : Type 
   pub found : field_at (fields shape type) p.number ≡ Some field
   pub key : KeyFits field.presence p.key
   pub item : HoldsItem shape field p.item
+
+-- a part of the field
+pub record IsPartOf (shape : Shape) (f : FieldShape) (p : Part KeptItem) : Type 0 where
+  pub number_is : p.number ≡ f.number
+  pub key_fits : KeyFits f.presence p.key
+  pub item : HoldsItem shape f p.item
+
+-- a singular field has at most one part, a map's keys rise
+abbrev pub InOrder : Presence → List (Part KeptItem) → Type 0
+InOrder presence [] = ⊤
+InOrder presence (p ∷ ps) = AllByRecursion (λ (q : Part KeptItem). MayFollow presence p.key q.key) ps × InOrder presence ps
+
+-- the parts are such as the field holds together
+pub record FieldHolds (shape : Shape) (f : FieldShape) (ps : List (Part KeptItem)) : Type 0 where
+  pub each : AllByRecursion (IsPartOf shape f) ps
+  pub in_order : InOrder f.presence ps

@@ -10,17 +10,17 @@ use Rattle.pg_wire.specs.Reading.{Fault, row}
 use Rattle.pg_wire.specs.Records.{WireRecord}
 use Rattle.pg_dyn.specs.declared.error.DynError.{DynError}
 use Rattle.pg_dyn.specs.declared.error.DynError.TheVariants as errors
-use Rattle.pg_dyn.specs.declared.message.Content.{Content}
-use Rattle.pg_dyn.specs.declared.message.Value.{Value}
+use Rattle.pg_dyn.specs.declared.message_ref.ContentRef.{ContentRef}
+use Rattle.pg_dyn.specs.declared.message_ref.ValueRef.{ValueRef}
 use Rattle.pg_dyn.specs.Message.{Item, Part}
 use Rattle.pg_dyn.specs.Message as model
 use Rattle.pg_dyn.specs.Coding.{element_at, form_wire, scalar_form}
 use Rattle.pg_dyn.specs.Content.{packed_leaves, takes}
-use Rattle.pg_dyn.specs.ScalarItems.{IsItemOf}
+use Rattle.pg_dyn.specs.BorrowedItems.{IsItemOf}
 use Rattle.pg_dyn.specs.Decoding.{is_readable, dec}
 use Rattle.pg_dyn.specs.Kept.{KeptItem, Plain, Msg, message_of}
-use Rattle.pg_dyn.specs.Seen.{IsFilled, content_seen, leaf_of}
-use Rattle.pg_dyn.specs.ContentFits.{ContentFits}
+use Rattle.pg_dyn.specs.Borrowed.{HasKeys, IsFilled, content_seen, leaf_of}
+use Rattle.pg_dyn.specs.PartsFit.{FieldHolds}
 use Rattle.pg_dyn.specs.Faults.{Code, Wire, NotUtf8, FaultIn, FaultOf}
 use Rattle.pg_dyn.specs.TooDeep.{TooDeepIn, TooDeepOf}
 
@@ -32,13 +32,14 @@ item_of (Msg listed m) = model.Msg (message_of m)
 abbrev pub part_of : Part KeptItem → Part Item
 part_of p = record { number = p.number; key = p.key; item = item_of p.item }
 
-abbrev pub parts_held : ℕ → Option Content → List (Part KeptItem)
+abbrev pub parts_held : ℕ → Option ContentRef → List (Part KeptItem)
 parts_held number None = []
 parts_held number (Some content) = content_seen number content
 
-abbrev pub HeldFits : Shape → FieldShape → Option Content → Type 0
+-- the field holds nothing, or a content of such parts that isn't empty and whose keys are no messages
+abbrev pub HeldFits : Shape → FieldShape → Option ContentRef → Type 0
 HeldFits shape f None = ⊤
-HeldFits shape f (Some content) = ContentFits shape f.presence f.element content × IsFilled content
+HeldFits shape f (Some content) = FieldHolds shape f (content_seen f.number content) × IsFilled content × HasKeys content
 
 -- Why reading is refused: memory was, or what the error names stands that many bytes behind a place.
 abbrev pub RefusedBy : (Code → ℕ → Type 0) → (ℕ → Type 0) → ℕ → DynError → Type 0
@@ -91,9 +92,9 @@ abbrev pub FieldReads : Shape → FieldShape → WireRecord → Type 0
 FieldReads shape f r = is_readable (dec shape) f r ≡ true
 
 -- A packed list is read behind items, and why it isn't.
-abbrev pub RowReads : Scalar → List ℕ → List Value → List Value → Type 0
+abbrev pub RowReads : Scalar → List ℕ → List ValueRef → List ValueRef → Type 0
 RowReads s body old new =
-    (values : List Value) × (new ≡ old ++ values) × (packed_leaves (scalar_form s) body ≡ Some (map leaf_of values)) × AllByRecursion (IsItemOf s) values
+    (values : List ValueRef) × (new ≡ old ++ values) × (packed_leaves (scalar_form s) body ≡ Some (map leaf_of values)) × AllByRecursion (IsItemOf s) values
 
 abbrev pub RowRefused : Scalar → List ℕ → ℕ → DynError → Type 0
 RowRefused s body at e = (e ≡ errors.Memory) ⊎ ((fault : Fault) × (e ≡ errors.Wire (error_at fault at)) × (row (element_at (form_wire (scalar_form s))) body ≡ Err fault))

@@ -1,28 +1,24 @@
--- What a writer makes of a message item by item, and the lengths that it counts ahead (Encoding guide, "Message Structure",
+-- What a writer makes of a message part by part, and the lengths that it counts ahead (Encoding guide, "Message Structure",
 -- "Packed Repeated Fields", "Maps").
-use Rattle.std.specs.Prelude.{◌≡◌, ◌⊎◌, ◌<◌, ⊤, ℕ, min, nat_eq, List, [], ◌∷◌, ◌++◌, flat_map, length, Bool, true, false, if◌then◌else◌, Option, Some, None}
+use Rattle.std.specs.Prelude.{◌≡◌, ◌⊎◌, ◌<◌, ⊤, ℕ, min, nat_eq, List, [], ◌∷◌, ◌++◌, map, flat_map, length, Bool, true, false, if◌then◌else◌, Option, Some, None}
+use Rattle.std.specs.List.{AllByRecursion}
 use Rattle.pg_schema.specs.declared.field.Scalar.{Scalar}
-use Rattle.pg_schema.specs.declared.field.TypeId.{TypeId}
 use Rattle.pg_schema.specs.declared.field.Element.{Element}
 use Rattle.pg_schema.specs.declared.field.Element.TheVariants as elements
-use Rattle.pg_schema.specs.declared.field.Scalar.TheVariants.{Int32}
+use Rattle.pg_schema.specs.declared.field.TypeId.{TypeId}
 use Rattle.pg_schema.specs.declared.field.Presence.{Presence}
 use Rattle.pg_schema.specs.declared.field.Presence.TheVariants as presences
 use Rattle.pg_schema.specs.Shape.{Shape, FieldShape, fields, field_at, is_packable}
 use Rattle.pg_wire.specs.declared.record.WireType.TheVariants.{Len}
-use Rattle.pg_wire.specs.Records.{written}
+use Rattle.pg_wire.specs.Records.{WireRecord, written}
 use Rattle.pg_dyn.specs.declared.error.DynError.{DynError}
 use Rattle.pg_dyn.specs.declared.error.DynError.TheVariants as errors
-use Rattle.pg_dyn.specs.declared.message.Content.{Content}
-use Rattle.pg_dyn.specs.declared.message.Content.TheVariants as contents
-use Rattle.pg_dyn.specs.declared.message.Value.{Value}
-use Rattle.pg_dyn.specs.declared.message.Value.TheVariants as values
-use Rattle.pg_dyn.specs.Message.{Leaf, Bytes}
-use Rattle.pg_dyn.specs.Coding.{body, form}
-use Rattle.pg_dyn.specs.Kept.{Kept, ends, holds, nests, type_of, message_of}
-use Rattle.pg_dyn.specs.ScalarItems.{IsItemOf}
-use Rattle.pg_dyn.specs.Seen.{leaf_of}
-use Rattle.pg_dyn.specs.Writing.{entry_bytes, item_record}
+use Rattle.pg_dyn.specs.Message.{Leaf, Bytes, Part}
+use Rattle.pg_dyn.specs.Coding.{InRange, body, form}
+use Rattle.pg_dyn.specs.Fits.{Fits}
+use Rattle.pg_dyn.specs.Kept.{Kept, ends, holds, nests, KeptItem, type_of, message_of}
+use Rattle.pg_dyn.specs.Lending.{Bare, Lone, Child, bare, bare_leaf}
+use Rattle.pg_dyn.specs.Writing.{bytes_of, entry_bytes, field_records, item_record}
 use Rattle.pg_dyn.specs.Encoding.{cap, enc}
 
 -- the encoding of a message by the type that it says
@@ -30,46 +26,45 @@ abbrev pub own_bytes : Shape → Kept → List ℕ
 own_bytes shape m = enc shape (type_of m) (message_of m)
 
 -- an item with its bytes in the place of a message
-abbrev pub item_leaf : Shape → Value → Leaf
-item_leaf shape (values.Msg child) = Bytes (own_bytes shape child.value)
-item_leaf shape value = leaf_of value
+abbrev pub item_leaf : Shape → Bare → Leaf
+item_leaf shape (Lone leaf) = leaf
+item_leaf shape (Child m) = Bytes (own_bytes shape m)
 
-abbrev pub item_body : Shape → Element → Value → List ℕ
-item_body shape e value = body (form e) (item_leaf shape value)
+abbrev pub item_body : Shape → Element → Bare → List ℕ
+item_body shape e x = body (form e) (item_leaf shape x)
 
-abbrev pub item_bytes : Shape → ℕ → Element → Value → List ℕ
-item_bytes shape number e value = (item_record number e (item_leaf shape value)).bytes
+abbrev pub item_bytes : Shape → ℕ → Element → Bare → List ℕ
+item_bytes shape number e x = (item_record number e (item_leaf shape x)).bytes
 
--- an entry's body, and its record
-abbrev pub entry_body : Shape → Scalar → Element → Value × Value → List ℕ
-entry_body shape key e x = entry_bytes key e (leaf_of x.0) (item_leaf shape x.1)
+-- the body of the entry with that key and value, and its record
+abbrev pub entry_body : Shape → Scalar → Element → Leaf → Bare → List ℕ
+entry_body shape key e k x = entry_bytes key e k (item_leaf shape x)
 
-abbrev pub entry_record : Shape → ℕ → Scalar → Element → Value × Value → List ℕ
-entry_record shape number key e x = (written number Len (entry_body shape key e x)).bytes
+abbrev pub entry_record : Shape → ℕ → Scalar → Element → Leaf → Bare → List ℕ
+entry_record shape number key e k x = (written number Len (entry_body shape key e k x)).bytes
 
 -- items one after the other, in one record
-abbrev pub packed_body : Element → List Value → List ℕ
-packed_body e vs = flat_map (λ value. body (form e) (leaf_of value)) vs
+abbrev pub packed_body : {V : Type 0} → (V → Bare) → Element → List V → List ℕ
+packed_body item e vs = flat_map (λ v. body (form e) (bare_leaf (item v))) vs
 
-abbrev pub packed_bytes : ℕ → Element → List Value → List ℕ
-packed_bytes number e [] = []
-packed_bytes number e (v ∷ vs) = (written number Len (packed_body e (v ∷ vs))).bytes
+abbrev pub packed_bytes : {V : Type 0} → (V → Bare) → ℕ → Element → List V → List ℕ
+packed_bytes item number e [] = []
+packed_bytes item number e (v ∷ vs) = (written number Len (packed_body item e (v ∷ vs))).bytes
 
--- the records of a content, by its field's presence and element
-abbrev pub content_written : Shape → ℕ → Presence → Element → Content → List ℕ
-content_written shape number presences.Implicit e (contents.One v) = item_bytes shape number e v
-content_written shape number presences.Explicit e (contents.One v) = item_bytes shape number e v
-content_written shape number (presences.Repeated true) e (contents.Many vs) = packed_bytes number e vs.items
-content_written shape number (presences.Repeated false) e (contents.Many vs) = flat_map (item_bytes shape number e) vs.items
-content_written shape number (presences.Map key) e (contents.Map es) = flat_map (entry_record shape number key e) es.items
-content_written shape number p e c = []
+-- a part with its bytes in the place of a message, and the records of a field's parts
+abbrev pub written_part : Shape → Part KeptItem → Part Leaf
+written_part shape p = record { number = p.number; key = p.key; item = item_leaf shape (bare p.item) }
 
-abbrev pub written_by : Shape → Option FieldShape → ℕ × Content → List ℕ
-written_by shape (Some f) c = content_written shape c.0 f.presence f.element c.1
-written_by shape None c = []
+abbrev pub records_by : Option FieldShape → List (Part Leaf) → List WireRecord
+records_by (Some f) ps = field_records f ps
+records_by None ps = []
 
-abbrev pub field_written : Shape → TypeId → ℕ × Content → List ℕ
-field_written shape type c = written_by shape (field_at (fields shape type) c.0) c
+abbrev pub field_written : Shape → FieldShape → List (Part KeptItem) → List ℕ
+field_written shape f ps = bytes_of (field_records f (map (written_part shape) ps))
+
+-- the bytes of the parts of the field with that number
+abbrev pub parts_written : Shape → TypeId → ℕ → List (Part KeptItem) → List ℕ
+parts_written shape type number ps = bytes_of (records_by (field_at (fields shape type) number) (map (written_part shape) ps))
 
 -- only what can be packed is
 abbrev pub CanBePacked : Presence → Element → Type 0
@@ -79,11 +74,18 @@ CanBePacked presences.Implicit e = ⊤
 CanBePacked presences.Explicit e = ⊤
 CanBePacked (presences.Map key) e = ⊤
 
--- an item of an element that is no message
-abbrev pub LeafFits : Element → Value → Type 0
-LeafFits (elements.Scalar s) v = IsItemOf s v
-LeafFits (elements.Enum e) v = IsItemOf Int32 v
-LeafFits (elements.Message t) v = ⊥
+-- a leaf of an element that is no message, and an item of any
+abbrev pub LeafFits : Element → Leaf → Type 0
+LeafFits (elements.Scalar s) leaf = InRange (form (elements.Scalar s)) leaf
+LeafFits (elements.Enum e) leaf = InRange (form (elements.Enum e)) leaf
+LeafFits (elements.Message t) leaf = ⊥
+
+abbrev pub BareFits : Shape → Element → Bare → Type 0
+BareFits shape e (Lone leaf) = LeafFits e leaf
+BareFits shape e (Child m) = Fits shape m × (e ≡ elements.Message (type_of m))
+
+abbrev pub LeavesFit : {V : Type 0} → (V → Bare) → Element → List V → Type 0
+LeavesFit item e vs = AllByRecursion (λ v. LeafFits e (bare_leaf (item v))) vs
 
 -- A length as it is counted: all that is too long is one.
 abbrev pub capped : ℕ → ℕ
@@ -124,27 +126,33 @@ lengths_behind shape fs before (nests number key listed child later) =
 abbrev pub inner_lengths : Shape → Kept → List ℕ
 inner_lengths shape m = lengths_behind shape (fields shape (type_of m)) 0 m
 
-abbrev pub value_lengths : Shape → Value → List ℕ
-value_lengths shape (values.Msg child) = capped (length (own_bytes shape child.value)) ∷ inner_lengths shape child.value
-value_lengths shape value = []
+abbrev pub item_lengths : Shape → Bare → List ℕ
+item_lengths shape (Lone leaf) = []
+item_lengths shape (Child m) = capped (length (own_bytes shape m)) ∷ inner_lengths shape m
 
-abbrev pub packed_lengths : Element → List Value → List ℕ
-packed_lengths e [] = []
-packed_lengths e (v ∷ vs) = capped (length (packed_body e (v ∷ vs))) ∷ []
+abbrev pub packed_lengths : {V : Type 0} → (V → Bare) → Element → List V → List ℕ
+packed_lengths item e [] = []
+packed_lengths item e (v ∷ vs) = capped (length (packed_body item e (v ∷ vs))) ∷ []
 
-abbrev pub content_lengths : Shape → Presence → Element → Content → List ℕ
-content_lengths shape p e (contents.One v) = value_lengths shape v
-content_lengths shape p e (contents.Map es) = flat_map (λ (x : Value × Value). value_lengths shape x.1) es.items
-content_lengths shape (presences.Repeated true) e (contents.Many vs) = packed_lengths e vs.items
-content_lengths shape p e (contents.Many vs) = flat_map (value_lengths shape) vs.items
+-- the lengths that are noted of a field's parts
+abbrev pub lengths_by : Shape → Option FieldShape → List (Part KeptItem) → List ℕ
+lengths_by shape (Some f) ps =
+    if is_packed f.presence then packed_lengths (λ (p : Part KeptItem). bare p.item) f.element ps else flat_map (λ (p : Part KeptItem). item_lengths shape (bare p.item)) ps
+lengths_by shape None ps = []
 
-abbrev pub lengths_by : Shape → Option FieldShape → ℕ × Content → List ℕ
-lengths_by shape (Some f) c = content_lengths shape f.presence f.element c.1
-lengths_by shape None c = []
+abbrev pub field_lengths : Shape → FieldShape → List (Part KeptItem) → List ℕ
+field_lengths shape f ps = lengths_by shape (Some f) ps
 
-abbrev pub field_lengths : Shape → TypeId → ℕ × Content → List ℕ
-field_lengths shape type c = lengths_by shape (field_at (fields shape type) c.0) c
+abbrev pub parts_lengths : Shape → TypeId → ℕ → List (Part KeptItem) → List ℕ
+parts_lengths shape type number ps = lengths_by shape (field_at (fields shape type) number) ps
+
+-- Where the lengths begin with those that were noted, the bytes are added behind those before, and the other lengths are left.
+abbrev pub Adds : List ℕ → List ℕ → List ℕ → List ℕ → List ℕ → List ℕ → Type 0
+Adds lengths noted before bytes after left = (rest : List ℕ) → lengths ≡ noted ++ rest → (after ≡ before ++ bytes) × (left ≡ rest)
 
 -- Why that many bytes may not be written: memory was refused, or they are more than an encoding may have.
 abbrev pub MayNotWrite : ℕ → DynError → Type 0
 MayNotWrite len e = (e ≡ errors.Memory) ⊎ ((e ≡ errors.TooLong) × (cap < len))
+
+abbrev pub MayNotAdd : List ℕ → List ℕ → List ℕ → DynError → Type 0
+MayNotAdd lengths noted bytes e = (rest : List ℕ) → lengths ≡ noted ++ rest → MayNotWrite (length bytes) e

@@ -1,8 +1,10 @@
-ghost use Rattle.std.specs.Prelude.{◌≡◌, ◌&&◌, ◌||◌};
+ghost use Rattle.std.specs.Prelude.{◌≡◌, ◌&&◌, ◌||◌, false, MatchOption};
+ghost use Rattle.pg_schema.specs.declared.field.Presence.TheVariants as presences;
 ghost use Rattle.pg_schema.specs.Parts.{field_shape};
-ghost use Rattle.pg_schema.specs.Shape.{is_packable, is_repeated};
+ghost use Rattle.pg_schema.specs.Shape.{is_map, is_packable, is_repeated};
 ghost use Rattle.pg_dyn.specs.Coding.{form, form_wire};
 ghost use Rattle.pg_dyn.specs.Content.{own_wire, same_wire};
+ghost use Rattle.pg_dyn.specs.Written.{is_packed};
 ghost use Rattle.pg_wire.specs.declared.record.WireType.TheVariants.{Len};
 
 use crate::body::wire_type_of;
@@ -49,5 +51,25 @@ pub(crate) fn accepts(field: &Field, wire_type: WireType) -> bool
                 || (wire_type == WireType::Len && is_packable(field.element))
         }
         Presence::Implicit | Presence::Explicit => wire_type == element_wire_type(field.element),
+    }
+}
+
+/// The type of a map's keys; `None` of a field that is no map.
+pub(crate) fn map_key(presence: Presence) -> Option<Scalar>
+    ensures { MatchOption result (is_map presence ≡ false) (λ key. presence ≡ presences.Map key) }
+{
+    match presence {
+        Presence::Map { key } => Some(key),
+        Presence::Implicit | Presence::Explicit | Presence::Repeated { .. } => None,
+    }
+}
+
+/// Whether the items of a field stand in one record.
+pub(crate) fn is_packed(presence: Presence) -> bool
+    ensures { result ≡ is_packed presence }
+{
+    match presence {
+        Presence::Repeated { packed } => packed,
+        Presence::Implicit | Presence::Explicit | Presence::Map { .. } => false,
     }
 }

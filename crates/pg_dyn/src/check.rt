@@ -116,7 +116,7 @@ pub(crate) fn lower(
         (Ok(()), _) => second,
         (Err(_), Ok(())) => first,
         (Err(one), Err(other)) => {
-            if other.code() < one.code() {
+            if other.rank() < one.rank() {
                 second
             } else {
                 first

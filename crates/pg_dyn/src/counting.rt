@@ -3,25 +3,24 @@
 ghost use Rattle.std.specs.Prelude.{◌≡◌, ℕ, ◌+◌, ◌^◌, ◌<◌, ◌++◌, List, length, flat_map, true, IfOk, OnOk};
 ghost use Rattle.std.specs.List.{AllByRecursion};
 ghost use Rattle.pg_schema.specs.Invariant.{IsSchema};
-ghost use Rattle.pg_schema.specs.Parts.{shape_of};
+ghost use Rattle.pg_schema.specs.Parts.{field_shape, shape_of};
+ghost use Rattle.pg_schema.specs.Shape.{is_packable};
 ghost use Rattle.pg_wire.specs.declared.record.WireType.TheVariants.{Len};
 ghost use Rattle.pg_wire.specs.Records.{length_before, written};
-ghost use Rattle.pg_dyn.specs.Coding.{body, form, scalar_form, word_bytes};
-ghost use Rattle.pg_dyn.specs.ContentFits.{ContentFits, ItemFits};
-ghost use Rattle.pg_dyn.specs.EncodedFields.{record_bytes};
+ghost use Rattle.pg_dyn.specs.Coding.{InRange, body, form, scalar_form, word_bytes};
 ghost use Rattle.pg_dyn.specs.Fits.{Fits};
-ghost use Rattle.pg_dyn.specs.ScalarItems.{IsItemOf};
-ghost use Rattle.pg_dyn.specs.Seen.{leaf_of};
+ghost use Rattle.pg_dyn.specs.Lending.{bare_leaf, leaf_lent};
+ghost use Rattle.pg_dyn.specs.PartsFit.{IsPartOf};
 ghost use Rattle.pg_dyn.specs.WordOf.{HasBits};
 ghost use Rattle.pg_dyn.specs.Writing.{item_record};
-ghost use Rattle.pg_dyn.specs.Written.{CanBePacked, LeafFits, capped, content_lengths, content_written, inner_lengths, item_body, own_bytes, packed_body, packed_bytes, packed_lengths, value_lengths};
+ghost use Rattle.pg_dyn.specs.Written.{BareFits, CanBePacked, LeafFits, LeavesFit, capped, entry_record, field_lengths, field_written, inner_lengths, item_body, item_bytes, item_lengths, own_bytes, packed_body, packed_bytes, packed_lengths};
 ghost use Rattle.pg_schema.specs.declared.field.Element.TheVariants as elements;
 
-use crate::accept::element_wire_type;
+use crate::accept::{element_wire_type, is_packed, map_key};
 use crate::body::wire_type_of;
-use crate::message::{Content, Message, UnknownRecord, Value};
+use crate::lending::{LeafRef, Lends};
 use crate::word::word_of;
-use pg_schema::{Element, Field, Presence, Scalar, Schema};
+use pg_schema::{Element, Field, Scalar, Schema};
 use pg_wire::{WireType, tag_len, varint_len};
 use std::alloc::AllocError;
 
@@ -57,17 +56,15 @@ fn word_len(wire_type: WireType, word: u64) -> usize
 }
 
 /// How many bytes an item's body takes.
-pub(crate) fn body_len(scalar: Scalar, value: &Value) -> usize
-    requires { IsItemOf scalar value.now }
-    ensures { result ≡ length (body (scalar_form scalar) (leaf_of value.now)) }
+pub(crate) fn body_len(scalar: Scalar, leaf: LeafRef<'_>) -> usize
+    requires { InRange (scalar_form scalar) (leaf_lent leaf) }
+    ensures { result ≡ length (body (scalar_form scalar) (leaf_lent leaf.entry)) }
 {
-    match value {
-        Value::Int(number) => word_len(wire_type_of(scalar), word_of(scalar, *number)),
-        Value::F32(bits) => word_len(WireType::I32, u64::from(*bits)),
-        Value::F64(bits) => word_len(WireType::I64, *bits),
-        Value::Text(text) => text.len(),
-        Value::Bytes(bytes) => bytes.len(),
-        Value::Msg(_) => 0,
+    match leaf {
+        LeafRef::Int(number) => word_len(wire_type_of(scalar), word_of(scalar, number)),
+        LeafRef::F32(bits) => word_len(WireType::I32, u64::from(bits)),
+        LeafRef::F64(bits) => word_len(WireType::I64, bits),
+        LeafRef::Bytes(bytes) => bytes.len(),
     }
 }
 
@@ -91,198 +88,234 @@ pub(crate) fn record_len(number: u32, wire_type: WireType, len: usize) -> usize
 }
 
 /// How many bytes the body of an item takes that is no message.
-pub(crate) fn leaf_len(element: Element, value: &Value) -> usize
-    requires { LeafFits element value.now }
-    ensures { result ≡ length (body (form element) (leaf_of value.now)) }
+pub(crate) fn leaf_len(element: Element, leaf: LeafRef<'_>) -> usize
+    requires { LeafFits element (leaf_lent leaf) }
+    ensures { result ≡ length (body (form element) (leaf_lent leaf.entry)) }
 {
     match element {
-        Element::Scalar(scalar) => body_len(scalar, value),
-        Element::Enum(_) => body_len(Scalar::Int32, value),
+        Element::Scalar(scalar) => body_len(scalar, leaf),
+        Element::Enum(_) => body_len(Scalar::Int32, leaf),
         Element::Message(_) => 0,
     }
 }
 
 // How many bytes the bodies of a list take, counted one by one.
 #[inline(always)]
-fn each_len(element: Element, values: &[Value]) -> usize
-    requires { AllByRecursion (LeafFits element) values.now }
-    ensures { result ≡ capped (length (packed_body element values.now)) }
+fn each_len<M: Lends>(element: Element, values: &[M::Value]) -> usize
+    requires { LeavesFit M.item element values.now }
+    ensures { result ≡ capped (length (packed_body M.item element values.now)) }
 {
     let mut total = 0;
     for value in values {
-        total = add(total, cap(leaf_len(element, value)));
+        total = add(total, cap(leaf_len(element, M::leaf(value))));
     }
     total
 }
 
 // The same, by a loop for each scalar whose bodies are varints.
-fn bodies_len(element: Element, values: &[Value]) -> usize
-    requires { AllByRecursion (LeafFits element) values.now }
-    ensures { result ≡ capped (length (packed_body element values.now)) }
+fn bodies_len<M: Lends>(element: Element, values: &[M::Value]) -> usize
+    requires { LeavesFit M.item element values.now }
+    ensures { result ≡ capped (length (packed_body M.item element values.now)) }
 {
     match element {
-        Element::Scalar(Scalar::Int32) => each_len(Element::Scalar(Scalar::Int32), values),
-        Element::Scalar(Scalar::Int64) => each_len(Element::Scalar(Scalar::Int64), values),
-        Element::Scalar(Scalar::Uint32) => each_len(Element::Scalar(Scalar::Uint32), values),
-        Element::Scalar(Scalar::Uint64) => each_len(Element::Scalar(Scalar::Uint64), values),
-        Element::Scalar(Scalar::Sint32) => each_len(Element::Scalar(Scalar::Sint32), values),
-        Element::Scalar(Scalar::Sint64) => each_len(Element::Scalar(Scalar::Sint64), values),
-        Element::Scalar(Scalar::Bool) => each_len(Element::Scalar(Scalar::Bool), values),
-        _ => each_len(element, values),
+        Element::Scalar(Scalar::Int32) => each_len::<M>(Element::Scalar(Scalar::Int32), values),
+        Element::Scalar(Scalar::Int64) => each_len::<M>(Element::Scalar(Scalar::Int64), values),
+        Element::Scalar(Scalar::Uint32) => each_len::<M>(Element::Scalar(Scalar::Uint32), values),
+        Element::Scalar(Scalar::Uint64) => each_len::<M>(Element::Scalar(Scalar::Uint64), values),
+        Element::Scalar(Scalar::Sint32) => each_len::<M>(Element::Scalar(Scalar::Sint32), values),
+        Element::Scalar(Scalar::Sint64) => each_len::<M>(Element::Scalar(Scalar::Sint64), values),
+        Element::Scalar(Scalar::Bool) => each_len::<M>(Element::Scalar(Scalar::Bool), values),
+        _ => each_len::<M>(element, values),
     }
 }
 
 // How many bytes the bodies of a packed list take.
-fn packed_len(element: Element, values: &[Value]) -> usize
-    requires { AllByRecursion (LeafFits element) values.now }
-    ensures { result ≡ capped (length (packed_body element values.now)) }
+fn packed_len<M: Lends>(element: Element, values: &[M::Value]) -> usize
+    requires { LeavesFit M.item element values.now }
+    ensures { result ≡ capped (length (packed_body M.item element values.now)) }
 {
     match element_wire_type(element) {
         WireType::I64 => cap(values.len().saturating_mul(8)),
         WireType::I32 => cap(values.len().saturating_mul(4)),
-        WireType::Varint | WireType::Len => bodies_len(element, values),
+        WireType::Varint | WireType::Len => bodies_len::<M>(element, values),
     }
 }
 
 // How many bytes the record of a packed list takes, which an empty one doesn't have. The length of its body comes
 // behind the others.
-fn count_packed(
+fn count_packed<M: Lends>(
     number: u32,
     element: Element,
-    values: &[Value],
+    values: &[M::Value],
     inner: &mut Vec<usize>,
 ) -> Result<usize, AllocError>
     requires number { number < 2 ^ 29 }
-    requires fit { AllByRecursion (LeafFits element) values.now }
-    ensures len { IfOk result (λ len. len ≡ capped (length (packed_bytes number element values.now))) }
-    ensures inner { OnOk result (inner.new.items ≡ inner.old.items ++ packed_lengths element values.now) }
+    requires fit { LeavesFit M.item element values.now }
+    ensures len { IfOk result (λ len. len ≡ capped (length (packed_bytes M.item number element values.now))) }
+    ensures inner { OnOk result (inner.new.items ≡ inner.old.items ++ packed_lengths M.item element values.now) }
 {
-    match values {
-        [] => Ok(0),
-        _ => {
-            let len = packed_len(element, values);
-            inner.push(len)?;
-            Ok(record_len(number, WireType::Len, len))
-        }
+    if values.is_empty() {
+        return Ok(0);
     }
+    let len = packed_len::<M>(element, values);
+    inner.push(len)?;
+    Ok(record_len(number, WireType::Len, len))
 }
 
 /// How many bytes the body of an entry takes, of which the value's takes as many.
-pub(crate) fn entry_len(key: Scalar, entry_key: &Value, wire_type: WireType, len: usize) -> usize
-    requires { IsItemOf key entry_key.now }
-    ensures { (bytes : List ℕ) → len ≡ capped (length bytes) → result ≡ capped (length ((item_record 1 (elements.Scalar key) (leaf_of entry_key.now)).bytes ++ (written 2 wire_type bytes).bytes)) }
+pub(crate) fn entry_len(key: Scalar, leaf: LeafRef<'_>, wire_type: WireType, len: usize) -> usize
+    requires { InRange (scalar_form key) (leaf_lent leaf) }
+    ensures { (bytes : List ℕ) → len ≡ capped (length bytes) → result ≡ capped (length ((item_record 1 (elements.Scalar key) (leaf_lent leaf.entry)).bytes ++ (written 2 wire_type bytes).bytes)) }
 {
-    let first = record_len(1, wire_type_of(key), cap(body_len(key, entry_key)));
+    let first = record_len(1, wire_type_of(key), cap(body_len(key, leaf)));
     let second = record_len(2, wire_type, len);
     add(first, second)
 }
 
 // How many bytes the records take.
-fn unknown_len(unknown: &[UnknownRecord]) -> usize
-    ensures { result ≡ capped (length (flat_map record_bytes unknown.now)) }
+fn unknown_len<M: Lends>(records: &[M::Unknown]) -> usize
+    ensures { result ≡ capped (length (flat_map (λ r. (M.record_of r).bytes) records.now)) }
 {
     let mut total = 0;
-    for found in unknown {
-        total = add(total, cap(found.bytes.len()));
+    for found in records {
+        total = add(total, cap(M::record_bytes(found).len()));
     }
     total
 }
 
-impl Value {
-    // How many bytes the item's body takes. The lengths of the messages in it come behind the others.
-    #[cycle(count)]
-    fn count(
-        &self,
-        schema: &Schema,
-        element: Element,
-        inner: &mut Vec<usize>,
-    ) -> Result<usize, AllocError>
-        requires is_schema { IsSchema schema.now }
-        requires fits { ItemFits (shape_of schema.now) element self.now }
-        ensures len { IfOk result (λ len. len ≡ capped (length (item_body (shape_of schema.now) element self.now))) }
-        ensures inner { IfOk result (λ len. inner.new.items ≡ inner.old.items ++ value_lengths (shape_of schema.now) self.now) }
-    {
-        match (element, self) {
-            (Element::Message(_), Value::Msg(child)) => {
-                let slot = inner.len();
-                inner.push(0)?;
-                let len = child.count(schema, inner)?;
-                inner[slot] = len;
-                Ok(len)
+// How many bytes the item's body takes. The lengths of the messages in it come behind the others.
+#[cycle(count)]
+fn count_item<M: Lends>(
+    value: &M::Value,
+    schema: &Schema,
+    element: Element,
+    inner: &mut Vec<usize>,
+) -> Result<usize, AllocError>
+    requires is_schema { IsSchema schema.now }
+    requires fits { BareFits (shape_of schema.now) element (M.item value.now) }
+    ensures len { IfOk result (λ len. len ≡ capped (length (item_body (shape_of schema.now) element (M.item value.now)))) }
+    ensures inner { IfOk result (λ len. inner.new.items ≡ inner.old.items ++ item_lengths (shape_of schema.now) (M.item value.now)) }
+{
+    match (element, M::child(value)) {
+        (Element::Message(_), Some(child)) => {
+            let slot = inner.len();
+            inner.push(0)?;
+            let len = count_message(child, schema, inner)?;
+            inner[slot] = len;
+            Ok(len)
+        }
+        (Element::Message(_), None) => Ok(0),
+        (Element::Scalar(scalar), _) => Ok(cap(body_len(scalar, M::leaf(value)))),
+        (Element::Enum(_), _) => Ok(cap(body_len(Scalar::Int32, M::leaf(value)))),
+    }
+}
+
+// The same of the records of items, each of a field of that number.
+#[cycle(count)]
+#[inline(always)]
+fn count_items<M: Lends>(
+    values: &[M::Value],
+    schema: &Schema,
+    number: u32,
+    element: Element,
+    inner: &mut Vec<usize>,
+) -> Result<usize, AllocError>
+    requires is_schema { IsSchema schema.now }
+    requires number { number < 2 ^ 29 }
+    requires fit { AllByRecursion (λ v. BareFits (shape_of schema.now) element (M.item v)) values.now }
+    ensures len { IfOk result (λ len. len ≡ capped (length (flat_map (λ v. item_bytes (shape_of schema.now) number element (M.item v)) values.now))) }
+    ensures inner { IfOk result (λ len. inner.new.items ≡ inner.old.items ++ flat_map (λ v. item_lengths (shape_of schema.now) (M.item v)) values.now) }
+{
+    let wire_type = element_wire_type(element);
+    let mut total = 0;
+    for value in values {
+        let len = count_item::<M>(value, schema, element, inner)?;
+        total = add(total, record_len(number, wire_type, len));
+    }
+    Ok(total)
+}
+
+// The same of a map's entries.
+#[cycle(count)]
+#[inline(always)]
+fn count_entries<M: Lends>(
+    entries: &[M::Entry],
+    schema: &Schema,
+    number: u32,
+    key: Scalar,
+    element: Element,
+    inner: &mut Vec<usize>,
+) -> Result<usize, AllocError>
+    requires is_schema { IsSchema schema.now }
+    requires number { number < 2 ^ 29 }
+    requires keys { AllByRecursion (λ e. InRange (scalar_form key) (bare_leaf (M.item (M.key_of e)))) entries.now }
+    requires fit { AllByRecursion (λ e. BareFits (shape_of schema.now) element (M.item (M.value_of e))) entries.now }
+    ensures len { IfOk result (λ len. len ≡ capped (length (flat_map (λ e. entry_record (shape_of schema.now) number key element (bare_leaf (M.item (M.key_of e))) (M.item (M.value_of e))) entries.now))) }
+    ensures inner { IfOk result (λ len. inner.new.items ≡ inner.old.items ++ flat_map (λ e. item_lengths (shape_of schema.now) (M.item (M.value_of e))) entries.now) }
+{
+    let wire_type = element_wire_type(element);
+    let mut total = 0;
+    for entry in entries {
+        let len = count_item::<M>(M::value(entry), schema, element, inner)?;
+        let body = entry_len(key, M::leaf(M::key(entry)), wire_type, len);
+        total = add(total, record_len(number, WireType::Len, body));
+    }
+    Ok(total)
+}
+
+/// How many bytes the records of a field's content take. The lengths of the messages in it, or of the body of a
+/// packed list, come behind the others.
+#[cycle(count)]
+pub(crate) fn count_content<M: Lends>(
+    content: &M::Content,
+    schema: &Schema,
+    field: &Field,
+    inner: &mut Vec<usize>,
+) -> Result<usize, AllocError>
+    requires is_schema { IsSchema schema.now }
+    requires number { field.now.number < 2 ^ 29 }
+    requires packed { CanBePacked field.now.presence field.now.element }
+    requires fit { AllByRecursion (IsPartOf (shape_of schema.now) (field_shape field.now)) (M.parts field.now.number content.now) }
+    ensures len { IfOk result (λ len. len ≡ capped (length (field_written (shape_of schema.now) (field_shape field.now) (M.parts field.now.number content.now)))) }
+    ensures inner { IfOk result (λ len. inner.new.items ≡ inner.old.items ++ field_lengths (shape_of schema.now) (field_shape field.now) (M.parts field.now.number content.now)) }
+{
+    match map_key(field.presence) {
+        Some(key) => {
+            let held = M::entries(content);
+            count_entries::<M>(held, schema, field.number, key, field.element, inner)
+        }
+        None => {
+            let values = M::items(content);
+            if is_packed(field.presence) {
+                return count_packed::<M>(field.number, field.element, values, inner);
             }
-            (Element::Message(_), _) => Ok(0),
-            (Element::Scalar(scalar), _) => Ok(cap(body_len(scalar, self))),
-            (Element::Enum(_), _) => Ok(cap(body_len(Scalar::Int32, self))),
+            count_items::<M>(values, schema, field.number, field.element, inner)
         }
     }
 }
 
-impl Content {
-    /// How many bytes the records of the content take, of a field of that number. The lengths of the messages in it,
-    /// or of the body of a packed list, come behind the others.
-    #[cycle(count)]
-    pub(crate) fn count(
-        &self,
-        schema: &Schema,
-        number: u32,
-        field: &Field,
-        inner: &mut Vec<usize>,
-    ) -> Result<usize, AllocError>
-        requires is_schema { IsSchema schema.now }
-        requires number { number < 2 ^ 29 }
-        requires packed { CanBePacked field.now.presence field.now.element }
-        requires fits { ContentFits (shape_of schema.now) field.now.presence field.now.element self.now }
-        ensures len { IfOk result (λ len. len ≡ capped (length (content_written (shape_of schema.now) number field.now.presence field.now.element self.now))) }
-        ensures inner { IfOk result (λ len. inner.new.items ≡ inner.old.items ++ content_lengths (shape_of schema.now) field.now.presence field.now.element self.now) }
-    {
-        let wire_type = element_wire_type(field.element);
-        match (field.presence, self) {
-            (Presence::Implicit | Presence::Explicit, Content::One(value)) => {
-                let len = value.count(schema, field.element, inner)?;
-                Ok(record_len(number, wire_type, len))
-            }
-            (Presence::Repeated { packed: true }, Content::Many(values)) => {
-                count_packed(number, field.element, values, inner)
-            }
-            (Presence::Repeated { packed: false }, Content::Many(values)) => {
-                let mut total = 0;
-                for value in values {
-                    let len = value.count(schema, field.element, inner)?;
-                    total = add(total, record_len(number, wire_type, len));
-                }
-                Ok(total)
-            }
-            (Presence::Map { key }, Content::Map(entries)) => {
-                let mut total = 0;
-                for (entry_key, value) in entries {
-                    let len = value.count(schema, field.element, inner)?;
-                    let body = entry_len(key, entry_key, wire_type, len);
-                    total = add(total, record_len(number, WireType::Len, body));
-                }
-                Ok(total)
-            }
-            _ => Ok(0),
-        }
+/// How many bytes the encoding of a message that fits takes. The lengths of the messages in it and of the bodies of
+/// its packed lists come behind the others, in the order in which they are written.
+#[cycle(count)]
+pub(crate) fn count_message<M: Lends>(
+    message: &M,
+    schema: &Schema,
+    inner: &mut Vec<usize>,
+) -> Result<usize, AllocError>
+    requires is_schema { IsSchema schema.now }
+    requires fits { Fits (shape_of schema.now) (M.kept message.now) }
+    ensures len { IfOk result (λ len. len ≡ capped (length (own_bytes (shape_of schema.now) (M.kept message.now)))) }
+    ensures inner { IfOk result (λ len. inner.new.items ≡ inner.old.items ++ inner_lengths (shape_of schema.now) (M.kept message.now)) }
+{
+    let type_id = message.message_type();
+    let mut total = 0;
+    for (number, content) in message.fields() {
+        let Some(field) = schema.field(type_id, *number) else {
+            // A message that fits has just contents of its type's fields.
+            unreachable!();
+        };
+        let len = count_content::<M>(content, schema, field, inner)?;
+        total = add(total, len);
     }
-}
-
-impl Message {
-    /// How many bytes the encoding of a message that fits takes. The lengths of the messages in it and of the bodies
-    /// of its packed lists come behind the others, in the order in which they are written.
-    #[cycle(count)]
-    pub(crate) fn count(&self, schema: &Schema, inner: &mut Vec<usize>) -> Result<usize, AllocError>
-        requires is_schema { IsSchema schema.now }
-        requires fits { Fits (shape_of schema.now) self.now }
-        ensures len { IfOk result (λ len. len ≡ capped (length (own_bytes (shape_of schema.now) self.now))) }
-        ensures inner { IfOk result (λ len. inner.new.items ≡ inner.old.items ++ inner_lengths (shape_of schema.now) self.now) }
-    {
-        let mut total = 0;
-        for (number, content) in &self.fields {
-            let Some(field) = schema.field(self.type_id, *number) else {
-                return Ok(0);
-            };
-            total = add(total, content.count(schema, *number, field, inner)?);
-        }
-        Ok(add(total, unknown_len(&self.unknown)))
-    }
+    Ok(add(total, unknown_len::<M>(message.records())))
 }

@@ -1,27 +1,28 @@
-ghost use Rattle.std.specs.Prelude.{◌≡◌, ℕ, ◌+◌, ◌<◌, ◌≤◌, ◌++◌, List, length, flat_map, OnOk, IfOk, IfErr};
+ghost use Rattle.std.specs.Prelude.{◌≡◌, ◌⊎◌, ℕ, ◌+◌, ◌<◌, ◌≤◌, ◌++◌, List, length, flat_map, true, OnOk, IfOk, IfErr};
 ghost use Rattle.std.specs.List.{AllByRecursion};
 ghost use Rattle.pg_schema.specs.declared.field.Element.TheVariants as elements;
 ghost use Rattle.pg_schema.specs.Invariant.{IsSchema};
-ghost use Rattle.pg_schema.specs.Parts.{shape_of};
-ghost use Rattle.pg_wire.specs.Records.{length_before, tag, wire_code};
+ghost use Rattle.pg_schema.specs.Parts.{field_shape, shape_of};
+ghost use Rattle.pg_wire.specs.declared.record.WireType.TheVariants.{Len};
+ghost use Rattle.pg_wire.specs.Records.{length_before, tag, wire_code, written};
 ghost use Rattle.pg_wire.specs.Varint.{varint};
-ghost use Rattle.pg_dyn.specs.Coding.{body, form};
-ghost use Rattle.pg_dyn.specs.ContentFits.{ContentFits, ItemFits};
-ghost use Rattle.pg_dyn.specs.EncodedFields.{record_bytes};
+ghost use Rattle.pg_dyn.specs.Coding.{InRange, body, form, scalar_form};
 ghost use Rattle.pg_dyn.specs.Encoding.{cap, enc};
 ghost use Rattle.pg_dyn.specs.Fits.{Fits};
 ghost use Rattle.pg_dyn.specs.Kept.{message_of, type_of};
-ghost use Rattle.pg_dyn.specs.ScalarItems.{IsItemOf};
-ghost use Rattle.pg_dyn.specs.Seen.{leaf_of};
+ghost use Rattle.pg_dyn.specs.Lending.{Child, bare_leaf, leaf_lent};
+ghost use Rattle.pg_dyn.specs.PartsFit.{IsPartOf};
 ghost use Rattle.pg_dyn.specs.Writing.{item_record};
-ghost use Rattle.pg_dyn.specs.Written.{CanBePacked, LeafFits, MayNotWrite, capped, content_lengths, content_written, inner_lengths, item_body, item_bytes, own_bytes, packed_body, packed_bytes, packed_lengths, value_lengths};
+ghost use Rattle.pg_dyn.specs.Written.{Adds, BareFits, CanBePacked, LeafFits, LeavesFit, MayNotAdd, MayNotWrite, capped, entry_record, field_lengths, field_written, inner_lengths, item_body, item_bytes, item_lengths, own_bytes, packed_body, packed_bytes, packed_lengths};
 
-use crate::accept::element_wire_type;
+use crate::accept::{element_wire_type, is_packed, map_key};
 use crate::body::{push_body, push_varint, wire_type_of};
-use crate::counting::{MOST, body_len, cap, entry_len};
+use crate::counting::{MOST, body_len, cap, count_message, entry_len};
 use crate::error::DynError;
-use crate::message::{Content, Message, UnknownRecord, Value};
-use pg_schema::{Element, Field, Presence, Scalar, Schema};
+use crate::lending::{LeafRef, Lends};
+use crate::message::Message;
+use crate::message_ref::MessageRef;
+use pg_schema::{Element, Field, Scalar, Schema};
 use pg_wire::WireType;
 use std::alloc::{AllocError, Global};
 
@@ -61,100 +62,152 @@ fn push_front(
     push_length(out, wire_type, len)
 }
 
-// Adds the record of an item at the end. Not inlined, so that a level of messages takes no more of the stack for it.
-#[inline(never)]
-fn push_item(
+// Adds the record of an item that is no message.
+#[inline(always)]
+fn push_record(
     out: &mut Vec<u8>,
     number: u32,
     scalar: Scalar,
-    value: &Value,
+    leaf: LeafRef<'_>,
 ) -> Result<(), AllocError>
-    requires { IsItemOf scalar value.now }
-    ensures ok { OnOk result (out.new.items ≡ out.old.items ++ (item_record number (elements.Scalar scalar) (leaf_of value.now)).bytes) }
+    requires { InRange (scalar_form scalar) (leaf_lent leaf) }
+    ensures ok { OnOk result (out.new.items ≡ out.old.items ++ (item_record number (elements.Scalar scalar) (leaf_lent leaf.entry)).bytes) }
 {
-    push_front(out, number, wire_type_of(scalar), body_len(scalar, value))?;
-    push_body(out, scalar, value)
+    push_front(out, number, wire_type_of(scalar), body_len(scalar, leaf))?;
+    push_body(out, scalar, leaf)
+}
+
+// The same of a lent item. Not inlined, so that a level of messages takes no more of the stack for it.
+#[inline(never)]
+fn push_item<M: Lends>(
+    out: &mut Vec<u8>,
+    number: u32,
+    scalar: Scalar,
+    value: &M::Value,
+) -> Result<(), AllocError>
+    requires { InRange (scalar_form scalar) (bare_leaf (M.item value.now)) }
+    ensures ok { OnOk result (out.new.items ≡ out.old.items ++ (item_record number (elements.Scalar scalar) (bare_leaf (M.item value.now))).bytes) }
+{
+    push_record(out, number, scalar, M::leaf(value))
 }
 
 // Adds the body of an item that is no message.
 #[inline(always)]
-fn push_leaf(out: &mut Vec<u8>, element: Element, value: &Value) -> Result<(), AllocError>
-    requires { LeafFits element value.now }
-    ensures ok { OnOk result (out.new.items ≡ out.old.items ++ body (form element) (leaf_of value.now)) }
+fn push_leaf(out: &mut Vec<u8>, element: Element, leaf: LeafRef<'_>) -> Result<(), AllocError>
+    requires { LeafFits element (leaf_lent leaf) }
+    ensures ok { OnOk result (out.new.items ≡ out.old.items ++ body (form element) (leaf_lent leaf.entry)) }
 {
     match element {
-        Element::Scalar(scalar) => push_body(out, scalar, value),
-        Element::Enum(_) => push_body(out, Scalar::Int32, value),
+        Element::Scalar(scalar) => push_body(out, scalar, leaf),
+        Element::Enum(_) => push_body(out, Scalar::Int32, leaf),
         Element::Message(_) => Ok(()),
     }
 }
 
 // Adds the body of each item of a list.
 #[inline(always)]
-fn push_each(out: &mut Vec<u8>, element: Element, values: &[Value]) -> Result<(), AllocError>
-    requires { AllByRecursion (LeafFits element) values.now }
-    ensures ok { OnOk result (out.new.items ≡ out.old.items ++ packed_body element values.now) }
+fn push_each<M: Lends>(
+    out: &mut Vec<u8>,
+    element: Element,
+    values: &[M::Value],
+) -> Result<(), AllocError>
+    requires { LeavesFit M.item element values.now }
+    ensures ok { OnOk result (out.new.items ≡ out.old.items ++ packed_body M.item element values.now) }
 {
     for value in values {
-        push_leaf(out, element, value)?;
+        push_leaf(out, element, M::leaf(value))?;
     }
     Ok(())
 }
 
 // Adds the bodies of a list, by a loop for each scalar of which lists are packed. Not inlined, as `push_item`.
 #[inline(never)]
-fn push_bodies(out: &mut Vec<u8>, element: Element, values: &[Value]) -> Result<(), AllocError>
-    requires { AllByRecursion (LeafFits element) values.now }
-    ensures ok { OnOk result (out.new.items ≡ out.old.items ++ packed_body element values.now) }
+fn push_bodies<M: Lends>(
+    out: &mut Vec<u8>,
+    element: Element,
+    values: &[M::Value],
+) -> Result<(), AllocError>
+    requires { LeavesFit M.item element values.now }
+    ensures ok { OnOk result (out.new.items ≡ out.old.items ++ packed_body M.item element values.now) }
 {
     match element {
-        Element::Scalar(Scalar::Double) => push_each(out, Element::Scalar(Scalar::Double), values),
-        Element::Scalar(Scalar::Float) => push_each(out, Element::Scalar(Scalar::Float), values),
-        Element::Scalar(Scalar::Int32) => push_each(out, Element::Scalar(Scalar::Int32), values),
-        Element::Scalar(Scalar::Int64) => push_each(out, Element::Scalar(Scalar::Int64), values),
-        Element::Scalar(Scalar::Uint32) => push_each(out, Element::Scalar(Scalar::Uint32), values),
-        Element::Scalar(Scalar::Uint64) => push_each(out, Element::Scalar(Scalar::Uint64), values),
-        Element::Scalar(Scalar::Sint32) => push_each(out, Element::Scalar(Scalar::Sint32), values),
-        Element::Scalar(Scalar::Sint64) => push_each(out, Element::Scalar(Scalar::Sint64), values),
-        Element::Scalar(Scalar::Fixed32) => push_each(
+        Element::Scalar(Scalar::Double) => push_each::<M>(
+            out,
+            Element::Scalar(Scalar::Double),
+            values,
+        ),
+        Element::Scalar(Scalar::Float) => push_each::<M>(
+            out,
+            Element::Scalar(Scalar::Float),
+            values,
+        ),
+        Element::Scalar(Scalar::Int32) => push_each::<M>(
+            out,
+            Element::Scalar(Scalar::Int32),
+            values,
+        ),
+        Element::Scalar(Scalar::Int64) => push_each::<M>(
+            out,
+            Element::Scalar(Scalar::Int64),
+            values,
+        ),
+        Element::Scalar(Scalar::Uint32) => push_each::<M>(
+            out,
+            Element::Scalar(Scalar::Uint32),
+            values,
+        ),
+        Element::Scalar(Scalar::Uint64) => push_each::<M>(
+            out,
+            Element::Scalar(Scalar::Uint64),
+            values,
+        ),
+        Element::Scalar(Scalar::Sint32) => push_each::<M>(
+            out,
+            Element::Scalar(Scalar::Sint32),
+            values,
+        ),
+        Element::Scalar(Scalar::Sint64) => push_each::<M>(
+            out,
+            Element::Scalar(Scalar::Sint64),
+            values,
+        ),
+        Element::Scalar(Scalar::Fixed32) => push_each::<M>(
             out,
             Element::Scalar(Scalar::Fixed32),
             values,
         ),
-        Element::Scalar(Scalar::Fixed64) => push_each(
+        Element::Scalar(Scalar::Fixed64) => push_each::<M>(
             out,
             Element::Scalar(Scalar::Fixed64),
             values,
         ),
-        Element::Scalar(Scalar::Sfixed32) => push_each(
+        Element::Scalar(Scalar::Sfixed32) => push_each::<M>(
             out,
             Element::Scalar(Scalar::Sfixed32),
             values,
         ),
-        Element::Scalar(Scalar::Sfixed64) => push_each(
+        Element::Scalar(Scalar::Sfixed64) => push_each::<M>(
             out,
             Element::Scalar(Scalar::Sfixed64),
             values,
         ),
-        Element::Scalar(Scalar::Bool) => push_each(out, Element::Scalar(Scalar::Bool), values),
-        _ => push_each(out, element, values),
+        Element::Scalar(Scalar::Bool) => push_each::<M>(out, Element::Scalar(Scalar::Bool), values),
+        _ => push_each::<M>(out, element, values),
     }
 }
 
 // Adds the record of a packed list, where it isn't empty. The lengths then begin with that of its body; what is left of
 // them is answered.
-fn push_packed<'a>(
+fn push_packed<'a, M: Lends>(
     out: &mut Vec<u8>,
     number: u32,
     element: Element,
-    values: &[Value],
+    values: &[M::Value],
     lengths: &'a [usize],
 ) -> Result<&'a [usize], DynError>
-    requires { AllByRecursion (LeafFits element) values.now }
-    ensures ok { IfOk result (λ left. (rest : List ℕ) → lengths.now ≡ packed_lengths element values.now ++ rest
-        → (out.new.items ≡ out.old.items ++ packed_bytes number element values.now) × (left.now ≡ rest)) }
-    ensures err { IfErr result (λ e. (rest : List ℕ) → lengths.now ≡ packed_lengths element values.now ++ rest
-        → MayNotWrite (length (packed_bytes number element values.now)) e) }
+    requires { LeavesFit M.item element values.now }
+    ensures ok { IfOk result (λ left. Adds lengths.now (packed_lengths M.item element values.now) out.old.items (packed_bytes M.item number element values.now) out.new.items left.now) }
+    ensures err { IfErr result (MayNotAdd lengths.now (packed_lengths M.item element values.now) (packed_bytes M.item number element values.now)) }
 {
     if values.is_empty() {
         return Ok(lengths);
@@ -162,7 +215,7 @@ fn push_packed<'a>(
     match lengths {
         [len, left @ ..] => {
             push_front(out, number, WireType::Len, not_too_long(*len)?)?;
-            push_bodies(out, element, values)?;
+            push_bodies::<M>(out, element, values)?;
             Ok(left)
         }
         [] => Ok(lengths),
@@ -181,149 +234,245 @@ fn not_too_long(len: usize) -> Result<usize, DynError>
 }
 
 // Adds the records at the end.
-fn push_unknown(out: &mut Vec<u8>, unknown: &[UnknownRecord]) -> Result<(), AllocError>
-    ensures ok { OnOk result (out.new.items ≡ out.old.items ++ flat_map record_bytes unknown.now) }
+fn push_unknown<M: Lends>(out: &mut Vec<u8>, records: &[M::Unknown]) -> Result<(), AllocError>
+    ensures ok { OnOk result (out.new.items ≡ out.old.items ++ flat_map (λ r. (M.record_of r).bytes) records.now) }
 {
-    for found in unknown {
-        out.extend_from_slice(&found.bytes)?;
+    for found in records {
+        out.extend_from_slice(M::record_bytes(found))?;
     }
     Ok(())
 }
 
-impl Value {
-    // How many bytes the item's body takes, as it was counted: of a message the first of the lengths.
-    fn counted_len(&self, schema: &Schema, element: Element, lengths: &[usize]) -> usize
-        requires { ItemFits (shape_of schema.now) element self.now }
-        ensures { (rest : List ℕ) → lengths.now ≡ value_lengths (shape_of schema.now) self.now ++ rest → result ≡ capped (length (item_body (shape_of schema.now) element self.now)) }
-    {
-        match (element, self) {
-            (Element::Message(_), Value::Msg(_)) => match lengths {
-                [len, ..] => *len,
-                [] => 0,
-            },
-            (Element::Message(_), _) => 0,
-            (Element::Scalar(scalar), _) => cap(body_len(scalar, self)),
-            (Element::Enum(_), _) => cap(body_len(Scalar::Int32, self)),
+// How many bytes the item's body takes, as it was counted: of a message the first of the lengths.
+#[inline(always)]
+fn counted_len<M: Lends>(
+    value: &M::Value,
+    schema: &Schema,
+    element: Element,
+    lengths: &[usize],
+) -> usize
+    requires { BareFits (shape_of schema.now) element (M.item value.now) }
+    ensures { (rest : List ℕ) → lengths.now ≡ item_lengths (shape_of schema.now) (M.item value.now) ++ rest → result ≡ capped (length (item_body (shape_of schema.now) element (M.item value.now))) }
+{
+    match element {
+        Element::Message(_) => match lengths {
+            [len, ..] => *len,
+            [] => 0,
+        },
+        Element::Scalar(scalar) => cap(body_len(scalar, M::leaf(value))),
+        Element::Enum(_) => cap(body_len(Scalar::Int32, M::leaf(value))),
+    }
+}
+
+// Adds the record of a message inside. The lengths begin with those that were noted of it; what is left of them is
+// answered.
+#[cycle(write)]
+#[inline(always)]
+fn write_child<'a, M: Lends>(
+    child: &M,
+    out: &mut Vec<u8>,
+    schema: &Schema,
+    number: u32,
+    lengths: &'a [usize],
+) -> Result<&'a [usize], DynError>
+    requires is_schema { IsSchema schema.now }
+    requires fits { Fits (shape_of schema.now) (M.kept child.now) }
+    ensures ok { IfOk result (λ left. Adds lengths.now (item_lengths (shape_of schema.now) (Child (M.kept child.now))) out.old.items (written number Len (own_bytes (shape_of schema.now) (M.kept child.now))).bytes out.new.items left.now) }
+    ensures err { IfErr result (MayNotAdd lengths.now (item_lengths (shape_of schema.now) (Child (M.kept child.now))) (written number Len (own_bytes (shape_of schema.now) (M.kept child.now))).bytes) }
+{
+    match lengths {
+        [len, inner @ ..] => {
+            push_front(out, number, WireType::Len, not_too_long(*len)?)?;
+            write_message(child, out, schema, inner)
+        }
+        [] => Ok(lengths),
+    }
+}
+
+// Adds the record of an item, likewise.
+#[cycle(write)]
+fn write_item<'a, M: Lends>(
+    value: &M::Value,
+    out: &mut Vec<u8>,
+    schema: &Schema,
+    number: u32,
+    element: Element,
+    lengths: &'a [usize],
+) -> Result<&'a [usize], DynError>
+    requires is_schema { IsSchema schema.now }
+    requires fits { BareFits (shape_of schema.now) element (M.item value.now) }
+    ensures ok { IfOk result (λ left. Adds lengths.now (item_lengths (shape_of schema.now) (M.item value.now)) out.old.items (item_bytes (shape_of schema.now) number element (M.item value.now)) out.new.items left.now) }
+    ensures err { IfErr result (MayNotAdd lengths.now (item_lengths (shape_of schema.now) (M.item value.now)) (item_bytes (shape_of schema.now) number element (M.item value.now))) }
+{
+    match (element, M::child(value)) {
+        (Element::Message(_), Some(child)) => write_child(child, out, schema, number, lengths),
+        (Element::Message(_), None) => Ok(lengths),
+        (Element::Scalar(scalar), _) => {
+            push_item::<M>(out, number, scalar, value)?;
+            Ok(lengths)
+        }
+        (Element::Enum(_), _) => {
+            push_item::<M>(out, number, Scalar::Int32, value)?;
+            Ok(lengths)
         }
     }
 }
 
-impl Value {
-    // Adds the record of the item. The lengths begin with those that were noted in it; what is left of them is
-    // answered.
-    #[cycle(write)]
-    fn write<'a>(
-        &self,
-        out: &mut Vec<u8>,
-        schema: &Schema,
-        number: u32,
-        element: Element,
-        lengths: &'a [usize],
-    ) -> Result<&'a [usize], DynError>
-        requires is_schema { IsSchema schema.now }
-        requires fits { ItemFits (shape_of schema.now) element self.now }
-        ensures ok { IfOk result (λ left. (rest : List ℕ) → lengths.now ≡ value_lengths (shape_of schema.now) self.now ++ rest
-            → (out.new.items ≡ out.old.items ++ item_bytes (shape_of schema.now) number element self.now) × (left.now ≡ rest)) }
-        ensures err { IfErr result (λ e. (rest : List ℕ) → lengths.now ≡ value_lengths (shape_of schema.now) self.now ++ rest
-            → MayNotWrite (length (item_bytes (shape_of schema.now) number element self.now)) e) }
-    {
-        match (element, self) {
-            (Element::Message(_), Value::Msg(child)) => match lengths {
-                [len, inner @ ..] => {
-                    push_front(out, number, WireType::Len, not_too_long(*len)?)?;
-                    child.write(out, schema, inner)
-                }
-                [] => Ok(lengths),
-            },
-            (Element::Message(_), _) => Ok(lengths),
-            (Element::Scalar(scalar), _) => {
-                push_item(out, number, scalar, self)?;
-                Ok(lengths)
+// The same of items, each of a field of that number.
+#[cycle(write)]
+#[inline(always)]
+fn write_items<'a, M: Lends>(
+    values: &[M::Value],
+    out: &mut Vec<u8>,
+    schema: &Schema,
+    number: u32,
+    element: Element,
+    lengths: &'a [usize],
+) -> Result<&'a [usize], DynError>
+    requires is_schema { IsSchema schema.now }
+    requires fit { AllByRecursion (λ v. BareFits (shape_of schema.now) element (M.item v)) values.now }
+    ensures ok { IfOk result (λ left. Adds lengths.now (flat_map (λ v. item_lengths (shape_of schema.now) (M.item v)) values.now) out.old.items (flat_map (λ v. item_bytes (shape_of schema.now) number element (M.item v)) values.now) out.new.items left.now) }
+    ensures err { IfErr result (MayNotAdd lengths.now (flat_map (λ v. item_lengths (shape_of schema.now) (M.item v)) values.now) (flat_map (λ v. item_bytes (shape_of schema.now) number element (M.item v)) values.now)) }
+{
+    let mut left = lengths;
+    for value in values {
+        left = write_item::<M>(value, out, schema, number, element, left)?;
+    }
+    Ok(left)
+}
+
+// The same of an entry of a map.
+#[cycle(write)]
+#[inline(always)]
+fn write_entry<'a, M: Lends>(
+    entry: &M::Entry,
+    out: &mut Vec<u8>,
+    schema: &Schema,
+    number: u32,
+    key: Scalar,
+    element: Element,
+    lengths: &'a [usize],
+) -> Result<&'a [usize], DynError>
+    requires is_schema { IsSchema schema.now }
+    requires key { InRange (scalar_form key) (bare_leaf (M.item (M.key_of entry.now))) }
+    requires fits { BareFits (shape_of schema.now) element (M.item (M.value_of entry.now)) }
+    ensures ok { IfOk result (λ left. Adds lengths.now (item_lengths (shape_of schema.now) (M.item (M.value_of entry.now))) out.old.items (entry_record (shape_of schema.now) number key element (bare_leaf (M.item (M.key_of entry.now))) (M.item (M.value_of entry.now))) out.new.items left.now) }
+    ensures err { IfErr result (MayNotAdd lengths.now (item_lengths (shape_of schema.now) (M.item (M.value_of entry.now))) (entry_record (shape_of schema.now) number key element (bare_leaf (M.item (M.key_of entry.now))) (M.item (M.value_of entry.now)))) }
+{
+    let entry_key = M::key(entry);
+    let item = M::value(entry);
+    let value_len = counted_len::<M>(item, schema, element, lengths);
+    let len = entry_len(
+        key,
+        M::leaf(entry_key),
+        element_wire_type(element),
+        value_len,
+    );
+    push_front(out, number, WireType::Len, not_too_long(len)?)?;
+    push_item::<M>(out, 1, key, entry_key)?;
+    write_item::<M>(item, out, schema, 2, element, lengths)
+}
+
+// The same of a map's entries.
+#[cycle(write)]
+#[inline(always)]
+fn write_entries<'a, M: Lends>(
+    entries: &[M::Entry],
+    out: &mut Vec<u8>,
+    schema: &Schema,
+    number: u32,
+    key: Scalar,
+    element: Element,
+    lengths: &'a [usize],
+) -> Result<&'a [usize], DynError>
+    requires is_schema { IsSchema schema.now }
+    requires keys { AllByRecursion (λ e. InRange (scalar_form key) (bare_leaf (M.item (M.key_of e)))) entries.now }
+    requires fit { AllByRecursion (λ e. BareFits (shape_of schema.now) element (M.item (M.value_of e))) entries.now }
+    ensures ok { IfOk result (λ left. Adds lengths.now (flat_map (λ e. item_lengths (shape_of schema.now) (M.item (M.value_of e))) entries.now) out.old.items (flat_map (λ e. entry_record (shape_of schema.now) number key element (bare_leaf (M.item (M.key_of e))) (M.item (M.value_of e))) entries.now) out.new.items left.now) }
+    ensures err { IfErr result (MayNotAdd lengths.now (flat_map (λ e. item_lengths (shape_of schema.now) (M.item (M.value_of e))) entries.now) (flat_map (λ e. entry_record (shape_of schema.now) number key element (bare_leaf (M.item (M.key_of e))) (M.item (M.value_of e))) entries.now)) }
+{
+    let mut left = lengths;
+    for entry in entries {
+        left = write_entry::<M>(entry, out, schema, number, key, element, left)?;
+    }
+    Ok(left)
+}
+
+/// Adds the records of a field's content, likewise.
+#[cycle(write)]
+pub(crate) fn write_content<'a, M: Lends>(
+    content: &M::Content,
+    out: &mut Vec<u8>,
+    schema: &Schema,
+    field: &Field,
+    lengths: &'a [usize],
+) -> Result<&'a [usize], DynError>
+    requires is_schema { IsSchema schema.now }
+    requires packed { CanBePacked field.now.presence field.now.element }
+    requires fit { AllByRecursion (IsPartOf (shape_of schema.now) (field_shape field.now)) (M.parts field.now.number content.now) }
+    ensures ok { IfOk result (λ left. Adds lengths.now (field_lengths (shape_of schema.now) (field_shape field.now) (M.parts field.now.number content.now)) out.old.items (field_written (shape_of schema.now) (field_shape field.now) (M.parts field.now.number content.now)) out.new.items left.now) }
+    ensures err { IfErr result (MayNotAdd lengths.now (field_lengths (shape_of schema.now) (field_shape field.now) (M.parts field.now.number content.now)) (field_written (shape_of schema.now) (field_shape field.now) (M.parts field.now.number content.now))) }
+{
+    let number = field.number;
+    let element = field.element;
+    match map_key(field.presence) {
+        Some(key) => {
+            let held = M::entries(content);
+            write_entries::<M>(held, out, schema, number, key, element, lengths)
+        }
+        None => {
+            let values = M::items(content);
+            if is_packed(field.presence) {
+                return push_packed::<M>(out, number, element, values, lengths);
             }
-            (Element::Enum(_), _) => {
-                push_item(out, number, Scalar::Int32, self)?;
-                Ok(lengths)
-            }
+            write_items::<M>(values, out, schema, number, element, lengths)
         }
     }
 }
 
-impl Content {
-    /// Adds the records of the content, of a field of that number, likewise.
-    #[cycle(write)]
-    pub(crate) fn write<'a>(
-        &self,
-        out: &mut Vec<u8>,
-        schema: &Schema,
-        number: u32,
-        field: &Field,
-        lengths: &'a [usize],
-    ) -> Result<&'a [usize], DynError>
-        requires is_schema { IsSchema schema.now }
-        requires packed { CanBePacked field.now.presence field.now.element }
-        requires fits { ContentFits (shape_of schema.now) field.now.presence field.now.element self.now }
-        ensures ok { IfOk result (λ left. (rest : List ℕ) → lengths.now ≡ content_lengths (shape_of schema.now) field.now.presence field.now.element self.now ++ rest
-            → (out.new.items ≡ out.old.items ++ content_written (shape_of schema.now) number field.now.presence field.now.element self.now) × (left.now ≡ rest)) }
-        ensures err { IfErr result (λ e. (rest : List ℕ) → lengths.now ≡ content_lengths (shape_of schema.now) field.now.presence field.now.element self.now ++ rest
-            → MayNotWrite (length (content_written (shape_of schema.now) number field.now.presence field.now.element self.now)) e) }
-    {
-        match (field.presence, self) {
-            (Presence::Implicit | Presence::Explicit, Content::One(value)) => {
-                value.write(out, schema, number, field.element, lengths)
-            }
-            (Presence::Repeated { packed: true }, Content::Many(values)) => {
-                push_packed(out, number, field.element, values, lengths)
-            }
-            (Presence::Repeated { packed: false }, Content::Many(values)) => {
-                let mut left = lengths;
-                for value in values {
-                    left = value.write(out, schema, number, field.element, left)?;
-                }
-                Ok(left)
-            }
-            (Presence::Map { key }, Content::Map(entries)) => {
-                let wire_type = element_wire_type(field.element);
-                let mut left = lengths;
-                for (entry_key, value) in entries {
-                    let value_len = value.counted_len(schema, field.element, left);
-                    let len = entry_len(key, entry_key, wire_type, value_len);
-                    push_front(out, number, WireType::Len, not_too_long(len)?)?;
-                    push_item(out, 1, key, entry_key)?;
-                    left = value.write(out, schema, 2, field.element, left)?;
-                }
-                Ok(left)
-            }
-            _ => Ok(lengths),
-        }
+// Adds the encoding of a message that fits, likewise.
+#[cycle(write)]
+fn write_message<'a, M: Lends>(
+    message: &M,
+    out: &mut Vec<u8>,
+    schema: &Schema,
+    lengths: &'a [usize],
+) -> Result<&'a [usize], DynError>
+    requires is_schema { IsSchema schema.now }
+    requires fits { Fits (shape_of schema.now) (M.kept message.now) }
+    ensures ok { IfOk result (λ left. Adds lengths.now (inner_lengths (shape_of schema.now) (M.kept message.now)) out.old.items (own_bytes (shape_of schema.now) (M.kept message.now)) out.new.items left.now) }
+    ensures err { IfErr result (MayNotAdd lengths.now (inner_lengths (shape_of schema.now) (M.kept message.now)) (own_bytes (shape_of schema.now) (M.kept message.now))) }
+{
+    let type_id = message.message_type();
+    let mut left = lengths;
+    for (number, content) in message.fields() {
+        let Some(field) = schema.field(type_id, *number) else {
+            // A message that fits has just contents of its type's fields.
+            unreachable!();
+        };
+        left = write_content::<M>(content, out, schema, field, left)?;
     }
+    push_unknown::<M>(out, message.records())?;
+    Ok(left)
 }
 
-impl Message {
-    // Adds the encoding of a message that fits, likewise.
-    #[cycle(write)]
-    fn write<'a>(
-        &self,
-        out: &mut Vec<u8>,
-        schema: &Schema,
-        lengths: &'a [usize],
-    ) -> Result<&'a [usize], DynError>
-        requires is_schema { IsSchema schema.now }
-        requires fits { Fits (shape_of schema.now) self.now }
-        ensures ok { IfOk result (λ left. (rest : List ℕ) → lengths.now ≡ inner_lengths (shape_of schema.now) self.now ++ rest
-            → (out.new.items ≡ out.old.items ++ own_bytes (shape_of schema.now) self.now) × (left.now ≡ rest)) }
-        ensures err { IfErr result (λ e. (rest : List ℕ) → lengths.now ≡ inner_lengths (shape_of schema.now) self.now ++ rest
-            → MayNotWrite (length (own_bytes (shape_of schema.now) self.now)) e) }
-    {
-        let mut left = lengths;
-        for (number, content) in &self.fields {
-            let Some(field) = schema.field(self.type_id, *number) else {
-                return Ok(lengths);
-            };
-            left = content.write(out, schema, *number, field, left)?;
-        }
-        push_unknown(out, &self.unknown)?;
-        Ok(left)
+// The encoding of a message that fits the schema.
+fn encode_lent<M: Lends>(alloc: Global, schema: &Schema, message: &M) -> Result<Vec<u8>, DynError>
+    requires { Fits (shape_of schema.now) (M.kept message.now) }
+    ensures ok { IfOk result (λ bytes. (bytes.items ≡ own_bytes (shape_of schema.now) (M.kept message.now)) × (length bytes.items ≤ cap)) }
+    ensures err { IfErr result (MayNotWrite (length (own_bytes (shape_of schema.now) (M.kept message.now)))) }
+{
+    // What holds of every schema.
+    schema.parts();
+    let mut lengths = Vec::new(alloc);
+    let len = count_message(message, schema, &mut lengths)?;
+    if len > MOST {
+        return Err(DynError::TooLong);
     }
+    // With room for the longest varint where the last byte stands, so that none makes it grow.
+    let mut out = Vec::with_capacity(alloc, len + 9)?;
+    write_message(message, &mut out, schema, &lengths)?;
+    Ok(out)
 }
 
 /// The encoding of a message that fits the schema: the records of its fields by rising number with the shortest
@@ -337,15 +486,19 @@ pub fn encode(alloc: Global, schema: &Schema, message: &Message) -> Result<Vec<u
     ensures ok { IfOk result (λ bytes. (bytes.items ≡ enc (shape_of schema.now) (type_of message.now) (message_of message.now)) × (length bytes.items ≤ cap)) }
     ensures err { IfErr result (λ e. MayNotWrite (length (enc (shape_of schema.now) (type_of message.now) (message_of message.now))) e) }
 {
-    // What holds of every schema.
-    schema.parts();
-    let mut lengths = Vec::new(alloc);
-    let len = message.count(schema, &mut lengths)?;
-    if len > MOST {
-        return Err(DynError::TooLong);
-    }
-    // With room for the longest varint where the last byte stands, so that none makes it grow.
-    let mut out = Vec::with_capacity(alloc, len + 9)?;
-    message.write(&mut out, schema, &lengths)?;
-    Ok(out)
+    encode_lent(alloc, schema, message)
+}
+
+/// The encoding of a message that borrows, as `encode` gives it of one that owns its parts. The condition and the errors
+/// are the same.
+pub fn encode_ref(
+    alloc: Global,
+    schema: &Schema,
+    message: &MessageRef<'_>,
+) -> Result<Vec<u8>, DynError>
+    requires { Fits (shape_of schema.now) message.now }
+    ensures ok { IfOk result (λ bytes. (bytes.items ≡ enc (shape_of schema.now) (type_of message.now) (message_of message.now)) × (length bytes.items ≤ cap)) }
+    ensures err { IfErr result (λ e. MayNotWrite (length (enc (shape_of schema.now) (type_of message.now) (message_of message.now))) e) }
+{
+    encode_lent(alloc, schema, message)
 }

@@ -41,11 +41,11 @@ pub enum DynError {
 impl DynError {
     ghost use Rattle.std.specs.Prelude.{◌≡◌};
     ghost use Rattle.pg_dyn.specs.ContentFaults.{code};
-    ghost use Rattle.pg_dyn.specs.Places.{place_of};
+    ghost use Rattle.pg_dyn.specs.Codes.{code_of, place_of};
 
     /// The number behind the E by which users know the error.
     pub fn code(self) -> u16
-        ensures { result ≡ code self }
+        ensures { result ≡ code_of self }
     {
         match self {
             DynError::Memory => 1,
@@ -58,6 +58,24 @@ impl DynError {
             DynError::TooLong => 607,
             DynError::TooDeep { .. } => 608,
             DynError::Wire(error) => error.code(),
+        }
+    }
+
+    // The place of the error in the order of a content's faults.
+    pub(crate) fn rank(self) -> u16
+        ensures { result ≡ code self }
+    {
+        match self {
+            DynError::Memory => 1,
+            DynError::NoSuchField => 601,
+            DynError::WrongKind => 602,
+            DynError::OutOfRange => 603,
+            DynError::NotUtf8 { .. } => 604,
+            DynError::OneofTwice => 605,
+            DynError::DuplicateKey => 606,
+            DynError::TooLong => 607,
+            DynError::TooDeep { .. } => 608,
+            DynError::Wire(_) => 609,
         }
     }
 

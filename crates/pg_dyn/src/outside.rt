@@ -5,13 +5,15 @@ ghost use Rattle.pg_schema.specs.Invariant.{IsSchema};
 ghost use Rattle.pg_schema.specs.Parts.{shape_of};
 ghost use Rattle.pg_schema.specs.Shape.{fields};
 ghost use Rattle.pg_dyn.specs.Comparison.{unshared_bytes};
-ghost use Rattle.pg_dyn.specs.ContentFits.{HoldsContent};
 ghost use Rattle.pg_dyn.specs.Fits.{Fits};
 ghost use Rattle.pg_dyn.specs.Kept.{message_of, type_of};
 ghost use Rattle.pg_dyn.specs.Outside.{outside_written};
-ghost use Rattle.pg_dyn.specs.Written.{MayNotWrite, field_written};
+ghost use Rattle.pg_dyn.specs.Lending.{HoldsParts};
+ghost use Rattle.pg_dyn.specs.Seen.{content_seen};
+ghost use Rattle.pg_dyn.specs.Written.{MayNotWrite, parts_written};
 
-use crate::counting::MOST;
+use crate::counting::{MOST, count_content};
+use crate::encoding::write_content;
 use crate::error::DynError;
 use crate::message::{Content, Message};
 use pg_schema::{Schema, TypeId};
@@ -26,20 +28,20 @@ fn push_content(
     held: &(u32, Content),
 ) -> Result<(), DynError>
     requires is_schema { IsSchema schema.now }
-    requires holds { HoldsContent (shape_of schema.now) type_id held.now }
-    ensures ok { OnOk result (out.new.items ≡ out.old.items ++ field_written (shape_of schema.now) type_id held.now) }
-    ensures err { IfErr result (λ e. MayNotWrite (length (field_written (shape_of schema.now) type_id held.now)) e) }
+    requires holds { HoldsParts (shape_of schema.now) type_id held.now.0 (content_seen held.now.0 held.now.1) }
+    ensures ok { OnOk result (out.new.items ≡ out.old.items ++ parts_written (shape_of schema.now) type_id held.now.0 (content_seen held.now.0 held.now.1)) }
+    ensures err { IfErr result (λ e. MayNotWrite (length (parts_written (shape_of schema.now) type_id held.now.0 (content_seen held.now.0 held.now.1))) e) }
 {
     let (number, content) = held;
     let Some(field) = schema.field(type_id, *number) else {
         return Ok(());
     };
     let mut lengths = Vec::new(alloc);
-    let len = content.count(schema, *number, field, &mut lengths)?;
+    let len = count_content::<Message>(content, schema, field, &mut lengths)?;
     if len > MOST {
         return Err(DynError::TooLong);
     }
-    content.write(out, schema, *number, field, &lengths)?;
+    write_content::<Message>(content, out, schema, field, &lengths)?;
     Ok(())
 }
 
@@ -52,7 +54,7 @@ fn push_outside(
     held: &(u32, Content),
 ) -> Result<(), DynError>
     requires is_schema { IsSchema schemas.now.own.now }
-    requires holds { HoldsContent (shape_of schemas.now.own.now) type_id held.now }
+    requires holds { HoldsParts (shape_of schemas.now.own.now) type_id held.now.0 (content_seen held.now.0 held.now.1) }
     ensures ok { OnOk result (out.new.items ≡ out.old.items ++ outside_written (shape_of schemas.now.own.now) type_id (fields (shape_of schemas.now.other.now) schemas.now.other_type) held.now) }
     ensures err { IfErr result (λ e. MayNotWrite (length (outside_written (shape_of schemas.now.own.now) type_id (fields (shape_of schemas.now.other.now) schemas.now.other_type) held.now)) e) }
 {

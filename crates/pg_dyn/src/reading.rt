@@ -4,6 +4,7 @@ pub(crate) mod elements;
 mod entries;
 mod gathering;
 mod items;
+mod keys;
 mod nested;
 mod ordering;
 mod parts;

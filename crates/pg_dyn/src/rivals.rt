@@ -7,7 +7,7 @@ ghost use Rattle.pg_dyn.specs.Seen.{Rises};
 
 use crate::field_list::{holds, remove};
 use crate::message::{Content, Message};
-use crate::noting::{note, noted_rival};
+use crate::noting::{note, noted_of, noted_rival};
 use crate::oneofs::is_same_oneof;
 use pg_schema::{Field, Schema, TypeId};
 use std::slice;
@@ -115,6 +115,16 @@ impl Message {
         remove_members(&mut self.fields, members, field);
     }
 
+    // Notes the members of all oneofs among the contents, where none is noted yet: those of a message that was read.
+    fn note_all(&mut self, schema: &Schema)
+        ensures { self.new ≡ self.old }
+    {
+        if self.noted.is_empty() {
+            let alloc = *self.fields.allocator();
+            self.noted = noted_of(alloc, schema, self.type_id, &self.fields);
+        }
+    }
+
     /// Takes out the contents of the other members of the field's oneof, which are among the fields that are given, if any
     /// are, and notes the field as the one that was set last.
     pub(crate) fn settle_rivals(
@@ -128,7 +138,12 @@ impl Message {
     {
         match members {
             Some(members) => self.clear_members(members, field),
-            None => self.clear_rivals(schema, field),
+            None => {
+                self.clear_rivals(schema, field);
+                if field.oneof.is_some() {
+                    self.note_all(schema);
+                }
+            }
         }
         note(&mut self.noted, self.fields.len(), field);
     }

@@ -3,18 +3,18 @@ ghost use Rattle.pg_schema.specs.declared.field.Element.TheVariants as elements;
 ghost use Rattle.pg_schema.specs.Shape.{is_packable};
 ghost use Rattle.pg_dyn.specs.Coding.{Text, form_wire, leaf_in, scalar_form, word_in};
 ghost use Rattle.pg_dyn.specs.declared.error.DynError.TheVariants as errors;
-ghost use Rattle.pg_dyn.specs.ScalarItems.{HasShape, IsItemOf};
-ghost use Rattle.pg_dyn.specs.Seen.{leaf_of};
+ghost use Rattle.pg_dyn.specs.ScalarItems.{HasShape};
+ghost use Rattle.pg_dyn.specs.Borrowed.{leaf_of};
+ghost use Rattle.pg_dyn.specs.BorrowedItems.{IsItemOf};
 ghost use Rattle.pg_dyn.specs.ByFields.{StopsFor};
 ghost use Rattle.pg_dyn.specs.WordOf.{HasBits};
 
 use crate::body::wire_type_of;
-use crate::message::Value;
+use crate::message_ref::ValueRef;
 use crate::reading::stop::Stop;
 use crate::word::number_of;
 use pg_schema::Scalar;
 use pg_wire::{WireType, read_varint};
-use std::alloc::Global;
 
 // The word that stands in a body of the wire type.
 #[tactic(auto, unfolding(crate::specs::Coding::word_in))]
@@ -41,32 +41,32 @@ fn body_word(wire_type: WireType, body: &[u8]) -> u64
 }
 
 /// The item that a reader makes of a word, which is no text and no bytes.
-pub(crate) fn word_item(scalar: Scalar, word: u64) -> Value
+pub(crate) fn word_item<'a>(scalar: Scalar, word: u64) -> ValueRef<'a>
     requires packable { is_packable (elements.Scalar scalar) ≡ true }
     requires bits { HasBits (form_wire (scalar_form scalar)) word }
     ensures leaf { (body : List ℕ) → word_in (form_wire (scalar_form scalar)) body ≡ word → leaf_in (scalar_form scalar) body ≡ Some (leaf_of result) }
     ensures item { IsItemOf scalar result }
 {
     match scalar {
-        Scalar::Float => Value::F32(word as u32),
-        Scalar::Double => Value::F64(word),
-        _ => Value::Int(number_of(scalar, word)),
+        Scalar::Float => ValueRef::F32(word as u32),
+        Scalar::Double => ValueRef::F64(word),
+        _ => ValueRef::Int(number_of(scalar, word)),
     }
 }
 
 /// The item of a body of the scalar's own wire type. Not inlined, so that a level of messages takes no more of the stack for it.
 #[inline(never)]
-pub(crate) fn item_in(alloc: Global, scalar: Scalar, body: &[u8]) -> Result<Value, Stop>
+pub(crate) fn item_in<'a>(scalar: Scalar, body: &'a [u8]) -> Result<ValueRef<'a>, Stop>
     requires { HasShape (form_wire (scalar_form scalar)) body.now }
     ensures ok { IfOk result (λ value. (leaf_in (scalar_form scalar) body.now ≡ Some (leaf_of value)) × IsItemOf scalar value) }
     ensures err { IfErr result (StopsFor (is_some (leaf_in (scalar_form scalar) body.now) ≡ true)) }
 {
     match scalar {
         Scalar::String => match simdutf8::compat::from_utf8(body) {
-            Ok(text) => Ok(Value::Text(String::from_str(alloc, text)?)),
+            Ok(text) => Ok(ValueRef::Text(text)),
             Err(_) => Err(Stop::Fault),
         },
-        Scalar::Bytes => Ok(Value::Bytes(Vec::from_slice(alloc, body)?)),
+        Scalar::Bytes => Ok(ValueRef::Bytes(body)),
         _ => Ok(word_item(scalar, body_word(wire_type_of(scalar), body))),
     }
 }

@@ -2,8 +2,7 @@
 use Rattle.std.specs.Prelude.{ℕ, Bool, true, false, nat_eq, Option, Some, None, option_map}
 use Rattle.pg_check.specs.Codes.{code_of as rule_code, place_of as rule_place}
 use Rattle.pg_check.specs.declared.error.CheckError.{CheckError}
-use Rattle.pg_dyn.specs.ContentFaults.{code as message_code}
-use Rattle.pg_dyn.specs.Places.{place_of as message_place}
+use Rattle.pg_dyn.specs.Codes.{code_of as message_code, place_of as message_place}
 use Rattle.pg_dyn.specs.declared.error.DynError.{DynError}
 use Rattle.pg_fds.specs.ErrorCodes.{code_of as set_code, place_of as set_place}
 use Rattle.pg_fds.specs.declared.error.FdsError.{FdsError}

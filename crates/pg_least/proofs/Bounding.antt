@@ -1,6 +1,7 @@
 -- From costs at places to bounds of pairs.
-use Rattle.std.proofs.Common.{◌≡◌, ℕ, zero, suc, ◌+◌, ◌<◌, ◌≤◌, ◌⊎◌, List, [], ◌∷◌, ◌++◌, length, get_or, slice_get, take, map, flat_map, filter, nat_le, Bool, true, false, not, ◌&&◌, ◌||◌, cond, find, is_some, option_map, option_and_then, Option, Some, None, IfSome, inl, inr, ⊎_elim, refl, ap, ap₂, sym, ◌∙◌, subst, arith, leb-true, leb-false, le-leb}
+use Rattle.std.proofs.Common.{◌≡◌, ℕ, zero, suc, ◌+◌, ◌<◌, ◌≤◌, ◌⊎◌, List, [], ◌∷◌, ◌++◌, length, slice_get, take, map, flat_map, filter, nat_le, Bool, true, false, not, cond, is_some, option_map, option_and_then, Option, Some, None, IfSome, inl, inr, ⊎_elim, refl, ap, sym, ◌∙◌, subst, arith, leb-true, le-leb}
 use Rattle.std.specs.List.{AllByRecursion}
+use Rattle.std.specs.List.Sorted.{IsPermutation}
 use Rattle.std.proofs.lemmas.Bool.{and_parts}
 use Rattle.pg_dyn.specs.Encoding.{cap}
 use Rattle.pg_pairs.specs.declared.choice.Pair.{Pair}
@@ -19,6 +20,7 @@ use Rattle.pg_least.specs.Least.{IsLeastBound, edges_to_numbers, lines}
 use Rattle.pg_least.specs.Places.{IsPlaced}
 use Rattle.pg_least.specs.Relaxing.{IsBalanced, cost_at, offer}
 use Rattle.pg_least.proofs.Listed.{found_at, place_of}
+use Rattle.pg_least.proofs.Moved.{among_back, among_moved, as_many}
 use Rattle.pg_least.proofs.Placing.{among_each}
 use Rattle.pg_least.proofs.Unbounded.{once_bounds, unbounded}
 
@@ -164,7 +166,7 @@ one_pair : {p q : Pair} → Some p ≡ Some q → p ≡ q
 one_pair h = cc
 
 module _ (edges : Pair → List Edge) (base : Pair → Option ℕ) (price : Edge → ℕ → Option ℕ) (ps : List Pair) (arcs : List Arc) (costs : List (Option ℕ)) (long : length costs ≡ length ps) (checked : are_bounds (lines ps costs) ≡ true)
-    (from_own : (p : Pair) (e : Edge) → IsAmong p ps → IsAmong e (edges p) → e.from ≡ p) (edges_are : map (λ (a : Arc). a.edge) arcs ≡ flat_map edges ps) (placed : AllByRecursion (IsPlaced ps) arcs) where
+    (from_own : (p : Pair) (e : Edge) → IsAmong p ps → IsAmong e (edges p) → e.from ≡ p) (moved : IsPermutation (flat_map edges ps) (map (λ (a : Arc). a.edge) arcs)) (placed : AllByRecursion (IsPlaced ps) arcs) where
   abbrev table : Pair → Option (Option ℕ)
   table = bound_in (lines ps costs)
 
@@ -204,7 +206,7 @@ module _ (edges : Pair → List Edge) (base : Pair → Option ℕ) (price : Edge
 
         below : (e : Edge) → IsAmong e (edges pair) → (i : ℕ) → slice_get ps i ≡ Some pair → cost_at costs i ≡ bound → IsNoMore bound (cost_under price table e)
         below e among i here is =
-            let (a, there, edge) = among_map (λ (a : Arc). a.edge) e arcs (subst (IsAmong e) (sym edges_are) (flat_among edges e pair ps (among_at ps i pair here) among)) in
+            let (a, there, edge) = among_map (λ (a : Arc). a.edge) e arcs (among_moved e (flat_map edges ps) (map (λ (x : Arc). x.edge) arcs) moved (flat_among edges e pair ps (among_at ps i pair here) among)) in
             let at = among_each (IsPlaced ps) a arcs there placed in
             let own : a.edge.from ≡ pair = ap (λ (x : Edge). x.from) edge ∙ from_own pair e (among_at ps i pair here) among in
             let cost : cost_at costs a.from ≡ bound = some_one (sym (bound_at a.from pair (at.from ∙ ap Some own)) ∙ found) in
@@ -214,13 +216,13 @@ module _ (edges : Pair → List Edge) (base : Pair → Option ℕ) (price : Edge
         chosen : (a : Arc) → IsAmong a arcs → (i : ℕ) → slice_get ps i ≡ Some pair → a.from ≡ i → (c : ℕ) → offer (arcs_by price) costs a ≡ Some c → IsAmong (Some c) (map (cost_under price table) (edges pair))
         chosen a among i here from c cost =
             let at = among_each (IsPlaced ps) a arcs among placed in
-            let (p, there, of_p) = among_flat edges a.edge ps (subst (IsAmong a.edge) edges_are (map_among (λ (x : Arc). x.edge) a arcs among)) in
+            let (p, there, of_p) = among_flat edges a.edge ps (among_back a.edge (flat_map edges ps) (map (λ (x : Arc). x.edge) arcs) moved (map_among (λ (x : Arc). x.edge) a arcs among)) in
             let own : p ≡ pair = sym (from_own p a.edge there of_p) ∙ one_pair (sym at.from ∙ ap (slice_get ps) from ∙ here) in
             subst (λ o. IsAmong o (map (cost_under price table) (edges pair))) (sym (arc_cost a at) ∙ cost)
             (map_among (cost_under price table) a.edge (edges pair) (subst (λ q. IsAmong a.edge (edges q)) own of_p))
 
   pub relaxed_count : length (arcs_to_numbers arcs costs) ≡ length (edges_to_numbers table (flat_map edges ps))
-  relaxed_count = of arcs placed ∙ ap (λ es. length (edges_to_numbers table es)) edges_are
+  relaxed_count = of arcs placed ∙ as_many (λ (e : Edge). is_some (number_for table e.child)) (flat_map edges ps) (map (λ (a : Arc). a.edge) arcs) moved
     where
       of : (xs : List Arc) → AllByRecursion (IsPlaced ps) xs → length (arcs_to_numbers xs costs) ≡ length (edges_to_numbers table (map (λ (a : Arc). a.edge) xs))
       of [] each = refl
@@ -260,21 +262,17 @@ inside_at [] i x h = absurd (cc)
 inside_at (y ∷ xs) zero x h = omega arith
 inside_at (y ∷ xs) (suc i) x h = let later = inside_at xs i x h in omega arith
 
-pub children_inside : (ps : List Pair) (arcs : List Arc) → AllByRecursion (IsPlaced ps) arcs → AllByRecursion (λ (a : Arc). a.child < length ps) arcs
-children_inside ps [] placed = tt
-children_inside ps (a ∷ arcs) placed = (inside_at ps a.child a.edge.child placed.0.child, children_inside ps arcs placed.1)
-
 pub each_arc : {A : Type 0} (P : A → Type 0) (xs : List A) → ((x : A) → IsAmong x xs → P x) → AllByRecursion P xs
 each_arc P [] h = tt
 each_arc P (x ∷ xs) h = (h x (inl refl), each_arc P xs (λ y among. h y (inr among)))
 
 -- The arcs are edges of known pairs.
 pub arcs_are : (known : Pair → Bool) (edges : Pair → List Edge) (ps : List Pair) (arcs : List Arc) → ((p : Pair) (e : Edge) → IsAmong p ps → IsAmong e (edges p) → e.from ≡ p) → AllByRecursion (λ (p : Pair). known p ≡ true) ps
-    → map (λ (a : Arc). a.edge) arcs ≡ flat_map edges ps → AllByRecursion (IsPlaced ps) arcs → AllByRecursion (IsArc known edges (length ps)) arcs
-arcs_are known edges ps arcs from_own each edges_are placed =
+    → IsPermutation (flat_map edges ps) (map (λ (a : Arc). a.edge) arcs) → AllByRecursion (IsPlaced ps) arcs → AllByRecursion (IsArc known edges (length ps)) arcs
+arcs_are known edges ps arcs from_own each moved placed =
     each_arc (IsArc known edges (length ps)) arcs (λ a among.
     let at = among_each (IsPlaced ps) a arcs among placed in
-    let (p, there, of_p) = among_flat edges a.edge ps (subst (IsAmong a.edge) edges_are (map_among (λ (x : Arc). x.edge) a arcs among)) in
+    let (p, there, of_p) = among_flat edges a.edge ps (among_back a.edge (flat_map edges ps) (map (λ (x : Arc). x.edge) arcs) moved (map_among (λ (x : Arc). x.edge) a arcs among)) in
     let own = from_own p a.edge there of_p in
     record {
       known = among_each (λ (p : Pair). known p ≡ true) a.edge.from ps (among_at ps a.from a.edge.from at.from) each;

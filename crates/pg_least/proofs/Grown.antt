@@ -1,6 +1,6 @@
 -- Lists in which each pair stands once, as they grow.
 use Rattle.std.proofs.Common.{◌≡◌, ℕ, ◌+◌, ◌<◌, List, [], ◌∷◌, ◌++◌, filter, take, length, get_or, Bool, true, false, not, ◌||◌, nat_eq, cond, if◌then◌else◌, inl, inr, ⊎_elim, refl, ap, sym, ◌∙◌, subst, append-nil, append_assoc, add-one, eqb-true}
-use Rattle.std.specs.HashSet.{HashSet, Updates}
+use Rattle.std.specs.BTreeSet.{BTreeSet, Updates, contains}
 use Rattle.std.specs.List.{AllByRecursion}
 use Rattle.std.proofs.lemmas.Bool.{and_parts}
 use Rattle.std.proofs.Math.Seq.{take-suc}
@@ -8,7 +8,8 @@ use Rattle.pg_pairs.specs.declared.choice.Pair.{Pair}
 use Rattle.pg_pairs.specs.Covering.{same_pair, distinct}
 use Rattle.pg_pairs.specs.FirstSeen.{OnePairMore}
 use Rattle.pg_pairs.specs.Among.{IsAmong}
-use Rattle.pg_least.specs.Pairs.{has_pair, same_indices, AreSeen}
+use Rattle.pg_pairs.specs.ByIndices.{by_indices, equal_same}
+use Rattle.pg_least.specs.Pairs.{has_pair, AreSeen}
 
 pub same_pair-true : (p q : Pair) → same_pair p q ≡ true → p ≡ q
 same_pair-true p q h =
@@ -121,12 +122,17 @@ has-end (x ∷ ps) q p =
     ∙ elim (same_pair q p) as (λ b. (same_pair x p || cond b true (has_pair ps p)) ≡ cond b true (same_pair x p || has_pair ps p))
     [ true ↦ elim (same_pair x p) as (λ b. (b || true) ≡ true) [ true ↦ refl | false ↦ refl ] | false ↦ refl ]
 
-module _ {S : Type 0} (ps : List Pair) (q : Pair) (seen after : HashSet (ℕ × ℕ) S) (agrees : AreSeen ps seen) (updates : Updates same_indices seen after (q.old.index, q.new.index) true) where
+module _ (ps : List Pair) (q : Pair) (seen after : BTreeSet (ℕ × ℕ)) (agrees : AreSeen ps seen) (updates : Updates by_indices seen after (q.old.index, q.new.index) true) where
+  seen_after : (p : Pair) → contains by_indices after (p.old.index, p.new.index) ≡ cond (same_pair q p) true (has_pair ps p)
+  seen_after p =
+      updates.0 (p.old.index, p.new.index) ∙ ap (λ b. cond b true (contains by_indices seen (p.old.index, p.new.index))) (equal_same q p)
+      ∙ ap (cond (same_pair q p) true) (agrees p)
+
   pub seen_new : AreSeen (ps ++ q ∷ []) after
-  seen_new p = updates.0 (p.old.index, p.new.index) ∙ ap (cond (same_pair q p) true) (agrees p) ∙ sym (has-end ps q p)
+  seen_new p = seen_after p ∙ sym (has-end ps q p)
 
   pub seen_again : has_pair ps q ≡ true → AreSeen ps after
-  seen_again there p = updates.0 (p.old.index, p.new.index) ∙ ap (cond (same_pair q p) true) (agrees p) ∙ of (same_pair q p) refl
+  seen_again there p = seen_after p ∙ of (same_pair q p) refl
     where
       of : (b : Bool) → same_pair q p ≡ b → cond (same_pair q p) true (has_pair ps p) ≡ has_pair ps p
       of true h = rw h (sym (subst (λ x. has_pair ps x ≡ true) (same_pair-true q p h) there))

@@ -5,6 +5,8 @@ pub mod Reaching
 pub mod Listed
 pub mod Unbounded
 pub mod Lists
+pub mod Moved
+pub mod ByChild
 pub mod Steps
 pub mod Placing
 pub mod Tables

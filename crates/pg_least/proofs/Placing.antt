@@ -1,5 +1,5 @@
 -- Settling places one after the other: at the start, one more, and at the end.
-use Rattle.std.proofs.Common.{◌≡◌, ℕ, zero, suc, ◌+◌, ◌<◌, ◌≤◌, ◌⊎◌, ◌≢◌, nat_eq, eqb-true, eq-eqb, ne_eqb, List, [], ◌∷◌, ◌++◌, length, get_or, set, replicate, filter, Bool, true, false, cond, ◌||◌, is_some, Option, Some, None, IfSome, inl, inr, ⊎_elim, refl, ap, ap₂, sym, ◌∙◌, subst, arith, All, get_or-set_same, get_or-set_other}
+use Rattle.std.proofs.Common.{◌≡◌, ℕ, zero, suc, ◌+◌, ◌<◌, ◌≤◌, ◌⊎◌, nat_eq, eqb-true, eq-eqb, ne_eqb, List, [], ◌∷◌, ◌++◌, length, set, replicate, filter, Bool, true, false, cond, ◌||◌, is_some, Option, Some, None, inl, inr, ⊎_elim, refl, ap, ap₂, sym, ◌∙◌, subst, arith, get_or-set_same, get_or-set_other}
 use Rattle.std.specs.declared.cmp.Reverse.{Reverse}
 use Rattle.std.specs.List.{AllByRecursion}
 use Rattle.pg_pairs.specs.declared.edge.Edge.{Edge}
@@ -7,7 +7,7 @@ use Rattle.pg_least.specs.declared.arcs.Arc.{Arc}
 use Rattle.pg_pairs.specs.Among.{IsAmong}
 use Rattle.pg_pairs.specs.LeastCosts.{IsNoMore}
 use Rattle.pg_least.specs.Relaxing.{AreNumbers, IsBalanced, Stands, cost_at, is_set, offer, waits}
-use Rattle.pg_least.specs.Graphs.{IsArc, arcs_by, arcs_to, arcs_to_settled, arcs_to_numbers, left}
+use Rattle.pg_least.specs.Graphs.{arcs_by, arcs_to, arcs_to_settled, arcs_to_numbers, left}
 use Rattle.pg_least.proofs.Steps.{no_more-same, place_cases, not_both}
 
 -- Parts of lists.

@@ -1,8 +1,7 @@
 -- One step of settling costs least first.
-use Rattle.std.proofs.Common.{◌≡◌, ℕ, zero, suc, ◌+◌, ◌<◌, ◌≤◌, ◌⊎◌, ◌≢◌, nat_eq, eqb, eqb-true, List, [], ◌∷◌, ◌++◌, length, get_or, set, Bool, true, false, ◌&&◌, ◌||◌, cond, Option, Some, None, option_and_then, inl, inr, ⊎_elim, refl, ap, sym, ◌∙◌, subst, subst₂, arith, eq-eqb, IsPermutation, All, get_or-set_same, get_or-set_other, length-set}
+use Rattle.std.proofs.Common.{◌≡◌, ℕ, zero, suc, ◌<◌, ◌≤◌, ◌⊎◌, ◌≢◌, nat_eq, eqb-true, List, [], ◌∷◌, ◌++◌, length, set, Bool, true, false, ◌&&◌, ◌||◌, Option, Some, None, option_and_then, inl, inr, ⊎_elim, refl, ap, sym, ◌∙◌, subst, subst₂, arith, eq-eqb, IsPermutation, get_or-set_same, get_or-set_other, length-set}
 use Rattle.std.specs.declared.cmp.Reverse.{Reverse}
-use Rattle.std.specs.List.{list_any}
-use Rattle.std.proofs.lemmas.Bool.{and_parts, cases_lt}
+use Rattle.std.proofs.lemmas.Bool.{and_parts}
 use Rattle.std.proofs.lemmas.List.Sorted.{All-permutation, list_any-IsPermutation}
 use Rattle.std.proofs.lemmas.List.Elements.{All-cons, All-tail}
 use Rattle.pg_least.specs.Queues.{entry, IsLeastTaken, IsOneMore}

@@ -1,6 +1,6 @@
 -- Arcs of a graph.
-use Rattle.std.specs.Prelude.{◌≡◌, ℕ, ◌+◌, ◌<◌, nat_eq, List, length, filter, slice_index_or, [], ◌∷◌, suc, Bool, true, false, is_some, Option, Some, Vec}
-use Rattle.std.specs.List.{AllByRecursion}
+use Rattle.std.specs.Prelude.{◌≡◌, ℕ, ◌+◌, ◌<◌, nat_eq, List, filter, [], ◌∷◌, suc, Bool, true, false, is_some, Option}
+use Rattle.std.specs.List.Sorted.{IsNonDecreasingBy}
 use Rattle.pg_pairs.specs.declared.choice.Pair.{Pair}
 use Rattle.pg_pairs.specs.declared.edge.Edge.{Edge}
 use Rattle.pg_pairs.specs.declared.work.Work.{Work}
@@ -29,9 +29,9 @@ arcs_to_numbers arcs costs = filter (λ (a : Arc). is_some (cost_at costs a.chil
 abbrev pub relaxed_by : ℕ → Work → Work
 relaxed_by n work = record { settled = work.settled; relaxed = work.relaxed + n; opened = work.opened }
 
--- each place's list has the arcs to it
-abbrev pub IsTurned : {S : Type 0} → List Arc → List (Vec Arc S) → Type 0
-IsTurned {S} arcs turned = (at : ℕ) (d : Vec Arc S) → at < length turned → (slice_index_or turned at d).items ≡ arcs_to arcs at
+-- the arcs stand by the places that they lead to
+abbrev pub AreByChild : List Arc → Type 0
+AreByChild arcs = IsNonDecreasingBy (λ (a : Arc). a.child) arcs
 
 abbrev pub arcs_to_settled : List Arc → List Bool → List Arc
 arcs_to_settled arcs settled = filter (λ (a : Arc). is_set settled a.child) arcs

@@ -1,20 +1,18 @@
 -- Lists of pairs, as the search makes them.
-use Rattle.std.specs.Prelude.{◌≡◌, ℕ, nat_eq, List, Bool, ◌&&◌}
-use Rattle.std.specs.HashSet.{HashSet, contains}
+use Rattle.std.specs.Prelude.{◌≡◌, ℕ, List, Bool}
+use Rattle.std.specs.BTreeSet.{BTreeSet, contains}
 use Rattle.std.specs.List.{AllByRecursion, list_any}
 use Rattle.pg_pairs.specs.declared.choice.Pair.{Pair}
+use Rattle.pg_pairs.specs.ByIndices.{by_indices}
 use Rattle.pg_pairs.specs.Covering.{same_pair}
 use Rattle.pg_pairs.specs.Among.{IsAmong}
 
 abbrev pub has_pair : List Pair → Pair → Bool
 has_pair pairs p = list_any (λ q. same_pair q p) pairs
 
-abbrev pub same_indices : ℕ × ℕ → ℕ × ℕ → Bool
-same_indices a b = nat_eq a.0 b.0 && nat_eq a.1 b.1
-
 -- the set has the places of the types of these pairs, and of no others
-abbrev pub AreSeen : {S : Type 0} → List Pair → HashSet (ℕ × ℕ) S → Type 0
-AreSeen pairs seen = (p : Pair) → contains same_indices seen (p.old.index, p.new.index) ≡ has_pair pairs p
+abbrev pub AreSeen : List Pair → BTreeSet (ℕ × ℕ) → Type 0
+AreSeen pairs seen = (p : Pair) → contains by_indices seen (p.old.index, p.new.index) ≡ has_pair pairs p
 
 -- each pair's children stand in the list too
 abbrev pub AreClosed : (Pair → List Pair) → List Pair → Type 0

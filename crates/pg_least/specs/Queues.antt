@@ -1,5 +1,5 @@
 -- Places that wait with costs.
-use Rattle.std.specs.Prelude.{◌≡◌, ℕ, ◌≤◌, List, ◌∷◌, IsPermutation}
+use Rattle.std.specs.Prelude.{ℕ, ◌≤◌, List, ◌∷◌, IsPermutation}
 use Rattle.std.specs.declared.cmp.Ordering.{Ordering}
 use Rattle.std.specs.declared.cmp.Reverse.{Reverse}
 use Rattle.std.specs.Ordering.{nat_cmp, ordering_then}

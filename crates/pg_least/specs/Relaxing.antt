@@ -1,5 +1,5 @@
 -- Costs that are settled least first.
-use Rattle.std.specs.Prelude.{◌≡◌, ℕ, ◌<◌, ◌≤◌, ⊤, nat_eq, List, [], ◌∷◌, ◌++◌, length, slice_index_or, slice_set as set, Bool, true, false, ◌&&◌, Option, Some, None, option_and_then, ◌⊎◌}
+use Rattle.std.specs.Prelude.{◌≡◌, ℕ, ◌<◌, ◌≤◌, ⊤, nat_eq, List, slice_index_or, slice_set as set, Bool, true, false, ◌&&◌, Option, Some, None, option_and_then, ◌⊎◌}
 use Rattle.std.specs.declared.cmp.Reverse.{Reverse}
 use Rattle.std.specs.List.{All, list_any}
 use Rattle.pg_pairs.specs.Among.{IsAmong}

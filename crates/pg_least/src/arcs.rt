@@ -1,18 +1,20 @@
 //! Edges between places.
 
 ghost use Rattle.std.specs.Prelude.{◌≡◌, ◌<◌, ℕ, List, length, map, flat_map, slice_get, ◌++◌, is_some, true, Some, IfOk, OnOk};
-ghost use Rattle.std.specs.HashMap.{get};
+ghost use Rattle.std.specs.BTreeMap.{get};
 ghost use Rattle.std.specs.List.{AllByRecursion};
+ghost use Rattle.std.specs.List.Sorted.{IsPermutation};
 ghost use Rattle.pg_pairs.specs.declared.choice.Pair.{Pair};
 ghost use Rattle.pg_pairs.specs.declared.edge.Edge.{Edge};
 ghost use Rattle.pg_pairs.specs.Among.{IsAmong};
+ghost use Rattle.pg_pairs.specs.ByIndices.{by_indices};
 ghost use Rattle.pg_least.specs.declared.arcs.Arc.{Arc};
-ghost use Rattle.pg_least.specs.Graphs.{IsTurned};
-ghost use Rattle.pg_least.specs.Places.{AreClosed, AreEmpty, ArePlaces, IsPlaced, same_indices};
+ghost use Rattle.pg_least.specs.Graphs.{AreByChild, arcs_to};
+ghost use Rattle.pg_least.specs.Places.{AreClosed, ArePlaces, IsPlaced};
 
 use pg_pairs::{Edge, Pair, Prices};
 use std::alloc::{AllocError, Global};
-use std::collections::HashMap;
+use std::collections::BTreeMap;
 
 /// An edge, with the places of its pairs.
 #[derive(Clone, Copy, Debug, PartialEq, Eq)]
@@ -23,10 +25,10 @@ pub(crate) struct Arc {
 }
 
 // A place of each pair.
-fn places_of(alloc: Global, pairs: &[Pair]) -> Result<HashMap<(u32, u32), usize>, AllocError>
+fn places_of(alloc: Global, pairs: &[Pair]) -> Result<BTreeMap<(u32, u32), usize>, AllocError>
     ensures { IfOk result (ArePlaces pairs.now (length pairs.now)) }
 {
-    let mut places = HashMap::new(alloc);
+    let mut places = BTreeMap::new(alloc);
     for at in 0..pairs.len() {
         let pair = pairs[at];
         places.insert((pair.old.index, pair.new.index), at)?;
@@ -35,9 +37,9 @@ fn places_of(alloc: Global, pairs: &[Pair]) -> Result<HashMap<(u32, u32), usize>
 }
 
 // The place of a pair that has one.
-fn place_of(places: &HashMap<(u32, u32), usize>, pair: Pair) -> usize
-    requires { is_some (get same_indices places.now (pair.old.index, pair.new.index)) ≡ true }
-    ensures { get same_indices places.now (pair.old.index, pair.new.index) ≡ Some result }
+fn place_of(places: &BTreeMap<(u32, u32), usize>, pair: Pair) -> usize
+    requires { is_some (get by_indices places.now (pair.old.index, pair.new.index)) ≡ true }
+    ensures { get by_indices places.now (pair.old.index, pair.new.index) ≡ Some result }
 {
     let found = places.get(&(pair.old.index, pair.new.index)).copied();
     match found {
@@ -49,11 +51,11 @@ fn place_of(places: &HashMap<(u32, u32), usize>, pair: Pair) -> usize
 // Puts the edges of a place's pair behind the arcs.
 fn add_arcs(
     arcs: &mut Vec<Arc>,
-    places: &HashMap<(u32, u32), usize>,
+    places: &BTreeMap<(u32, u32), usize>,
     from: usize,
     edges: &[Edge],
 ) -> Result<(), AllocError>
-    requires { AllByRecursion (λ (e : Edge). is_some (get same_indices places.now (e.child.old.index, e.child.new.index)) ≡ true) edges.now }
+    requires { AllByRecursion (λ (e : Edge). is_some (get by_indices places.now (e.child.old.index, e.child.new.index)) ≡ true) edges.now }
     ensures edges { OnOk result (map (λ a. a.edge) arcs.new.items ≡ map (λ a. a.edge) arcs.old.items ++ edges.now) }
     ensures placed { OnOk result ((pairs : List Pair) → ArePlaces pairs (length pairs) places.now → AllByRecursion (λ (e : Edge). slice_get pairs from ≡ Some e.from) edges.now → AllByRecursion (IsPlaced pairs) arcs.old.items → AllByRecursion (IsPlaced pairs) arcs.new.items) }
 {
@@ -68,8 +70,8 @@ fn add_arcs(
     Ok(())
 }
 
-/// The edges of those pairs, with the places of the pairs that they lead from and to.
-pub(crate) fn arcs_of<G: Prices>(
+// The edges of those pairs in their order, with the places of the pairs that they lead from and to.
+fn arcs_in_order<G: Prices>(
     alloc: Global,
     graph: &G,
     pairs: &[Pair],
@@ -88,26 +90,30 @@ pub(crate) fn arcs_of<G: Prices>(
     Ok(arcs)
 }
 
-// That many lists without an arc.
-fn empty_lists(alloc: Global, count: usize) -> Result<Vec<Vec<Arc>>, AllocError>
-    ensures { IfOk result (λ lists. AreEmpty lists.items count) }
+/// The edges of those pairs, with the places of the pairs that they lead from and to, by the places that they lead to.
+pub(crate) fn arcs_of<G: Prices>(
+    alloc: Global,
+    graph: &G,
+    pairs: &[Pair],
+) -> Result<Vec<Arc>, AllocError>
+    requires known { AllByRecursion (λ p. G.is_known graph.now p ≡ true) pairs.now }
+    requires closed { AreClosed (G.children_of graph.now) pairs.now }
+    ensures edges { IfOk result (λ arcs. IsPermutation (flat_map (G.edges_of graph.now) pairs.now) (map (λ a. a.edge) arcs.items)) }
+    ensures placed { IfOk result (λ arcs. AllByRecursion (IsPlaced pairs.now) arcs.items) }
+    ensures by_child { IfOk result (λ arcs. AreByChild arcs.items) }
 {
-    let mut lists = Vec::with_capacity(alloc, count)?;
-    for _ in 0..count {
-        lists.push(Vec::new(alloc))?;
-    }
-    Ok(lists)
+    let mut arcs = arcs_in_order(alloc, graph, pairs)?;
+    arcs.sort_unstable_by_key(|arc| arc.child);
+    Ok(arcs)
 }
 
-/// For each of that many places the arcs that lead to it.
-pub(crate) fn turned(alloc: Global, arcs: &[Arc], count: usize) -> Result<Vec<Vec<Arc>>, AllocError>
-    requires { AllByRecursion (λ (a : Arc). a.child < count) arcs.now }
-    ensures turned { IfOk result (λ lists. IsTurned arcs.now lists.items) }
-    ensures long { IfOk result (λ lists. length lists.items ≡ count) }
+/// Those to that place, of arcs that stand by the places that they lead to.
+pub(crate) fn arcs_to(arcs: &[Arc], at: usize) -> &[Arc]
+    requires { AreByChild arcs.now }
+    ensures { result.now ≡ arcs_to arcs.now at }
 {
-    let mut lists = empty_lists(alloc, count)?;
-    for arc in arcs {
-        lists[arc.child].push(*arc)?;
-    }
-    Ok(lists)
+    let start = arcs.partition_point(|arc| arc.child < at);
+    let rest = &arcs[start..];
+    let count = rest.partition_point(|arc| arc.child <= at);
+    &rest[..count]
 }

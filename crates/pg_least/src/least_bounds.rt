@@ -6,7 +6,7 @@ ghost use Rattle.pg_pairs.specs.Covering.{distinct};
 ghost use Rattle.pg_cert.specs.Bounds.{is_bound};
 ghost use Rattle.pg_least.specs.Least.{IsCounted, IsSettled, lines, opened_by};
 
-use crate::arcs::{arcs_of, turned};
+use crate::arcs::arcs_of;
 use crate::reached::reached;
 use crate::relaxing::settle_all;
 use pg_cert::{Bounds, BoundsError, PairBound};
@@ -86,8 +86,7 @@ pub fn settle<G: Prices>(alloc: Global, graph: &G, root: Pair) -> Result<(Bounds
     let pairs = reached(alloc, graph, root)?;
     let mut costs = bases_of(alloc, graph, &pairs, &mut work)?;
     let arcs = arcs_of(alloc, graph, &pairs)?;
-    let lists = turned(alloc, &arcs, pairs.len())?;
-    settle_all(alloc, graph, &arcs, &lists, &mut costs, &mut work)?;
+    settle_all(alloc, graph, &arcs, &mut costs, &mut work)?;
     work.settled = count_numbers(&costs);
     Ok((table_of(alloc, &pairs, &costs)?, work))
 }

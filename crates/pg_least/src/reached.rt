@@ -6,14 +6,15 @@ ghost use Rattle.pg_pairs.specs.Covering.{distinct};
 ghost use Rattle.pg_pairs.specs.Reached.{IsReachedInOrder};
 ghost use Rattle.pg_least.specs.Pairs.{AreClosed, AreSeen};
 
-use pg_pairs::{Pair, Prices, one_pair_more};
+use pg_pairs::laws::one_pair_more;
+use pg_pairs::{Pair, Prices};
 use std::alloc::{AllocError, Global};
-use std::collections::HashSet;
+use std::collections::BTreeSet;
 
 // Adds those of the pairs found that weren't seen yet, in their order.
 fn add_unseen(
     pairs: &mut Vec<Pair>,
-    seen: &mut HashSet<(u32, u32)>,
+    seen: &mut BTreeSet<(u32, u32)>,
     found: &[Pair],
 ) -> Result<(), AllocError>
     requires once { distinct pairs.old.items ≡ pairs.old.items }
@@ -47,7 +48,7 @@ pub(crate) fn reached<G: Prices>(
 {
     one_pair_more();
     let mut pairs = Vec::new(alloc);
-    let mut seen = HashSet::new(alloc);
+    let mut seen = BTreeSet::new(alloc);
     add_unseen(&mut pairs, &mut seen, &[root])?;
     for at in 0..usize::MAX {
         let Some(pair) = pairs.get(at).copied() else {

@@ -8,9 +8,9 @@ ghost use Rattle.pg_least.specs.declared.arcs.Arc.{Arc};
 ghost use Rattle.pg_pairs.specs.Among.{IsAmong};
 ghost use Rattle.pg_pairs.specs.LeastCosts.{IsNoMore};
 ghost use Rattle.pg_least.specs.Relaxing.{Arcs, AreNumbers, IsBalanced, IsLess, IsRelaxed, Stands, cost_at, is_set, waits};
-ghost use Rattle.pg_least.specs.Graphs.{IsArc, IsTurned, arcs_by, arcs_to_numbers, relaxed_by};
+ghost use Rattle.pg_least.specs.Graphs.{AreByChild, IsArc, arcs_by, arcs_to_numbers, relaxed_by};
 
-use crate::arcs::Arc;
+use crate::arcs::{Arc, arcs_to};
 use crate::queue::Queue;
 use pg_pairs::{Prices, Work};
 use std::alloc::{AllocError, Global};
@@ -113,19 +113,17 @@ fn waiting(alloc: Global, costs: &[Option<u32>]) -> Result<Queue, AllocError>
 }
 
 /// Lowers the costs of places, which are those that they have without an arc, until each is the least of this
-/// and of what its arcs cost at the costs of their children. The arcs stand in a list, and by child.
+/// and of what its arcs cost at the costs of their children. The arcs stand by the places that they lead to.
 ///
 /// Refused only where memory is.
 pub(crate) fn settle_all<G: Prices>(
     alloc: Global,
     graph: &G,
     arcs: &[Arc],
-    turned: &[Vec<Arc>],
     costs: &mut [Option<u32>],
     work: &mut Work,
 ) -> Result<(), AllocError>
-    requires long { length turned.now ≡ length costs.old }
-    requires turned { IsTurned arcs.now turned.now }
+    requires by_child { AreByChild arcs.now }
     requires arcs { AllByRecursion (IsArc (G.is_known graph.now) (G.edges_of graph.now) (length costs.old)) arcs.now }
     requires numbers { AreNumbers costs.old }
     requires room { work.old.relaxed + length arcs.now < 2 ^ 64 }
@@ -136,7 +134,7 @@ pub(crate) fn settle_all<G: Prices>(
     let mut queue = waiting(alloc, costs)?;
     while let Some((bound, at)) = next_live(&mut queue, costs, &settled) {
         settled[at] = true;
-        relax_all(graph, &turned[at], bound, costs, &mut queue, work)?;
+        relax_all(graph, arcs_to(arcs, at), bound, costs, &mut queue, work)?;
     }
     Ok(())
 }

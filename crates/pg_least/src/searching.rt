@@ -18,10 +18,11 @@ use crate::least_bounds::settle;
 use crate::witness::witness;
 use pg_cert::{Bounds, Certificate};
 use pg_dyn::{DynError, Message, encode};
-use pg_pairs::{
-    Numbers, Pair, Priced, Table, View, Work, exact_is_least, least_costs_are_exact,
-    least_costs_by_edges, none_is_compatible, numbers_are_alike, sees,
+use pg_pairs::laws::{
+    exact_is_least, least_costs_are_exact, least_costs_by_edges, none_is_compatible,
+    numbers_are_alike,
 };
+use pg_pairs::{Numbers, Pair, Priced, Table, View, Work, sees};
 use pg_schema::Schema;
 use std::alloc::{AllocError, Global};
 

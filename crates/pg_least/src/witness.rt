@@ -15,10 +15,8 @@ ghost use Rattle.pg_least.specs.Exact.{IsSearched};
 
 use pg_cert::{Bounds, Certificate};
 use pg_dyn::Message;
-use pg_pairs::{
-    Choice, Numbers, Pair, View, carry, cheapest, cheapest_is_least, choice_child,
-    each_child_costs_less, numbers_are_alike, sees,
-};
+use pg_pairs::laws::{cheapest_is_least, each_child_costs_less, numbers_are_alike};
+use pg_pairs::{Choice, Numbers, Pair, View, carry, cheapest, choice_child, sees};
 use pg_schema::Schema;
 use std::alloc::{AllocError, Global};
 
@@ -140,6 +138,24 @@ pub(crate) fn witness<V: View>(
     built(alloc, view, old, new, steps, last)
 }
 
+// The way of the witness of a certificate that a search under the view answers.
+fn way_with<V: View>(
+    alloc: Global,
+    view: &V,
+    old: &Schema,
+    new: &Schema,
+    certificate: &Certificate,
+) -> Result<Vec<Step>, AllocError>
+    requires searched { IsSearched (sight_of (V.is_alike view.now) (V.least_differing view.now) old.now new.now) (shape_of old.now) (shape_of new.now) certificate.now.root certificate.now }
+    requires breaks { is_some certificate.now.witness ≡ true }
+    ensures { IfOk result (λ steps. IsWay (sight_of (V.is_alike view.now) (V.least_differing view.now) old.now new.now) (shape_of old.now) (shape_of new.now) (bound_in certificate.now.bounds) certificate.now.root steps.items) }
+{
+    let root = certificate.root();
+    let (mut steps, last) = steps_down(alloc, view, old, new, certificate.bounds(), root)?;
+    steps.push(last)?;
+    Ok(steps)
+}
+
 /// The way of the witness of a certificate that a search answers: from the root by the cheapest choice of each pair to
 /// the pair of the message that the choice holds, as long as it holds one. The certificate has to be one that `find` or
 /// `search` answered for these two schemas, with a witness.
@@ -156,14 +172,5 @@ pub fn way(
     ensures { IfOk result (λ steps. IsWay by_numbers (shape_of old.now) (shape_of new.now) (bound_in certificate.now.bounds) certificate.now.root steps.items) }
 {
     numbers_are_alike();
-    let (mut steps, last) = steps_down(
-        alloc,
-        &Numbers,
-        old,
-        new,
-        certificate.bounds(),
-        certificate.root(),
-    )?;
-    steps.push(last)?;
-    Ok(steps)
+    way_with(alloc, &Numbers, old, new, certificate)
 }

@@ -1,22 +1,23 @@
 -- One step of gathering children: the list and the set of what was seen.
 use Rattle.std.proofs.Common.{◌≡◌, ℕ, List, [], ◌∷◌, ◌++◌, map, Bool, true, false, ◌||◌, cond, Option, Some, None, option_to_list, take, slice_index_or, length, ◌<◌, ◌+◌, zero, suc, get_or, slice_get, refl, ap, sym, ◌∙◌, subst}
-use Rattle.std.specs.HashSet.{HashSet, contains, Updates}
+use Rattle.std.specs.BTreeSet.{BTreeSet, contains, Updates}
 use Rattle.pg_schema.specs.declared.field.Field.{Field}
 use Rattle.pg_schema.specs.declared.message_type.MessageType.{MessageType}
 use Rattle.pg_schema.specs.declared.parts.Parts.{Parts}
 use Rattle.pg_schema.specs.Parts.{field_shape, shape_of, type_at}
 use Rattle.pg_schema.specs.Shape.{Shape, FieldShape, fields, field_at}
 use Rattle.pg_pairs.specs.declared.choice.Pair.{Pair}
+use Rattle.pg_pairs.specs.ByIndices.{by_indices, equal_same}
 use Rattle.pg_pairs.specs.Covering.{same_pair, children_beside, all_children, children, distinct}
 use Rattle.pg_pairs.proofs.Choosing.{same_pair-true}
-use Rattle.pg_pairs.proofs.FirstSeen.{has_pair, same_indices, grown, distinct-grown, row_more}
+use Rattle.pg_pairs.proofs.FirstSeen.{has_pair, grown, distinct-grown, row_more}
 use Rattle.pg_dyn.proofs.Lists.{flat_map-map}
 
 abbrev pub indices : Pair → ℕ × ℕ
 indices p = (p.old.index, p.new.index)
 
-abbrev pub Agrees : {S : Type 0} → List Pair → HashSet (ℕ × ℕ) S → Type 0
-Agrees ps seen = (p : Pair) → contains same_indices seen (p.old.index, p.new.index) ≡ has_pair ps p
+abbrev pub Agrees : List Pair → BTreeSet (ℕ × ℕ) → Type 0
+Agrees ps seen = (p : Pair) → contains by_indices seen (p.old.index, p.new.index) ≡ has_pair ps p
 
 has-end : (ps : List Pair) (child p : Pair) → has_pair (ps ++ child ∷ []) p ≡ cond (same_pair child p) true (has_pair ps p)
 has-end [] child p = elim (same_pair child p) as (λ b. (b || false) ≡ cond b true false) [ true ↦ refl | false ↦ refl ]
@@ -25,13 +26,15 @@ has-end (q ∷ ps) child p =
     ∙ elim (same_pair child p) as (λ b. (same_pair q p || cond b true (has_pair ps p)) ≡ cond b true (same_pair q p || has_pair ps p))
     [ true ↦ elim (same_pair q p) as (λ b. (b || true) ≡ true) [ true ↦ refl | false ↦ refl ] | false ↦ refl ]
 
-pub seen_new : {S : Type 0} (ps : List Pair) (child : Pair) (seen after : HashSet (ℕ × ℕ) S) → Agrees ps seen → Updates same_indices seen after (child.old.index, child.new.index) true → Agrees (ps ++ child ∷ []) after
-seen_new ps child seen after agrees updates p =
-    updates.0 (p.old.index, p.new.index) ∙ ap (cond (same_pair child p) true) (agrees p) ∙ sym (has-end ps child p)
+seen_after : (ps : List Pair) (child : Pair) (seen after : BTreeSet (ℕ × ℕ)) → Agrees ps seen → Updates by_indices seen after (child.old.index, child.new.index) true → (p : Pair) → contains by_indices after (p.old.index, p.new.index) ≡ cond (same_pair child p) true (has_pair ps p)
+seen_after ps child seen after agrees updates p =
+    updates.0 (p.old.index, p.new.index) ∙ ap (λ b. cond b true (contains by_indices seen (p.old.index, p.new.index))) (equal_same child p) ∙ ap (cond (same_pair child p) true) (agrees p)
 
-pub seen_again : {S : Type 0} (ps : List Pair) (child : Pair) (seen after : HashSet (ℕ × ℕ) S) → Agrees ps seen → Updates same_indices seen after (child.old.index, child.new.index) true → has_pair ps child ≡ true → Agrees ps after
-seen_again ps child seen after agrees updates there p =
-    updates.0 (p.old.index, p.new.index) ∙ ap (cond (same_pair child p) true) (agrees p) ∙ of (same_pair child p) refl
+pub seen_new : (ps : List Pair) (child : Pair) (seen after : BTreeSet (ℕ × ℕ)) → Agrees ps seen → Updates by_indices seen after (child.old.index, child.new.index) true → Agrees (ps ++ child ∷ []) after
+seen_new ps child seen after agrees updates p = seen_after ps child seen after agrees updates p ∙ sym (has-end ps child p)
+
+pub seen_again : (ps : List Pair) (child : Pair) (seen after : BTreeSet (ℕ × ℕ)) → Agrees ps seen → Updates by_indices seen after (child.old.index, child.new.index) true → has_pair ps child ≡ true → Agrees ps after
+seen_again ps child seen after agrees updates there p = seen_after ps child seen after agrees updates p ∙ of (same_pair child p) refl
   where
     of : (b : Bool) → same_pair child p ≡ b → cond (same_pair child p) true (has_pair ps p) ≡ has_pair ps p
     of true h = rw h (sym (subst (λ q. has_pair ps q ≡ true) (same_pair-true child p h) there))

@@ -1,7 +1,8 @@
--- A pair's least cost under a table by its least cost without bounds and its edges.
-use Rattle.std.proofs.Common.{◌≡◌, ℕ, ◌+◌, List, [], ◌∷◌, ◌++◌, map, flat_map, Bool, true, false, nat_le, cond, if◌then◌else◌, Option, Some, None, option_map, option_and_then, refl, ap, ap₂, sym, ◌∙◌, arith}
+-- A pair's choices under a table, and so its least cost, by those without bounds and by its edges.
+use Rattle.std.proofs.Common.{◌≡◌, ℕ, List, [], ◌∷◌, ◌++◌, map, flat_map, Bool, true, false, nat_le, cond, if◌then◌else◌, Option, Some, None, option_map, option_and_then, inl, inr, ⊎_elim, refl, ap, ap₂, sym, ◌∙◌, subst, arith}
 use Rattle.std.specs.List.{AllByRecursion}
-use Rattle.std.proofs.lemmas.Bool.{leb-true, leb-false}
+use Rattle.std.proofs.lemmas.Grind.{flat_map-append}
+use Rattle.std.proofs.lemmas.List.{append-nil}
 use Rattle.pg_schema.specs.declared.field.Scalar.{Scalar}
 use Rattle.pg_schema.specs.declared.field.Element.{Element}
 use Rattle.pg_schema.specs.declared.field.Element.TheVariants as elements
@@ -9,84 +10,86 @@ use Rattle.pg_schema.specs.declared.field.Presence.{Presence}
 use Rattle.pg_schema.specs.declared.field.Presence.TheVariants as presences
 use Rattle.pg_schema.specs.Shape.{Shape, FieldShape, fields, field_at}
 use Rattle.pg_dyn.specs.Encoding.{cap}
-use Rattle.pg_dyn.proofs.Lists.{filter-append', flat_map_same}
+use Rattle.pg_dyn.proofs.Lists.{filter-append'}
 use Rattle.pg_dyn.proofs.PublicLaws.{fields_are_found}
 use Rattle.pg_pairs.specs.declared.choice.Choice.{Choice}
 use Rattle.pg_pairs.specs.declared.choice.Pair.{Pair}
+use Rattle.pg_pairs.specs.declared.edge.Edge.{Edge}
 use Rattle.pg_pairs.specs.Sight.{Sight}
+use Rattle.pg_pairs.specs.Among.{IsAmong}
 use Rattle.pg_pairs.specs.Likeness.{like}
 use Rattle.pg_pairs.specs.Costs.{with_length, one_item, least_content}
-use Rattle.pg_pairs.specs.Choices.{Table, number_for, choice, choice_of, unlike_cost, child_body, plain_choices, map_choices, field_choices, joined_choices, choices_beside, all_choices, affordable}
+use Rattle.pg_pairs.specs.Choices.{Table, number_for, choice, choice_of, unlike_cost, child_body, plain_choices, map_choices, field_choices, joined_choices, choices_beside, all_choices, affordable, choices}
 use Rattle.pg_pairs.specs.Cheapest.{cheapest, first_of}
 use Rattle.pg_pairs.specs.Covering.{message_pair, field_children, children_beside}
+use Rattle.pg_pairs.specs.LeastCosts.{IsNoMore}
 use Rattle.pg_pairs.specs.LeastOf.{cost_under, least_of, lesser_cost}
-use Rattle.pg_pairs.specs.Edges.{LeastCostsByEdges, child_cost, edge_price, edge_to, no_bounds, within_cap}
+use Rattle.pg_pairs.specs.Edges.{ChoicesByEdges, IsByEdges, LeastCostsByEdges, child_case, child_cost, child_part, edge_choice, edge_price, edge_to, edges, no_bounds, part_of}
+use Rattle.pg_pairs.specs.EdgeChildren.{among_append, append_left, append_right}
+use Rattle.pg_pairs.proofs.Among.{among_each}
 use Rattle.pg_pairs.proofs.Cheaper.{cheapest-append}
-use Rattle.pg_pairs.proofs.LeastCosts.{cost_of, gap_choice, child_choice, list_choice, like_choices, key_choice, value_choice, map_child_choice, like_map_choices}
+use Rattle.pg_pairs.proofs.LeastCosts.{HasWithin, cost_of, every_within, met_no_more, gap_choice, child_choice, list_choice, like_choices, key_choice, value_choice, map_child_choice, like_map_choices}
 
--- The lesser of costs, in any order.
+-- Lists that have the same choices, in whatever order.
 
-lesser_none : (o : Option ℕ) → lesser_cost o None ≡ o
-lesser_none None = refl
-lesser_none (Some m) = refl
+abbrev Same : List Choice → List Choice → Type 0
+Same cs ds = (c : Choice) → (IsAmong c cs → IsAmong c ds) × (IsAmong c ds → IsAmong c cs)
 
--- the lesser of two numbers is one of them, and no more than either
-both_lesser : (m n : ℕ) → lesser_cost (Some m) (Some n) ≡ lesser_cost (Some n) (Some m)
-both_lesser m n = of (nat_le m n) (nat_le n m) refl refl
-  where
-    of : (b d : Bool) → nat_le m n ≡ b → nat_le n m ≡ d → lesser_cost (Some m) (Some n) ≡ lesser_cost (Some n) (Some m)
-    of true true h k = let below = leb-true m n h in let above = leb-true n m k in let same : m ≡ n = omega arith in rw (h, k) (ap Some same)
-    of true false h k = rw (h, k) refl
-    of false true h k = rw (h, k) refl
-    of false false h k = let above = leb-false m n h in let below = leb-false n m k in absurd (omega arith)
+same_list : (cs : List Choice) → Same cs cs
+same_list cs c = (λ h. h, λ h. h)
 
-lesser_swapped : (o p : Option ℕ) → lesser_cost o p ≡ lesser_cost p o
-lesser_swapped None p = sym (lesser_none p)
-lesser_swapped (Some m) None = refl
-lesser_swapped (Some m) (Some n) = both_lesser m n
+same_through : (cs ds es : List Choice) → Same cs ds → Same ds es → Same cs es
+same_through cs ds es h k c = (λ x. (k c).0 ((h c).0 x), λ x. (h c).1 ((k c).1 x))
 
-lesser_joined : (o p q : Option ℕ) → lesser_cost (lesser_cost o p) q ≡ lesser_cost o (lesser_cost p q)
-lesser_joined None p q = refl
-lesser_joined (Some m) None q = refl
-lesser_joined (Some m) (Some n) None = lesser_none (lesser_cost (Some m) (Some n))
-lesser_joined (Some l) (Some m) (Some n) = of (nat_le l m) (nat_le m n) (nat_le l n) refl refl refl
-  where
-    of : (b d e : Bool) → nat_le l m ≡ b → nat_le m n ≡ d → nat_le l n ≡ e → lesser_cost (lesser_cost (Some l) (Some m)) (Some n) ≡ lesser_cost (Some l) (lesser_cost (Some m) (Some n))
-    of true true true h k j = rw (h, k, j, h) refl
-    of true true false h k j = let first = leb-true l m h in let second = leb-true m n k in let third = leb-false l n j in absurd (omega arith)
-    of true false e h k j = rw (h, k) refl
-    of false true e h k j = rw (h, k, h) refl
-    of false false true h k j = let first = leb-false l m h in let second = leb-false m n k in let third = leb-true l n j in absurd (omega arith)
-    of false false false h k j = rw (h, k, j) refl
+same_both : (ks ls ms ns : List Choice) → Same ks ls → Same ms ns → Same (ks ++ ms) (ls ++ ns)
+same_both ks ls ms ns h k c = (
+  λ x. ⊎_elim (λ y. append_left c ls ns ((h c).0 y)) (λ y. append_right c ls ns ((k c).0 y)) (among_append c ks ms x),
+  λ x. ⊎_elim (λ y. append_left c ks ms ((h c).1 y)) (λ y. append_right c ks ms ((k c).1 y)) (among_append c ls ns x),
+)
 
 -- the last two change places
-lesser_turned : (o p q : Option ℕ) → lesser_cost (lesser_cost o p) q ≡ lesser_cost (lesser_cost o q) p
-lesser_turned o p q = lesser_joined o p q ∙ ap (lesser_cost o) (lesser_swapped p q) ∙ sym (lesser_joined o q p)
+same_turned : (ks ls ms : List Choice) → Same (ks ++ ls ++ ms) (ks ++ ms ++ ls)
+same_turned ks ls ms c = (turn ls ms, turn ms ls)
+  where
+    turn : (xs ys : List Choice) → IsAmong c (ks ++ xs ++ ys) → IsAmong c (ks ++ ys ++ xs)
+    turn xs ys h =
+        ⊎_elim (λ front. ⊎_elim (λ x. append_left c (ks ++ ys) xs (append_left c ks ys x)) (λ x. append_right c (ks ++ ys) xs x) (among_append c ks xs front))
+        (λ x. append_left c (ks ++ ys) xs (append_right c ks ys x)) (among_append c (ks ++ xs) ys h)
 
-least_joined : (os ps : List (Option ℕ)) → least_of (os ++ ps) ≡ lesser_cost (least_of os) (least_of ps)
-least_joined [] ps = refl
-least_joined (o ∷ os) ps = ap (lesser_cost o) (least_joined os ps) ∙ sym (lesser_joined o (least_of os) (least_of ps))
+-- the second of either half stands behind the first of both
+same_apart : (ks ls ms ns : List Choice) → Same ((ks ++ ls) ++ (ms ++ ns)) ((ks ++ ms) ++ (ls ++ ns))
+same_apart ks ls ms ns c = (turn ks ls ms ns, turn ks ms ls ns)
+  where
+    turn : (ws xs ys zs : List Choice) → IsAmong c ((ws ++ xs) ++ (ys ++ zs)) → IsAmong c ((ws ++ ys) ++ (xs ++ zs))
+    turn ws xs ys zs h =
+        ⊎_elim (λ front. ⊎_elim (λ x. append_left c (ws ++ ys) (xs ++ zs) (append_left c ws ys x)) (λ x. append_right c (ws ++ ys) (xs ++ zs) (append_left c xs zs x)) (among_append c ws xs front))
+        (λ back. ⊎_elim (λ x. append_left c (ws ++ ys) (xs ++ zs) (append_right c ws ys x)) (λ x. append_right c (ws ++ ys) (xs ++ zs) (append_right c xs zs x)) (among_append c ys zs back))
+        (among_append c (ws ++ xs) (ys ++ zs) h)
 
--- Rows of choices, by what the cheapest that an encoding may have costs.
+-- what an encoding may have is the same of both
+affordable_among : (c : Choice) (cs : List Choice) → IsAmong c (affordable cs) → IsAmong c cs × (nat_le c.cost cap ≡ true)
+affordable_among c [] h = absurd h
+affordable_among c (d ∷ ds) h = of (nat_le d.cost cap) refl h (affordable_among c ds)
+  where
+    of : (b : Bool) → nat_le d.cost cap ≡ b → IsAmong c (cond b (d ∷ affordable ds) (affordable ds)) → (IsAmong c (affordable ds) → IsAmong c ds × (nat_le c.cost cap ≡ true)) → IsAmong c (d ∷ ds) × (nat_le c.cost cap ≡ true)
+    of true small k rest = ⊎_elim (λ same. (inl same, subst (λ (x : Choice). nat_le x.cost cap ≡ true) (sym same) small)) (λ later. (inr (rest later).0, (rest later).1)) k
+    of false large k rest = (inr (rest k).0, (rest k).1)
 
-abbrev least_in : List Choice → Option ℕ
-least_in cs = cost_of (cheapest (affordable cs))
+among_affordable : (c : Choice) (cs : List Choice) → IsAmong c cs → nat_le c.cost cap ≡ true → IsAmong c (affordable cs)
+among_affordable c [] h small = absurd h
+among_affordable c (d ∷ ds) h small =
+    ⊎_elim (λ same. let here : nat_le d.cost cap ≡ true = subst (λ (x : Choice). nat_le x.cost cap ≡ true) same small in subst (λ b. IsAmong c (cond b (d ∷ affordable ds) (affordable ds))) (sym here) (inl same))
+    (λ later. of (nat_le d.cost cap) (among_affordable c ds later small)) h
+  where
+    of : (b : Bool) → IsAmong c (affordable ds) → IsAmong c (cond b (d ∷ affordable ds) (affordable ds))
+    of true k = inr k
+    of false k = k
 
-cost_first : (o p : Option Choice) → cost_of (first_of o p) ≡ lesser_cost (cost_of o) (cost_of p)
-cost_first None p = refl
-cost_first (Some c) None = refl
-cost_first (Some c) (Some d) = elim (nat_le c.cost d.cost) as (λ b. cost_of (Some (cond b c d)) ≡ cond b (Some c.cost) (Some d.cost)) [ true ↦ refl | false ↦ refl ]
+same_affordable : (cs ds : List Choice) → Same cs ds → Same (affordable cs) (affordable ds)
+same_affordable cs ds h c =
+    (λ x. among_affordable c ds ((h c).0 (affordable_among c cs x).0) (affordable_among c cs x).1, λ x. among_affordable c cs ((h c).1 (affordable_among c ds x).0) (affordable_among c ds x).1)
 
-in_both : (cs ds : List Choice) → least_in (cs ++ ds) ≡ lesser_cost (least_in cs) (least_in ds)
-in_both cs ds =
-    ap (λ es. cost_of (cheapest es)) (filter-append' (λ (c : Choice). nat_le c.cost cap) cs ds) ∙ ap cost_of (cheapest-append (affordable cs) (affordable ds)) ∙ cost_first (cheapest (affordable cs)) (cheapest (affordable ds))
-
-in_three : (cs ds es : List Choice) → least_in (cs ++ ds ++ es) ≡ lesser_cost (lesser_cost (least_in cs) (least_in ds)) (least_in es)
-in_three cs ds es = in_both (cs ++ ds) es ∙ ap (λ o. lesser_cost o (least_in es)) (in_both cs ds)
-
--- a choice by a child costs what an encoding may have, or is none
-one_child : (number case part n : ℕ) → least_in (choice number case part n ∷ []) ≡ lesser_cost (within_cap n) None
-one_child number case part n = elim (nat_le n cap) as (λ b. cost_of (cheapest (cond b (choice number case part n ∷ []) [])) ≡ lesser_cost (if b then Some n else None) None) [ true ↦ refl | false ↦ refl ]
+-- Choices of fields.
 
 message_pair_unlike : (e d : Element) → like e d ≡ false → message_pair e d ≡ []
 message_pair_unlike (elements.Message s) (elements.Message t) h = absurd (cc)
@@ -96,56 +99,56 @@ message_pair_unlike (elements.Scalar s) d h = refl
 message_pair_unlike (elements.Enum s) d h = refl
 
 module _ (sight : Sight) (table : Table) where
-  abbrev cost_by : FieldShape → Pair → Option ℕ
-  cost_by f child = option_and_then (child_cost f) (number_for table child)
+  -- a field's choice of that case and part by a child, at its bound
+  abbrev by_child : FieldShape → ℕ → ℕ → Pair → List Choice
+  by_child f case part p = choice_of f.number case part (option_map (one_item f) (option_map with_length (number_for table p)))
 
-  -- choices under the table cost the least of those without bounds and of these children
-  abbrev Splits : FieldShape → List Choice → List Choice → List Pair → Type 0
-  Splits f under without ps = least_in under ≡ lesser_cost (least_in without) (least_of (map (cost_by f) ps))
+  -- the choices under the table are those without bounds and those by these children
+  abbrev Splits : FieldShape → ℕ → ℕ → List Choice → List Choice → List Pair → Type 0
+  Splits f case part under without ps = Same under (without ++ flat_map (by_child f case part) ps)
 
-  with_none : (f : FieldShape) (cs : List Choice) → Splits f cs cs []
-  with_none f cs = sym (lesser_none (least_in cs))
+  with_none : (f : FieldShape) (case part : ℕ) (cs : List Choice) → Splits f case part cs cs []
+  with_none f case part cs = rw (append-nil cs) (same_list cs)
 
-  child_without : (f : FieldShape) (case part : ℕ) (e d : Element) → least_in (choice_of f.number case part (option_map (one_item f) (child_body no_bounds e d))) ≡ None
+  child_without : (f : FieldShape) (case part : ℕ) (e d : Element) → choice_of f.number case part (option_map (one_item f) (child_body no_bounds e d)) ≡ []
   child_without f case part (elements.Message s) (elements.Message t) = refl
   child_without f case part (elements.Message s) (elements.Scalar t) = refl
   child_without f case part (elements.Message s) (elements.Enum t) = refl
   child_without f case part (elements.Scalar s) d = refl
   child_without f case part (elements.Enum s) d = refl
 
-  child_under : (f : FieldShape) (case part : ℕ) (e d : Element) → least_in (choice_of f.number case part (option_map (one_item f) (child_body table e d))) ≡ least_of (map (cost_by f) (message_pair e d))
-  child_under f case part (elements.Message s) (elements.Message t) = of (number_for table (record { old = s; new = t }))
-    where
-      of : (o : Option ℕ) → least_in (choice_of f.number case part (option_map (one_item f) (option_map with_length o))) ≡ lesser_cost (option_and_then (child_cost f) o) None
-      of None = refl
-      of (Some n) = one_child f.number case part (one_item f (with_length n))
+  child_under : (f : FieldShape) (case part : ℕ) (e d : Element) → choice_of f.number case part (option_map (one_item f) (child_body table e d)) ≡ flat_map (by_child f case part) (message_pair e d)
+  child_under f case part (elements.Message s) (elements.Message t) = sym (append-nil (by_child f case part (record { old = s; new = t })))
   child_under f case part (elements.Message s) (elements.Scalar t) = refl
   child_under f case part (elements.Message s) (elements.Enum t) = refl
   child_under f case part (elements.Scalar s) d = refl
   child_under f case part (elements.Enum s) d = refl
 
-  like_split : (f g : FieldShape) → Splits f (like_choices sight table f g) (like_choices sight no_bounds f g) (message_pair f.element g.element)
+  -- with the child's choices last, and none without bounds
+  child_last : (others child none by : List Choice) → child ≡ by → none ≡ [] → Same (others ++ child) (others ++ none ++ by)
+  child_last others child none by is empty = rw (is, empty, append-nil others) (same_list (others ++ by))
+
+  like_split : (f g : FieldShape) → Splits f 3 0 (like_choices sight table f g) (like_choices sight no_bounds f g) (message_pair f.element g.element)
   like_split f g =
-      let gap = least_in (gap_choice sight f g) in
-      let list = least_in (list_choice f g) in
-      let by = least_of (map (cost_by f) (message_pair f.element g.element)) in
-      in_three (gap_choice sight f g) (child_choice table f g) (list_choice f g) ∙ ap (λ o. lesser_cost (lesser_cost gap o) list) (child_under f 3 0 f.element g.element) ∙ lesser_turned gap by list
-      ∙ ap (λ o. lesser_cost (lesser_cost o list) by) (sym (lesser_none gap)) ∙ ap (λ o. lesser_cost (lesser_cost (lesser_cost gap o) list) by) (sym (child_without f 3 0 f.element g.element))
-      ∙ ap (λ o. lesser_cost o by) (sym (in_three (gap_choice sight f g) (child_choice no_bounds f g) (list_choice f g)))
+      let gap = gap_choice sight f g in
+      let list = list_choice f g in
+      let none = child_choice no_bounds f g in
+      let by = flat_map (by_child f 3 0) (message_pair f.element g.element) in
+      same_through (gap ++ child_choice table f g ++ list) (gap ++ none ++ by ++ list) (gap ++ none ++ list ++ by)
+      (same_both (gap ++ child_choice table f g) (gap ++ none ++ by) list list (child_last gap (child_choice table f g) none by (child_under f 3 0 f.element g.element) (child_without f 3 0 f.element g.element)) (same_list list))
+      (same_turned (gap ++ none) by list)
 
-  like_maps_split : (f g : FieldShape) (k l : Scalar) → Splits f (like_map_choices sight table f g k l) (like_map_choices sight no_bounds f g k l) (message_pair f.element g.element)
+  like_maps_split : (f g : FieldShape) (k l : Scalar) → Splits f 5 2 (like_map_choices sight table f g k l) (like_map_choices sight no_bounds f g k l) (message_pair f.element g.element)
   like_maps_split f g k l =
-      let others = lesser_cost (least_in (key_choice sight f k l)) (least_in (value_choice sight f g)) in
-      let by = least_of (map (cost_by f) (message_pair f.element g.element)) in
-      in_three (key_choice sight f k l) (value_choice sight f g) (map_child_choice table f g) ∙ ap (lesser_cost others) (child_under f 5 2 f.element g.element) ∙ ap (λ o. lesser_cost o by) (sym (lesser_none others))
-      ∙ ap (λ o. lesser_cost (lesser_cost others o) by) (sym (child_without f 5 2 f.element g.element)) ∙ ap (λ o. lesser_cost o by) (sym (in_three (key_choice sight f k l) (value_choice sight f g) (map_child_choice no_bounds f g)))
+      child_last (key_choice sight f k l ++ value_choice sight f g) (map_child_choice table f g) (map_child_choice no_bounds f g) (flat_map (by_child f 5 2) (message_pair f.element g.element))
+      (child_under f 5 2 f.element g.element) (child_without f 5 2 f.element g.element)
 
-  plain_split : (f g : FieldShape) → Splits f (plain_choices sight table f g) (plain_choices sight no_bounds f g) (message_pair f.element g.element)
+  plain_split : (f g : FieldShape) → Splits f 3 0 (plain_choices sight table f g) (plain_choices sight no_bounds f g) (message_pair f.element g.element)
   plain_split f g = of (like f.element g.element) refl
     where
-      of : (b : Bool) → like f.element g.element ≡ b → Splits f (if b then like_choices sight table f g else choice f.number 1 0 (unlike_cost f g) ∷ []) (if b then like_choices sight no_bounds f g else choice f.number 1 0 (unlike_cost f g) ∷ []) (message_pair f.element g.element)
+      of : (b : Bool) → like f.element g.element ≡ b → Splits f 3 0 (if b then like_choices sight table f g else choice f.number 1 0 (unlike_cost f g) ∷ []) (if b then like_choices sight no_bounds f g else choice f.number 1 0 (unlike_cost f g) ∷ []) (message_pair f.element g.element)
       of true is = like_split f g
-      of false is = rw (message_pair_unlike f.element g.element is) (with_none f (choice f.number 1 0 (unlike_cost f g) ∷ []))
+      of false is = rw (message_pair_unlike f.element g.element is) (with_none f 3 0 (choice f.number 1 0 (unlike_cost f g) ∷ []))
 
   module _ (number : ℕ) (e d : Element) (o r : Option ℕ) where
     abbrev at_old : Presence → FieldShape
@@ -154,24 +157,24 @@ module _ (sight : Sight) (table : Table) where
     abbrev at_new : Presence → ℕ → FieldShape
     at_new q n = record { number = n; presence = q; element = d; oneof = r }
 
-    maps_split : (k l : Scalar) (n : ℕ) → Splits (at_old (presences.Map k)) (map_choices sight table (at_old (presences.Map k)) (at_new (presences.Map l) n) k l) (map_choices sight no_bounds (at_old (presences.Map k)) (at_new (presences.Map l) n) k l)
+    maps_split : (k l : Scalar) (n : ℕ) → Splits (at_old (presences.Map k)) 5 2 (map_choices sight table (at_old (presences.Map k)) (at_new (presences.Map l) n) k l) (map_choices sight no_bounds (at_old (presences.Map k)) (at_new (presences.Map l) n) k l)
         (field_children (at_old (presences.Map k)) (at_new (presences.Map l) n))
     maps_split k l n = of (like (elements.Scalar k) (elements.Scalar l)) (like e d) refl refl
       where
-        of : (a b : Bool) → like (elements.Scalar k) (elements.Scalar l) ≡ a → like e d ≡ b → Splits (at_old (presences.Map k)) (map_choices sight table (at_old (presences.Map k)) (at_new (presences.Map l) n) k l) (map_choices sight no_bounds (at_old (presences.Map k)) (at_new (presences.Map l) n) k l)
+        of : (a b : Bool) → like (elements.Scalar k) (elements.Scalar l) ≡ a → like e d ≡ b → Splits (at_old (presences.Map k)) 5 2 (map_choices sight table (at_old (presences.Map k)) (at_new (presences.Map l) n) k l) (map_choices sight no_bounds (at_old (presences.Map k)) (at_new (presences.Map l) n) k l)
             (field_children (at_old (presences.Map k)) (at_new (presences.Map l) n))
-        of false b keys values = rw keys (with_none (at_old (presences.Map k)) (choice number 5 0 (least_content (at_old (presences.Map k))) ∷ []))
-        of true false keys values = rw (keys, values, message_pair_unlike e d values) (with_none (at_old (presences.Map k)) (choice number 5 0 (least_content (at_old (presences.Map k))) ∷ []))
+        of false b keys values = rw keys (with_none (at_old (presences.Map k)) 5 2 (choice number 5 0 (least_content (at_old (presences.Map k))) ∷ []))
+        of true false keys values = rw (keys, values, message_pair_unlike e d values) (with_none (at_old (presences.Map k)) 5 2 (choice number 5 0 (least_content (at_old (presences.Map k))) ∷ []))
         of true true keys values = rw (keys, values) (like_maps_split (at_old (presences.Map k)) (at_new (presences.Map l) n) k l)
 
-    presences_split : (p q : Presence) (n : ℕ) → Splits (at_old p) (field_choices sight table (at_old p) (at_new q n)) (field_choices sight no_bounds (at_old p) (at_new q n)) (field_children (at_old p) (at_new q n))
+    presences_split : (p q : Presence) (n : ℕ) → Splits (at_old p) (child_case (part_of p)) (child_part (part_of p)) (field_choices sight table (at_old p) (at_new q n)) (field_choices sight no_bounds (at_old p) (at_new q n)) (field_children (at_old p) (at_new q n))
     presences_split (presences.Map k) (presences.Map l) n = maps_split k l n
-    presences_split (presences.Map k) presences.Implicit n = with_none (at_old (presences.Map k)) (choice number 1 0 (unlike_cost (at_old (presences.Map k)) (at_new presences.Implicit n)) ∷ [])
-    presences_split (presences.Map k) presences.Explicit n = with_none (at_old (presences.Map k)) (choice number 1 0 (unlike_cost (at_old (presences.Map k)) (at_new presences.Explicit n)) ∷ [])
-    presences_split (presences.Map k) (presences.Repeated w) n = with_none (at_old (presences.Map k)) (choice number 1 0 (unlike_cost (at_old (presences.Map k)) (at_new (presences.Repeated w) n)) ∷ [])
-    presences_split presences.Implicit (presences.Map l) n = with_none (at_old presences.Implicit) (choice number 1 0 (unlike_cost (at_old presences.Implicit) (at_new (presences.Map l) n)) ∷ [])
-    presences_split presences.Explicit (presences.Map l) n = with_none (at_old presences.Explicit) (choice number 1 0 (unlike_cost (at_old presences.Explicit) (at_new (presences.Map l) n)) ∷ [])
-    presences_split (presences.Repeated v) (presences.Map l) n = with_none (at_old (presences.Repeated v)) (choice number 1 0 (unlike_cost (at_old (presences.Repeated v)) (at_new (presences.Map l) n)) ∷ [])
+    presences_split (presences.Map k) presences.Implicit n = with_none (at_old (presences.Map k)) 5 2 (choice number 1 0 (unlike_cost (at_old (presences.Map k)) (at_new presences.Implicit n)) ∷ [])
+    presences_split (presences.Map k) presences.Explicit n = with_none (at_old (presences.Map k)) 5 2 (choice number 1 0 (unlike_cost (at_old (presences.Map k)) (at_new presences.Explicit n)) ∷ [])
+    presences_split (presences.Map k) (presences.Repeated w) n = with_none (at_old (presences.Map k)) 5 2 (choice number 1 0 (unlike_cost (at_old (presences.Map k)) (at_new (presences.Repeated w) n)) ∷ [])
+    presences_split presences.Implicit (presences.Map l) n = with_none (at_old presences.Implicit) 3 0 (choice number 1 0 (unlike_cost (at_old presences.Implicit) (at_new (presences.Map l) n)) ∷ [])
+    presences_split presences.Explicit (presences.Map l) n = with_none (at_old presences.Explicit) 3 0 (choice number 1 0 (unlike_cost (at_old presences.Explicit) (at_new (presences.Map l) n)) ∷ [])
+    presences_split (presences.Repeated v) (presences.Map l) n = with_none (at_old (presences.Repeated v)) 3 0 (choice number 1 0 (unlike_cost (at_old (presences.Repeated v)) (at_new (presences.Map l) n)) ∷ [])
     presences_split presences.Implicit presences.Implicit n = plain_split (at_old presences.Implicit) (at_new presences.Implicit n)
     presences_split presences.Implicit presences.Explicit n = plain_split (at_old presences.Implicit) (at_new presences.Explicit n)
     presences_split presences.Implicit (presences.Repeated w) n = plain_split (at_old presences.Implicit) (at_new (presences.Repeated w) n)
@@ -182,58 +185,159 @@ module _ (sight : Sight) (table : Table) where
     presences_split (presences.Repeated v) presences.Explicit n = plain_split (at_old (presences.Repeated v)) (at_new presences.Explicit n)
     presences_split (presences.Repeated v) (presences.Repeated w) n = plain_split (at_old (presences.Repeated v)) (at_new (presences.Repeated w) n)
 
-  beside_split : (f : FieldShape) (o : Option FieldShape) → Splits f (choices_beside sight table f o) (choices_beside sight no_bounds f o) (children_beside f o)
-  beside_split f None = refl
+  -- a field's choice by a child, of the case and part that its presence has
+  abbrev by_own : FieldShape → Pair → List Choice
+  by_own f = by_child f (child_case (part_of f.presence)) (child_part (part_of f.presence))
+
+  beside_split : (f : FieldShape) (o : Option FieldShape) → Splits f (child_case (part_of f.presence)) (child_part (part_of f.presence)) (choices_beside sight table f o) (choices_beside sight no_bounds f o) (children_beside f o)
+  beside_split f None = same_list []
   beside_split f (Some g) = presences_split f.number f.element g.element f.oneof g.oneof f.presence g.presence g.number
 
-  abbrev costs_by : List FieldShape → List FieldShape → List (Option ℕ)
-  costs_by gs fs = flat_map (λ (f : FieldShape). map (cost_by f) (children_beside f (field_at gs f.number))) fs
+  abbrev by_fields : List FieldShape → List FieldShape → List Choice
+  by_fields gs fs = flat_map (λ (f : FieldShape). flat_map (by_own f) (children_beside f (field_at gs f.number))) fs
 
-  all_split : (gs fs : List FieldShape) → least_in (all_choices sight table gs fs) ≡ lesser_cost (least_in (all_choices sight no_bounds gs fs)) (least_of (costs_by gs fs))
-  all_split gs [] = refl
+  all_split : (gs fs : List FieldShape) → Same (all_choices sight table gs fs) (all_choices sight no_bounds gs fs ++ by_fields gs fs)
+  all_split gs [] = same_list []
   all_split gs (f ∷ later) =
       let here = field_at gs f.number in
-      let own = least_in (choices_beside sight no_bounds f here) in
-      let by = least_of (map (cost_by f) (children_beside f here)) in
-      let joins = least_in (joined_choices gs f later) in
-      let rest = least_in (all_choices sight no_bounds gs later) in
-      let by_rest = least_of (costs_by gs later) in
-      in_three (choices_beside sight table f here) (joined_choices gs f later) (all_choices sight table gs later)
-      ∙ ap₂ (λ o p. lesser_cost (lesser_cost o joins) p) (beside_split f here) (all_split gs later)
-      ∙ ap (λ o. lesser_cost o (lesser_cost rest by_rest)) (lesser_turned own by joins)
-      ∙ sym (lesser_joined (lesser_cost (lesser_cost own joins) by) rest by_rest)
-      ∙ ap (λ o. lesser_cost o by_rest) (lesser_turned (lesser_cost own joins) by rest)
-      ∙ lesser_joined (lesser_cost (lesser_cost own joins) rest) by by_rest
-      ∙ ap₂ lesser_cost (sym (in_three (choices_beside sight no_bounds f here) (joined_choices gs f later) (all_choices sight no_bounds gs later))) (sym (least_joined (map (cost_by f) (children_beside f here)) (costs_by gs later)))
+      let under = choices_beside sight table f here in
+      let own = choices_beside sight no_bounds f here in
+      let by = flat_map (by_own f) (children_beside f here) in
+      let joins = joined_choices gs f later in
+      let rest = all_choices sight no_bounds gs later in
+      let by_rest = by_fields gs later in
+      same_through (under ++ joins ++ all_choices sight table gs later) ((own ++ joins ++ by) ++ (rest ++ by_rest)) ((own ++ joins ++ rest) ++ (by ++ by_rest))
+      (same_both (under ++ joins) (own ++ joins ++ by) (all_choices sight table gs later) (rest ++ by_rest)
+      (same_through (under ++ joins) (own ++ by ++ joins) (own ++ joins ++ by) (same_both under (own ++ by) joins joins (beside_split f here) (same_list joins)) (same_turned own by joins))
+      (all_split gs later))
+      (same_apart (own ++ joins) by rest by_rest)
 
--- What an edge of a field costs under the table.
-map-append' : {A B : Type 0} (g : A → B) (xs ys : List A) → map g (xs ++ ys) ≡ map g xs ++ map g ys
-map-append' g [] ys = refl
-map-append' g (x ∷ xs) ys = ap (λ zs. g x ∷ zs) (map-append' g xs ys)
+-- Choices of edges.
 
-map-flat_map : {A B C : Type 0} (g : B → C) (h : A → List B) (xs : List A) → map g (flat_map h xs) ≡ flat_map (λ x. map g (h x)) xs
-map-flat_map g h [] = refl
-map-flat_map g h (x ∷ xs) = map-append' g (h x) (flat_map h xs) ∙ ap (λ ys. map g (h x) ++ ys) (map-flat_map g h xs)
+module _ (table : Table) (old new : Shape) (pair : Pair) where
+  -- the choice of an edge, where there is one
+  abbrev of_edge : Edge → List Choice
+  of_edge edge = choice_of edge.number (child_case edge.part) (child_part edge.part) (cost_under (edge_price old) table edge)
 
-edge_costs : (table : Table) (old new : Shape) (pair : Pair) (fs : List FieldShape) → AllByRecursion (λ (f : FieldShape). field_at (fields old pair.old) f.number ≡ Some f) fs
-    → map (cost_under (edge_price old) table) (flat_map (λ (f : FieldShape). map (edge_to pair f) (children_beside f (field_at (fields new pair.new) f.number))) fs)
-    ≡ flat_map (λ (f : FieldShape). map (λ child. option_and_then (child_cost f) (number_for table child)) (children_beside f (field_at (fields new pair.new) f.number))) fs
-edge_costs table old new pair fs found =
-    map-flat_map (cost_under (edge_price old) table) (λ (f : FieldShape). map (edge_to pair f) (children_beside f (field_at (fields new pair.new) f.number))) fs
-    ∙ flat_map_same (λ (f : FieldShape). map (cost_under (edge_price old) table) (map (edge_to pair f) (children_beside f (field_at (fields new pair.new) f.number)))) (λ (f : FieldShape). map (λ child. option_and_then (child_cost f) (number_for table child)) (children_beside f (field_at (fields new pair.new) f.number))) fs (each fs found)
+  abbrev own_edges : List FieldShape → List Edge
+  own_edges fs = flat_map (λ (f : FieldShape). map (edge_to pair f) (children_beside f (field_at (fields new pair.new) f.number))) fs
+
+  capped : (f : FieldShape) (case part : ℕ) (o : Option ℕ) → affordable (choice_of f.number case part (option_map (one_item f) (option_map with_length o))) ≡ choice_of f.number case part (option_and_then (child_cost f) o)
+  capped f case part None = refl
+  capped f case part (Some n) =
+      let cost = one_item f (with_length n) in
+      elim (nat_le cost cap) as (λ b. cond b (choice f.number case part cost ∷ []) [] ≡ choice_of f.number case part (if b then Some cost else None)) [ true ↦ refl | false ↦ refl ]
+
+  own_choices : (f : FieldShape) (ps : List Pair) → field_at (fields old pair.old) f.number ≡ Some f
+      → affordable (flat_map (λ p. choice_of f.number (child_case (part_of f.presence)) (child_part (part_of f.presence)) (option_map (one_item f) (option_map with_length (number_for table p)))) ps) ≡ flat_map of_edge (map (edge_to pair f) ps)
+  own_choices f [] found = refl
+  own_choices f (p ∷ ps) found =
+      let case = child_case (part_of f.presence) in
+      let part = child_part (part_of f.presence) in
+      let by = λ (q : Pair). choice_of f.number case part (option_map (one_item f) (option_map with_length (number_for table q))) in
+      filter-append' (λ (c : Choice). nat_le c.cost cap) (by p) (flat_map by ps)
+      ∙ ap₂ (λ cs ds. cs ++ ds)
+      (capped f case part (number_for table p) ∙ ap (λ o. choice_of f.number case part (option_and_then (λ bound. option_and_then (λ g. child_cost g bound) o) (number_for table p))) (sym found))
+      (own_choices f ps found)
+
+  all_of_edges : (fs : List FieldShape) → AllByRecursion (λ (f : FieldShape). field_at (fields old pair.old) f.number ≡ Some f) fs
+      → affordable (flat_map (λ (f : FieldShape). flat_map (λ p. choice_of f.number (child_case (part_of f.presence)) (child_part (part_of f.presence)) (option_map (one_item f) (option_map with_length (number_for table p)))) (children_beside f (field_at (fields new pair.new) f.number))) fs)
+      ≡ flat_map of_edge (own_edges fs)
+  all_of_edges [] found = refl
+  all_of_edges (f ∷ later) found =
+      let ps = children_beside f (field_at (fields new pair.new) f.number) in
+      let by = λ (g : FieldShape). flat_map (λ p. choice_of g.number (child_case (part_of g.presence)) (child_part (part_of g.presence)) (option_map (one_item g) (option_map with_length (number_for table p)))) (children_beside g (field_at (fields new pair.new) g.number)) in
+      filter-append' (λ (c : Choice). nat_le c.cost cap) (by f) (flat_map by later)
+      ∙ ap₂ (λ cs ds. cs ++ ds) (own_choices f ps found.0) (all_of_edges later found.1)
+      ∙ sym (flat_map-append of_edge (map (edge_to pair f) ps) (own_edges later))
+
+  -- just the edges' choices stand there
+  to_edge : (c : Choice) (es : List Edge) → IsAmong c (flat_map of_edge es) → (edge : Edge) × IsAmong edge es × (edge_choice old table edge ≡ Some c)
+  to_edge c [] h = absurd h
+  to_edge c (e ∷ es) h =
+      ⊎_elim (λ here. (e, inl refl, one (cost_under (edge_price old) table e) here)) (λ later. let found = to_edge c es later in (found.0, inr found.1, found.2)) (among_append c (of_edge e) (flat_map of_edge es) h)
+    where
+      one : (o : Option ℕ) → IsAmong c (choice_of e.number (child_case e.part) (child_part e.part) o) → option_map (choice e.number (child_case e.part) (child_part e.part)) o ≡ Some c
+      one None h = absurd h
+      one (Some cost) h = ⊎_elim (λ same. ap (λ x. Some x) (sym same)) (λ none. absurd none) h
+
+  from_edge : (c : Choice) (es : List Edge) (edge : Edge) → IsAmong edge es → edge_choice old table edge ≡ Some c → IsAmong c (flat_map of_edge es)
+  from_edge c [] edge among is = absurd among
+  from_edge c (e ∷ es) edge among is =
+      ⊎_elim (λ same. append_left c (of_edge e) (flat_map of_edge es) (one (cost_under (edge_price old) table e) (subst (λ (x : Edge). edge_choice old table x ≡ Some c) same is)))
+      (λ later. append_right c (of_edge e) (flat_map of_edge es) (from_edge c es edge later is)) among
+    where
+      one : (o : Option ℕ) → option_map (choice e.number (child_case e.part) (child_part e.part)) o ≡ Some c → IsAmong c (choice_of e.number (child_case e.part) (child_part e.part) o)
+      one None k = absurd (cc)
+      one (Some cost) k = let same : c ≡ choice e.number (child_case e.part) (child_part e.part) cost = cc in inl same
+
+-- The laws.
+
+same_choices : (sight : Sight) (old new : Shape) (table : Table) (pair : Pair) → AllByRecursion (λ (f : FieldShape). field_at (fields old pair.old) f.number ≡ Some f) (fields old pair.old)
+    → Same (choices sight table old new pair) (choices sight no_bounds old new pair ++ flat_map (of_edge table old new pair) (edges old new pair))
+same_choices sight old new table pair found =
+    let gs = fields new pair.new in
+    let fs = fields old pair.old in
+    let without = all_choices sight no_bounds gs fs in
+    let by = by_fields sight table gs fs in
+    let is : affordable (without ++ by) ≡ choices sight no_bounds old new pair ++ flat_map (of_edge table old new pair) (edges old new pair) =
+    filter-append' (λ (c : Choice). nat_le c.cost cap) without by ∙ ap (λ cs. affordable without ++ cs) (all_of_edges table old new pair fs found) in
+    subst (λ cs. Same (choices sight table old new pair) cs) is (same_affordable (all_choices sight table gs fs) (without ++ by) (all_split sight table gs fs))
+
+pub choices_by_edges : ChoicesByEdges
+choices_by_edges sight old new table shape pair c = (to, from)
   where
-    own : (f : FieldShape) (ps : List Pair) → field_at (fields old pair.old) f.number ≡ Some f → map (cost_under (edge_price old) table) (map (edge_to pair f) ps) ≡ map (λ child. option_and_then (child_cost f) (number_for table child)) ps
-    own f [] h = refl
-    own f (p ∷ ps) h = ap₂ (λ c cs. c ∷ cs) (ap (λ o. option_and_then (λ bound. option_and_then (λ g. child_cost g bound) o) (number_for table p)) h) (own f ps h)
+    same : Same (choices sight table old new pair) (choices sight no_bounds old new pair ++ flat_map (of_edge table old new pair) (edges old new pair))
+    same = same_choices sight old new table pair (fields_are_found.2 (fields old pair.old) (fields_are_found.0 old pair.old shape).rising)
 
-    each : (xs : List FieldShape) → AllByRecursion (λ (f : FieldShape). field_at (fields old pair.old) f.number ≡ Some f) xs
-        → AllByRecursion (λ (f : FieldShape). map (cost_under (edge_price old) table) (map (edge_to pair f) (children_beside f (field_at (fields new pair.new) f.number))) ≡ map (λ child. option_and_then (child_cost f) (number_for table child)) (children_beside f (field_at (fields new pair.new) f.number))) xs
-    each [] h = tt
-    each (f ∷ xs) h = (own f (children_beside f (field_at (fields new pair.new) f.number)) h.0, each xs h.1)
+    to : IsAmong c (choices sight table old new pair) → IsByEdges sight old new table pair c
+    to h =
+        ⊎_elim (λ own. inl own) (λ edge. inr (to_edge table old new pair c (edges old new pair) edge))
+        (among_append c (choices sight no_bounds old new pair) (flat_map (of_edge table old new pair) (edges old new pair)) ((same c).0 h))
+
+    from : IsByEdges sight old new table pair c → IsAmong c (choices sight table old new pair)
+    from h =
+        (same c).1 (⊎_elim (λ own. append_left c (choices sight no_bounds old new pair) (flat_map (of_edge table old new pair) (edges old new pair)) own)
+        (λ edge. append_right c (choices sight no_bounds old new pair) (flat_map (of_edge table old new pair) (edges old new pair)) (from_edge table old new pair c (edges old new pair) edge.0 edge.1 edge.2)) h)
+
+-- Least costs.
+
+no_more_both : (o p : Option ℕ) → IsNoMore o p → IsNoMore p o → o ≡ p
+no_more_both None None h k = refl
+no_more_both None (Some n) h k = absurd h
+no_more_both (Some m) None h k = absurd k
+no_more_both (Some m) (Some n) h k = let same : m ≡ n = omega arith in ap (λ x. Some x) same
+
+each_among : (P : Choice → Type 0) (cs : List Choice) → ((c : Choice) → IsAmong c cs → P c) → AllByRecursion P cs
+each_among P [] h = tt
+each_among P (c ∷ cs) h = (h c (inl refl), each_among P cs (λ d among. h d (inr among)))
+
+same_least : (cs ds : List Choice) → Same cs ds → cost_of (cheapest cs) ≡ cost_of (cheapest ds)
+same_least cs ds same = no_more_both (cost_of (cheapest cs)) (cost_of (cheapest ds)) (of cs ds (λ c. (same c).1)) (of ds cs (λ c. (same c).0))
+  where
+    of : (ks ls : List Choice) → ((c : Choice) → IsAmong c ls → IsAmong c ks) → IsNoMore (cost_of (cheapest ks)) (cost_of (cheapest ls))
+    of ks ls all = met_no_more ks ls (each_among (λ c. HasWithin ks c.cost) ls (λ c among. among_each (λ d. HasWithin ks d.cost) c ks (all c among) (every_within ks)))
+
+cost_first : (o p : Option Choice) → cost_of (first_of o p) ≡ lesser_cost (cost_of o) (cost_of p)
+cost_first None p = refl
+cost_first (Some c) None = refl
+cost_first (Some c) (Some d) = elim (nat_le c.cost d.cost) as (λ b. cost_of (Some (cond b c d)) ≡ cond b (Some c.cost) (Some d.cost)) [ true ↦ refl | false ↦ refl ]
+
+in_both : (cs ds : List Choice) → cost_of (cheapest (cs ++ ds)) ≡ lesser_cost (cost_of (cheapest cs)) (cost_of (cheapest ds))
+in_both cs ds = ap cost_of (cheapest-append cs ds) ∙ cost_first (cheapest cs) (cheapest ds)
+
+least_of_edges : (table : Table) (old new : Shape) (pair : Pair) (es : List Edge) → cost_of (cheapest (flat_map (of_edge table old new pair) es)) ≡ least_of (map (cost_under (edge_price old) table) es)
+least_of_edges table old new pair [] = refl
+least_of_edges table old new pair (e ∷ es) =
+    in_both (of_edge table old new pair e) (flat_map (of_edge table old new pair) es) ∙ ap₂ lesser_cost (one (cost_under (edge_price old) table e)) (least_of_edges table old new pair es)
+  where
+    one : (o : Option ℕ) → cost_of (cheapest (choice_of e.number (child_case e.part) (child_part e.part) o)) ≡ o
+    one None = refl
+    one (Some cost) = refl
 
 pub least_costs_by_edges : LeastCostsByEdges
 least_costs_by_edges sight old new table shape pair =
-    let gs = fields new pair.new in
-    let fs = fields old pair.old in
-    all_split sight table gs fs
-    ∙ ap (λ os. lesser_cost (least_in (all_choices sight no_bounds gs fs)) (least_of os)) (sym (edge_costs table old new pair fs (fields_are_found.2 fs (fields_are_found.0 old pair.old shape).rising)))
+    let without = choices sight no_bounds old new pair in
+    let by = flat_map (of_edge table old new pair) (edges old new pair) in
+    same_least (choices sight table old new pair) (without ++ by) (same_choices sight old new table pair (fields_are_found.2 (fields old pair.old) (fields_are_found.0 old pair.old shape).rising))
+    ∙ in_both without by ∙ ap (lesser_cost (cost_of (cheapest without))) (least_of_edges table old new pair (edges old new pair))

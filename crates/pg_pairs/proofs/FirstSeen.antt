@@ -1,5 +1,5 @@
 -- Lists in which each pair stands once, where it was first seen.
-use Rattle.std.proofs.Common.{◌≡◌, ℕ, List, [], ◌∷◌, ◌++◌, filter, flat_map, Bool, true, false, not, ◌&&◌, ◌||◌, nat_eq, cond, refl, ap, sym, ◌∙◌, subst, append-nil, option_to_list, Option, Some, None, take, slice_index_or, length, ◌<◌, ◌+◌}
+use Rattle.std.proofs.Common.{◌≡◌, ℕ, List, [], ◌∷◌, ◌++◌, filter, flat_map, Bool, true, false, not, ◌||◌, cond, refl, ap, sym, ◌∙◌, subst, append-nil, option_to_list, Option, Some, None, take, slice_index_or, length, ◌<◌, ◌+◌}
 use Rattle.std.specs.List.{list_any}
 use Rattle.std.proofs.lemmas.List.{take_more}
 use Rattle.pg_dyn.proofs.Lists.{flat_map-append'}
@@ -47,9 +47,6 @@ distinct-more (x ∷ ps) p = ap (λ qs. x ∷ filter (λ q. not (same_pair x q))
     of true false is_s is_t = rw (is_t, filter-end (distinct ps), is_s) (ap (λ qs. x ∷ qs) (append-nil (filter (λ q. not (same_pair x q)) (distinct ps))))
     of false true is_s is_t = rw (is_s, has-filter (λ q. not (same_pair x q)) p (keeps is_s) (distinct ps), is_t)
     of false false is_s is_t = rw (is_s, has-filter (λ q. not (same_pair x q)) p (keeps is_s) (distinct ps), is_t, filter-end (distinct ps), is_s)
-
-abbrev pub same_indices : ℕ × ℕ → ℕ × ℕ → Bool
-same_indices a b = nat_eq a.0 b.0 && nat_eq a.1 b.1
 
 -- A list grown by the pair of one field.
 abbrev pub grown : List Pair → Option Pair → List Pair

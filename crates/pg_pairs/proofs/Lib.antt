@@ -62,3 +62,5 @@ pub mod EdgeCosts
 pub mod EdgeLaws
 pub mod ChoicePlaces
 pub mod SameLengths
+pub mod LeastByName
+pub mod NamedSights

@@ -15,9 +15,9 @@ use Rattle.pg_dyn.specs.Message as model
 use Rattle.pg_dyn.specs.Kept.{Kept, KeptItem, Plain, Msg, ends, holds, nests, type_of, message_of, parts_of, of_number}
 use Rattle.pg_dyn.specs.Seen.{leaf_of, item_seen, content_seen}
 use Rattle.pg_dyn.specs.Writing.{records_in, bytes_of, field_records}
-use Rattle.pg_dyn.specs.Encoding.{cap, child_type, enc, encoded_parts}
+use Rattle.pg_dyn.specs.Encoding.{cap, enc, encoded_parts}
 use Rattle.pg_dyn.specs.Fits.{Fits, PartsAgree}
-use Rattle.pg_dyn.specs.Comparison.{outside, unshared_bytes}
+use Rattle.pg_dyn.specs.Comparison.{unshared_bytes}
 use Rattle.pg_dyn.specs.OwnParts.{ChildrenShorter}
 use Rattle.pg_dyn.proofs.Lists.{each_filtered, flat_map-append'}
 use Rattle.pg_dyn.proofs.PublicLaws.{children_are_shorter}

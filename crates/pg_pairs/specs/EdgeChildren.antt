@@ -33,15 +33,15 @@ among_distinct p (q ∷ ps) h = ⊎_elim (λ same. inl same) (λ later. of (same
     of true same later = inl (sym (same_pair-true q p same))
     of false apart later = inr (among_kept (λ x. not (same_pair q x)) (distinct ps) later (ap not apart))
 
-among_append : {A : Type 0} (x : A) (xs ys : List A) → IsAmong x (xs ++ ys) → IsAmong x xs ⊎ IsAmong x ys
+pub among_append : {A : Type 0} (x : A) (xs ys : List A) → IsAmong x (xs ++ ys) → IsAmong x xs ⊎ IsAmong x ys
 among_append x [] ys h = inr h
 among_append x (y ∷ xs) ys h = ⊎_elim (λ same. inl (inl same)) (λ later. ⊎_elim (λ l. inl (inr l)) (λ r. inr r) (among_append x xs ys later)) h
 
-append_left : {A : Type 0} (x : A) (xs ys : List A) → IsAmong x xs → IsAmong x (xs ++ ys)
+pub append_left : {A : Type 0} (x : A) (xs ys : List A) → IsAmong x xs → IsAmong x (xs ++ ys)
 append_left x [] ys h = absurd h
 append_left x (y ∷ xs) ys h = ⊎_elim (λ same. inl same) (λ later. inr (append_left x xs ys later)) h
 
-append_right : {A : Type 0} (x : A) (xs ys : List A) → IsAmong x ys → IsAmong x (xs ++ ys)
+pub append_right : {A : Type 0} (x : A) (xs ys : List A) → IsAmong x ys → IsAmong x (xs ++ ys)
 append_right x [] ys h = h
 append_right x (y ∷ xs) ys h = inr (append_right x xs ys h)
 

@@ -1,4 +1,4 @@
--- The least cost of a pair's choices: it doesn't rise when the table falls, and as the pair's bound it is exact.
+-- The least cost of a pair's choices: as the pair's bound it is exact.
 use Rattle.std.specs.Prelude.{ℕ, ◌≤◌, ⊤, Option, Some, None, option_map, IfSome}
 use Rattle.std.specs.List.{AllByRecursion}
 use Rattle.pg_schema.specs.Shape.{Shape}
@@ -6,7 +6,7 @@ use Rattle.pg_dyn.specs.Encoding.{cap}
 use Rattle.pg_pairs.specs.declared.choice.Choice.{Choice}
 use Rattle.pg_pairs.specs.declared.choice.Pair.{Pair}
 use Rattle.pg_pairs.specs.Sight.{Sight}
-use Rattle.pg_pairs.specs.Choices.{Table, number_for, choices}
+use Rattle.pg_pairs.specs.Choices.{Table, choices}
 use Rattle.pg_pairs.specs.Cheapest.{cheapest}
 use Rattle.pg_pairs.specs.Covering.{children, IsThere}
 use Rattle.pg_pairs.specs.Laws.{IsExact}
@@ -20,16 +20,6 @@ abbrev pub IsNoMore : Option ℕ → Option ℕ → Type 0
 IsNoMore m None = ⊤
 IsNoMore None (Some n) = ⊥
 IsNoMore (Some m) (Some n) = m ≤ n
-
--- each pair's number in the one table is no more than in the other
-abbrev pub IsNoHigher : Table → Table → Type 0
-IsNoHigher low high = (pair : Pair) → IsNoMore (number_for low pair) (number_for high pair)
-
--- Where the table's numbers are no more, each pair's least cost is no more.
-abbrev pub LowerTablesCostNoMore : Type 0
-LowerTablesCostNoMore =
-    (sight : Sight) (old new : Shape) (low high : Table) → IsNoHigher low high →
-    (pair : Pair) → IsNoMore (least_cost sight low old new pair) (least_cost sight high old new pair)
 
 -- A least cost is a length that an encoding of a breaking message may have.
 abbrev pub LeastCostsAreLengths : Type 0

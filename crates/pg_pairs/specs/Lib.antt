@@ -1,6 +1,11 @@
 pub mod Among
 pub mod Sight
+pub mod LeastNumbers
+pub mod LeastNumberLaws
+pub mod LeastByName
+pub mod NameLaws
 pub mod Views
+pub mod SightBy
 pub mod Likeness
 pub mod Gaps
 pub mod Costs
@@ -13,6 +18,7 @@ pub mod Comparing
 pub mod Members
 pub mod LeastMembers
 pub mod FirstSeen
+pub mod ByIndices
 pub mod Contents
 pub mod Laws
 pub mod FieldCosts

@@ -7,7 +7,7 @@ ghost use Rattle.pg_dyn.specs.Breaking.{Breaks};
 ghost use Rattle.pg_dyn.specs.Encoding.{cap, enc};
 ghost use Rattle.pg_dyn.specs.Fits.{Fits};
 ghost use Rattle.pg_dyn.specs.Kept.{message_of, type_of};
-ghost use Rattle.pg_pairs.specs.Views.{sight_of};
+ghost use Rattle.pg_pairs.specs.SightBy.{sight_by};
 
 use crate::choice::Pair;
 use crate::comparing::is_same_message;
@@ -31,7 +31,7 @@ pub fn breaks<V: View>(
     message: &Message,
 ) -> Result<bool, DynError>
     requires { Fits (shape_of old.now) message.now }
-    ensures exact { IfOk result (λ b. IsTrue b ↔ ((type_of message.now ≡ pair.old) × Breaks (sight_of (V.is_alike view.now) (V.least_differing view.now) old.now new.now).alike (shape_of old.now) (shape_of new.now) pair.old pair.new (message_of message.now))) }
+    ensures exact { IfOk result (λ b. IsTrue b ↔ ((type_of message.now ≡ pair.old) × Breaks (sight_by V.View view.now old.now new.now).alike (shape_of old.now) (shape_of new.now) pair.old pair.new (message_of message.now))) }
     ensures encoded { OnOk result (length (enc (shape_of old.now) (type_of message.now) (message_of message.now)) ≤ cap) }
     ensures refused { IfErr result (λ e. (e ≡ errors.Memory) ⊎ ((e ≡ errors.TooLong) × (cap < length (enc (shape_of old.now) (type_of message.now) (message_of message.now))))) }
 {

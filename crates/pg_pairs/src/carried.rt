@@ -14,7 +14,7 @@ ghost use Rattle.pg_pairs.specs.Carried.{alone, apart_item, apart_leaf, carried_
 ghost use Rattle.pg_pairs.specs.CarriedItems.{apart_small, content_alone, has_content, has_entry, has_value, is_child_of, IsTakenBy, leaf_by, Puts};
 ghost use Rattle.pg_pairs.specs.Comparing.{value_item};
 ghost use Rattle.pg_pairs.specs.Gaps.{gap_item};
-ghost use Rattle.pg_pairs.specs.Views.{sight_of};
+ghost use Rattle.pg_pairs.specs.SightBy.{sight_by};
 
 use crate::choice::Choice;
 use crate::element::are_like;
@@ -186,8 +186,8 @@ fn key_gap_content<V: View>(
     field: &Field,
     keys: (Scalar, Scalar),
 ) -> Result<Option<Content>, AllocError>
-    ensures some { IfOk result (λ found. is_some found ≡ is_some (gap_item (sight_of (V.is_alike sides.now.view.now) (V.least_differing sides.now.view.now) sides.now.old.now sides.now.new.now) true (Element.Scalar keys.0) (Element.Scalar keys.1))) }
-    ensures seen { IfOk result (λ found. IfSome found (λ content. content_alone field.now.number content ≡ key_alone field.now.number field.now.element (gap_item (sight_of (V.is_alike sides.now.view.now) (V.least_differing sides.now.view.now) sides.now.old.now sides.now.new.now) true (Element.Scalar keys.0) (Element.Scalar keys.1)))) }
+    ensures some { IfOk result (λ found. is_some found ≡ is_some (gap_item (sight_by V.View sides.now.view.now sides.now.old.now sides.now.new.now) true (Element.Scalar keys.0) (Element.Scalar keys.1))) }
+    ensures seen { IfOk result (λ found. IfSome found (λ content. content_alone field.now.number content ≡ key_alone field.now.number field.now.element (gap_item (sight_by V.View sides.now.view.now sides.now.old.now sides.now.new.now) true (Element.Scalar keys.0) (Element.Scalar keys.1)))) }
     ensures taken { IfOk result (λ found. (shape : Shape) → ElementFits (length shape) field.now.element → IfSome found (IsTakenBy shape (Presence.Map keys.0) field.now.element)) }
 {
     let keys = (Element::Scalar(keys.0), Element::Scalar(keys.1));
@@ -227,8 +227,8 @@ fn value_gap_content<V: View>(
     fields: &Beside<'_>,
     key: Scalar,
 ) -> Result<Option<Content>, AllocError>
-    ensures some { IfOk result (λ found. is_some found ≡ is_some (gap_item (sight_of (V.is_alike sides.now.view.now) (V.least_differing sides.now.view.now) sides.now.old.now sides.now.new.now) true fields.now.old.now.element fields.now.new.now.element)) }
-    ensures seen { IfOk result (λ found. IfSome found (λ content. content_alone fields.now.old.now.number content ≡ value_alone fields.now.old.now.number (zero_leaf (scalar_form key)) None (gap_item (sight_of (V.is_alike sides.now.view.now) (V.least_differing sides.now.view.now) sides.now.old.now sides.now.new.now) true fields.now.old.now.element fields.now.new.now.element))) }
+    ensures some { IfOk result (λ found. is_some found ≡ is_some (gap_item (sight_by V.View sides.now.view.now sides.now.old.now sides.now.new.now) true fields.now.old.now.element fields.now.new.now.element)) }
+    ensures seen { IfOk result (λ found. IfSome found (λ content. content_alone fields.now.old.now.number content ≡ value_alone fields.now.old.now.number (zero_leaf (scalar_form key)) None (gap_item (sight_by V.View sides.now.view.now sides.now.old.now sides.now.new.now) true fields.now.old.now.element fields.now.new.now.element))) }
     ensures taken { IfOk result (λ found. (shape : Shape) → IfSome found (IsTakenBy shape (Presence.Map key) fields.now.old.now.element)) }
 {
     let (old, new) = (fields.old, fields.new);
@@ -249,8 +249,8 @@ fn value_content<V: View>(
     key: Scalar,
     child: Option<Message>,
 ) -> Result<Option<Content>, AllocError>
-    ensures some { IfOk result (λ found. is_some found ≡ has_value fields.now.old.now.element child (gap_item (sight_of (V.is_alike sides.now.view.now) (V.least_differing sides.now.view.now) sides.now.old.now sides.now.new.now) true fields.now.old.now.element fields.now.new.now.element)) }
-    ensures seen { IfOk result (λ found. IfSome found (λ content. content_alone fields.now.old.now.number content ≡ value_alone fields.now.old.now.number (zero_leaf (scalar_form key)) (option_map message_of child) (gap_item (sight_of (V.is_alike sides.now.view.now) (V.least_differing sides.now.view.now) sides.now.old.now sides.now.new.now) true fields.now.old.now.element fields.now.new.now.element))) }
+    ensures some { IfOk result (λ found. is_some found ≡ has_value fields.now.old.now.element child (gap_item (sight_by V.View sides.now.view.now sides.now.old.now sides.now.new.now) true fields.now.old.now.element fields.now.new.now.element)) }
+    ensures seen { IfOk result (λ found. IfSome found (λ content. content_alone fields.now.old.now.number content ≡ value_alone fields.now.old.now.number (zero_leaf (scalar_form key)) (option_map message_of child) (gap_item (sight_by V.View sides.now.view.now sides.now.old.now sides.now.new.now) true fields.now.old.now.element fields.now.new.now.element))) }
     ensures taken { IfOk result (λ found. (shape : Shape) → IfSome child (Fits shape) → IfSome found (IsTakenBy shape (Presence.Map key) fields.now.old.now.element)) }
 {
     match child {
@@ -295,8 +295,8 @@ fn broken_entry<V: View>(
     part: u32,
     child: Option<Message>,
 ) -> Result<Option<Content>, AllocError>
-    ensures some { IfOk result (λ found. is_some found ≡ (is_map fields.now.old.now.presence && has_entry (sight_of (V.is_alike sides.now.view.now) (V.least_differing sides.now.view.now) sides.now.old.now sides.now.new.now) (field_shape fields.now.old.now) (key_of fields.now.old.now.presence) (key_of fields.now.new.now.presence) fields.now.new.now.element part child)) }
-    ensures seen { IfOk result (λ found. IfSome found (λ content. content_alone fields.now.old.now.number content ≡ entry_message (sight_of (V.is_alike sides.now.view.now) (V.least_differing sides.now.view.now) sides.now.old.now sides.now.new.now) fields.now.old.now.number (key_of fields.now.old.now.presence) (key_of fields.now.new.now.presence) fields.now.old.now.element fields.now.new.now.element part (option_map message_of child))) }
+    ensures some { IfOk result (λ found. is_some found ≡ (is_map fields.now.old.now.presence && has_entry (sight_by V.View sides.now.view.now sides.now.old.now sides.now.new.now) (field_shape fields.now.old.now) (key_of fields.now.old.now.presence) (key_of fields.now.new.now.presence) fields.now.new.now.element part child)) }
+    ensures seen { IfOk result (λ found. IfSome found (λ content. content_alone fields.now.old.now.number content ≡ entry_message (sight_by V.View sides.now.view.now sides.now.old.now sides.now.new.now) fields.now.old.now.number (key_of fields.now.old.now.presence) (key_of fields.now.new.now.presence) fields.now.old.now.element fields.now.new.now.element part (option_map message_of child))) }
     ensures taken { IfOk result (λ found. (shape : Shape) → ElementFits (length shape) fields.now.old.now.element → IfSome child (Fits shape) → IfSome found (IsTakenBy shape fields.now.old.now.presence fields.now.old.now.element)) }
 {
     let Presence::Map { key } = fields.old.presence else {
@@ -319,8 +319,8 @@ pub(crate) fn broken_content<V: View>(
     choice: &Choice,
     child: Option<Message>,
 ) -> Result<Option<Content>, AllocError>
-    ensures some { IfOk result (λ found. is_some found ≡ has_content (sight_of (V.is_alike sides.now.view.now) (V.least_differing sides.now.view.now) sides.now.old.now sides.now.new.now) (field_shape fields.now.old.now) (field_shape fields.now.new.now) choice.now.case choice.now.part child) }
-    ensures seen { IfOk result (λ found. IfSome found (λ content. content_alone fields.now.old.now.number content ≡ carried_field (sight_of (V.is_alike sides.now.view.now) (V.least_differing sides.now.view.now) sides.now.old.now sides.now.new.now) (field_shape fields.now.old.now) (field_shape fields.now.new.now) choice.now.case choice.now.part (option_map message_of child))) }
+    ensures some { IfOk result (λ found. is_some found ≡ has_content (sight_by V.View sides.now.view.now sides.now.old.now sides.now.new.now) (field_shape fields.now.old.now) (field_shape fields.now.new.now) choice.now.case choice.now.part child) }
+    ensures seen { IfOk result (λ found. IfSome found (λ content. content_alone fields.now.old.now.number content ≡ carried_field (sight_by V.View sides.now.view.now sides.now.old.now sides.now.new.now) (field_shape fields.now.old.now) (field_shape fields.now.new.now) choice.now.case choice.now.part (option_map message_of child))) }
     ensures taken { IfOk result (λ found. (shape : Shape) → ElementFits (length shape) fields.now.old.now.element → IfSome child (Fits shape) → IfSome found (IsTakenBy shape fields.now.old.now.presence fields.now.old.now.element)) }
 {
     let (old, new) = (fields.old, fields.new);

@@ -11,7 +11,7 @@ ghost use Rattle.pg_pairs.specs.CarriedItems.{IsTakenBy};
 ghost use Rattle.pg_pairs.specs.Choices.{Table, choices};
 ghost use Rattle.pg_pairs.specs.Laws.{ReachedBy};
 ghost use Rattle.pg_pairs.specs.Among.{IsAmong};
-ghost use Rattle.pg_pairs.specs.Views.{sight_of};
+ghost use Rattle.pg_pairs.specs.SightBy.{sight_by};
 
 use crate::carried::{Beside, broken_content, least_content};
 use crate::choice::{Choice, Pair};
@@ -69,15 +69,15 @@ pub fn carry<V: View>(
     choice: &Choice,
     child: Option<Message>,
 ) -> Result<Message, AllocError>
-    requires choice { IsChoiceOf (sight_of (V.is_alike view.now) (V.least_differing view.now) old.now new.now) (shape_of old.now) (shape_of new.now) pair choice.now }
+    requires choice { IsChoiceOf (sight_by V.View view.now old.now new.now) (shape_of old.now) (shape_of new.now) pair choice.now }
     requires child { ChildGiven (shape_of old.now) (choice_child (shape_of old.now) (shape_of new.now) pair choice.now) child }
     ensures fits { IfOk result (λ m. Fits (shape_of old.now) m) }
     ensures type_is { IfOk result (λ m. type_of m ≡ pair.old) }
-    ensures made { IfOk result (λ m. message_of m ≡ carried (sight_of (V.is_alike view.now) (V.least_differing view.now) old.now new.now) (shape_of old.now) (shape_of new.now) pair choice.now (option_map message_of child)) }
+    ensures made { IfOk result (λ m. message_of m ≡ carried (sight_by V.View view.now old.now new.now) (shape_of old.now) (shape_of new.now) pair choice.now (option_map message_of child)) }
     ensures reached { IfOk result (λ m. (table : Table) →
-        IsAmong choice.now (choices (sight_of (V.is_alike view.now) (V.least_differing view.now) old.now new.now) table (shape_of old.now) (shape_of new.now) pair)
-        → ChildReached (sight_of (V.is_alike view.now) (V.least_differing view.now) old.now new.now) (shape_of old.now) (shape_of new.now) table (choice_child (shape_of old.now) (shape_of new.now) pair choice.now) (option_map message_of child)
-        → ReachedBy (sight_of (V.is_alike view.now) (V.least_differing view.now) old.now new.now) (shape_of old.now) (shape_of new.now) pair (message_of m) choice.now.cost) }
+        IsAmong choice.now (choices (sight_by V.View view.now old.now new.now) table (shape_of old.now) (shape_of new.now) pair)
+        → ChildReached (sight_by V.View view.now old.now new.now) (shape_of old.now) (shape_of new.now) table (choice_child (shape_of old.now) (shape_of new.now) pair choice.now) (option_map message_of child)
+        → ReachedBy (sight_by V.View view.now old.now new.now) (shape_of old.now) (shape_of new.now) pair (message_of m) choice.now.cost) }
 {
     // What holds of every schema.
     old.parts();

@@ -10,7 +10,7 @@ use crate::choice::{Choice, Pair};
 use crate::element::are_like;
 use pg_schema::{Element, Field, Presence, Schema, TypeId};
 use std::alloc::{AllocError, Global};
-use std::collections::HashSet;
+use std::collections::BTreeSet;
 
 // The pair of two elements that are messages.
 fn message_pair(old: Element, new: Element) -> Option<Pair>
@@ -56,7 +56,7 @@ fn children_of(
     ensures { IfOk result (λ pairs. pairs.items ≡ distinct (all_children (fields (shape_of new.now) type_id) (map field_shape list.now))) }
 {
     let mut pairs = Vec::new(alloc);
-    let mut seen = HashSet::new(alloc);
+    let mut seen = BTreeSet::new(alloc);
     for field in list {
         if let Some(child) = child_beside(new, type_id, field) {
             if seen.insert((child.old.index, child.new.index))? {

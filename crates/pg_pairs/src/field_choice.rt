@@ -5,7 +5,7 @@ ghost use Rattle.pg_schema.specs.Parts.{field_shape, shape_of};
 ghost use Rattle.pg_schema.specs.Shape.{field_at, fields};
 ghost use Rattle.pg_pairs.specs.Choices.{affordable, choice_of, choices_beside, field_choices, map_choices, plain_choices, singular_cost, unlike_cost, zero_counts};
 ghost use Rattle.pg_pairs.specs.Costs.{entry_cost, least_body, one_item};
-ghost use Rattle.pg_pairs.specs.Views.{sight_of};
+ghost use Rattle.pg_pairs.specs.SightBy.{sight_by};
 
 use crate::choice::Choice;
 use crate::cost::{entry_cost, least_body, least_content, nonzero_body, one_item};
@@ -119,7 +119,7 @@ fn offer_plain<V: View, T: Table>(
     new: &Field,
 ) -> Result<(), AllocError>
     requires { old.now.number < 2 ^ 29 }
-    ensures { OnOk result (choices.new.items ≡ choices.old.items ++ affordable (plain_choices (sight_of (V.is_alike between.now.view.now) (V.least_differing between.now.view.now) between.now.old.now between.now.new.now) (T.bounds between.now.table.now) (field_shape old.now) (field_shape new.now))) }
+    ensures { OnOk result (choices.new.items ≡ choices.old.items ++ affordable (plain_choices (sight_by V.View between.now.view.now between.now.old.now between.now.new.now) (T.bounds between.now.table.now) (field_shape old.now) (field_shape new.now))) }
 {
     let number = old.number;
     let elements = (old.element, new.element);
@@ -143,7 +143,7 @@ fn offer_map<V: View, T: Table>(
     keys: (Scalar, Scalar),
 ) -> Result<(), AllocError>
     requires { old.now.number < 2 ^ 29 }
-    ensures { OnOk result (choices.new.items ≡ choices.old.items ++ affordable (map_choices (sight_of (V.is_alike between.now.view.now) (V.least_differing between.now.view.now) between.now.old.now between.now.new.now) (T.bounds between.now.table.now) (field_shape old.now) (field_shape new.now) keys.0 keys.1)) }
+    ensures { OnOk result (choices.new.items ≡ choices.old.items ++ affordable (map_choices (sight_by V.View between.now.view.now between.now.old.now between.now.new.now) (T.bounds between.now.table.now) (field_shape old.now) (field_shape new.now) keys.0 keys.1)) }
 {
     let number = old.number;
     let keys = (Element::Scalar(keys.0), Element::Scalar(keys.1));
@@ -167,7 +167,7 @@ pub(crate) fn offer_field<V: View, T: Table>(
     new: &Field,
 ) -> Result<(), AllocError>
     requires { old.now.number < 2 ^ 29 }
-    ensures { OnOk result (choices.new.items ≡ choices.old.items ++ affordable (field_choices (sight_of (V.is_alike between.now.view.now) (V.least_differing between.now.view.now) between.now.old.now between.now.new.now) (T.bounds between.now.table.now) (field_shape old.now) (field_shape new.now))) }
+    ensures { OnOk result (choices.new.items ≡ choices.old.items ++ affordable (field_choices (sight_by V.View between.now.view.now between.now.old.now between.now.new.now) (T.bounds between.now.table.now) (field_shape old.now) (field_shape new.now))) }
 {
     match (old.presence, new.presence) {
         (Presence::Map { key: old_key }, Presence::Map { key: new_key }) => {
@@ -188,7 +188,7 @@ pub(crate) fn offer_beside<V: View, T: Table>(
     field: &Field,
 ) -> Result<(), AllocError>
     requires { field.now.number < 2 ^ 29 }
-    ensures { OnOk result (choices.new.items ≡ choices.old.items ++ affordable (choices_beside (sight_of (V.is_alike between.now.view.now) (V.least_differing between.now.view.now) between.now.old.now between.now.new.now) (T.bounds between.now.table.now) (field_shape field.now) (field_at (fields (shape_of between.now.new.now) type_id) field.now.number))) }
+    ensures { OnOk result (choices.new.items ≡ choices.old.items ++ affordable (choices_beside (sight_by V.View between.now.view.now between.now.old.now between.now.new.now) (T.bounds between.now.table.now) (field_shape field.now) (field_at (fields (shape_of between.now.new.now) type_id) field.now.number))) }
 {
     match between.new.field(type_id, field.number) {
         Some(beside) => offer_field(between, choices, field, beside),

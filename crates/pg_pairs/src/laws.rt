@@ -3,13 +3,13 @@
 ghost use Rattle.pg_pairs.specs.Carried.{EachChildCostsLess, EachChoiceIsCarried};
 ghost use Rattle.pg_pairs.specs.Cheapest.{CheapestIsLeast};
 ghost use Rattle.pg_pairs.specs.Contents.{ContentsCost};
-ghost use Rattle.pg_pairs.specs.Edges.{LeastCostsByEdges};
+ghost use Rattle.pg_pairs.specs.Edges.{ChoicesByEdges, LeastCostsByEdges};
 ghost use Rattle.pg_pairs.specs.ElementGaps.{ElementGaps, UnseenAreNotZero};
 ghost use Rattle.pg_pairs.specs.FieldCosts.{ChildrenCost, ListsCost, MapsCost, SingleScalarsCost};
 ghost use Rattle.pg_pairs.specs.FirstSeen.{OnePairMore};
 ghost use Rattle.pg_pairs.specs.Gaps.{GapTable};
 ghost use Rattle.pg_pairs.specs.Laws.{CoveringBounds, EachChoiceIsReached, ExactIsLeast, ExactTablesAgree, NoneIsCompatible};
-ghost use Rattle.pg_pairs.specs.LeastCosts.{LeastCostsAreExact, LeastCostsAreLengths, LowerTablesCostNoMore};
+ghost use Rattle.pg_pairs.specs.LeastCosts.{LeastCostsAreExact, LeastCostsAreLengths};
 ghost use Rattle.pg_pairs.specs.SmallPairs.{SmallPairs};
 ghost use Rattle.pg_pairs.specs.Sight.{IsSight, by_numbers};
 ghost use Rattle.pg_pairs.specs.Views.{NumbersAreAlike};
@@ -112,11 +112,6 @@ pub fn exact_tables_agree()
     ensures { ExactTablesAgree }
 {}
 
-/// Where the numbers of a table are no more, each pair's least cost is no more.
-pub fn lower_tables_cost_no_more()
-    ensures { LowerTablesCostNoMore }
-{}
-
 /// A pair's least cost is a length that the encoding of a breaking message may have.
 pub fn least_costs_are_lengths()
     ensures { LeastCostsAreLengths }
@@ -127,7 +122,12 @@ pub fn least_costs_are_exact()
     ensures { LeastCostsAreExact }
 {}
 
-/// A pair's least cost under a table is the least of its least cost without bounds and of what its edges cost at the
+/// A choice of a pair under a table is one without bounds or that of an edge at its child's bound; and these are all choices.
+pub fn choices_by_edges()
+    ensures { ChoicesByEdges }
+{}
+
+/// So a pair's least cost under a table is the least of its least cost without bounds and of what its edges cost at the
 /// bounds of their children.
 pub fn least_costs_by_edges()
     ensures { LeastCostsByEdges }

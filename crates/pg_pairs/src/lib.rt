@@ -15,10 +15,12 @@ mod gap_cost;
 mod gap_kind;
 mod item;
 mod joint;
-mod laws;
+pub mod laws;
 mod least_cost;
 mod least_member;
 mod member;
+mod named;
+mod names;
 mod option_list;
 mod priced;
 mod prices;
@@ -34,15 +36,9 @@ pub use choice::{Choice, Pair};
 pub use descent::{children, choice_child};
 pub use edge::{Edge, Part};
 pub use gap_kind::Gap;
-pub use laws::{
-    cheapest_is_least, children_cost, contents_cost, covering_bounds, each_child_costs_less,
-    each_choice_is_carried, each_choice_is_reached, element_gaps, exact_is_least,
-    exact_tables_agree, gap_table, least_costs_are_exact, least_costs_are_lengths,
-    least_costs_by_edges, lists_cost, lower_tables_cost_no_more, maps_cost, none_is_compatible,
-    numbers_are_alike, numbers_sight, one_pair_more, single_scalars_cost, small_pairs,
-    unseen_are_not_zero,
-};
 pub use least_cost::cheapest;
+pub use named::sees_by_name;
+pub use names::Names;
 pub use option_list::options;
 pub use priced::Priced;
 pub use prices::Prices;

@@ -6,7 +6,7 @@ ghost use Rattle.pg_schema.specs.declared.field.Field.{Field};
 ghost use Rattle.pg_schema.specs.Parts.{field_shape, shape_of};
 ghost use Rattle.pg_schema.specs.Shape.{fields};
 ghost use Rattle.pg_pairs.specs.Choices.{affordable, all_choices, choices};
-ghost use Rattle.pg_pairs.specs.Views.{sight_of};
+ghost use Rattle.pg_pairs.specs.SightBy.{sight_by};
 
 use crate::choice::{Choice, Pair};
 use crate::field_choice::{Between, offer_beside};
@@ -25,7 +25,7 @@ fn choices_of<V: View, T: Table>(
     list: &[Field],
 ) -> Result<Vec<Choice>, AllocError>
     requires { AllByRecursion (λ (f : Field). f.number < 2 ^ 29) list.now }
-    ensures { IfOk result (λ choices. choices.items ≡ affordable (all_choices (sight_of (V.is_alike between.now.view.now) (V.least_differing between.now.view.now) between.now.old.now between.now.new.now) (T.bounds between.now.table.now) (fields (shape_of between.now.new.now) type_id) (map field_shape list.now))) }
+    ensures { IfOk result (λ choices. choices.items ≡ affordable (all_choices (sight_by V.View between.now.view.now between.now.old.now between.now.new.now) (T.bounds between.now.table.now) (fields (shape_of between.now.new.now) type_id) (map field_shape list.now))) }
 {
     let oneofs = new_oneofs(alloc, between.new, type_id, list)?;
     let next = links_of(alloc, &oneofs)?;
@@ -51,7 +51,7 @@ pub fn options<V: View, T: Table>(
     pair: Pair,
     table: &T,
 ) -> Result<Vec<Choice>, AllocError>
-    ensures { IfOk result (λ cs. cs.items ≡ choices (sight_of (V.is_alike view.now) (V.least_differing view.now) old.now new.now) (T.bounds table.now) (shape_of old.now) (shape_of new.now) pair) }
+    ensures { IfOk result (λ cs. cs.items ≡ choices (sight_by V.View view.now old.now new.now) (T.bounds table.now) (shape_of old.now) (shape_of new.now) pair) }
 {
     // What holds of every schema.
     old.parts();

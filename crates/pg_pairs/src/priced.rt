@@ -143,8 +143,8 @@ impl<'a, V: View> Prices for Priced<'a, V> {
     }
 
     fn base(&self, alloc: Global, pair: Pair, work: &mut Work) -> Result<Option<u32>, AllocError> {
-        work.opened += 1;
         let choice = cheapest(alloc, self.view, self.old, self.new, pair, &NoBounds)?;
+        work.opened += 1;
         Ok(cost_of(choice))
     }
 

@@ -1,6 +1,6 @@
 //! Graphs of pairs, known by what they cost.
 
-ghost use Rattle.std.specs.Prelude.{◌≡◌, ◌+◌, ◌<◌, ◌≤◌, ◌^◌, ℕ, Bool, true, List, length, Option, Some, IfOk, IfSome, OnOk};
+ghost use Rattle.std.specs.Prelude.{◌≡◌, ◌+◌, ◌<◌, ◌≤◌, ◌^◌, ℕ, Bool, true, List, length, Option, Some, IfOk, IfSome, OnErr, OnOk};
 ghost use Rattle.std.specs.List.{AllByRecursion};
 ghost use Rattle.pg_dyn.specs.Encoding.{cap};
 ghost use Rattle.pg_pairs.specs.declared.choice.Pair.{Pair};
@@ -57,12 +57,14 @@ pub trait Prices {
         requires { is_known self.now pair ≡ true }
         ensures { IfOk result (λ edges. edges.items ≡ edges_of self.now pair) };
 
-    /// What a known pair costs without a child; `None` where nothing does. The pair counts as opened.
+    /// What a known pair costs without a child; `None` where nothing does. The pair counts as opened, but not where
+    /// memory is refused.
     fn base(&self, alloc: Global, pair: Pair, work: &mut Work) -> Result<Option<u32>, AllocError>
         requires known { is_known self.now pair ≡ true }
         requires room { work.old.opened + 1 < 2 ^ 64 }
         ensures cost { IfOk result (λ cost. cost ≡ base_of self.now pair) }
-        ensures counted { OnOk result (work.new ≡ opened_more work.old) };
+        ensures counted { OnOk result (work.new ≡ opened_more work.old) }
+        ensures unchanged { OnErr result (work.new ≡ work.old) };
 
     /// What an edge of a known pair costs where its child has that bound; `None` where this is no cost. The edge
     /// counts as relaxed.

@@ -2,17 +2,26 @@
 
 ghost use Rattle.std.specs.Prelude.{◌≡◌, ℤ, Bool, true, Option, None};
 ghost use Rattle.pg_schema.specs.declared.enum_type.EnumType.{EnumType};
+ghost use Rattle.pg_dyn.specs.declared.view_name.ViewName.{ViewName};
+ghost use Rattle.pg_dyn.specs.ViewNames.{alike_under};
 ghost use Rattle.pg_pairs.specs.Sight.{IsLeastOf, IsSight};
 ghost use Rattle.pg_pairs.specs.Views.{sight_of};
 
+use pg_dyn::ViewName;
 use pg_schema::{EnumType, Schema};
 
 /// How the numbers of an old enum are compared with those of a new one.
 ///
 /// The law `least_is`: `least` gives, of the numbers from -2,147,483,648 to 2,147,483,647 that aren't
 /// alike, without 0 where `zero` is false, one with the shortest body, and of these the least number;
-/// none only where there is no such number.
+/// none only where there is no such number. The law `is_named`: it finds a number alike where the view of
+/// its name does.
 pub trait View {
+    /// The name of the view.
+    const NAME: ViewName;
+
+    ghost NAME: { ViewName };
+
     ghost is_alike: { Self → EnumType → EnumType → ℤ → Bool };
 
     ghost least_differing: { Self → EnumType → EnumType → Bool → Option ℤ };
@@ -26,6 +35,8 @@ pub trait View {
         ensures { result ≡ least_differing self.now old.now new.now zero };
 
     ghost least_is: { (view : Self) (old new : EnumType) (zero : Bool) → IsLeastOf (is_alike view old new) zero (least_differing view old new zero) };
+
+    ghost is_named: { (view : Self) (old new : EnumType) (number : ℤ) → is_alike view old new number ≡ alike_under NAME old new number };
 }
 
 /// The view that finds every number alike.
@@ -33,13 +44,21 @@ pub trait View {
 pub struct Numbers;
 
 impl View for Numbers {
+    ghost use Rattle.std.specs.Prelude.{refl};
+    ghost use Rattle.pg_dyn.specs.declared.view_name.ViewName.TheVariants as views;
     ghost use Rattle.pg_pairs.specs.Sight.{none_differs};
+
+    const NAME: ViewName = ViewName::Numbers;
+
+    ghost NAME = { views.Numbers };
 
     ghost is_alike = { λ _ _ _ _. true };
 
     ghost least_differing = { λ _ _ _ _. None };
 
     ghost least_is = { λ _ _ _ zero. none_differs zero };
+
+    ghost is_named = { λ _ _ _ _. refl };
 
     fn alike(&self, _old: &EnumType, _new: &EnumType, _number: i32) -> bool {
         true

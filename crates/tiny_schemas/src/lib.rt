@@ -5,7 +5,8 @@
 //! is its name alone. In front of a field's type may stand `optional`, `repeated`, `unpacked`
 //! (repeated, with `[packed = false]`), and `k0`, `k1` and so on for a member of the oneof of that
 //! name. A type is a scalar type, the name of a message type, `map<KEY,VALUE>`, or `E` for `enum E
-//! { Z = 0; }`, which each schema declares.
+//! { Z = 0; }`, which each schema declares; with `E: Z=0, A=300; ` in front a line gives it these
+//! values.
 #![tactic(auto)]
 
 mod field;

@@ -13,25 +13,42 @@ fn one<T: Drop>(alloc: Global, item: T) -> Result<Vec<T>, AllocError> {
     Ok(list)
 }
 
-// `Z = 0;`
-fn values_of(alloc: Global) -> Result<Vec<EnumValue>, AllocError> {
-    let zero = EnumValue {
-        name: String::from_str(alloc, "Z")?,
-        number: 0,
-        options: EnumValueOptions { deprecated: None },
-    };
-    one(alloc, zero)
+// The values that a line gives `E` before its types, and the line without them.
+fn cut_values(line: &str) -> (&str, &str) {
+    match line.strip_prefix("E: ") {
+        Some(rest) => rest.split_once("; ").unwrap_or((rest, "")),
+        None => ("Z=0", line),
+    }
 }
 
-// `enum E { Z = 0; }`
-fn enums_of(alloc: Global) -> Result<Vec<EnumType>, AllocError> {
+// `Z = 0;` of `Z=0`.
+fn value_of(alloc: Global, text: &str) -> Result<EnumValue, AllocError> {
+    let (name, number) = text.split_once('=').unwrap_or((text, ""));
+    Ok(EnumValue {
+        name: String::from_str(alloc, name)?,
+        number: number.parse().unwrap_or(0),
+        options: EnumValueOptions { deprecated: None },
+    })
+}
+
+fn values_of(alloc: Global, text: &str) -> Result<Vec<EnumValue>, AllocError> {
+    let mut values = Vec::new(alloc);
+    for value in text.split(", ") {
+        values.push(value_of(alloc, value)?)?;
+    }
+    Ok(values)
+}
+
+// `enum E { Z = 0; }` of `Z=0`.
+fn enums_of(alloc: Global, text: &str) -> Result<Vec<EnumType>, AllocError> {
     let enum_type = EnumType {
         name: String::from_str(alloc, "E")?,
-        values: values_of(alloc)?,
+        values: values_of(alloc, text)?,
         reserved_numbers: Vec::new(alloc),
         reserved_names: Vec::new(alloc),
         options: EnumOptions {
-            allow_alias: None,
+            // A line may give a number two names.
+            allow_alias: Some(true),
             deprecated: None,
         },
     };
@@ -85,11 +102,12 @@ fn files_of(alloc: Global, types: &[MessageType]) -> Result<Vec<File>, AllocErro
 }
 
 fn parts_of(alloc: Global, line: &str) -> Result<Parts, AllocError> {
+    let (values, line) = cut_values(line);
     let types = types_of(alloc, line)?;
     Ok(Parts {
         files: files_of(alloc, &types)?,
         types,
-        enums: enums_of(alloc)?,
+        enums: enums_of(alloc, values)?,
         services: Vec::new(alloc),
     })
 }

@@ -1,6 +1,6 @@
 //! The records of a message, before it is known what they say together.
 
-ghost use Rattle.std.specs.Prelude.{◌≡◌, ◌++◌, ◌<◌, List, Ok, OnOk, IfOk, IfErr};
+ghost use Rattle.std.specs.Prelude.{◌≡◌, ◌++◌, ◌<◌, List, Ok, OnOk, IfErr};
 ghost use Rattle.pg_schema.specs.Invariant.{IsSchema};
 ghost use Rattle.pg_schema.specs.Parts.{shape_of};
 ghost use Rattle.pg_wire.specs.Reads.{seen_record};
@@ -8,10 +8,8 @@ ghost use Rattle.pg_wire.specs.Records.{IsRecord, WireRecord, records_of};
 ghost use Rattle.pg_dyn.specs.declared.reading.stop.Stop.TheVariants as stops;
 ghost use Rattle.pg_dyn.specs.ByFields.{StopsFor};
 ghost use Rattle.pg_dyn.specs.Gathering.{AreGathered};
-ghost use Rattle.pg_dyn.specs.Seen.{record_seen};
 
 use crate::accept::accepts;
-use crate::message::UnknownRecord;
 use crate::reading::stop::Stop;
 use crate::reading::streaks::Streaks;
 use pg_schema::{Schema, TypeId};
@@ -24,23 +22,9 @@ pub(crate) struct Gathered<'a> {
     /// Those that fields of the type accept, in the order of the bytes.
     pub(crate) known: Vec<Record<'a>>,
     /// The others, in that order.
-    pub(crate) unknown: Vec<UnknownRecord>,
+    pub(crate) unknown: Vec<Record<'a>>,
     /// Which of the known ones count in the oneofs.
     pub(crate) streaks: Streaks,
-}
-
-// A record that no field accepts, with all its bytes.
-fn kept(alloc: Global, found: &Record<'_>) -> Result<UnknownRecord, Stop>
-    requires { IsRecord (seen_record found.now) }
-    ensures ok { IfOk result (λ kept. record_seen kept ≡ seen_record found.now) }
-    ensures err { IfErr result (λ e. e ≡ stops.Memory) }
-{
-    Ok(UnknownRecord {
-        number: found.number,
-        wire_type: found.wire_type,
-        body_start: found.bytes.len() - found.body.len(),
-        bytes: Vec::from_slice(alloc, found.bytes)?,
-    })
 }
 
 impl<'a> Gathered<'a> {
@@ -60,13 +44,7 @@ impl<'a> Gathered<'a> {
     }
 
     // Adds a record.
-    fn add(
-        &mut self,
-        alloc: Global,
-        schema: &Schema,
-        type_id: TypeId,
-        found: Record<'a>,
-    ) -> Result<(), Stop>
+    fn add(&mut self, schema: &Schema, type_id: TypeId, found: Record<'a>) -> Result<(), Stop>
         requires is_schema { IsSchema schema.now }
         requires is_record { IsRecord (seen_record found) }
         ensures ok { OnOk result ((rs : List WireRecord) → AreGathered (shape_of schema.now) type_id rs self.old
@@ -78,7 +56,7 @@ impl<'a> Gathered<'a> {
                 self.streaks.note(field, self.known.len())?;
                 self.known.push(found)?;
             }
-            _ => self.unknown.push(kept(alloc, &found)?)?,
+            _ => self.unknown.push(found)?,
         }
         Ok(())
     }
@@ -86,7 +64,6 @@ impl<'a> Gathered<'a> {
     /// Adds the records of bytes.
     pub(crate) fn add_all(
         &mut self,
-        alloc: Global,
         schema: &Schema,
         type_id: TypeId,
         bytes: &'a [u8],
@@ -98,7 +75,7 @@ impl<'a> Gathered<'a> {
     {
         for found in Records::new(bytes) {
             match found {
-                Ok(record) => self.add(alloc, schema, type_id, record)?,
+                Ok(record) => self.add(schema, type_id, record)?,
                 Err(_) => return Err(Stop::Fault),
             }
         }

@@ -1,43 +1,58 @@
 ghost use Rattle.std.specs.Prelude.{◌≡◌};
-ghost use Rattle.pg_dyn.specs.Held.{IsHeldList, item_left};
-ghost use Rattle.pg_dyn.specs.ScalarItems.{IsItemOf};
+ghost use Rattle.pg_dyn.specs.Borrowed.{leaf_of};
+ghost use Rattle.pg_dyn.specs.BorrowedItems.{IsItemOf, is_zero_value};
 ghost use Rattle.pg_dyn.specs.Coding.{scalar_form, zero_leaf};
-ghost use Rattle.pg_dyn.specs.Seen.{leaf_of};
+ghost use Rattle.pg_dyn.specs.Held.{IsHeldList, item_left};
 
-use crate::message::{Content, Value};
+use crate::message_ref::{ContentRef, ValueRef};
 use pg_schema::{Presence, Scalar};
-use std::alloc::Global;
+
+impl<'a> ValueRef<'a> {
+    // Whether the item is a zero, as no message is.
+    fn is_zero(&self) -> bool
+        ensures { result ≡ is_zero_value self.now }
+    {
+        match self {
+            ValueRef::Int(number) => *number == 0,
+            ValueRef::F32(bits) => *bits == 0,
+            ValueRef::F64(bits) => *bits == 0,
+            ValueRef::Text(text) => text.is_empty(),
+            ValueRef::Bytes(bytes) => bytes.is_empty(),
+            ValueRef::Msg(_) => false,
+        }
+    }
+}
 
 // What a singular field holds after an item: the item, but no zero in a field without presence.
-pub(crate) fn left(presence: Presence, value: Value) -> Option<Content>
-    ensures { result ≡ item_left presence value }
+pub(crate) fn left<'a>(presence: Presence, value: ValueRef<'a>) -> Option<ContentRef<'a>>
+    ensures { result ≡ item_left presence value.entry }
 {
     if presence == Presence::Implicit && value.is_zero() {
         return None;
     }
-    Some(Content::One(value))
+    Some(ContentRef::One(value))
 }
 
 // What a list leaves in its field: nothing where it is empty.
-pub(crate) fn list_left(values: Vec<Value>) -> Option<Content>
-    ensures { IsHeldList values.items result }
+pub(crate) fn list_left<'a>(values: Vec<ValueRef<'a>>) -> Option<ContentRef<'a>>
+    ensures { IsHeldList values.entry.items result }
 {
     if values.is_empty() {
         return None;
     }
-    Some(Content::Many(values))
+    Some(ContentRef::Many(values))
 }
 
 // The zero item of a scalar.
-pub(crate) fn zero_of(alloc: Global, scalar: Scalar) -> Value
+pub(crate) fn zero_of<'a>(scalar: Scalar) -> ValueRef<'a>
     ensures leaf { leaf_of result ≡ zero_leaf (scalar_form scalar) }
     ensures item { IsItemOf scalar result }
 {
     match scalar {
-        Scalar::String => Value::Text(String::new(alloc)),
-        Scalar::Bytes => Value::Bytes(Vec::new(alloc)),
-        Scalar::Float => Value::F32(0),
-        Scalar::Double => Value::F64(0),
-        _ => Value::Int(0),
+        Scalar::String => ValueRef::Text(""),
+        Scalar::Bytes => ValueRef::Bytes(&[]),
+        Scalar::Float => ValueRef::F32(0),
+        Scalar::Double => ValueRef::F64(0),
+        _ => ValueRef::Int(0),
     }
 }

@@ -12,16 +12,16 @@ ghost use Rattle.pg_wire.specs.Reads.{seen_record};
 ghost use Rattle.pg_wire.specs.Records.{IsRecord, WireRecord};
 ghost use Rattle.pg_dyn.specs.ByFields.{AllCount, AreGood, AreOf, BodiesGood, HoldsOf, IsChildOf, IsEntryRead, RecordsGood, StopsFor};
 ghost use Rattle.pg_dyn.specs.Content.{is_unknown};
-ghost use Rattle.pg_dyn.specs.ContentFits.{ItemFits};
+ghost use Rattle.pg_dyn.specs.BorrowedItems.{ItemFits};
 ghost use Rattle.pg_dyn.specs.Decoding.{dec, read_records};
 ghost use Rattle.pg_dyn.specs.Fits.{Fits};
 ghost use Rattle.pg_dyn.specs.Gathering.{AreGathered, AreStreaks, IsCounted, NumbersRise};
 ghost use Rattle.pg_dyn.specs.Kept.{ends, message_of, type_of};
-ghost use Rattle.pg_dyn.specs.Seen.{HasKeys, IsFilled, Rises, fields_onto};
+ghost use Rattle.pg_dyn.specs.Borrowed.{HasKeys, IsFilled, fields_onto};
+ghost use Rattle.pg_dyn.specs.Seen.{Rises};
 ghost use Rattle.pg_dyn.specs.Steps.{HeldFits, IsShallowIn};
 
-use crate::message::{Content, Message, Value};
-use crate::noting::noted_of;
+use crate::message_ref::{ContentRef, EntryRef, MessageRef, ValueRef};
 use crate::reading::elements::scalar_of;
 use crate::reading::gathering::Gathered;
 use crate::reading::ordering::last_of_keys;
@@ -36,13 +36,13 @@ use std::alloc::Global;
 
 // The message that the records' bodies are read as, one after the other. It may have as many levels, with its own.
 #[cycle(reading)]
-fn read_child(
+fn read_child<'a>(
     alloc: Global,
     schema: &Schema,
     type_id: TypeId,
-    run: &[Record<'_>],
+    run: &[Record<'a>],
     levels: usize,
-) -> Result<Value, Stop>
+) -> Result<ValueRef<'a>, Stop>
     requires is_schema { IsSchema schema.now }
     requires type_id { type_id.index < length (shape_of schema.now) }
     ensures ok { IfOk result (IsChildOf (shape_of schema.now) type_id (map seen_record run.now)) }
@@ -55,23 +55,23 @@ fn read_child(
     }
     let mut gathered = Gathered::new(alloc);
     for record in run {
-        gathered.add_all(alloc, schema, type_id, record.body)?;
+        gathered.add_all(schema, type_id, record.body)?;
     }
     let child = read_gathered(alloc, schema, type_id, gathered, levels - 1)?;
-    Ok(Value::Msg(Box::new(alloc, child)?))
+    Ok(ValueRef::Msg(Box::new(alloc, child)?))
 }
 
 // What a repeated field of messages holds.
 #[cycle(reading)]
 #[inline(never)]
-fn read_children(
+fn read_children<'a>(
     alloc: Global,
     schema: &Schema,
     field: &Field,
     type_id: TypeId,
-    run: &[Record<'_>],
+    run: &[Record<'a>],
     levels: usize,
-) -> Result<Option<Content>, Stop>
+) -> Result<Option<ContentRef<'a>>, Stop>
     requires is_schema { IsSchema schema.now }
     requires is_field { IsField (length (shape_of schema.now)) (field_shape field.now) }
     requires run { AreOf (field_shape field.now) (map seen_record run.now) }
@@ -88,19 +88,19 @@ fn read_children(
         let child = read_child(alloc, schema, type_id, &run[place..place + 1], levels)?;
         values.push(child)?;
     }
-    Ok(Some(Content::Many(values)))
+    Ok(Some(ContentRef::Many(values)))
 }
 
 // The key and the value of the entry that a record of a map field holds. A missing one is its default.
 #[cycle(reading)]
-fn read_entry(
+fn read_entry<'a>(
     alloc: Global,
     schema: &Schema,
     field: &Field,
     key: Scalar,
-    found: &Record<'_>,
+    found: &Record<'a>,
     levels: usize,
-) -> Result<(Value, Value), Stop>
+) -> Result<EntryRef<'a>, Stop>
     requires is_schema { IsSchema schema.now }
     requires is_field { IsField (length (shape_of schema.now)) (field_shape field.now) }
     requires of_map { field.now.presence ≡ presences.Map key }
@@ -110,27 +110,30 @@ fn read_entry(
 {
     let element = field.element;
     let parts = read_parts(alloc, key, element, found.body)?;
-    let whole_key = or_zero(alloc, key, parts.key);
+    let whole_key = or_zero(key, parts.key);
     let value = match element {
         Element::Message(type_id) => {
             read_child(alloc, schema, type_id, parts.child.as_slice(), levels)?
         }
-        Element::Scalar(_) | Element::Enum(_) => or_zero(alloc, scalar_of(element), parts.value),
+        Element::Scalar(_) | Element::Enum(_) => or_zero(scalar_of(element), parts.value),
     };
-    Ok((whole_key, value))
+    Ok(EntryRef {
+        key: whole_key,
+        value,
+    })
 }
 
 // What a map field holds: the entries by rising key, of each key the last.
 #[cycle(reading)]
 #[inline(never)]
-fn read_map(
+fn read_map<'a>(
     alloc: Global,
     schema: &Schema,
     field: &Field,
     key: Scalar,
-    run: &[Record<'_>],
+    run: &[Record<'a>],
     levels: usize,
-) -> Result<Option<Content>, Stop>
+) -> Result<Option<ContentRef<'a>>, Stop>
     requires is_schema { IsSchema schema.now }
     requires is_field { IsField (length (shape_of schema.now)) (field_shape field.now) }
     requires run { AreOf (field_shape field.now) (map seen_record run.now) }
@@ -145,18 +148,18 @@ fn read_map(
     for record in run {
         entries.push(read_entry(alloc, schema, field, key, record, levels)?)?;
     }
-    Ok(Some(Content::Map(last_of_keys(alloc, entries)?)))
+    Ok(Some(ContentRef::Map(last_of_keys(alloc, entries)?)))
 }
 
 // What a field holds after records that it accepts and that all count.
 #[cycle(reading)]
-fn read_content(
+fn read_content<'a>(
     alloc: Global,
     schema: &Schema,
     field: &Field,
-    run: &[Record<'_>],
+    run: &[Record<'a>],
     levels: usize,
-) -> Result<Option<Content>, Stop>
+) -> Result<Option<ContentRef<'a>>, Stop>
     requires is_schema { IsSchema schema.now }
     requires is_field { IsField (length (shape_of schema.now)) (field_shape field.now) }
     requires run { AreOf (field_shape field.now) (map seen_record run.now) }
@@ -174,9 +177,9 @@ fn read_content(
         (Presence::Repeated { .. }, _) => read_list(alloc, field, run),
         (_, Element::Message(type_id)) => {
             let child = read_child(alloc, schema, type_id, run, levels)?;
-            Ok(Some(Content::One(child)))
+            Ok(Some(ContentRef::One(child)))
         }
-        _ => read_last(alloc, field, run),
+        _ => read_last(field, run),
     }
 }
 
@@ -216,13 +219,13 @@ fn counted<'a>(
 
 // The contents that records by rising number say, which all count.
 #[cycle(reading)]
-fn read_contents(
+fn read_contents<'a>(
     alloc: Global,
     schema: &Schema,
     type_id: TypeId,
-    sorted: &[Record<'_>],
+    sorted: &[Record<'a>],
     levels: usize,
-) -> Result<Vec<(u32, Content)>, Stop>
+) -> Result<Vec<(u32, ContentRef<'a>)>, Stop>
     requires is_schema { IsSchema schema.now }
     requires type_id { type_id.index < length (shape_of schema.now) }
     requires rise { NumbersRise sorted.now }
@@ -257,13 +260,13 @@ fn read_contents(
 
 // The message that gathered records say. There may be as many levels of messages below it.
 #[cycle(reading)]
-fn read_gathered(
+fn read_gathered<'a>(
     alloc: Global,
     schema: &Schema,
     type_id: TypeId,
-    gathered: Gathered<'_>,
+    gathered: Gathered<'a>,
     levels: usize,
-) -> Result<Message, Stop>
+) -> Result<MessageRef<'a>, Stop>
     requires is_schema { IsSchema schema.now }
     requires type_id { type_id.index < length (shape_of schema.now) }
     requires gathered { (rs : List WireRecord) × AreGathered (shape_of schema.now) type_id rs gathered }
@@ -287,23 +290,21 @@ fn read_gathered(
     };
     let sorted = by_number(left)?;
     let fields = read_contents(alloc, schema, type_id, &sorted, levels)?;
-    let noted = noted_of(alloc, schema, type_id, &fields);
-    Ok(Message {
+    Ok(MessageRef {
         type_id,
         fields,
         unknown,
-        noted,
     })
 }
 
 /// The message of the type that bytes are read as. There may be as many levels of messages below it.
-pub(crate) fn read_message(
+pub(crate) fn read_message<'a>(
     alloc: Global,
     schema: &Schema,
     type_id: TypeId,
-    bytes: &[u8],
+    bytes: &'a [u8],
     levels: usize,
-) -> Result<Message, Stop>
+) -> Result<MessageRef<'a>, Stop>
     requires is_schema { IsSchema schema.now }
     requires type_id { type_id.index < length (shape_of schema.now) }
     ensures ok { IfOk result (λ m. dec (shape_of schema.now) type_id bytes.now ≡ Some (message_of m)) }
@@ -313,6 +314,6 @@ pub(crate) fn read_message(
         × IsShallowIn (shape_of schema.now) (suc levels) (fields (shape_of schema.now) type_id) bytes.now)) }
 {
     let mut gathered = Gathered::new(alloc);
-    gathered.add_all(alloc, schema, type_id, bytes)?;
+    gathered.add_all(schema, type_id, bytes)?;
     read_gathered(alloc, schema, type_id, gathered, levels)
 }

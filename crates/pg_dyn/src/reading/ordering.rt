@@ -1,41 +1,41 @@
 //! Entries of maps that stand as they were read are put in order.
 
-ghost use Rattle.std.specs.Prelude.{◌≡◌, IfOk};
-ghost use Rattle.pg_dyn.specs.Settled.{settled_entries};
-ghost use Rattle.pg_dyn.specs.KeyOrder.{AreAlike};
+ghost use Rattle.std.specs.Prelude.{◌≡◌, [], IfOk};
+ghost use Rattle.pg_dyn.specs.BorrowedItems.{AreAlike, key_of};
+ghost use Rattle.pg_dyn.specs.Settled.{placed};
 
-use crate::fitting::keys_rise;
-use crate::message::Value;
+use crate::message_ref::EntryRef;
 use crate::reading::entries::put_in;
+use crate::reading::keys::keys_rise;
 use std::alloc::{AllocError, Global};
 
 // The entries, each put in its place or in that of the one of its key. Entries by rising key come behind all others at
 // once.
-fn put_all(alloc: Global, entries: Vec<(Value, Value)>) -> Result<Vec<(Value, Value)>, AllocError>
+fn put_all<'a>(alloc: Global, entries: Vec<EntryRef<'a>>) -> Result<Vec<EntryRef<'a>>, AllocError>
     requires { AreAlike entries.items }
-    ensures { IfOk result (λ v. v.items ≡ settled_entries entries.items) }
+    ensures { IfOk result (λ v. v.items ≡ placed key_of [] entries.entry.items) }
 {
     let mut settled = Vec::new(alloc);
-    for (key, value) in entries {
-        put_in(&mut settled, key, value)?;
+    for entry in entries {
+        put_in(&mut settled, entry)?;
     }
     Ok(settled)
 }
 
 /// The entries by rising key, of each key the last.
 #[inline(never)]
-pub(crate) fn last_of_keys(
+pub(crate) fn last_of_keys<'a>(
     alloc: Global,
-    entries: Vec<(Value, Value)>,
-) -> Result<Vec<(Value, Value)>, AllocError>
+    entries: Vec<EntryRef<'a>>,
+) -> Result<Vec<EntryRef<'a>>, AllocError>
     requires { AreAlike entries.items }
-    ensures { IfOk result (λ v. v.items ≡ settled_entries entries.items) }
+    ensures { IfOk result (λ v. v.items ≡ placed key_of [] entries.entry.items) }
 {
     let mut sorted = entries;
     if keys_rise(&sorted) {
         return Ok(sorted);
     }
     // Entries of one key keep their order.
-    sorted.sort_by(|first, second| first.0.rank(&second.0))?;
+    sorted.sort_by(|first, second| first.key.rank(&second.key))?;
     put_all(alloc, sorted)
 }

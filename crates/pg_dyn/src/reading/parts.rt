@@ -5,14 +5,14 @@ ghost use Rattle.pg_schema.specs.declared.field.Element.{Element as TheElement};
 ghost use Rattle.pg_schema.specs.Shape.{Shape};
 ghost use Rattle.pg_wire.specs.Records.{WireRecord, records_of};
 ghost use Rattle.pg_dyn.specs.ByFields.{StopsFor};
-ghost use Rattle.pg_dyn.specs.ContentFits.{ItemFits};
+ghost use Rattle.pg_dyn.specs.BorrowedItems.{ItemFits};
 ghost use Rattle.pg_dyn.specs.EntryParts.{AreParts, ScalarsGood};
 ghost use Rattle.pg_dyn.specs.EntrySteps.{PartFits, WholeItem};
 ghost use Rattle.pg_dyn.specs.Held.{read_as};
 ghost use Rattle.pg_dyn.specs.ReadingOn.{IsNoMessage};
 
 use crate::accept::is_own;
-use crate::message::Value;
+use crate::message_ref::ValueRef;
 use crate::reading::elements::scalar_of;
 use crate::reading::items::zero_of;
 use crate::reading::stop::Stop;
@@ -24,9 +24,9 @@ use std::alloc::Global;
 /// What is read of an entry of a map.
 #[derive(Drop)]
 pub(crate) struct Parts<'a> {
-    pub(crate) key: Option<Value>,
+    pub(crate) key: Option<ValueRef<'a>>,
     /// The value, if that is no message.
-    pub(crate) value: Option<Value>,
+    pub(crate) value: Option<ValueRef<'a>>,
     /// The records of a value that is a message.
     pub(crate) child: Vec<Record<'a>>,
 }
@@ -37,24 +37,18 @@ impl<'a> Parts<'a> {
     ghost use Rattle.pg_wire.specs.Records.{IsRecord};
 
     // Adds one of the records. One that neither the key nor the value takes is dropped.
-    fn add(
-        &mut self,
-        alloc: Global,
-        key: Scalar,
-        element: Element,
-        found: Record<'a>,
-    ) -> Result<(), Stop>
+    fn add(&mut self, key: Scalar, element: Element, found: Record<'a>) -> Result<(), Stop>
         requires { IsRecord (seen_record found) }
         ensures ok { OnOk result ((rs : List WireRecord) → AreParts key element rs self.old → AreParts key element (rs ++ seen_record found.entry ∷ []) self.new) }
         ensures err { IfErr result (StopsFor (ScalarsGood key element (seen_record found.entry ∷ []))) }
     {
         if found.number == 1 && is_own(found.wire_type, Element::Scalar(key)) {
-            self.key = Some(item_in(alloc, key, found.body)?);
+            self.key = Some(item_in(key, found.body)?);
         } else if found.number == 2 && is_own(found.wire_type, element) {
             if let Element::Message(_) = element {
                 self.child.push(found)?;
             } else {
-                self.value = Some(item_in(alloc, scalar_of(element), found.body)?);
+                self.value = Some(item_in(scalar_of(element), found.body)?);
             }
         }
         Ok(())
@@ -79,7 +73,7 @@ pub(crate) fn read_parts<'a>(
     };
     for found in Records::new(bytes) {
         match found {
-            Ok(record) => parts.add(alloc, key, element, record)?,
+            Ok(record) => parts.add(key, element, record)?,
             Err(_) => return Err(Stop::Fault),
         }
     }
@@ -87,13 +81,13 @@ pub(crate) fn read_parts<'a>(
 }
 
 /// The item, or the zero of the scalar where there is none.
-pub(crate) fn or_zero(alloc: Global, scalar: Scalar, held: Option<Value>) -> Value
-    ensures whole { (shape : Shape) (element : TheElement) → IsNoMessage element → read_as element ≡ scalar → WholeItem shape element held result }
-    ensures fits { (shape : Shape) (element : TheElement) → IsNoMessage element → read_as element ≡ scalar → PartFits shape element held
+pub(crate) fn or_zero<'a>(scalar: Scalar, held: Option<ValueRef<'a>>) -> ValueRef<'a>
+    ensures whole { (shape : Shape) (element : TheElement) → IsNoMessage element → read_as element ≡ scalar → WholeItem shape element held.entry result }
+    ensures fits { (shape : Shape) (element : TheElement) → IsNoMessage element → read_as element ≡ scalar → PartFits shape element held.entry
         → ItemFits shape element result }
 {
     match held {
         Some(value) => value,
-        None => zero_of(alloc, scalar),
+        None => zero_of(scalar),
     }
 }

@@ -8,13 +8,12 @@ ghost use Rattle.pg_dyn.specs.ByFields.{StopsFor};
 ghost use Rattle.pg_dyn.specs.Coding.{element_at, form_wire, scalar_form, word_in};
 ghost use Rattle.pg_dyn.specs.Content.{packed_leaves};
 ghost use Rattle.pg_dyn.specs.declared.error.DynError.TheVariants as errors;
-ghost use Rattle.pg_dyn.specs.declared.message.Value.{Value};
 ghost use Rattle.pg_dyn.specs.Steps.{RowReads, RowRefused};
 ghost use Rattle.pg_dyn.specs.WordOf.{HasBits};
 
 use crate::body::wire_type_of;
 use crate::error::DynError;
-use crate::message::Value;
+use crate::message_ref::ValueRef;
 use crate::reading::stop::Stop;
 use crate::scalar::word_item;
 use pg_schema::Scalar;
@@ -78,7 +77,7 @@ fn row_len(wire_type: WireType, body: &[u8]) -> usize {
 fn push_words(
     wire_type: WireType,
     scalar: Scalar,
-    values: &mut Vec<Value>,
+    values: &mut Vec<ValueRef<'_>>,
     body: &[u8],
 ) -> Result<(), Stop>
     requires packable { is_packable (elements.Scalar scalar) ≡ true }
@@ -101,7 +100,11 @@ fn push_words(
 /// Reads a packed list behind the items (Protocol Buffers encoding guide, "Packed Repeated Fields"). Room for all of them is made
 /// at once. Not inlined, so that a level of messages takes no more of the stack for it.
 #[inline(never)]
-pub(crate) fn push_packed(scalar: Scalar, values: &mut Vec<Value>, body: &[u8]) -> Result<(), Stop>
+pub(crate) fn push_packed(
+    scalar: Scalar,
+    values: &mut Vec<ValueRef<'_>>,
+    body: &[u8],
+) -> Result<(), Stop>
     requires { is_packable (elements.Scalar scalar) ≡ true }
     ensures ok { OnOk result (RowReads scalar body.now values.old.items values.new.items) }
     ensures err { IfErr result (StopsFor (is_some (packed_leaves (scalar_form scalar) body.now) ≡ true)) }

@@ -10,7 +10,7 @@ ghost use Rattle.pg_dyn.specs.ReadingOn.{IsNoMessage};
 ghost use Rattle.pg_dyn.specs.Steps.{HeldFits};
 
 use crate::accept::is_own;
-use crate::message::{Content, Value};
+use crate::message_ref::{ContentRef, ValueRef};
 use crate::reading::elements::scalar_of;
 use crate::reading::items::{left, list_left};
 use crate::reading::rows::push_packed;
@@ -21,11 +21,10 @@ use pg_wire::Record;
 use std::alloc::Global;
 
 /// What a singular field holds after records of one item each: the last.
-pub(crate) fn read_last(
-    alloc: Global,
+pub(crate) fn read_last<'a>(
     field: &Field,
-    run: &[Record<'_>],
-) -> Result<Option<Content>, Stop>
+    run: &[Record<'a>],
+) -> Result<Option<ContentRef<'a>>, Stop>
     requires run { AreOf (field_shape field.now) (map seen_record run.now) }
     requires some { run.now ≢ [] }
     requires singular { is_repeated field.now.presence ≡ false }
@@ -39,7 +38,7 @@ pub(crate) fn read_last(
     let scalar = scalar_of(field.element);
     let mut held = None;
     for record in run {
-        held = Some(item_in(alloc, scalar, record.body)?);
+        held = Some(item_in(scalar, record.body)?);
     }
     Ok(match held {
         Some(value) => left(field.presence, value),
@@ -48,7 +47,11 @@ pub(crate) fn read_last(
 }
 
 // The items of the records, packed or not.
-fn read_items(alloc: Global, field: &Field, run: &[Record<'_>]) -> Result<Vec<Value>, Stop>
+fn read_items<'a>(
+    alloc: Global,
+    field: &Field,
+    run: &[Record<'a>],
+) -> Result<Vec<ValueRef<'a>>, Stop>
     requires run { AreOf (field_shape field.now) (map seen_record run.now) }
     requires repeated { is_repeated field.now.presence ≡ true }
     requires no_message { IsNoMessage field.now.element }
@@ -59,7 +62,7 @@ fn read_items(alloc: Global, field: &Field, run: &[Record<'_>]) -> Result<Vec<Va
     let mut values = Vec::new(alloc);
     for record in run {
         if is_own(record.wire_type, field.element) {
-            values.push(item_in(alloc, scalar, record.body)?)?;
+            values.push(item_in(scalar, record.body)?)?;
         } else {
             push_packed(scalar, &mut values, record.body)?;
         }
@@ -69,11 +72,11 @@ fn read_items(alloc: Global, field: &Field, run: &[Record<'_>]) -> Result<Vec<Va
 
 /// What a repeated field holds after records: the items of all, packed or not.
 #[inline(never)]
-pub(crate) fn read_list(
+pub(crate) fn read_list<'a>(
     alloc: Global,
     field: &Field,
-    run: &[Record<'_>],
-) -> Result<Option<Content>, Stop>
+    run: &[Record<'a>],
+) -> Result<Option<ContentRef<'a>>, Stop>
     requires run { AreOf (field_shape field.now) (map seen_record run.now) }
     requires some { run.now ≢ [] }
     requires repeated { is_repeated field.now.presence ≡ true }

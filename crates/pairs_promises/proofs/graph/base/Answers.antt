@@ -6,3 +6,6 @@ returns-clause-cost g c = search rules
 
 pub returns-clause-counted : goal.returns-clause-counted
 returns-clause-counted g c = search rules
+
+pub returns-clause-unchanged : goal.returns-clause-unchanged
+returns-clause-unchanged g c = search rules

@@ -4,11 +4,11 @@ use Rattle.std.proofs.lemmas.Str.{is_utf8-from_IsUtf8}
 use Rattle.pg_dyn.proofs.Bodies.{not_utf8, text_read}
 use Rattle.pg_dyn.proofs.scalar.item_in.Goals as goal
 
-pub returns-in_ok-from_str-in-Ok-clause-ok : goal.returns-in_ok-from_str-in-Ok-clause-ok
-returns-in_ok-from_str-in-Ok-clause-ok c =
+pub returns-in-Ok-clause-ok : goal.returns-in-Ok-clause-ok
+returns-in-Ok-clause-ok c =
     let utf8 = is_utf8-from_IsUtf8 c.args.body.now c.in-Ok.ensures.cases.1 in
-    let same = c.in_ok-from_str-in-Ok.ensures.ok ∙ c.in-Ok.ensures.cases.0 in
-    rw c.in-String.is (text_read c.args.body.now _ utf8 (sym same), ap is_utf8 same ∙ utf8)
+    let same = c.in-Ok.ensures.cases.0 in
+    rw c.in-String.is (text_read c.args.body.now c.in-Ok.text.now utf8 (sym same), ap is_utf8 same ∙ utf8)
 
 pub returns-in-Err-clause-err : goal.returns-in-Err-clause-err
 returns-in-Err-clause-err c =

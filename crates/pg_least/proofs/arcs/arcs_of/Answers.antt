@@ -1,48 +1,25 @@
-use Rattle.std.proofs.Common.{◌≡◌, ◌+◌, ◌<◌, ◌++◌, ◌∷◌, [], List, length, map, flat_map, slice_get, take, is_some, true, Some, get_or, ap, sym, ◌∙◌, subst, arith}
-use Rattle.std.specs.HashMap.{get}
-use Rattle.std.specs.List.{AllByRecursion}
-use Rattle.std.proofs.lemmas.Option.{slice_get-get_or}
-use Rattle.std.proofs.lemmas.List.{take_all}
-use Rattle.pg_pairs.specs.declared.choice.Pair.{Pair}
+use Rattle.std.proofs.Common.{List, map, subst, rules}
+use Rattle.std.specs.List.Sorted.{IsPermutation}
+use Rattle.std.proofs.lemmas.List.Sorted.{IsNonDecreasingBy-from_sort_by_key, IsPermutation-map}
 use Rattle.pg_pairs.specs.declared.edge.Edge.{Edge}
-use Rattle.pg_pairs.specs.Among.{IsAmong}
 use Rattle.pg_least.specs.declared.arcs.Arc.{Arc}
-use Rattle.pg_least.specs.Places.{same_indices}
-use Rattle.pg_least.proofs.Lists.{take_more, each_at}
-use Rattle.pg_least.proofs.Tables.{each_from, place_there, flat_map-end, among_in}
+use Rattle.pg_least.specs.Places.{IsPlaced}
+use Rattle.pg_least.proofs.Moved.{among_back}
+use Rattle.pg_least.proofs.Tables.{among_in, each_from}
 use Rattle.pg_least.proofs.arcs.arcs_of.Goals as goal
 
-unset : Pair
-unset = record { old = record { index = 0 }; new = record { index = 0 } }
+pub returns-clause-edges : goal.returns-clause-edges
+returns-clause-edges g c =
+    let after = c.sort_unstable_by_key.new.self.items in
+    subst (λ (es : List Edge). IsPermutation es (map (λ (a : Arc). a.edge) after)) c.in_ok-arcs.ensures.edges
+    (IsPermutation-map (λ (a : Arc). a.edge) c.in_ok-arcs.arcs.items after c.sort_unstable_by_key.ensures.permutation)
 
-pub add_arcs-requires : goal.add_arcs-requires
-unfolding unset
-add_arcs-requires g c =
-    let graph = c.args.graph.now in
-    let pairs = c.args.pairs.now in
-    let pair = get_or pairs c.loop-at.at unset in
-    let known : g.G.Prices.is_known graph pair ≡ true = each_at (λ (p : Pair). g.G.Prices.is_known graph p ≡ true) pairs c.loop-at.at unset c.loop-at-test.true c.requires.known in
-    let closed = each_at (λ (p : Pair). AllByRecursion (λ (x : Pair). IsAmong x pairs) (g.G.Prices.children_of graph p)) pairs c.loop-at.at unset c.loop-at-test.true c.requires.closed in
-    subst (λ (es : List Edge). AllByRecursion (λ (e : Edge). is_some (get same_indices c.in_ok-places.places (e.child.old.index, e.child.new.index)) ≡ true) es) (sym (c.deref.ensures.value ∙ c.in_ok-edges.ensures))
-    (each_from (λ (e : Edge). is_some (get same_indices c.in_ok-places.places (e.child.old.index, e.child.new.index)) ≡ true) (g.G.Prices.edges_of graph pair)
-    (λ e among. place_there pairs c.in_ok-places.places c.in_ok-places.ensures e.child (among_in (λ (x : Pair). IsAmong x pairs) e.child (g.G.Prices.children_of graph pair) (g.G.Prices.edges_lead_to_children graph pair e known among).1 closed)))
+pub returns-clause-placed : goal.returns-clause-placed
+returns-clause-placed g c =
+    let before = c.in_ok-arcs.arcs.items in
+    let after = c.sort_unstable_by_key.new.self.items in
+    each_from (IsPlaced c.args.pairs.now) after (λ a among. among_in (IsPlaced c.args.pairs.now) a before (among_back a before after c.sort_unstable_by_key.ensures.permutation among) c.in_ok-arcs.ensures.placed)
 
-pub loop-at-preserved : goal.loop-at-preserved
-unfolding unset
-loop-at-preserved g c =
-    let graph = c.args.graph.now in
-    let pairs = c.args.pairs.now in
-    let at = c.loop-at.at in
-    let pair = get_or pairs at unset in
-    let known : g.G.Prices.is_known graph pair ≡ true = each_at (λ (p : Pair). g.G.Prices.is_known graph p ≡ true) pairs at unset c.loop-at-test.true c.requires.known in
-    let is = c.deref.ensures.value ∙ c.in_ok-edges.ensures in
-    let each : AllByRecursion (λ (e : Edge). slice_get pairs at ≡ Some e.from) c.deref.result.now =
-    subst (λ (es : List Edge). AllByRecursion (λ (e : Edge). slice_get pairs at ≡ Some e.from) es) (sym is)
-    (each_from (λ (e : Edge). slice_get pairs at ≡ Some e.from) (g.G.Prices.edges_of graph pair)
-    (λ e among. slice_get-get_or pairs at unset c.loop-at-test.true ∙ ap Some (sym (g.G.Prices.edges_lead_to_children graph pair e known among).0))) in
-    record {
-      edges =
-          c.in_ok-add_arcs.ensures.edges ∙ ap (λ (es : List Edge). es ++ c.deref.result.now) c.loop-at.invariant.edges ∙ ap (λ (es : List Edge). flat_map (g.G.Prices.edges_of graph) (take at pairs) ++ es) is
-          ∙ sym (flat_map-end (g.G.Prices.edges_of graph) (take at pairs) pair) ∙ ap (λ (ps : List Pair). flat_map (g.G.Prices.edges_of graph) ps) (sym (take_more pairs at unset c.loop-at-test.true));
-      placed = c.in_ok-add_arcs.ensures.placed pairs c.in_ok-places.ensures each c.loop-at.invariant.placed;
-    }
+pub returns-clause-by_child : goal.returns-clause-by_child
+returns-clause-by_child g c =
+    IsNonDecreasingBy-from_sort_by_key (λ (a : Arc). a.child) c.sort_unstable_by_key.new.self.items c.sort_unstable_by_key.ensures.sorted (λ a r f h. search rules)

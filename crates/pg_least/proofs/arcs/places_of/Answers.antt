@@ -1,4 +1,4 @@
-use Rattle.std.proofs.Common.{◌≡◌, sym, ◌∙◌, slice_get, Some, get_or}
+use Rattle.std.proofs.Common.{get_or}
 use Rattle.std.proofs.lemmas.Option.{slice_get-get_or}
 use Rattle.pg_pairs.specs.declared.choice.Pair.{Pair}
 use Rattle.pg_least.proofs.Tables.{placed_more}

@@ -1,4 +1,4 @@
-use Rattle.std.proofs.Common.{◌≡◌, ◌+◌, ◌++◌, ◌∷◌, [], List, Option, None, take, get_or, length, ap, ap₂, sym, ◌∙◌, arith, true≢false}
+use Rattle.std.proofs.Common.{◌++◌, ◌∷◌, [], List, None, take, get_or, ap, ap₂, sym, ◌∙◌, arith, true≢false}
 use Rattle.std.proofs.lemmas.List.{take_all}
 use Rattle.pg_pairs.specs.declared.choice.Pair.{Pair}
 use Rattle.pg_cert.specs.declared.bounds.PairBound.{PairBound}

@@ -1,4 +1,4 @@
-use Rattle.std.proofs.Common.{◌≡◌, ◌<◌, subst, sym, ◌∙◌, heap_items}
+use Rattle.std.proofs.Common.{◌<◌, subst, sym, heap_items}
 use Rattle.pg_least.proofs.Steps.{skipped, settles, none_waits}
 use Rattle.pg_least.proofs.relaxing.next_live.Goals as goal
 

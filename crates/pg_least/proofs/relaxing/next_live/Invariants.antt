@@ -1,4 +1,4 @@
-use Rattle.std.proofs.Common.{List, Option, Bool, ℕ}
+use Rattle.std.proofs.Common.{List, Option, ℕ}
 use Rattle.std.specs.BinaryHeap.{heap_items, heap_len}
 use Rattle.pg_least.specs.declared.arcs.Arc.{Arc}
 use Rattle.pg_least.specs.Relaxing.{Arcs, Stands}

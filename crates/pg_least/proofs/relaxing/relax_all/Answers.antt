@@ -1,4 +1,4 @@
-use Rattle.std.proofs.Common.{◌≡◌, ◌+◌, ◌++◌, ◌<◌, ◌≤◌, ◌∷◌, [], take, List, length, Option, Bool, true, Some, ℕ, get_or, ap, sym, ◌∙◌, subst, append_assoc, IfSome, heap_items, arith}
+use Rattle.std.proofs.Common.{◌≡◌, ◌+◌, ◌++◌, ◌<◌, ◌≤◌, ◌∷◌, [], take, List, length, Option, true, Some, ℕ, get_or, ap, sym, ◌∙◌, subst, append_assoc, IfSome, heap_items, arith}
 use Rattle.std.proofs.lemmas.List.{take_all}
 use Rattle.pg_pairs.specs.declared.edge.Part.TheVariants.{Whole}
 use Rattle.pg_pairs.specs.declared.work.Work.{Work}

@@ -1,4 +1,4 @@
-use Rattle.std.proofs.Common.{◌≡◌, ◌++◌, take, List, length, Option, Bool, true, Some, ℕ}
+use Rattle.std.proofs.Common.{◌≡◌, ◌++◌, take, List, Option, Bool, true, Some, ℕ}
 use Rattle.std.specs.List.{AllByRecursion}
 use Rattle.std.specs.BinaryHeap.{heap_items}
 use Rattle.pg_least.specs.declared.arcs.Arc.{Arc}

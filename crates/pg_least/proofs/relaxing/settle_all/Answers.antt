@@ -1,10 +1,10 @@
-use Rattle.std.proofs.Common.{◌≡◌, ℕ, ◌+◌, ◌<◌, ◌≤◌, ◌++◌, ◌^◌, [], List, Vec, length, set, Bool, true, false, Option, Some, None, get_or, replicate, ap, sym, ◌∙◌, subst, arith, heap_items, length-set}
+use Rattle.std.proofs.Common.{◌≡◌, ℕ, ◌+◌, ◌<◌, ◌++◌, [], List, length, set, true, false, Some, ap, sym, ◌∙◌, subst, arith, heap_items, length-set}
 use Rattle.std.specs.List.{AllByRecursion}
 use Rattle.pg_pairs.specs.declared.work.Work.{Work}
 use Rattle.pg_least.specs.declared.arcs.Arc.{Arc}
 use Rattle.pg_pairs.specs.Among.{IsAmong}
 use Rattle.pg_least.specs.Relaxing.{Stands, cost_at, is_set}
-use Rattle.pg_least.specs.Graphs.{IsArc, arcs_by, arcs_to, arcs_to_settled, relaxed_by}
+use Rattle.pg_least.specs.Graphs.{IsArc, arcs_by, arcs_to_settled, relaxed_by}
 use Rattle.pg_least.proofs.Placing.{at_start, none_settled, none_counted, few_settled, each_to, each_to_new, done_on, long_none, one_less, one_more_settled, balanced, counted}
 use Rattle.pg_least.proofs.relaxing.settle_all.Goals as goal
 
@@ -29,27 +29,21 @@ loop-bound-init g c =
       counted = relaxed_none c.args.work.now ∙ ap (λ (xs : List Arc). relaxed_by (length xs) c.args.work.now) (sym (none_counted c.args.arcs.now c.in_ok-settled.settled.items n none));
     }
 
--- the arcs that are relaxed
-to_place : {S : Type 0} (arcs : List Arc) (turned : List (Vec Arc S)) (at : ℕ) (there : Vec Arc S) (now : List Arc) → ((at : ℕ) (d : Vec Arc S) → at < length turned → (get_or turned at d).items ≡ arcs_to arcs at) → at < length turned → there ≡ get_or turned at there → now ≡ there.items → now ≡ arcs_to arcs at
-to_place arcs turned at there now law within is now_is = now_is ∙ ap (λ v. v.items) is ∙ law at there within
-
 pub relax_all-requires-clause-arcs : goal.relax_all-requires-clause-arcs
 relax_all-requires-clause-arcs g c =
     let known = g.G.Prices.is_known c.args.graph.now in
     let edges = g.G.Prices.edges_of c.args.graph.now in
     let inside : c.in-Some.at < length c.loop-bound.costs = c.in-Some.ensures.within in
-    let inside_turned : c.in-Some.at < length c.args.turned.now = (let long = c.requires.long in let same = c.loop-bound.auto.costs in omega arith) in
-    let now = to_place c.args.arcs.now c.args.turned.now c.in-Some.at c.index-turned-at.result c.deref-in-Some.result.now c.requires.turned inside_turned c.index-turned-at.is c.deref-in-Some.ensures.value in
-    subst (λ n. AllByRecursion (IsArc known edges n) c.deref-in-Some.result.now) (sym c.loop-bound.auto.costs)
+    let now = c.arcs_to.ensures in
+    subst (λ n. AllByRecursion (IsArc known edges n) c.arcs_to.result.now) (sym c.loop-bound.auto.costs)
     (subst (λ (xs : List Arc). AllByRecursion (IsArc known edges (length c.args.costs.now)) xs) (sym now) (each_to (IsArc known edges (length c.args.costs.now)) c.args.arcs.now c.in-Some.at c.requires.arcs))
 
 pub relax_all-requires-clause-room : goal.relax_all-requires-clause-room
 relax_all-requires-clause-room g c =
     let inside : c.in-Some.at < length c.loop-bound.costs = c.in-Some.ensures.within in
-    let inside_turned : c.in-Some.at < length c.args.turned.now = (let long = c.requires.long in let same = c.loop-bound.auto.costs in omega arith) in
     let inside_settled : c.in-Some.at < length c.loop-bound.settled.items = (let long = c.loop-bound.invariant.long in omega arith) in
     let fresh : is_set c.loop-bound.settled.items c.in-Some.at ≡ false = ap (λ s. is_set s c.in-Some.at) (sym c.deref.ensures.value) ∙ c.in-Some.ensures.fresh in
-    let now = to_place c.args.arcs.now c.args.turned.now c.in-Some.at c.index-turned-at.result c.deref-in-Some.result.now c.requires.turned inside_turned c.index-turned-at.is c.deref-in-Some.ensures.value in
+    let now = c.arcs_to.ensures in
     let same = ap length now in
     let more = one_more_settled c.loop-bound.settled.items c.in-Some.at inside_settled fresh c.args.arcs.now in
     let few = few_settled c.args.arcs.now (set c.loop-bound.settled.items c.in-Some.at true) in
@@ -71,27 +65,26 @@ loop-bound-preserved g c =
     let before = c.loop-bound.settled.items in
     let after = set before at true in
     let inside : at < length c.loop-bound.costs = c.in-Some.ensures.within in
-    let inside_turned : at < length c.args.turned.now = (let long = c.requires.long in let same = c.loop-bound.auto.costs in omega arith) in
     let inside_settled : at < length before = (let long = c.loop-bound.invariant.long in omega arith) in
     let fresh : is_set before at ≡ false = ap (λ s. is_set s at) (sym c.deref.ensures.value) ∙ c.in-Some.ensures.fresh in
-    let now = to_place arcs c.args.turned.now at c.index-turned-at.result c.deref-in-Some.result.now c.requires.turned inside_turned c.index-turned-at.is c.deref-in-Some.ensures.value in
+    let now = c.arcs_to.ensures in
     let (level, done, s, all_done) = c.loop-bound.invariant.stands in
     let s_now : Stands (arcs_by price) arcs c.args.costs.now done c.loop-bound.costs after (heap_items c.next_live.new.queue.heap) c.in-Some.bound =
     subst (λ x. Stands (arcs_by price) arcs c.args.costs.now done c.loop-bound.costs (set x at true) (heap_items c.next_live.new.queue.heap) c.in-Some.bound) c.deref.ensures.value
     (c.in-Some.ensures.settles (arcs_by price) arcs done c.args.costs.now level (subst (λ x. Stands (arcs_by price) arcs c.args.costs.now done c.loop-bound.costs x (heap_items c.loop-bound.queue.heap) level) (sym c.deref.ensures.value) s)) in
-    let each : AllByRecursion (λ (a : Arc). IsAmong a arcs × (is_set after a.child ≡ true) × (cost_at c.loop-bound.costs a.child ≡ Some c.in-Some.bound)) c.deref-in-Some.result.now =
+    let each : AllByRecursion (λ (a : Arc). IsAmong a arcs × (is_set after a.child ≡ true) × (cost_at c.loop-bound.costs a.child ≡ Some c.in-Some.bound)) c.arcs_to.result.now =
     subst (λ (xs : List Arc). AllByRecursion (λ (a : Arc). IsAmong a arcs × (is_set after a.child ≡ true) × (cost_at c.loop-bound.costs a.child ≡ Some c.in-Some.bound)) xs) (sym now)
     (each_to_new arcs c.loop-bound.costs before at c.in-Some.bound inside_settled c.in-Some.ensures.costs) in
     record {
       long = length-set before at true ∙ c.loop-bound.invariant.long ∙ sym c.relax_all.auto.costs;
       stands = (
         c.in-Some.bound,
-        done ++ c.deref-in-Some.result.now,
+        done ++ c.arcs_to.result.now,
         c.in_ok-relax_all.ensures.stands arcs done c.args.costs.now after each s_now,
         λ a among h. subst (λ (xs : List Arc). IsAmong a (done ++ xs)) (sym now) (done_on arcs done before at all_done a among h),
       );
       counted =
-          c.in_ok-relax_all.ensures.counted ∙ ap (relaxed_by (length c.deref-in-Some.result.now)) c.loop-bound.invariant.counted ∙ relaxed_on (length (arcs_to_settled arcs before)) (length c.deref-in-Some.result.now) c.args.work.now
+          c.in_ok-relax_all.ensures.counted ∙ ap (relaxed_by (length c.arcs_to.result.now)) c.loop-bound.invariant.counted ∙ relaxed_on (length (arcs_to_settled arcs before)) (length c.arcs_to.result.now) c.args.work.now
           ∙ ap (λ n. relaxed_by n c.args.work.now) (ap (λ (xs : List Arc). length (arcs_to_settled arcs before) + length xs) now ∙ sym (one_more_settled before at inside_settled fresh arcs));
     }
 

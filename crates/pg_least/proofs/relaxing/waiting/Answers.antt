@@ -1,4 +1,4 @@
-use Rattle.std.proofs.Common.{◌≡◌, ℕ, ◌+◌, ◌<◌, ◌≤◌, ◌≢◌, ◌⊎◌, ⊎_elim, List, Option, Some, None, true, ap, sym, ◌∙◌, subst, subst₂, arith, heap_items}
+use Rattle.std.proofs.Common.{◌≡◌, ℕ, ◌+◌, ◌<◌, ⊎_elim, List, Option, Some, None, true, ap, sym, ◌∙◌, subst, subst₂, arith, heap_items}
 use Rattle.std.specs.declared.cmp.Reverse.{Reverse}
 use Rattle.pg_least.specs.Queues.{IsOneMore}
 use Rattle.pg_least.specs.Relaxing.{cost_at, waits}

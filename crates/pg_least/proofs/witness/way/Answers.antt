@@ -1,37 +1,15 @@
-use Rattle.std.proofs.Common.{◌≡◌, ◌∙◌, List, [], ◌∷◌, ◌++◌, true, ap, is_some, subst, sym}
+use Rattle.std.proofs.Common.{IfOk, subst, sym}
 use Rattle.pg_schema.specs.Parts.{shape_of}
-use Rattle.pg_pairs.specs.declared.choice.Pair.{Pair}
-use Rattle.pg_pairs.specs.Choices.{number_for}
-use Rattle.pg_pairs.specs.Sight.{by_numbers}
 use Rattle.pg_cert.specs.Bounds.{bound_in}
-use Rattle.pg_cert.specs.declared.bounds.PairBound.{PairBound}
-use Rattle.pg_least.specs.declared.witness.Step.{Step}
-use Rattle.pg_least.specs.Descent.{IsExactTable, IsWay, IsWholeWay, first_step}
-use Rattle.pg_least.proofs.Descents.{whole_is_way}
+use Rattle.pg_least.specs.Descent.{IsWay}
+use Rattle.pg_least.specs.Exact.{IsSearched}
 use Rattle.pg_least.proofs.witness.way.Goals as goal
 
-pub steps_down-requires-clause-exact : goal.steps_down-requires-clause-exact
-steps_down-requires-clause-exact c =
-    subst (λ sight. IsExactTable sight (shape_of c.args.old.now) (shape_of c.args.new.now) (bound_in c.bounds.result.now)) (sym (c.numbers_are_alike.ensures c.args.old.now c.args.new.now))
-    (subst (λ (bounds : List PairBound). IsExactTable by_numbers (shape_of c.args.old.now) (shape_of c.args.new.now) (bound_in bounds)) (sym c.bounds.ensures) c.requires.searched.exact)
-
-pub steps_down-requires-clause-number : goal.steps_down-requires-clause-number
-steps_down-requires-clause-number c =
-    subst (λ (bounds : List PairBound). is_some (number_for (bound_in bounds) c.root.result) ≡ true) (sym c.bounds.ensures)
-    (ap (λ (pair : Pair). is_some (number_for (bound_in c.args.certificate.now.bounds) pair)) c.root.ensures.root ∙ sym c.requires.searched.witness_where_it_breaks ∙ c.requires.breaks)
+pub way_with-requires-clause-searched : goal.way_with-requires-clause-searched
+way_with-requires-clause-searched c =
+    subst (λ sight. IsSearched sight (shape_of c.args.old.now) (shape_of c.args.new.now) c.args.certificate.now.root c.args.certificate.now) (sym (c.numbers_are_alike.ensures c.args.old.now c.args.new.now)) c.requires.searched
 
 pub returns : goal.returns
 returns c =
-    let old = shape_of c.args.old.now in
-    let new = shape_of c.args.new.now in
-    let steps = c.in_ok-steps.steps.items in
-    let last = c.in_ok-steps.last in
-    let all = c.push.new.self.items in
-    let table = bound_in c.bounds.result.now in
-    let whole = subst (λ sight. IsWholeWay sight old new table steps last) (c.numbers_are_alike.ensures c.args.old.now c.args.new.now) c.in_ok-steps.ensures.whole in
-    let made : IsWay by_numbers old new table (first_step steps last).pair (steps ++ last ∷ []) = whole_is_way by_numbers old new table steps last whole.way whole.ends in
-    let joined : IsWay by_numbers old new table (first_step steps last).pair all =
-    subst (λ (ss : List Step). IsWay by_numbers old new table (first_step steps last).pair ss) (sym c.in_ok-push.ensures.items) made in
-    let rooted : IsWay by_numbers old new table c.args.certificate.now.root all =
-    subst (λ (pair : Pair). IsWay by_numbers old new table pair all) (c.in_ok-steps.ensures.first ∙ c.root.ensures.root) joined in
-    subst (λ (bounds : List PairBound). IsWay by_numbers old new (bound_in bounds) c.args.certificate.now.root all) c.bounds.ensures rooted
+    subst (λ sight. IfOk c.way_with.result (λ steps. IsWay sight (shape_of c.args.old.now) (shape_of c.args.new.now) (bound_in c.args.certificate.now.bounds) c.args.certificate.now.root steps.items))
+    (c.numbers_are_alike.ensures c.args.old.now c.args.new.now) c.way_with.ensures

@@ -1,26 +1,32 @@
 -- The entry takes the place of the one of its key, or stands between its neighbours.
 use Rattle.std.proofs.Common.{List, ◌≡◌, ◌<◌, take, drop, length, get_or, subst, ◌∙◌}
 use Rattle.std.specs.declared.cmp.Ordering.TheVariants.{Equal}
-use Rattle.pg_dyn.specs.Message.{key_cmp}
-use Rattle.pg_dyn.specs.Seen.{leaf_of}
 use Rattle.std.specs.List.{AllByRecursion}
-use Rattle.pg_dyn.specs.declared.message.Value.{Value}
+use Rattle.pg_dyn.specs.declared.message_ref.EntryRef.{EntryRef}
+use Rattle.pg_dyn.specs.BorrowedItems.{key_of}
+use Rattle.pg_dyn.specs.Message.{key_cmp}
 use Rattle.pg_dyn.proofs.EntryPlaces.{Below, NotBelow, put_over, put_between}
 use Rattle.pg_dyn.proofs.reading.entries.put_in.Goals as goal
 
 pub returns-then-has_key : goal.returns-then-has_key
 returns-then-has_key c =
     let place = c.place_of_key-place.result in
-    let low = subst (λ (es : List (Value × Value)). AllByRecursion (Below c.args.key) (take place es)) c.deref.ensures.value c.place_of_key-place.ensures.below in
+    let e = c.args.entry in
+    let low = subst (λ (es : List EntryRef). AllByRecursion (Below key_of (key_of e)) (take place es)) c.deref.ensures.value c.place_of_key-place.ensures.below in
     let here = c.has_key.ensures.here c.if-has_key.true in
-    let d : Value × Value = (c.args.key, c.args.value) in
-    let at = subst (λ (es : List (Value × Value)). (place < length es) × (key_cmp (leaf_of c.args.key) (leaf_of (get_or es place d).0) ≡ Equal)) c.deref-2.ensures.value (here.0, here.1 d) in
-    put_over c.args.entries.now.items place c.args.key c.args.value d low at.0 at.1
+    let at =
+    subst (λ (es : List EntryRef). (place < length es) × (key_cmp (key_of e) (key_of (get_or es place e)) ≡ Equal)) c.deref-2.ensures.value
+    (here.0, here.1 e) in
+    put_over key_of c.args.entries.now.items place e e low at.0 at.1
 
 pub returns : goal.returns
 returns c =
     let place = c.place_of_key-place.result in
-    let low = subst (λ (es : List (Value × Value)). AllByRecursion (Below c.args.key) (take place es)) c.deref.ensures.value c.place_of_key-place.ensures.below in
-    let high = subst (λ (es : List (Value × Value)). AllByRecursion (NotBelow c.args.key) (drop place es)) c.deref.ensures.value c.place_of_key-place.ensures.from_there in
-    let apart = subst (λ (es : List (Value × Value)). (d : Value × Value) → place < length es → key_cmp (leaf_of c.args.key) (leaf_of (get_or es place d).0) ≡ Equal → ⊥) c.deref-2.ensures.value (c.has_key.ensures.not_here c.if-has_key.false) in
-    c.in_ok-insert.ensures.items ∙ put_between c.args.entries.now.items place c.args.key c.args.value low high apart
+    let e = c.args.entry in
+    let low = subst (λ (es : List EntryRef). AllByRecursion (Below key_of (key_of e)) (take place es)) c.deref.ensures.value c.place_of_key-place.ensures.below in
+    let high =
+    subst (λ (es : List EntryRef). AllByRecursion (NotBelow key_of (key_of e)) (drop place es)) c.deref.ensures.value c.place_of_key-place.ensures.from_there in
+    let apart =
+    subst (λ (es : List EntryRef). (d : EntryRef) → place < length es → key_cmp (key_of e) (key_of (get_or es place d)) ≡ Equal → ⊥) c.deref-2.ensures.value
+    (c.has_key.ensures.not_here c.if-has_key.false) in
+    c.in_ok-insert.ensures.items ∙ put_between key_of c.args.entries.now.items place e low high apart

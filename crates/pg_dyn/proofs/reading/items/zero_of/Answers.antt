@@ -1,7 +1,5 @@
 -- The empty text is UTF-8.
-use Rattle.std.proofs.Common.{[], ap, sym, subst, ◌∙◌}
-use Rattle.std.specs.Str.{is_utf8}
-use Rattle.std.specs.String.{string_bytes}
+use Rattle.std.proofs.Common.{[], sym, subst}
 use Rattle.std.proofs.lemmas.Str.{IsUtf8-nil, is_utf8-from_IsUtf8}
 use Rattle.pg_dyn.specs.Coding.{InRange, scalar_form}
 use Rattle.pg_dyn.specs.Message.{Bytes}
@@ -9,4 +7,4 @@ use Rattle.pg_dyn.proofs.reading.items.zero_of.Goals as goal
 
 pub returns-in-String-clause-item : goal.returns-in-String-clause-item
 returns-in-String-clause-item c =
-    subst (λ s. InRange (scalar_form s) (Bytes (string_bytes c.new.result))) (sym c.in-String.is) (ap is_utf8 c.new.ensures.bytes ∙ is_utf8-from_IsUtf8 [] IsUtf8-nil)
+    subst (λ s. InRange (scalar_form s) (Bytes [])) (sym c.in-String.is) (is_utf8-from_IsUtf8 [] IsUtf8-nil)

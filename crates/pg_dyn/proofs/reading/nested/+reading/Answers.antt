@@ -13,8 +13,8 @@ use Rattle.pg_dyn.proofs.FieldRuns as runs
 use Rattle.pg_dyn.proofs.Lists.{each_weaker}
 use Rattle.std.specs.List.{AllByRecursion}
 use Rattle.pg_schema.specs.declared.field.Element.TheVariants as elements
-use Rattle.pg_dyn.specs.declared.message.Content.TheVariants as contents
-use Rattle.pg_dyn.specs.ContentFits.{ItemFits}
+use Rattle.pg_dyn.specs.declared.message_ref.ContentRef.TheVariants as contents
+use Rattle.pg_dyn.specs.BorrowedItems.{ItemFits}
 use Rattle.pg_dyn.specs.Steps.{HeldFits}
 use Rattle.pg_dyn.specs.Kept.{message_of, ends}
 use Rattle.pg_dyn.proofs.BodiesByFields as bodies
@@ -24,15 +24,16 @@ use Rattle.pg_dyn.proofs.EntriesByFields as entries
 use Rattle.pg_dyn.proofs.MapsByFields.{AreEntriesRead}
 use Rattle.pg_dyn.proofs.MapsByFields as maps
 use Rattle.pg_dyn.proofs.StopSteps.{stopped, handed_on, stops_for}
-use Rattle.pg_dyn.proofs.reading.nested.+reading.Goals.{read_entry-in-Message+in_ok-value-in-Message, read_entry-in-Scalar, counted-in-Some+then-counts+in_ok-push, counted-in-Some+else-counts+in_ok-read_content+in-Some+in-One+in-Text-1, counted-in-Some+else-counts+in_ok-read_content+in-Some+in-One+in-Bytes-1, counted-in-Some+else-counts+in_ok-read_content+in-Some+in-One+in-Msg-1, counted-in-Some+else-counts+in_ok-read_content+in-Some+in-One+in-Int-1, counted-in-Some+else-counts+in_ok-read_content+in-Some+in-Many-1, counted-in-Some+else-counts+in_ok-read_content+in-Some+in-Map-1, counted-in-Some+else-counts+in_ok-read_content+in-None-1, counted-in_default, read_gathered-then-streaks, read_gathered-else-streaks+in_ok-left}
+use Rattle.pg_dyn.proofs.reading.nested.+reading.Goals.{read_entry-in-Message+in_ok-value-in-Message, read_entry-in-Scalar, counted-in-Some+then-counts+in_ok-push, counted-in-Some+else-counts+in_ok-read_content+in-Some+in-One+in-Msg-1, counted-in-Some+else-counts+in_ok-read_content+in-Some+in-One+in-Int-1, counted-in-Some+else-counts+in_ok-read_content+in-Some+in-Many-1, counted-in-Some+else-counts+in_ok-read_content+in-Some+in-Map-1, counted-in-Some+else-counts+in_ok-read_content+in-None-1, counted-in_default, read_gathered-then-streaks, read_gathered-else-streaks+in_ok-left}
 use Rattle.pg_dyn.proofs.reading.nested.+reading.Goals as goal
 use Rattle.pg_wire.specs.declared.record.Record.{Record}
 use Rattle.pg_dyn.proofs.CountedRecords.{CountedUpTo}
 use Rattle.pg_dyn.proofs.CountedRecords as counting
 use Rattle.pg_dyn.proofs.Gathered.{counted_so_far}
-use Rattle.pg_dyn.proofs.KeptParts.{fields_keep}
+use Rattle.pg_dyn.proofs.HeldFields.{child_zero, list_held, one_held}
+use Rattle.pg_dyn.proofs.ReplacingLaws.{type_of-kept_onto}
+use Rattle.pg_dyn.specs.Borrowed.{all_seen}
 use Rattle.pg_dyn.specs.Belonging.{IsUnknown}
-use Rattle.pg_dyn.specs.Seen.{record_seen}
 use Rattle.pg_dyn.proofs.GatheredReading.{IsLeft}
 use Rattle.pg_dyn.proofs.GatheredReading as gathered
 use Rattle.pg_wire.specs.Records.{IsRecord, WireRecord}
@@ -169,11 +170,10 @@ read_children-returns-clause-fits t c =
     let l = c.loop-place in
     let read =
     subst (λ rs. AreChildren shape c.args.type_id (map seen_record rs) l.values.items)
-    (take_all l.place c.args.run.now c.loop-place-test.false) l.invariant.read in (
-      children.list_fits shape f.presence f.element l.values c.requires.repeated
-          (subst (λ e. AllByRecursion (ItemFits shape e) l.values.items) (sym c.requires.of_type) l.invariant.fits),
-      children.children_filled shape c.args.type_id (map seen_record c.args.run.now) l.values.items (children.seen_some c.args.run.now c.requires.some) read,
-    )
+    (take_all l.place c.args.run.now c.loop-place-test.false) l.invariant.read in
+    list_held shape f l.values c.requires.repeated
+    (subst (λ e. AllByRecursion (ItemFits shape e) l.values.items) (sym c.requires.of_type) l.invariant.fits)
+    (children.children_filled shape c.args.type_id (map seen_record c.args.run.now) l.values.items (children.seen_some c.args.run.now c.requires.some) read)
 
 pub read_children-returns-clause-good : goal.read_children-returns-clause-good
 read_children-returns-clause-good t c =
@@ -207,6 +207,16 @@ read_content-returns-in_ok-child-in_default-Message-clause-ok t c =
     (not_map f.presence c.in_default-Message.not-Map-0) (map seen_record c.args.run.now) c.in_ok-child-in_default-Message.child
     (not_list f.presence c.in_default-Message.not-Repeated-0)
     (children.seen_some c.args.run.now c.requires.some) c.requires.run c.in_ok-child-in_default-Message.ensures.ok
+
+pub read_content-returns-in_ok-child-in_default-Message-clause-fits : goal.read_content-returns-in_ok-child-in_default-Message-clause-fits
+read_content-returns-in_ok-child-in_default-Message-clause-fits t c =
+    let shape = shape_of c.args.schema.now in
+    let f = field_shape c.args.field.now in
+    let m = c.in_default-Message in
+    let v = c.in_ok-child-in_default-Message.child in
+    let fits = c.in_ok-child-in_default-Message.ensures.fits in
+    one_held shape f v (not_list f.presence m.not-Repeated-0) (not_map f.presence m.not-Map-0) (subst (λ e. ItemFits shape e v) (sym m.is-1) fits)
+    (child_zero shape m.type_id f.presence v fits)
 
 pub read_content-returns-in_ok-child-in_default-Message-clause-good : goal.read_content-returns-in_ok-child-in_default-Message-clause-good
 read_content-returns-in_ok-child-in_default-Message-clause-good t c =
@@ -337,14 +347,14 @@ read_entry-returns-clause-ok t c =
       | read_entry-in-Message+in_ok-value-in-Message w ↦
           let m = w.in-Message in
           let read = w.in_ok-value-in-Message in
-          subst (λ v. IsEntryRead shape c.args.key f.element r (k.result, v)) (sym w.value-is)
+          subst (λ v. IsEntryRead shape c.args.key f.element r (record { key = k.result; value = v })) (sym w.value-is)
           (entries.child_entry shape c.args.levels f c.args.key c.requires.of_map r c.in_ok-parts.parts c.in_ok-parts.ensures.ok m.type_id m.is
           w.as_slice.result.now w.as_slice.ensures.value k.result read.value (whole_key, key_fits)
           read.ensures.ok read.ensures.fits)
       | read_entry-in-Scalar w ↦
           let scalar = is_no_message f.element w.in-Scalar.is in
           let whole = w.or_zero-value.ensures in
-          subst (λ v. IsEntryRead shape c.args.key f.element r (k.result, v)) (sym w.value-is)
+          subst (λ v. IsEntryRead shape c.args.key f.element r (record { key = k.result; value = v })) (sym w.value-is)
           (entries.scalar_entry shape c.args.levels f c.args.key c.requires.of_map r c.in_ok-parts.parts c.in_ok-parts.ensures.ok scalar k.result
           w.or_zero-value.result (whole_key, key_fits)
           (whole.whole shape f.element scalar (sym w.scalar_of.ensures)) (whole.fits shape f.element scalar (sym w.scalar_of.ensures)))
@@ -424,7 +434,7 @@ read_gathered-invariant_of-result t c =
       rises = c.in_ok-fields.ensures.kept.0;
       filled = c.in_ok-fields.ensures.kept.1;
       keys = c.in_ok-fields.ensures.kept.2;
-      records = each_weaker (IsUnknown (fields shape c.args.type_id)) IsRecord (λ r k. k.is_record) (map record_seen c.args.gathered.unknown.items)
+      records = each_weaker (IsUnknown (fields shape c.args.type_id)) IsRecord (λ r k. k.is_record) (map seen_record c.args.gathered.unknown.items)
           (gathered.unknown_are shape c.args.levels c.args.type_id rs c.args.gathered are);
     }
 
@@ -447,11 +457,9 @@ read_gathered-returns-clause-ok t c rs are =
 pub read_gathered-returns-clause-fits : goal.read_gathered-returns-clause-fits
 read_gathered-returns-clause-fits t c =
     let shape = shape_of c.args.schema.now in
-    let (rs, are) = c.requires.gathered in
-    let kept = c.in_ok-fields.ensures.kept in (
-      gathered.fits_of_all shape c.args.levels c.args.type_id rs c.args.gathered are c.requires.is_schema.shape c.in_ok-fields.fields.items kept.0
-          kept.1 kept.2 c.in_ok-fields.ensures.fits,
-      (fields_keep c.in_ok-fields.fields.items (ends c.args.type_id (map record_seen c.args.gathered.unknown.items))).1,
+    let (rs, are) = c.requires.gathered in (
+      gathered.fits_of_all shape c.args.levels c.args.type_id rs c.args.gathered are c.in_ok-fields.fields.items c.requires.type_id c.in_ok-fields.ensures.fits,
+      type_of-kept_onto (all_seen c.in_ok-fields.fields.items) (ends c.args.type_id (map seen_record c.args.gathered.unknown.items)),
     )
 
 pub read_gathered-returns-clause-good : goal.read_gathered-returns-clause-good
@@ -545,10 +553,6 @@ counted-loop-place-preserved t c =
           let h = w.in_ok-push.ensures.items in
           let i = w.counted-is in
           rw w.counted-is (rw w.in_ok-push.ensures.items (keeps _ _ (sym w.in-Some.ensures.shape) (sym w.counts.ensures ∙ w.if-counts.true)))
-      | counted-in-Some+else-counts+in_ok-read_content+in-Some+in-One+in-Text-1 w ↦
-          rw w.counted-is (drops _ _ (sym w.in-Some.ensures.shape) (sym w.counts.ensures ∙ w.if-counts.false) w.in_ok-read_content.ensures.good)
-      | counted-in-Some+else-counts+in_ok-read_content+in-Some+in-One+in-Bytes-1 w ↦
-          rw w.counted-is (drops _ _ (sym w.in-Some.ensures.shape) (sym w.counts.ensures ∙ w.if-counts.false) w.in_ok-read_content.ensures.good)
       | counted-in-Some+else-counts+in_ok-read_content+in-Some+in-One+in-Msg-1 w ↦
           rw w.counted-is (drops _ _ (sym w.in-Some.ensures.shape) (sym w.counts.ensures ∙ w.if-counts.false) w.in_ok-read_content.ensures.good)
       | counted-in-Some+else-counts+in_ok-read_content+in-Some+in-One+in-Int-1 w ↦

@@ -2,5 +2,5 @@
 use Rattle.pg_dyn.proofs.SettledEntries.{SettlesTo}
 use Rattle.pg_dyn.proofs.reading.ordering.put_all.Given as goal
 
-abbrev pub invariant-loop-key : goal.invariant-loop-key
-invariant-loop-key l = SettlesTo l.fn.entries.items l.settled.items l.key-iterator.rest.items
+abbrev pub invariant-loop-entry : goal.invariant-loop-entry
+invariant-loop-entry l = SettlesTo l.fn.entries.items l.settled.items l.entry-iterator.rest.items

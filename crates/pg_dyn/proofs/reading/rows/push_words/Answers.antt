@@ -1,7 +1,7 @@
 -- Each word is read behind those before it.
 use Rattle.std.proofs.Common.{ℕ, List, ◌+◌, take, drop, ap₂, sym, subst, subst₂, ◌∙◌}
 use Rattle.pg_wire.specs.declared.record.WireType.{WireType}
-use Rattle.pg_dyn.specs.declared.message.Value.{Value}
+use Rattle.pg_dyn.specs.declared.message_ref.ValueRef.{ValueRef}
 use Rattle.pg_dyn.specs.Coding.{element_at, word_in}
 use Rattle.pg_dyn.specs.WordOf.{HasBits}
 use Rattle.pg_dyn.proofs.PackedRows.{IsOne, RowSoFar, row_begin, row_done, row_broken, row_fault, row_onward, to_end}
@@ -23,7 +23,7 @@ word_item-requires-clause-bits c = subst (λ (w : WireType). HasBits w c.in-Ok.r
 pub loop-start-preserved : goal.loop-start-preserved
 loop-start-preserved c =
     let n = c.in-Ok.read.1 in
-    subst (λ (vs : List Value). RowSoFar c.args.scalar c.args.body.now (c.loop-start.start + n) c.args.values.now.items vs) (sym c.in_ok-push.ensures.items)
+    subst (λ (vs : List ValueRef). RowSoFar c.args.scalar c.args.body.now (c.loop-start.start + n) c.args.values.now.items vs) (sym c.in_ok-push.ensures.items)
     (row_onward c.args.scalar c.args.body.now c.args.values.now.items c.loop-start.start c.loop-start.values.items c.loop-start.invariant n c.word_item.result
     (subst₂ (λ (w : WireType) (xs : List ℕ). IsOne w xs n) c.requires.wire (to_end c.args.body.now c.loop-start.start) c.in-Ok.ensures.ok)
     (c.word_item.ensures.leaf (take n (drop c.loop-start.start c.args.body.now))

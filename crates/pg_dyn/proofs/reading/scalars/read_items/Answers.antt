@@ -9,8 +9,8 @@ use Rattle.pg_dyn.specs.ByFields.{StopsFor}
 use Rattle.pg_dyn.specs.Coding.{leaf_in, scalar_form}
 use Rattle.pg_dyn.specs.Content.{leaves_in, packed_leaves, takes}
 use Rattle.pg_dyn.specs.ItemRuns.{AllRead}
-use Rattle.pg_dyn.specs.ScalarItems.{IsItemOf}
-use Rattle.pg_dyn.specs.Seen.{leaf_of}
+use Rattle.pg_dyn.specs.BorrowedItems.{IsItemOf}
+use Rattle.pg_dyn.specs.Borrowed.{leaf_of}
 use Rattle.pg_dyn.proofs.FieldKinds.{lists_no_map}
 use Rattle.pg_dyn.proofs.ScalarRuns.{ItemsSoFar, item_there, more_items, own_item, own_shape, row_items, row_packable, row_there}
 use Rattle.pg_dyn.proofs.SliceRuns.{holds_in, one_more, record_in}

@@ -7,8 +7,8 @@ use Rattle.pg_wire.specs.Records.{IsRecord}
 use Rattle.pg_dyn.specs.ByFields.{AreGood, HoldsOf, StopsFor}
 use Rattle.pg_dyn.specs.Coding.{leaf_in, scalar_form}
 use Rattle.pg_dyn.specs.Content.{takes}
-use Rattle.pg_dyn.specs.ScalarItems.{IsItemOf}
-use Rattle.pg_dyn.specs.Seen.{leaf_of}
+use Rattle.pg_dyn.specs.BorrowedItems.{IsItemOf}
+use Rattle.pg_dyn.specs.Borrowed.{leaf_of}
 use Rattle.pg_dyn.specs.Steps.{FieldReads, HeldFits, IsShallow}
 use Rattle.pg_dyn.proofs.FieldRecords.{singular_wire}
 use Rattle.pg_dyn.proofs.ScalarRuns.{LastSoFar, all_good, good_read, item_there, last_fits, last_holds, new_last, own_item, own_shape}

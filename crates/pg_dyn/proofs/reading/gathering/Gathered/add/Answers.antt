@@ -43,5 +43,4 @@ returns-in_ok-push-in_default-clause-ok c =
           ∙ ap not (sym w.accepts.ensures ∙ w.if-accepts.false)
       | in_default-via-in_default w ↦ unknown_without_field c.args.schema.now c.requires.is_schema c.args.type_id r w.in_default.ensures.shape
     ] in
-    unknown_added shape c.args.type_id rs c.args.self.now _ h r c.requires.is_record unknown c.in_ok-kept-in_default.field-0
-    c.in_ok-kept-in_default.ensures.ok c.in_ok-push-in_default.ensures.items refl refl
+    unknown_added shape c.args.type_id rs c.args.self.now _ h c.args.found c.requires.is_record unknown c.in_ok-push-in_default.ensures.items refl refl

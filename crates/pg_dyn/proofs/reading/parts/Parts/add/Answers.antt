@@ -9,7 +9,7 @@ use Rattle.pg_dyn.specs.Coding.{leaf_in, scalar_form}
 use Rattle.pg_dyn.specs.Content.{key_field, takes, value_field}
 use Rattle.pg_dyn.specs.EntryParts.{ScalarsGood}
 use Rattle.pg_dyn.specs.EntrySteps.{IsMessageOf}
-use Rattle.pg_dyn.specs.ScalarItems.{IsItemOf}
+use Rattle.pg_dyn.specs.BorrowedItems.{IsItemOf}
 use Rattle.pg_dyn.proofs.EntryByParts.{child_added, key_added, none_added, not_explicit, unreadable, value_added}
 use Rattle.pg_dyn.proofs.FieldKinds.{no_message}
 use Rattle.pg_dyn.proofs.StopSteps.{handed_on, none_of_err, stops_for}

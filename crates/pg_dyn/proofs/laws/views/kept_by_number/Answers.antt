@@ -1,0 +1,5 @@
+use Rattle.pg_dyn.proofs.ViewNames as ViewNames
+use Rattle.pg_dyn.proofs.laws.views.kept_by_number.Goals as goal
+
+pub returns : goal.returns
+returns c = ViewNames.kept_by_number

@@ -1,0 +1,5 @@
+use Rattle.pg_dyn.proofs.ViewNames as ViewNames
+use Rattle.pg_dyn.proofs.laws.views.numbers_view.Goals as goal
+
+pub returns : goal.returns
+returns c = ViewNames.numbers_view

@@ -1,0 +1,13 @@
+-- Keys of one kind are told apart by their order.
+use Rattle.pg_dyn.specs.declared.message_ref.EntryRef.{EntryRef}
+use Rattle.pg_dyn.specs.BorrowedItems.{key_of}
+use Rattle.pg_dyn.specs.KeyOrder.{IsOfKind}
+use Rattle.pg_dyn.proofs.FitsSteps.{fact_at}
+use Rattle.pg_dyn.proofs.LastOfKeys.{same_kind}
+use Rattle.pg_dyn.proofs.reading.entries.has_key.Goals as goal
+
+pub order-requires : goal.order-requires
+order-requires c =
+    let a = c.requires in
+    same_kind a.0 _ _ a.1
+    (fact_at (λ (e : EntryRef). IsOfKind a.0 (key_of e)) c.args.entries.now c.args.place c.index-entries-place.result c.if-place-entries.true a.2)

@@ -1,0 +1,23 @@
+//! What the views by which enums are compared have to do with each other.
+
+ghost use Rattle.pg_dyn.specs.ViewNames.{KeptByNumber, NamedRows, NamesAreStricter, NumbersView};
+
+/// Small enums, and which of their numbers are alike by name.
+pub fn named_rows()
+    ensures { NamedRows }
+{}
+
+/// The view by number finds every number alike.
+pub fn numbers_view()
+    ensures { NumbersView }
+{}
+
+/// What any view keeps is kept by number.
+pub fn kept_by_number()
+    ensures { KeptByNumber }
+{}
+
+/// Two types that are compatible by name are compatible by number.
+pub fn names_are_stricter()
+    ensures { NamesAreStricter }
+{}

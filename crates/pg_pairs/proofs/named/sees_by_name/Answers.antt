@@ -1,0 +1,5 @@
+use Rattle.pg_pairs.proofs.NamedSights.{seen_by_name}
+use Rattle.pg_pairs.proofs.named.sees_by_name.Goals as goal
+
+pub returns : goal.returns
+returns g c = seen_by_name (g.V.View.is_alike c.args._view.now) g.V.View.NAME (g.met.V.View.is_named c.args._view.now) c.args._old.now c.args._new.now
