@@ -5,7 +5,7 @@ pub(crate) mod error;
 
 /// The words of a command line, as they are meant.
 #[derive(Debug, Drop)]
-pub enum Call<'a> {
+pub(crate) enum Call<'a> {
     /// The descriptor set of the texts at these paths below the folder, and of all that they
     /// import.
     Compile {
@@ -38,7 +38,7 @@ pub enum Call<'a> {
 /// The folders and the files of the old and the new side. A file is a text where its path ends in
 /// `.proto`, and else a descriptor set.
 #[derive(Clone, Copy, Debug)]
-pub struct Sides<'a> {
+pub(crate) struct Sides<'a> {
     pub old_dir: &'a str,
     pub new_dir: &'a str,
     pub old: &'a str,

@@ -10,7 +10,6 @@ mod program;
 pub use answer::gate::{Answer, gate, gate_files};
 pub use answer::step::{NamedField, Step, Steps};
 pub use answer::verified::Verified;
-pub use call::{Call, Sides};
 pub use error::{Fault, GateError, Side};
 pub use pg_cert::{Certificate, Verdict};
 pub use pg_check::CheckError;
