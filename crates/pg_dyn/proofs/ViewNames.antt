@@ -1,5 +1,5 @@
 -- What a view keeps is kept by number: a view only tells more items apart.
-use Rattle.std.proofs.Common.{◌≡◌, ℕ, ℤ, List, [], ◌∷◌, Bool, true, false, not, ◌&&◌, cond, nat_eq, Option, Some, None, refl, ap, sym, ◌∙◌, subst, int_eq, true≢false}
+use Rattle.std.proofs.Common.{◌≡◌, ℕ, ℤ, List, [], ◌∷◌, Bool, true, false, not, ◌&&◌, cond, nat_eq, Option, Some, None, refl, sym, ◌∙◌, subst, int_eq, true≢false}
 use Rattle.std.specs.Bool.{⊤}
 use Rattle.std.specs.List.{list_all}
 use Rattle.std.proofs.lemmas.Bool.{and_from, and_parts, false_from_ne_true}
@@ -8,15 +8,14 @@ use Rattle.pg_schema.specs.declared.enum_type.EnumType.{EnumType}
 use Rattle.pg_schema.specs.declared.field.Element.{Element}
 use Rattle.pg_schema.specs.declared.field.Element.TheVariants as elements
 use Rattle.pg_schema.specs.declared.field.TypeId.{TypeId}
-use Rattle.pg_schema.specs.declared.parts.Parts.{Parts}
 use Rattle.pg_schema.specs.Parts.{enum_at, shape_of}
 use Rattle.pg_schema.specs.Shape.{Shape, FieldShape, fields, field_at}
 use Rattle.pg_dyn.specs.declared.view_name.ViewName.TheVariants as names
-use Rattle.pg_dyn.specs.Message.{Leaf, Int, F32, F64, Bytes, Item, Plain, Msg, Message, ends, holds, nests, Part, parts, is_zero, leaf_eq}
+use Rattle.pg_dyn.specs.Message.{Leaf, Int, F32, F64, Bytes, Item, Plain, Msg, Message, ends, holds, nests, Part, is_zero}
 use Rattle.pg_dyn.specs.Encoding.{child_type, enc}
 use Rattle.pg_dyn.specs.Decoding.{dec}
-use Rattle.pg_dyn.specs.Comparison.{View, numbers, Sought, Alike, Kept, is_zero_sought, hides_zero, shown, alike_leaves, same_key, meets, same_content, same_message, unshared_bytes, sought, same}
-use Rattle.pg_dyn.specs.Breaking.{is_kept, Breaks, Compatible}
+use Rattle.pg_dyn.specs.Comparison.{View, numbers, Sought, Alike, Kept, is_zero_sought, hides_zero, shown, alike_leaves, same_key, meets, same_message, unshared_bytes, sought, same}
+use Rattle.pg_dyn.specs.Breaking.{is_kept, Compatible}
 use Rattle.pg_dyn.specs.ViewNames.{alike_there, view_named, NumbersView, KeptByNumber, NamesAreStricter, NamedRows}
 
 by_option : {A P : Type 0} (o : Option A) → (o ≡ None → P) → ((x : A) → o ≡ Some x → P) → P
