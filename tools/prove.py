@@ -51,12 +51,11 @@ def is_check(words):
     return os.path.basename(words[0]) == "rattle" and words[1:2] in (["check"], ["build"])
 
 
-def kind_of(pid, words, seeds):
-    """Returns the crate that a check is of, and the kind of work that it is. The first check over a folder of edits proves all anew."""
-    crate, over = behind("--crate-name", words), behind("--incremental", words)
+def kind_of(pid, words):
+    """Returns the crate that a check is of, and the kind of work that it is."""
+    crate = behind("--crate-name", words)
     if "/rt-edit-" in os.readlink(f"/proc/{pid}/cwd"):
-        is_seed = over.endswith("/seed") or "/rt-edits-" in over and seeds.setdefault(over, pid) == pid
-        return crate, "seed" if is_seed else "edits"
+        return crate, "seed" if behind("--incremental", words).endswith("/seed") else "edits"
     if "--crate-checked" in words:
         return crate, "programs"
     return crate, "tests" if "--test" in words else "proof"
@@ -66,7 +65,7 @@ class Costs:
     """What the processes below one have taken, by crate and kind. Each is known by its number and what it runs, since numbers come again."""
 
     def __init__(self, top):
-        self.top, self.seeds, self.seconds, self.is_over = top, {}, {}, False
+        self.top, self.seconds, self.is_over = top, {}, False
 
     def is_below(self, pid, parents):
         while pid in parents and pid != self.top:
@@ -89,7 +88,7 @@ class Costs:
         try:
             words = words_of(pid)
             if is_check(words) and not is_check(words_of(parent)):
-                key = pid, behind("-o", words), os.readlink(f"/proc/{pid}/cwd"), *kind_of(pid, words, self.seeds)
+                key = pid, behind("-o", words), os.readlink(f"/proc/{pid}/cwd"), *kind_of(pid, words)
                 self.seconds[key] = max(self.seconds.get(key, 0), seconds)
         except OSError:
             pass
