@@ -5,7 +5,8 @@ use crate::file::File;
 use crate::message_type::MessageType;
 use crate::service::Service;
 
-/// All that a schema declares, in order of declaration.
+/// All that a schema declares: files, message types and services in order of declaration, and enums
+/// scope by scope.
 #[derive(Debug, PartialEq, Eq, Drop)]
 pub struct Parts {
     /// The files, each after those that it imports.
