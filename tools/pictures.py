@@ -6,7 +6,7 @@ usage: tools/pictures.py            draws them all
 
 A text begins with a line 'title ..' and a line that says how the rest is read: 'flow' (a row a line, boxes with calls between them,
 as 'a -> call -> b'), 'table' (a row a line, cells with '|' between them, the first row is the head) or 'graph' ('node NAME PLACE TEXT',
-'edge FROM TO TEXT', nodes from left to right).
+'edge FROM TO TEXT', nodes from left to right; an edge may go to a neighbour on either side, or back to its own node).
 """
 
 import os
@@ -68,7 +68,7 @@ def table(lines):
 
 
 def graph(lines):
-    """Nodes from left to right, with arrows between neighbours, and above a node to itself."""
+    """Nodes from left to right, with arrows between neighbours, below them from right to left, and above a node to itself."""
     said = [line.split(" ", 3) for line in lines]
     nodes = {name: (int(place), words) for kind, name, place, words in said if kind == "node"}
     middle = {name: 150 + 400 * place for name, (place, _) in nodes.items()}
@@ -77,13 +77,15 @@ def graph(lines):
         wide = width_of(words)
         parts += [box(middle[name] - wide / 2, 150, wide, 44), text(middle[name], 177, words)]
     for _, start, end, words in (it for it in said if it[0] == "edge"):
-        x = middle[start]
+        x, middles = middle[start], (middle[start] + middle[end]) / 2
         if start == end:
             parts += [arrow(f"M {x - 30} 150 C {x - 80} 70, {x + 80} 70, {x + 30} 148"), text(x + 20, 78, words, CALL, size=13)]
-        else:
+        elif middle[start] < middle[end]:
             left, right = x + width_of(nodes[start][1]) / 2, middle[end] - width_of(nodes[end][1]) / 2
-            parts += [arrow(f"M {left:.0f} 172 H {right - 4:.0f}"), text((left + right) / 2, 216, words, CALL, size=13)]
-    return parts, 300 + 400 * max(place for place, _ in nodes.values()), 240
+            parts += [arrow(f"M {left:.0f} 172 H {right - 4:.0f}"), text((left + right) / 2, 162, words, CALL, size=13)]
+        else:
+            parts += [arrow(f"M {x} 194 C {x} 250, {middle[end]} 250, {middle[end]} 198"), text(middles, 258, words, CALL, size=13)]
+    return parts, 300 + 400 * max(place for place, _ in nodes.values()), 280
 
 
 def drawn(source):
