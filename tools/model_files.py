@@ -2,7 +2,8 @@
 """Lists the files of definitions that a promise rests on, and compares them with docs/MODEL.md.
 
 usage: tools/model_files.py            the files and lines, of a breaking message and of what `gate` promises
-       tools/model_files.py --compare  status 1 where docs/MODEL.md lists other files, or other counts than README.md and docs/MODEL.md say
+       tools/model_files.py --compare  status 1 where docs/MODEL.md lists other files, where it or README.md says other counts, or where
+                                       a document names a file of code or definitions that isn't there
 
 A promise rests on the file that has its word, and on all that the file imports, onwards. The kit's own words are left out.
 """
@@ -16,6 +17,8 @@ ROOTS = {
     "a message breaks": "crates/pg_dyn/specs/Breaking.antt",
     "what `gate` promises": "crates/pg_gate/specs/Answer.antt",
 }
+# A path of code or definitions that a document names: from the top, below `crates`, or below a crate's folder.
+NAMED = re.compile(r"`([\w/+-]+/[\w+-]+\.(?:rt|antt))`")
 IMPORT = re.compile(r"^\s*(?:pub\s+)?use\s+Rattle\.(pg_\w+)\.specs\.(\w+)", re.M)
 
 
@@ -63,10 +66,22 @@ def differences():
     return found + ([] if counts in said else [f"docs/MODEL.md doesn't say: {counts}"])
 
 
+def missing_paths():
+    """Returns what documents name and the repository hasn't."""
+    names = [it for it in sorted(os.listdir(f"{TOP}/docs")) if it.endswith(".md")]
+    folders = [TOP, f"{TOP}/crates", *(f"{TOP}/crates/{it}/src" for it in os.listdir(f"{TOP}/crates"))]
+    found = []
+    for document in ["README.md", "CONTRIBUTING.md", *(f"docs/{it}" for it in names)]:
+        with open(f"{TOP}/{document}", encoding="utf-8") as file:
+            named = dict.fromkeys(NAMED.findall(file.read()))
+        found += [f"{document} names {it}, which isn't there" for it in named if not any(os.path.isfile(f"{at}/{it}") for at in folders)]
+    return found
+
+
 def main(words):
     if words == ["--compare"]:
-        found = differences()
-        print("\n".join(found) or "docs/MODEL.md names just the files of the promise")
+        found = differences() + missing_paths()
+        print("\n".join(found) or "docs/MODEL.md names just the files of the promise, and the documents name files that are there")
         return 1 if found else 0
     for what, root in ROOTS.items():
         files = rests_on(root)
