@@ -69,7 +69,8 @@ def differences():
 def missing_paths():
     """Returns what documents name and the repository hasn't."""
     names = [it for it in sorted(os.listdir(f"{TOP}/docs")) if it.endswith(".md")]
-    folders = [TOP, f"{TOP}/crates", *(f"{TOP}/crates/{it}/src" for it in os.listdir(f"{TOP}/crates"))]
+    crates = [f"{TOP}/crates/{it}" for it in os.listdir(f"{TOP}/crates")]
+    folders = [TOP, f"{TOP}/crates", *crates, *(f"{it}/src" for it in crates)]
     found = []
     for document in ["README.md", "CONTRIBUTING.md", *(f"docs/{it}" for it in names)]:
         with open(f"{TOP}/{document}", encoding="utf-8") as file:
