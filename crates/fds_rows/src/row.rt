@@ -35,7 +35,7 @@ fn told(alloc: Global, bytes: &[u8]) -> Result<String, AllocError> {
     }
 }
 
-/// What a row shows, and what is told of its set.
+/// What a row shows, and what is reported of its set.
 pub(crate) fn answer(alloc: Global, row: &str) -> Result<String, AllocError> {
     let (what, spelled) = cut(row);
     let bytes = bytes_of(alloc, spelled)?;

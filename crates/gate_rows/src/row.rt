@@ -29,7 +29,7 @@ fn printed(
     let mut sink = Buffer::new(alloc);
     let mut old = Listed { files: old };
     let mut new = Listed { files: new };
-    // Neither such a source nor such a sink fails but for want of memory.
+    // Neither such a source nor such a sink fails but where memory runs out.
     match run(alloc, words, &mut old, &mut new, &mut sink) {
         Ok(status) => Ok((status, sink.bytes)),
         Err(_) => Err(AllocError),

@@ -109,7 +109,7 @@ fn a_gate_over_files_answers_one_of_two(rt: HostRuntime) -> Result<(), Fail> {
     Ok(())
 }
 
-/// Of two sides that have a fault the old one's is told.
+/// Of two sides that have a fault the old one's is reported.
 #[test]
 fn a_gate_over_files_tells_the_old_side_first(rt: HostRuntime) -> Result<(), Fail> {
     let faulty = over_files(rt.alloc(), "int32 a = 0;", "int32 a = 0;", "M")?;

@@ -74,7 +74,7 @@ fn wants_memory<R: Abort + AllocGlobal>(rt: &R, words: &[&str], printed: &str, s
     is_refused
 }
 
-/// Any one request for memory may be refused, and one at most: so one call wants memory at most.
+/// Any one request for memory may be refused, and one at most: so at most one call runs out of it.
 #[test]
 fn keeps_to_memory(rt: HostRuntime) {
     let mut was_refused = false;
@@ -85,7 +85,7 @@ fn keeps_to_memory(rt: HostRuntime) {
     }
 }
 
-/// Help is said whole, or memory is told and the sink left alone, where any one request may be
+/// Help is said whole, or memory is reported and the sink left alone, where any one request may be
 /// refused.
 #[test]
 fn keeps_to_memory_in_help(rt: HostRuntime) {

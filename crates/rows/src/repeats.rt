@@ -6,7 +6,7 @@ pub fn number_of(text: &str) -> u32 {
     text.parse::<u32>().unwrap_or(0)
 }
 
-// Puts the text once behind the others, each `#` in it being the number.
+// Appends the text once, each `#` in it being the number.
 fn put(alloc: Global, out: &mut String, text: &str, number: u32) -> Result<(), AllocError> {
     for (place, part) in text.split('#').enumerate() {
         if place > 0 {
@@ -17,7 +17,7 @@ fn put(alloc: Global, out: &mut String, text: &str, number: u32) -> Result<(), A
     Ok(())
 }
 
-// Puts what `FROM TO TEXT` spells behind the others.
+// Appends what `FROM TO TEXT` spells.
 fn put_repeat(alloc: Global, out: &mut String, spelled: &str) -> Result<(), AllocError> {
     let (from, rest) = spelled.split_once(' ').unwrap_or((spelled, ""));
     let (to, text) = rest.split_once(' ').unwrap_or((rest, ""));

@@ -26,7 +26,7 @@ fn target(alloc: Global, target: &Target) -> Result<String, AllocError> {
     }
 }
 
-// Puts a file's path and what its uses of types resolve to behind the others.
+// Appends a file's path and what its uses of types resolve to.
 fn put_file(
     alloc: Global,
     out: &mut String,
