@@ -4,5 +4,5 @@ use Rattle.pg_schema.specs.declared.error.PartsError.{PartsError}
 use Rattle.pg_schema.specs.declared.error.PartsError.TheVariants.{Memory, Invariant}
 
 abbrev pub told : PartsError → List ℕ
-told Memory = codes "out of memory"
-told Invariant = codes "the parts make no schema"
+told Memory = codes "Out of memory."
+told Invariant = codes "The parts are not a valid schema."

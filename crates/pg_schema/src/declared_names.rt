@@ -62,7 +62,7 @@ fn entry_name(alloc: Global, name: &str) -> Result<String, AllocError>
     Ok(entry)
 }
 
-/// Puts the full names of the fields behind the others.
+/// Appends the full names of the fields.
 fn push_field_names(
     alloc: Global,
     names: &mut Vec<String>,
@@ -78,7 +78,7 @@ fn push_field_names(
     Ok(())
 }
 
-/// Puts the full names of the oneofs behind the others.
+/// Appends the full names of the oneofs.
 fn push_oneof_names(
     alloc: Global,
     names: &mut Vec<String>,
@@ -95,7 +95,7 @@ fn push_oneof_names(
     Ok(())
 }
 
-/// Puts the full names of the values behind the others.
+/// Appends the full names of the values.
 fn push_value_names(
     alloc: Global,
     names: &mut Vec<String>,
@@ -111,7 +111,7 @@ fn push_value_names(
     Ok(())
 }
 
-/// Puts the full names of the methods behind the others.
+/// Appends the full names of the methods.
 fn push_method_names(
     alloc: Global,
     names: &mut Vec<String>,
@@ -127,7 +127,7 @@ fn push_method_names(
     Ok(())
 }
 
-/// Puts the full names of the map fields' entry types behind the others.
+/// Appends the full names of the map fields' entry types.
 fn push_entry_names(
     alloc: Global,
     names: &mut Vec<String>,
@@ -147,7 +147,7 @@ fn push_entry_names(
     Ok(())
 }
 
-/// Puts the full names of the values of the enum at that place behind the others.
+/// Appends the full names of the values of the enum at that place.
 fn push_values_of(
     alloc: Global,
     names: &mut Vec<String>,
@@ -165,7 +165,7 @@ fn push_values_of(
     }
 }
 
-/// Puts the full names of the values of the enums at these places behind the others.
+/// Appends the full names of the values of the enums at these places.
 fn push_values_at(
     alloc: Global,
     names: &mut Vec<String>,
@@ -183,7 +183,7 @@ fn push_values_at(
     Ok(())
 }
 
-/// Puts the full names that a message type declares behind the others.
+/// Appends the full names that a message type declares.
 fn push_type_names(
     alloc: Global,
     names: &mut Vec<String>,
@@ -202,7 +202,7 @@ fn push_type_names(
     push_values_at(alloc, names, scope, enums, &message_type.nested_enums)
 }
 
-/// Puts the full names that a service declares behind the others.
+/// Appends the full names that a service declares.
 fn push_service_names(
     alloc: Global,
     names: &mut Vec<String>,
@@ -215,7 +215,7 @@ fn push_service_names(
     push_method_names(alloc, names, &service.name, &service.methods)
 }
 
-/// Puts the full names that the message types declare behind the others.
+/// Appends the full names that the message types declare.
 fn push_all_type_names(
     alloc: Global,
     names: &mut Vec<String>,
@@ -232,7 +232,7 @@ fn push_all_type_names(
     Ok(())
 }
 
-/// Puts the full names of the enums behind the others.
+/// Appends the full names of the enums.
 fn push_enum_names(names: &mut Vec<String>, enums: &[EnumType]) -> Result<(), AllocError>
     ensures { OnOk result (map string_bytes names.new.items
         ≡ map string_bytes names.old.items
@@ -244,7 +244,7 @@ fn push_enum_names(names: &mut Vec<String>, enums: &[EnumType]) -> Result<(), Al
     Ok(())
 }
 
-/// Puts the full names that the services declare behind the others.
+/// Appends the full names that the services declare.
 fn push_all_service_names(
     alloc: Global,
     names: &mut Vec<String>,
@@ -259,7 +259,7 @@ fn push_all_service_names(
     Ok(())
 }
 
-/// Puts the full names of the values of the files' own enums behind the others.
+/// Appends the full names of the values of the files' own enums.
 fn push_file_names(
     alloc: Global,
     names: &mut Vec<String>,

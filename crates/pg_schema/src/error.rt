@@ -1,4 +1,4 @@
-//! Why parts make no schema.
+//! Why parts are no valid schema.
 
 ghost use Rattle.std.specs.Prelude.{Some};
 ghost use Rattle.pg_schema.specs.Told.{told};
@@ -6,7 +6,7 @@ ghost use Rattle.pg_schema.specs.Told.{told};
 use std::error::Error;
 use std::fmt;
 
-/// Why parts make no schema.
+/// Why parts are no valid schema.
 #[derive(Clone, Copy, Debug, PartialEq, Eq)]
 pub enum PartsError {
     /// Memory was refused (E001).
@@ -20,8 +20,8 @@ impl fmt::Display for PartsError {
 
     fn fmt<W: fmt::Write>(&self, f: &mut fmt::Formatter<W>) -> fmt::Result {
         match self {
-            PartsError::Memory => write!(f, "out of memory"),
-            PartsError::Invariant => write!(f, "the parts make no schema"),
+            PartsError::Memory => write!(f, "Out of memory."),
+            PartsError::Invariant => write!(f, "The parts are not a valid schema."),
         }
     }
 }

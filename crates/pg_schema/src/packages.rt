@@ -20,7 +20,7 @@ fn ends_part(set: &BTreeSet<String>, front: &str, byte: u8) -> bool
     byte == b'.' && set.contains(front)
 }
 
-/// Puts the character behind the text.
+/// Appends the character to the text.
 fn push_byte(text: &mut String, byte: u8) -> Result<(), AllocError>
     requires { byte < 128 }
     ensures { OnOk result (string_bytes text.new ≡ string_bytes text.old ++ byte ∷ []) }

@@ -141,7 +141,7 @@ pub(crate) fn are_file_scopes(
     true
 }
 
-/// Puts the places of these message types behind the others.
+/// Appends the places of these message types.
 fn push_type_places(places: &mut Vec<u32>, ids: &[TypeId]) -> Result<(), AllocError>
     ensures { OnOk result (places.new.items ≡ places.old.items ++ type_places ids.now) }
 {
@@ -151,7 +151,7 @@ fn push_type_places(places: &mut Vec<u32>, ids: &[TypeId]) -> Result<(), AllocEr
     Ok(())
 }
 
-/// Puts the places of these enums behind the others.
+/// Appends the places of these enums.
 fn push_enum_places(places: &mut Vec<u32>, ids: &[EnumId]) -> Result<(), AllocError>
     ensures { OnOk result (places.new.items ≡ places.old.items ++ enum_places ids.now) }
 {
@@ -161,7 +161,7 @@ fn push_enum_places(places: &mut Vec<u32>, ids: &[EnumId]) -> Result<(), AllocEr
     Ok(())
 }
 
-/// Puts the places of these services behind the others.
+/// Appends the places of these services.
 fn push_service_places(places: &mut Vec<u32>, ids: &[ServiceId]) -> Result<(), AllocError>
     ensures { OnOk result (places.new.items ≡ places.old.items ++ service_places ids.now) }
 {
