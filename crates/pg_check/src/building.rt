@@ -85,7 +85,7 @@ fn schema_of(alloc: Global, files: &[Source<'_>]) -> Result<Schema, CheckError>
 /// specification, "Proto file"): file after file, message types and services in order of
 /// declaration, enums scope by scope, those of the package before those of each message type.
 ///
-/// Refused are want of memory (`Memory`) and the first rule that is broken, by its error at its
+/// It reports `Memory` where memory runs out, and the first rule that is broken by its error at its
 /// place: of the files, each behind those that it imports, the first that breaks one; in it by
 /// order of declaration, and of one declaration the lowest code. Files that break no rule are a
 /// schema: `BadParts` never comes.

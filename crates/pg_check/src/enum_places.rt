@@ -13,7 +13,7 @@ use pg_link::{Linked, SourceFile};
 use std::alloc::{AllocError, Global};
 use std::collections::BTreeMap;
 
-/// Puts the full names of enums behind the others.
+/// Appends the full names of enums.
 fn push_names(names: &mut Vec<String>, found: &[FoundEnum<'_>]) -> Result<(), AllocError>
     ensures { OnOk result (map string_bytes names.new.items
         ≡ map string_bytes names.old.items ++ map spec.enum_full (map enumeration found.now)) }

@@ -56,7 +56,7 @@ pub enum CheckError {
     #[error("Enums must contain at least one value.")]
     EnumEmpty(Place),
     /// E415: the parts break a rule of schemas that none of the others names.
-    #[error("The parts make no schema.")]
+    #[error("The parts are not a valid schema.")]
     BadParts(Place),
     /// E001: a growth was refused. It may come in place of any other.
     #[error("Out of memory.")]

@@ -3,7 +3,7 @@
 ghost use Rattle.std.specs.Prelude.{◌≡◌};
 ghost use Rattle.pg_check.specs.Faults as spec;
 
-/// A rule of the proto3 language, in the order in which the rules of one declaration are told.
+/// A rule of the proto3 language, in the order in which the rules of one declaration are reported.
 #[derive(Clone, Copy, Debug, PartialEq, Eq)]
 pub(crate) enum Rule {
     /// E401: a number is one that a field, a value or a reserved item may have.
@@ -66,7 +66,7 @@ pub(crate) struct Fault {
     pub rule: Rule,
     /// Where the declaration stands: its name, or the first token of an option or reserved item.
     pub declared: usize,
-    /// Where the fault is told: there, or at an option of the declaration.
+    /// Where the fault is reported: there, or at an option of the declaration.
     pub at: usize,
 }
 

@@ -95,7 +95,7 @@ fn services_fault(alloc: Global, statements: &[Statement]) -> Result<Option<Faul
     Ok(None)
 }
 
-/// Puts the option statements of a file behind the others.
+/// Appends the option statements of a file.
 fn push_lines<'a>(
     lines: &mut Vec<Stated<'a>>,
     statements: &'a [Statement],

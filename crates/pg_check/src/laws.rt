@@ -25,8 +25,8 @@ pub fn worked_rules()
     ensures { WorkedRules }
 {}
 
-/// No rule is told of files exactly where they keep to the rules, fact by fact: then each message
-/// type, enum, service and option of them does, and there are at most 4,096 message types.
+/// No rule is reported of files exactly where they keep to the rules, fact by fact: then each
+/// message type, enum, service and option of them does, and there are at most 4,096 message types.
 pub fn keeping_rules()
     ensures { (files : List Source) → (first_broken files ≡ None) ↔ KeepsRules files }
 {}
@@ -41,7 +41,7 @@ pub fn reported_rules()
 
 /// An error of parts that come from no text names the first rule that they break, at no place: of
 /// the message types, the enums and the files the first that breaks one, and of it the lowest code.
-/// Where no rule is told of them, they break none.
+/// Where no rule is reported of them, they break none.
 pub fn reported_part_rules()
     ensures first { (parts : Parts) (e : CheckError) → IsFirstOf parts e
         → IsFirstBrokenPart parts e }

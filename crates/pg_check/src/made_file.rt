@@ -10,7 +10,7 @@ use pg_schema::{FileOption, Import, OptimizeMode, OptionValue};
 use pg_syntax::tree::{Dotted, FileTree, Setting, Statement, Value};
 use std::alloc::{AllocError, Global};
 
-/// Puts the imports of statements behind the others.
+/// Appends the imports of statements.
 fn push_imports(
     alloc: Global,
     imports: &mut Vec<Import>,
@@ -69,7 +69,7 @@ fn made_value(alloc: Global, kind: Kind, value: &Value) -> Result<Option<OptionV
     }
 }
 
-/// Puts the option that is stated behind the others.
+/// Appends the option that is stated.
 fn push_option(
     alloc: Global,
     options: &mut Vec<FileOption>,
@@ -91,7 +91,7 @@ fn push_option(
     Ok(())
 }
 
-/// Puts the options of statements behind the others.
+/// Appends the options of statements.
 fn push_options(
     alloc: Global,
     options: &mut Vec<FileOption>,

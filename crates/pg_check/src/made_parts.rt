@@ -201,7 +201,7 @@ fn made_by(
     })
 }
 
-/// Puts what one file declares behind the others.
+/// Appends what one file declares.
 fn push_made(parts: &mut Parts, made: Made) -> Result<(), AllocError>
     ensures types { OnOk result (parts.new.types.items
         ≡ parts.old.types.items ++ made.types.items) }
@@ -224,7 +224,7 @@ fn push_made(parts: &mut Parts, made: Made) -> Result<(), AllocError>
     Ok(())
 }
 
-/// Puts what a file declares behind the others.
+/// Appends what a file declares.
 fn push_file(alloc: Global, parts: &mut Parts, file: &Source<'_>) -> Result<(), AllocError>
     ensures { OnOk result ((d : spec.Declared) → spec.States d parts.old
         → spec.States (spec.with_file d (source file.now)) parts.new) }

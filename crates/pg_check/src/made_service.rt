@@ -116,7 +116,7 @@ fn made_service(
     })
 }
 
-/// Puts the services of statements behind the others.
+/// Appends the services of statements.
 pub(crate) fn push_services(
     alloc: Global,
     targets: &Targets<'_>,

@@ -50,7 +50,7 @@ impl<'a> Member<'a> {
     }
 }
 
-/// Puts the members of a oneof behind the others.
+/// Appends the members of a oneof.
 fn push_oneof<'a>(
     members: &mut Vec<Member<'a>>,
     place: usize,

@@ -197,7 +197,7 @@ pub(crate) fn option_at(owner: Owner, at: usize, setting: &Setting) -> Stated<'_
     }
 }
 
-/// Puts options in brackets behind the others.
+/// Appends options in brackets.
 fn push_settings<'a>(
     list: &mut Vec<Stated<'a>>,
     owner: Owner,

@@ -35,7 +35,7 @@ pub(crate) fn full_name(alloc: Global, scope: &str, name: &Name) -> Result<Strin
     Ok(full)
 }
 
-/// Puts the messages of a part behind the others.
+/// Appends the messages of a part.
 #[cycle(messages)]
 fn push_part<'a>(
     alloc: Global,
@@ -61,7 +61,7 @@ fn push_part<'a>(
     }
 }
 
-/// Puts the messages of a body behind the others.
+/// Appends the messages of a body.
 #[cycle(messages)]
 fn push_parts<'a>(
     alloc: Global,
@@ -78,7 +78,7 @@ fn push_parts<'a>(
     Ok(())
 }
 
-/// Puts a message and those in it behind the others.
+/// Appends a message and those in it.
 #[cycle(messages)]
 fn push_message<'a>(
     alloc: Global,
@@ -99,7 +99,7 @@ fn push_message<'a>(
     push_parts(alloc, found, &inner, &message.parts)
 }
 
-/// Puts an enum behind the others.
+/// Appends an enum.
 fn push_enum<'a>(
     alloc: Global,
     found: &mut Vec<FoundEnum<'a>>,
@@ -115,7 +115,7 @@ fn push_enum<'a>(
     Ok(())
 }
 
-/// Puts the enums of a part behind the others.
+/// Appends the enums of a part.
 #[cycle(enums)]
 fn push_enums_in<'a>(
     alloc: Global,
@@ -141,7 +141,7 @@ fn push_enums_in<'a>(
     }
 }
 
-/// Puts the enums of a body behind the others.
+/// Appends the enums of a body.
 #[cycle(enums)]
 fn push_body_enums<'a>(
     alloc: Global,
@@ -158,7 +158,7 @@ fn push_body_enums<'a>(
     Ok(())
 }
 
-/// Puts the enums of a message behind the others.
+/// Appends the enums of a message.
 #[cycle(enums)]
 fn push_enums_of<'a>(
     alloc: Global,
@@ -195,7 +195,7 @@ pub(crate) fn package_of(alloc: Global, file: &FileTree) -> Result<String, Alloc
     }
 }
 
-/// Puts the message types of statements behind the others.
+/// Appends the message types of statements.
 fn push_messages<'a>(
     alloc: Global,
     found: &mut Vec<FoundMessage<'a>>,
@@ -213,7 +213,7 @@ fn push_messages<'a>(
     Ok(())
 }
 
-/// Puts the enums of statements behind the others.
+/// Appends the enums of statements.
 fn push_enums<'a>(
     alloc: Global,
     found: &mut Vec<FoundEnum<'a>>,
@@ -236,7 +236,7 @@ fn push_enums<'a>(
     Ok(())
 }
 
-/// Puts the enums that a body itself declares behind the others.
+/// Appends the enums that a body itself declares.
 fn push_own_enums<'a>(
     alloc: Global,
     found: &mut Vec<FoundEnum<'a>>,
@@ -254,7 +254,7 @@ fn push_own_enums<'a>(
     Ok(())
 }
 
-/// Puts the enums that each of these message types itself declares behind the others.
+/// Appends the enums that each of these message types itself declares.
 fn push_inner_enums<'a>(
     alloc: Global,
     found: &mut Vec<FoundEnum<'a>>,
@@ -271,7 +271,7 @@ fn push_inner_enums<'a>(
     Ok(())
 }
 
-/// Puts the enums that are statements themselves behind the others.
+/// Appends the enums that are statements themselves.
 fn push_outer_enums<'a>(
     alloc: Global,
     found: &mut Vec<FoundEnum<'a>>,

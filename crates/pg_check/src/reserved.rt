@@ -26,7 +26,7 @@ fn numbers_of(highest: u128, range: &Range) -> Numbers
     }
 }
 
-/// Puts the numbers that the items reserve behind the others.
+/// Appends the numbers that the items reserve.
 fn push_ranges(
     numbers: &mut Vec<Numbers>,
     highest: u128,
@@ -41,7 +41,7 @@ fn push_ranges(
     Ok(())
 }
 
-/// Puts the numbers that a list reserves behind the others.
+/// Appends the numbers that a list reserves.
 pub(crate) fn push_numbers(
     numbers: &mut Vec<Numbers>,
     highest: u128,
@@ -59,7 +59,7 @@ pub(crate) fn push_numbers(
     }
 }
 
-/// Puts the texts behind the others.
+/// Appends the texts.
 fn push_texts(alloc: Global, names: &mut Vec<String>, texts: &[Text]) -> Result<(), AllocError>
     ensures { OnOk result (map string_bytes names.new.items ≡ map string_bytes names.old.items
         ++ map spec.text_of texts.now) }
@@ -70,7 +70,7 @@ fn push_texts(alloc: Global, names: &mut Vec<String>, texts: &[Text]) -> Result<
     Ok(())
 }
 
-/// Puts the names that a list reserves behind the others.
+/// Appends the names that a list reserves.
 pub(crate) fn push_names(
     alloc: Global,
     names: &mut Vec<String>,
