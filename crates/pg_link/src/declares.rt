@@ -32,7 +32,7 @@ fn within(alloc: Global, scope: &str, word: &str) -> Result<String, AllocError>
     Ok(name)
 }
 
-/// Puts a name behind the others.
+/// Appends a name.
 fn declare(
     alloc: Global,
     names: &mut Vec<DeclaredName>,
@@ -50,7 +50,7 @@ fn declare(
     Ok(())
 }
 
-/// Puts the names that an enum's part declares behind the others.
+/// Appends the names that an enum's part declares.
 fn add_enum_part(
     alloc: Global,
     names: &mut Vec<DeclaredName>,
@@ -69,7 +69,7 @@ fn add_enum_part(
     }
 }
 
-/// Puts the names that the parts of an enum declare behind the others.
+/// Appends the names that the parts of an enum declare.
 fn add_enum_parts(
     alloc: Global,
     names: &mut Vec<DeclaredName>,
@@ -86,7 +86,7 @@ fn add_enum_parts(
     Ok(())
 }
 
-/// Puts the names that an enum declares behind the others. Its values stand beside it.
+/// Appends the names that an enum declares. Its values stand beside it.
 fn add_enum(
     alloc: Global,
     names: &mut Vec<DeclaredName>,
@@ -101,7 +101,7 @@ fn add_enum(
     add_enum_parts(alloc, names, scope, &enumeration.parts)
 }
 
-/// Puts a letter of the name of a map's entries behind the text: `_` is dropped, and a letter that
+/// Appends a letter of the name of a map's entries to the text: `_` is dropped, and a letter that
 /// begins a part is upper case.
 fn push_entry_letter(text: &mut String, begins: bool, letter: char) -> Result<(), AllocError>
     ensures { OnOk result (string_bytes text.new
@@ -131,7 +131,7 @@ fn entry_name(alloc: Global, field: &str) -> Result<String, AllocError>
     Ok(name)
 }
 
-/// Puts a map field and the type of its entries behind the others.
+/// Appends a map field and the type of its entries.
 fn add_map(
     alloc: Global,
     names: &mut Vec<DeclaredName>,
@@ -154,7 +154,7 @@ fn add_map(
     Ok(())
 }
 
-/// Puts the names that a part of a oneof declares behind the others.
+/// Appends the names that a part of a oneof declares.
 fn add_oneof_part(
     alloc: Global,
     names: &mut Vec<DeclaredName>,
@@ -173,7 +173,7 @@ fn add_oneof_part(
     }
 }
 
-/// Puts the names that the parts of a oneof declare behind the others.
+/// Appends the names that the parts of a oneof declare.
 fn add_oneof_parts(
     alloc: Global,
     names: &mut Vec<DeclaredName>,
@@ -190,7 +190,7 @@ fn add_oneof_parts(
     Ok(())
 }
 
-/// Puts the names that a oneof declares behind the others. Its members stand beside it.
+/// Appends the names that a oneof declares. Its members stand beside it.
 fn add_oneof(
     alloc: Global,
     names: &mut Vec<DeclaredName>,
@@ -205,7 +205,7 @@ fn add_oneof(
     add_oneof_parts(alloc, names, scope, &oneof.parts)
 }
 
-/// Puts the names that a part of a service declares behind the others.
+/// Appends the names that a part of a service declares.
 fn add_service_part(
     alloc: Global,
     names: &mut Vec<DeclaredName>,
@@ -223,7 +223,7 @@ fn add_service_part(
     }
 }
 
-/// Puts the names that the parts of a service declare behind the others.
+/// Appends the names that the parts of a service declare.
 fn add_service_parts(
     alloc: Global,
     names: &mut Vec<DeclaredName>,
@@ -240,7 +240,7 @@ fn add_service_parts(
     Ok(())
 }
 
-/// Puts the names that a service declares behind the others. Its methods stand in it.
+/// Appends the names that a service declares. Its methods stand in it.
 fn add_service(
     alloc: Global,
     names: &mut Vec<DeclaredName>,
@@ -256,7 +256,7 @@ fn add_service(
     add_service_parts(alloc, names, inner.as_str(), &service.parts)
 }
 
-/// Puts the names that a part of a message declares behind the others.
+/// Appends the names that a part of a message declares.
 #[cycle(messages)]
 fn add_part(
     alloc: Global,
@@ -283,7 +283,7 @@ fn add_part(
     }
 }
 
-/// Puts the names that the parts of a message declare behind the others.
+/// Appends the names that the parts of a message declare.
 #[cycle(messages)]
 fn add_parts(
     alloc: Global,
@@ -301,7 +301,7 @@ fn add_parts(
     Ok(())
 }
 
-/// Puts the names that a message declares behind the others. Its parts stand in it.
+/// Appends the names that a message declares. Its parts stand in it.
 #[cycle(messages)]
 fn add_message(
     alloc: Global,
@@ -318,7 +318,7 @@ fn add_message(
     add_parts(alloc, names, inner.as_str(), &message.parts)
 }
 
-/// Puts the names that a statement declares behind the others.
+/// Appends the names that a statement declares.
 fn add_statement(
     alloc: Global,
     names: &mut Vec<DeclaredName>,
@@ -339,7 +339,7 @@ fn add_statement(
     }
 }
 
-/// Puts the names that statements declare behind the others.
+/// Appends the names that statements declare.
 fn add_statements(
     alloc: Global,
     names: &mut Vec<DeclaredName>,
@@ -356,7 +356,7 @@ fn add_statements(
     Ok(())
 }
 
-/// Puts the name of a part of a package behind the others, and goes into its scope.
+/// Appends the name of a part of a package, and goes into its scope.
 fn add_package_part(
     alloc: Global,
     names: &mut Vec<DeclaredName>,
@@ -386,7 +386,7 @@ fn package_scope(alloc: Global, dotted: &Dotted) -> Result<String, AllocError>
     Ok(scope)
 }
 
-/// Puts the names of the parts of a package behind the others.
+/// Appends the names of the parts of a package.
 fn add_package(
     alloc: Global,
     names: &mut Vec<DeclaredName>,

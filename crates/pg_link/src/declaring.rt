@@ -106,7 +106,7 @@ impl Index {
         }
     }
 
-    /// Puts a name that a file declares behind the others. False where the name stands twice.
+    /// Appends a name that a file declares. False where the name stands twice.
     pub(crate) fn add(
         &mut self,
         alloc: Global,
@@ -129,7 +129,7 @@ impl Index {
 }
 
 impl Index {
-    /// Puts the names that a file declares behind the others. `number` is the file's.
+    /// Appends the names that a file declares. `number` is the file's.
     fn add_file(
         &mut self,
         alloc: Global,

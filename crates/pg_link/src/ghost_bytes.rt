@@ -25,7 +25,7 @@ impl GhostBytes {
         }
     }
 
-    /// Puts the bytes at the end of the list.
+    /// Appends the bytes to the list.
     pub fn note(&mut self, _bytes: &[u8])
         ensures { self.new.bytes ≡ self.old.bytes ++ _bytes.now }
     {}

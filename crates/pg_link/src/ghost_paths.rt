@@ -25,7 +25,7 @@ impl GhostPaths {
         }
     }
 
-    /// Puts the path at the end of the list.
+    /// Appends the path to the list.
     pub fn note(&mut self, _path: &[u8])
         ensures { self.new.paths ≡ self.old.paths ++ _path.now ∷ [] }
     {}

@@ -14,7 +14,7 @@ pub(crate) struct ImportLine {
     pub at: usize,
 }
 
-/// Puts a statement behind the lines, where it is an import.
+/// Appends a statement to the lines, where it is an import.
 fn add_import(
     alloc: Global,
     lines: &mut Vec<ImportLine>,
@@ -42,7 +42,7 @@ fn add_import(
     }
 }
 
-/// Puts the imports among the statements behind the lines.
+/// Appends the imports among the statements to the lines.
 fn add_imports(
     alloc: Global,
     lines: &mut Vec<ImportLine>,

@@ -68,7 +68,7 @@ fn ends_at(kind: Kind, parts: &[Name]) -> bool
     }
 }
 
-/// Puts a dot and the word behind the text.
+/// Appends a dot and the word to the text.
 pub(crate) fn push_word(text: &mut String, word: &str) -> Result<(), AllocError>
     ensures { OnOk result (string_bytes text.new
         ≡ string_bytes text.old ++ names.called (word.now ∷ [])) }
@@ -100,7 +100,7 @@ fn pop_word(text: &mut String, word: &str)
     text.truncate(text.len() - word.len() - 1);
 }
 
-/// Puts a name behind the text, as it would be written behind a dot.
+/// Appends a name to the text, as it would be written behind a dot.
 fn push_name(text: &mut String, name: &TypeName) -> Result<(), AllocError>
     ensures { OnOk result (string_bytes text.new
         ≡ string_bytes text.old ++ resolves.written (resolves.reference name.now)) }

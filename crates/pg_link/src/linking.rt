@@ -26,7 +26,7 @@ use std::alloc::Global;
 /// - Of a text, while imports are followed: `LinkError::Lex` (E101 to E108), `LinkError::Syntax`
 ///   (E201 to E207).
 /// - Of an import or a root, meanwhile: `LinkError::MissingFile` (E301), `LinkError::ImportCycle`
-///   (E302), /   `LinkError::DuplicateImport` (E303), `LinkError::TooManyFiles` (E308).
+///   (E302), `LinkError::DuplicateImport` (E303), `LinkError::TooManyFiles` (E308).
 /// - `LinkError::SourceFailed` (E309), only where the source failed in this call.
 /// - `LinkError::DuplicateName` (E304): a name stands twice.
 /// - Of a use: `LinkError::UnknownName` (E305), `LinkError::NotAType` (E306),
@@ -41,7 +41,7 @@ pub fn link<S: Sources>(alloc: Global, source: &mut S, roots: &[&str]) -> Result
     // No name stands twice, and each use resolves to its target.
     ensures settled { IfOk result IsLinkedUp }
     // Each refusal comes only where what it names is there, at its place: of names that stand twice
-    // the first is told, and where none does the first use that resolves to nothing.
+    // the first is reported, and where none does the first use that resolves to nothing.
     ensures refused { IfErr result (LinkRefuses
         (spec.world (S.may_give source.old) (S.may_lack source.old) (codes ".")
         (texts roots.now))) }
@@ -50,7 +50,7 @@ pub fn link<S: Sources>(alloc: Global, source: &mut S, roots: &[&str]) -> Result
     ensures reads_apart { ReadsApart (S.reads source.old) (S.reads source.new) }
     ensures reads_each { IfOk result
         (λ linked. ReadsEach (codes ".") (S.reads source.old) (S.reads source.new) linked.files) }
-    // A failure of the source is told as one, and nothing else is.
+    // A failure of the source is reported as one, and nothing else is.
     ensures counted { S.failures source.new ≡ S.failures source.old + spec.failures_of result }
     ensures same_given { S.may_give source.new ≡ S.may_give source.old }
     ensures same_lacked { S.may_lack source.new ≡ S.may_lack source.old }
@@ -79,7 +79,7 @@ pub fn link_below<S: Sources>(
     // No name stands twice, and each use resolves to its target.
     ensures settled { IfOk result IsLinkedUp }
     // Each refusal comes only where what it names is there, at its place: of names that stand twice
-    // the first is told, and where none does the first use that resolves to nothing.
+    // the first is reported, and where none does the first use that resolves to nothing.
     ensures refused { IfErr result (LinkRefuses
         (spec.world (S.may_give source.old) (S.may_lack source.old) folder.now (texts roots.now))) }
     // Whatever is answered, the source was asked for no path twice; and where files are linked, for
@@ -87,7 +87,7 @@ pub fn link_below<S: Sources>(
     ensures reads_apart { ReadsApart (S.reads source.old) (S.reads source.new) }
     ensures reads_each { IfOk result
         (λ linked. ReadsEach folder.now (S.reads source.old) (S.reads source.new) linked.files) }
-    // A failure of the source is told as one, and nothing else is.
+    // A failure of the source is reported as one, and nothing else is.
     ensures counted { S.failures source.new ≡ S.failures source.old + spec.failures_of result }
     ensures same_given { S.may_give source.new ≡ S.may_give source.old }
     ensures same_lacked { S.may_lack source.new ≡ S.may_lack source.old }

@@ -121,8 +121,8 @@ pub(crate) fn text_of<S: Sources>(
     ensures same_given { S.may_give source.new ≡ S.may_give source.old }
     ensures same_lacked { S.may_lack source.new ≡ S.may_lack source.old }
 {
-    // Made before the read, so that a failure of the source is told even where no more memory is
-    // there.
+    // Made before the read, so that a failure of the source is reported even where no memory is
+    // left.
     let file = String::from_str(alloc, path)?;
     match read_below(alloc, source, folder, path) {
         Ok(bytes) => Ok(bytes),

@@ -58,7 +58,7 @@ pub(crate) fn is_scalar(name: &TypeName) -> bool
     is_scalar_word(name.path.first.text.as_str())
 }
 
-/// Puts a use behind the others.
+/// Appends a use.
 fn add_use<'a>(
     alloc: Global,
     uses: &mut Vec<Site<'a>>,
@@ -78,7 +78,7 @@ fn add_use<'a>(
     Ok(())
 }
 
-/// Puts the type of a field behind the others, where it is a name.
+/// Appends the type of a field, where it is a name.
 fn add_field<'a>(
     alloc: Global,
     uses: &mut Vec<Site<'a>>,
@@ -94,7 +94,7 @@ fn add_field<'a>(
     add_use(alloc, uses, scope, name, true)
 }
 
-/// Puts the key and the value of a map behind the others, where they are names.
+/// Appends the key and the value of a map, where they are names.
 fn add_map<'a>(
     alloc: Global,
     uses: &mut Vec<Site<'a>>,
@@ -108,7 +108,7 @@ fn add_map<'a>(
     add_field(alloc, uses, scope, &field.value)
 }
 
-/// Puts the uses of a part of a oneof behind the others.
+/// Appends the uses of a part of a oneof.
 fn add_oneof_part<'a>(
     alloc: Global,
     uses: &mut Vec<Site<'a>>,
@@ -126,7 +126,7 @@ fn add_oneof_part<'a>(
     }
 }
 
-/// Puts the uses of a oneof behind the others. Its members are used in the scope of the message.
+/// Appends the uses of a oneof. Its members are used in the scope of the message.
 fn add_oneof<'a>(
     alloc: Global,
     uses: &mut Vec<Site<'a>>,
@@ -142,7 +142,7 @@ fn add_oneof<'a>(
     Ok(())
 }
 
-/// Puts what an rpc takes and returns behind the others.
+/// Appends what an rpc takes and returns.
 fn add_rpc<'a>(
     alloc: Global,
     uses: &mut Vec<Site<'a>>,
@@ -156,7 +156,7 @@ fn add_rpc<'a>(
     add_use(alloc, uses, scope, &rpc.output.type_name, false)
 }
 
-/// Puts the uses of a part of a service behind the others.
+/// Appends the uses of a part of a service.
 fn add_service_part<'a>(
     alloc: Global,
     uses: &mut Vec<Site<'a>>,
@@ -187,7 +187,7 @@ fn inner<'a>(
     Ok(Rc::new(alloc, words)?)
 }
 
-/// Puts the uses of the parts of a service behind the others.
+/// Appends the uses of the parts of a service.
 fn add_service_parts<'a>(
     alloc: Global,
     uses: &mut Vec<Site<'a>>,
@@ -203,7 +203,7 @@ fn add_service_parts<'a>(
     Ok(())
 }
 
-/// Puts the uses of a service behind the others.
+/// Appends the uses of a service.
 fn add_service<'a>(
     alloc: Global,
     uses: &mut Vec<Site<'a>>,
@@ -217,7 +217,7 @@ fn add_service<'a>(
     add_service_parts(alloc, uses, &words, &service.parts)
 }
 
-/// Puts the uses of a part of a message behind the others.
+/// Appends the uses of a part of a message.
 #[cycle(uses)]
 fn add_part<'a>(
     alloc: Global,
@@ -243,7 +243,7 @@ fn add_part<'a>(
     }
 }
 
-/// Puts the uses of the parts of a message behind the others.
+/// Appends the uses of the parts of a message.
 #[cycle(uses)]
 fn add_parts<'a>(
     alloc: Global,
@@ -260,7 +260,7 @@ fn add_parts<'a>(
     Ok(())
 }
 
-/// Puts the uses of a message behind the others.
+/// Appends the uses of a message.
 #[cycle(uses)]
 fn add_message<'a>(
     alloc: Global,
@@ -275,7 +275,7 @@ fn add_message<'a>(
     add_parts(alloc, uses, &words, &message.parts)
 }
 
-/// Puts the uses of a statement behind the others.
+/// Appends the uses of a statement.
 fn add_statement<'a>(
     alloc: Global,
     uses: &mut Vec<Site<'a>>,
@@ -295,7 +295,7 @@ fn add_statement<'a>(
     }
 }
 
-/// Puts the uses of statements behind the others.
+/// Appends the uses of statements.
 fn add_statements<'a>(
     alloc: Global,
     uses: &mut Vec<Site<'a>>,

@@ -193,7 +193,7 @@ pub(crate) fn follow_imports<S: Sources>(
     ensures reads_each { IfOk result
         (λ walk. ReadsEach folder.now (S.reads source.old) (S.reads source.new)
         (spec.entries walk)) }
-    // A failure of the source is told as one, and nothing else is.
+    // A failure of the source is reported as one, and nothing else is.
     ensures counted { S.failures source.new ≡ S.failures source.old + spec.failures_of result }
     ensures same_given { S.may_give source.new ≡ S.may_give source.old }
     ensures same_lacked { S.may_lack source.new ≡ S.may_lack source.old }
