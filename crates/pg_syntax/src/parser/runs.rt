@@ -7,7 +7,7 @@ use crate::tree::{EmptyStatements, EnumPart, OneofPart, Part, RpcPart, ServicePa
 use std::alloc::AllocError;
 
 impl EmptyStatements {
-    /// Puts others behind these.
+    /// Appends others.
     fn join(&mut self, others: EmptyStatements) -> Result<(), AllocError>
         ensures { OnOk result (view.nodes (view.empties self.new)
             ≡ view.nodes (view.empties self.old) ++ view.nodes (view.empties others)) }
@@ -19,7 +19,7 @@ impl EmptyStatements {
     }
 }
 
-/// Puts a part of a message behind the others.
+/// Appends a part of a message.
 pub fn add_part(parts: &mut Vec<Part>, part: Part) -> Result<(), AllocError>
     ensures { OnOk result (view.all_nodes view.part parts.new.items
         ≡ view.all_nodes view.part parts.old.items ++ view.nodes (view.part part)) }
@@ -40,7 +40,7 @@ pub fn add_part(parts: &mut Vec<Part>, part: Part) -> Result<(), AllocError>
     }
 }
 
-/// Puts a part of a oneof behind the others.
+/// Appends a part of a oneof.
 pub fn add_oneof_part(parts: &mut Vec<OneofPart>, part: OneofPart) -> Result<(), AllocError>
     ensures { OnOk result (view.all_nodes view.oneof_part parts.new.items
         ≡ view.all_nodes view.oneof_part parts.old.items ++ view.nodes (view.oneof_part part)) }
@@ -61,7 +61,7 @@ pub fn add_oneof_part(parts: &mut Vec<OneofPart>, part: OneofPart) -> Result<(),
     }
 }
 
-/// Puts a part of an enum behind the others.
+/// Appends a part of an enum.
 pub fn add_enum_part(parts: &mut Vec<EnumPart>, part: EnumPart) -> Result<(), AllocError>
     ensures { OnOk result (view.all_nodes view.enum_part parts.new.items
         ≡ view.all_nodes view.enum_part parts.old.items ++ view.nodes (view.enum_part part)) }
@@ -82,7 +82,7 @@ pub fn add_enum_part(parts: &mut Vec<EnumPart>, part: EnumPart) -> Result<(), Al
     }
 }
 
-/// Puts a part of an rpc behind the others.
+/// Appends a part of an rpc.
 pub fn add_rpc_part(parts: &mut Vec<RpcPart>, part: RpcPart) -> Result<(), AllocError>
     ensures { OnOk result (view.all_nodes view.rpc_part parts.new.items
         ≡ view.all_nodes view.rpc_part parts.old.items ++ view.nodes (view.rpc_part part)) }
@@ -103,7 +103,7 @@ pub fn add_rpc_part(parts: &mut Vec<RpcPart>, part: RpcPart) -> Result<(), Alloc
     }
 }
 
-/// Puts a part of a service behind the others.
+/// Appends a part of a service.
 pub fn add_service_part(parts: &mut Vec<ServicePart>, part: ServicePart) -> Result<(), AllocError>
     ensures { OnOk result (view.all_nodes view.service_part parts.new.items
         ≡ view.all_nodes view.service_part parts.old.items ++ view.nodes (view.service_part part)) }
@@ -124,7 +124,7 @@ pub fn add_service_part(parts: &mut Vec<ServicePart>, part: ServicePart) -> Resu
     }
 }
 
-/// Puts a statement of a file behind the others.
+/// Appends a statement of a file.
 pub fn add_statement(
     statements: &mut Vec<Statement>,
     statement: Statement,
