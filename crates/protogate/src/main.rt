@@ -7,7 +7,7 @@ use std::io::ErrorKind;
 use std::process::ExitCode;
 use std::{env, io};
 
-/// The status of words that are no call.
+/// The status of a bad command line.
 const USAGE: u8 = 4;
 
 /// The status of memory or a device that fails.
