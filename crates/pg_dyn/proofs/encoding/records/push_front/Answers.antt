@@ -2,7 +2,7 @@ use Rattle.std.proofs.Common.{◌≡◌, ◌+◌, ◌*◌, ◌++◌, ap, ap₂, 
 use Rattle.pg_wire.specs.Varint.{varint}
 use Rattle.pg_wire.specs.Records.{tag, length_before}
 use Rattle.pg_dyn.proofs.TypeFields.{on_ok_map}
-use Rattle.pg_dyn.proofs.encoding.push_front.Goals as goal
+use Rattle.pg_dyn.proofs.encoding.records.push_front.Goals as goal
 
 pub returns : goal.returns
 unfolding tag

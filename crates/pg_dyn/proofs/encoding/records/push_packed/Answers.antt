@@ -6,7 +6,7 @@ use Rattle.pg_wire.specs.Records.{written}
 use Rattle.pg_dyn.specs.Lending.{Bare}
 use Rattle.pg_dyn.specs.Written.{capped, packed_body, packed_bytes, packed_lengths}
 use Rattle.pg_dyn.proofs.EncodeSteps.{first_is, later_is, longer, record_in_turn, record_size}
-use Rattle.pg_dyn.proofs.encoding.push_packed.Goals as goal
+use Rattle.pg_dyn.proofs.encoding.records.push_packed.Goals as goal
 
 packed_some : {V : Type 0} (item : V → Bare) (n : ℕ) (e : Element) (vs : List V) → nat_eq (length vs) 0 ≡ false → packed_bytes item n e vs ≡ (written n Len (packed_body item e vs)).bytes
 packed_some item n e [] h = absurd (cc)

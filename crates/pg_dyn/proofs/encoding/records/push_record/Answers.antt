@@ -5,7 +5,7 @@ use Rattle.pg_dyn.specs.Coding.{body, form_wire, scalar_form}
 use Rattle.pg_dyn.specs.Lending.{leaf_lent}
 use Rattle.pg_dyn.proofs.EncodeSteps.{record_is}
 use Rattle.pg_dyn.proofs.TypeFields.{on_ok_map}
-use Rattle.pg_dyn.proofs.encoding.push_record.Goals as goal
+use Rattle.pg_dyn.proofs.encoding.records.push_record.Goals as goal
 
 pub returns : goal.returns
 returns c =
