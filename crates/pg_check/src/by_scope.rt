@@ -1,7 +1,7 @@
 //! What stands in which scope.
 
 ghost use Rattle.std.specs.Prelude.{◌≡◌, ℕ, List, IfOk, map};
-ghost use Rattle.pg_check.specs.Groups as spec;
+ghost use Rattle.pg_check.specs.ByScope as spec;
 ghost use Rattle.pg_check.specs.Outline as outline;
 
 use crate::made_number::index_of;
@@ -11,7 +11,7 @@ use std::alloc::{AllocError, Global};
 use std::collections::BTreeMap;
 
 /// The places of what each scope declares.
-pub(crate) type Groups = BTreeMap<String, Vec<u32>>;
+pub(crate) type ByScope = BTreeMap<String, Vec<u32>>;
 
 /// The scopes of message types, with their places; so many stand before.
 pub(crate) fn placed_messages(
@@ -48,15 +48,15 @@ pub(crate) fn placed_enums(
 }
 
 /// The places by their scopes.
-pub(crate) fn grouped(alloc: Global, list: &[(String, u32)]) -> Result<Groups, AllocError>
-    ensures { IfOk result (λ groups. (scope : List ℕ)
-        → spec.group groups scope ≡ spec.places_in scope (map spec.placed list.now)) }
+pub(crate) fn grouped(alloc: Global, list: &[(String, u32)]) -> Result<ByScope, AllocError>
+    ensures { IfOk result (λ by_scope. (scope : List ℕ)
+        → spec.in_scope by_scope scope ≡ spec.places_in scope (map spec.placed list.now)) }
 {
-    let mut groups: Groups = BTreeMap::new(alloc);
+    let mut by_scope: ByScope = BTreeMap::new(alloc);
     for (scope, place) in list {
-        groups.entry(scope.clone()?)?.or_default().push(*place)?;
+        by_scope.entry(scope.clone()?)?.or_default().push(*place)?;
     }
-    Ok(groups)
+    Ok(by_scope)
 }
 
 /// The message types at these places.
@@ -84,12 +84,12 @@ fn enum_ids(alloc: Global, places: &[u32]) -> Result<Vec<EnumId>, AllocError>
 /// The message types that the scope declares.
 pub(crate) fn types_in(
     alloc: Global,
-    groups: &Groups,
+    by_scope: &ByScope,
     scope: &str,
 ) -> Result<Vec<TypeId>, AllocError>
-    ensures { IfOk result (λ ids. ids.items ≡ map spec.type_id (spec.group groups.now scope.now)) }
+    ensures { IfOk result (λ ids. ids.items ≡ map spec.type_id (spec.in_scope by_scope.now scope.now)) }
 {
-    match groups.get(scope) {
+    match by_scope.get(scope) {
         Some(places) => type_ids(alloc, places),
         None => Ok(Vec::new(alloc)),
     }
@@ -98,12 +98,12 @@ pub(crate) fn types_in(
 /// The enums that the scope declares.
 pub(crate) fn enums_in(
     alloc: Global,
-    groups: &Groups,
+    by_scope: &ByScope,
     scope: &str,
 ) -> Result<Vec<EnumId>, AllocError>
-    ensures { IfOk result (λ ids. ids.items ≡ map spec.enum_id (spec.group groups.now scope.now)) }
+    ensures { IfOk result (λ ids. ids.items ≡ map spec.enum_id (spec.in_scope by_scope.now scope.now)) }
 {
-    match groups.get(scope) {
+    match by_scope.get(scope) {
         Some(places) => enum_ids(alloc, places),
         None => Ok(Vec::new(alloc)),
     }

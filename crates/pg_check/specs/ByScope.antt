@@ -29,8 +29,8 @@ abbrev pub places_in : List ℕ → List Placed → List ℕ
 places_in scope list = map (λ (p : Placed). p.index) (filter (λ (p : Placed). bytes_eq scope p.scope) list)
 
 -- the places that are kept for the scope
-abbrev pub group : BTreeMap (String Global) (Vec ℕ Global) → List ℕ → List ℕ
-group groups scope = option_map_or (λ (g : Vec ℕ Global). g.items) (get_by_text groups scope) []
+abbrev pub in_scope : BTreeMap (String Global) (Vec ℕ Global) → List ℕ → List ℕ
+in_scope by_scope scope = option_map_or (λ (g : Vec ℕ Global). g.items) (get_by_text by_scope scope) []
 
 abbrev pub type_id : ℕ → TypeId
 type_id index = record { index = index }

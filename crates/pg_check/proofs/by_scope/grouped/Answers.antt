@@ -5,7 +5,7 @@ use Rattle.std.specs.declared.alloc.Global.{Global}
 use Rattle.std.proofs.lemmas.Grind.{text_groups}
 use Rattle.std.proofs.lemmas.List.{take_all}
 use Rattle.pg_check.proofs.Placing.{places_are}
-use Rattle.pg_check.proofs.group.grouped.Goals as goal
+use Rattle.pg_check.proofs.by_scope.grouped.Goals as goal
 
 pub returns : goal.returns
 returns c = λ scope.
