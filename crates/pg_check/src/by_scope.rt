@@ -87,7 +87,8 @@ pub(crate) fn types_in(
     by_scope: &ByScope,
     scope: &str,
 ) -> Result<Vec<TypeId>, AllocError>
-    ensures { IfOk result (λ ids. ids.items ≡ map spec.type_id (spec.in_scope by_scope.now scope.now)) }
+    ensures { IfOk result (λ ids. ids.items
+        ≡ map spec.type_id (spec.in_scope by_scope.now scope.now)) }
 {
     match by_scope.get(scope) {
         Some(places) => type_ids(alloc, places),
@@ -101,7 +102,8 @@ pub(crate) fn enums_in(
     by_scope: &ByScope,
     scope: &str,
 ) -> Result<Vec<EnumId>, AllocError>
-    ensures { IfOk result (λ ids. ids.items ≡ map spec.enum_id (spec.in_scope by_scope.now scope.now)) }
+    ensures { IfOk result (λ ids. ids.items
+        ≡ map spec.enum_id (spec.in_scope by_scope.now scope.now)) }
 {
     match by_scope.get(scope) {
         Some(places) => enum_ids(alloc, places),

@@ -146,7 +146,8 @@ fn made_file(
     services: Vec<ServiceId>,
 ) -> Result<File, AllocError>
     ensures { IfOk result (spec.IsFileOf
-        (spec.grouped_shape (in_scope types.now) (in_scope enums.now) services.items (source file.now))) }
+        (spec.grouped_shape (in_scope types.now) (in_scope enums.now) services.items
+        (source file.now))) }
 {
     let package = package_of(alloc, file.tree)?;
     let types = types_in(alloc, types, &package)?;

@@ -18,7 +18,7 @@ ghost use Rattle.pg_dyn.specs.Written.{Adds, BareFits, CanBePacked, MayNotAdd, M
 
 use self::records::{not_too_long, push_front, push_item, push_packed, push_unknown};
 use crate::accept::{element_wire_type, is_packed, map_key};
-use crate::counting::{MOST, body_len, cap, count_message, entry_len};
+use crate::counting::{MAX_ENCODING_LEN, body_len, count_message, entry_len, saturated_len};
 use crate::error::DynError;
 use crate::lending::Lends;
 use crate::message::Message;
@@ -45,8 +45,8 @@ fn counted_len<M: Lends>(
             [len, ..] => *len,
             [] => 0,
         },
-        Element::Scalar(scalar) => cap(body_len(scalar, M::leaf(value))),
-        Element::Enum(_) => cap(body_len(Scalar::Int32, M::leaf(value))),
+        Element::Scalar(scalar) => saturated_len(body_len(scalar, M::leaf(value))),
+        Element::Enum(_) => saturated_len(body_len(Scalar::Int32, M::leaf(value))),
     }
 }
 
@@ -300,7 +300,7 @@ fn encode_lent<M: Lends>(alloc: Global, schema: &Schema, message: &M) -> Result<
     schema.parts();
     let mut lengths = Vec::new(alloc);
     let len = count_message(message, schema, &mut lengths)?;
-    if len > MOST {
+    if len > MAX_ENCODING_LEN {
         return Err(DynError::TooLong);
     }
     // With room for the longest varint where the last byte stands, so that none makes it grow.

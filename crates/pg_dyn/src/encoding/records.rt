@@ -10,7 +10,7 @@ ghost use Rattle.pg_dyn.specs.Writing.{item_record};
 ghost use Rattle.pg_dyn.specs.Written.{Adds, LeafFits, LeavesFit, MayNotAdd, MayNotWrite, capped, packed_body, packed_bytes, packed_lengths};
 
 use crate::body::{push_body, push_varint, wire_type_of};
-use crate::counting::{MOST, body_len};
+use crate::counting::{MAX_ENCODING_LEN, body_len};
 use crate::error::DynError;
 use crate::lending::{LeafRef, Lends};
 use pg_schema::{Element, Scalar};
@@ -233,7 +233,7 @@ pub(crate) fn not_too_long(len: usize) -> Result<usize, DynError>
     ensures ok { IfOk result (λ told. (n : ℕ) → len ≡ capped n → told ≡ n) }
     ensures err { IfErr result (λ e. (n : ℕ) → len ≡ capped n → MayNotWrite n e) }
 {
-    if len > MOST {
+    if len > MAX_ENCODING_LEN {
         return Err(DynError::TooLong);
     }
     Ok(len)
