@@ -93,7 +93,8 @@ def open_lane(name, said):
         copy_crate(it, top, it != name)
     if os.path.isdir(f"{TOP}/crates/{name}/out"):
         shutil.copytree(f"{TOP}/crates/{name}/out", f"{top}/crates/{name}/out", symlinks=True)
-    shutil.copyfile(f"{TOP}/crates.txt", f"{top}/crates.txt")
+    with open(f"{TOP}/crates.txt", encoding="utf-8") as whole, open(f"{top}/crates.txt", "w", encoding="utf-8") as file:
+        file.writelines(it for it in whole if it.partition(":")[0].strip() in claims(name, said))
     return f"{top}/crates/{name}"
 
 
