@@ -1,8 +1,9 @@
 //! Least bounds over a graph that is known by its prices alone.
 
-ghost use Rattle.std.specs.Prelude.{◌≡◌, ◌+◌, ◌<◌, ◌^◌, List, length, map, filter, flat_map, is_some, true, Option, IfOk, OnOk};
+ghost use Rattle.std.specs.Prelude.{◌≡◌, ◌+◌, ◌++◌, ◌∷◌, [], ◌<◌, ◌^◌, List, length, map, filter, flat_map, is_some, true, Option, IfOk, OnOk};
 ghost use Rattle.std.specs.List.{AllByRecursion};
 ghost use Rattle.pg_pairs.specs.Covering.{distinct};
+ghost use Rattle.pg_pairs.specs.Works.{opened_more};
 ghost use Rattle.pg_cert.specs.Bounds.{is_bound};
 ghost use Rattle.pg_least.specs.Least.{IsCounted, IsSettled, lines, opened_by};
 
@@ -12,6 +13,25 @@ use crate::relaxing::settle_all;
 use pg_cert::{Bounds, BoundsError, PairBound};
 use pg_pairs::{Pair, Prices, Work};
 use std::alloc::{AllocError, Global};
+
+// Puts what the pair costs without a child behind the other costs.
+fn add_base<G: Prices>(
+    alloc: Global,
+    graph: &G,
+    pair: Pair,
+    costs: &mut Vec<Option<u32>>,
+    work: &mut Work,
+) -> Result<(), AllocError>
+    requires known { G.is_known graph.now pair ≡ true }
+    requires room { work.old.opened + 1 < 2 ^ 64 }
+    ensures base { OnOk result (costs.new.items
+        ≡ costs.old.items ++ G.base_of graph.now pair ∷ []) }
+    ensures counted { OnOk result (work.new ≡ opened_more work.old) }
+{
+    let cost = graph.base(alloc, pair, work)?;
+    costs.push(cost)?;
+    Ok(())
+}
 
 // What each pair costs without a child.
 fn bases_of<G: Prices>(
@@ -27,8 +47,7 @@ fn bases_of<G: Prices>(
 {
     let mut costs = Vec::with_capacity(alloc, pairs.len())?;
     for pair in pairs {
-        let cost = graph.base(alloc, *pair, work)?;
-        costs.push(cost)?;
+        add_base(alloc, graph, *pair, &mut costs, work)?;
     }
     Ok(costs)
 }

@@ -21,7 +21,7 @@ loop-pair-preserved g c =
     let k = c.loop-pair.pair-index in
     record {
       bases =
-          c.in_ok-push.ensures.items ∙ ap (λ (os : List (Option ℕ)). os ++ c.in_ok-cost.cost ∷ []) c.loop-pair.invariant.bases ∙ ap (λ (o : Option ℕ). map base (take k ps) ++ o ∷ []) c.in_ok-cost.ensures.cost
+          c.in_ok-add_base.ensures.base ∙ ap (λ (os : List (Option ℕ)). os ++ base (get_or ps k unset) ∷ []) c.loop-pair.invariant.bases
           ∙ sym (map-end base (take k ps) (get_or ps k unset)) ∙ ap (map base) (sym (take_more ps k unset c.loop-pair-test.true));
-      counted = c.in_ok-cost.ensures.counted ∙ ap opened_more c.loop-pair.invariant.counted ∙ one_more k c.args.work.now;
+      counted = c.in_ok-add_base.ensures.counted ∙ ap opened_more c.loop-pair.invariant.counted ∙ one_more k c.args.work.now;
     }
