@@ -186,7 +186,7 @@ def pass_on(lines, begun, room):
 def run_ci(room, words, begun, jobs):
     """Runs `rt ci` with these words on the repository in the room. Returns its status, its last line, the costs of each crate and their sum."""
     how = {"stdout": subprocess.PIPE, "stderr": subprocess.STDOUT, "text": True, "errors": "replace"}
-    env = {**os.environ, "RT_JOBS": jobs}
+    env = {**os.environ, "RT_JOBS": str(jobs)}
     run = subprocess.Popen(["rt", "ci", *words], cwd=room, stdin=subprocess.DEVNULL, env=env, **how)
     costs = Costs(run.pid)
     watch = threading.Thread(target=costs.watch)
@@ -200,11 +200,11 @@ def run_ci(room, words, begun, jobs):
 
 def prove(room, words):
     """Runs `rt ci` on the repository in the room, and tries its edits of promises. Returns the status and the last line."""
-    begun, kit, jobs = time.time(), load_kit(), os.environ.get("RT_JOBS") or str(lanes())
+    begun, kit, jobs = time.time(), load_kit(), lanes()
     plans = take_edits(kit, room)
     status, last, table, whole = run_ci(room, words, begun, jobs)
     if status == 0:
-        passed, failed = try_all(kit, plans, int(jobs), "--anew" in words)
+        passed, failed = try_all(kit, plans, jobs, "--anew" in words)
         status, last = int(failed > 0), counted(last, passed, failed)
         for it in (it for it in plans if it.seconds):
             table.setdefault(it.crate.name, dict.fromkeys(KINDS, 0.0))["edits"] += it.seconds

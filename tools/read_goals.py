@@ -11,6 +11,8 @@ import re
 from why_refused import OPEN, clause_of
 from wrong_copies import CONTROL
 
+# What a wrong copy comes to: a goal of its own stays open, it is still proved, or neither is shown.
+REFUSED, PROVED, OTHER = "refused", "proved", "other"
 FUNCTION = re.compile(r"fn (.+?): (proved|not proved|no proof|could not tell|assumed|not assumed)\b")
 # A line that complains of a place: an error, or a note of a goal that stays open.
 PLACED = re.compile(r"(note: )?(?:\./)?((?:src|specs|proofs)/\S+?):(\d+):\d+: (.*)")
@@ -33,10 +35,10 @@ def complaints(told, made):
     found = {}
     for line in told.split("\n"):
         placed = PLACED.match(line)
-        if placed and (not placed[1] or OPEN.search(line)):
+        if placed and (OPEN.search(line) or not placed[1] and placed[4].startswith("error")):
             at = owner(placed[2], int(placed[3]), made)
             found.setdefault(at, []).append(line.removeprefix("note: ").removeprefix("./"))
-    return {at: [it for it in lines if "error" in it or OPEN.search(it)] for at, lines in found.items()}
+    return found
 
 
 def not_compiled(told, made):
@@ -54,16 +56,16 @@ def goals_of(lines):
 
 
 def verdict(copy, state, lines):
-    """Returns whether the wrong copy was refused for a goal of its own, and what is to be said of it."""
+    """Returns what the copy comes to, and what is to be said of it."""
     others = [it for it in lines if not OPEN.search(it) and not NO_SUCH_GOAL.search(it)]
     goals = goals_of(lines)
     if state is None:
-        return False, "NOT TRIED: the prover says nothing of it"
+        return OTHER, "NOT TRIED: the prover says nothing of it"
     if state == "proved":
-        return False, "NOT REFUSED: it is still proved"
+        return PROVED, "NOT REFUSED: it is still proved"
     if state not in ("not proved", "no proof") or others or not goals:
-        return False, f"REFUSED FOR NO GOAL ({state}): {([*others, *lines] or ['nothing is said of a goal'])[0][:300]}"
-    return True, f"{copy.path} {copy.function.name}: {', '.join(clause_of(it) for it in goals)}"
+        return OTHER, f"REFUSED FOR NO GOAL ({state}): {([*others, *lines] or ['nothing is said of a goal'])[0][:300]}"
+    return REFUSED, f"{copy.path} {copy.function.name}: {', '.join(clause_of(it) for it in goals)}"
 
 
 def faults(crate, status, told, states, made):
@@ -89,11 +91,20 @@ def inside(name, of_copies):
 
 
 def verdicts(crate, status, told, made):
-    """Returns for each copy whether it was refused and what is to be said of it, and what is wrong with the check as a whole: then nothing
-    of it counts."""
+    """Returns what each copy comes to and what is to be said of it, and what is wrong with the check as a whole: then nothing of it counts."""
     states = {found[1]: found[2] for found in map(FUNCTION.match, told.split("\n")) if found}
     said, wrong = complaints(told, made), faults(crate, status, told, states, made)
     found = {it: verdict(it, states.get(name_of(crate, place)), said.get(it, [])) for it, (place, _) in made.items()}
     if wrong:
-        found = {it: (False, f"NOT TRIED: {text}") for it, (_, text) in found.items()}
+        found = {it: (OTHER, f"NOT TRIED: {text}") for it, (_, text) in found.items()}
     return found, wrong
+
+
+def of_edits(found):
+    """Returns for each edit whether it was refused, and what is to be said of it: one of its copies has to be, and the others refused or proved."""
+    said = {}
+    for it, (kind, text) in found.items():
+        said.setdefault(it.edit, {}).setdefault(kind, []).append(text)
+    said.pop(CONTROL, None)
+    first = {edit: next(of[it] for it in (OTHER, REFUSED, PROVED) if it in of) for edit, of in said.items()}
+    return {edit: (OTHER not in said[edit] and REFUSED in said[edit], "; ".join(texts)) for edit, texts in first.items()}

@@ -14,8 +14,9 @@ import tempfile
 import unittest
 
 sys.dont_write_bytecode = True
+from read_goals import of_edits  # noqa: E402
 from try_edits import load_kit, plan, try_one  # noqa: E402
-from wrong_copies import Bad, Left, copy_for, functions_in  # noqa: E402
+from wrong_copies import Bad, Left, copies_for, functions_in  # noqa: E402
 
 SOURCE = """//! Numbers.
 #![tactic(auto)]
@@ -75,11 +76,12 @@ EDITS = {
     "a_type_is_lost": ("    u16::from(number) * 2", "    u32::from(number) * 2", "BAD EDIT"),
     "a_bracket_is_lost": ("    u16::from(number) * 2", "    (u16::from(number) * 2", "BAD EDIT"),
     "there_is_none": ("    number.checked_add(1)", "    None", "next: some"),
-    "another_shape": ("    number.checked_add(1)", "    match number { 255 => None, _ => Some(number + 1) }", "NOT REFUSED"),
+    "another_shape": ("    number.checked_add(1)", "    match number { 255 => None, _ => Some(number + 1) }", "REFUSED FOR NO GOAL"),
     "half": ("        self.0", "        self.0 / 2", "get: returns"),
     "nothing_is_asked": ("    number // all of it", "    number / 2", "NOT REFUSED"),
     "another_clause": ("    ensures some { number ≤ 254 → IsSome result }", "    ensures some { number ≤ 255 → IsSome result }", None),
     "another_struct": ("pub struct Number(pub u8);", "pub struct Number(pub u16);", None),
+    "both": ("    u16::from(number) * 2", "    u16::from(number) * 3", "next: some"),
     "not_there": ("    number.checked_sub(1)", "    None", "BAD EDIT"),
 }
 
@@ -99,7 +101,8 @@ class Copies(unittest.TestCase):
         write(f"{self.room.name}/src/lib.rt", SOURCE)
 
     def copy(self, old, new):
-        return copy_for({"src/lib.rt": SOURCE.replace(old, new)}, self.room.name, "turned")
+        (found,) = copies_for({"src/lib.rt": SOURCE.replace(old, new)}, self.room.name, "turned")
+        return found
 
     def test_functions_have_their_comments_and_bodies(self):
         lines = SOURCE.split("\n")
@@ -122,9 +125,17 @@ class Copies(unittest.TestCase):
         for old, new in [("number + number }", "number }"), ("Number(pub u8)", "Number(u8)"), ("pub fn twice", "fn twice")]:
             self.assertRaises(Left, self.copy, old, new)
 
-    def test_two_functions_are_left(self):
+    def test_two_functions_have_two_copies(self):
         text = SOURCE.replace("* 2", "* 3").replace("checked_add(1)", "checked_add(2)")
-        self.assertRaises(Left, copy_for, {"src/lib.rt": text}, self.room.name, "turned")
+        found = copies_for({"src/lib.rt": text}, self.room.name, "turned")
+        self.assertEqual([it.name for it in found], ["twice_as_turned", "next_as_turned"])
+
+    def test_an_edit_is_refused_where_one_of_its_copies_is(self):
+        text = SOURCE.replace("* 2", "* 3").replace("add(1)", "add(2)")
+        both = copies_for({"src/lib.rt": text}, self.room.name, "turned")
+        for kinds, wanted in [(("refused", "proved"), True), (("proved", "proved"), False), (("refused", "other"), False)]:
+            found = of_edits(dict(zip(both, zip(kinds, ("said of one", "said of the other")))))
+            self.assertEqual(found["turned"][0], wanted)
 
     def test_a_function_that_calls_itself_is_left(self):
         self.assertRaises(Left, self.copy, "    u16::from(number) * 2", "    twice(number)")
@@ -133,12 +144,12 @@ class Copies(unittest.TestCase):
     def test_a_method_of_a_trait_is_left(self):
         text = SOURCE.replace("impl Number {", "impl Read for Number {")
         write(f"{self.room.name}/src/lib.rt", text)
-        self.assertRaises(Left, copy_for, {"src/lib.rt": text.replace("self.0\n", "1\n")}, self.room.name, "turned")
+        self.assertRaises(Left, copies_for, {"src/lib.rt": text.replace("self.0\n", "1\n")}, self.room.name, "turned")
 
     def test_specs_are_left_and_no_change_is_bad(self):
-        self.assertRaises(Left, copy_for, {"specs/Lib.antt": ""}, self.room.name, "turned")
+        self.assertRaises(Left, copies_for, {"specs/Lib.antt": ""}, self.room.name, "turned")
         self.assertRaises(Bad, self.copy, "", "")
-        self.assertRaises(Bad, copy_for, {"src/lib.rt": SOURCE}, self.room.name, "it_stands")
+        self.assertRaises(Bad, copies_for, {"src/lib.rt": SOURCE}, self.room.name, "it_stands")
 
 
 class Tries(unittest.TestCase):
@@ -154,6 +165,8 @@ class Tries(unittest.TestCase):
         write(f"{crate}/proofs/next/Answers.antt", ANSWERS)
         for edit, (old, new, _) in EDITS.items():
             write(f"{crate}/must-fail/{edit}.edit", f"file: src/lib.rt\nold: {old}\nnew: {new}\n")
+        with open(f"{crate}/must-fail/both.edit", "a", encoding="utf-8") as file:
+            file.write("old:     number.checked_add(1)\nnew:     None\n")
         subprocess.run(["git", "init", "-q", room.name], check=True)
         kit = load_kit()
         (cls.tries,) = plan(kit, room.name)
@@ -166,7 +179,7 @@ class Tries(unittest.TestCase):
             with self.subTest(edit=edit, said=said):
                 self.assertEqual(edit in self.tries.left, wanted is None)
                 self.assertIn(wanted or "", said)
-                self.assertEqual(is_refused, ":" in (wanted or ""))
+                self.assertEqual(is_refused, ": " in (wanted or ""))
 
 
 if __name__ == "__main__":

@@ -7,7 +7,7 @@ Each alone, an edit costs a check of its crate, and nearly all of that is readin
 the crate in which each wrong body stands beside the original (wrong_copies.py). An edit is refused where the prover leaves a goal open
 in just its copy, and says nothing else of it; and where all else is proved, among it a copy of each of these functions that is as it
 stands. A line says for each edit in which function it was refused, and for which clause or other goal. One that is proved, that doesn't
-compile, or that is refused for a name or the shape of a proof, fails. One that turns more than the body of one function is not tried
+compile, or that is refused for a name or the shape of a proof, fails. One that turns more than bodies of functions is not tried
 here, but by `rt must-fail` and `rt ci` alone, which try all others too.
 
 Wants the libraries that `rt lib` builds, and builds those that are not there. What an earlier run on this machine passed is kept beside
@@ -28,8 +28,8 @@ import tempfile
 from concurrent.futures import ThreadPoolExecutor
 
 sys.dont_write_bytecode = True
-from read_goals import not_compiled, verdicts  # noqa: E402
-from wrong_copies import CONTROL, PARTS, Bad, Left, controls, copy_for, make_room  # noqa: E402
+from read_goals import not_compiled, of_edits, verdicts  # noqa: E402
+from wrong_copies import CONTROL, PARTS, Bad, Left, controls, copies_for, make_room  # noqa: E402
 
 TOP = os.path.dirname(os.path.dirname(os.path.realpath(__file__)))
 # The scripts that a result rests on.
@@ -45,7 +45,9 @@ def load_kit():
 
 
 def lanes():
-    """Returns how many checks may run side by side: one a processor, as many as there is memory of 5 GB for."""
+    """Returns how many checks may run side by side: RT_JOBS, or one a processor, as many as there is memory of 5 GB for."""
+    if os.environ.get("RT_JOBS"):
+        return int(os.environ["RT_JOBS"])
     with open("/proc/meminfo", encoding="utf-8") as file:
         free = 1024 * int(re.search(r"MemAvailable:\s+(\d+)", file.read())[1])
     return max(1, min(len(os.sched_getaffinity(0)), free // 5_000_000_000))
@@ -69,7 +71,7 @@ class Tries:
         try:
             if why:
                 raise Bad(why)
-            self.copies.append(copy_for(texts, self.crate.folder, edit))
+            self.copies += copies_for(texts, self.crate.folder, edit)
         except Bad as reason:
             self.fail(edit, f"BAD EDIT: {reason}")
         except Left as reason:
@@ -115,13 +117,13 @@ def try_copies(kit, tries):
             status, told, seconds = check(kit, crate, room)
         tries.seconds += seconds
         broken = not_compiled(told, made)
-        if not broken or any(it.edit == CONTROL for it in broken):
+        if not broken or any(it is None or it.edit == CONTROL for it in broken):
             found, tries.faults = verdicts(crate.name, status, told, made)
-            tries.said.update({it.edit: said for it, said in found.items() if it.edit != CONTROL})
+            tries.said.update(of_edits(found))
             return
         for it, line in broken.items():
             tries.fail(it.edit, f"BAD EDIT: it isn't compiled, so no contract was tried: {line}")
-        copies = [it for it in copies if it not in broken]
+        copies = [it for it in copies if it.edit not in {at.edit for at in broken}]
 
 
 def files_below(folder, parts):

@@ -1,7 +1,7 @@
 """Copies of a crate in which each edit of must-fail stands as a function of its own, beside the original: for try_edits.py.
 
-An edit that turns the body of one function gets a copy of that function, called NAME_as_EDIT, right behind the original, with a copy of
-the original's proof files. Nothing of the original is changed. For each function with an edit there is one more copy that is not turned,
+An edit that turns bodies of functions gets a copy of each of these, called NAME_as_EDIT, right behind the original, with a copy of the
+original's proof files. Nothing of the originals is changed. For each function with an edit there is one more copy that is not turned,
 NAME_as_it_stands: it has to be proved, so that no wrong copy is refused for its name alone.
 """
 
@@ -24,7 +24,7 @@ Copy = collections.namedtuple("Copy", "edit path function name lines")
 
 
 class Left(Exception):
-    """An edit that can't be tried on a copy of one function: it is left to `rt must-fail`."""
+    """An edit that can't be tried on copies of functions: it is left to `rt must-fail`."""
 
 
 class Bad(Exception):
@@ -77,15 +77,16 @@ def owner_of(lines, function):
 
 
 def turned(old, new):
-    """Returns the one function whose body alone differs."""
+    """Returns the functions whose bodies alone differ."""
     before, after = old.split("\n"), new.split("\n")
     changed = [at for at, pair in enumerate(zip(before, after)) if pair[0] != pair[1]]
     if len(before) != len(after) or not changed:
         raise Bad("it changes nothing, or the number of lines")
-    found = [it for it in functions_in(old) if it.opens < changed[0] and changed[-1] < it.last]
-    if len(found) != 1:
-        raise Left("it turns more than the body of one function")
-    return found[0]
+    functions = functions_in(old)
+    found = [[it for it in functions if it.opens < at < it.last] for at in changed]
+    if any(len(it) != 1 for it in found):
+        raise Left("it turns more than bodies of functions")
+    return [*dict.fromkeys(it for (it,) in found)]
 
 
 def calls_itself(name, lines):
@@ -96,7 +97,9 @@ def calls_itself(name, lines):
 def copy_of(text, path, function, edit):
     """Returns a copy of this function as this text has it, for this edit."""
     lines = text.split("\n")
-    if calls_itself(function.name, lines[function.opens : function.last]):
+    if any("#[cycle(" in it for it in lines[function.first : function.head]):
+        raise Left("its function is proved together with others")
+    if calls_itself(function.name, lines[function.opens + 1 : function.last]):
         raise Left("its function calls itself, and a copy would call the original")
     name = f"{function.name}_as_{edit}"
     own = lines[function.first : function.last + 1]
@@ -105,18 +108,20 @@ def copy_of(text, path, function, edit):
     return Copy(edit, path, function, name, tuple(own))
 
 
-def copy_for(texts, folder, edit):
-    """Returns the wrong copy of the edit that makes these texts of the crate's files."""
+def copies_for(texts, folder, edit):
+    """Returns the wrong copies of the edit that makes these texts of the crate's files: one of each function that it turns."""
     if not re.fullmatch(r"\w+", edit) or edit == CONTROL:
         raise Bad("its name is none for a function")
-    if len(texts) != 1 or not [*texts][0].startswith("src/"):
-        raise Left("it turns more than one file, or one of specs or proofs")
-    ((path, text),) = texts.items()
-    with open(f"{folder}/{path}", encoding="utf-8") as file:
-        old = file.read()
-    function = turned(old, text)
-    owner_of(old.split("\n"), function)
-    return copy_of(text, path, function, edit)
+    found = []
+    for path, text in texts.items():
+        if not path.startswith("src/"):
+            raise Left("it turns a file of specs or proofs")
+        with open(f"{folder}/{path}", encoding="utf-8") as file:
+            old = file.read()
+        for function in turned(old, text):
+            owner_of(old.split("\n"), function)
+            found.append(copy_of(text, path, function, edit))
+    return found
 
 
 def controls(folder, copies):
