@@ -3,10 +3,12 @@
 
 usage: tools/prove.py [--anew] [CRATE..]    ends with the gate's status, and with its last line, 'N passed, M failed'
 
-Where crates are named, the gate runs on a copy of these and of those that they stand on. Else the documents are compared first
-with the definitions and the pictures, and what was built is tried afterwards: the program and the libraries' calls with each request for
-memory refused, and the program on random inputs.
-What earlier runs on this machine passed is taken as it stands, as far as the kit keeps it; with --anew all is proved and tried again.
+The gate runs on a copy of the repository, or, where crates are named, of these and of those that they stand on. The edits of crates of
+promises are taken out of the copy, and tried afterwards, all those of a crate in one check (try_edits.py); `rt ci` in the repository
+itself tries each alone. With no names the documents are compared first with the definitions and the pictures, and what was built is put
+back into the repository and tried last: the program and the libraries' calls with each request for memory refused, and the program on
+random inputs.
+What earlier runs on this machine passed is taken as it stands; with --anew all is proved and tried again.
 
 Lines of rt stand behind the seconds since the start. Behind them stand the processor seconds of each crate by kind: its proof, the
 second proof that its edits begin with (the seed), its edits, its tests, and what builds and runs programs. Without RT_JOBS as many
@@ -21,6 +23,9 @@ import sys
 import tempfile
 import threading
 import time
+
+sys.dont_write_bytecode = True
+from try_edits import lanes, load_kit, plan, try_all  # noqa: E402
 
 KINDS = ("proof", "seed", "edits", "tests", "programs")
 # What tries what was built: the program and the calls with each request for memory refused, and the program on random inputs.
@@ -119,12 +124,6 @@ def print_costs(table, whole):
     print("; ".join(f"{kind} {seconds:.0f}" for kind, seconds in sums.items()) + f"; whole {whole:.0f} processor seconds")
 
 
-def lanes():
-    with open("/proc/meminfo", encoding="utf-8") as file:
-        free = 1024 * int(re.search(r"MemAvailable:\s+(\d+)", file.read())[1])
-    return max(1, min(len(os.sched_getaffinity(0)), free // 5_000_000_000))
-
-
 def below(names):
     """Returns the lines of crates.txt for these crates and for those that they stand on."""
     with open("crates.txt", encoding="utf-8") as file:
@@ -138,10 +137,16 @@ def below(names):
     return found
 
 
-def takes_names():
-    """Returns whether the kit's `rt ci` takes names of crates, and runs on a copy of its own."""
-    told = subprocess.run(["rt", "help"], stdin=subprocess.DEVNULL, capture_output=True, text=True, errors="replace", check=False)
-    return "rt ci NAME" in told.stdout + told.stderr
+def copy_all(room):
+    """Copies the repository, without what was built."""
+    here = os.getcwd()
+
+    def passed_over(at, names):
+        inside = os.path.relpath(at, here).split("/")
+        return [it for it in names if it == "out" and inside[0] == "crates" or at == here and it == ".git"]
+
+    shutil.copytree(here, room, ignore=passed_over, symlinks=True, dirs_exist_ok=True)
+    subprocess.run(["git", "init", "-q", room], check=True)
 
 
 def copy_of(lines, room):
@@ -154,30 +159,70 @@ def copy_of(lines, room):
     subprocess.run(["git", "init", "-q", room], check=True)
 
 
-def pass_on(lines, begun):
+def take_edits(kit, room):
+    """Takes the edits that are tried on copies out of a repository, and returns them: none where `rt ci` will say what is wrong with it."""
+    try:
+        plans = plan(kit, room)
+    except SystemExit:
+        return []
+    for path in (path for it in plans for path in it.paths):
+        os.remove(path)
+    for it in plans:
+        if not os.listdir(f"{it.crate.folder}/must-fail"):
+            os.rmdir(f"{it.crate.folder}/must-fail")
+    return plans
+
+
+def pass_on(lines, begun, room):
     """Prints each line as it comes but the last, which is returned."""
     held = ""
     for line in lines:
         print(held, end="", flush=True)
+        line = line.replace(f"{room}/", "")
         held = f"{time.time() - begun:5.0f} s  {line}" if line.startswith("rt:") else line
     return held
 
 
-def prove(folder, words):
-    """Runs `rt ci` with these words on the repository in this folder, and returns its status and its last line."""
-    begun, how = time.time(), {"stdout": subprocess.PIPE, "stderr": subprocess.STDOUT, "text": True, "errors": "replace"}
-    env = {"RT_JOBS": str(lanes()), **os.environ}
-    run = subprocess.Popen(["rt", "ci", *words], cwd=folder, stdin=subprocess.DEVNULL, env=env, **how)
+def run_ci(room, words, begun, jobs):
+    """Runs `rt ci` with these words on the repository in the room. Returns its status, its last line, the costs of each crate and their sum."""
+    how = {"stdout": subprocess.PIPE, "stderr": subprocess.STDOUT, "text": True, "errors": "replace"}
+    env = {**os.environ, "RT_JOBS": str(jobs)}
+    run = subprocess.Popen(["rt", "ci", *words], cwd=room, stdin=subprocess.DEVNULL, env=env, **how)
     costs = Costs(run.pid)
     watch = threading.Thread(target=costs.watch)
     watch.start()
-    last = pass_on(run.stdout, begun)
+    last = pass_on(run.stdout, begun, room)
     costs.is_over = True
     watch.join()
     _, status, used = os.wait4(run.pid, 0)
-    print_costs(costs.table(), used.ru_utime + used.ru_stime)
-    print(f"{time.time() - begun:.0f} seconds in all, {env['RT_JOBS']} checks side by side")
-    return os.waitstatus_to_exitcode(status), last.strip()
+    return os.waitstatus_to_exitcode(status), last.strip(), costs.table(), used.ru_utime + used.ru_stime
+
+
+def prove(room, words):
+    """Runs `rt ci` on the repository in the room, and tries its edits of promises. Returns the status and the last line."""
+    begun, kit, jobs = time.time(), load_kit(), lanes()
+    plans = take_edits(kit, room)
+    status, last, table, whole = run_ci(room, words, begun, jobs)
+    if status == 0:
+        passed, failed = try_all(kit, plans, jobs, "--anew" in words)
+        status, last = int(failed > 0), counted(last, passed, failed)
+        for it in (it for it in plans if it.seconds):
+            table.setdefault(it.crate.name, dict.fromkeys(KINDS, 0.0))["edits"] += it.seconds
+            whole += it.seconds
+    print_costs(table, whole)
+    print(f"{time.time() - begun:.0f} seconds in all, {jobs} checks side by side")
+    return status, last
+
+
+def put_back(room):
+    """Puts the programs that were built in the room into the repository."""
+    for name in os.listdir(f"{room}/crates"):
+        made = f"{room}/crates/{name}/out"
+        for it in os.listdir(made) if os.path.isdir(made) else []:
+            if os.path.isfile(f"{made}/{it}"):
+                os.makedirs(f"crates/{name}/out", exist_ok=True)
+                shutil.copy2(f"{made}/{it}", f"crates/{name}/out/.new")
+                os.replace(f"crates/{name}/out/.new", f"crates/{name}/out/{it}")
 
 
 def documents_agree():
@@ -194,36 +239,36 @@ def try_program():
     return [it.returncode == 0 for it in testers]
 
 
-def counted(last, passed):
+def counted(last, passed, failed):
     """Returns the last line of `rt ci` with these among what passed and failed."""
-    found = re.fullmatch(r"(\d+) passed, (\d+) failed", last)
-    return f"{int(found[1]) + sum(passed)} passed, {int(found[2]) + len(passed) - sum(passed)} failed"
+    found = re.match(r"(\d+) passed, (\d+) failed", last)
+    return f"{int(found[1]) + passed} passed, {int(found[2]) + failed} failed" if found else last
 
 
 def prove_all(flags):
     if not documents_agree():
         print("the documents say something else than the repository\n0 passed, 1 failed")
         return 1
-    status, last = prove(".", flags)
+    with tempfile.TemporaryDirectory(prefix="protogate-gate-") as room:
+        copy_all(room)
+        status, last = prove(room, flags)
+        put_back(room)
     sys.stdout.flush()
     passed = try_program() if status == 0 else []
-    print(counted(last, passed) if passed else last)
+    print(counted(last, sum(passed), len(passed) - sum(passed)))
     return status or 1 - all(passed)
 
 
 def prove_named(names, flags):
-    """Runs `rt ci` on a copy of these crates and of those that they stand on."""
+    """Runs the gate on a copy of these crates and of those that they stand on."""
     lines = below(names)
     unknown = [it for it in names if it not in lines]
     if unknown:
         print(f"crates.txt has no {', '.join(unknown)}", file=sys.stderr)
         return 2
-    if takes_names():
-        status, last = prove(".", [*names, *flags])
-    else:
-        with tempfile.TemporaryDirectory(prefix="protogate-gate-") as room:
-            copy_of(lines, room)
-            status, last = prove(room, flags)
+    with tempfile.TemporaryDirectory(prefix="protogate-gate-") as room:
+        copy_of(lines, room)
+        status, last = prove(room, flags)
     print(last)
     return status
 
