@@ -1,7 +1,7 @@
 #!/usr/bin/env python3
 """Lists the files of definitions that a promise rests on, and compares them with docs/MODEL.md.
 
-usage: tools/model_files.py            the files and lines, of a breaking message and of what `gate` promises
+usage: tools/model_files.py            the files and lines, of a breaking message and of what `gate` and `gate_with` promise
        tools/model_files.py --compare  status 1 where docs/MODEL.md lists other files, where it or README.md says other counts, or where
                                        a document names a file of code or definitions, or docs/PROOFS.md a word, that isn't there
 
@@ -16,6 +16,12 @@ TOP = os.path.dirname(os.path.dirname(os.path.realpath(__file__)))
 ROOTS = {
     "a message breaks": "crates/pg_dyn/specs/Breaking.antt",
     "what `gate` promises": "crates/pg_gate/specs/Answer.antt",
+    "what `gate_with` promises": "crates/pg_gate/specs/ViewAnswer.antt",
+}
+# Which documents say the counts of which promise.
+COUNTED = {
+    "README.md": ["a message breaks", "what `gate` promises"],
+    "docs/MODEL.md": ["what `gate` promises", "what `gate_with` promises"],
 }
 # A path of code or definitions that a document names: from the top, below `crates`, or below a crate's folder.
 NAMED = re.compile(r"`([\w/+-]+/[\w+-]+\.(?:rt|antt))`")
@@ -54,16 +60,17 @@ def lines_of(paths):
 
 def differences():
     """Returns what docs/MODEL.md and README.md say otherwise than the definitions: files, and counts of files and lines."""
-    said, readme = (open(f"{TOP}/{it}", encoding="utf-8").read() for it in ("docs/MODEL.md", "README.md"))
-    listed = re.findall(r"^\| `(crates/pg_\w+/specs/\w+\.antt)` \|", said, re.M)
-    wanted = rests_on(ROOTS["what `gate` promises"])
+    said = {it: open(f"{TOP}/{it}", encoding="utf-8").read() for it in COUNTED}
+    listed = re.findall(r"^\| `(crates/pg_\w+/specs/\w+\.antt)` \|", said["docs/MODEL.md"], re.M)
+    wanted = rests_on(ROOTS["what `gate_with` promises"])
     found = [f"docs/MODEL.md lacks {it}" for it in wanted if it not in listed]
-    found += [f"docs/MODEL.md lists {it}, which the promise doesn't import" for it in listed if it not in wanted]
-    for what, root in ROOTS.items():
-        counts = f"{len(rests_on(root))} files with {lines_of(rests_on(root)):,} lines"
-        found += [] if counts in readme else [f"README.md doesn't say of {what}: {counts}"]
-    counts = f"{len(wanted)} files with {lines_of(wanted):,} lines"
-    return found + ([] if counts in said else [f"docs/MODEL.md doesn't say: {counts}"])
+    found += [f"docs/MODEL.md lists {it}, which no promise imports" for it in listed if it not in wanted]
+    for document, promises in COUNTED.items():
+        for what in promises:
+            files = rests_on(ROOTS[what])
+            counts = f"{len(files)} files with {lines_of(files):,} lines"
+            found += [] if counts in said[document] else [f"{document} doesn't say of {what}: {counts}"]
+    return found
 
 
 def missing_paths():
@@ -97,7 +104,7 @@ def missing_words():
 def main(words):
     if words == ["--compare"]:
         found = differences() + missing_paths() + missing_words()
-        print("\n".join(found) or "docs/MODEL.md names just the files of the promise, and the documents name files that are there")
+        print("\n".join(found) or "docs/MODEL.md names just the files of the promises, and the documents name files that are there")
         return 1 if found else 0
     for what, root in ROOTS.items():
         files = rests_on(root)

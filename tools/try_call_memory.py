@@ -80,8 +80,10 @@ CALLS = [
     Rows("way", "answer_rows", ["way of four steps down"]),
     Rows("Bounds::new", "answer_rows", ["bounds of two pairs make a table"], ["Memory 0 0 2147483647, 1 0 none"]),
     Rows("Bounds::new", "answer_rows", ["a pair twice makes no table"], ["Memory 0 0 none, 0 0 2"]),
-    Rows("check", "answer_rows", ["a witness that is longer than the bound", "a child is missing"]),
-    Rows("to_text, from_text", "answer_rows", ["a text of two pairs without a witness", "a text of a witness of all letters"]),
+    Rows("check_with", "answer_rows", ["a witness that is longer than the bound", "a child is missing"]),
+    Rows("search_with, find_with", "answer_rows", ["by names, a renamed number in a child, found"]),
+    Rows("gate_with", "view_rows", ["a renamed number in a child"]),
+    Rows("to_text, from_text, check", "answer_rows", ["a text of two pairs without a witness", "a text of a witness of all letters"]),
     Rows("read, write, read_again", "fds_rows", ["protoc's set of m.proto"]),
 ]
 

@@ -2,8 +2,10 @@
 use crate::searches::list_of;
 use crate::shown;
 use crate::spelled::{bounds_of, hex_bytes, pair_of, table_of};
-use pg_cert::{Bounds, BoundsError, CertError, Certificate, PairBound, check, from_text, to_text};
-use pg_pairs::Pair;
+use pg_cert::{
+    Bounds, BoundsError, CertError, Certificate, PairBound, check, check_with, from_text, to_text,
+};
+use pg_pairs::{Pair, View};
 use pg_schema::Schema;
 use rows::{bytes_of, cut};
 use std::alloc::{AllocError, Global};
@@ -21,9 +23,24 @@ fn checked(
     }
 }
 
-/// What the checker says of the certificate of these parts.
-pub(crate) fn check_claim(
+/// What the checker says under the view.
+pub(crate) fn checked_by<V: View>(
     alloc: Global,
+    view: &V,
+    old: &Schema,
+    new: &Schema,
+    certificate: &Certificate,
+) -> Result<String, AllocError> {
+    match check_with(alloc, view, old, new, certificate) {
+        Ok(verdict) => shown::verdict(alloc, verdict),
+        Err(error) => shown::fault(alloc, error),
+    }
+}
+
+/// What the checker says under the view of the certificate of these parts.
+pub(crate) fn check_claim<V: View>(
+    alloc: Global,
+    view: &V,
     old: &Schema,
     new: &Schema,
     root: Pair,
@@ -31,7 +48,7 @@ pub(crate) fn check_claim(
     witness: Option<Vec<u8>>,
 ) -> Result<String, AllocError> {
     match Certificate::new(root, bounds, witness) {
-        Ok(certificate) => checked(alloc, old, new, &certificate),
+        Ok(certificate) => checked_by(alloc, view, old, new, &certificate),
         Err(_) => String::from_str(alloc, "no certificate"),
     }
 }
@@ -44,8 +61,9 @@ fn witness_of(alloc: Global, text: &str) -> Result<Option<Vec<u8>>, AllocError> 
 }
 
 /// `check | OLD | NEW | ROOT | BOUNDS [| WITNESS]`: what the checker says.
-pub(crate) fn check_parts(
+pub(crate) fn check_parts<V: View>(
     alloc: Global,
+    view: &V,
     old: &Schema,
     new: &Schema,
     words: &str,
@@ -54,7 +72,7 @@ pub(crate) fn check_parts(
     let (bounds, witness) = cut(words);
     let witness = witness_of(alloc, witness)?;
     match table_of(alloc, bounds)? {
-        Some(table) => check_claim(alloc, old, new, pair_of(root), table, witness),
+        Some(table) => check_claim(alloc, view, old, new, pair_of(root), table, witness),
         None => String::from_str(alloc, "no table"),
     }
 }

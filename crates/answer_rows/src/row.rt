@@ -22,6 +22,8 @@ fn seen<V: View>(
         "carry" => messages::carry_choice(alloc, view, old, new, words),
         "breaks" => messages::break_or_keep(alloc, view, old, new, words),
         "sight" => sight::sight(alloc, view, old, new, words),
+        "check" => certificates::check_parts(alloc, view, old, new, words),
+        "search" => searches::search_by(alloc, view, old, new, words),
         _ => String::from_str(alloc, "no such call"),
     }
 }
@@ -35,7 +37,6 @@ fn between(
 ) -> Result<String, AllocError> {
     match call {
         "children" => choices::child_pairs(alloc, old, new, words),
-        "check" => certificates::check_parts(alloc, old, new, words),
         "text" => certificates::text(alloc, old, new, words),
         "fronts" => certificates::fronts(alloc, old, new, words),
         "search" => searches::search_pair(alloc, old, new, words),

@@ -1,12 +1,12 @@
 //! Searches, and the ways to their witnesses.
-use crate::certificates::check_claim;
+use crate::certificates::{check_claim, checked_by};
 use crate::messages::spelled;
 use crate::shown;
 use crate::shown::add;
 use crate::spelled::{pair_of, table_of};
 use pg_cert::Bounds;
-use pg_least::{Found, Step, find, search, search_counted, way};
-use pg_pairs::Pair;
+use pg_least::{Found, Step, find, find_with, search, search_counted, search_with, way};
+use pg_pairs::{Numbers, Pair, View};
 use pg_schema::Schema;
 use std::alloc::{AllocError, Global};
 
@@ -31,7 +31,7 @@ fn alone(
     list: &str,
 ) -> Result<String, AllocError> {
     match table_of(alloc, list)? {
-        Some(table) => check_claim(alloc, old, new, root, table, None),
+        Some(table) => check_claim(alloc, &Numbers, old, new, root, table, None),
         None => String::from_str(alloc, "no table"),
     }
 }
@@ -76,6 +76,42 @@ pub(crate) fn search_pair(
     let pair = shown::pair(alloc, certificate.root())?;
     let witness = beside(alloc, old, new, root)?;
     let verdict = alone(alloc, old, new, root, &list)?;
+    format!(in alloc; "{pair} | {list} | {witness} | {verdict}")
+}
+
+// What is found beside the certificate under the view.
+fn beside_by<V: View>(
+    alloc: Global,
+    view: &V,
+    old: &Schema,
+    new: &Schema,
+    root: Pair,
+) -> Result<String, AllocError> {
+    if !old.has(root.old) || !new.has(root.new) {
+        return String::from_str(alloc, "no such type");
+    }
+    let found = find_with(alloc, view, old, new, root)?;
+    witness_of(alloc, old, &found)
+}
+
+/// `names search | OLD | NEW | ROOT`: under that view the root of the certificate, its bounds, its
+/// witness with the type of the message beside it, and what the checker says of it.
+pub(crate) fn search_by<V: View>(
+    alloc: Global,
+    view: &V,
+    old: &Schema,
+    new: &Schema,
+    words: &str,
+) -> Result<String, AllocError> {
+    let root = pair_of(words);
+    if !old.has(root.old) || !new.has(root.new) {
+        return String::from_str(alloc, "no such type");
+    }
+    let certificate = search_with(alloc, view, old, new, root)?;
+    let list = list_of(alloc, certificate.bounds())?;
+    let pair = shown::pair(alloc, certificate.root())?;
+    let witness = beside_by(alloc, view, old, new, root)?;
+    let verdict = checked_by(alloc, view, old, new, &certificate)?;
     format!(in alloc; "{pair} | {list} | {witness} | {verdict}")
 }
 

@@ -6,6 +6,7 @@ ghost use Rattle.std.specs.Prelude.{◌≡◌, ◌⊎◌, length, nat_eq, slice_
 ghost use Rattle.std.specs.Option.{option_copied};
 ghost use Rattle.pg_schema.specs.Parts.{shape_of};
 ghost use Rattle.pg_pairs.specs.Sight.{by_numbers};
+ghost use Rattle.pg_pairs.specs.SightBy.{sight_by};
 ghost use Rattle.pg_cert.specs.declared.bounds.BoundsError.TheVariants.{Invariant};
 ghost use Rattle.pg_cert.specs.declared.error.CertError.TheVariants as errors;
 ghost use Rattle.pg_cert.specs.Bounds.{are_bounds, bound_in, is_bound, with_bound};
@@ -15,7 +16,7 @@ ghost use Rattle.pg_cert.specs.Laws.{Says};
 ghost use Rattle.pg_cert.specs.Text as spec;
 
 use pg_cert::{Bounds, BoundsError, CertError, Certificate, PairBound, Verdict};
-use pg_pairs::{Pair, Table};
+use pg_pairs::{Pair, Table, View};
 use pg_schema::Schema;
 use std::alloc::{AllocError, Global};
 
@@ -38,6 +39,29 @@ pub fn check(
         ⊎ ¬ (Holds by_numbers (shape_of old.now) (shape_of new.now) certificate.now)) }
 {
     pg_cert::check(alloc, old, new, certificate)
+}
+
+/// What `check_with` answers.
+pub fn check_with<V: View>(
+    alloc: Global,
+    view: &V,
+    old: &Schema,
+    new: &Schema,
+    certificate: &Certificate,
+) -> Result<Verdict, CertError>
+    ensures holds { OnOk result (Holds (sight_by V.View view.now old.now new.now)
+        (shape_of old.now) (shape_of new.now) certificate.now) }
+    ensures verdict { IfOk result (λ verdict. verdict ≡ verdict_of certificate.now) }
+    ensures says { IfOk result (λ verdict. Says (sight_by V.View view.now old.now new.now)
+        (shape_of old.now) (shape_of new.now) certificate.now verdict) }
+    ensures first_fault { IfErr result
+        (λ e. (e ≡ errors.Memory) ⊎ IsFirstFault (sight_by V.View view.now old.now new.now)
+        (shape_of old.now) (shape_of new.now) certificate.now e) }
+    ensures refused { IfErr result (λ e. (e ≡ errors.Memory)
+        ⊎ ¬ (Holds (sight_by V.View view.now old.now new.now) (shape_of old.now)
+        (shape_of new.now) certificate.now)) }
+{
+    pg_cert::check_with(alloc, view, old, new, certificate)
 }
 
 /// What `from_text` answers.

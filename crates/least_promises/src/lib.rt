@@ -6,6 +6,7 @@ ghost use Rattle.std.specs.Prelude.{◌≡◌, ◌<◌, true, is_some, length, I
 ghost use Rattle.pg_schema.specs.Parts.{shape_of};
 ghost use Rattle.pg_pairs.specs.Edges.{edges};
 ghost use Rattle.pg_pairs.specs.Sight.{by_numbers};
+ghost use Rattle.pg_pairs.specs.SightBy.{sight_by};
 ghost use Rattle.pg_cert.specs.Bounds.{bound_in};
 ghost use Rattle.pg_least.specs.Descent.{IsWay};
 ghost use Rattle.pg_least.specs.Exact.{IsBesideClaim, IsSearched};
@@ -13,7 +14,7 @@ ghost use Rattle.pg_least.specs.Least.{IsCounted, IsSettled};
 
 use pg_cert::{Bounds, Certificate};
 use pg_least::{Found, Step};
-use pg_pairs::{Pair, Prices, Work};
+use pg_pairs::{Pair, Prices, View, Work};
 use pg_schema::Schema;
 use std::alloc::{AllocError, Global};
 
@@ -27,6 +28,42 @@ pub fn find(alloc: Global, old: &Schema, new: &Schema, root: Pair) -> Result<Fou
         (shape_of new.now) found.certificate found.witness) }
 {
     pg_least::find(alloc, old, new, root)
+}
+
+/// What `find_with` answers.
+pub fn find_with<V: View>(
+    alloc: Global,
+    view: &V,
+    old: &Schema,
+    new: &Schema,
+    root: Pair,
+) -> Result<Found, AllocError>
+    requires old_type { root.old.index < length (shape_of old.now) }
+    requires new_type { root.new.index < length (shape_of new.now) }
+    ensures searched { IfOk result (λ found.
+        IsSearched (sight_by V.View view.now old.now new.now)
+        (shape_of old.now) (shape_of new.now) root found.certificate) }
+    ensures witness { IfOk result (λ found.
+        IsBesideClaim (sight_by V.View view.now old.now new.now)
+        (shape_of old.now) (shape_of new.now) found.certificate found.witness) }
+{
+    pg_least::find_with(alloc, view, old, new, root)
+}
+
+/// What `search_with` answers.
+pub fn search_with<V: View>(
+    alloc: Global,
+    view: &V,
+    old: &Schema,
+    new: &Schema,
+    root: Pair,
+) -> Result<Certificate, AllocError>
+    requires old_type { root.old.index < length (shape_of old.now) }
+    requires new_type { root.new.index < length (shape_of new.now) }
+    ensures { IfOk result (λ certificate. IsSearched (sight_by V.View view.now old.now new.now)
+        (shape_of old.now) (shape_of new.now) root certificate) }
+{
+    pg_least::search_with(alloc, view, old, new, root)
 }
 
 /// What `search` answers.

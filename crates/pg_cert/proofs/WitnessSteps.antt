@@ -1,19 +1,16 @@
 -- What the old writer writes is what is read again, so that there is one message of it.
-use Rattle.std.proofs.Common.{◌≡◌, ◌<◌, ◌↔◌, Bool, IsTrue, ℕ, zero, suc, List, [], ◌∷◌, length, get_or, true, Option, Some, None, option_map, refl, ap, sym, ◌∙◌, subst, arith}
-use Rattle.pg_schema.specs.declared.parts.Parts.{Parts}
-use Rattle.pg_schema.specs.Parts.{shape_of}
+use Rattle.std.proofs.Common.{◌≡◌, ◌<◌, ℕ, zero, suc, List, [], ◌∷◌, length, get_or, true, Option, Some, None, option_map, refl, ap, sym, ◌∙◌, subst, arith}
 use Rattle.pg_schema.specs.Shape.{Shape, FieldShape, IsShape, fields, field_at}
 use Rattle.pg_dyn.specs.Belonging.{IsMessage}
 use Rattle.pg_dyn.specs.Breaking.{Breaks}
 use Rattle.pg_dyn.specs.Decoding.{dec}
 use Rattle.pg_dyn.specs.Encoding.{enc}
-use Rattle.pg_dyn.specs.Kept.{Kept, message_of, type_of}
+use Rattle.pg_dyn.specs.Kept.{Kept, message_of}
 use Rattle.pg_dyn.specs.Kept as kept
 use Rattle.pg_dyn.specs.Laws.{ReadsAgain}
 use Rattle.pg_dyn.specs.Message.{Message, IsPlain, ends, holds, nests}
 use Rattle.pg_pairs.specs.declared.choice.Pair.{Pair}
-use Rattle.pg_pairs.specs.Sight.{Sight, by_numbers}
-use Rattle.pg_pairs.specs.Views.{sight_of, NumbersAreAlike}
+use Rattle.pg_pairs.specs.Sight.{Sight}
 use Rattle.pg_cert.specs.Certificate.{HasLength, IsWitnessed, IsWritten, is_witness}
 use Rattle.pg_cert.specs.Faults.{IsWriting}
 use Rattle.pg_dyn.proofs.PublicLaws.{plain_is_kept}
@@ -70,8 +67,3 @@ module _ (old : Shape) (root : Pair) (bytes : List ℕ) where
       keeps_of again is_shape kept_ is =
           let written : IsWritten old root bytes = record { message = is.message; is_message = is.breaks.is_message; is_plain = is.breaks.is_plain; has_encoding = is.breaks.has_encoding; written = is.written } in
           kept_ (subst (Breaks sight.alike old new root.old root.new) (message_is again is_shape (message_of m) written (read_of again is_shape written_of)) is.breaks)
-
--- What the checker tells is told of the view by numbers.
-pub told : NumbersAreAlike → (old new : Parts) (root : Pair) (m : Kept) (so : Bool) → IsTrue so ↔ ((type_of m ≡ root.old) × Breaks (sight_of (λ _ _ _. true) (λ _ _ _. None) old new).alike (shape_of old) (shape_of new) root.old root.new (message_of m))
-    → IsTrue so ↔ ((type_of m ≡ root.old) × Breaks by_numbers.alike (shape_of old) (shape_of new) root.old root.new (message_of m))
-told alike old new root m so h = subst (λ (sight : Sight). IsTrue so ↔ ((type_of m ≡ root.old) × Breaks sight.alike (shape_of old) (shape_of new) root.old root.new (message_of m))) (alike old new) h

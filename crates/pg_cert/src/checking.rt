@@ -4,6 +4,7 @@ ghost use Rattle.std.specs.Prelude.{◌≡◌, ◌⊎◌, None, Some, MatchResul
 ghost use Rattle.pg_schema.specs.Parts.{shape_of};
 ghost use Rattle.pg_pairs.specs.Choices.{choices};
 ghost use Rattle.pg_pairs.specs.Sight.{by_numbers};
+ghost use Rattle.pg_pairs.specs.SightBy.{sight_by};
 ghost use Rattle.pg_cert.specs.declared.error.CertError.TheVariants as errors;
 ghost use Rattle.pg_cert.specs.Bounds.{bound_in};
 ghost use Rattle.pg_cert.specs.Certificate.{Holds, bound_verdict, verdict_of};
@@ -16,8 +17,8 @@ use crate::error::CertError;
 use crate::laws::{covers_without_fault, verdicts_are_true, witness_faults_are_real};
 use crate::verdict::Verdict;
 use crate::witness::check_witness;
-use pg_pairs::laws::{cheapest_is_least, numbers_are_alike, numbers_sight};
-use pg_pairs::{Choice, Numbers, Pair, Table, cheapest, children, options};
+use pg_pairs::laws::{cheapest_is_least, numbers_are_alike};
+use pg_pairs::{Choice, Numbers, Pair, Table, View, cheapest, children, options, sees};
 use pg_schema::Schema;
 use std::alloc::{AllocError, Global};
 
@@ -51,54 +52,56 @@ fn is_within(bound: Option<u32>, cost: u32) -> bool
     }
 }
 
-// The choices of the pair, by its numbers.
-fn choices(
+// The choices of the pair under the view.
+fn choices<V: View>(
     alloc: Global,
+    view: &V,
     old: &Schema,
     new: &Schema,
     bounds: &Bounds,
     pair: Pair,
 ) -> Result<Vec<Choice>, AllocError>
     ensures { IfOk result (λ found. found.items
-        ≡ choices by_numbers (bound_in bounds.now) (shape_of old.now) (shape_of new.now) pair) }
+        ≡ choices (sight_by V.View view.now old.now new.now) (bound_in bounds.now)
+        (shape_of old.now) (shape_of new.now) pair) }
 {
-    numbers_are_alike();
-    options(alloc, &Numbers, old, new, pair, bounds)
+    options(alloc, view, old, new, pair, bounds)
 }
 
 // Whether no choice of the pair costs less than its bound, by the cheapest of them.
-fn is_cheapest_within(
+fn is_cheapest_within<V: View>(
     alloc: Global,
+    view: &V,
     old: &Schema,
     new: &Schema,
     bounds: &Bounds,
     line: PairBound,
 ) -> Result<bool, AllocError>
     ensures { IfOk result (λ within. within ≡ true
-        → cheaper_choice by_numbers (shape_of old.now) (shape_of new.now) (bound_in bounds.now) line
-        ≡ None) }
+        → cheaper_choice (sight_by V.View view.now old.now new.now) (shape_of old.now)
+        (shape_of new.now) (bound_in bounds.now) line ≡ None) }
 {
-    numbers_are_alike();
     cheapest_is_least();
-    match cheapest(alloc, &Numbers, old, new, line.pair, bounds)? {
+    match cheapest(alloc, view, old, new, line.pair, bounds)? {
         Some(choice) => Ok(is_within(line.bound, choice.cost)),
         None => Ok(true),
     }
 }
 
 // The first choice of the pair that costs less than its bound, of all of them.
-fn first_cheaper(
+fn first_cheaper<V: View>(
     alloc: Global,
+    view: &V,
     old: &Schema,
     new: &Schema,
     bounds: &Bounds,
     line: PairBound,
 ) -> Result<Option<Choice>, AllocError>
     ensures { IfOk result (λ found. found
-        ≡ cheaper_choice by_numbers (shape_of old.now) (shape_of new.now)
-        (bound_in bounds.now) line) }
+        ≡ cheaper_choice (sight_by V.View view.now old.now new.now) (shape_of old.now)
+        (shape_of new.now) (bound_in bounds.now) line) }
 {
-    let choices = choices(alloc, old, new, bounds, line.pair)?;
+    let choices = choices(alloc, view, old, new, bounds, line.pair)?;
     Ok(
         choices
             .iter()
@@ -109,41 +112,43 @@ fn first_cheaper(
 
 // The first choice of the pair that costs less than its bound. All are listed only where there is
 // one: of fields that meet in one oneof there are as many as pairs of them.
-fn cheaper_choice(
+fn cheaper_choice<V: View>(
     alloc: Global,
+    view: &V,
     old: &Schema,
     new: &Schema,
     bounds: &Bounds,
     line: PairBound,
 ) -> Result<Option<Choice>, AllocError>
     ensures { IfOk result (λ found. found
-        ≡ cheaper_choice by_numbers (shape_of old.now) (shape_of new.now)
-        (bound_in bounds.now) line) }
+        ≡ cheaper_choice (sight_by V.View view.now old.now new.now) (shape_of old.now)
+        (shape_of new.now) (bound_in bounds.now) line) }
 {
-    if is_cheapest_within(alloc, old, new, bounds, line)? {
+    if is_cheapest_within(alloc, view, old, new, bounds, line)? {
         return Ok(None);
     }
-    first_cheaper(alloc, old, new, bounds, line)
+    first_cheaper(alloc, view, old, new, bounds, line)
 }
 
 // Whether the pair is as a table that covers has it; the fault that it has else.
-fn check_pair(
+fn check_pair<V: View>(
     alloc: Global,
+    view: &V,
     old: &Schema,
     new: &Schema,
     bounds: &Bounds,
     line: PairBound,
 ) -> Result<(), CertError>
     ensures { MatchResult result
-        (λ _. pair_fault by_numbers (shape_of old.now) (shape_of new.now) (bound_in bounds.now) line
-        ≡ None)
-        (λ e. (e ≡ errors.Memory) ⊎ (pair_fault by_numbers (shape_of old.now) (shape_of new.now)
-        (bound_in bounds.now) line ≡ Some e)) }
+        (λ _. pair_fault (sight_by V.View view.now old.now new.now) (shape_of old.now)
+        (shape_of new.now) (bound_in bounds.now) line ≡ None)
+        (λ e. (e ≡ errors.Memory) ⊎ (pair_fault (sight_by V.View view.now old.now new.now)
+        (shape_of old.now) (shape_of new.now) (bound_in bounds.now) line ≡ Some e)) }
 {
     if let Some(pair) = missing_child(alloc, old, new, bounds, line.pair)? {
         return Err(CertError::PairMissing { pair });
     }
-    match cheaper_choice(alloc, old, new, bounds, line)? {
+    match cheaper_choice(alloc, view, old, new, bounds, line)? {
         Some(choice) => Err(CertError::BoundTooHigh {
             pair: line.pair,
             number: choice.number,
@@ -154,38 +159,46 @@ fn check_pair(
 }
 
 // Whether each pair is as a table that covers has it; the first fault else.
-fn check_pairs(alloc: Global, old: &Schema, new: &Schema, bounds: &Bounds) -> Result<(), CertError>
+fn check_pairs<V: View>(
+    alloc: Global,
+    view: &V,
+    old: &Schema,
+    new: &Schema,
+    bounds: &Bounds,
+) -> Result<(), CertError>
     ensures { MatchResult result
-        (λ _. first_pair_fault by_numbers (shape_of old.now) (shape_of new.now)
-        (bound_in bounds.now) bounds.now ≡ None)
-        (λ e. (e ≡ errors.Memory) ⊎ (first_pair_fault by_numbers (shape_of old.now)
-        (shape_of new.now) (bound_in bounds.now) bounds.now ≡ Some e)) }
+        (λ _. first_pair_fault (sight_by V.View view.now old.now new.now) (shape_of old.now)
+        (shape_of new.now) (bound_in bounds.now) bounds.now ≡ None)
+        (λ e. (e ≡ errors.Memory) ⊎ (first_pair_fault (sight_by V.View view.now old.now new.now)
+        (shape_of old.now) (shape_of new.now) (bound_in bounds.now) bounds.now ≡ Some e)) }
 {
     for at in 0..bounds.len() {
         if let Some(line) = bounds.get(at) {
-            check_pair(alloc, old, new, bounds, line)?;
+            check_pair(alloc, view, old, new, bounds, line)?;
         }
     }
     Ok(())
 }
 
 // Whether the table covers the root; its first fault else.
-fn check_table(
+fn check_table<V: View>(
     alloc: Global,
+    view: &V,
     old: &Schema,
     new: &Schema,
     bounds: &Bounds,
     root: Pair,
 ) -> Result<(), CertError>
     ensures { MatchResult result
-        (λ _. first_fault by_numbers (shape_of old.now) (shape_of new.now) bounds.now root ≡ None)
-        (λ e. (e ≡ errors.Memory) ⊎ (first_fault by_numbers (shape_of old.now)
-        (shape_of new.now) bounds.now root ≡ Some e)) }
+        (λ _. first_fault (sight_by V.View view.now old.now new.now) (shape_of old.now)
+        (shape_of new.now) bounds.now root ≡ None)
+        (λ e. (e ≡ errors.Memory) ⊎ (first_fault (sight_by V.View view.now old.now new.now)
+        (shape_of old.now) (shape_of new.now) bounds.now root ≡ Some e)) }
 {
     if bounds.bound(root).is_none() {
         return Err(CertError::RootMissing);
     }
-    check_pairs(alloc, old, new, bounds)
+    check_pairs(alloc, view, old, new, bounds)
 }
 
 // What the root's bound shows.
@@ -198,11 +211,60 @@ fn bound_verdict(bound: Option<Option<u32>>) -> Verdict
     }
 }
 
+/// Whether what the certificate claims holds under the view: its table covers its root, and its
+/// witness, where there is one, is what the old writer writes of a message without unknown records,
+/// has just as many bytes as the root's bound says, and breaks. With a witness it answers `Breaks`;
+/// without one `Compatible` where the root's bound is 'none', and else `AtLeast` that number.
+/// Messages are read at any depth.
+///
+/// The errors are, in this order, `RootMissing`; then pair by pair in the table's order
+/// `PairMissing` with the first child that the table lacks, and `BoundTooHigh` with the pair's
+/// first choice, by number, case and part, that costs less than the bound; then
+/// `WitnessNotWritten`, `WitnessLength` and `WitnessKeeps`; and `Memory` where memory was refused.
+pub fn check_with<V: View>(
+    alloc: Global,
+    view: &V,
+    old: &Schema,
+    new: &Schema,
+    certificate: &Certificate,
+) -> Result<Verdict, CertError>
+    ensures holds { OnOk result (Holds (sight_by V.View view.now old.now new.now)
+        (shape_of old.now) (shape_of new.now) certificate.now) }
+    ensures verdict { IfOk result (λ verdict. verdict ≡ verdict_of certificate.now) }
+    ensures says { IfOk result (λ verdict. Says (sight_by V.View view.now old.now new.now)
+        (shape_of old.now) (shape_of new.now) certificate.now verdict) }
+    ensures first_fault { IfErr result
+        (λ e. (e ≡ errors.Memory) ⊎ IsFirstFault (sight_by V.View view.now old.now new.now)
+        (shape_of old.now) (shape_of new.now) certificate.now e) }
+    ensures refused { IfErr result (λ e. (e ≡ errors.Memory)
+        ⊎ ¬ (Holds (sight_by V.View view.now old.now new.now) (shape_of old.now)
+        (shape_of new.now) certificate.now)) }
+{
+    // What holds of every schema and every view, and what a table without fault shows.
+    old.parts();
+    new.parts();
+    sees(view, old, new);
+    covers_without_fault();
+    verdicts_are_true();
+    witness_faults_are_real();
+    let root = certificate.root();
+    let bounds = certificate.bounds();
+    check_table(alloc, view, old, new, bounds, root)?;
+    let bound = bounds.bound(root);
+    match certificate.witness() {
+        Some(bytes) => {
+            check_witness(alloc, view, old, new, root, bound, bytes)?;
+            Ok(Verdict::Breaks)
+        }
+        None => Ok(bound_verdict(bound)),
+    }
+}
+
 /// Whether what the certificate claims holds: its table covers its root, and its witness, where
 /// there is one, is what the old writer writes of a message without unknown records, has just as
 /// many bytes as the root's bound says, and breaks. With a witness it answers `Breaks`; without one
 /// `Compatible` where the root's bound is 'none', and else `AtLeast` that number. Messages are read
-/// at any depth.
+/// at any depth. Enums are compared by their numbers alone, as `check_with` does by `Numbers`.
 ///
 /// The errors are, in this order, `RootMissing`; then pair by pair in the table's order
 /// `PairMissing` with the first child that the table lacks, and `BoundTooHigh` with the pair's
@@ -225,22 +287,6 @@ pub fn check(
     ensures refused { IfErr result (λ e. (e ≡ errors.Memory)
         ⊎ ¬ (Holds by_numbers (shape_of old.now) (shape_of new.now) certificate.now)) }
 {
-    // What holds of every schema and every view, and what a table without fault shows.
-    old.parts();
-    new.parts();
-    numbers_sight();
-    covers_without_fault();
-    verdicts_are_true();
-    witness_faults_are_real();
-    let root = certificate.root();
-    let bounds = certificate.bounds();
-    check_table(alloc, old, new, bounds, root)?;
-    let bound = bounds.bound(root);
-    match certificate.witness() {
-        Some(bytes) => {
-            check_witness(alloc, old, new, root, bound, bytes)?;
-            Ok(Verdict::Breaks)
-        }
-        None => Ok(bound_verdict(bound)),
-    }
+    numbers_are_alike();
+    check_with(alloc, &Numbers, old, new, certificate)
 }

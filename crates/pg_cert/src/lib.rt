@@ -14,7 +14,7 @@ mod writing;
 
 pub use bounds::{Bounds, BoundsError, PairBound};
 pub use certificate::Certificate;
-pub use checking::check;
+pub use checking::{check, check_with};
 pub use error::CertError;
 pub use laws::{
     covers_without_fault, one_spelling, verdicts_are_true, witness_faults_are_real,

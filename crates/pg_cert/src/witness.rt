@@ -6,7 +6,7 @@ ghost use Rattle.pg_dyn.specs.Breaking.{Breaks};
 ghost use Rattle.pg_dyn.specs.Encoding.{cap, enc};
 ghost use Rattle.pg_dyn.specs.Fits.{Fits};
 ghost use Rattle.pg_dyn.specs.Kept.{message_of, type_of};
-ghost use Rattle.pg_pairs.specs.Sight.{by_numbers};
+ghost use Rattle.pg_pairs.specs.SightBy.{sight_by};
 ghost use Rattle.pg_cert.specs.declared.error.CertError.TheVariants as errors;
 ghost use Rattle.pg_cert.specs.Certificate.{HasLength, IsWitnessed, is_witness};
 ghost use Rattle.pg_cert.specs.Faults.{IsReadBack, WitnessFault};
@@ -14,8 +14,7 @@ ghost use Rattle.pg_cert.specs.Faults.{IsReadBack, WitnessFault};
 use crate::error::CertError;
 use pg_dyn::laws::reads_again;
 use pg_dyn::{DynError, Message, decode_unlimited, encode};
-use pg_pairs::laws::numbers_are_alike;
-use pg_pairs::{Numbers, Pair, breaks};
+use pg_pairs::{Pair, View, breaks};
 use pg_schema::Schema;
 use std::alloc::{AllocError, Global};
 
@@ -78,9 +77,10 @@ fn has_length(bound: Option<Option<u32>>, bytes: &[u8]) -> bool
     }
 }
 
-// Whether a message that has an encoding breaks, by the numbers of enums.
-fn written_breaks(
+// Whether a message that has an encoding breaks.
+fn written_breaks<V: View>(
     alloc: Global,
+    view: &V,
     old: &Schema,
     new: &Schema,
     root: Pair,
@@ -91,11 +91,10 @@ fn written_breaks(
         ≤ cap }
     ensures { IfOk result (λ so. IsTrue so
         ↔ ((type_of message.now ≡ root.old)
-        × Breaks by_numbers.alike (shape_of old.now) (shape_of new.now) root.old root.new
-        (message_of message.now))) }
+        × Breaks (sight_by V.View view.now old.now new.now).alike (shape_of old.now)
+        (shape_of new.now) root.old root.new (message_of message.now))) }
 {
-    numbers_are_alike();
-    match breaks(alloc, &Numbers, old, new, root, message) {
+    match breaks(alloc, view, old, new, root, message) {
         Ok(so) => Ok(so),
         Err(DynError::Memory) => Err(AllocError),
         // What is too long has no encoding.
@@ -107,8 +106,9 @@ fn written_breaks(
 /// writes them of a message without unknown records, which breaks, and the bound is their number.
 /// The error is the first of `WitnessNotWritten`, `WitnessLength` and `WitnessKeeps` that is there,
 /// or `Memory`.
-pub(crate) fn check_witness(
+pub(crate) fn check_witness<V: View>(
     alloc: Global,
+    view: &V,
     old: &Schema,
     new: &Schema,
     root: Pair,
@@ -117,9 +117,10 @@ pub(crate) fn check_witness(
 ) -> Result<(), CertError>
     requires { is_witness (Some bytes.now) ≡ true }
     ensures { MatchResult result
-        (λ _. IsWitnessed by_numbers (shape_of old.now) (shape_of new.now) root bound bytes.now)
-        (λ e. (e ≡ errors.Memory) ⊎ WitnessFault by_numbers (shape_of old.now)
-        (shape_of new.now) root bound bytes.now e) }
+        (λ _. IsWitnessed (sight_by V.View view.now old.now new.now) (shape_of old.now)
+        (shape_of new.now) root bound bytes.now)
+        (λ e. (e ≡ errors.Memory) ⊎ WitnessFault (sight_by V.View view.now old.now new.now)
+        (shape_of old.now) (shape_of new.now) root bound bytes.now e) }
 {
     // What holds of every schema, and of what a type writes.
     old.parts();
@@ -130,7 +131,7 @@ pub(crate) fn check_witness(
     if !has_length(bound, bytes) {
         return Err(CertError::WitnessLength);
     }
-    if !written_breaks(alloc, old, new, root, &message)? {
+    if !written_breaks(alloc, view, old, new, root, &message)? {
         return Err(CertError::WitnessKeeps);
     }
     Ok(())

@@ -6,7 +6,7 @@ use Rattle.pg_schema.specs.declared.parts.Parts.{Parts}
 use Rattle.pg_schema.specs.Parts.{shape_of}
 use Rattle.pg_schema.specs.Shape.{IsShape, Shape, fields}
 use Rattle.pg_dyn.specs.Breaking.{Breaks, Compatible, is_kept}
-use Rattle.pg_dyn.specs.Comparison.{numbers, records_outside, same, unshared_bytes}
+use Rattle.pg_dyn.specs.Comparison.{View, records_outside, same, unshared_bytes}
 use Rattle.pg_dyn.specs.Decoding.{dec}
 use Rattle.pg_dyn.specs.Encoding.{enc}
 use Rattle.pg_dyn.specs.Kept.{Kept, message_of}
@@ -14,12 +14,12 @@ use Rattle.pg_dyn.specs.Message.{Message, unknown_of}
 use Rattle.pg_dyn.specs.Writing.{bytes_of}
 use Rattle.pg_pairs.specs.declared.choice.Pair.{Pair}
 use Rattle.pg_pairs.specs.Choices.{number_for}
-use Rattle.pg_pairs.specs.Sight.{by_numbers}
+use Rattle.pg_pairs.specs.Sight.{Sight, by_numbers}
 use Rattle.pg_cert.specs.Bounds.{bound_in}
 use Rattle.pg_cert.specs.Certificate.{Claim, IsWitnessedIfThere}
 use Rattle.pg_cert.specs.Text.{IsClaimOf}
 use Rattle.pg_least.specs.Exact.{IsBesideClaim, IsSearched, IsWitnessMessage}
-use Rattle.pg_gate.specs.Answer.{AreRoots, IsAnswer, IsBroken, IsCompatible, IsLost, IsRefusedRoot, Lacks, NewSees, OldWrites, certificate_of}
+use Rattle.pg_gate.specs.Answer.{AreRoots, IsAnswer, IsAnswerBy, IsBroken, IsCompatible, IsLost, IsRefusedRoot, Lacks, NewSees, OldWrites, certificate_of}
 use Rattle.pg_gate.specs.Call.{Request, compile, gate, show, verify}
 use Rattle.pg_gate.specs.Files.{IsFaultOfSide, IsSide, IsSideError}
 use Rattle.pg_gate.specs.Grants.{Between, Counted, Grants, IsAnswerOfFiles, IsErrorFor, IsFindingOf, IsGateError, IsGateReply, IsReplyFor, IsSidesError, IsSidesFault, Seen, Tells}
@@ -61,61 +61,61 @@ both_right true b is = is
 both_right false b is = absurd (cc)
 
 -- what a message that shows the same says of the records that the reader doesn't know
-given_back : (old new : Shape) (pair : Pair) (v w : Message) → same numbers old new pair.old pair.new v w ≡ true
+given_back : (view : View) (old new : Shape) (pair : Pair) (v w : Message) → same view old new pair.old pair.new v w ≡ true
     → bytes_of (records_outside (fields new pair.new) (unknown_of w)) ≡ unshared_bytes old pair.old (fields new pair.new) v
 unfolding same
-given_back old new pair v w is =
+given_back view old new pair v w is =
     (bytes_eq-Decides (bytes_of (records_outside (fields new pair.new) (unknown_of w))) (unshared_bytes old pair.old (fields new pair.new) v)).0 (both_right _ _ is)
 
 -- a message that is kept is seen whole
-seen_whole : (old new : Shape) (pair : Pair) (v : Message) → is_kept numbers old new pair.old pair.new v ≡ true → NewSees old new pair v
+seen_whole : (view : View) (old new : Shape) (pair : Pair) (v : Message) → is_kept view old new pair.old pair.new v ≡ true → NewSees view old new pair v
 unfolding is_kept
-seen_whole old new pair v kept = of (dec new pair.new (enc old pair.old v)) refl
+seen_whole view old new pair v kept = of (dec new pair.new (enc old pair.old v)) refl
   where
-    seen : (w : Message) → dec new pair.new (enc old pair.old v) ≡ Some w → same numbers old new pair.old pair.new v w ≡ true → NewSees old new pair v
-    seen w is shows = record { read = w; reads = is; same = shows; gives_back = given_back old new pair v w shows }
+    seen : (w : Message) → dec new pair.new (enc old pair.old v) ≡ Some w → same view old new pair.old pair.new v w ≡ true → NewSees view old new pair v
+    seen w is shows = record { read = w; reads = is; same = shows; gives_back = given_back view old new pair v w shows }
 
-    of : (o : Option Message) → dec new pair.new (enc old pair.old v) ≡ o → NewSees old new pair v
+    of : (o : Option Message) → dec new pair.new (enc old pair.old v) ≡ o → NewSees view old new pair v
     of (Some w) is = seen w is (rw is at kept)
     of None is = absurd (let no = rw is at kept in cc)
 
 -- and one that is seen whole is kept
-seen_is_kept : (old new : Shape) (pair : Pair) (v : Message) → NewSees old new pair v → is_kept numbers old new pair.old pair.new v ≡ true
+seen_is_kept : (view : View) (old new : Shape) (pair : Pair) (v : Message) → NewSees view old new pair v → is_kept view old new pair.old pair.new v ≡ true
 unfolding is_kept
-seen_is_kept old new pair v seen = rw seen.reads seen.same
+seen_is_kept view old new pair v seen = rw seen.reads seen.same
 
 -- what the old writer encodes is kept, where no message breaks
-each_kept : (old new : Shape) (pair : Pair) → Compatible numbers old new pair.old pair.new → (v : Message) → OldWrites old pair v → NewSees old new pair v
-each_kept old new pair compatible v writes = seen_whole old new pair v (of (is_kept numbers old new pair.old pair.new v) refl)
+each_kept : (view : View) (old new : Shape) (pair : Pair) → Compatible view old new pair.old pair.new → (v : Message) → OldWrites old pair v → NewSees view old new pair v
+each_kept view old new pair compatible v writes = seen_whole view old new pair v (of (is_kept view old new pair.old pair.new v) refl)
   where
-    of : (b : Bool) → is_kept numbers old new pair.old pair.new v ≡ b → is_kept numbers old new pair.old pair.new v ≡ true
+    of : (b : Bool) → is_kept view old new pair.old pair.new v ≡ b → is_kept view old new pair.old pair.new v ≡ true
     of true is = is
     of false is = absurd (compatible v (record { is_message = writes.is_message; is_plain = writes.is_plain; has_encoding = writes.has_encoding; not_kept = is }))
 
 -- what breaks the old writer encodes, and the new reader doesn't see it
-lost_where_it_breaks : (old new : Shape) (pair : Pair) (v : Message) → Breaks numbers old new pair.old pair.new v → IsLost old new pair v
-lost_where_it_breaks old new pair v breaks = record {
+lost_where_it_breaks : (view : View) (old new : Shape) (pair : Pair) (v : Message) → Breaks view old new pair.old pair.new v → IsLost view old new pair v
+lost_where_it_breaks view old new pair v breaks = record {
   written = record { is_message = breaks.is_message; is_plain = breaks.is_plain; has_encoding = breaks.has_encoding };
-  not_seen = λ seen. let kept = seen_is_kept old new pair v seen in let not_kept = breaks.not_kept in cc;
+  not_seen = λ seen. let kept = seen_is_kept view old new pair v seen in let not_kept = breaks.not_kept in cc;
 }
 
 -- and the other way round
-breaks_where_it_is_lost : (old new : Shape) (pair : Pair) (v : Message) → IsLost old new pair v → Breaks numbers old new pair.old pair.new v
-breaks_where_it_is_lost old new pair v lost = of (is_kept numbers old new pair.old pair.new v) refl
+breaks_where_it_is_lost : (view : View) (old new : Shape) (pair : Pair) (v : Message) → IsLost view old new pair v → Breaks view old new pair.old pair.new v
+breaks_where_it_is_lost view old new pair v lost = of (is_kept view old new pair.old pair.new v) refl
   where
-    of : (b : Bool) → is_kept numbers old new pair.old pair.new v ≡ b → Breaks numbers old new pair.old pair.new v
-    of true is = absurd (lost.not_seen (seen_whole old new pair v is))
+    of : (b : Bool) → is_kept view old new pair.old pair.new v ≡ b → Breaks view old new pair.old pair.new v
+    of true is = absurd (lost.not_seen (seen_whole view old new pair v is))
     of false is = record { is_message = lost.written.is_message; is_plain = lost.written.is_plain; has_encoding = lost.written.has_encoding; not_kept = is }
 
-module _ (old new : Parts) (root : Text) (claim : Claim) (roots : AreRoots old new root claim.root) (searched : IsSearched by_numbers (shape_of old) (shape_of new) claim.root claim) where
-  compatible_without : claim.witness ≡ None → IsCompatible old new root claim
+module _ (sight : Sight) (old new : Parts) (root : Text) (claim : Claim) (roots : AreRoots old new root claim.root) (searched : IsSearched sight (shape_of old) (shape_of new) claim.root claim) where
+  compatible_without : claim.witness ≡ None → IsCompatible sight old new root claim
   compatible_without none =
       let no_number : is_some (number_for (bound_in claim.bounds) claim.root) ≡ false = sym searched.witness_where_it_breaks ∙ ap is_some none in
       let bound = none_is_there (bound_in claim.bounds claim.root) searched.holds.covers.root_there no_number in
       let compatible = searched.says claim.root None bound in
       record {
         roots = roots;
-        each_is_seen = each_kept (shape_of old) (shape_of new) claim.root compatible;
+        each_is_seen = each_kept sight.alike (shape_of old) (shape_of new) claim.root compatible;
         passes = searched.holds;
         searched = searched;
         bound_is_none = bound;
@@ -123,17 +123,17 @@ module _ (old new : Parts) (root : Text) (claim : Claim) (roots : AreRoots old n
         compatible = compatible;
       }
 
-  broken_with : (kept : Kept) → IsWitnessMessage by_numbers (shape_of old) (shape_of new) claim kept → IsBroken old new root kept claim
+  broken_with : (kept : Kept) → IsWitnessMessage sight (shape_of old) (shape_of new) claim kept → IsBroken sight old new root kept claim
   broken_with kept is =
       let bound = bound_in claim.bounds claim.root in
-      let witnessed = subst (λ o. IsWitnessedIfThere by_numbers (shape_of old) (shape_of new) claim.root bound o) is.written searched.holds.witnessed in
+      let witnessed = subst (λ o. IsWitnessedIfThere sight (shape_of old) (shape_of new) claim.root bound o) is.written searched.holds.witnessed in
       let least = searched.says claim.root (Some (length (enc (shape_of old) claim.root.old (message_of kept)))) witnessed.length_is in
       record {
         roots = roots;
         fits = is.fits;
         type_is = is.type_is;
-        lost = lost_where_it_breaks (shape_of old) (shape_of new) claim.root (message_of kept) is.breaks;
-        none_shorter = λ v lost. least.least v (breaks_where_it_is_lost (shape_of old) (shape_of new) claim.root v lost);
+        lost = lost_where_it_breaks sight.alike (shape_of old) (shape_of new) claim.root (message_of kept) is.breaks;
+        none_shorter = λ v lost. least.least v (breaks_where_it_is_lost sight.alike (shape_of old) (shape_of new) claim.root v lost);
         passes = searched.holds;
         searched = searched;
         breaks = is.breaks;
@@ -142,17 +142,17 @@ module _ (old new : Parts) (root : Text) (claim : Claim) (roots : AreRoots old n
       }
 
   -- what is found beside the claim makes its answer
-  answered_here : (witness : Option Kept) → IsBesideClaim by_numbers (shape_of old) (shape_of new) claim witness → IsAnswer old new root (answer_with claim witness)
+  answered_here : (witness : Option Kept) → IsBesideClaim sight (shape_of old) (shape_of new) claim witness → IsAnswerBy sight old new root (answer_with claim witness)
   answered_here (Some kept) beside = broken_with kept beside
   answered_here None beside = compatible_without beside
 
 -- what a search of the roots finds is the gate's answer
-pub answered : (old new : Parts) (root : Text) (pair : Pair) (claim : Claim) (witness : Option Kept) → AreRoots old new root pair → IsSearched by_numbers (shape_of old) (shape_of new) pair claim
-    → IsBesideClaim by_numbers (shape_of old) (shape_of new) claim witness → IsAnswer old new root (answer_with claim witness)
-answered old new root pair claim witness roots searched beside =
+pub answered : (sight : Sight) (old new : Parts) (root : Text) (pair : Pair) (claim : Claim) (witness : Option Kept) → AreRoots old new root pair → IsSearched sight (shape_of old) (shape_of new) pair claim
+    → IsBesideClaim sight (shape_of old) (shape_of new) claim witness → IsAnswerBy sight old new root (answer_with claim witness)
+answered sight old new root pair claim witness roots searched beside =
     let same = sym searched.root_is in
-    answered_here old new root claim (subst (λ (p : Pair). AreRoots old new root p) same roots)
-    (subst (λ (p : Pair). IsSearched by_numbers (shape_of old) (shape_of new) p claim) same searched) witness beside
+    answered_here sight old new root claim (subst (λ (p : Pair). AreRoots old new root p) same roots)
+    (subst (λ (p : Pair). IsSearched sight (shape_of old) (shape_of new) p claim) same searched) witness beside
 
 -- the certificate of an answer is one of the schemas' types
 pub claim_of_answer : (old new : Parts) (root : Text) → IsShape (shape_of old) → IsShape (shape_of new) → (answer : Answer) → IsAnswer old new root answer → IsClaimOf old new (certificate_of answer)

@@ -1,4 +1,5 @@
--- What the gate answers of the old and the new message type of one full name. What contracts see of a certificate is a claim.
+-- What the gate answers of the old and the new message type of one full name. What contracts see of a certificate is a claim. A view says
+-- which numbers of two enums are the same item, and a sight also which of the others is least; `gate` compares enums by their numbers.
 use Rattle.std.specs.Prelude.{◌≡◌, ◌≢◌, ◌≤◌, length, true, Some, None}
 use Rattle.clap.specs.Words.{Text}
 use Rattle.pg_schema.specs.declared.field.TypeId.{TypeId}
@@ -7,7 +8,7 @@ use Rattle.pg_schema.specs.Parts.{name_at, shape_of}
 use Rattle.pg_schema.specs.Shape.{Shape, fields}
 use Rattle.pg_dyn.specs.Belonging.{IsMessage}
 use Rattle.pg_dyn.specs.Breaking.{Breaks, Compatible, Least}
-use Rattle.pg_dyn.specs.Comparison.{numbers, records_outside, same, unshared_bytes}
+use Rattle.pg_dyn.specs.Comparison.{View, records_outside, same, unshared_bytes}
 use Rattle.pg_dyn.specs.Decoding.{dec}
 use Rattle.pg_dyn.specs.Encoding.{cap, enc}
 use Rattle.pg_dyn.specs.Fits.{Fits}
@@ -15,7 +16,7 @@ use Rattle.pg_dyn.specs.Kept.{Kept, message_of, type_of}
 use Rattle.pg_dyn.specs.Message.{IsPlain, Message, unknown_of}
 use Rattle.pg_dyn.specs.Writing.{bytes_of}
 use Rattle.pg_pairs.specs.declared.choice.Pair.{Pair}
-use Rattle.pg_pairs.specs.Sight.{by_numbers}
+use Rattle.pg_pairs.specs.Sight.{Sight, by_numbers}
 use Rattle.pg_cert.specs.Bounds.{bound_in}
 use Rattle.pg_cert.specs.Certificate.{Claim, Holds}
 use Rattle.pg_least.specs.Exact.{IsSearched}
@@ -45,48 +46,53 @@ pub record OldWrites (old : Shape) (pair : Pair) (message : Message) : Type 0 wh
 
 -- The new reader reads the old writer's bytes. It sees the same values in the fields of both types, at every depth, and gives back
 -- all others: among the records that it doesn't know, those of numbers that its type hasn't are the bytes that the writer wrote for them.
-pub record NewSees (old new : Shape) (pair : Pair) (message : Message) : Type 0 where
+pub record NewSees (view : View) (old new : Shape) (pair : Pair) (message : Message) : Type 0 where
   pub read : Message
   pub reads : dec new pair.new (enc old pair.old message) ≡ Some read
-  pub same : same numbers old new pair.old pair.new message read ≡ true
+  pub same : same view old new pair.old pair.new message read ≡ true
   pub gives_back : bytes_of (records_outside (fields new pair.new) (unknown_of read)) ≡ unshared_bytes old pair.old (fields new pair.new) message
 
 -- The old writer encodes the message, and the new reader doesn't see it so.
-pub record IsLost (old new : Shape) (pair : Pair) (message : Message) : Type 0 where
+pub record IsLost (view : View) (old new : Shape) (pair : Pair) (message : Message) : Type 0 where
   pub written : OldWrites old pair message
-  pub not_seen : NewSees old new pair message → ⊥
+  pub not_seen : NewSees view old new pair message → ⊥
 
 -- No message breaks: each message that the old writer encodes the new reader sees whole. The certificate is that of the root types, and
 -- it passes the checker; each bound in it is least. The root's bound in it is 'none', and there is no witness.
-pub record IsCompatible (old new : Parts) (root : Text) (certificate : Claim) : Type 0 where
+pub record IsCompatible (sight : Sight) (old new : Parts) (root : Text) (certificate : Claim) : Type 0 where
   pub roots : AreRoots old new root certificate.root
-  pub each_is_seen : (message : Message) → OldWrites (shape_of old) certificate.root message → NewSees (shape_of old) (shape_of new) certificate.root message
-  pub passes : Holds by_numbers (shape_of old) (shape_of new) certificate
-  pub searched : IsSearched by_numbers (shape_of old) (shape_of new) certificate.root certificate
+  pub each_is_seen : (message : Message) → OldWrites (shape_of old) certificate.root message → NewSees sight.alike (shape_of old) (shape_of new) certificate.root message
+  pub passes : Holds sight (shape_of old) (shape_of new) certificate
+  pub searched : IsSearched sight (shape_of old) (shape_of new) certificate.root certificate
   pub bound_is_none : bound_in certificate.bounds certificate.root ≡ Some None
   pub no_witness : certificate.witness ≡ None
-  pub compatible : Compatible numbers (shape_of old) (shape_of new) certificate.root.old certificate.root.new
+  pub compatible : Compatible sight.alike (shape_of old) (shape_of new) certificate.root.old certificate.root.new
 
 -- The witness is a message of the old root type, without unknown records, and it breaks: the new reader doesn't see it whole. No message
 -- that the old writer encodes and the new reader doesn't see whole has fewer bytes. The certificate is that of the root types, and it
 -- passes the checker; each bound in it is least. The witness's bytes stand in it.
-pub record IsBroken (old new : Parts) (root : Text) (witness : Kept) (certificate : Claim) : Type 0 where
+pub record IsBroken (sight : Sight) (old new : Parts) (root : Text) (witness : Kept) (certificate : Claim) : Type 0 where
   pub roots : AreRoots old new root certificate.root
   pub fits : Fits (shape_of old) witness
   pub type_is : type_of witness ≡ certificate.root.old
-  pub lost : IsLost (shape_of old) (shape_of new) certificate.root (message_of witness)
-  pub none_shorter : (message : Message) → IsLost (shape_of old) (shape_of new) certificate.root message
+  pub lost : IsLost sight.alike (shape_of old) (shape_of new) certificate.root (message_of witness)
+  pub none_shorter : (message : Message) → IsLost sight.alike (shape_of old) (shape_of new) certificate.root message
       → length (enc (shape_of old) certificate.root.old (message_of witness)) ≤ length (enc (shape_of old) certificate.root.old message)
-  pub passes : Holds by_numbers (shape_of old) (shape_of new) certificate
-  pub searched : IsSearched by_numbers (shape_of old) (shape_of new) certificate.root certificate
-  pub breaks : Breaks numbers (shape_of old) (shape_of new) certificate.root.old certificate.root.new (message_of witness)
-  pub least : Least numbers (shape_of old) (shape_of new) certificate.root.old certificate.root.new (length (enc (shape_of old) certificate.root.old (message_of witness)))
+  pub passes : Holds sight (shape_of old) (shape_of new) certificate
+  pub searched : IsSearched sight (shape_of old) (shape_of new) certificate.root certificate
+  pub breaks : Breaks sight.alike (shape_of old) (shape_of new) certificate.root.old certificate.root.new (message_of witness)
+  pub least : Least sight.alike (shape_of old) (shape_of new) certificate.root.old certificate.root.new (length (enc (shape_of old) certificate.root.old (message_of witness)))
   pub bytes_are : certificate.witness ≡ Some (enc (shape_of old) certificate.root.old (message_of witness))
 
--- The promise: of two schemas with a message type of that name the gate answers one of the two, and nothing else.
+-- One of the two, under a sight.
+abbrev pub IsAnswerBy : Sight → Parts → Parts → Text → Answer → Type 0
+IsAnswerBy sight old new root (answers.Compatible certificate) = IsCompatible sight old new root certificate
+IsAnswerBy sight old new root (answers.Breaks witness certificate) = IsBroken sight old new root witness certificate
+
+-- The promise: of two schemas with a message type of that name the gate answers one of the two, and nothing else. Each number of two enums
+-- is the same item.
 abbrev pub IsAnswer : Parts → Parts → Text → Answer → Type 0
-IsAnswer old new root (answers.Compatible certificate) = IsCompatible old new root certificate
-IsAnswer old new root (answers.Breaks witness certificate) = IsBroken old new root witness certificate
+IsAnswer old new root answer = IsAnswerBy by_numbers old new root answer
 
 abbrev pub certificate_of : Answer → Claim
 certificate_of (answers.Compatible certificate) = certificate

@@ -4,6 +4,7 @@ use Rattle.clap.specs.Words.{Text}
 use Rattle.pg_cert.specs.Certificate.{Claim}
 use Rattle.pg_cert.specs.Text.{Certifies}
 use Rattle.pg_dyn.specs.Kept.{Kept}
+use Rattle.pg_pairs.specs.Sight.{by_numbers}
 use Rattle.pg_schema.specs.declared.parts.Parts.{Parts}
 use Rattle.pg_gate.specs.Call.{Request, compile, gate, show, verify}
 use Rattle.pg_link.specs.Walk.{World, world}
@@ -65,14 +66,14 @@ IsAnswerOfFiles root old new answer = Between old new (λ a b. IsAnswer a b root
 -- the types are compatible, as some certificate shows
 pub record IsShownCompatible (old new : Parts) (root : Text) : Type 0 where
   pub certificate : Claim
-  pub compatible : IsCompatible old new root certificate
+  pub compatible : IsCompatible by_numbers old new root certificate
 
 -- The bytes are those of a message that breaks, and no message that breaks has fewer, as some certificate shows. The steps are those of
 -- the certificate's witness.
 pub record IsLeastWitness (old new : Parts) (root : Text) (bytes : List ℕ) (steps : List Step) : Type 0 where
   pub message : Kept
   pub certificate : Claim
-  pub broken : IsBroken old new root message certificate
+  pub broken : IsBroken by_numbers old new root message certificate
   pub bytes_are : certificate.witness ≡ Some bytes
   pub are_steps : AreSteps old new certificate steps
 

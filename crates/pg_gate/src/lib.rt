@@ -7,12 +7,13 @@ mod error;
 mod print;
 mod program;
 
-pub use answer::gate::{Answer, gate, gate_files};
+pub use answer::gate::{Answer, gate, gate_files, gate_with};
 pub use answer::step::{NamedField, Step, Steps};
 pub use answer::verified::Verified;
 pub use error::{Fault, GateError, Side};
 pub use pg_cert::{Certificate, Verdict};
 pub use pg_check::CheckError;
+pub use pg_dyn::ViewName;
 pub use pg_link::{LinkError, Listed, Place, SourceError, Sources};
 pub use print::buffer::Buffer;
 pub use print::hex::{Digits, Hex};

@@ -12,5 +12,5 @@ mod searching;
 mod witness;
 
 pub use least_bounds::settle;
-pub use searching::{Found, find, search, search_counted};
+pub use searching::{Found, find, find_with, search, search_counted, search_with};
 pub use witness::{Step, way};

@@ -8,7 +8,7 @@ ghost use Rattle.pg_dyn.specs.Kept.{message_of, type_of};
 ghost use Rattle.pg_pairs.specs.Choices.{number_for};
 ghost use Rattle.pg_pairs.specs.Edges.{edges};
 ghost use Rattle.pg_pairs.specs.Sight.{by_numbers};
-ghost use Rattle.pg_pairs.specs.Views.{sight_of};
+ghost use Rattle.pg_pairs.specs.SightBy.{sight_by};
 ghost use Rattle.pg_cert.specs.Bounds.{bound_in};
 ghost use Rattle.pg_least.specs.Descent.{IsTableOf};
 ghost use Rattle.pg_least.specs.Exact.{IsBesideClaim, IsSearched};
@@ -58,15 +58,14 @@ fn broken<V: View>(
     root: Pair,
     bounds: Bounds,
 ) -> Result<Found, AllocError>
-    requires table { IsTableOf (sight_of (V.is_alike view.now)
-        (V.least_differing view.now) old.now new.now) (shape_of old.now)
+    requires table { IsTableOf (sight_by V.View view.now old.now new.now) (shape_of old.now)
         (shape_of new.now) root bounds }
     requires number { is_some (number_for (bound_in bounds) root) ≡ true }
     ensures searched { IfOk result (λ found.
-        IsSearched (sight_of (V.is_alike view.now) (V.least_differing view.now) old.now new.now)
+        IsSearched (sight_by V.View view.now old.now new.now)
         (shape_of old.now) (shape_of new.now) root found.certificate) }
     ensures witness { IfOk result (λ found.
-        IsBesideClaim (sight_of (V.is_alike view.now) (V.least_differing view.now) old.now new.now)
+        IsBesideClaim (sight_by V.View view.now old.now new.now)
         (shape_of old.now) (shape_of new.now) found.certificate found.witness) }
     ensures bounds { IfOk result (λ found. found.certificate.bounds ≡ bounds) }
 {
@@ -91,15 +90,12 @@ fn broken<V: View>(
 
 // The certificate of a root that no message breaks.
 fn unbroken<V: View>(view: &V, old: &Schema, new: &Schema, root: Pair, bounds: Bounds) -> Found
-    requires table { IsTableOf (sight_of (V.is_alike view.now)
-        (V.least_differing view.now) old.now new.now) (shape_of old.now)
+    requires table { IsTableOf (sight_by V.View view.now old.now new.now) (shape_of old.now)
         (shape_of new.now) root bounds }
     requires none { is_some (number_for (bound_in bounds) root) ≡ false }
-    ensures searched { IsSearched (sight_of (V.is_alike view.now)
-        (V.least_differing view.now) old.now new.now) (shape_of old.now)
+    ensures searched { IsSearched (sight_by V.View view.now old.now new.now) (shape_of old.now)
         (shape_of new.now) root result.certificate }
-    ensures witness { IsBesideClaim (sight_of (V.is_alike view.now)
-        (V.least_differing view.now) old.now new.now) (shape_of old.now)
+    ensures witness { IsBesideClaim (sight_by V.View view.now old.now new.now) (shape_of old.now)
         (shape_of new.now) result.certificate result.witness }
     ensures bounds { result.certificate.bounds ≡ bounds }
 {
@@ -128,14 +124,13 @@ fn certified<V: View>(
     root: Pair,
     bounds: Bounds,
 ) -> Result<Found, AllocError>
-    requires { IsTableOf (sight_of (V.is_alike view.now)
-        (V.least_differing view.now) old.now new.now) (shape_of old.now)
+    requires { IsTableOf (sight_by V.View view.now old.now new.now) (shape_of old.now)
         (shape_of new.now) root bounds }
     ensures searched { IfOk result (λ found.
-        IsSearched (sight_of (V.is_alike view.now) (V.least_differing view.now) old.now new.now)
+        IsSearched (sight_by V.View view.now old.now new.now)
         (shape_of old.now) (shape_of new.now) root found.certificate) }
     ensures witness { IfOk result (λ found.
-        IsBesideClaim (sight_of (V.is_alike view.now) (V.least_differing view.now) old.now new.now)
+        IsBesideClaim (sight_by V.View view.now old.now new.now)
         (shape_of old.now) (shape_of new.now) found.certificate found.witness) }
     ensures bounds { IfOk result (λ found. found.certificate.bounds ≡ bounds) }
 {
@@ -156,7 +151,7 @@ fn settled<V: View>(
     requires old_type { root.old.index < length (shape_of old.now) }
     requires new_type { root.new.index < length (shape_of new.now) }
     ensures table { IfOk result (λ found.
-        IsTableOf (sight_of (V.is_alike view.now) (V.least_differing view.now) old.now new.now)
+        IsTableOf (sight_by V.View view.now old.now new.now)
         (shape_of old.now) (shape_of new.now) root found.0) }
     ensures counted { IfOk result (λ found.
         IsCounted (edges (shape_of old.now) (shape_of new.now)) found.0 found.1) }
@@ -170,7 +165,7 @@ fn settled<V: View>(
 }
 
 // What a search finds under the view, with the work that its table took.
-fn find_with<V: View>(
+fn found_counted<V: View>(
     alloc: Global,
     view: &V,
     old: &Schema,
@@ -180,10 +175,10 @@ fn find_with<V: View>(
     requires old_type { root.old.index < length (shape_of old.now) }
     requires new_type { root.new.index < length (shape_of new.now) }
     ensures searched { IfOk result (λ found.
-        IsSearched (sight_of (V.is_alike view.now) (V.least_differing view.now) old.now new.now)
+        IsSearched (sight_by V.View view.now old.now new.now)
         (shape_of old.now) (shape_of new.now) root found.0.certificate) }
     ensures witness { IfOk result (λ found.
-        IsBesideClaim (sight_of (V.is_alike view.now) (V.least_differing view.now) old.now new.now)
+        IsBesideClaim (sight_by V.View view.now old.now new.now)
         (shape_of old.now) (shape_of new.now) found.0.certificate found.0.witness) }
     ensures counted { IfOk result (λ found.
         IsCounted (edges (shape_of old.now) (shape_of new.now)) found.0.certificate.bounds
@@ -194,10 +189,36 @@ fn find_with<V: View>(
     Ok((found, work))
 }
 
+/// The certificate of a pair of types under the view: the bounds of all pairs that it leads to,
+/// each the length of the shortest message of its pair that breaks, or 'none' where no message
+/// does; and where the pair's own bound is a number, a breaking message of just so many bytes. Both
+/// types of the pair have to be there.
+///
+/// Refused only where memory is.
+pub fn find_with<V: View>(
+    alloc: Global,
+    view: &V,
+    old: &Schema,
+    new: &Schema,
+    root: Pair,
+) -> Result<Found, AllocError>
+    requires old_type { root.old.index < length (shape_of old.now) }
+    requires new_type { root.new.index < length (shape_of new.now) }
+    ensures searched { IfOk result (λ found.
+        IsSearched (sight_by V.View view.now old.now new.now)
+        (shape_of old.now) (shape_of new.now) root found.certificate) }
+    ensures witness { IfOk result (λ found.
+        IsBesideClaim (sight_by V.View view.now old.now new.now)
+        (shape_of old.now) (shape_of new.now) found.certificate found.witness) }
+{
+    let (found, _) = found_counted(alloc, view, old, new, root)?;
+    Ok(found)
+}
+
 /// The certificate of a pair of types: the bounds of all pairs that it leads to, each the length of
 /// the shortest message of its pair that breaks, or 'none' where no message does; and where the
 /// pair's own bound is a number, a breaking message of just so many bytes. Both types of the pair
-/// have to be there.
+/// have to be there. Enums are compared by their numbers alone, as `find_with` does by `Numbers`.
 ///
 /// Refused only where memory is.
 pub fn find(alloc: Global, old: &Schema, new: &Schema, root: Pair) -> Result<Found, AllocError>
@@ -209,8 +230,27 @@ pub fn find(alloc: Global, old: &Schema, new: &Schema, root: Pair) -> Result<Fou
         (shape_of new.now) found.certificate found.witness) }
 {
     numbers_are_alike();
-    let (found, _) = find_with(alloc, &Numbers, old, new, root)?;
-    Ok(found)
+    find_with(alloc, &Numbers, old, new, root)
+}
+
+/// The certificate that `find_with` answers of a pair of types, without the message beside it. Both
+/// types of the pair have to be there.
+///
+/// Refused only where memory is.
+pub fn search_with<V: View>(
+    alloc: Global,
+    view: &V,
+    old: &Schema,
+    new: &Schema,
+    root: Pair,
+) -> Result<Certificate, AllocError>
+    requires old_type { root.old.index < length (shape_of old.now) }
+    requires new_type { root.new.index < length (shape_of new.now) }
+    ensures { IfOk result (λ certificate. IsSearched (sight_by V.View view.now old.now new.now)
+        (shape_of old.now) (shape_of new.now) root certificate) }
+{
+    let found = find_with(alloc, view, old, new, root)?;
+    Ok(found.certificate)
 }
 
 /// The certificate that `find` answers of a pair of types, and the work that its bounds took: the
@@ -232,7 +272,7 @@ pub fn search_counted(
         IsCounted (edges (shape_of old.now) (shape_of new.now)) found.0.bounds found.1) }
 {
     numbers_are_alike();
-    let (found, work) = find_with(alloc, &Numbers, old, new, root)?;
+    let (found, work) = found_counted(alloc, &Numbers, old, new, root)?;
     Ok((found.certificate, work))
 }
 

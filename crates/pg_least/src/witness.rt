@@ -8,7 +8,7 @@ ghost use Rattle.pg_pairs.specs.Carried.{IsChoiceRound};
 ghost use Rattle.pg_pairs.specs.Choices.{Table, number_for};
 ghost use Rattle.pg_pairs.specs.Laws.{ReachedBy};
 ghost use Rattle.pg_pairs.specs.Sight.{by_numbers};
-ghost use Rattle.pg_pairs.specs.Views.{sight_of};
+ghost use Rattle.pg_pairs.specs.SightBy.{sight_by};
 ghost use Rattle.pg_cert.specs.Bounds.{bound_in};
 ghost use Rattle.pg_least.specs.Descent.{IsExactTable, IsStep, IsWay, IsWholeWay, first_step};
 ghost use Rattle.pg_least.specs.Exact.{IsSearched};
@@ -36,13 +36,12 @@ fn step_at<V: View>(
     bounds: &Bounds,
     pair: Pair,
 ) -> Result<Step, AllocError>
-    requires exact { IsExactTable (sight_of (V.is_alike view.now)
-        (V.least_differing view.now) old.now new.now) (shape_of old.now) (shape_of new.now)
-        (bound_in bounds.now) }
+    requires exact { IsExactTable (sight_by V.View view.now old.now new.now) (shape_of old.now)
+        (shape_of new.now) (bound_in bounds.now) }
     requires number { is_some (number_for (bound_in bounds.now) pair) ≡ true }
     ensures pair { IfOk result (λ step. step.pair ≡ pair) }
     ensures step { IfOk result (λ step.
-        IsStep (sight_of (V.is_alike view.now) (V.least_differing view.now) old.now new.now)
+        IsStep (sight_by V.View view.now old.now new.now)
         (shape_of old.now) (shape_of new.now) (bound_in bounds.now) step) }
 {
     // The cheapest choice costs what an exact bound says.
@@ -62,13 +61,12 @@ fn steps_down<V: View>(
     bounds: &Bounds,
     pair: Pair,
 ) -> Result<(Vec<Step>, Step), AllocError>
-    requires exact { IsExactTable (sight_of (V.is_alike view.now)
-        (V.least_differing view.now) old.now new.now) (shape_of old.now) (shape_of new.now)
-        (bound_in bounds.now) }
+    requires exact { IsExactTable (sight_by V.View view.now old.now new.now) (shape_of old.now)
+        (shape_of new.now) (bound_in bounds.now) }
     requires number { is_some (number_for (bound_in bounds.now) pair) ≡ true }
     ensures first { IfOk result (λ steps. (first_step steps.0.items steps.1).pair ≡ pair) }
     ensures whole { IfOk result (λ steps.
-        IsWholeWay (sight_of (V.is_alike view.now) (V.least_differing view.now) old.now new.now)
+        IsWholeWay (sight_by V.View view.now old.now new.now)
         (shape_of old.now) (shape_of new.now) (bound_in bounds.now) steps.0.items steps.1) }
 {
     // What holds of every schema and every view, so that the costs fall.
@@ -95,13 +93,12 @@ fn carried<V: View>(
     child: Option<Message>,
 ) -> Result<Message, AllocError>
     requires child { IfSome child (Fits (shape_of old.now)) }
-    requires round { IsChoiceRound (sight_of (V.is_alike view.now)
-        (V.least_differing view.now) old.now new.now) (shape_of old.now)
+    requires round { IsChoiceRound (sight_by V.View view.now old.now new.now) (shape_of old.now)
         (shape_of new.now) step.pair step.choice child }
     ensures fits { IfOk result (λ m. Fits (shape_of old.now) m) }
     ensures type_is { IfOk result (λ m. type_of m ≡ step.pair.old) }
     ensures reached { IfOk result (λ m.
-        ReachedBy (sight_of (V.is_alike view.now) (V.least_differing view.now) old.now new.now)
+        ReachedBy (sight_by V.View view.now old.now new.now)
         (shape_of old.now) (shape_of new.now) step.pair (message_of m) step.choice.cost) }
 {
     carry(alloc, view, old, new, step.pair, &step.choice, child)
@@ -117,12 +114,12 @@ fn built<V: View>(
     last: Step,
 ) -> Result<Message, AllocError>
     requires { (table : Table) × IsWholeWay
-        (sight_of (V.is_alike view.now) (V.least_differing view.now) old.now new.now)
+        (sight_by V.View view.now old.now new.now)
         (shape_of old.now) (shape_of new.now) table steps.items last }
     ensures fits { IfOk result (λ m. Fits (shape_of old.now) m) }
     ensures type_is { IfOk result (λ m. type_of m ≡ (first_step steps.items last).pair.old) }
     ensures reached { IfOk result (λ m.
-        ReachedBy (sight_of (V.is_alike view.now) (V.least_differing view.now) old.now new.now)
+        ReachedBy (sight_by V.View view.now old.now new.now)
         (shape_of old.now) (shape_of new.now) (first_step steps.items last).pair (message_of m)
         (first_step steps.items last).choice.cost) }
 {
@@ -145,14 +142,13 @@ pub(crate) fn witness<V: View>(
     bounds: &Bounds,
     pair: Pair,
 ) -> Result<Message, AllocError>
-    requires exact { IsExactTable (sight_of (V.is_alike view.now)
-        (V.least_differing view.now) old.now new.now) (shape_of old.now) (shape_of new.now)
-        (bound_in bounds.now) }
+    requires exact { IsExactTable (sight_by V.View view.now old.now new.now) (shape_of old.now)
+        (shape_of new.now) (bound_in bounds.now) }
     requires number { is_some (number_for (bound_in bounds.now) pair) ≡ true }
     ensures fits { IfOk result (λ m. Fits (shape_of old.now) m) }
     ensures type_is { IfOk result (λ m. type_of m ≡ pair.old) }
     ensures reached { IfOk result (λ m. (bytes : ℕ) → bound_in bounds.now pair ≡ Some (Some bytes)
-        → ReachedBy (sight_of (V.is_alike view.now) (V.least_differing view.now) old.now new.now)
+        → ReachedBy (sight_by V.View view.now old.now new.now)
         (shape_of old.now) (shape_of new.now) pair (message_of m) bytes) }
 {
     let (steps, last) = steps_down(alloc, view, old, new, bounds, pair)?;
@@ -167,12 +163,11 @@ fn way_with<V: View>(
     new: &Schema,
     certificate: &Certificate,
 ) -> Result<Vec<Step>, AllocError>
-    requires searched { IsSearched (sight_of (V.is_alike view.now)
-        (V.least_differing view.now) old.now new.now) (shape_of old.now)
+    requires searched { IsSearched (sight_by V.View view.now old.now new.now) (shape_of old.now)
         (shape_of new.now) certificate.now.root certificate.now }
     requires breaks { is_some certificate.now.witness ≡ true }
     ensures { IfOk result (λ steps. IsWay
-        (sight_of (V.is_alike view.now) (V.least_differing view.now) old.now new.now)
+        (sight_by V.View view.now old.now new.now)
         (shape_of old.now) (shape_of new.now) (bound_in certificate.now.bounds) certificate.now.root
         steps.items) }
 {

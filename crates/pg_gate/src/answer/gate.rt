@@ -1,21 +1,26 @@
 //! The gate: whether a reader of the new type sees all that a writer of the old one writes.
-ghost use Rattle.std.specs.Prelude.{◌≡◌, ◌+◌, Err, codes, IfErr, IfOk};
+ghost use Rattle.std.specs.Prelude.{◌≡◌, ◌+◌, ◌<◌, length, Err, codes, IfErr, IfOk};
+ghost use Rattle.pg_schema.specs.Parts.{shape_of};
+ghost use Rattle.pg_pairs.specs.NamedSight.{sight_named};
+ghost use Rattle.pg_least.specs.Exact.{IsBesideClaim, IsSearched};
 ghost use Rattle.pg_gate.specs.Answer.{AreRoots, IsAnswer, IsRefusedRoot, Lacks, certificate_of};
 ghost use Rattle.pg_gate.specs.Failures.{side_failures};
 ghost use Rattle.pg_gate.specs.Files.{paths_of};
 ghost use Rattle.pg_gate.specs.Grants.{IsAnswerOfFiles, IsGateError};
+ghost use Rattle.pg_gate.specs.ViewAnswer.{IsAnswerUnder};
 ghost use Rattle.pg_gate.specs.declared.error.GateError.TheVariants as errors;
 ghost use Rattle.pg_link.specs.Walk.{world};
 
 use crate::answer::both_sides::{SideFiles, compile_both};
 use crate::error::{GateError, Side};
 use pg_cert::Certificate;
-use pg_dyn::Message;
-use pg_least::{Found, find};
+use pg_dyn::{Message, ViewName};
+use pg_least::{Found, find_with};
 use pg_link::Sources;
-use pg_pairs::Pair;
+use pg_pairs::laws::numbers_are_alike;
+use pg_pairs::{Names, Numbers, Pair, View, sees_by_name};
 use pg_schema::Schema;
-use std::alloc::Global;
+use std::alloc::{AllocError, Global};
 
 /// What the gate says of two message types, with the certificate that shows it.
 #[derive(Drop)]
@@ -63,9 +68,85 @@ fn roots(old: &Schema, new: &Schema, root: &str) -> Result<Pair, GateError>
     })
 }
 
+/// What a search between these types finds, as the view of this one's name sees them.
+fn found_by<V: View>(
+    alloc: Global,
+    view: &V,
+    old: &Schema,
+    new: &Schema,
+    pair: Pair,
+) -> Result<Found, AllocError>
+    requires old_type { pair.old.index < length (shape_of old.now) }
+    requires new_type { pair.new.index < length (shape_of new.now) }
+    ensures searched { IfOk result (λ found. IsSearched (sight_named V.NAME old.now new.now)
+        (shape_of old.now) (shape_of new.now) pair found.certificate) }
+    ensures witness { IfOk result (λ found. IsBesideClaim (sight_named V.NAME old.now new.now)
+        (shape_of old.now) (shape_of new.now) found.certificate found.witness) }
+{
+    sees_by_name(view, old, new);
+    find_with(alloc, view, old, new, pair)
+}
+
+/// What a search between these types finds under the view of that name.
+fn found_under(
+    alloc: Global,
+    old: &Schema,
+    new: &Schema,
+    pair: Pair,
+    view: ViewName,
+) -> Result<Found, AllocError>
+    requires old_type { pair.old.index < length (shape_of old.now) }
+    requires new_type { pair.new.index < length (shape_of new.now) }
+    ensures searched { IfOk result (λ found. IsSearched (sight_named view old.now new.now)
+        (shape_of old.now) (shape_of new.now) pair found.certificate) }
+    ensures witness { IfOk result (λ found. IsBesideClaim (sight_named view old.now new.now)
+        (shape_of old.now) (shape_of new.now) found.certificate found.witness) }
+{
+    match view {
+        ViewName::Numbers => found_by(alloc, &Numbers, old, new, pair),
+        ViewName::Names => found_by(alloc, &Names, old, new, pair),
+    }
+}
+
 /// Whether the new reader sees all that the old writer writes, for the message types of this full
 /// name: that it does, or a message of the old type that breaks, of which none has fewer bytes;
-/// either with the certificate of the two types, which a checker takes.
+/// either with the certificate of the two types, which a checker takes. Enums are compared by the
+/// view of that name: under `Names` a number that both enums declare is another item where they
+/// give it other names.
+///
+/// Refused are want of memory (`Memory`), an old schema without the name (`RootMissingOld`), and
+/// else a new one without it (`RootMissingNew`).
+pub fn gate_with(
+    alloc: Global,
+    old: &Schema,
+    new: &Schema,
+    root: &str,
+    view: ViewName,
+) -> Result<Answer, GateError>
+    ensures answer { IfOk result (IsAnswerUnder view old.now new.now root.now) }
+    ensures old_missing { Lacks old.now root.now → result ≡ Err errors.RootMissingOld }
+    ensures new_missing { (Lacks old.now root.now → ⊥) → Lacks new.now root.now
+        → result ≡ Err errors.RootMissingNew }
+    ensures refused { IfErr result (IsRefusedRoot old.now new.now root.now) }
+{
+    let pair = roots(old, new, root)?;
+    let Found {
+        certificate,
+        witness,
+    } = found_under(alloc, old, new, pair, view)?;
+    match witness {
+        Some(witness) => Ok(Answer::Breaks {
+            witness,
+            certificate,
+        }),
+        None => Ok(Answer::Compatible(certificate)),
+    }
+}
+
+/// Whether the new reader sees all that the old writer writes, for the message types of this full
+/// name: that it does, or a message of the old type that breaks, of which none has fewer bytes;
+/// either with the certificate of the two types, which a checker takes. Enums are compared by their
+/// numbers alone, as `gate_with` does under `Numbers`.
 ///
 /// Refused are want of memory (`Memory`), an old schema without the name (`RootMissingOld`), and
 /// else a new one without it (`RootMissingNew`).
@@ -76,18 +157,9 @@ pub fn gate(alloc: Global, old: &Schema, new: &Schema, root: &str) -> Result<Ans
         → result ≡ Err errors.RootMissingNew }
     ensures refused { IfErr result (IsRefusedRoot old.now new.now root.now) }
 {
-    let pair = roots(old, new, root)?;
-    let Found {
-        certificate,
-        witness,
-    } = find(alloc, old, new, pair)?;
-    match witness {
-        Some(witness) => Ok(Answer::Breaks {
-            witness,
-            certificate,
-        }),
-        None => Ok(Answer::Compatible(certificate)),
-    }
+    // By their numbers all items of enums are alike.
+    numbers_are_alike();
+    gate_with(alloc, old, new, root, ViewName::Numbers)
 }
 
 /// The same over two sources: the schemas are those of the texts at these paths and of all that

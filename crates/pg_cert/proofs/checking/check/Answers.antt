@@ -1,36 +1,28 @@
--- What the checker finds is said of all messages.
-use Rattle.std.proofs.Common.{◌≡◌, ℕ, Option, None, ap, subst, sym, ◌∙◌}
-use Rattle.std.specs.Option.{option_copied}
+-- The view by numbers has the sight by numbers.
+use Rattle.std.proofs.Common.{◌≡◌, ◌⊎◌, IfErr, IfOk, OnOk, subst}
 use Rattle.pg_schema.specs.Parts.{shape_of}
-use Rattle.pg_pairs.specs.declared.choice.Pair.{Pair}
-use Rattle.pg_pairs.specs.Sight.{by_numbers}
-use Rattle.pg_cert.specs.Bounds.{bound_in}
-use Rattle.pg_cert.specs.Certificate.{IsWitnessed, bound_verdict}
-use Rattle.pg_cert.specs.Faults.{first_fault}
-use Rattle.pg_cert.proofs.Verdicts.{says, says_witnessed}
+use Rattle.pg_cert.specs.declared.error.CertError.TheVariants as errors
+use Rattle.pg_cert.specs.Certificate.{Holds}
+use Rattle.pg_cert.specs.Faults.{IsFirstFault}
+use Rattle.pg_cert.specs.Laws.{Says}
 use Rattle.pg_cert.proofs.checking.check.Goals as goal
 
-pub returns-in_ok-check_witness-in-Some-clause-says : goal.returns-in_ok-check_witness-in-Some-clause-says
-returns-in_ok-check_witness-in-Some-clause-says c =
-    let old = shape_of c.args.old.now in
-    let new = shape_of c.args.new.now in
-    let claim = c.args.certificate.now in
-    let faultless : first_fault by_numbers old new claim.bounds claim.root ≡ None =
-    ap (λ bounds. first_fault by_numbers old new bounds claim.root) (sym c.bounds-bounds.ensures) ∙ ap (λ root. first_fault by_numbers old new c.bounds-bounds.result.now root) (sym c.root-root.ensures.root) ∙ c.in_ok-check_table.ensures in
-    let covers = (c.covers_without_fault.ensures by_numbers old new claim.bounds claim.root c.root-root.ensures.checked).0 faultless in
-    let bound : c.bound-bound.result ≡ bound_in claim.bounds claim.root =
-    c.bound-bound.ensures ∙ ap (λ bounds. bound_in bounds c.root-root.result) c.bounds-bounds.ensures ∙ ap (bound_in claim.bounds) c.root-root.ensures.root in
-    let witnessed = subst (λ (root : Pair). IsWitnessed by_numbers (shape_of c.args.old.now) (shape_of c.args.new.now) root (bound_in c.args.certificate.now.bounds c.args.certificate.now.root) c.in-Some.bytes.now) c.root-root.ensures.root
-    (subst (λ (b : Option (Option ℕ)). IsWitnessed by_numbers (shape_of c.args.old.now) (shape_of c.args.new.now) c.root-root.result b c.in-Some.bytes.now) bound c.in_ok-check_witness-in-Some.ensures) in
-    says_witnessed c.verdicts_are_true.ensures by_numbers old new claim c.numbers_sight.ensures c.parts.ensures.checked.shape c.parts-2.ensures.checked.shape covers c.in-Some.bytes.now (sym c.witness.ensures.witness ∙ ap option_copied c.in-Some.is) witnessed
+pub returns-clause-holds : goal.returns-clause-holds
+returns-clause-holds c =
+    subst (λ sight. OnOk c.check_with.result (Holds sight (shape_of c.args.old.now) (shape_of c.args.new.now) c.args.certificate.now))
+    (c.numbers_are_alike.ensures c.args.old.now c.args.new.now) c.check_with.ensures.holds
 
-pub returns-in-None-clause-says : goal.returns-in-None-clause-says
-returns-in-None-clause-says c =
-    let old = shape_of c.args.old.now in
-    let new = shape_of c.args.new.now in
-    let claim = c.args.certificate.now in
-    let faultless : first_fault by_numbers old new claim.bounds claim.root ≡ None =
-    ap (λ bounds. first_fault by_numbers old new bounds claim.root) (sym c.bounds-bounds.ensures) ∙ ap (λ root. first_fault by_numbers old new c.bounds-bounds.result.now root) (sym c.root-root.ensures.root) ∙ c.in_ok-check_table.ensures in
-    let covers = (c.covers_without_fault.ensures by_numbers old new claim.bounds claim.root c.root-root.ensures.checked).0 faultless in
-    says c.verdicts_are_true.ensures by_numbers old new claim c.numbers_sight.ensures c.parts.ensures.checked.shape c.parts-2.ensures.checked.shape covers (sym c.witness.ensures.witness ∙ ap option_copied c.in-None.is) c.bound_verdict.result
-    (c.bound_verdict.ensures ∙ ap bound_verdict (c.bound-bound.ensures ∙ ap (λ bounds. bound_in bounds c.root-root.result) c.bounds-bounds.ensures ∙ ap (bound_in claim.bounds) c.root-root.ensures.root))
+pub returns-clause-says : goal.returns-clause-says
+returns-clause-says c =
+    subst (λ sight. IfOk c.check_with.result (λ verdict. Says sight (shape_of c.args.old.now) (shape_of c.args.new.now) c.args.certificate.now verdict))
+    (c.numbers_are_alike.ensures c.args.old.now c.args.new.now) c.check_with.ensures.says
+
+pub returns-clause-first_fault : goal.returns-clause-first_fault
+returns-clause-first_fault c =
+    subst (λ sight. IfErr c.check_with.result (λ e. (e ≡ errors.Memory) ⊎ IsFirstFault sight (shape_of c.args.old.now) (shape_of c.args.new.now) c.args.certificate.now e))
+    (c.numbers_are_alike.ensures c.args.old.now c.args.new.now) c.check_with.ensures.first_fault
+
+pub returns-clause-refused : goal.returns-clause-refused
+returns-clause-refused c =
+    subst (λ sight. IfErr c.check_with.result (λ e. (e ≡ errors.Memory) ⊎ (Holds sight (shape_of c.args.old.now) (shape_of c.args.new.now) c.args.certificate.now → ⊥)))
+    (c.numbers_are_alike.ensures c.args.old.now c.args.new.now) c.check_with.ensures.refused

@@ -1,13 +1,13 @@
 -- The three clauses, one after the other.
 use Rattle.std.proofs.Common.{◌∙◌, inr, subst, sym, true≢false}
 use Rattle.pg_schema.specs.Parts.{shape_of}
-use Rattle.pg_pairs.specs.Sight.{by_numbers}
+use Rattle.pg_pairs.specs.SightBy.{sight_by}
 use Rattle.pg_cert.specs.Faults.{IsReadBack}
 use Rattle.pg_cert.proofs.WitnessSteps.{keeps_of, witnessed_of, written_of}
 use Rattle.pg_cert.proofs.witness.check_witness.Goals as goal
 
 pub returns-then-not-has_length : goal.returns-then-not-has_length
-returns-then-not-has_length c =
+returns-then-not-has_length g c =
     let writing = subst (IsReadBack (shape_of c.args.old.now) c.args.root c.args.bytes.now) c.in-Some.is c.in_ok-message.ensures in
     inr (
       written_of (shape_of c.args.old.now) c.args.root c.args.bytes.now c.in-Some.message writing,
@@ -15,18 +15,20 @@ returns-then-not-has_length c =
     )
 
 pub returns-then-not-branch : goal.returns-then-not-branch
-returns-then-not-branch c =
+returns-then-not-branch g c =
+    let sight = sight_by g.V.View c.args.view.now c.args.old.now c.args.new.now in
     let writing = subst (IsReadBack (shape_of c.args.old.now) c.args.root c.args.bytes.now) c.in-Some.is c.in_ok-message.ensures in
     let exact = c.in_ok-written_breaks.ensures in
     inr (
       written_of (shape_of c.args.old.now) c.args.root c.args.bytes.now c.in-Some.message writing,
       c.has_length.ensures.0 c.if-not-has_length.false,
-      keeps_of (shape_of c.args.old.now) c.args.root c.args.bytes.now c.in-Some.message writing by_numbers (shape_of c.args.new.now) c.args.bound c.reads_again.ensures c.parts.ensures.checked.shape
+      keeps_of (shape_of c.args.old.now) c.args.root c.args.bytes.now c.in-Some.message writing sight (shape_of c.args.new.now) c.args.bound c.reads_again.ensures c.parts.ensures.checked.shape
           (λ breaks. true≢false (sym (exact.1 (writing.type_is, breaks)) ∙ c.if-not-branch.true)),
     )
 
 pub returns : goal.returns
-returns c =
+returns g c =
+    let sight = sight_by g.V.View c.args.view.now c.args.old.now c.args.new.now in
     let writing = subst (IsReadBack (shape_of c.args.old.now) c.args.root c.args.bytes.now) c.in-Some.is c.in_ok-message.ensures in
     let exact = c.in_ok-written_breaks.ensures in
-    witnessed_of (shape_of c.args.old.now) c.args.root c.args.bytes.now c.in-Some.message writing by_numbers (shape_of c.args.new.now) c.args.bound (c.has_length.ensures.0 c.if-not-has_length.false) (exact.0 c.if-not-branch.false).1
+    witnessed_of (shape_of c.args.old.now) c.args.root c.args.bytes.now c.in-Some.message writing sight (shape_of c.args.new.now) c.args.bound (c.has_length.ensures.0 c.if-not-has_length.false) (exact.0 c.if-not-branch.false).1

@@ -1,17 +1,8 @@
-use Rattle.std.proofs.Common.{Option, subst}
-use Rattle.pg_dyn.specs.Kept.{Kept}
-use Rattle.pg_gate.specs.Answer.{IsAnswer}
-use Rattle.pg_gate.proofs.AnswerLemmas.{answer_with, answered}
+-- The view by numbers has the sight by numbers.
+use Rattle.std.proofs.Common.{IfOk, subst}
+use Rattle.pg_gate.specs.Answer.{IsAnswerBy}
 use Rattle.pg_gate.proofs.answer.gate.gate.Goals as goal
 
-pub returns-in-Some-clause-answer : goal.returns-in-Some-clause-answer
-returns-in-Some-clause-answer c =
-    let found = c.in_ok-certificate.field-0 in
-    subst (λ (witness : Option Kept). IsAnswer c.args.old.now c.args.new.now c.args.root.now (answer_with found.certificate witness)) c.in-Some.is
-    (answered c.args.old.now c.args.new.now c.args.root.now c.in_ok-pair.pair found.certificate found.witness c.in_ok-pair.ensures.named c.in_ok-certificate.ensures.searched c.in_ok-certificate.ensures.witness)
-
-pub returns-in-None-clause-answer : goal.returns-in-None-clause-answer
-returns-in-None-clause-answer c =
-    let found = c.in_ok-certificate.field-0 in
-    subst (λ (witness : Option Kept). IsAnswer c.args.old.now c.args.new.now c.args.root.now (answer_with found.certificate witness)) c.in-None.is
-    (answered c.args.old.now c.args.new.now c.args.root.now c.in_ok-pair.pair found.certificate found.witness c.in_ok-pair.ensures.named c.in_ok-certificate.ensures.searched c.in_ok-certificate.ensures.witness)
+pub returns-clause-answer : goal.returns-clause-answer
+returns-clause-answer c =
+    subst (λ sight. IfOk c.gate_with.result (IsAnswerBy sight c.args.old.now c.args.new.now c.args.root.now)) (c.numbers_are_alike.ensures c.args.old.now c.args.new.now) c.gate_with.ensures.answer

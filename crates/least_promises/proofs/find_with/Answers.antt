@@ -1,0 +1,8 @@
+use Rattle.std.proofs.Common.{rules}
+use Rattle.least_promises.proofs.find_with.Goals as goal
+
+pub returns-clause-searched : goal.returns-clause-searched
+returns-clause-searched g c = search rules
+
+pub returns-clause-witness : goal.returns-clause-witness
+returns-clause-witness g c = search rules

@@ -1,0 +1,13 @@
+-- The view sees what the one of its name does.
+use Rattle.std.proofs.Common.{IfOk, subst}
+use Rattle.pg_schema.specs.Parts.{shape_of}
+use Rattle.pg_least.specs.Exact.{IsBesideClaim, IsSearched}
+use Rattle.pg_gate.proofs.answer.gate.found_by.Goals as goal
+
+pub returns-clause-searched : goal.returns-clause-searched
+returns-clause-searched g c =
+    subst (λ sight. IfOk c.find_with.result (λ found. IsSearched sight (shape_of c.args.old.now) (shape_of c.args.new.now) c.args.pair found.certificate)) c.sees_by_name.ensures c.find_with.ensures.searched
+
+pub returns-clause-witness : goal.returns-clause-witness
+returns-clause-witness g c =
+    subst (λ sight. IfOk c.find_with.result (λ found. IsBesideClaim sight (shape_of c.args.old.now) (shape_of c.args.new.now) found.certificate found.witness)) c.sees_by_name.ensures c.find_with.ensures.witness

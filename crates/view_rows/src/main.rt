@@ -1,0 +1,19 @@
+//! What `gate_with` answers of two schemas under each view, for each line of standard input.
+//!
+//! A line is `WHAT IT SHOWS | OLD SCHEMA | NEW SCHEMA`. The schemas are spelled as `tiny_schemas`
+//! says, and the types that are asked for are called `M`. What is printed is the least message that
+//! breaks, in hexadecimal digits, or that the types are compatible: by the numbers of enums, and by
+//! their names.
+#![tactic(auto)]
+
+mod row;
+
+use std::io;
+
+fn main(rt: HostRuntime) -> io::Result<()> {
+    for line in rt.lines(rt.alloc()) {
+        let text = row::answer(rt.alloc(), line?.as_str())?;
+        println!(rt; "{text}")?;
+    }
+    Ok(())
+}

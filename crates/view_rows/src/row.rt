@@ -1,0 +1,44 @@
+//! One row.
+use pg_gate::{Answer, GateError, ViewName, gate_with};
+use pg_schema::Schema;
+use rows::cut;
+use std::alloc::{AllocError, Global};
+use tiny_schemas::schemas;
+
+fn shown(alloc: Global, answer: &Answer) -> Result<String, AllocError> {
+    match answer {
+        Answer::Compatible(_) => String::from_str(alloc, "compatible"),
+        Answer::Breaks { certificate, .. } => {
+            hex::encode(alloc, certificate.witness().unwrap_or(&[]))
+        }
+    }
+}
+
+fn asked(alloc: Global, old: &Schema, new: &Schema, view: ViewName) -> Result<String, AllocError> {
+    match gate_with(alloc, old, new, "M", view) {
+        Ok(answer) => shown(alloc, &answer),
+        Err(GateError::Memory) => Err(AllocError),
+        Err(_) => String::from_str(alloc, "no such type"),
+    }
+}
+
+fn both(alloc: Global, old: &Schema, new: &Schema) -> Result<String, AllocError> {
+    let numbers = asked(alloc, old, new, ViewName::Numbers)?;
+    let names = asked(alloc, old, new, ViewName::Names)?;
+    format!(in alloc; "{numbers} | {names}")
+}
+
+fn answered(alloc: Global, old: &str, new: &str) -> Result<String, AllocError> {
+    match schemas(alloc, old, new)? {
+        Some((old, new)) => both(alloc, &old, &new),
+        None => String::from_str(alloc, "no schemas"),
+    }
+}
+
+/// What a row shows, and the answers by number and by name.
+pub(crate) fn answer(alloc: Global, row: &str) -> Result<String, AllocError> {
+    let (shows, lines) = cut(row);
+    let (old, new) = cut(lines);
+    let text = answered(alloc, old, new)?;
+    format!(in alloc; "{shows} | {text}")
+}
