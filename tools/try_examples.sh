@@ -139,7 +139,7 @@ try_terminal() {
     compare "$1: ended" "" "$(said_on_terminal "$1" '"$slow" show; sleep 2')"
     compare "$1: ended, and not waited for" "" "$(said_on_terminal "$1" '"$slow" show & exec sleep 2')"
     compare "$1: stopped" "" "$(said_on_terminal "$1" '"$slow" verify & sleep 2; kill -CONT $!; wait')"
-    compare "$1: an open file" "free" "$(said_on_terminal "$1" '(flock -n 9; "$slow" show) 9>lock; flock -n lock echo free')"
+    compare "$1: an open file" "free" "$(said_on_terminal "$1" '(flock -n 9; "$slow" show) 9>lock; flock -w 0.5 lock echo free')"
 }
 
 # Large pages are asked for, where the user asks the C library for nothing else.
