@@ -6,6 +6,7 @@ usage: tools/build.py    what is built already, and unchanged, is taken as it st
 
 import os
 import re
+import shutil
 import subprocess
 import sys
 import tempfile
@@ -65,14 +66,53 @@ def say(text):
     print(f"protogate: {text}", file=sys.stderr, flush=True)
 
 
-def begin(name, jobs, room):
+def lane_of(name):
+    """Returns the folder in which a crate is checked while rt keeps its own place for another check."""
+    return f"{TOP}/crates/{PROGRAM}/out/lanes/{name}"
+
+
+def link_tree(source, to):
+    """Copies a folder by links, which take no room."""
+    shutil.copytree(source, to, copy_function=os.link, symlinks=True)
+
+
+def copy_crate(name, top, is_built):
+    """Copies what a check reads of a crate, with its library where that is built."""
+    for it in ("src", "specs", "proofs"):
+        if os.path.isdir(f"{TOP}/crates/{name}/{it}"):
+            shutil.copytree(f"{TOP}/crates/{name}/{it}", f"{top}/crates/{name}/{it}")
+    if is_built:
+        link_tree(f"{TOP}/crates/{name}/out/rlib", f"{top}/crates/{name}/out/rlib")
+
+
+def open_lane(name, said):
+    """Makes a repository of the crate and of the built ones below it, and returns the crate's folder there."""
+    top = lane_of(name)
+    shutil.rmtree(top, ignore_errors=True)
+    for it in claims(name, said):
+        copy_crate(it, top, it != name)
+    if os.path.isdir(f"{TOP}/crates/{name}/out"):
+        shutil.copytree(f"{TOP}/crates/{name}/out", f"{top}/crates/{name}/out", symlinks=True)
+    with open(f"{TOP}/crates.txt", encoding="utf-8") as whole, open(f"{top}/crates.txt", "w", encoding="utf-8") as file:
+        file.writelines(it for it in whole if it.partition(":")[0].strip() in claims(name, said))
+    return f"{top}/crates/{name}"
+
+
+def close_lane(name):
+    """Puts what a check made in a lane where the crate's own check would have put it. A check that was stopped leaves what it had proved."""
+    made, out = f"{lane_of(name)}/crates/{name}/out", f"{TOP}/crates/{name}/out"
+    if os.path.isdir(made):
+        shutil.rmtree(out, ignore_errors=True)
+        os.rename(made, out)
+    shutil.rmtree(lane_of(name), ignore_errors=True)
+
+
+def begin(name, jobs, folder, room):
     """Starts the crate's check. A program is run as soon as it is built: its help says that it is there."""
     words = ["rt", "run", "--", "--help"] if name == PROGRAM else ["rt", "lib", "--jobs", str(jobs)]
     with open(f"{room}/{name}", "w", encoding="utf-8") as log:
         how = {"stdin": subprocess.DEVNULL, "stdout": log, "stderr": subprocess.STDOUT}
-        check = subprocess.Popen(words, cwd=f"{TOP}/crates/{name}", **how)
-    check.jobs = jobs
-    return check
+        return subprocess.Popen(words, cwd=folder, **how)
 
 
 def ended(running):
@@ -85,25 +125,20 @@ def ended(running):
 
 
 def choose(left, running, longest, said):
-    """Returns the crates whose check can begin now, those with the longest chain behind them first. None claims what another one does."""
+    """Returns the crates whose check can begin now, those with the longest chain behind them first."""
     lanes = max(1, min(len(os.sched_getaffinity(0)), free_memory() // CHECK + len(running)))
-    taken, chosen = set().union(*(claims(it, said) for it in running)), []
     ready = [it for it in left if it not in running and not any(dep in left for dep in said[it])]
-    for name in sorted(ready, key=lambda it: -longest[it]):
-        if len(running) + len(chosen) < lanes and taken.isdisjoint(claims(name, said)):
-            taken |= claims(name, said)
-            chosen.append(name)
-    return chosen
+    return sorted(ready, key=lambda it: -longest[it])[: max(0, lanes - len(running))]
 
 
 def start_ready(left, running, longest, said, room):
-    """Starts the checks that can begin now, and shares out the processors that no other check has."""
-    idle = len(os.sched_getaffinity(0)) - sum(it.jobs for it in running.values())
-    chosen = choose(left, running, longest, said)
-    for at, name in enumerate(chosen):
-        jobs = max(1, -(-idle // (len(chosen) - at)))
-        idle -= jobs
-        running[name] = begin(name, jobs, room)
+    """Starts the checks that can begin now. Each may use nearly all processors, since its last functions are mostly proved one after the
+    other: so checks that run side by side fill each other's gaps."""
+    for name in choose(left, running, longest, said):
+        jobs = max(1, min(len(os.sched_getaffinity(0)) - 1, free_memory() // CHECK))
+        taken = set().union(*(claims(it, said) for it in running))
+        folder = f"{TOP}/crates/{name}" if taken.isdisjoint(claims(name, said)) else open_lane(name, said)
+        running[name] = begin(name, jobs, folder, room)
         say(f"proving {name} ({len(left)} of {len(longest)} crates left)")
 
 
@@ -111,9 +146,12 @@ def build(room):
     said = crates()
     names = below(PROGRAM, said)
     longest, left, running = chains(names, said), [*names], {}
+    for name in names:
+        close_lane(name)
     while left:
         start_ready(left, running, longest, said, room)
         name, status = ended(running)
+        close_lane(name)
         del running[name]
         left.remove(name)
         if status != (USAGE if name == PROGRAM else 0):

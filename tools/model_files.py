@@ -3,7 +3,7 @@
 
 usage: tools/model_files.py            the files and lines, of a breaking message and of what `gate` promises
        tools/model_files.py --compare  status 1 where docs/MODEL.md lists other files, where it or README.md says other counts, or where
-                                       a document names a file of code or definitions that isn't there
+                                       a document names a file of code or definitions, or docs/PROOFS.md a word, that isn't there
 
 A promise rests on the file that has its word, and on all that the file imports, onwards. The kit's own words are left out.
 """
@@ -79,9 +79,24 @@ def missing_paths():
     return found
 
 
+def missing_words():
+    """Returns the words in the first cells of docs/PROOFS.md that stand nowhere in code or definitions."""
+    known = set()
+    for at, folders, names in os.walk(f"{TOP}/crates"):
+        folders[:] = [it for it in folders if it != "out"]
+        for name in names:
+            if name.endswith((".rt", ".antt")):
+                with open(f"{at}/{name}", encoding="utf-8") as file:
+                    known.update(re.findall(r"\w+", file.read()), [name.partition(".")[0]])
+    with open(f"{TOP}/docs/PROOFS.md", encoding="utf-8") as file:
+        cells = re.findall(r"^\| (.*?) \|", file.read(), re.M)
+    said = dict.fromkeys(word for cell in cells for word in re.findall(r"`(\w+)`", cell))
+    return [f"docs/PROOFS.md has {it}, which stands nowhere" for it in said if it not in known]
+
+
 def main(words):
     if words == ["--compare"]:
-        found = differences() + missing_paths()
+        found = differences() + missing_paths() + missing_words()
         print("\n".join(found) or "docs/MODEL.md names just the files of the promise, and the documents name files that are there")
         return 1 if found else 0
     for what, root in ROOTS.items():

@@ -34,4 +34,4 @@ def runs_of(library, words, folder=None, stdin=b""):
 
 
 def line_of(counts):
-    return "{refused} requests refused, {told} told, {answered} answered, {wrong} wrong".format_map(counts)
+    return "{refused} requests refused, {told} reported, {answered} answered, {wrong} wrong".format_map(counts)

@@ -9,7 +9,7 @@ that holds and of two that don't. Their answers stand here; they follow from the
 
 A line is printed for each call: how many requests were refused, how often the program said so, how often it gave its answer all the
 same, and how many runs did neither, which are printed. The last line has the sums; the status is 1 where a run did neither, or where
-no request of a call was told. Wants cc, for the library that refuses (tools/refuse_memory.c).
+no refusal of a call was reported. It needs cc, for the library that refuses (tools/refuse_memory.c).
 """
 import argparse
 import collections
@@ -77,7 +77,7 @@ def write(path, text):
 
 
 def kind_of(call, status, said, turn):
-    """Returns what a run did: it answered, it told that memory was refused, or it was wrong."""
+    """Returns what a run did: it answered, it reported that memory was refused, or it was wrong."""
     answer = call.said if isinstance(call.said, bytes) else call.said.encode()
     if (status, said) == (call.status, answer):
         return "answered"
@@ -90,7 +90,7 @@ def put_files(call, folder):
 
 
 def try_call(program, library, call):
-    """Refuses each request of a call in turn, prints what came of it, and returns the counts of refused, told, answered and wrong."""
+    """Refuses each request of a call in turn, prints what came of it, and returns the counts of what came of it."""
     counts, lines = collections.Counter(), []
     with tempfile.TemporaryDirectory(prefix="protogate-memory-") as folder:
         put_files(call, folder)

@@ -3,10 +3,10 @@
 
 usage: tools/uncited.py [CRATE..]    all crates, where none is named; prints FILE:LINE NAME, and how many there are
 
-A name counts as cited where it stands as a word in another place of the crate's own files or, if it is `pub`, of those of any crate. What
-is cited by uncited lemmas alone is listed too, since the search goes on without those. It can't see what `search` and `grind` find by
-themselves without a name in a proof file; so take a lemma out only where the crate is still proved without it. Answers to goals and
-invariants are the prover's own names, and aren't listed.
+A name counts as cited where it stands as a word in another place of the crate's own files or, if it is `pub`, of those of any crate; an
+operator such as ◌>>◌ where its sign stands. What is cited by uncited lemmas alone is listed too, since the search goes on without those.
+It can't see what `search` and `grind` find by themselves without a name in a proof file; so take a lemma out only where the crate is
+still proved without it. Answers to goals and invariants are the prover's own names, and aren't listed.
 """
 
 import os
@@ -66,7 +66,8 @@ def uncited(units, roots):
     by_name, live = {}, set()
     for unit in units:
         for name in unit.names:
-            by_name.setdefault(name, []).append(unit)
+            for word in {name, *filter(None, name.split("◌"))}:
+                by_name.setdefault(word, []).append(unit)
     left = [(word, crate) for crate, words in roots.items() for word in words]
     while left:
         word, crate = left.pop()

@@ -2,7 +2,7 @@
 use crate::contents::{spelled_message, word};
 use crate::types::FIRST;
 use pg_dyn::{
-    DynError, Message, copy, decode, decode_ref, decode_unlimited, encode, encode_outside,
+    DynError, Message, copy, decode, decode_ref, decode_unlimited, encode, encode_unshared,
     encode_ref, fits,
 };
 use pg_schema::Schema;
@@ -149,7 +149,7 @@ fn outside(
     }
     Ok(word(
         alloc,
-        &encode_outside(alloc, schema, &message, other, FIRST)?,
+        &encode_unshared(alloc, schema, &message, other, FIRST)?,
     )?)
 }
 

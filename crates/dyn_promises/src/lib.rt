@@ -13,4 +13,4 @@ pub use errors::{at, code};
 pub use messages::{contents, empty, fits, get, is_plain, put, set, type_id, unknown, whole};
 pub use reading::{decode, decode_unlimited};
 pub use words::{complement_64, element_wire_type};
-pub use writing::{copy, encode, encode_outside};
+pub use writing::{copy, encode, encode_unshared};

@@ -44,8 +44,8 @@ pub fn encode_ref(
     pg_dyn::encode_ref(alloc, schema, message)
 }
 
-/// What `encode_outside` answers.
-pub fn encode_outside(
+/// What `encode_unshared` answers.
+pub fn encode_unshared(
     alloc: Global,
     schema: &Schema,
     message: &Message,
@@ -60,7 +60,7 @@ pub fn encode_outside(
         MayNotWrite (length (unshared_bytes (shape_of schema.now) (type_of message.now)
         (fields (shape_of other.now) other_type) (message_of message.now))) e) }
 {
-    pg_dyn::encode_outside(alloc, schema, message, other, other_type)
+    pg_dyn::encode_unshared(alloc, schema, message, other, other_type)
 }
 
 /// What `copy` answers.

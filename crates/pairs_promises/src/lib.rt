@@ -73,7 +73,9 @@ pub fn carry<V: View>(
         (V.least_differing view.now) old.now new.now) (shape_of old.now)
         (shape_of new.now) pair choice.now (option_map message_of child)) }
     ensures reached { IfOk result (λ m. (table : Table) →
-        IsAmong choice.now (choices (sight_of (V.is_alike view.now) (V.least_differing view.now) old.now new.now) table (shape_of old.now) (shape_of new.now) pair)
+        IsAmong choice.now (choices (sight_of (V.is_alike view.now)
+        (V.least_differing view.now) old.now new.now) table
+        (shape_of old.now) (shape_of new.now) pair)
         → carried.ChildReached (sight_of (V.is_alike view.now)
         (V.least_differing view.now) old.now new.now) (shape_of old.now) (shape_of new.now) table
         (carried.choice_child (shape_of old.now) (shape_of new.now) pair choice.now)

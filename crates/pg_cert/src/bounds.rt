@@ -7,13 +7,11 @@ ghost use Rattle.pg_cert.specs.Entries.{bound_of};
 
 use crate::pair_keys::PairKeys;
 use indexmap::IndexMap;
+use pg_dyn::MAX_ENCODING_LEN;
 use pg_pairs::{Pair, Table};
 use pg_schema::TypeId;
 use std::alloc::Global;
 use std::marker::Model;
-
-/// The most bytes that a message may have.
-pub const MOST_BYTES: u32 = 2_147_483_647;
 
 /// A pair of types and its bound: how many bytes each message has at least that breaks, from 1 to
 /// 2,147,483,647, or `None` where no message breaks.
@@ -59,7 +57,7 @@ fn is_bound(bound: Option<u32>) -> bool
     ensures { result ≡ is_bound bound }
 {
     match bound {
-        Some(bytes) => 1 <= bytes && bytes <= MOST_BYTES,
+        Some(bytes) => 1 <= bytes && bytes as usize <= MAX_ENCODING_LEN,
         None => true,
     }
 }

@@ -15,7 +15,7 @@ use Rattle.pg_check.specs.Errors.{error_of}
 use Rattle.pg_check.specs.Faults.{broken, broken_at, first_fault, option_fault, or_else, order, told_at}
 use Rattle.pg_check.specs.Firsts.{IsBehind, IsFirst, IsFirstAgain}
 use Rattle.pg_check.specs.KeepsRules.{OptionsKeep, has_field_number, has_key, is_free, is_free_name, is_no_option, is_packed_rightly, is_right, lies_within, may_be_member, member_options, oneof_keeps, rises}
-use Rattle.pg_check.specs.Members.{Member, json_named, key_of, members, named, place_of, settings, settings_of}
+use Rattle.pg_check.specs.Members.{DeclaredField, json_named, key_of, members, named, place_of, settings, settings_of}
 use Rattle.pg_check.specs.Messages as messages
 use Rattle.pg_check.specs.Names as names
 use Rattle.pg_check.specs.Numbers as numbers
@@ -149,11 +149,11 @@ names_meet targets body place =
     (broken_meets P rules.JsonNameClash (names.first_twice js)
     (again_told (λ n. P (broken_at rules.JsonNameClash n)) names.is_same names.at js (λ n first. json_name_clash n first)))
 
-option_meets : (targets : ℕ → Option Target) (body : List Part) (place : Place) (m : Member) → IsBehind (λ m. OptionsKeep (member_options m)) (members body) m → Meets (Tells targets body place) (messages.member_option m)
+option_meets : (targets : ℕ → Option Target) (body : List Part) (place : Place) (m : DeclaredField) → IsBehind (λ m. OptionsKeep (member_options m)) (members body) m → Meets (Tells targets body place) (messages.member_option m)
 option_meets targets body place m behind =
     told_meets (Tells targets body place) rules.BadOption (place_of m) (first_bad (member_options m)) (λ n h. bad_field_option m n behind (bad_told (member_options m) n h))
 
-packed_meets : (targets : ℕ → Option Target) (body : List Part) (place : Place) (m : Member) → IsBehind (λ m. is_packed_rightly targets m ≡ true) (members body) m → Meets (Tells targets body place) (messages.member_packed targets m)
+packed_meets : (targets : ℕ → Option Target) (body : List Part) (place : Place) (m : DeclaredField) → IsBehind (λ m. is_packed_rightly targets m ≡ true) (members body) m → Meets (Tells targets body place) (messages.member_packed targets m)
 packed_meets targets body place m behind = by (messages.may_be_packed targets m) refl
   where
     by : (b : Bool) → messages.may_be_packed targets m ≡ b → Meets (Tells targets body place) (cond b None (told_at rules.PackedNotAllowed (place_of m) (messages.first_packed (settings (settings_of m)))))
@@ -254,7 +254,7 @@ oneof_option_found o line some inside =
     subst (λ b. IsFound (or_else (broken rules.BadOneofMember (cond b None (Some o.name.span.from))) (first_fault messages.oneof_option o.parts.items)) line.span.from 411)
     (sym some) (first_found messages.oneof_option (λ p. is_no_option p ≡ true) (λ p k. (no_option p).1 k) o.parts.items (oneof_parts.Option line) line.span.from 411 inside (inr (refl, omega arith)))
 
-packed_found : (targets : ℕ → Option Target) (m : Member) (s : tree.Setting.Setting) → messages.may_be_packed targets m ≡ false
+packed_found : (targets : ℕ → Option Target) (m : DeclaredField) (s : tree.Setting.Setting) → messages.may_be_packed targets m ≡ false
     → IsFirst (λ s. not (messages.states_packed s)) (settings (settings_of m)) s → IsFound (messages.member_packed targets m) (place_of m) 412
 packed_found targets m s not_so first =
     subst (λ b. IsFound (cond b None (told_at rules.PackedNotAllowed (place_of m) (messages.first_packed (settings (settings_of m))))) (place_of m) 412) (sym not_so)

@@ -6,7 +6,7 @@ use Rattle.std.proofs.lemmas.List.{length-map, map-append}
 use Rattle.pg_schema.specs.declared.field.EnumId.{EnumId}
 use Rattle.pg_schema.specs.declared.field.TypeId.{TypeId}
 use Rattle.pg_schema.specs.declared.service.ServiceId.{ServiceId}
-use Rattle.pg_check.specs.Groups.{Placed, enum_id, enums_in as enum_ids_in, placed_from, places_in, type_id, types_in}
+use Rattle.pg_check.specs.ByScope.{Placed, enum_id, enums_in as enum_ids_in, placed_from, places_in, type_id, types_in}
 use Rattle.pg_check.specs.KeepsRules.{source_messages}
 use Rattle.pg_check.specs.MadeEnums.{made_enum}
 use Rattle.pg_check.specs.MadeNumbers.{index_of}

@@ -11,7 +11,7 @@ use Rattle.pg_check.specs.declared.numbers.Keyed.{Keyed}
 use Rattle.pg_check.specs.declared.numbers.Numbers.{Numbers}
 use Rattle.pg_check.specs.Faults.{broken, earlier, first_fault, told_at}
 use Rattle.pg_check.specs.KeepsRules.{ItemsKeep, MessageKeeps, OptionsKeep, are_apart, has_field_number, has_key, is_free, is_free_name, is_no_option, is_packed_rightly, is_right, lies_within, may_be_member, member_options, oneof_keeps, rises}
-use Rattle.pg_check.specs.Members.{Member, json_named, key_of, members, named, place_of, settings, settings_of}
+use Rattle.pg_check.specs.Members.{DeclaredField, json_named, key_of, members, named, place_of, settings, settings_of}
 use Rattle.pg_check.specs.Messages as messages
 use Rattle.pg_check.specs.Names as names
 use Rattle.pg_check.specs.Numbers as numbers
@@ -77,10 +77,10 @@ numbers_keep keys items =
       λ k. first.1 (good.1 k.0, second.1 (once.1 k.1.0, third.1 (free.1 k.1.1.0, ranges.1 k.1.1.1))),
     )
 
-abbrev NamesKeep : List (List ℕ) → List Member → Type 0
+abbrev NamesKeep : List (List ℕ) → List DeclaredField → Type 0
 NamesKeep taken ms = (list_all (is_free_name taken) (map named ms) ≡ true) × (are_apart names.is_same (map json_named ms) ≡ true)
 
-names_keep : (taken : List (List ℕ)) (ms : List Member) → (messages.names_fault taken ms ≡ None) ↔ NamesKeep taken ms
+names_keep : (taken : List (List ℕ)) (ms : List DeclaredField) → (messages.names_fault taken ms ≡ None) ↔ NamesKeep taken ms
 names_keep taken ms =
     let json = broken rules.JsonNameClash (names.first_twice (map json_named ms)) in
     let first = rule_then rules.ReservedName (names.first_among taken (map named ms)) json in
@@ -89,7 +89,7 @@ names_keep taken ms =
     let once = none_again names.is_same names.at (map json_named ms) in
     ((λ h. let a = first.0 h in (free.0 a.0, once.0 (second.0 a.1))), λ k. first.1 (free.1 k.0, second.1 (once.1 k.1)))
 
-pub packed_keeps : (targets : ℕ → Option Target) (m : Member) → (messages.member_packed targets m ≡ None) ↔ (is_packed_rightly targets m ≡ true)
+pub packed_keeps : (targets : ℕ → Option Target) (m : DeclaredField) → (messages.member_packed targets m ≡ None) ↔ (is_packed_rightly targets m ≡ true)
 packed_keeps targets m = by (messages.may_be_packed targets m)
   where
     none : (messages.first_packed (settings (settings_of m)) ≡ None) ↔ (list_all (λ s. not (messages.states_packed s)) (settings (settings_of m)) ≡ true)
@@ -102,16 +102,16 @@ packed_keeps targets m = by (messages.may_be_packed targets m)
         let told = told_none rules.PackedNotAllowed (place_of m) (messages.first_packed (settings (settings_of m))) in
         ((λ h. none.0 (told.0 h)), λ h. told.1 (none.1 h))
 
-pub field_options_keep : (m : Member) → (messages.member_option m ≡ None) ↔ OptionsKeep (member_options m)
+pub field_options_keep : (m : DeclaredField) → (messages.member_option m ≡ None) ↔ OptionsKeep (member_options m)
 field_options_keep m =
     let told = told_none rules.BadOption (place_of m) (first_bad (member_options m)) in
     let all = options_keep (member_options m) in
     ((λ h. all.0 (told.0 h)), λ k. told.1 (all.1 k))
 
-abbrev ShapesKeep : (ℕ → Option Target) → List Member → Type 0
+abbrev ShapesKeep : (ℕ → Option Target) → List DeclaredField → Type 0
 ShapesKeep targets ms = (list_all has_key ms ≡ true) × ((list_all may_be_member ms ≡ true) × (AllByRecursion (λ m. OptionsKeep (member_options m)) ms × (list_all (is_packed_rightly targets) ms ≡ true)))
 
-shapes_keep : (targets : ℕ → Option Target) (ms : List Member) → (messages.shapes_fault targets ms ≡ None) ↔ ShapesKeep targets ms
+shapes_keep : (targets : ℕ → Option Target) (ms : List DeclaredField) → (messages.shapes_fault targets ms ≡ None) ↔ ShapesKeep targets ms
 shapes_keep targets ms =
     let packed_fault = first_fault (messages.member_packed targets) ms in
     let last = earlier (first_fault messages.member_option ms) packed_fault in

@@ -17,7 +17,7 @@ use Rattle.pg_check.specs.KeepsRules.{has_field_number, has_key, is_packed_right
 use Rattle.pg_check.specs.MadeFields.{MadeField, element, element_of, is_optional, key_or, labelled, made_field, oneof_of}
 use Rattle.pg_check.specs.MadeNumbers.{field_number, index_of}
 use Rattle.pg_check.specs.MadeOptions.{flag_in, flag_of, flag_value, or_flag}
-use Rattle.pg_check.specs.Members.{Member, Plain, Mapped, key_of, members_from, members_in, number_of, oneof_members, oneofs_in, settings}
+use Rattle.pg_check.specs.Members.{DeclaredField, Plain, Mapped, key_of, members_from, members_in, number_of, oneof_members, oneofs_in, settings}
 use Rattle.pg_check.specs.Messages as messages
 use Rattle.pg_check.specs.Numbers as numbers
 use Rattle.pg_check.specs.Options.{is_word}
@@ -163,7 +163,7 @@ map_right : (key : Scalar) (e : Element) (oneof : Option ℕ) (list : List tree.
 map_right key e None list is inside packed = (is, not_packed (flag_of packed_word list) (λ f. unpacked list packed f))
 map_right key e (Some place) list is inside packed = absurd (false≢true inside)
 
-member_right : (targets : ℕ → Option Target) (m : Member) → has_key m ≡ true → may_be_member m ≡ true → is_packed_rightly targets m ≡ true → Right (made_field targets m)
+member_right : (targets : ℕ → Option Target) (m : DeclaredField) → has_key m ≡ true → may_be_member m ≡ true → is_packed_rightly targets m ≡ true → Right (made_field targets m)
 member_right targets (Plain f oneof) key inside packed =
     plain_right (element targets f.type_name) f.label oneof (settings f.settings) (types.is_packable_type targets f.type_name)
     (element_packable (types.scalar_named f.type_name) (targets f.type_name.span.from)) inside packed
@@ -172,7 +172,7 @@ member_right targets (Mapped m oneof) key inside packed =
 
 -- ---- oneofs
 
-abbrev pub in_oneofs : ℕ → Member → Bool
+abbrev pub in_oneofs : ℕ → DeclaredField → Bool
 in_oneofs oneofs m = rules.is_oneof oneofs (option_map index_of (oneof_of m))
 
 place_below : (place n : ℕ) → place < n → nat_lt (index_of place) n ≡ true
@@ -215,7 +215,7 @@ is_kept oneofs f =
     rules.is_field_number f.number && rules.has_presence f.presence f.element (is_some f.oneof) f.states_optional && rules.is_packed f.presence f.element f.options.packed
     && rules.is_oneof oneofs f.oneof
 
-pub fields_kept : (targets : ℕ → Option Target) (n : ℕ) (ms : List Member) → list_all has_field_number (map key_of ms) ≡ true → list_all has_key ms ≡ true → list_all may_be_member ms ≡ true
+pub fields_kept : (targets : ℕ → Option Target) (n : ℕ) (ms : List DeclaredField) → list_all has_field_number (map key_of ms) ≡ true → list_all has_key ms ≡ true → list_all may_be_member ms ≡ true
     → list_all (is_packed_rightly targets) ms ≡ true → list_all (in_oneofs n) ms ≡ true → list_all (is_kept n) (map (made_field targets) ms) ≡ true
 fields_kept targets n [] a b c d e = refl
 fields_kept targets n (m ∷ ms) a b c d e =

@@ -9,7 +9,7 @@ use Rattle.pg_schema.specs.declared.parts.Parts.{Parts}
 use Rattle.pg_link.specs.declared.target.Target.{Target}
 use Rattle.pg_check.specs.Declares.{Declares}
 use Rattle.pg_check.specs.Files.{file_lines}
-use Rattle.pg_check.specs.Groups.{Placed}
+use Rattle.pg_check.specs.ByScope.{Placed}
 use Rattle.pg_check.specs.KeepsRules.{EnumKeeps, FileKeeps, KeepsRules, MessageKeeps, OptionsKeep, source_messages}
 use Rattle.pg_check.specs.KeptParts.{KeptEnum, KeptFile, KeptMessage, KeptParts}
 use Rattle.pg_check.specs.MadeEnums.{enumeration, made_enum}

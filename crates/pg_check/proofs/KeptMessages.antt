@@ -25,7 +25,7 @@ use Rattle.pg_check.specs.KeptParts.{KeptMessage, is_kept_field}
 use Rattle.pg_check.specs.MadeFields.{MadeField, field, made_field, made_number}
 use Rattle.pg_check.specs.MadeMessages.{AreFields, IsMessage, made_fields, oneofs}
 use Rattle.pg_check.specs.MadeNumbers.{field_number, field_range}
-use Rattle.pg_check.specs.Members.{Member, json_name, json_named, key_of, members, named}
+use Rattle.pg_check.specs.Members.{DeclaredField, json_name, json_named, key_of, members, named}
 use Rattle.pg_check.specs.Messages as messages
 use Rattle.pg_check.specs.Names as names
 use Rattle.pg_check.specs.Numbers.{highest_field, is_within, lowest_field}
@@ -137,7 +137,7 @@ differ_symmetric a b h = ap not (bytes_eq-sym b a) ∙ h
 
 -- without the oneofs, which the count of them says
 module _ (targets : ℕ → Option Target) (body : List Part) (t : MessageType) (fields : AreFields (made_fields targets body) t.fields.items) (keep : MessageKeeps targets body) where
-  abbrev ms : List Member
+  abbrev ms : List DeclaredField
   ms = members body
 
   abbrev list : List MadeField

@@ -14,7 +14,7 @@ use Rattle.pg_link.specs.declared.target.Target.{Target}
 use Rattle.pg_check.specs.KeepsRules.{is_no_option, oneof_keeps}
 use Rattle.pg_check.specs.MadeFields.{MadeField, field, made_field, oneof_of}
 use Rattle.pg_check.specs.MadeNumbers.{index_of}
-use Rattle.pg_check.specs.Members.{Member, members_from, members_in, oneof_members, oneofs_in}
+use Rattle.pg_check.specs.Members.{DeclaredField, members_from, members_in, oneof_members, oneofs_in}
 use Rattle.pg_check.specs.Messages.{has_member}
 use Rattle.pg_check.proofs.KeptFields.{oneof_count}
 use Rattle.pg_check.proofs.NoneLaws.{and_both, and_left, and_right}
@@ -73,7 +73,7 @@ rising_short highest first (n ∷ ns) h k lt =
 
 -- ---- members
 
-abbrev stands_in : ℕ → Member → Bool
+abbrev stands_in : ℕ → DeclaredField → Bool
 stands_in place m = is_place place (option_map index_of (oneof_of m))
 
 own_place : (start : ℕ) → start < 2 ^ 32 → nat_eq (index_of start) start ≡ true

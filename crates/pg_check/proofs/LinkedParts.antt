@@ -31,7 +31,7 @@ use Rattle.pg_link.specs.Uses.{Use, file_scope, file_uses, in_rpc, service_part_
 use Rattle.pg_link.specs.Walk.{Entry, IsParsed, outlines, path_of}
 use Rattle.pg_check.specs.Declares.{Declares}
 use Rattle.pg_check.specs.Enums as enums
-use Rattle.pg_check.specs.Groups.{Placed}
+use Rattle.pg_check.specs.ByScope.{Placed}
 use Rattle.pg_check.specs.KeepsRules.{source_messages}
 use Rattle.pg_check.specs.MadeEnums.{MadeEnum, MadeValue, enumeration, made_enum, made_values, value}
 use Rattle.pg_check.specs.MadeFields.{MadeField, element_of, field, made_field}
@@ -39,7 +39,7 @@ use Rattle.pg_check.specs.MadeMessages.{made_fields, oneofs}
 use Rattle.pg_check.specs.MadeNumbers.{index_of}
 use Rattle.pg_check.specs.MadeParts.{Declared, EachIs, FileShape, IsFileOf, IsTypeOf, Source, TypeTree, file_services, file_shape, nothing, placed_enums, placed_messages, type_tree, type_trees, with_file, with_files}
 use Rattle.pg_check.specs.MadeServices.{MadeMethod, MadeService, made_method, made_methods, made_service, made_services, message_at, method, service}
-use Rattle.pg_check.specs.Members.{Member, Mapped, Plain, members}
+use Rattle.pg_check.specs.Members.{DeclaredField, Mapped, Plain, members}
 use Rattle.pg_check.specs.NamedParts.{NamedEnum, NamedMessage, NamedParts, has_package, is_named_field}
 use Rattle.pg_check.specs.Outline.{Enum, Message, scoped_enums, file_messages, package_of, statements_behind}
 use Rattle.pg_check.proofs.PlacedParts.{HasValuesOnce, PlacedParts}
@@ -80,13 +80,13 @@ is_named types enums f = is_word f.name && is_known types enums f.element
 abbrev AllFit : (types enums : ℕ) → (ℕ → Option Target) → Type 0
 AllFit types enums targets = (at : ℕ) → IfFits types enums (targets at)
 
-member_named : (types enums : ℕ) (targets : ℕ → Option Target) (m : Member) → AllFit types enums targets → is_word_member m ≡ true → is_named types enums (made_field targets m) ≡ true
+member_named : (types enums : ℕ) (targets : ℕ → Option Target) (m : DeclaredField) → AllFit types enums targets → is_word_member m ≡ true → is_named types enums (made_field targets m) ≡ true
 member_named types enums targets (Plain f oneof) fit h =
     and_both (is_word (string_bytes f.name.text)) _ h (element_known types enums (scalar_named f.type_name) (targets f.type_name.span.from) (fit f.type_name.span.from))
 member_named types enums targets (Mapped f oneof) fit h =
     and_both (is_word (string_bytes f.name.text)) _ h (element_known types enums (scalar_named f.value) (targets f.value.span.from) (fit f.value.span.from))
 
-members_named : (types enums : ℕ) (targets : ℕ → Option Target) (ms : List Member) → AllFit types enums targets → list_all is_word_member ms ≡ true → list_all (is_named types enums) (map (made_field targets) ms) ≡ true
+members_named : (types enums : ℕ) (targets : ℕ → Option Target) (ms : List DeclaredField) → AllFit types enums targets → list_all is_word_member ms ≡ true → list_all (is_named types enums) (map (made_field targets) ms) ≡ true
 members_named types enums targets ms fit h =
     list_all-map (is_named types enums) (made_field targets) ms
     ∙ all_weaker is_word_member (λ m. is_named types enums (made_field targets m)) (λ m k. member_named types enums targets m fit k) ms h

@@ -30,7 +30,7 @@ use Rattle.pg_check.specs.MadeOptions.{flag_of}
 use Rattle.pg_check.specs.MadeMessages.{AreFields, made_fields, oneof_in, oneofs}
 use Rattle.pg_check.specs.MadeServices.{method, service}
 use Rattle.pg_check.specs.MadeParts.{IsTypeOf, TypeTree}
-use Rattle.pg_check.specs.Members.{Mapped, Member, Plain, members, members_from, members_in, name_of, oneof_members, oneofs_in, settings}
+use Rattle.pg_check.specs.Members.{Mapped, DeclaredField, Plain, members, members_from, members_in, name_of, oneof_members, oneofs_in, settings}
 use Rattle.pg_check.specs.Outline.{Enum}
 use Rattle.pg_check.proofs.DeclaredTotals.{counts, inside, method_counts, of_made_service, oneof_part_names, part_names, value_texts}
 use Rattle.pg_check.proofs.Totals.{one, times, total, total_flat, total_joined, total_map, total_moved, total_same}
@@ -67,14 +67,14 @@ entry_is name = letters_are true name
 -- ---- the names of fields, oneofs and map entries of a body
 
 module _ (g : List ℕ → ℕ) where
-  abbrev text_of : Member → List ℕ
+  abbrev text_of : DeclaredField → List ℕ
   text_of m = string_bytes (name_of m).text
 
-  abbrev entry_counts : Member → ℕ
+  abbrev entry_counts : DeclaredField → ℕ
   entry_counts (Plain f oneof) = 0
   entry_counts (Mapped m oneof) = g (names.entry_name (string_bytes m.name.text))
 
-  abbrev member_counts : Member → ℕ
+  abbrev member_counts : DeclaredField → ℕ
   member_counts m = g (text_of m) + entry_counts m
 
   oneof_names_are : (place : ℕ) (ps : List tree.OneofPart.OneofPart) → total g (flat_map oneof_part_names ps) ≡ total member_counts (oneof_members place ps)
@@ -127,7 +127,7 @@ module _ (g : List ℕ → ℕ) where
           by true = refl
           by false = refl
 
-  one_made : (targets : ℕ → Option Target) (m : Member) → made_counts (made_field targets m) ≡ member_counts m
+  one_made : (targets : ℕ → Option Target) (m : DeclaredField) → made_counts (made_field targets m) ≡ member_counts m
   one_made targets (Plain f oneof) =
       ap (λ b. g (string_bytes f.name.text) + total g (cond b (names.entry_name (string_bytes f.name.text) ∷ []) []))
       (no_map f.label (is_some oneof) (element targets f.type_name) (flag_of (codes "packed") (settings f.settings)))

@@ -19,7 +19,7 @@ use Rattle.pg_schema.specs.DeclaredNames.{within}
 use Rattle.pg_schema.specs.Scopes.{are_declared_once, are_each_once, are_enums_in, are_services_in, are_types_in, declared_enums, declared_services, declared_types, enum_name, enum_places, is_dot_and_word, is_file_scope, is_in, is_named_in, is_type_scope, service_name, service_places, type_name, type_places}
 use Rattle.pg_schema.specs.Words.{is_word}
 use Rattle.pg_link.specs.declared.target.Target.{Target}
-use Rattle.pg_check.specs.Groups.{Placed, placed_from}
+use Rattle.pg_check.specs.ByScope.{Placed, placed_from}
 use Rattle.pg_check.specs.KeepsRules.{source_messages}
 use Rattle.pg_check.specs.MadeEnums.{MadeEnum, enumeration, made_enum}
 use Rattle.pg_check.specs.MadeParts.{ArePartsOf, Declared, EachIs, FileShape, IsFileOf, IsTypeOf, Source, TypeTree, file_services, nothing, placed_enums, placed_messages, type_tree, type_trees, with_file, with_files}

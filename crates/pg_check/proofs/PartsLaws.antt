@@ -5,7 +5,7 @@ use Rattle.pg_schema.specs.declared.service.ServiceId.{ServiceId}
 use Rattle.pg_schema.specs.declared.parts.Parts.{Parts}
 use Rattle.pg_link.specs.declared.target.Target.{Target}
 use Rattle.pg_check.specs.declared.made_parts.Made.{Made}
-use Rattle.pg_check.specs.Groups.{Placed, places_in, type_id, enum_id}
+use Rattle.pg_check.specs.ByScope.{Placed, places_in, type_id, enum_id}
 use Rattle.pg_check.specs.MadeEnums.{enumeration}
 use Rattle.pg_check.specs.MadeParts.{Declared, EachIs, IsFileOf, IsTypeOf, Source, States, file_shape, grouped_shape, grouped_tree, placed_enums, placed_messages, type_tree, type_trees, with_file, with_files}
 use Rattle.pg_check.specs.MadeServices.{service}

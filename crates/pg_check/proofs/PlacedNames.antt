@@ -14,7 +14,7 @@ use Rattle.pg_link.specs.Names.{Text}
 use Rattle.pg_link.specs.Outline.{file_names}
 use Rattle.pg_link.specs.Targets.{all_declared}
 use Rattle.pg_link.specs.Walk.{Entry, IsParsed}
-use Rattle.pg_check.specs.Groups.{Placed, placed_from}
+use Rattle.pg_check.specs.ByScope.{Placed, placed_from}
 use Rattle.pg_check.specs.KeepsRules.{source_messages}
 use Rattle.pg_check.specs.MadeEnums.{enumeration, made_enum}
 use Rattle.pg_check.specs.MadeParts.{ArePartsOf, Declared, IsTypeOf, Source, file_services, nothing, placed_enums, placed_messages, type_tree, type_trees, with_file, with_files}

@@ -7,7 +7,7 @@ use Rattle.std.proofs.lemmas.List.Folds.{list_all-append}
 use Rattle.pg_schema.specs.DeclaredNames.{within}
 use Rattle.pg_schema.specs.Words.{before_first, is_package, is_word, is_word_byte, parts_at_dots}
 use Rattle.pg_check.specs.MadeMessages.{oneof_in, oneofs}
-use Rattle.pg_check.specs.Members.{Member, members_from, members_in, name_of, oneof_members, oneofs_in}
+use Rattle.pg_check.specs.Members.{DeclaredField, members_from, members_in, name_of, oneof_members, oneofs_in}
 use Rattle.pg_check.specs.Outline.{Enum, Message, all_enums, all_messages, an_enum, dotted, dotted_more, enums_in, file_messages, full_name, messages_in, package_in, package_of, row_enums, row_list, row_messages, scoped_enums, statement_enums, statement_messages, statements_behind}
 use Rattle.pg_check.proofs.Eachs.{joined_all}
 use Rattle.pg_check.proofs.NoneLaws.{and_both, and_left, and_right}
@@ -37,7 +37,7 @@ IsGoodServicePart p = IsGood (view.service_part p)
 
 -- ---- a message's body
 
-abbrev pub is_word_member : Member → Bool
+abbrev pub is_word_member : DeclaredField → Bool
 is_word_member m = is_word (string_bytes (name_of m).text)
 
 oneof_members_worded : (place : ℕ) (ps : List tree.OneofPart.OneofPart) → AllByRecursion IsGoodOneofPart ps → list_all is_word_member (oneof_members place ps) ≡ true

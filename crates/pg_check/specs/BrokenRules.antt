@@ -14,7 +14,7 @@ use Rattle.pg_check.specs.Files.{file_lines, rpc_body, rpc_lines, service_lines}
 use Rattle.pg_check.specs.Firsts.{IsBehind, IsFirst, IsFirstAgain, IsNotAfter, IsOneOf}
 use Rattle.pg_check.specs.KeepsRules.{KeepsRules, OptionsKeep, StatementKeeps, has_field_number, has_key, has_some, has_value_number, is_free, is_free_name, is_no_option, is_packed_rightly, is_right, lies_within, may_be_member, member_options, method_options, oneof_keeps, rises, source_messages, value_options}
 use Rattle.pg_check.specs.MadeParts.{Source}
-use Rattle.pg_check.specs.Members.{Member, json_named, key_of, members, named, place_of, settings, settings_of}
+use Rattle.pg_check.specs.Members.{DeclaredField, json_named, key_of, members, named, place_of, settings, settings_of}
 use Rattle.pg_check.specs.Messages as messages
 use Rattle.pg_check.specs.Names as names
 use Rattle.pg_check.specs.Numbers as numbers
@@ -60,9 +60,9 @@ pub data BreaksMessage (targets : ℕ → Option Target) (body : List Part) (pla
       BreaksMessage targets body place e code at at
   json_name_clash : (n : names.Named) → IsFirstAgain names.is_same (map json_named (members body)) n →
       BreaksMessage targets body place (errors.JsonNameClash place) 406 n.at n.at
-  bad_map_key : (m : Member) → IsFirst has_key (members body) m →
+  bad_map_key : (m : DeclaredField) → IsFirst has_key (members body) m →
       BreaksMessage targets body place (errors.BadMapKey place) 407 (place_of m) (place_of m)
-  bad_oneof_member : (m : Member) → IsFirst may_be_member (members body) m →
+  bad_oneof_member : (m : DeclaredField) → IsFirst may_be_member (members body) m →
       BreaksMessage targets body place (errors.BadOneofMember place) 408 (place_of m) (place_of m)
   empty_oneof : (o : tree.Oneof.Oneof) → IsBehind (λ p. oneof_keeps p ≡ true) body (parts.Oneof o) →
       messages.has_member o.parts.items ≡ false →
@@ -72,9 +72,9 @@ pub data BreaksMessage (targets : ℕ → Option Target) (body : List Part) (pla
       BreaksMessage targets body place (errors.BadOption place) 411 line.span.from line.span.from
   bad_message_option : (at : ℕ) → IsFirstBadOption (messages.lines body) at →
       BreaksMessage targets body place (errors.BadOption place) 411 at at
-  bad_field_option : (m : Member) (at : ℕ) → IsBehind (λ m. OptionsKeep (member_options m)) (members body) m → IsFirstBadOption (member_options m) at →
+  bad_field_option : (m : DeclaredField) (at : ℕ) → IsBehind (λ m. OptionsKeep (member_options m)) (members body) m → IsFirstBadOption (member_options m) at →
       BreaksMessage targets body place (errors.BadOption place) 411 (place_of m) at
-  packed_not_allowed : (m : Member) (s : tree.Setting.Setting) → IsBehind (λ m. is_packed_rightly targets m ≡ true) (members body) m →
+  packed_not_allowed : (m : DeclaredField) (s : tree.Setting.Setting) → IsBehind (λ m. is_packed_rightly targets m ≡ true) (members body) m →
       messages.may_be_packed targets m ≡ false → IsFirst (λ s. not (messages.states_packed s)) (settings (settings_of m)) s →
       BreaksMessage targets body place (errors.PackedNotAllowed place) 412 (place_of m) s.span.from
 

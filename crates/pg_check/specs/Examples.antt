@@ -90,9 +90,9 @@ pub record WorkedRules : Type 0 where
   -- as statements at the word `option`
   pub field_place : (f : tree.Field.Field) (o : Option ℕ) → members.place_of (members.Plain f o) ≡ f.name.span.from
   pub map_place : (m : tree.MapField.MapField) (o : Option ℕ) → members.place_of (members.Mapped m o) ≡ m.name.span.from
-  pub number_place : (m : members.Member) → (members.key_of m).at ≡ members.place_of m
-  pub name_place : (m : members.Member) → (members.named m).at ≡ members.place_of m
-  pub json_name_place : (m : members.Member) → (members.json_named m).at ≡ members.place_of m
+  pub number_place : (m : members.DeclaredField) → (members.key_of m).at ≡ members.place_of m
+  pub name_place : (m : members.DeclaredField) → (members.named m).at ≡ members.place_of m
+  pub json_name_place : (m : members.DeclaredField) → (members.json_named m).at ≡ members.place_of m
   pub value_place : (v : tree.EnumValue.EnumValue) → (enums.key_of v).at ≡ v.name.span.from
   pub value_name_place : (v : tree.EnumValue.EnumValue) → (enums.name_of v).at ≡ v.name.span.from
   pub item_place : (highest : ℕ) (r : tree.Range.Range) → (numbers_of highest r).at ≡ r.span.from

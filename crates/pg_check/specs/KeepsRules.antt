@@ -12,7 +12,7 @@ use Rattle.pg_check.specs.declared.options.Owner.TheVariants as owners
 use Rattle.pg_check.specs.Enums as enums
 use Rattle.pg_check.specs.Files.{file_lines, rpc_body, rpc_lines, service_lines}
 use Rattle.pg_check.specs.MadeParts.{Source}
-use Rattle.pg_check.specs.Members.{Member, json_named, key_of, members, named, settings, settings_of}
+use Rattle.pg_check.specs.Members.{DeclaredField, json_named, key_of, members, named, settings, settings_of}
 use Rattle.pg_check.specs.Messages as messages
 use Rattle.pg_check.specs.Names as names
 use Rattle.pg_check.specs.Numbers as numbers
@@ -82,17 +82,17 @@ oneof_keeps (parts.Field f) = true
 abbrev pub has_field_number : Keyed → Bool
 has_field_number k = numbers.is_field_number k.key
 
-abbrev pub has_key : Member → Bool
+abbrev pub has_key : DeclaredField → Bool
 has_key m = not (messages.has_bad_key m)
 
-abbrev pub may_be_member : Member → Bool
+abbrev pub may_be_member : DeclaredField → Bool
 may_be_member m = not (messages.is_bad_member m)
 
 -- no `packed = true`, but on a repeated field of numbers, bool or an enum
-abbrev pub is_packed_rightly : (ℕ → Option Target) → Member → Bool
+abbrev pub is_packed_rightly : (ℕ → Option Target) → DeclaredField → Bool
 is_packed_rightly targets m = messages.may_be_packed targets m || list_all (λ s. not (messages.states_packed s)) (settings (settings_of m))
 
-abbrev pub member_options : Member → List OptionAt
+abbrev pub member_options : DeclaredField → List OptionAt
 member_options m = in_settings owners.Field (settings_of m)
 
 pub record MessageKeeps (targets : ℕ → Option Target) (body : List Part) : Type 0 where

@@ -15,7 +15,7 @@ pub mod MadeOptions
 pub mod MadeEnums
 pub mod MadeFields
 pub mod MadeMessages
-pub mod Groups
+pub mod ByScope
 pub mod MadeServices
 pub mod MadeFiles
 pub mod MadeParts

@@ -16,7 +16,7 @@ use Rattle.pg_link.specs.declared.target.Target.{Target}
 use Rattle.pg_link.specs.declared.target.Target.TheVariants as targets
 use Rattle.pg_check.specs.MadeNumbers.{field_number, index_of}
 use Rattle.pg_check.specs.MadeOptions.{flag_of}
-use Rattle.pg_check.specs.Members.{Member, Plain, Mapped, json_name, name_of, number_of, settings, settings_of}
+use Rattle.pg_check.specs.Members.{DeclaredField, Plain, Mapped, json_name, name_of, number_of, settings, settings_of}
 use Rattle.pg_check.specs.Numbers.{rank}
 use Rattle.pg_check.specs.Types.{scalar_named}
 use Rattle.pg_syntax.specs.declared.tree as tree
@@ -58,7 +58,7 @@ abbrev pub element : (ℕ → Option Target) → tree.TypeName.TypeName → Elem
 element targets name = element_of (scalar_named name) (targets name.span.from)
 
 -- what the items are; of a map, what its values are
-abbrev pub element_in : (ℕ → Option Target) → Member → Element
+abbrev pub element_in : (ℕ → Option Target) → DeclaredField → Element
 element_in targets (Plain f oneof) = element targets f.type_name
 element_in targets (Mapped m oneof) = element targets m.value
 
@@ -68,7 +68,7 @@ key_or (Some s) = s
 
 -- ---- presence
 
-abbrev pub options : Member → FieldOptions
+abbrev pub options : DeclaredField → FieldOptions
 options m = record { packed = flag_of (codes "packed") (settings (settings_of m)); deprecated = flag_of (codes "deprecated") (settings (settings_of m)) }
 
 -- a singular message and a member of a oneof are explicit without `optional`
@@ -77,7 +77,7 @@ labelled (Some labels.Repeated) member element stated = presences.Repeated (stat
 labelled (Some labels.Optional) member element stated = presences.Explicit
 labelled None member element stated = if member || is_message element then presences.Explicit else presences.Implicit
 
-abbrev pub presence : (ℕ → Option Target) → Member → Presence
+abbrev pub presence : (ℕ → Option Target) → DeclaredField → Presence
 presence targets (Plain f oneof) = labelled f.label (is_some oneof) (element targets f.type_name) (flag_of (codes "packed") (settings f.settings))
 presence targets (Mapped m oneof) = presences.Map (key_or (scalar_named m.key.value))
 
@@ -86,20 +86,20 @@ is_optional None = false
 is_optional (Some labels.Repeated) = false
 is_optional (Some labels.Optional) = true
 
-abbrev pub states_optional : Member → Bool
+abbrev pub states_optional : DeclaredField → Bool
 states_optional (Plain f oneof) = is_optional f.label
 states_optional (Mapped m oneof) = false
 
-abbrev pub oneof_of : Member → Option ℕ
+abbrev pub oneof_of : DeclaredField → Option ℕ
 oneof_of (Plain f oneof) = oneof
 oneof_of (Mapped m oneof) = oneof
 
 -- ---- the field
 
-abbrev pub made_number : Member → ℕ
+abbrev pub made_number : DeclaredField → ℕ
 made_number m = field_number (rank false (number_of m))
 
-abbrev pub made_field : (ℕ → Option Target) → Member → MadeField
+abbrev pub made_field : (ℕ → Option Target) → DeclaredField → MadeField
 made_field targets m = record {
   number = made_number m;
   name = string_bytes (name_of m).text;

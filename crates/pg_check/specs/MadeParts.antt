@@ -8,7 +8,7 @@ use Rattle.pg_schema.specs.declared.message_type.MessageType as messages
 use Rattle.pg_schema.specs.declared.parts.Parts.{Parts}
 use Rattle.pg_schema.specs.declared.service.ServiceId.{ServiceId}
 use Rattle.pg_link.specs.declared.target.Target.{Target}
-use Rattle.pg_check.specs.Groups.{Placed, placed_from, types_in, enums_in, type_id, enum_id}
+use Rattle.pg_check.specs.ByScope.{Placed, placed_from, types_in, enums_in, type_id, enum_id}
 use Rattle.pg_check.specs.MadeEnums.{MadeEnum, enumeration, made_enum}
 use Rattle.pg_check.specs.MadeFiles.{AreOptions, file_import, made_imports, made_options}
 use Rattle.pg_check.specs.MadeMessages.{IsMessage}

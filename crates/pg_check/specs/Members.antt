@@ -2,8 +2,8 @@
 -- "Message definition", "Oneof and oneof field", "Map field"; proto3 language guide, "JSON Mapping").
 use Rattle.std.specs.Prelude.{ℕ, ◌+◌, false, List, [], ◌∷◌, ◌++◌, flat_map, codes, Option, Some, None, string_bytes, if◌then◌else◌}
 use Rattle.pg_schema.specs.JsonName.{default_json_name}
-use Rattle.pg_check.specs.declared.member.Member as code
-use Rattle.pg_check.specs.declared.member.Member.TheVariants as codes_of
+use Rattle.pg_check.specs.declared.member.DeclaredField as code
+use Rattle.pg_check.specs.declared.member.DeclaredField.TheVariants as codes_of
 use Rattle.pg_check.specs.declared.numbers.Keyed.{Keyed}
 use Rattle.pg_check.specs.Names.{Named}
 use Rattle.pg_check.specs.Numbers.{rank}
@@ -16,25 +16,25 @@ use Rattle.pg_syntax.specs.declared.tree.Part.TheVariants as parts
 use Rattle.pg_syntax.specs.declared.tree.Value.TheVariants as values
 
 -- a field or a map, with the place of its oneof among the message's
-pub data Member : Type 0 where
-  Plain : tree.Field.Field → Option ℕ → Member
-  Mapped : tree.MapField.MapField → Option ℕ → Member
+pub data DeclaredField : Type 0 where
+  Plain : tree.Field.Field → Option ℕ → DeclaredField
+  Mapped : tree.MapField.MapField → Option ℕ → DeclaredField
 
-abbrev pub member : code.Member → Member
+abbrev pub member : code.DeclaredField → DeclaredField
 member (codes_of.Field f oneof) = Plain f.now oneof
 member (codes_of.Map m oneof) = Mapped m.now oneof
 
-abbrev pub oneof_members_in : ℕ → tree.OneofPart.OneofPart → List Member
+abbrev pub oneof_members_in : ℕ → tree.OneofPart.OneofPart → List DeclaredField
 oneof_members_in place (oneof_parts.Empty span) = []
 oneof_members_in place (oneof_parts.Option o) = []
 oneof_members_in place (oneof_parts.Map m) = Mapped m (Some place) ∷ []
 oneof_members_in place (oneof_parts.Field f) = Plain f (Some place) ∷ []
 
-abbrev pub oneof_members : ℕ → List tree.OneofPart.OneofPart → List Member
+abbrev pub oneof_members : ℕ → List tree.OneofPart.OneofPart → List DeclaredField
 oneof_members place body = flat_map (oneof_members_in place) body
 
 -- where so many oneofs stand before
-abbrev pub members_in : ℕ → Part → List Member
+abbrev pub members_in : ℕ → Part → List DeclaredField
 members_in place (parts.Empty span) = []
 members_in place (parts.Message' name shape row span) = []
 members_in place (parts.Enum e) = []
@@ -54,34 +54,34 @@ oneofs_in (parts.Reserved r) = 0
 oneofs_in (parts.Map m) = 0
 oneofs_in (parts.Field f) = 0
 
-abbrev pub members_from : ℕ → List Part → List Member
+abbrev pub members_from : ℕ → List Part → List DeclaredField
 members_from place [] = []
 members_from place (p ∷ ps) = members_in place p ++ members_from (place + oneofs_in p) ps
 
-abbrev pub members : List Part → List Member
+abbrev pub members : List Part → List DeclaredField
 members body = members_from 0 body
 
 -- ---- of one member
 
-abbrev pub name_of : Member → tree.Name.Name
+abbrev pub name_of : DeclaredField → tree.Name.Name
 name_of (Plain f oneof) = f.name
 name_of (Mapped m oneof) = m.name
 
-abbrev pub number_of : Member → ℕ
+abbrev pub number_of : DeclaredField → ℕ
 number_of (Plain f oneof) = f.number
 number_of (Mapped m oneof) = m.number
 
-abbrev pub settings_of : Member → Option tree.Settings.Settings
+abbrev pub settings_of : DeclaredField → Option tree.Settings.Settings
 settings_of (Plain f oneof) = f.settings
 settings_of (Mapped m oneof) = m.settings
 
-abbrev pub place_of : Member → ℕ
+abbrev pub place_of : DeclaredField → ℕ
 place_of m = (name_of m).span.from
 
-abbrev pub key_of : Member → Keyed
+abbrev pub key_of : DeclaredField → Keyed
 key_of m = record { key = rank false (number_of m); at = place_of m }
 
-abbrev pub named : Member → Named
+abbrev pub named : DeclaredField → Named
 named m = record { text = string_bytes (name_of m).text; at = place_of m }
 
 -- ---- JSON names
@@ -112,8 +112,8 @@ json_or None name = default_json_name name
 json_or (Some text) name = text
 
 -- the JSON name, given or default
-abbrev pub json_name : Member → List ℕ
+abbrev pub json_name : DeclaredField → List ℕ
 json_name m = json_or (given_json (settings (settings_of m))) (string_bytes (name_of m).text)
 
-abbrev pub json_named : Member → Named
+abbrev pub json_named : DeclaredField → Named
 json_named m = record { text = json_name m; at = place_of m }

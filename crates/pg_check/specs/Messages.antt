@@ -9,7 +9,7 @@ use Rattle.pg_check.specs.declared.options.Owner.TheVariants as owners
 use Rattle.pg_link.specs.declared.target.Target.{Target}
 use Rattle.pg_check.specs.Enums.{is_true}
 use Rattle.pg_check.specs.Faults.{broken, told_at, earlier, or_else, first_fault}
-use Rattle.pg_check.specs.Members.{Member, Plain, Mapped, members, key_of, named, json_named, place_of, settings, settings_of}
+use Rattle.pg_check.specs.Members.{DeclaredField, Plain, Mapped, members, key_of, named, json_named, place_of, settings, settings_of}
 use Rattle.pg_check.specs.Names as names
 use Rattle.pg_check.specs.Numbers as numbers
 use Rattle.pg_check.specs.Options.{OptionAt, in_line, in_settings, is_word, first_bad}
@@ -101,7 +101,7 @@ part_oneof (parts.Map m) = None
 part_oneof (parts.Field f) = None
 
 -- a member of a oneof is neither a map nor `repeated` or `optional`
-abbrev pub is_bad_member : Member → Bool
+abbrev pub is_bad_member : DeclaredField → Bool
 is_bad_member (Plain f oneof) = is_some oneof && is_some f.label
 is_bad_member (Mapped m oneof) = is_some oneof
 
@@ -112,14 +112,14 @@ abbrev pub first_bad_number : List Keyed → Option ℕ
 first_bad_number keys = numbers.first_such (λ (k : Keyed). not (numbers.is_field_number k.key)) numbers.at keys
 
 -- a map with a key of no integral type, bool or string
-abbrev pub has_bad_key : Member → Bool
+abbrev pub has_bad_key : DeclaredField → Bool
 has_bad_key (Plain f oneof) = false
 has_bad_key (Mapped m oneof) = not (is_key_type m.key.value)
 
-abbrev pub first_member : (Member → Bool) → List Member → Option ℕ
+abbrev pub first_member : (DeclaredField → Bool) → List DeclaredField → Option ℕ
 first_member test ms = numbers.first_such test place_of ms
 
-abbrev pub member_option : Member → Option Fault
+abbrev pub member_option : DeclaredField → Option Fault
 member_option m = told_at rules.BadOption (place_of m) (first_bad (in_settings owners.Field (settings_of m)))
 
 abbrev pub is_repeated : Option Label → Bool
@@ -128,7 +128,7 @@ is_repeated (Some labels.Repeated) = true
 is_repeated (Some labels.Optional) = false
 
 -- a repeated field of numbers, bool or an enum
-abbrev pub may_be_packed : (ℕ → Option Target) → Member → Bool
+abbrev pub may_be_packed : (ℕ → Option Target) → DeclaredField → Bool
 may_be_packed targets (Plain f oneof) = is_repeated f.label && is_packable_type targets f.type_name
 may_be_packed targets (Mapped m oneof) = false
 
@@ -139,7 +139,7 @@ states_packed s = is_word (codes "packed") s.name && is_true s.value
 abbrev pub first_packed : List tree.Setting.Setting → Option ℕ
 first_packed list = numbers.first_such states_packed (λ (s : tree.Setting.Setting). s.span.from) list
 
-abbrev pub member_packed : (ℕ → Option Target) → Member → Option Fault
+abbrev pub member_packed : (ℕ → Option Target) → DeclaredField → Option Fault
 member_packed targets m = if may_be_packed targets m then None
     else told_at rules.PackedNotAllowed (place_of m) (first_packed (settings (settings_of m)))
 
@@ -152,12 +152,12 @@ numbers_fault keys items =
     (earlier (broken rules.ReservedNumber (numbers.first_reserved items keys))
     (items_fault numbers.lowest_field numbers.highest_field items)))
 
-abbrev pub names_fault : List (List ℕ) → List Member → Option Fault
+abbrev pub names_fault : List (List ℕ) → List DeclaredField → Option Fault
 names_fault reserved ms =
     earlier (broken rules.ReservedName (names.first_among reserved (map named ms)))
     (broken rules.JsonNameClash (names.first_twice (map json_named ms)))
 
-abbrev pub shapes_fault : (ℕ → Option Target) → List Member → Option Fault
+abbrev pub shapes_fault : (ℕ → Option Target) → List DeclaredField → Option Fault
 shapes_fault targets ms =
     earlier (broken rules.BadMapKey (first_member has_bad_key ms))
     (earlier (broken rules.BadOneofMember (first_member is_bad_member ms))

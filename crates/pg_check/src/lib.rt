@@ -3,6 +3,7 @@
 
 mod admitting;
 mod building;
+mod by_scope;
 mod declare;
 mod enum_part_faults;
 mod enum_places;
@@ -10,7 +11,6 @@ mod enumeration;
 mod error;
 mod fault;
 mod file;
-mod group;
 pub mod laws;
 mod made_enum;
 mod made_field;

@@ -8,7 +8,7 @@ ghost use Rattle.pg_check.specs.Members.{member};
 
 use crate::made_number::{field_number, index_of};
 use crate::made_option::bracket_flag;
-use crate::member::{Member, json_name};
+use crate::member::{DeclaredField, json_name};
 use crate::numbers::rank;
 use crate::types::{Targets, scalar_named};
 use pg_link::Target;
@@ -42,17 +42,17 @@ fn element(targets: &Targets<'_>, name: &TypeName) -> Element
 }
 
 /// What the items are; of a map, what its values are.
-fn element_in(targets: &Targets<'_>, one: &Member<'_>) -> Element
+fn element_in(targets: &Targets<'_>, one: &DeclaredField<'_>) -> Element
     ensures { result ≡ spec.element_in (target_in targets.now) (member one.now) }
 {
     match one {
-        Member::Field(field, _) => element(targets, &field.type_name),
-        Member::Map(map, _) => element(targets, &map.value),
+        DeclaredField::Field(field, _) => element(targets, &field.type_name),
+        DeclaredField::Map(map, _) => element(targets, &map.value),
     }
 }
 
 /// The options of a field.
-fn options(one: &Member<'_>) -> FieldOptions
+fn options(one: &DeclaredField<'_>) -> FieldOptions
     ensures { result ≡ spec.options (member one.now) }
 {
     FieldOptions {
@@ -86,39 +86,39 @@ fn labelled(
 }
 
 /// How often the member's items stand.
-fn presence(targets: &Targets<'_>, one: &Member<'_>) -> Presence
+fn presence(targets: &Targets<'_>, one: &DeclaredField<'_>) -> Presence
     ensures { result ≡ spec.presence (target_in targets.now) (member one.now) }
 {
     match one {
-        Member::Field(field, oneof) => labelled(
+        DeclaredField::Field(field, oneof) => labelled(
             field.label,
             oneof.is_some(),
             element(targets, &field.type_name),
             bracket_flag("packed", &field.settings),
         ),
-        Member::Map(map, _) => Presence::Map {
+        DeclaredField::Map(map, _) => Presence::Map {
             key: scalar_named(&*map.key).unwrap_or(Scalar::Int32),
         },
     }
 }
 
 /// The word `optional` is stated.
-fn states_optional(one: &Member<'_>) -> bool
+fn states_optional(one: &DeclaredField<'_>) -> bool
     ensures { result ≡ spec.states_optional (member one.now) }
 {
     match one {
-        Member::Field(field, _) => matches!(field.label, Some(Label::Optional)),
-        Member::Map(_, _) => false,
+        DeclaredField::Field(field, _) => matches!(field.label, Some(Label::Optional)),
+        DeclaredField::Map(_, _) => false,
     }
 }
 
 /// The place of the oneof among those of the message.
-fn oneof_of(one: &Member<'_>) -> Option<u32>
+fn oneof_of(one: &DeclaredField<'_>) -> Option<u32>
     ensures { result ≡ option_map index_of (spec.oneof_of (member one.now)) }
 {
     let oneof = match one {
-        Member::Field(_, oneof) => *oneof,
-        Member::Map(_, oneof) => *oneof,
+        DeclaredField::Field(_, oneof) => *oneof,
+        DeclaredField::Map(_, oneof) => *oneof,
     };
     match oneof {
         Some(place) => Some(index_of(place as u128)),
@@ -127,14 +127,18 @@ fn oneof_of(one: &Member<'_>) -> Option<u32>
 }
 
 /// The number of the member.
-fn made_number(one: &Member<'_>) -> u32
+fn made_number(one: &DeclaredField<'_>) -> u32
     ensures { result ≡ spec.made_number (member one.now) }
 {
     field_number(rank(false, one.number()))
 }
 
 /// The field.
-fn made_field(alloc: Global, targets: &Targets<'_>, one: &Member<'_>) -> Result<Field, AllocError>
+fn made_field(
+    alloc: Global,
+    targets: &Targets<'_>,
+    one: &DeclaredField<'_>,
+) -> Result<Field, AllocError>
     ensures { IfOk result (λ made. spec.field made
         ≡ spec.made_field (target_in targets.now) (member one.now)) }
 {
@@ -156,7 +160,7 @@ fn made_field(alloc: Global, targets: &Targets<'_>, one: &Member<'_>) -> Result<
 pub(crate) fn made_fields(
     alloc: Global,
     targets: &Targets<'_>,
-    list: &[Member<'_>],
+    list: &[DeclaredField<'_>],
 ) -> Result<Vec<Field>, AllocError>
     ensures { IfOk result (λ fields. map spec.field fields.items
         ≡ map (spec.made_field (target_in targets.now)) (map member list.now)) }
@@ -169,7 +173,10 @@ pub(crate) fn made_fields(
 }
 
 /// The numbers, in order of declaration.
-pub(crate) fn made_numbers(alloc: Global, list: &[Member<'_>]) -> Result<Vec<u32>, AllocError>
+pub(crate) fn made_numbers(
+    alloc: Global,
+    list: &[DeclaredField<'_>],
+) -> Result<Vec<u32>, AllocError>
     ensures { IfOk result (λ numbers. numbers.items ≡ map spec.made_number (map member list.now)) }
 {
     let mut numbers = Vec::new(alloc);

@@ -2,14 +2,14 @@
 
 ghost use Rattle.std.specs.Prelude.{◌≡◌, ◌++◌, ◌∷◌, [], ℕ, List, IfOk, OnOk, length, map};
 ghost use Rattle.pg_check.specs.EnumPlaces.{target_in};
-ghost use Rattle.pg_check.specs.Groups.{group, places_in};
+ghost use Rattle.pg_check.specs.ByScope.{in_scope, places_in};
 ghost use Rattle.pg_check.specs.MadeEnums.{enumeration, made_enum};
 ghost use Rattle.pg_check.specs.MadeParts as spec;
 ghost use Rattle.pg_check.specs.MadeServices.{service};
 ghost use Rattle.pg_check.specs.Outline as outline;
 ghost use Rattle.pg_check.specs.Sources.{IsMadeBy, source};
 
-use crate::group::{Groups, enums_in, grouped, placed_enums, placed_messages, types_in};
+use crate::by_scope::{ByScope, enums_in, grouped, placed_enums, placed_messages, types_in};
 use crate::made_enum::made_enum;
 use crate::made_file::{made_imports, made_options};
 use crate::made_message::made_message;
@@ -37,10 +37,10 @@ fn message_groups(
     before: usize,
     tree: &FileTree,
     found: &[FoundMessage<'_>],
-) -> Result<Groups, AllocError>
+) -> Result<ByScope, AllocError>
     requires { map outline.message found.now ≡ outline.file_messages tree.now }
-    ensures { IfOk result (λ groups. (scope : List ℕ)
-        → group groups scope ≡ places_in scope (spec.placed_messages before tree.now)) }
+    ensures { IfOk result (λ by_scope. (scope : List ℕ)
+        → in_scope by_scope scope ≡ places_in scope (spec.placed_messages before tree.now)) }
 {
     let list = placed_messages(alloc, before, found)?;
     grouped(alloc, &list)
@@ -52,10 +52,10 @@ fn enum_groups(
     before: usize,
     tree: &FileTree,
     found: &[FoundEnum<'_>],
-) -> Result<Groups, AllocError>
+) -> Result<ByScope, AllocError>
     requires { map outline.enumeration found.now ≡ outline.scoped_enums tree.now }
-    ensures { IfOk result (λ groups. (scope : List ℕ)
-        → group groups scope ≡ places_in scope (spec.placed_enums before tree.now)) }
+    ensures { IfOk result (λ by_scope. (scope : List ℕ)
+        → in_scope by_scope scope ≡ places_in scope (spec.placed_enums before tree.now)) }
 {
     let list = placed_enums(alloc, before, found)?;
     grouped(alloc, &list)
@@ -65,12 +65,12 @@ fn enum_groups(
 fn made_type(
     alloc: Global,
     targets: &Targets<'_>,
-    types: &Groups,
-    enums: &Groups,
+    types: &ByScope,
+    enums: &ByScope,
     one: &FoundMessage<'_>,
 ) -> Result<MessageType, AllocError>
     ensures { IfOk result (spec.IsTypeOf
-        (spec.grouped_tree (target_in targets.now) (group types.now) (group enums.now)
+        (spec.grouped_tree (target_in targets.now) (in_scope types.now) (in_scope enums.now)
         (outline.message one.now))) }
 {
     let full = one.full.as_str();
@@ -85,12 +85,12 @@ fn made_type(
 fn made_types(
     alloc: Global,
     targets: &Targets<'_>,
-    types: &Groups,
-    enums: &Groups,
+    types: &ByScope,
+    enums: &ByScope,
     found: &[FoundMessage<'_>],
 ) -> Result<Vec<MessageType>, AllocError>
     ensures { IfOk result (λ made. spec.EachIs spec.IsTypeOf
-        (map (spec.grouped_tree (target_in targets.now) (group types.now) (group enums.now))
+        (map (spec.grouped_tree (target_in targets.now) (in_scope types.now) (in_scope enums.now))
         (map outline.message found.now)) made.items) }
 {
     let mut made = Vec::new(alloc);
@@ -141,12 +141,13 @@ fn file_services(alloc: Global, file: &Source<'_>) -> Result<Vec<Service>, Alloc
 fn made_file(
     alloc: Global,
     file: &Source<'_>,
-    types: &Groups,
-    enums: &Groups,
+    types: &ByScope,
+    enums: &ByScope,
     services: Vec<ServiceId>,
 ) -> Result<File, AllocError>
     ensures { IfOk result (spec.IsFileOf
-        (spec.grouped_shape (group types.now) (group enums.now) services.items (source file.now))) }
+        (spec.grouped_shape (in_scope types.now) (in_scope enums.now) services.items
+        (source file.now))) }
 {
     let package = package_of(alloc, file.tree)?;
     let types = types_in(alloc, types, &package)?;

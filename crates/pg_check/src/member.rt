@@ -13,19 +13,19 @@ use std::alloc::{AllocError, Global};
 
 /// A field or a map, with the place of its oneof among the message's.
 #[derive(Clone, Copy)]
-pub(crate) enum Member<'a> {
+pub(crate) enum DeclaredField<'a> {
     Field(&'a Field, Option<usize>),
     Map(&'a MapField, Option<usize>),
 }
 
-impl<'a> Member<'a> {
+impl<'a> DeclaredField<'a> {
     /// The name that the member declares.
     pub(crate) fn name(self) -> &'a Name
         ensures { result.now ≡ spec.name_of (spec.member self.entry) }
     {
         match self {
-            Member::Field(field, _) => &field.name,
-            Member::Map(map, _) => &map.name,
+            DeclaredField::Field(field, _) => &field.name,
+            DeclaredField::Map(map, _) => &map.name,
         }
     }
 
@@ -34,8 +34,8 @@ impl<'a> Member<'a> {
         ensures { result ≡ spec.number_of (spec.member self.entry) }
     {
         match self {
-            Member::Field(field, _) => field.number,
-            Member::Map(map, _) => map.number,
+            DeclaredField::Field(field, _) => field.number,
+            DeclaredField::Map(map, _) => map.number,
         }
     }
 
@@ -44,15 +44,15 @@ impl<'a> Member<'a> {
         ensures { result.now ≡ spec.settings_of (spec.member self.entry) }
     {
         match self {
-            Member::Field(field, _) => &field.settings,
-            Member::Map(map, _) => &map.settings,
+            DeclaredField::Field(field, _) => &field.settings,
+            DeclaredField::Map(map, _) => &map.settings,
         }
     }
 }
 
 /// Appends the members of a oneof.
 fn push_oneof<'a>(
-    members: &mut Vec<Member<'a>>,
+    members: &mut Vec<DeclaredField<'a>>,
     place: usize,
     body: &'a [OneofPart],
 ) -> Result<(), AllocError>
@@ -61,8 +61,8 @@ fn push_oneof<'a>(
 {
     for part in body {
         match part {
-            OneofPart::Field(field) => members.push(Member::Field(field, Some(place)))?,
-            OneofPart::Map(map) => members.push(Member::Map(map, Some(place)))?,
+            OneofPart::Field(field) => members.push(DeclaredField::Field(field, Some(place)))?,
+            OneofPart::Map(map) => members.push(DeclaredField::Map(map, Some(place)))?,
             OneofPart::Empty(_) => {}
             OneofPart::Option(_) => {}
         }
@@ -71,15 +71,18 @@ fn push_oneof<'a>(
 }
 
 /// The fields of a body, in order of declaration.
-pub(crate) fn members<'a>(alloc: Global, body: &'a [Part]) -> Result<Vec<Member<'a>>, AllocError>
+pub(crate) fn members<'a>(
+    alloc: Global,
+    body: &'a [Part],
+) -> Result<Vec<DeclaredField<'a>>, AllocError>
     ensures { IfOk result (λ members. map spec.member members.items ≡ spec.members body.now) }
 {
     let mut members = Vec::new(alloc);
     let mut oneofs = 0;
     for part in body {
         match part {
-            Part::Field(field) => members.push(Member::Field(field, None))?,
-            Part::Map(map) => members.push(Member::Map(map, None))?,
+            Part::Field(field) => members.push(DeclaredField::Field(field, None))?,
+            Part::Map(map) => members.push(DeclaredField::Map(map, None))?,
             Part::Oneof(oneof) => {
                 push_oneof(&mut members, oneofs, &oneof.parts)?;
                 oneofs += 1;
@@ -95,7 +98,7 @@ pub(crate) fn members<'a>(alloc: Global, body: &'a [Part]) -> Result<Vec<Member<
 }
 
 /// The members' numbers.
-pub(crate) fn keys(alloc: Global, members: &[Member<'_>]) -> Result<Vec<Keyed>, AllocError>
+pub(crate) fn keys(alloc: Global, members: &[DeclaredField<'_>]) -> Result<Vec<Keyed>, AllocError>
     ensures { IfOk result (λ keys. keys.items ≡ map spec.key_of (map spec.member members.now)) }
 {
     let mut keys = Vec::new(alloc);
@@ -111,7 +114,7 @@ pub(crate) fn keys(alloc: Global, members: &[Member<'_>]) -> Result<Vec<Keyed>, 
 /// The members' names.
 pub(crate) fn names_of<'a>(
     alloc: Global,
-    members: &[Member<'a>],
+    members: &[DeclaredField<'a>],
 ) -> Result<Vec<Called<'a>>, AllocError>
     ensures { IfOk result (λ list. map names.called list.items
         ≡ map spec.named (map spec.member members.now)) }
@@ -170,7 +173,7 @@ fn given_json(alloc: Global, settings: &Option<Settings>) -> Result<Option<Strin
 }
 
 /// The JSON name of a member, given or default.
-pub(crate) fn json_name(alloc: Global, member: Member<'_>) -> Result<String, AllocError>
+pub(crate) fn json_name(alloc: Global, member: DeclaredField<'_>) -> Result<String, AllocError>
     ensures { IfOk result (λ text. string_bytes text ≡ spec.json_name (spec.member member.entry)) }
 {
     match given_json(alloc, member.settings())? {
@@ -180,7 +183,10 @@ pub(crate) fn json_name(alloc: Global, member: Member<'_>) -> Result<String, All
 }
 
 /// The members' JSON names.
-pub(crate) fn json_names(alloc: Global, members: &[Member<'_>]) -> Result<Vec<Titled>, AllocError>
+pub(crate) fn json_names(
+    alloc: Global,
+    members: &[DeclaredField<'_>],
+) -> Result<Vec<Titled>, AllocError>
     ensures { IfOk result (λ list. map names.titled list.items
         ≡ map spec.json_named (map spec.member members.now)) }
 {

@@ -10,7 +10,7 @@ ghost use Rattle.pg_check.specs.Options.{stated};
 
 use crate::enumeration::is_true;
 use crate::fault::{Fault, Rule, broken, earlier, told_at};
-use crate::member::{Member, json_names, keys, members, names_of};
+use crate::member::{DeclaredField, json_names, keys, members, names_of};
 use crate::names;
 use crate::numbers::{
     HIGHEST_FIELD, Keyed, LOWEST_FIELD, Numbers, first_reserved, first_twice, is_field_number,
@@ -113,17 +113,17 @@ fn oneofs_fault(body: &[Part]) -> Option<Fault>
 }
 
 /// The member of a oneof is a map, or `repeated` or `optional`.
-fn is_bad_member(one: &Member<'_>) -> bool
+fn is_bad_member(one: &DeclaredField<'_>) -> bool
     ensures { result ≡ spec.is_bad_member (member one.now) }
 {
     match one {
-        Member::Field(field, oneof) => oneof.is_some() && field.label.is_some(),
-        Member::Map(_, oneof) => oneof.is_some(),
+        DeclaredField::Field(field, oneof) => oneof.is_some() && field.label.is_some(),
+        DeclaredField::Map(_, oneof) => oneof.is_some(),
     }
 }
 
 /// The first member of a oneof that may not be one.
-fn first_bad_member(list: &[Member<'_>]) -> Option<usize>
+fn first_bad_member(list: &[DeclaredField<'_>]) -> Option<usize>
     ensures { result ≡ spec.first_member spec.is_bad_member (map member list.now) }
 {
     for one in list {
@@ -147,17 +147,17 @@ fn first_bad_number(keys: &[Keyed]) -> Option<usize>
 }
 
 /// The member is a map whose key may not be one.
-fn has_bad_key(one: &Member<'_>) -> bool
+fn has_bad_key(one: &DeclaredField<'_>) -> bool
     ensures { result ≡ spec.has_bad_key (member one.now) }
 {
     match one {
-        Member::Field(_, _) => false,
-        Member::Map(map, _) => !is_key_type(&*map.key),
+        DeclaredField::Field(_, _) => false,
+        DeclaredField::Map(map, _) => !is_key_type(&*map.key),
     }
 }
 
 /// The first map with a key that may not be one.
-fn first_bad_key(list: &[Member<'_>]) -> Option<usize>
+fn first_bad_key(list: &[DeclaredField<'_>]) -> Option<usize>
     ensures { result ≡ spec.first_member spec.has_bad_key (map member list.now) }
 {
     for one in list {
@@ -169,7 +169,7 @@ fn first_bad_key(list: &[Member<'_>]) -> Option<usize>
 }
 
 /// The first option of a member that isn't right, or was stated before.
-fn member_option(alloc: Global, one: Member<'_>) -> Result<Option<Fault>, AllocError>
+fn member_option(alloc: Global, one: DeclaredField<'_>) -> Result<Option<Fault>, AllocError>
     ensures { IfOk result (λ fault. fault ≡ spec.member_option (member one.entry)) }
 {
     let options = in_settings(alloc, Owner::Field, one.settings())?;
@@ -178,7 +178,7 @@ fn member_option(alloc: Global, one: Member<'_>) -> Result<Option<Fault>, AllocE
 }
 
 /// The first rule that the members' options break.
-fn member_options(alloc: Global, list: &[Member<'_>]) -> Result<Option<Fault>, AllocError>
+fn member_options(alloc: Global, list: &[DeclaredField<'_>]) -> Result<Option<Fault>, AllocError>
     ensures { IfOk result (λ fault. fault ≡ first_fault spec.member_option (map member list.now)) }
 {
     for one in list {
@@ -191,15 +191,15 @@ fn member_options(alloc: Global, list: &[Member<'_>]) -> Result<Option<Fault>, A
 }
 
 /// A list of the member's items can stand in one record.
-fn may_be_packed(targets: &Targets<'_>, one: &Member<'_>) -> bool
+fn may_be_packed(targets: &Targets<'_>, one: &DeclaredField<'_>) -> bool
     ensures { result ≡ spec.may_be_packed (target_in targets.now) (member one.now) }
 {
     match one {
-        Member::Field(field, _) => {
+        DeclaredField::Field(field, _) => {
             matches!(field.label, Some(Label::Repeated))
                 && is_packable_type(targets, &field.type_name)
         }
-        Member::Map(_, _) => false,
+        DeclaredField::Map(_, _) => false,
     }
 }
 
@@ -239,7 +239,7 @@ fn first_packed(settings: &Option<Settings>) -> Option<usize>
 }
 
 /// The member states `packed = true` and may not.
-fn member_packed(targets: &Targets<'_>, one: &Member<'_>) -> Option<Fault>
+fn member_packed(targets: &Targets<'_>, one: &DeclaredField<'_>) -> Option<Fault>
     ensures { result ≡ spec.member_packed (target_in targets.now) (member one.now) }
 {
     if may_be_packed(targets, one) {
@@ -250,7 +250,7 @@ fn member_packed(targets: &Targets<'_>, one: &Member<'_>) -> Option<Fault>
 }
 
 /// The first member that states `packed = true` and may not.
-fn members_packed(targets: &Targets<'_>, list: &[Member<'_>]) -> Option<Fault>
+fn members_packed(targets: &Targets<'_>, list: &[DeclaredField<'_>]) -> Option<Fault>
     ensures { result ≡ first_fault (spec.member_packed (target_in targets.now))
         (map member list.now) }
 {
@@ -283,7 +283,7 @@ pub(crate) fn numbers_fault(
 fn names_fault(
     alloc: Global,
     reserved: &[String],
-    list: &[Member<'_>],
+    list: &[DeclaredField<'_>],
 ) -> Result<Option<Fault>, AllocError>
     ensures { IfOk result (λ fault. fault
         ≡ spec.names_fault (map string_bytes reserved.now) (map member list.now)) }
@@ -302,7 +302,7 @@ fn names_fault(
 fn shapes_fault(
     alloc: Global,
     targets: &Targets<'_>,
-    list: &[Member<'_>],
+    list: &[DeclaredField<'_>],
 ) -> Result<Option<Fault>, AllocError>
     ensures { IfOk result (λ fault. fault
         ≡ spec.shapes_fault (target_in targets.now) (map member list.now)) }

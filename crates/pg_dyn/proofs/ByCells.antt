@@ -7,7 +7,7 @@ use Rattle.pg_schema.specs.Shape.{Shape, FieldShape, IsShape, Rising, fields, fi
 use Rattle.pg_wire.specs.Records.{WireRecord, records_of}
 use Rattle.pg_dyn.specs.Optional.{all_some, joined}
 use Rattle.pg_dyn.specs.Message.{Message, ends, holds, nests, Item, Part, is_of, parts, message_from, IsPlain}
-use Rattle.pg_dyn.specs.Content.{takes, is_unknown, is_rival, counted, content}
+use Rattle.pg_dyn.specs.Content.{takes, is_unknown, is_sibling, counted, content}
 use Rattle.pg_dyn.specs.Writing.{field_records, records_in}
 use Rattle.pg_dyn.specs.Encoding.{encoded_parts, enc}
 use Rattle.pg_dyn.specs.Decoding.{Reader, is_readable, all_readable, read_part, field_parts, read_records, dec}
@@ -76,26 +76,26 @@ module _ (view : View) (child : Reader) (fs gs : List FieldShape) (cs : List Cel
   nothing_taken : (g : FieldShape) → cells_at g.number cs ≡ [] → AllByRecursion (λ r. takes g r ≡ false) rs
   nothing_taken g none = filtered_out (takes g) rs (taken_numbered g ∙ ap (filter (takes g)) (no_records g.number none))
 
-  no_rivals : (g : FieldShape) → field_at gs g.number ≡ Some g → (c : Cell) (rest : List Cell) → cells_at g.number cs ≡ c ∷ rest → list_any (λ r. list_any (λ h. is_rival g h && takes h r) gs) rs ≡ false
-  no_rivals g found c rest some =
+  no_siblings : (g : FieldShape) → field_at gs g.number ≡ Some g → (c : Cell) (rest : List Cell) → cells_at g.number cs ≡ c ∷ rest → list_any (λ r. list_any (λ h. is_sibling g h && takes h r) gs) rs ≡ false
+  no_siblings g found c rest some =
       list_any_none _ rs
-      (each_weaker (λ r. AllByRecursion (λ h. (is_rival g h && takes h r) ≡ false) gs) _ (λ r k. list_any_none _ gs k) rs
-      (each_swap (λ h r. (is_rival g h && takes h r) ≡ false) gs rs
+      (each_weaker (λ r. AllByRecursion (λ h. (is_sibling g h && takes h r) ≡ false) gs) _ (λ r k. list_any_none _ gs k) rs
+      (each_swap (λ h r. (is_sibling g h && takes h r) ≡ false) gs rs
       (each_weaker (λ h. field_at gs h.number ≡ Some h) _
       (λ h at.
       ⊎_elim
-      (λ rival.
+      (λ sibling.
       ⊎_elim (λ none. absurd (let no : ◌≡◌ {A = List Cell} [] (c ∷ rest) = sym none ∙ some in cc))
-      (λ none. each_weaker (λ r. takes h r ≡ false) _ (λ r k. and_right (is_rival g h) (takes h r) k) rs (nothing_taken h none))
-      (apart g h found at rival))
-      (λ no_rival. each_of_all (λ r. (is_rival g h && takes h r) ≡ false) (λ r. rw no_rival) rs)
-      (cases_Bool (is_rival g h)))
+      (λ none. each_weaker (λ r. takes h r ≡ false) _ (λ r k. and_right (is_sibling g h) (takes h r) k) rs (nothing_taken h none))
+      (apart g h found at sibling))
+      (λ no_sibling. each_of_all (λ r. (is_sibling g h && takes h r) ≡ false) (λ r. rw no_sibling) rs)
+      (cases_Bool (is_sibling g h)))
       gs (each_found gs rising_new))))
 
   counted_is : (g : FieldShape) → field_at gs g.number ≡ Some g → (xs : List Cell) → cells_at g.number cs ≡ xs → counted gs g rs ≡ filter (takes g) (filter (of_number g.number) rs)
   counted_is g found [] none =
       filter-after_last_of_none (takes g) _ rs (nothing_taken g none) ∙ sym (ap (filter (takes g)) (no_records g.number none))
-  counted_is g found (c ∷ rest) some = ap (filter (takes g)) (after_last_of_none _ rs (no_rivals g found c rest some)) ∙ taken_numbered g
+  counted_is g found (c ∷ rest) some = ap (filter (takes g)) (after_last_of_none _ rs (no_siblings g found c rest some)) ∙ taken_numbered g
 
   -- The parts of a new field are those of its own records.
 

@@ -7,8 +7,8 @@ use Rattle.pg_schema.specs.Shape.{Shape, FieldShape, fields, field_at, Rising}
 use Rattle.pg_wire.specs.Records.{WireRecord}
 use Rattle.pg_dyn.specs.declared.message_ref.ContentRef.{ContentRef}
 use Rattle.pg_dyn.specs.ByFields.{AllCount, HoldsOf}
-use Rattle.pg_dyn.specs.Content.{content, is_accepted, is_rival, is_unknown, takes}
-use Rattle.pg_dyn.specs.ContentFits.{AreApart, NoneRivals}
+use Rattle.pg_dyn.specs.Content.{content, is_accepted, is_sibling, is_unknown, takes}
+use Rattle.pg_dyn.specs.ContentFits.{AreApart, NoneSiblings}
 use Rattle.pg_dyn.specs.Decoding.{all_readable, dec, field_parts, read_part, read_records}
 use Rattle.pg_dyn.specs.Fits.{Fits}
 use Rattle.pg_dyn.specs.Kept.{KeptItem, ends, message_of}
@@ -17,7 +17,7 @@ use Rattle.pg_dyn.specs.Optional.{after_last_of, all_some}
 use Rattle.pg_dyn.specs.Seen.{Rises}
 use Rattle.pg_dyn.specs.Borrowed.{HasKeys, IsFilled, content_seen, fields_onto}
 use Rattle.pg_dyn.specs.Steps.{HeldFits, Taken, part_of, parts_held}
-use Rattle.pg_dyn.proofs.Flat.{is_rival_sym}
+use Rattle.pg_dyn.proofs.Flat.{is_sibling_sym}
 use Rattle.pg_dyn.proofs.GoodRecords.{known_is, same_found}
 use Rattle.pg_dyn.proofs.BorrowedParts.{content_number}
 use Rattle.pg_dyn.proofs.Lists.{each-append, each_weaker, filter-append', filter_all, filter_none, flat_map-append', list_any_at}
@@ -77,20 +77,20 @@ never_both keep other test tried p q (x ∷ xs) h k a b =
     (λ none. a (ap (λ d. cond d (x ∷ filter keep xs) (filter keep xs)) one.0 ∙ none))
     (λ none. b (ap (λ d. cond d (x ∷ filter other xs) (filter other xs)) two.0 ∙ none))
 
-rival_absent : (fs : List FieldShape) (rs : List WireRecord) → AllCount fs rs → (f g : FieldShape) → field_at fs f.number ≡ Some f
+sibling_absent : (fs : List FieldShape) (rs : List WireRecord) → AllCount fs rs → (f g : FieldShape) → field_at fs f.number ≡ Some f
     → field_at fs g.number ≡ Some g
-    → filter (takes f) rs ≢ [] → filter (takes g) rs ≢ [] → is_rival f g ≡ false
-rival_absent fs rs all f g found_f found_g some_f some_g = of (is_rival f g) refl
+    → filter (takes f) rs ≢ [] → filter (takes g) rs ≢ [] → is_sibling f g ≡ false
+sibling_absent fs rs all f g found_f found_g some_f some_g = of (is_sibling f g) refl
   where
-    rival_takes : (x y : FieldShape) (r : WireRecord) → field_at fs y.number ≡ Some y → is_rival x y ≡ true → takes y r ≡ true
-        → list_any (λ z. is_rival x z && takes z r) fs ≡ true
-    rival_takes x y r found rival taken = list_any_at (λ z. is_rival x z && takes z r) fs y.number y found (rw (rival, taken))
+    sibling_takes : (x y : FieldShape) (r : WireRecord) → field_at fs y.number ≡ Some y → is_sibling x y ≡ true → takes y r ≡ true
+        → list_any (λ z. is_sibling x z && takes z r) fs ≡ true
+    sibling_takes x y r found sibling taken = list_any_at (λ z. is_sibling x z && takes z r) fs y.number y found (rw (sibling, taken))
 
-    of : (b : Bool) → is_rival f g ≡ b → b ≡ false
+    of : (b : Bool) → is_sibling f g ≡ b → b ≡ false
     of false e = refl
     of true e =
-        absurd (never_both (takes f) (takes g) (λ r. list_any (λ z. is_rival f z && takes z r) fs) (λ r. list_any (λ z. is_rival g z && takes z r) fs)
-        (λ r taken. rival_takes f g r found_g e taken) (λ r taken. rival_takes g f r found_f (is_rival_sym f g e) taken) rs (all.count f found_f)
+        absurd (never_both (takes f) (takes g) (λ r. list_any (λ z. is_sibling f z && takes z r) fs) (λ r. list_any (λ z. is_sibling g z && takes z r) fs)
+        (λ r taken. sibling_takes f g r found_g e taken) (λ r taken. sibling_takes g f r found_f (is_sibling_sym f g e) taken) rs (all.count f found_f)
         (all.count g found_g) some_f some_g)
 
 -- What a content keeps.
@@ -271,20 +271,20 @@ module _ (shape : Shape) (type : TypeId) where
         let is_g = same_found g k.holds.field (sym at_g ∙ k.holds.found) in
         let found_h = ap (field_at (fields shape type)) (found_number (fields shape type) c.0 h.holds.field h.holds.found) ∙ h.holds.found in
         let found_k = ap (field_at (fields shape type)) (found_number (fields shape type) d.0 k.holds.field k.holds.found) ∙ k.holds.found in
-        subst (λ x. is_rival x g ≡ false) (sym is_f)
-        (subst (λ x. is_rival h.holds.field x ≡ false) (sym is_g)
-        (rival_absent (fields shape type) rs all h.holds.field k.holds.field found_h found_k h.some k.some))
+        subst (λ x. is_sibling x g ≡ false) (sym is_f)
+        (subst (λ x. is_sibling h.holds.field x ≡ false) (sym is_g)
+        (sibling_absent (fields shape type) rs all h.holds.field k.holds.field found_h found_k h.some k.some))
 
-    none_rivals : (ds : List (ℕ × ContentRef)) → AllByRecursion (IsBacked rs) ds → NoneRivals (fields shape type) ds
-    none_rivals [] h = tt
-    none_rivals (d ∷ ds) h =
-        (each_weaker (IsBacked rs) (λ (l : ℕ × ContentRef). AreApart (fields shape type) d.0 l.0) (λ l k. apart_of d l h.0 k) ds h.1, none_rivals ds h.1)
+    none_siblings : (ds : List (ℕ × ContentRef)) → AllByRecursion (IsBacked rs) ds → NoneSiblings (fields shape type) ds
+    none_siblings [] h = tt
+    none_siblings (d ∷ ds) h =
+        (each_weaker (IsBacked rs) (λ (l : ℕ × ContentRef). AreApart (fields shape type) d.0 l.0) (λ l k. apart_of d l h.0 k) ds h.1, none_siblings ds h.1)
 
     holding : AllByRecursion (HoldsParts content_seen shape type) cs
     holding = each_weaker (IsBacked rs) (HoldsParts content_seen shape type) (λ c k. k.holds) cs was.backed
 
     pub whole_fits : type.index < length shape → Fits shape (fields_onto cs (ends type []))
-    whole_fits there = fits_of_contents content_seen shape type cs [] there was.rises holding (none_rivals cs was.backed) tt
+    whole_fits there = fits_of_contents content_seen shape type cs [] there was.rises holding (none_siblings cs was.backed) tt
 
     message_is : message_of (fields_onto cs (ends type [])) ≡ message_from (map part_of (all_seen cs)) []
     message_is = message_of-kept_from type (all_seen cs) []
@@ -293,7 +293,7 @@ module _ (shape : Shape) (type : TypeId) where
     in_order =
         let m = message_of (fields_onto cs (ends type [])) in
         let parts_are : parts m ≡ map part_of (all_seen cs) = ap parts message_is ∙ (parts-message_from (map part_of (all_seen cs)) []).0 in
-        let is_message = (contents_whole content_seen shape type cs [] was.rises holding (none_rivals cs was.backed) tt).0 in
+        let is_message = (contents_whole content_seen shape type cs [] was.rises holding (none_siblings cs was.backed) tt).0 in
         of_each_is (fields shape type) (map part_of (all_seen cs)) rising
         (subst (λ ps. NeverFalls (fields shape type) (map place_of ps)) parts_are
         (subst (NeverFalls (fields shape type)) (sym (places-parts m)) (never_falls shape type m is_message)))

@@ -8,7 +8,7 @@ use Rattle.std.specs.declared.cmp.Ordering.{Ordering}
 use Rattle.std.specs.declared.cmp.Ordering.TheVariants.{Less, Equal, Greater}
 use Rattle.pg_dyn.specs.KeyOrder.{Rise}
 use Rattle.pg_dyn.specs.Message.{Leaf, Int, Bytes, key_cmp}
-use Rattle.pg_dyn.specs.Settled.{place}
+use Rattle.pg_dyn.specs.Normalized.{place}
 use Rattle.pg_dyn.proofs.FitsSteps.{key_trans}
 use Rattle.pg_dyn.proofs.Fields.{above_from_less}
 use Rattle.pg_dyn.proofs.Lists.{each_weaker}

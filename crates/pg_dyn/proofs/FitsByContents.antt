@@ -15,7 +15,7 @@ use Rattle.pg_dyn.specs.declared.message.Content.TheVariants as contents
 use Rattle.pg_dyn.specs.declared.message.Value.{Value}
 use Rattle.pg_dyn.specs.declared.message.Value.TheVariants as values
 use Rattle.pg_dyn.specs.Message.{Leaf, Part, Place, places, key_cmp}
-use Rattle.pg_dyn.specs.Content.{is_rival}
+use Rattle.pg_dyn.specs.Content.{is_sibling}
 use Rattle.pg_dyn.specs.Encoding.{child_type}
 use Rattle.pg_dyn.specs.Kept.{Kept, KeptItem, ends, holds, type_of, message_of}
 use Rattle.pg_dyn.specs.Seen.{leaf_of, content_seen, item_seen, value_onto, items_onto, entries_onto, content_onto, fields_onto, Rises, IsFilled, IsKey, HasKeys}
@@ -23,7 +23,7 @@ use Rattle.pg_dyn.specs.Belonging.{KeyFits, MayFollow, ComesBefore, IsPart, IsUn
 use Rattle.pg_dyn.specs.Fits.{Fits, PartsAgree, is_listed, is_listed_by}
 use Rattle.pg_dyn.specs.PartsFit.{FieldHolds, HoldsItem, IsPartOf}
 use Rattle.pg_dyn.specs.ScalarItems.{IsItemOf}
-use Rattle.pg_dyn.specs.ContentFits.{ItemFits, KeysRise, ContentFits, HoldsContent, AreApart, NoneRivals, FitsByContents}
+use Rattle.pg_dyn.specs.ContentFits.{ItemFits, KeysRise, ContentFits, HoldsContent, AreApart, NoneSiblings, FitsByContents}
 use Rattle.pg_dyn.proofs.Belonging.{child_type_is, fields-IsType}
 use Rattle.pg_dyn.proofs.KeptParts.{unknown_of-items, unknown_of-entries, fields_keep}
 use Rattle.pg_dyn.proofs.Lists.{each_weaker, each_at, each_before, each_after}
@@ -103,8 +103,8 @@ module _ (shape : Shape) (type : TypeId) where
         (h.0.4, h.1.3),
       )
 
-  abbrev NotRival : FieldShape → ℕ → Type 0
-  NotRival f number = (g : FieldShape) → field_at (fields shape type) number ≡ Some g → is_rival f g ≡ false
+  abbrev NotSibling : FieldShape → ℕ → Type 0
+  NotSibling f number = (g : FieldShape) → field_at (fields shape type) number ≡ Some g → is_sibling f g ≡ false
 
   -- what each shape of a content says of its field's presence
   one_gives : (p : Presence) (e : Element) (v : Value) → ContentFits shape p e (contents.One v) → KeyFits p None × (is_repeated p ≡ false) × ItemFits shape e v × ZeroFits p v
@@ -257,7 +257,7 @@ module _ (shape : Shape) (type : TypeId) where
     numbers_from [] us filled h = tt
     numbers_from (m ∷ ms) us filled h = let k = places_off m.0 m.1 (shown ms us) filled.0 h in (k.0, numbers_from ms us filled.1 k.1)
 
-  contents_to : (ms : List (ℕ × Content)) (us : List WireRecord) → Rises ms → AllByRecursion (HoldsContent shape type) ms → NoneRivals (fields shape type) ms
+  contents_to : (ms : List (ℕ × Content)) (us : List WireRecord) → Rises ms → AllByRecursion (HoldsContent shape type) ms → NoneSiblings (fields shape type) ms
       → AllByRecursion (IsUnknown (fields shape type)) us → Whole (shown ms us)
   contents_to ms us rises each apart unknown =
       subst Whole (sym (fields_from ms (ends type us)))
@@ -268,7 +268,7 @@ module _ (shape : Shape) (type : TypeId) where
   module _ (is_shape : IsShape shape) where
     abbrev Back : ℕ → Content → Kept → Type 0
     Back n c later =
-        (f : FieldShape) × (field_at (fields shape type) n ≡ Some f) × ContentFits shape f.presence f.element c × AllByRecursion (λ (p : Place). NotRival f p.number) (places (message_of later)) × Whole later
+        (f : FieldShape) × (field_at (fields shape type) n ≡ Some f) × ContentFits shape f.presence f.element c × AllByRecursion (λ (p : Place). NotSibling f p.number) (places (message_of later)) × Whole later
 
     items_each : (n : ℕ) (f : FieldShape) → field_at (fields shape type) n ≡ Some f → (vs : List Value) (later : Kept) → type_of later ≡ type → Whole (items_onto n vs later) → AllByRecursion (ItemFits shape f.element) vs × Whole later
     items_each n f found [] later same h = (tt, h)
@@ -278,14 +278,14 @@ module _ (shape : Shape) (type : TypeId) where
         ((subst (λ (g : FieldShape). ItemFits shape g.element v) (same_found n here.0.field f here.0.found found) here.2, more.0), more.1)
 
     items_back : (n : ℕ) (vs : List Value) (later : Kept) → type_of later ≡ type → vs ≢ [] → Whole (items_onto n vs later)
-        → (f : FieldShape) × (field_at (fields shape type) n ≡ Some f) × (is_repeated f.presence ≡ true) × AllByRecursion (ItemFits shape f.element) vs × AllByRecursion (λ (p : Place). NotRival f p.number) (places (message_of later)) × Whole later
+        → (f : FieldShape) × (field_at (fields shape type) n ≡ Some f) × (is_repeated f.presence ≡ true) × AllByRecursion (ItemFits shape f.element) vs × AllByRecursion (λ (p : Place). NotSibling f p.number) (places (message_of later)) × Whole later
     items_back n [] later same some h = absurd (some refl)
     items_back n (v ∷ vs) later same some h =
         let (here, rest) = value_back is_shape n None true v (items_onto n vs later) ((unknown_of-items n vs later).1 ∙ same) h in
         let part = here.0 in
         let more = items_each n part.field part.found vs later same rest in
-        let alone = subst (AllByRecursion (λ (p : Place). NotRival part.field p.number)) (places-items_onto n vs later) part.alone in
-        (part.field, part.found, here.1, (here.2, more.0), each_after (λ (p : Place). NotRival part.field p.number) (map (λ (x : Value). place_at n None) vs) (places (message_of later)) alone, more.1)
+        let alone = subst (AllByRecursion (λ (p : Place). NotSibling part.field p.number)) (places-items_onto n vs later) part.alone in
+        (part.field, part.found, here.1, (here.2, more.0), each_after (λ (p : Place). NotSibling part.field p.number) (map (λ (x : Value). place_at n None) vs) (places (message_of later)) alone, more.1)
 
     map_of : (p : Presence) (k : Leaf) → KeyFits p (Some k) → (key : Scalar) × (p ≡ presences.Map key)
     map_of presences.Implicit k h = absurd (cc)
@@ -313,15 +313,15 @@ module _ (shape : Shape) (type : TypeId) where
             (⊎_elim (λ low. absurd (omega (arith, low, number))) (λ own. subst (λ p. MayFollow p (Some k) (Some (leaf_of x.0))) map_here own.1) h'.0, rising g number map_here k xs ps h'.1)
 
     entries_back : (n : ℕ) (es : List (Value × Value)) (later : Kept) → type_of later ≡ type → es ≢ [] → AllByRecursion (λ (e : Value × Value). IsKey e.0) es → Whole (entries_onto n es later)
-        → (f : FieldShape) × (field_at (fields shape type) n ≡ Some f) × ((key : Scalar) × (f.presence ≡ presences.Map key) × AllByRecursion (EntryFits key f.element) es × KeysRise es) × AllByRecursion (λ (p : Place). NotRival f p.number) (places (message_of later)) × Whole later
+        → (f : FieldShape) × (field_at (fields shape type) n ≡ Some f) × ((key : Scalar) × (f.presence ≡ presences.Map key) × AllByRecursion (EntryFits key f.element) es × KeysRise es) × AllByRecursion (λ (p : Place). NotSibling f p.number) (places (message_of later)) × Whole later
     entries_back n [] later same some keys h = absurd (some refl)
     entries_back n (e ∷ es) later same some keys h =
         let (here, rest) = value_back is_shape n (Some (leaf_of e.0)) false e.1 (entries_onto n es later) ((unknown_of-entries n es later).1 ∙ same) h in
         let part = here.0 in
         let (key, is) = map_of part.field.presence (leaf_of e.0) part.key_fits in
         let all = entries_each n part.field part.found key is (e ∷ es) later same keys h in
-        let alone = subst (AllByRecursion (λ (p : Place). NotRival part.field p.number)) (places-entries_onto n es later) part.alone in
-        (part.field, part.found, (key, is, all.0, all.1), each_after (λ (p : Place). NotRival part.field p.number) (map (key_place n) es) (places (message_of later)) alone, all.2)
+        let alone = subst (AllByRecursion (λ (p : Place). NotSibling part.field p.number)) (places-entries_onto n es later) part.alone in
+        (part.field, part.found, (key, is, all.0, all.1), each_after (λ (p : Place). NotSibling part.field p.number) (map (key_place n) es) (places (message_of later)) alone, all.2)
 
     content_back : (n : ℕ) (c : Content) (later : Kept) → type_of later ≡ type → IsFilled c → HasKeys c → Whole (content_onto n c later) → Back n c later
     content_back n (contents.One v) later same filled keys h =
@@ -335,13 +335,13 @@ module _ (shape : Shape) (type : TypeId) where
         (k.0, k.1, map_takes k.0.presence k.0.element es k.2.0 k.2.1 k.2.2 k.2.3, k.3, k.4)
 
     pub contents_back : (ms : List (ℕ × Content)) (us : List WireRecord) → AllByRecursion (λ (m : ℕ × Content). IsFilled m.1) ms → AllByRecursion (λ (m : ℕ × Content). HasKeys m.1) ms → Whole (shown ms us)
-        → AllByRecursion (HoldsContent shape type) ms × NoneRivals (fields shape type) ms × AllByRecursion (IsUnknown (fields shape type)) us
+        → AllByRecursion (HoldsContent shape type) ms × NoneSiblings (fields shape type) ms × AllByRecursion (IsUnknown (fields shape type)) us
     contents_back [] us filled keys h = (tt, tt, h.0)
     contents_back (m ∷ ms) us filled keys h =
         let k = content_back m.0 m.1 (shown ms us) (fields_keep ms (ends type us)).1 filled.0 keys.0 h in
         let rest = contents_back ms us filled.1 keys.1 k.4 in
-        let apart = each_weaker (λ (l : ℕ × Content). NotRival k.0 l.0) (λ (l : ℕ × Content). AreApart (fields shape type) m.0 l.0) (λ l none g j at there. subst (λ x. is_rival x j ≡ false) (same_found m.0 k.0 g k.1 at) (none j there)) ms
-        (numbers_from (NotRival k.0) ms us filled.1 k.3) in
+        let apart = each_weaker (λ (l : ℕ × Content). NotSibling k.0 l.0) (λ (l : ℕ × Content). AreApart (fields shape type) m.0 l.0) (λ l none g j at there. subst (λ x. is_sibling x j ≡ false) (same_found m.0 k.0 g k.1 at) (none j there)) ms
+        (numbers_from (NotSibling k.0) ms us filled.1 k.3) in
         ((record { field = k.0; found = k.1; fits = k.2 }, rest.0), (apart, rest.1), rest.2)
 
 -- A message fits just where its contents do.

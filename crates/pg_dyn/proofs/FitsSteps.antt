@@ -10,7 +10,7 @@ use Rattle.pg_dyn.specs.declared.message.Value.TheVariants as values
 use Rattle.pg_dyn.specs.KeyOrder.{Rise}
 use Rattle.pg_dyn.specs.Message.{Leaf, Int, F32, F64, Bytes, key_cmp}
 use Rattle.pg_dyn.specs.Seen.{IsKey, leaf_of}
-use Rattle.pg_dyn.specs.ContentFits.{are_rivals_by, AreApart, KeysRise, NoneRivals}
+use Rattle.pg_dyn.specs.ContentFits.{are_siblings_by, AreApart, KeysRise, NoneSiblings}
 
 -- The order of keys.
 
@@ -74,18 +74,18 @@ adjacent es k d e inside h = rise_at (λ (e : Value × Value). leaf_of e.0) es k
 
 -- Members of one oneof.
 
-pub apart_from : (fs : List FieldShape) (a b : ℕ) → are_rivals_by (field_at fs a) (field_at fs b) ≡ false → AreApart fs a b
-apart_from fs a b h f g found there = sym (ap (λ o. are_rivals_by o (field_at fs b)) found ∙ ap (are_rivals_by (Some f)) there) ∙ h
+pub apart_from : (fs : List FieldShape) (a b : ℕ) → are_siblings_by (field_at fs a) (field_at fs b) ≡ false → AreApart fs a b
+apart_from fs a b h f g found there = sym (ap (λ o. are_siblings_by o (field_at fs b)) found ∙ ap (are_siblings_by (Some f)) there) ∙ h
 
 module _ (fs : List FieldShape) where
   abbrev pub ApartFrom : ℕ → List (ℕ × Content) → Type 0
   ApartFrom n ms = AllByRecursion (λ (l : ℕ × Content). AreApart fs n l.0) ms
 
-  pub none_from : (ms : List (ℕ × Content)) → ((k : ℕ) (d : ℕ × Content) → k < length ms → ApartFrom (get_or ms k d).0 (drop (suc k) ms)) → NoneRivals fs ms
+  pub none_from : (ms : List (ℕ × Content)) → ((k : ℕ) (d : ℕ × Content) → k < length ms → ApartFrom (get_or ms k d).0 (drop (suc k) ms)) → NoneSiblings fs ms
   none_from [] h = tt
   none_from (m ∷ ms) h = (h 0 m (omega arith), none_from ms (λ k d inside. h (suc k) d (omega arith)))
 
-  pub none_at : (ms : List (ℕ × Content)) (k : ℕ) (d : ℕ × Content) → k < length ms → NoneRivals fs ms → ApartFrom (get_or ms k d).0 (drop (suc k) ms)
+  pub none_at : (ms : List (ℕ × Content)) (k : ℕ) (d : ℕ × Content) → k < length ms → NoneSiblings fs ms → ApartFrom (get_or ms k d).0 (drop (suc k) ms)
   none_at [] k d inside h = absurd (omega arith)
   none_at (m ∷ ms) zero d inside h = h.0
   none_at (m ∷ ms) (suc k) d inside h = none_at ms k d (omega arith) h.1

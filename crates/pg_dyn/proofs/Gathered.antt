@@ -7,17 +7,17 @@ use Rattle.pg_schema.specs.Shape.{FieldShape, Rising, field_at}
 use Rattle.pg_wire.specs.declared.record.Record.{Record}
 use Rattle.pg_wire.specs.Reads.{seen_record}
 use Rattle.pg_wire.specs.Records.{WireRecord, IsRecord}
-use Rattle.pg_dyn.specs.declared.reading.streaks.Streaks.{Streaks}
+use Rattle.pg_dyn.specs.declared.reading.oneof_runs.OneofRuns.{OneofRuns}
 use Rattle.pg_dyn.specs.ByFields.{AllCount}
-use Rattle.pg_dyn.specs.Content.{counted, is_rival, is_unknown, takes}
-use Rattle.pg_dyn.specs.Gathering.{AreByNumber, AreStreaks, IsCounted, counts_at, filter_at, known_of}
+use Rattle.pg_dyn.specs.Content.{counted, is_sibling, is_unknown, takes}
+use Rattle.pg_dyn.specs.Gathering.{AreByNumber, AreOneofRuns, IsCounted, counts_at, filter_at, known_of}
 use Rattle.pg_dyn.specs.Optional.{after_last_of}
 use Rattle.pg_dyn.specs.ReadingOn.{clears}
 use Rattle.pg_dyn.specs.Steps.{Taken}
-use Rattle.pg_dyn.proofs.Flat.{is_rival_sym}
+use Rattle.pg_dyn.proofs.Flat.{is_sibling_sym}
 use Rattle.pg_dyn.proofs.Lists.{after_last_of_none, each-append, each-map, each_filtered, each_weaker, filter-after_last_of_none, filter-append', filter-filter_weaker, filter-map, filtered_out, list_any_at, none_list_any}
 use Rattle.pg_dyn.proofs.Splitting.{after_last_of-filter, each_found, takes_number}
-use Rattle.pg_dyn.proofs.StreakLaws.{filter_at-append}
+use Rattle.pg_dyn.proofs.OneofRunLaws.{filter_at-append}
 
 -- Records by rising number.
 
@@ -91,12 +91,12 @@ module _ (fs : List FieldShape) (f : FieldShape) (found : field_at fs f.number �
   taken_known : (r : WireRecord) → takes f r ≡ true → not (is_unknown fs r) ≡ true
   taken_known r taken = ap (λ b. not (not b)) (list_any_at (λ g. takes g r) fs f.number f found taken)
 
-  clearing_taken : (r : WireRecord) (gs : List FieldShape) → list_any (λ g. is_rival f g && takes g r) gs ≡ true → list_any (λ g. takes g r) gs ≡ true
+  clearing_taken : (r : WireRecord) (gs : List FieldShape) → list_any (λ g. is_sibling f g && takes g r) gs ≡ true → list_any (λ g. takes g r) gs ≡ true
   clearing_taken r [] h = h
-  clearing_taken r (g ∷ gs) h = of (is_rival f g) (takes g r) h (clearing_taken r gs)
+  clearing_taken r (g ∷ gs) h = of (is_sibling f g) (takes g r) h (clearing_taken r gs)
     where
-      of : (a b : Bool) → ((a && b) || list_any (λ x. is_rival f x && takes x r) gs) ≡ true
-          → (list_any (λ x. is_rival f x && takes x r) gs ≡ true → list_any (λ x. takes x r) gs ≡ true) → (b || list_any (λ x. takes x r) gs) ≡ true
+      of : (a b : Bool) → ((a && b) || list_any (λ x. is_sibling f x && takes x r) gs) ≡ true
+          → (list_any (λ x. is_sibling f x && takes x r) gs ≡ true → list_any (λ x. takes x r) gs ≡ true) → (b || list_any (λ x. takes x r) gs) ≡ true
       of a true e later = refl
       of true false e later = later e
       of false false e later = later e
@@ -112,18 +112,18 @@ module _ (fs : List FieldShape) (f : FieldShape) (found : field_at fs f.number �
 
 -- Records that count.
 
-pub all_counted : (fs : List FieldShape) (ks : List WireRecord) (streaks : Streaks) → AreStreaks fs ks streaks → streaks.all_count ≡ true
+pub all_counted : (fs : List FieldShape) (ks : List WireRecord) (oneof_runs : OneofRuns) → AreOneofRuns fs ks oneof_runs → oneof_runs.all_count ≡ true
     → AllByRecursion IsRecord ks → AllByRecursion (λ r. is_unknown fs r ≡ false) ks → IsCounted fs ks ks
-all_counted fs ks streaks h all are known = record { are_records = are; known = known; which = λ f found. sym (h.all all f found) }
+all_counted fs ks oneof_runs h all are known = record { are_records = are; known = known; which = λ f found. sym (h.all all f found) }
 
 -- of two members of a oneof at most one has records that count
-one_counts : (fs : List FieldShape) (f g : FieldShape) → field_at fs f.number ≡ Some f → field_at fs g.number ≡ Some g → is_rival f g ≡ true
+one_counts : (fs : List FieldShape) (f g : FieldShape) → field_at fs f.number ≡ Some f → field_at fs g.number ≡ Some g → is_sibling f g ≡ true
     → (rs : List WireRecord) → (counted fs f rs ≡ []) ⊎ (counted fs g rs ≡ [])
-one_counts fs f g found_f found_g rival [] = inl refl
-one_counts fs f g found_f found_g rival (r ∷ rs) =
-    of (list_any (clears fs f) (r ∷ rs)) refl (list_any (clears fs g) (r ∷ rs)) refl (one_counts fs f g found_f found_g rival rs)
+one_counts fs f g found_f found_g sibling [] = inl refl
+one_counts fs f g found_f found_g sibling (r ∷ rs) =
+    of (list_any (clears fs f) (r ∷ rs)) refl (list_any (clears fs g) (r ∷ rs)) refl (one_counts fs f g found_f found_g sibling rs)
   where
-    none_taken : (x y : FieldShape) → field_at fs y.number ≡ Some y → is_rival x y ≡ true → list_any (clears fs x) (r ∷ rs) ≡ false → counted fs y (r ∷ rs) ≡ []
+    none_taken : (x y : FieldShape) → field_at fs y.number ≡ Some y → is_sibling x y ≡ true → list_any (clears fs x) (r ∷ rs) ≡ false → counted fs y (r ∷ rs) ≡ []
     none_taken x y found_y apart none =
         filter-after_last_of_none (takes y) (clears fs y) (r ∷ rs)
         (each_weaker (λ q. clears fs x q ≡ false) (λ q. takes y q ≡ false) (λ q k. not_taken q k (takes y q) refl) (r ∷ rs)
@@ -131,20 +131,20 @@ one_counts fs f g found_f found_g rival (r ∷ rs) =
       where
         not_taken : (q : WireRecord) → clears fs x q ≡ false → (b : Bool) → takes y q ≡ b → b ≡ false
         not_taken q k true taken =
-            absurd (true≢false (sym (list_any_at (λ h. is_rival x h && takes h q) fs y.number y found_y (and_from (is_rival x y) (takes y q) apart taken)) ∙ k))
+            absurd (true≢false (sym (list_any_at (λ h. is_sibling x h && takes h q) fs y.number y found_y (and_from (is_sibling x y) (takes y q) apart taken)) ∙ k))
         not_taken q k false taken = refl
 
     of : (a : Bool) → list_any (clears fs f) (r ∷ rs) ≡ a → (b : Bool) → list_any (clears fs g) (r ∷ rs) ≡ b
         → (counted fs f rs ≡ []) ⊎ (counted fs g rs ≡ []) → (counted fs f (r ∷ rs) ≡ []) ⊎ (counted fs g (r ∷ rs) ≡ [])
-    of false is b here rest = inr (none_taken f g found_g rival is)
-    of true is false here rest = inl (none_taken g f found_f (is_rival_sym f g rival) here)
+    of false is b here rest = inr (none_taken f g found_g sibling is)
+    of true is false here rest = inl (none_taken g f found_f (is_sibling_sym f g sibling) here)
     of true is true here rest =
         ⊎_elim (λ e. inl (ap (filter (takes f)) (ap (λ x. cond x (after_last_of (clears fs f) rs) (r ∷ rs)) is) ∙ e))
         (λ e. inr (ap (filter (takes g)) (ap (λ x. cond x (after_last_of (clears fs g) rs) (r ∷ rs)) here) ∙ e)) rest
 
 -- a record that clears is taken by another member
 abbrev ClearedBy : List FieldShape → FieldShape → List WireRecord → Type 0
-ClearedBy fs f rs = (g : FieldShape) × (field_at fs g.number ≡ Some g) × (is_rival f g ≡ true) × (filter (takes g) rs ≡ [] → ⊥)
+ClearedBy fs f rs = (g : FieldShape) × (field_at fs g.number ≡ Some g) × (is_sibling f g ≡ true) × (filter (takes g) rs ≡ [] → ⊥)
 
 cleared_by : (fs : List FieldShape) → Rising fs → (f : FieldShape) (rs : List WireRecord) → list_any (clears fs f) rs ≡ true → ClearedBy fs f rs
 cleared_by fs rising f [] e = absurd (true≢false (sym e))
@@ -156,10 +156,10 @@ cleared_by fs rising f (r ∷ rs) e = of (clears fs f r) refl (λ is. cleared_by
 
     of : (b : Bool) → clears fs f r ≡ b → (clears fs f r ≡ false → ClearedBy fs f rs) → ClearedBy fs f (r ∷ rs)
     of true is later =
-        let (g, found_g, passes) = any_passes (λ g. is_rival f g && takes g r) (λ g. field_at fs g.number ≡ Some g) fs (each_found fs rising) is in
-        let parts = and_parts (is_rival f g) (takes g r) passes in
+        let (g, found_g, passes) = any_passes (λ g. is_sibling f g && takes g r) (λ g. field_at fs g.number ≡ Some g) fs (each_found fs rising) is in
+        let parts = and_parts (is_sibling f g) (takes g r) passes in
         (g, found_g, parts.0, λ none. let k = sym (ap (λ b. cond b (r ∷ filter (takes g) rs) (filter (takes g) rs)) parts.1) ∙ none in cc)
-    of false is later = let (g, found_g, rival, some) = later is in (g, found_g, rival, λ none. some (dropped (takes g r) (filter (takes g) rs) none))
+    of false is later = let (g, found_g, sibling, some) = later is in (g, found_g, sibling, λ none. some (dropped (takes g r) (filter (takes g) rs) none))
 
 module _ (fs : List FieldShape) (rising : Rising fs) (ks left : List WireRecord) (h : IsCounted fs ks left) where
   -- others of which each field takes the same
@@ -173,8 +173,8 @@ module _ (fs : List FieldShape) (rising : Rising fs) (ks left : List WireRecord)
     where
       nothing : filter (takes f) left ≡ []
       nothing =
-          let (g, found_g, rival, others) = cleared_by fs rising f left some in
-          h.which f found ∙ ⊎_elim (λ none. none) (λ none. absurd (others (h.which g found_g ∙ none))) (one_counts fs f g found found_g rival ks)
+          let (g, found_g, sibling, others) = cleared_by fs rising f left some in
+          h.which f found ∙ ⊎_elim (λ none. none) (λ none. absurd (others (h.which g found_g ∙ none))) (one_counts fs f g found found_g sibling ks)
 
   -- of records that count all count
   pub counted_all_count : AllCount fs left
@@ -199,23 +199,23 @@ pub sorted_all_count : (fs : List FieldShape) → Rising fs → (ks : List WireR
 sorted_all_count fs rising ks left new h sorted = counted_all_count fs rising ks (map seen_record new) (sorted_counted fs rising ks left new h sorted)
 
 -- Records are counted one by one: of those before the place these count.
-pub record CountedSoFar (fs : List FieldShape) (streaks : Streaks) (known : List Record) (place : ℕ) (left : List Record) : Type 0 where
+pub record CountedSoFar (fs : List FieldShape) (oneof_runs : OneofRuns) (known : List Record) (place : ℕ) (left : List Record) : Type 0 where
   pub are_records : AllByRecursion IsRecord (map seen_record left)
   pub are_known : AllByRecursion (λ r. is_unknown fs r ≡ false) (map seen_record left)
   pub which : (f : FieldShape) → field_at fs f.number ≡ Some f
-      → filter (takes f) (map seen_record left) ≡ filter_at (λ p r. takes f r && counts_at streaks f p) 0 (map seen_record (take place known))
+      → filter (takes f) (map seen_record left) ≡ filter_at (λ p r. takes f r && counts_at oneof_runs f p) 0 (map seen_record (take place known))
 
-module _ (fs : List FieldShape) (rising : Rising fs) (streaks : Streaks) (known : List Record) where
-  pub none_so_far : CountedSoFar fs streaks known 0 []
+module _ (fs : List FieldShape) (rising : Rising fs) (oneof_runs : OneofRuns) (known : List Record) where
+  pub none_so_far : CountedSoFar fs oneof_runs known 0 []
   none_so_far = record { are_records = tt; are_known = tt; which = λ f found. refl }
 
   module _ (are : AllByRecursion IsRecord (map seen_record known)) (are_known : AllByRecursion (λ r. is_unknown fs r ≡ false) (map seen_record known))
-      (place : ℕ) (left : List Record) (h : CountedSoFar fs streaks known place left) where
-    pub counted_so_far : length known ≤ place → AreStreaks fs (map seen_record known) streaks → IsCounted fs (map seen_record known) (map seen_record left)
+      (place : ℕ) (left : List Record) (h : CountedSoFar fs oneof_runs known place left) where
+    pub counted_so_far : length known ≤ place → AreOneofRuns fs (map seen_record known) oneof_runs → IsCounted fs (map seen_record known) (map seen_record left)
     counted_so_far all k = record {
       are_records = h.are_records;
       known = h.are_known;
-      which = λ f found. h.which f found ∙ ap (λ rs. filter_at (λ p r. takes f r && counts_at streaks f p) 0
+      which = λ f found. h.which f found ∙ ap (λ rs. filter_at (λ p r. takes f r && counts_at oneof_runs f p) 0
           (map seen_record rs)) (take_all place known all) ∙ sym (k.which f found);
     }
 
@@ -235,16 +235,16 @@ module _ (fs : List FieldShape) (rising : Rising fs) (streaks : Streaks) (known 
       pub found_there : field_at fs (get_or known place d).number ≡ None → ⊥
       found_there = known_found fs rising (seen_record (get_or known place d)) (each_there (λ r. is_unknown fs r ≡ false) are_known)
 
-      before : (f : FieldShape) → filter_at (λ p r. takes f r && counts_at streaks f p) 0 (map seen_record (take (place + 1) known))
-          ≡ filter_at (λ p r. takes f r && counts_at streaks f p) 0 (map seen_record (take place known))
-          ++ cond (takes f (seen_record (get_or known place d)) && counts_at streaks f place) (seen_record (get_or known place d) ∷ []) []
+      before : (f : FieldShape) → filter_at (λ p r. takes f r && counts_at oneof_runs f p) 0 (map seen_record (take (place + 1) known))
+          ≡ filter_at (λ p r. takes f r && counts_at oneof_runs f p) 0 (map seen_record (take place known))
+          ++ cond (takes f (seen_record (get_or known place d)) && counts_at oneof_runs f place) (seen_record (get_or known place d) ∷ []) []
       before f =
           let r = get_or known place d in
           let size = length-map (take place known) seen_record in
           let short = length-take-le place known (omega arith) in
-          ap (filter_at (λ p x. takes f x && counts_at streaks f p) 0)
+          ap (filter_at (λ p x. takes f x && counts_at oneof_runs f p) 0)
           (ap (map seen_record) (take_more known place d inside) ∙ map-append seen_record (take place known) (r ∷ []))
-          ∙ filter_at-append (λ p x. takes f x && counts_at streaks f p) 0 place (map seen_record (take place known)) (seen_record r)
+          ∙ filter_at-append (λ p x. takes f x && counts_at oneof_runs f p) 0 place (map seen_record (take place known)) (seen_record r)
           (omega (arith, size, short))
 
       module _ (g : FieldShape) (found_g : field_at fs (get_or known place d).number ≡ Some g) where
@@ -254,7 +254,7 @@ module _ (fs : List FieldShape) (rising : Rising fs) (streaks : Streaks) (known 
             let at = eqb-true (get_or known place d).number f.number (takes_number f (seen_record (get_or known place d)) taken) in
             let same : ◌≡◌ {A = Option FieldShape} (Some f) (Some g) = sym found ∙ ap (field_at fs) (sym at) ∙ found_g in cc
 
-        pub one_counts_more : counts_at streaks g place ≡ true → CountedSoFar fs streaks known (place + 1) (left ++ get_or known place d ∷ [])
+        pub one_counts_more : counts_at oneof_runs g place ≡ true → CountedSoFar fs oneof_runs known (place + 1) (left ++ get_or known place d ∷ [])
         one_counts_more counts =
             let r = get_or known place d in
             let more = map-append seen_record left (r ∷ []) in
@@ -270,22 +270,22 @@ module _ (fs : List FieldShape) (rising : Rising fs) (streaks : Streaks) (known 
             }
           where
             last : (f : FieldShape) → field_at fs f.number ≡ Some f → (b : Bool) → takes f (seen_record (get_or known place d)) ≡ b
-                → b ≡ (b && counts_at streaks f place)
-            last f found true taken = sym (ap (λ x. counts_at streaks x place) (taker f found taken) ∙ counts)
+                → b ≡ (b && counts_at oneof_runs f place)
+            last f found true taken = sym (ap (λ x. counts_at oneof_runs x place) (taker f found taken) ∙ counts)
             last f found false taken = refl
 
-        pub one_drops : counts_at streaks g place ≡ false → CountedSoFar fs streaks known (place + 1) left
+        pub one_drops : counts_at oneof_runs g place ≡ false → CountedSoFar fs oneof_runs known (place + 1) left
         one_drops drops = record {
           are_records = h.are_records;
           are_known = h.are_known;
           which = λ f found.
               h.which f found ∙ sym (append-nil _)
-              ∙ ap (λ b. filter_at (λ p r. takes f r && counts_at streaks f p) 0 (map seen_record (take place known))
+              ∙ ap (λ b. filter_at (λ p r. takes f r && counts_at oneof_runs f p) 0 (map seen_record (take place known))
               ++ cond b (seen_record (get_or known place d) ∷ []) []) (sym (last f found (takes f (seen_record (get_or known place d))) refl))
               ∙ sym (before f);
         }
           where
             last : (f : FieldShape) → field_at fs f.number ≡ Some f → (b : Bool) → takes f (seen_record (get_or known place d)) ≡ b
-                → (b && counts_at streaks f place) ≡ false
-            last f found true taken = ap (λ x. counts_at streaks x place) (taker f found taken) ∙ drops
+                → (b && counts_at oneof_runs f place) ≡ false
+            last f found true taken = ap (λ x. counts_at oneof_runs x place) (taker f found taken) ∙ drops
             last f found false taken = refl

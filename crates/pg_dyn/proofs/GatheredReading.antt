@@ -13,7 +13,7 @@ use Rattle.pg_dyn.specs.ByFields.{AllCount, RecordsGood}
 use Rattle.pg_dyn.specs.Content.{content, counted, is_unknown, takes}
 use Rattle.pg_dyn.specs.Decoding.{Reader, all_readable, dec, field_parts, read_part, read_records}
 use Rattle.pg_dyn.specs.Fits.{Fits}
-use Rattle.pg_dyn.specs.Gathering.{AreByNumber, AreGathered, AreStreaks, IsCounted, known_of}
+use Rattle.pg_dyn.specs.Gathering.{AreByNumber, AreGathered, AreOneofRuns, IsCounted, known_of}
 use Rattle.pg_dyn.specs.Kept.{ends, message_of}
 use Rattle.pg_dyn.specs.Message.{Message, message_from, parts}
 use Rattle.pg_dyn.specs.Optional.{all_some, joined}
@@ -79,23 +79,23 @@ module _ (shape : Shape) (levels : ℕ) (type : TypeId) (rs : List WireRecord) (
   known_are_known : AllByRecursion (λ r. is_unknown (fields shape type) r ≡ false) (map seen_record g.known.items)
   known_are_known = subst (AllByRecursion (λ r. is_unknown (fields shape type) r ≡ false)) (sym h.known) (known_each (fields shape type) rs)
 
-  streaks_are : AreStreaks (fields shape type) (map seen_record g.known.items) g.streaks
-  streaks_are = subst (λ ks. AreStreaks (fields shape type) ks g.streaks) (sym h.known) h.streaks
+  runs_are : AreOneofRuns (fields shape type) (map seen_record g.known.items) g.oneof_runs
+  runs_are = subst (λ ks. AreOneofRuns (fields shape type) ks g.oneof_runs) (sym h.known) h.oneof_runs
 
   -- of the known records, by another name
   pub known_asked : (ks : List Record) → ks ≡ g.known.items
       → AllByRecursion IsRecord (map seen_record ks)
-      × (AllByRecursion (λ r. is_unknown (fields shape type) r ≡ false) (map seen_record ks) × AreStreaks (fields shape type) (map seen_record ks) g.streaks)
+      × (AllByRecursion (λ r. is_unknown (fields shape type) r ≡ false) (map seen_record ks) × AreOneofRuns (fields shape type) (map seen_record ks) g.oneof_runs)
   known_asked ks is =
       subst (λ (xs : List Record). AllByRecursion IsRecord (map seen_record xs)
-      × (AllByRecursion (λ r. is_unknown (fields shape type) r ≡ false) (map seen_record xs) × AreStreaks (fields shape type) (map seen_record xs) g.streaks))
-      (sym is) (known_are_records, (known_are_known, streaks_are))
+      × (AllByRecursion (λ r. is_unknown (fields shape type) r ≡ false) (map seen_record xs) × AreOneofRuns (fields shape type) (map seen_record xs) g.oneof_runs))
+      (sym is) (known_are_records, (known_are_known, runs_are))
 
   -- all are left where each counts
-  pub all_left : g.streaks.all_count ≡ true → IsLeft shape levels (fields shape type) rs g.known.items
+  pub all_left : g.oneof_runs.all_count ≡ true → IsLeft shape levels (fields shape type) rs g.known.items
   all_left all = record {
     counted = subst (λ ks. IsCounted (fields shape type) ks (map seen_record g.known.items)) h.known
-        (all_counted (fields shape type) (map seen_record g.known.items) g.streaks streaks_are all known_are_records known_are_known);
+        (all_counted (fields shape type) (map seen_record g.known.items) g.oneof_runs runs_are all known_are_records known_are_known);
     good = λ k. subst (RecordsGood shape levels (fields shape type)) h.known k;
   }
 

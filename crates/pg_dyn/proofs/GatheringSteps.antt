@@ -9,7 +9,7 @@ use Rattle.pg_wire.specs.Reads.{results, seen_record}
 use Rattle.pg_wire.specs.Records.{WireRecord, IsRecord, records_of}
 use Rattle.pg_dyn.specs.declared.reading.gathering.Gathered.{Gathered}
 use Rattle.pg_dyn.specs.Content.{is_unknown}
-use Rattle.pg_dyn.specs.Gathering.{AreGathered, AreStreaks, known_of}
+use Rattle.pg_dyn.specs.Gathering.{AreGathered, AreOneofRuns, known_of}
 use Rattle.pg_dyn.proofs.Lists.{each-append, filter-append'}
 use Rattle.pg_dyn.proofs.RecordFronts.{Front, all_read, none_yet, one_read}
 
@@ -34,9 +34,9 @@ known_length shape type rs old h = ap length (sym h.known) ∙ length-map old.kn
 module _ (shape : Shape) (type : TypeId) (rs : List WireRecord) (old new : Gathered) (h : AreGathered shape type rs old) where
   pub known_added : (found : Record) → IsRecord (seen_record found) → is_unknown (fields shape type) (seen_record found) ≡ false
       → new.known.items ≡ old.known.items ++ found ∷ [] → new.unknown ≡ old.unknown
-      → AreStreaks (fields shape type) (known_of (fields shape type) rs ++ seen_record found ∷ []) new.streaks
+      → AreOneofRuns (fields shape type) (known_of (fields shape type) rs ++ seen_record found ∷ []) new.oneof_runs
       → AreGathered shape type (rs ++ seen_record found ∷ []) new
-  known_added found is known items same streaks =
+  known_added found is known items same oneof_runs =
       let r = seen_record found in
       let fs = fields shape type in
       record {
@@ -44,13 +44,13 @@ module _ (shape : Shape) (type : TypeId) (rs : List WireRecord) (old new : Gathe
         known = ap (map seen_record) items ∙ map-append seen_record old.known.items (found ∷ []) ∙ ap (λ xs. xs ++ r ∷ []) h.known
             ∙ sym (known_more fs rs r known);
         unknown = ap (λ (us : _). map seen_record us.items) same ∙ h.unknown ∙ sym (unknown_same fs rs r known);
-        streaks = subst (λ xs. AreStreaks fs xs new.streaks) (sym (known_more fs rs r known)) streaks;
+        oneof_runs = subst (λ xs. AreOneofRuns fs xs new.oneof_runs) (sym (known_more fs rs r known)) oneof_runs;
       }
 
   pub unknown_added : (found : Record) → IsRecord (seen_record found) → is_unknown (fields shape type) (seen_record found) ≡ true
-      → new.unknown.items ≡ old.unknown.items ++ found ∷ [] → new.known ≡ old.known → new.streaks ≡ old.streaks
+      → new.unknown.items ≡ old.unknown.items ++ found ∷ [] → new.known ≡ old.known → new.oneof_runs ≡ old.oneof_runs
       → AreGathered shape type (rs ++ seen_record found ∷ []) new
-  unknown_added found is unknown items same streaks =
+  unknown_added found is unknown items same oneof_runs =
       let r = seen_record found in
       let fs = fields shape type in
       record {
@@ -58,8 +58,8 @@ module _ (shape : Shape) (type : TypeId) (rs : List WireRecord) (old new : Gathe
         known = ap (λ (us : _). map seen_record us.items) same ∙ h.known ∙ sym (known_same fs rs r unknown);
         unknown = ap (map seen_record) items ∙ map-append seen_record old.unknown.items (found ∷ []) ∙ ap (λ xs. xs ++ r ∷ []) h.unknown
             ∙ sym (unknown_more fs rs r unknown);
-        streaks = subst (λ xs. AreStreaks fs xs new.streaks) (sym (known_same fs rs r unknown))
-            (subst (AreStreaks fs (known_of fs rs)) (sym streaks) h.streaks);
+        oneof_runs = subst (λ xs. AreOneofRuns fs xs new.oneof_runs) (sym (known_same fs rs r unknown))
+            (subst (AreOneofRuns fs (known_of fs rs)) (sym oneof_runs) h.oneof_runs);
       }
 
 -- The records of bytes are gathered behind others.

@@ -6,7 +6,7 @@ use Rattle.std.specs.declared.cmp.Ordering.TheVariants.{Less, Equal, Greater}
 use Rattle.pg_dyn.specs.KeyOrder.{AreSame, IsOfKind, Rise}
 use Rattle.pg_dyn.specs.Message.{Leaf, Int, F32, F64, Bytes, key_cmp, leaf_eq}
 use Rattle.pg_dyn.specs.Optional.{last_of}
-use Rattle.pg_dyn.specs.Settled as settled
+use Rattle.pg_dyn.specs.Normalized as normalized
 use Rattle.pg_dyn.proofs.EntryPlaces.{less_from_above}
 use Rattle.pg_dyn.proofs.FitsSteps.{key_trans}
 use Rattle.pg_dyn.proofs.KeyLaws.{equal_leaves, key_less_self, rank_is}
@@ -35,10 +35,10 @@ equal_keys b k l h i e = let same = same_kind b k l h i in equal_leaves k l same
 
 module _ {A : Type 0} (key : A → Leaf) where
   abbrev pub place : A → List A → List A
-  place e xs = settled.place key e xs
+  place e xs = normalized.place key e xs
 
   abbrev pub placed : List A → List A → List A
-  placed before es = settled.placed key before es
+  placed before es = normalized.placed key before es
 
   abbrev pub has_key : Leaf → A → Bool
   has_key k e = leaf_eq (key e) k
@@ -202,7 +202,7 @@ module _ {A : Type 0} (key : A → Leaf) where
       (λ z h. filtered_stands (has_key (key z)) z ys (subst (StandsIn z) (same z (one_in (λ x. IsOfKind b (key x)) z xs kx h)) (stands_filtered (has_key (key z)) z xs (leaf_eq_self (key z)) h)))
       (λ z h. filtered_stands (has_key (key z)) z xs (subst (StandsIn z) (sym (same z (one_in (λ x. IsOfKind b (key x)) z ys ky h))) (stands_filtered (has_key (key z)) z ys (leaf_eq_self (key z)) h)))
 
-  -- entries of which those of each key are the same settle alike
+  -- entries of which those of each key are the same normalize alike
   pub placed_alike : (b : Bool) (es fs : List A) → OfKind b es → OfKind b fs → ((z : A) → IsOfKind b (key z) → filter (has_key (key z)) es ≡ filter (has_key (key z)) fs) → placed [] es ≡ placed [] fs
   placed_alike b es fs ke kf same =
       same_by_keys b (placed [] es) (placed [] fs) (kind_all b [] es tt ke) (kind_all b [] fs tt kf) (rise_all b [] es tt ke tt) (rise_all b [] fs tt kf tt)

@@ -17,7 +17,7 @@ use Rattle.pg_dyn.specs.ByFields.{HoldsOf, IsEntryRead}
 use Rattle.pg_dyn.specs.Content.{by_key, content, entry_in, put}
 use Rattle.pg_dyn.specs.BorrowedItems.{AreAlike, IsItemOf, ItemFits, KeysRise, key_of}
 use Rattle.pg_dyn.specs.Decoding.{dec, read_part}
-use Rattle.pg_dyn.specs.Settled.{place, placed}
+use Rattle.pg_dyn.specs.Normalized.{place, placed}
 use Rattle.pg_dyn.specs.EntrySteps.{IsReadFrom}
 use Rattle.pg_dyn.specs.Held.{IsMapOf}
 use Rattle.pg_dyn.specs.Message.{Leaf, Part, key_cmp}
@@ -28,7 +28,7 @@ use Rattle.pg_dyn.proofs.Fields.{field_of}
 use Rattle.pg_dyn.proofs.BorrowedItems.{keys_alike}
 use Rattle.pg_dyn.proofs.HeldFields.{EntryFits, map_held}
 use Rattle.pg_dyn.proofs.Lists.{each_weaker}
-use Rattle.pg_dyn.proofs.SettledEntries.{each_settled, settled_rise, settled_some}
+use Rattle.pg_dyn.proofs.NormalizedEntries.{each_normalized, normalized_rise, normalized_some}
 
 -- each entry is read of its record
 abbrev pub AreEntriesRead : Shape → Scalar → Element → List WireRecord → List EntryRef → Type 0
@@ -143,9 +143,9 @@ map_fits shape f key rs es (contents.One v) is scalar some h made = absurd made
 map_fits shape f key rs es (contents.Many vs) is scalar some h made = absurd made
 map_fits shape f key rs es (contents.Map xs) is scalar some h made =
     map_held shape f key xs is
-    (subst (λ ys. AllByRecursion (EntryFits shape f key) ys) (sym made) (each_settled (EntryFits shape f key) es (entries_fit shape key f.element rs es h)))
-    (subst KeysRise (sym made) (settled_rise es (entries_alike shape key f.element rs es scalar h)))
-    (λ none. settled_some es (there rs es h some) (sym made ∙ none))
+    (subst (λ ys. AllByRecursion (EntryFits shape f key) ys) (sym made) (each_normalized (EntryFits shape f key) es (entries_fit shape key f.element rs es h)))
+    (subst KeysRise (sym made) (normalized_rise es (entries_alike shape key f.element rs es scalar h)))
+    (λ none. normalized_some es (there rs es h some) (sym made ∙ none))
   where
     there : (rs : List WireRecord) (es : List EntryRef) → AreEntriesRead shape key f.element rs es → rs ≢ [] → es ≢ []
     there [] es h some none = some refl

@@ -9,9 +9,9 @@ use Rattle.pg_schema.specs.declared.field.Field.{Field}
 use Rattle.pg_schema.specs.Parts.{field_shape}
 use Rattle.pg_schema.specs.Shape.{FieldShape}
 use Rattle.pg_dyn.specs.declared.message.Content.{Content}
-use Rattle.pg_dyn.specs.Content.{is_rival}
+use Rattle.pg_dyn.specs.Content.{is_sibling}
 use Rattle.pg_dyn.specs.FieldList.{fields_below, fields_above, remove_field}
-use Rattle.pg_dyn.specs.Replacing.{is_rival_number}
+use Rattle.pg_dyn.specs.Replacing.{is_sibling_number}
 use Rattle.pg_dyn.specs.Seen.{Rises}
 use Rattle.pg_dyn.proofs.FieldListLaws.{below_none, rises-filter}
 use Rattle.pg_dyn.proofs.Lists.{each_weaker, each_of_all, filter_all}
@@ -63,19 +63,19 @@ removed_is n (c ∷ cs) rises = ⊎_elim (λ same. here same (removed_is n cs ri
 
 module _ (f : FieldShape) where
   abbrev pub without : List FieldShape → List (ℕ × Content) → List (ℕ × Content)
-  without gs cs = filter (λ (c : ℕ × Content). not (is_rival_number gs f c.0)) cs
+  without gs cs = filter (λ (c : ℕ × Content). not (is_sibling_number gs f c.0)) cs
 
-  one_more : (gs : List FieldShape) (g : FieldShape) (n : ℕ) → is_rival_number (gs ++ g ∷ []) f n ≡ (is_rival_number gs f n || (is_rival f g && nat_eq g.number n))
-  one_more gs g n = list_any-append (λ (h : FieldShape). is_rival f h && nat_eq h.number n) gs (g ∷ []) ∙ ap (λ b. is_rival_number gs f n || b) (or-false (is_rival f g && nat_eq g.number n))
+  one_more : (gs : List FieldShape) (g : FieldShape) (n : ℕ) → is_sibling_number (gs ++ g ∷ []) f n ≡ (is_sibling_number gs f n || (is_sibling f g && nat_eq g.number n))
+  one_more gs g n = list_any-append (λ (h : FieldShape). is_sibling f h && nat_eq h.number n) gs (g ∷ []) ∙ ap (λ b. is_sibling_number gs f n || b) (or-false (is_sibling f g && nat_eq g.number n))
 
-  pub rival_out : (gs : List FieldShape) (g : FieldShape) (cs : List (ℕ × Content)) → is_rival f g ≡ true → Rises cs → remove_field g.number (without gs cs) ≡ without (gs ++ g ∷ []) cs
-  rival_out gs g cs rival rises =
-      removed_is g.number (without gs cs) (rises-filter (λ (c : ℕ × Content). not (is_rival_number gs f c.0)) cs rises)
-      ∙ filter-both (λ (c : ℕ × Content). not (is_rival_number gs f c.0)) (λ (c : ℕ × Content). not (nat_eq g.number c.0)) cs
-      ∙ filter_alike (λ (c : ℕ × Content). not (is_rival_number gs f c.0) && not (nat_eq g.number c.0)) (λ (c : ℕ × Content). not (is_rival_number (gs ++ g ∷ []) f c.0)) (λ c. same c.0) cs
+  pub sibling_out : (gs : List FieldShape) (g : FieldShape) (cs : List (ℕ × Content)) → is_sibling f g ≡ true → Rises cs → remove_field g.number (without gs cs) ≡ without (gs ++ g ∷ []) cs
+  sibling_out gs g cs sibling rises =
+      removed_is g.number (without gs cs) (rises-filter (λ (c : ℕ × Content). not (is_sibling_number gs f c.0)) cs rises)
+      ∙ filter-both (λ (c : ℕ × Content). not (is_sibling_number gs f c.0)) (λ (c : ℕ × Content). not (nat_eq g.number c.0)) cs
+      ∙ filter_alike (λ (c : ℕ × Content). not (is_sibling_number gs f c.0) && not (nat_eq g.number c.0)) (λ (c : ℕ × Content). not (is_sibling_number (gs ++ g ∷ []) f c.0)) (λ c. same c.0) cs
     where
-      same : (n : ℕ) → (not (is_rival_number gs f n) && not (nat_eq g.number n)) ≡ not (is_rival_number (gs ++ g ∷ []) f n)
-      same n = neither (is_rival_number gs f n) (nat_eq g.number n) ∙ ap not (ap (λ b. is_rival_number gs f n || (b && nat_eq g.number n)) (sym rival) ∙ sym (one_more gs g n))
+      same : (n : ℕ) → (not (is_sibling_number gs f n) && not (nat_eq g.number n)) ≡ not (is_sibling_number (gs ++ g ∷ []) f n)
+      same n = neither (is_sibling_number gs f n) (nat_eq g.number n) ∙ ap not (ap (λ b. is_sibling_number gs f n || (b && nat_eq g.number n)) (sym sibling) ∙ sym (one_more gs g n))
 
   -- the same of fields that are gone through by index
   abbrev pub so_far : List Field → ℕ → List FieldShape
@@ -85,13 +85,13 @@ module _ (f : FieldShape) where
   next_so_far hs i h inside is =
       ap (λ x. so_far hs i ++ field_shape x ∷ []) is ∙ sym (map-append field_shape (take i hs) (get_or hs i h ∷ [])) ∙ ap (map field_shape) (sym (take-suc hs i h inside)) ∙ ap (so_far hs) (sym (add-one i))
 
-  pub member_out : (hs : List Field) (i : ℕ) (h : Field) (cs now : List (ℕ × Content)) → i < length hs → h ≡ get_or hs i h → is_rival f (field_shape h) ≡ true → Rises cs → now ≡ without (so_far hs i) cs → remove_field h.number now ≡ without (so_far hs (i + 1)) cs
-  member_out hs i h cs now inside is rival rises was =
-      ap (remove_field h.number) was ∙ rival_out (so_far hs i) (field_shape h) cs rival rises ∙ ap (λ gs. without gs cs) (next_so_far hs i h inside is)
+  pub member_out : (hs : List Field) (i : ℕ) (h : Field) (cs now : List (ℕ × Content)) → i < length hs → h ≡ get_or hs i h → is_sibling f (field_shape h) ≡ true → Rises cs → now ≡ without (so_far hs i) cs → remove_field h.number now ≡ without (so_far hs (i + 1)) cs
+  member_out hs i h cs now inside is sibling rises was =
+      ap (remove_field h.number) was ∙ sibling_out (so_far hs i) (field_shape h) cs sibling rises ∙ ap (λ gs. without gs cs) (next_so_far hs i h inside is)
 
   -- at first all stay
   pub all_stay : (cs : List (ℕ × Content)) → cs ≡ without [] cs
   all_stay cs = sym (filter_all (λ (c : ℕ × Content). true) cs (each_of_all (λ (c : ℕ × Content). true ≡ true) (λ c. refl) cs))
 
   pub still_rises : (gs : List FieldShape) (cs now : List (ℕ × Content)) → Rises cs → now ≡ without gs cs → Rises now
-  still_rises gs cs now rises was = subst Rises (sym was) (rises-filter (λ (c : ℕ × Content). not (is_rival_number gs f c.0)) cs rises)
+  still_rises gs cs now rises was = subst Rises (sym was) (rises-filter (λ (c : ℕ × Content). not (is_sibling_number gs f c.0)) cs rises)

@@ -2,9 +2,9 @@
 use Rattle.std.proofs.Common.{◌≡◌, ℕ, option_and_then, ◌<◌, ◌≤◌, List, [], ◌∷◌, length, Bool, true, false, cond, not, ◌&&◌, Option, Some, None, refl, ap, ap₂, sym, ◌∙◌, arith, true≢false, eq-eqb, ne_eqb}
 use Rattle.pg_schema.specs.Shape.{FieldShape, field_at}
 use Rattle.pg_dyn.specs.declared.message.Content.{Content}
-use Rattle.pg_dyn.specs.Content.{same_oneof, is_rival}
+use Rattle.pg_dyn.specs.Content.{same_oneof, is_sibling}
 use Rattle.pg_dyn.specs.ContentFaults.{is_in_oneof, members}
-use Rattle.pg_dyn.specs.ContentFits.{AreApart, NoneRivals}
+use Rattle.pg_dyn.specs.ContentFits.{AreApart, NoneSiblings}
 use Rattle.pg_dyn.specs.Seen.{Rises}
 use Rattle.pg_dyn.proofs.Lists.{filter_none, each_weaker, each_both}
 use Rattle.pg_dyn.proofs.Splitting.{found_number}
@@ -18,8 +18,8 @@ module _ (fs : List FieldShape) where
       of (Some f) found k = let (p, is_f, is_o) = same_some f.oneof (Some o) k in (f, found, is_f ∙ sym is_o)
       of None found k = absurd (cc)
 
-  rivals_in : (f g : FieldShape) (o : ℕ) → f.oneof ≡ Some o → g.oneof ≡ Some o → f.number < g.number → is_rival f g ≡ true
-  rivals_in f g o is_f is_g below =
+  siblings_in : (f g : FieldShape) (o : ℕ) → f.oneof ≡ Some o → g.oneof ≡ Some o → f.number < g.number → is_sibling f g ≡ true
+  siblings_in f g o is_f is_g below =
       ap₂ (λ x y. x && not y) (ap₂ (λ x y. same_oneof x y) is_f is_g ∙ eq-eqb o o refl) (ne_eqb f.number g.number (λ k. absurd (omega arith)))
 
   -- of two fields that are apart the second is in no oneof of the first
@@ -32,10 +32,10 @@ module _ (fs : List FieldShape) where
           let (f, found, is_f) = in_oneof a o first in
           let (g, there, is_g) = in_oneof b o e in
           let low : f.number < g.number = omega (arith, below, found_number fs a f found, found_number fs b g there) in
-          absurd (true≢false (sym (rivals_in f g o is_f is_g low) ∙ apart f g found there))
+          absurd (true≢false (sym (siblings_in f g o is_f is_g low) ∙ apart f g found there))
 
-  -- of contents that are no rivals each oneof has one member at most
-  pub each_once : (cs : List (ℕ × Content)) → Rises cs → NoneRivals fs cs → (o : ℕ) → length (members fs o cs) ≤ 1
+  -- of contents that are no siblings each oneof has one member at most
+  pub each_once : (cs : List (ℕ × Content)) → Rises cs → NoneSiblings fs cs → (o : ℕ) → length (members fs o cs) ≤ 1
   each_once [] rises apart o = omega arith
   each_once (c ∷ cs) rises apart o = of (is_in_oneof fs o c.0) refl (each_once cs rises.1 apart.1 o)
     where

@@ -6,8 +6,8 @@ use Rattle.pg_schema.specs.declared.field.TypeId.{TypeId}
 use Rattle.pg_schema.specs.Shape.{Shape, FieldShape, fields, field_at, is_repeated}
 use Rattle.pg_wire.specs.Records.{WireRecord}
 use Rattle.pg_dyn.specs.Belonging.{ComesBefore, IsAlone, IsMessage, IsPart, IsUnknown, MayFollow}
-use Rattle.pg_dyn.specs.Content.{is_rival, same_oneof}
-use Rattle.pg_dyn.specs.ContentFits.{AreApart, NoneRivals}
+use Rattle.pg_dyn.specs.Content.{is_sibling, same_oneof}
+use Rattle.pg_dyn.specs.ContentFits.{AreApart, NoneSiblings}
 use Rattle.pg_dyn.specs.Encoding.{child_type}
 use Rattle.pg_dyn.specs.Fits.{Fits, PartsAgree, is_listed, is_listed_by}
 use Rattle.pg_dyn.specs.Kept.{Kept, ends, KeptItem, Plain, Msg, message_of, type_of}
@@ -34,9 +34,9 @@ places_kept [] later = refl
 places_kept (p ∷ ps) later =
     first_place p.number p.key p.item (kept_onto ps later) ∙ ap (λ qs. place_of p ∷ qs) (places_kept ps later)
 
--- a field isn't its own rival
-pub own_rival : (f : FieldShape) → is_rival f f ≡ false
-own_rival f = ap (λ b. same_oneof f.oneof f.oneof && not b) (eq-eqb f.number f.number refl) ∙ and-false (same_oneof f.oneof f.oneof)
+-- a field isn't its own sibling
+pub own_sibling : (f : FieldShape) → is_sibling f f ≡ false
+own_sibling f = ap (λ b. same_oneof f.oneof f.oneof && not b) (eq-eqb f.number f.number refl) ∙ and-false (same_oneof f.oneof f.oneof)
 
 module _ (shape : Shape) (type : TypeId) where
   abbrev Whole : Kept → Type 0
@@ -61,13 +61,13 @@ module _ (shape : Shape) (type : TypeId) where
         (listed_is n listed later part.field same part.found item.0, agrees, fits.parts_agree, whole.1),
       )
 
-  -- The places behind a part: of its own field, or of a later one that is no rival.
+  -- The places behind a part: of its own field, or of a later one that is no sibling.
 
-  abbrev NotRival : FieldShape → ℕ → Type 0
-  NotRival f number = (g : FieldShape) → field_at (fields shape type) number ≡ Some g → is_rival f g ≡ false
+  abbrev NotSibling : FieldShape → ℕ → Type 0
+  NotSibling f number = (g : FieldShape) → field_at (fields shape type) number ≡ Some g → is_sibling f g ≡ false
 
   abbrev Beyond : FieldShape → ℕ → Type 0
-  Beyond f number = (f.number < number) × NotRival f number
+  Beyond f number = (f.number < number) × NotSibling f number
 
   abbrev Own : FieldShape → Option Leaf → Place → Type 0
   Own f k p = (f.number ≡ p.number) × MayFollow f.presence k p.key
@@ -75,9 +75,9 @@ module _ (shape : Shape) (type : TypeId) where
   abbrev Behind : FieldShape → Option Leaf → Place → Type 0
   Behind f k p = Own f k p ⊎ Beyond f p.number
 
-  own_alone : (f : FieldShape) (k : Option Leaf) (p : Place) → field_at (fields shape type) f.number ≡ Some f → Own f k p → NotRival f p.number
+  own_alone : (f : FieldShape) (k : Option Leaf) (p : Place) → field_at (fields shape type) f.number ≡ Some f → Own f k p → NotSibling f p.number
   own_alone f k p found own g there =
-      subst (λ x. is_rival f x ≡ false) (same_found f g (sym found ∙ ap (field_at (fields shape type)) own.0 ∙ there)) (own_rival f)
+      subst (λ x. is_sibling f x ≡ false) (same_found f g (sym found ∙ ap (field_at (fields shape type)) own.0 ∙ there)) (own_sibling f)
 
   before_these : (f : FieldShape) (k : Option Leaf) (later : List Place) → AllByRecursion (Behind f k) later → ComesBefore f k later
   before_these f k later each =
@@ -87,7 +87,7 @@ module _ (shape : Shape) (type : TypeId) where
   alone_of_these : (f : FieldShape) (k : Option Leaf) (later : List Place) → field_at (fields shape type) f.number ≡ Some f
       → AllByRecursion (Behind f k) later → IsAlone (fields shape type) f later
   alone_of_these f k later found each =
-      each_weaker (Behind f k) (λ (p : Place). NotRival f p.number) (λ p. ⊎_elim (own_alone f k p found) (λ far. far.1)) later each
+      each_weaker (Behind f k) (λ (p : Place). NotSibling f p.number) (λ p. ⊎_elim (own_alone f k p found) (λ far. far.1)) later each
 
   -- The parts of one field in front.
 
@@ -209,7 +209,7 @@ module _ {C : Type 0} (seen : ℕ → C → List (Part KeptItem)) (shape : Shape
       (λ p k. subst Q (sym (k.number_is ∙ found_number (fields shape type) c.0 h.0.field h.0.found)) q.0) (seen c.0 c.1) h.0.holds.each)
       (numbers_of Q cs h.1 q.1)
 
-  pub contents_whole : (cs : List (ℕ × C)) (us : List WireRecord) → Rises cs → AllByRecursion HoldsParts cs → NoneRivals (fields shape type) cs
+  pub contents_whole : (cs : List (ℕ × C)) (us : List WireRecord) → Rises cs → AllByRecursion HoldsParts cs → NoneSiblings (fields shape type) cs
       → AllByRecursion (IsUnknown (fields shape type)) us → Whole shape type (kept_onto (all cs) (ends type us))
   contents_whole [] us rises each apart unknown = (unknown, tt)
   contents_whole (c ∷ cs) us rises each apart unknown =
@@ -230,7 +230,7 @@ module _ {C : Type 0} (seen : ℕ → C → List (Part KeptItem)) (shape : Shape
 
   -- The message of contents that hold parts of their fields fits, where no two are of members of one oneof.
   pub fits_of_contents : (cs : List (ℕ × C)) (us : List WireRecord) → type.index < length shape → Rises cs → AllByRecursion HoldsParts cs
-      → NoneRivals (fields shape type) cs → AllByRecursion (IsUnknown (fields shape type)) us → Fits shape (kept_onto (all cs) (ends type us))
+      → NoneSiblings (fields shape type) cs → AllByRecursion (IsUnknown (fields shape type)) us → Fits shape (kept_onto (all cs) (ends type us))
   fits_of_contents cs us there rises each apart unknown =
       of_whole shape type (kept_onto (all cs) (ends type us)) (type_of-kept_onto (all cs) (ends type us)) there
       (contents_whole cs us rises each apart unknown)

@@ -9,7 +9,7 @@ use Rattle.pg_dyn.specs.Message.{Leaf, key_cmp, leaf_eq}
 use Rattle.pg_dyn.specs.Message as model
 use Rattle.pg_dyn.specs.Bodies.{BodiesReadAgain, EntryBodiesRead, PackedBodiesRead, SingleBodiesRead}
 use Rattle.pg_dyn.specs.Encoding.{enc, encoded_parts}
-use Rattle.pg_dyn.specs.OwnParts.{CellsAreWritten, ChildrenAreShorter, OneIsEmpty, OwnPartsFit, RivalsMutual}
+use Rattle.pg_dyn.specs.OwnParts.{CellsAreWritten, ChildrenAreShorter, OneIsEmpty, OwnPartsFit, SiblingsMutual}
 use Rattle.pg_dyn.specs.FieldLaws.{ContentsAreSeen, EntriesRise, EqualLeaves, FieldsAreFound, LastItems, OwnContents, PackableWires, PartsKeepTypes, PlainIsKept, RecordsOfFields, RisingEntriesStay, UnknownIsKept}
 use Rattle.pg_dyn.specs.Laws.{DecodingIs, EncodingSpells, KeptByField, MessageSplits, WritingSplits}
 use Rattle.pg_dyn.specs.ByCells.{KeptByCells}
@@ -29,7 +29,7 @@ use Rattle.pg_dyn.proofs.ByField as ByField
 use Rattle.pg_dyn.proofs.ByCells as ByCells
 use Rattle.pg_dyn.proofs.RecordsRead.{content_none}
 use Rattle.pg_dyn.proofs.ItemLeaves.{item_is_key}
-use Rattle.pg_dyn.proofs.ReplacingLaws.{content_number, type_of-kept_onto, unknown-message_of, type_of-with_parts, type_of-without_rivals}
+use Rattle.pg_dyn.proofs.ReplacingLaws.{content_number, type_of-kept_onto, unknown-message_of, type_of-with_parts, type_of-without_siblings}
 use Rattle.pg_dyn.proofs.SelfSame.{plain_unknown}
 use Rattle.pg_dyn.proofs.Leaves.{leaf_eq_self, same_leaf}
 
@@ -76,11 +76,11 @@ own_parts_fit = λ shape type m f is_shape is found.
     (Flat.each_fits (fields shape type) f found (encoded_parts shape type m) parts, Flat.in_order (fields shape type) f found (encoded_parts shape type m) parts)
 
 pub one_is_empty : OneIsEmpty
-one_is_empty = λ shape type m f g is_shape is found_f found_g rival.
-    Flat.one_is_empty (fields shape type) f g found_f found_g rival (encoded_parts shape type m) (flat_parts shape type (fields-IsType shape type is_shape) m is)
+one_is_empty = λ shape type m f g is_shape is found_f found_g sibling.
+    Flat.one_is_empty (fields shape type) f g found_f found_g sibling (encoded_parts shape type m) (flat_parts shape type (fields-IsType shape type is_shape) m is)
 
-pub rivals_mutual : RivalsMutual
-rivals_mutual = (Flat.same_oneof_sym, Flat.is_rival_sym, Flat.rival_apart)
+pub siblings_mutual : SiblingsMutual
+siblings_mutual = (Flat.same_oneof_sym, Flat.is_sibling_sym, Flat.sibling_apart)
 
 pub children_are_shorter : ChildrenAreShorter
 children_are_shorter = λ shape type m is_shape is within.
@@ -130,7 +130,7 @@ rising_entries_stay = λ es rise. Fields.put_ordered [] es (each_of_all (λ e. �
 -- ---- what a message keeps
 
 pub parts_keep_types : PartsKeepTypes
-parts_keep_types = (type_of-kept_onto, type_of-with_parts, type_of-without_rivals)
+parts_keep_types = (type_of-kept_onto, type_of-with_parts, type_of-without_siblings)
 
 pub contents_are_seen : ContentsAreSeen
 contents_are_seen = (content_number, item_is_key)

@@ -14,10 +14,10 @@ use Rattle.pg_dyn.specs.Message as model
 use Rattle.pg_dyn.specs.Kept.{Kept, ends, holds, nests, KeptItem, Plain, Msg, type_of, parts_of, unknown_of, message_of}
 use Rattle.pg_dyn.specs.Seen.{leaf_of, item_seen, content_seen, value_onto, items_onto, entries_onto, content_onto, fields_onto}
 use Rattle.pg_dyn.specs.FieldList.{fields_below, fields_above, put_field, remove_field}
-use Rattle.pg_dyn.specs.Content.{is_rival}
-use Rattle.pg_dyn.specs.Replacing.{kept_part, kept_onto, kept_from, with_parts, is_rival_number, without_rivals}
+use Rattle.pg_dyn.specs.Content.{is_sibling}
+use Rattle.pg_dyn.specs.Replacing.{kept_part, kept_onto, kept_from, with_parts, is_sibling_number, without_siblings}
 use Rattle.pg_dyn.proofs.Lists.{filter_all, filter_none, filter-append', each_weaker, each-map, each_of_all, flat_map-append', list_any_none}
-use Rattle.pg_dyn.proofs.NoRivals.{no_rival}
+use Rattle.pg_dyn.proofs.NoSiblings.{no_sibling}
 
 -- the parts of all fields
 abbrev pub all_seen : List (ℕ × Content) → List (Part KeptItem)
@@ -141,20 +141,20 @@ type_of-with_parts n ps m =
     (filter (λ (p : Part KeptItem). nat_lt p.number n) (parts_of m) ++ (ps ++ filter (λ (p : Part KeptItem). nat_lt n p.number) (parts_of m)))
     (ends (type_of m) (unknown_of m))
 
-pub type_of-without_rivals : (fs : List FieldShape) (f : FieldShape) (m : Kept) → type_of (without_rivals fs f m) ≡ type_of m
-type_of-without_rivals fs f m =
-    type_of-kept_onto (filter (λ (p : Part KeptItem). not (is_rival_number fs f p.number)) (parts_of m)) (ends (type_of m) (unknown_of m))
+pub type_of-without_siblings : (fs : List FieldShape) (f : FieldShape) (m : Kept) → type_of (without_siblings fs f m) ≡ type_of m
+type_of-without_siblings fs f m =
+    type_of-kept_onto (filter (λ (p : Part KeptItem). not (is_sibling_number fs f p.number)) (parts_of m)) (ends (type_of m) (unknown_of m))
 
--- a field outside all oneofs has no rivals
-pub no_rivals : (fs : List FieldShape) (f : FieldShape) (m : Kept) → f.oneof ≡ None → without_rivals fs f m ≡ m
-no_rivals fs f m alone =
+-- a field outside all oneofs has no siblings
+pub no_siblings : (fs : List FieldShape) (f : FieldShape) (m : Kept) → f.oneof ≡ None → without_siblings fs f m ≡ m
+no_siblings fs f m alone =
     ap (λ ps. kept_from (type_of m) ps (unknown_of m))
-    (filter_all (λ (p : Part KeptItem). not (is_rival_number fs f p.number)) (parts_of m)
-    (each_of_all (λ (p : Part KeptItem). not (is_rival_number fs f p.number) ≡ true) (λ p. ap not (none p.number)) (parts_of m)))
+    (filter_all (λ (p : Part KeptItem). not (is_sibling_number fs f p.number)) (parts_of m)
+    (each_of_all (λ (p : Part KeptItem). not (is_sibling_number fs f p.number) ≡ true) (λ p. ap not (none p.number)) (parts_of m)))
     ∙ kept_whole m
   where
-    none : (n : ℕ) → is_rival_number fs f n ≡ false
-    none n = list_any_none (λ g. is_rival f g && nat_eq g.number n) fs (each_of_all (λ g. (is_rival f g && nat_eq g.number n) ≡ false) (λ g. rw (no_rival f g alone)) fs)
+    none : (n : ℕ) → is_sibling_number fs f n ≡ false
+    none n = list_any_none (λ g. is_sibling f g && nat_eq g.number n) fs (each_of_all (λ g. (is_sibling f g && nat_eq g.number n) ≡ false) (λ g. rw (no_sibling f g alone)) fs)
 
 -- The message of the definitions.
 

@@ -14,14 +14,14 @@ use Rattle.pg_dyn.specs.declared.message.Content.{Content}
 use Rattle.pg_dyn.specs.Kept.{Kept, KeptItem, type_of}
 use Rattle.pg_dyn.specs.Message.{Part}
 use Rattle.pg_dyn.specs.Seen.{content_seen}
-use Rattle.pg_dyn.specs.Content.{is_rival, same_oneof}
-use Rattle.pg_dyn.specs.Replacing.{is_rival_number, with_parts, with_content, without_rivals}
+use Rattle.pg_dyn.specs.Content.{is_sibling, same_oneof}
+use Rattle.pg_dyn.specs.Replacing.{is_sibling_number, with_parts, with_content, without_siblings}
 use Rattle.pg_dyn.specs.ContentFaults.{ContentFault, HasKeyTwice, IsLowest, HasNoFault, MayRefuseFor}
-use Rattle.pg_dyn.specs.Setting.{settled, IsSetTo}
+use Rattle.pg_dyn.specs.Setting.{normalized, IsSetTo}
 use Rattle.pg_dyn.specs.Told.{IsTaken}
 use Rattle.pg_dyn.proofs.ContentChecks.{taken_once, taken_twice}
 use Rattle.pg_dyn.proofs.Lists.{each_of_all, list_any_none}
-use Rattle.pg_dyn.proofs.PutLaws.{no_self_rival, rivals_after, settled_number}
+use Rattle.pg_dyn.proofs.PutLaws.{no_self_sibling, siblings_after, normalized_number}
 use Rattle.pg_dyn.proofs.Splitting.{found_number}
 
 -- the lowest fault may be told
@@ -42,17 +42,17 @@ module _ (parts : Parts) (h : IsSchema parts) (n : ℕ) (c : Content) (f : Field
   pub number_is : (type : TypeId) → IsTaken (shape_of parts) type n c f → f.number ≡ n
   number_is type taken = found_number (fields (shape_of parts) type) n f taken.found
 
-  pub set_to : (m put new : Kept) → IsTaken (shape_of parts) (type_of m) n c f → put ≡ with_parts f.number (settled f (content_seen f.number c)) m → new ≡ without_rivals (fields (shape_of parts) (type_of m)) f put → IsSetTo (shape_of parts) n c m new
+  pub set_to : (m put new : Kept) → IsTaken (shape_of parts) (type_of m) n c f → put ≡ with_parts f.number (normalized f (content_seen f.number c)) m → new ≡ without_siblings (fields (shape_of parts) (type_of m)) f put → IsSetTo (shape_of parts) n c m new
   set_to m put new taken is_put is_new =
       let fs = fields (shape_of parts) (type_of m) in
       let number = number_is (type_of m) taken in
       let found : field_at (fields (shape_of parts) (type_of m)) f.number ≡ Some f = ap (field_at (fields (shape_of parts) (type_of m))) number ∙ taken.found in
-      let ps = settled f (content_seen f.number c) in (
+      let ps = normalized f (content_seen f.number c) in (
         f,
         taken.found,
-        is_new ∙ ap (without_rivals fs f) is_put
-            ∙ rivals_after fs f f.number (no_self_rival parts h (type_of m) f f.number found) ps m (settled_number f.presence f.number c)
-            ∙ ap (λ k. with_content (fields (shape_of parts) (type_of m)) f (settled f (content_seen k c)) m) number,
+        is_new ∙ ap (without_siblings fs f) is_put
+            ∙ siblings_after fs f f.number (no_self_sibling parts h (type_of m) f f.number found) ps m (normalized_number f.presence f.number c)
+            ∙ ap (λ k. with_content (fields (shape_of parts) (type_of m)) f (normalized f (content_seen k c)) m) number,
       )
 
   pub accepted : (type : TypeId) → IsTaken (shape_of parts) type n c f → (HasKeyTwice c → ⊥) → HasNoFault (ContentFault (shape_of parts) type n c)
@@ -63,19 +63,19 @@ module _ (parts : Parts) (h : IsSchema parts) (n : ℕ) (c : Content) (f : Field
 
 -- Which other members are looked for makes no difference after a content of the field is put in, if it made none before.
 
-own_apart : (gs : List FieldShape) (f : FieldShape) → is_rival_number gs f f.number ≡ false
-own_apart gs f = list_any_none (λ (g : FieldShape). is_rival f g && nat_eq g.number f.number) gs (each_of_all (λ (g : FieldShape). (is_rival f g && nat_eq g.number f.number) ≡ false) one gs)
+own_apart : (gs : List FieldShape) (f : FieldShape) → is_sibling_number gs f f.number ≡ false
+own_apart gs f = list_any_none (λ (g : FieldShape). is_sibling f g && nat_eq g.number f.number) gs (each_of_all (λ (g : FieldShape). (is_sibling f g && nat_eq g.number f.number) ≡ false) one gs)
   where
-    one : (g : FieldShape) → (is_rival f g && nat_eq g.number f.number) ≡ false
+    one : (g : FieldShape) → (is_sibling f g && nat_eq g.number f.number) ≡ false
     one g =
         ⊎_elim
         (λ same. ap (λ b. (same_oneof f.oneof g.oneof && not b) && nat_eq g.number f.number) (eq-eqb f.number g.number same) ∙ ap (λ b. b && nat_eq g.number f.number) (and-false (same_oneof f.oneof g.oneof)))
-        (λ other. ap (λ b. is_rival f g && b) (ne_eqb g.number f.number (λ e. other (sym e))) ∙ and-false (is_rival f g))
+        (λ other. ap (λ b. is_sibling f g && b) (ne_eqb g.number f.number (λ e. other (sym e))) ∙ and-false (is_sibling f g))
         (cases_eq f.number g.number)
 
 pub members_after : {X : Type 0} (gs : X → List FieldShape) (fs : List FieldShape) (f : FieldShape) (ps : List (Part KeptItem)) (m put : Kept) → put ≡ with_parts f.number ps m → AllByRecursion (λ (p : Part KeptItem). p.number ≡ f.number) ps
-    → (o : Option X) → IfSome o (λ x. without_rivals (gs x) f m ≡ without_rivals fs f m) → IfSome o (λ x. without_rivals (gs x) f put ≡ without_rivals fs f put)
+    → (o : Option X) → IfSome o (λ x. without_siblings (gs x) f m ≡ without_siblings fs f m) → IfSome o (λ x. without_siblings (gs x) f put ≡ without_siblings fs f put)
 members_after gs fs f ps m put is own None h = tt
 members_after gs fs f ps m put is own (Some x) h =
-    ap (without_rivals (gs x) f) is ∙ rivals_after (gs x) f f.number (own_apart (gs x) f) ps m own ∙ ap (with_parts f.number ps) h
-    ∙ sym (rivals_after fs f f.number (own_apart fs f) ps m own) ∙ sym (ap (without_rivals fs f) is)
+    ap (without_siblings (gs x) f) is ∙ siblings_after (gs x) f f.number (own_apart (gs x) f) ps m own ∙ ap (with_parts f.number ps) h
+    ∙ sym (siblings_after fs f f.number (own_apart fs f) ps m own) ∙ sym (ap (without_siblings fs f) is)

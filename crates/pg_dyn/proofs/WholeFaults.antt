@@ -9,12 +9,12 @@ use Rattle.pg_schema.specs.Shape.{FieldShape, fields, field_at}
 use Rattle.pg_dyn.specs.declared.error.DynError.{DynError}
 use Rattle.pg_dyn.specs.declared.error.DynError.TheVariants as errors
 use Rattle.pg_dyn.specs.declared.message.Content.{Content}
-use Rattle.pg_dyn.specs.Content.{same_oneof, is_rival}
+use Rattle.pg_dyn.specs.Content.{same_oneof, is_sibling}
 use Rattle.pg_dyn.specs.Kept.{Kept}
 use Rattle.pg_dyn.specs.Seen.{Rises}
-use Rattle.pg_dyn.specs.ContentFits.{AreApart, NoneRivals}
+use Rattle.pg_dyn.specs.ContentFits.{AreApart, NoneSiblings}
 use Rattle.pg_dyn.specs.ContentFaults.{AnyOf, ContentFault, ContentsFault, HasFieldTwice, HasKeyTwice, is_in_oneof, members, code, IsLowest, HasNoFault, MayRefuseFor}
-use Rattle.pg_dyn.specs.Setting.{settled_parts, IsWhole}
+use Rattle.pg_dyn.specs.Setting.{normalized_parts, IsWhole}
 use Rattle.pg_dyn.specs.Told.{TakesContent}
 use Rattle.pg_dyn.proofs.Lists.{filter_none, each_weaker, each_both}
 use Rattle.pg_dyn.proofs.ContentChecks.{lowest, taken_once, takes_early}
@@ -65,9 +65,9 @@ module _ (fs : List FieldShape) where
       of false k = k
 
   apart_from : (c l : ℕ × Content) (cs : List (ℕ × Content)) → ((o : ℕ) → length (members fs o (c ∷ cs)) ≤ 1) → StandsIn l cs → AreApart fs c.0 l.0
-  apart_from c l cs once there f g found at = of (is_rival f g) refl
+  apart_from c l cs once there f g found at = of (is_sibling f g) refl
     where
-      of : (b : Bool) → is_rival f g ≡ b → is_rival f g ≡ false
+      of : (b : Bool) → is_sibling f g ≡ b → is_sibling f g ≡ false
       of false e = e
       of true e =
           let (o, is_f, is_g) = same_some f.oneof g.oneof (first_true (same_oneof f.oneof g.oneof) (not (nat_eq f.number g.number)) e) in
@@ -76,10 +76,10 @@ module _ (fs : List FieldShape) where
           let few = once o in
           absurd (omega (arith, many, few))
 
-  -- contents of which no two are in one oneof are no rivals
-  pub no_rivals_from : (cs : List (ℕ × Content)) → ((o : ℕ) → length (members fs o cs) ≤ 1) → NoneRivals fs cs
-  no_rivals_from [] once = tt
-  no_rivals_from (c ∷ cs) once = (all_in (λ (l : ℕ × Content). AreApart fs c.0 l.0) cs (λ l there. apart_from c l cs once there), no_rivals_from cs (λ o. fewer o c cs (once o)))
+  -- contents of which no two are in one oneof are no siblings
+  pub no_siblings_from : (cs : List (ℕ × Content)) → ((o : ℕ) → length (members fs o cs) ≤ 1) → NoneSiblings fs cs
+  no_siblings_from [] once = tt
+  no_siblings_from (c ∷ cs) once = (all_in (λ (l : ℕ × Content). AreApart fs c.0 l.0) cs (λ l there. apart_from c l cs once there), no_siblings_from cs (λ o. fewer o c cs (once o)))
 
   pub once : (cs : List (ℕ × Content)) → ((n : ℕ) → length (filter (of_field n) cs) ≤ 1) → ((o : ℕ) → length (members fs o cs) ≤ 1) → HasFieldTwice fs cs → ⊥
   once cs each apart (inl (n, two)) = let one = each n in omega arith
@@ -178,7 +178,7 @@ module _ (parts : Parts) (type : TypeId) where
   pub whole_unsorted : (xs ys : List (ℕ × Content)) (m : Kept) → ((number : ℕ) → filter (of_field number) ys ≡ filter (of_field number) xs) → IsWhole (shape_of parts) type ys m → IsWhole (shape_of parts) type xs m
   whole_unsorted xs ys m same whole = record {
     of_type = whole.of_type;
-    contents = λ number. whole.contents number ∙ ap (flat_map (settled_parts (fields (shape_of parts) type))) (same number);
+    contents = λ number. whole.contents number ∙ ap (flat_map (normalized_parts (fields (shape_of parts) type))) (same number);
     no_unknown = whole.no_unknown;
   }
 

@@ -19,18 +19,18 @@ use Rattle.pg_dyn.specs.Message.{Part, is_of}
 use Rattle.pg_dyn.specs.Kept.{Kept, KeptItem, type_of, parts_of, unknown_of, of_number, ends}
 use Rattle.pg_dyn.specs.Seen.{content_seen, Rises}
 use Rattle.pg_dyn.specs.Fits.{Fits}
-use Rattle.pg_dyn.specs.Replacing.{kept_from, with_parts, is_rival_number, without_rivals}
-use Rattle.pg_dyn.specs.ContentFits.{AreApart, NoneRivals}
+use Rattle.pg_dyn.specs.Replacing.{kept_from, with_parts, is_sibling_number, without_siblings}
+use Rattle.pg_dyn.specs.ContentFits.{AreApart, NoneSiblings}
 use Rattle.pg_dyn.specs.ContentFaults.{PassTwice}
-use Rattle.pg_dyn.specs.Setting.{settled, settled_parts, IsWhole}
+use Rattle.pg_dyn.specs.Setting.{normalized, normalized_parts, IsWhole}
 use Rattle.pg_dyn.specs.Told.{TakesContent}
 use Rattle.pg_dyn.proofs.Lists.{filter_all, filter_none, filter-append', flat_map-append', each_weaker, each_both}
 use Rattle.pg_dyn.proofs.KeptParts.{each_from_index}
 use Rattle.pg_dyn.proofs.TypeFields.{rising}
-use Rattle.pg_dyn.proofs.PutLaws.{no_self_rival, rivals_back, settled_number}
+use Rattle.pg_dyn.proofs.PutLaws.{no_self_sibling, siblings_back, normalized_number}
 use Rattle.pg_dyn.proofs.ReplacingLaws.{parts_of-kept_onto, unknown_of-kept_onto, type_of-with_parts, kept_whole}
 use Rattle.pg_dyn.proofs.Standing.{StandsIn, all_in, passes_once}
-use Rattle.pg_dyn.proofs.WithoutRivals.{rival_found}
+use Rattle.pg_dyn.proofs.WithoutSiblings.{sibling_found}
 
 -- A test after another.
 
@@ -115,32 +115,32 @@ module _ (parts : Parts) (type : TypeId) where
   fs = fields (shape_of parts) type
 
   abbrev under : ℕ → List (ℕ × Content) → List (Part KeptItem)
-  under number cs = flat_map (settled_parts fs) (filter (of_field number) cs)
+  under number cs = flat_map (normalized_parts fs) (filter (of_field number) cs)
 
   under_more : (number : ℕ) (xs : List (ℕ × Content)) (x : ℕ × Content) → under number (xs ++ x ∷ []) ≡ under number xs ++ under number (x ∷ [])
-  under_more number xs x = ap (flat_map (settled_parts fs)) (filter-append' (of_field number) xs (x ∷ [])) ∙ flat_map-append' (settled_parts fs) (filter (of_field number) xs) (filter (of_field number) (x ∷ []))
+  under_more number xs x = ap (flat_map (normalized_parts fs)) (filter-append' (of_field number) xs (x ∷ [])) ∙ flat_map-append' (normalized_parts fs) (filter (of_field number) xs) (filter (of_field number) (x ∷ []))
 
   under_none : (number : ℕ) (xs : List (ℕ × Content)) → AllByRecursion (λ (c : ℕ × Content). c.0 < number) xs → under number xs ≡ []
   under_none number xs below =
-      ap (flat_map (settled_parts fs))
+      ap (flat_map (normalized_parts fs))
       (filter_none (of_field number) xs (each_weaker (λ (c : ℕ × Content). c.0 < number) (λ (c : ℕ × Content). of_field number c ≡ false) (λ c lt. ne_eqb c.0 number (λ e. absurd (omega arith))) xs below))
 
-  under_one : (n : ℕ) (c : Content) (f : FieldShape) → field_at fs n ≡ Some f → under n ((n, c) ∷ []) ≡ settled f (content_seen n c)
+  under_one : (n : ℕ) (c : Content) (f : FieldShape) → field_at fs n ≡ Some f → under n ((n, c) ∷ []) ≡ normalized f (content_seen n c)
   under_one n c f found =
-      ap (λ b. flat_map (settled_parts fs) (cond b ((n, c) ∷ []) [])) (eq-eqb n n refl) ∙ append-nil _ ∙ ap (parts_at n c) found
+      ap (λ b. flat_map (normalized_parts fs) (cond b ((n, c) ∷ []) [])) (eq-eqb n n refl) ∙ append-nil _ ∙ ap (parts_at n c) found
     where
       parts_at : (k : ℕ) (d : Content) → Option FieldShape → List (Part KeptItem)
-      parts_at k d (Some g) = settled g (content_seen k d)
+      parts_at k d (Some g) = normalized g (content_seen k d)
       parts_at k d None = []
 
   under_apart : (j n : ℕ) (c : Content) → j ≢ n → under j ((n, c) ∷ []) ≡ []
-  under_apart j n c apart = ap (λ b. flat_map (settled_parts fs) (cond b ((n, c) ∷ []) [])) (ne_eqb n j (λ e. apart (sym e)))
+  under_apart j n c apart = ap (λ b. flat_map (normalized_parts fs) (cond b ((n, c) ∷ []) [])) (ne_eqb n j (λ e. apart (sym e)))
 
   pub whole_more : (xs : List (ℕ × Content)) (n : ℕ) (c : Content) (f : FieldShape) (m new : Kept) → IsWhole (shape_of parts) type xs m → AllByRecursion (λ (x : ℕ × Content). x.0 < n) xs → field_at (fields (shape_of parts) type) n ≡ Some f
-      → new ≡ with_parts n (settled f (content_seen n c)) m → IsWhole (shape_of parts) type (xs ++ (n, c) ∷ []) new
+      → new ≡ with_parts n (normalized f (content_seen n c)) m → IsWhole (shape_of parts) type (xs ++ (n, c) ∷ []) new
   whole_more xs n c f m new whole below found is_new =
-      let ps = settled f (content_seen n c) in
-      let own = settled_number f.presence n c in
+      let ps = normalized f (content_seen n c) in
+      let own = normalized_number f.presence n c in
       record {
         of_type = ap type_of is_new ∙ type_of-with_parts n ps m ∙ whole.of_type;
         contents = λ j. ⊎_elim
@@ -160,41 +160,41 @@ module _ (parts : Parts) (type : TypeId) where
       of p there false e =
           let none : filter (of_field p.number) ys ≡ [] =
           filter_none (of_field p.number) ys (each_weaker (λ (y : ℕ × Content). Q y.0 ≡ true) (λ (y : ℕ × Content). of_field p.number y ≡ false) (λ y yes. ne_eqb y.0 p.number (λ same. true≢false (sym yes ∙ ap Q same ∙ e))) ys each) in
-          let empty : of_number p.number m ≡ [] = whole.contents p.number ∙ ap (flat_map (settled_parts (fields (shape_of parts) type))) none in
+          let empty : of_number p.number m ≡ [] = whole.contents p.number ∙ ap (flat_map (normalized_parts (fields (shape_of parts) type))) none in
           let some : 0 < length (of_number p.number m) = passes_once (is_of p.number) p (parts_of m) there (eq-eqb p.number p.number refl) in
           absurd (omega (arith, some, ap length empty))
 
-  without_same : (f : FieldShape) (m : Kept) → AllByRecursion (λ (p : Part KeptItem). not (is_rival_number (fields (shape_of parts) type) f p.number) ≡ true) (parts_of m) → without_rivals (fields (shape_of parts) type) f m ≡ m
+  without_same : (f : FieldShape) (m : Kept) → AllByRecursion (λ (p : Part KeptItem). not (is_sibling_number (fields (shape_of parts) type) f p.number) ≡ true) (parts_of m) → without_siblings (fields (shape_of parts) type) f m ≡ m
   without_same f m each =
-      ap (λ ps. kept_from (type_of m) ps (unknown_of m)) (filter_all (λ (p : Part KeptItem). not (is_rival_number (fields (shape_of parts) type) f p.number)) (parts_of m) each) ∙ kept_whole m
+      ap (λ ps. kept_from (type_of m) ps (unknown_of m)) (filter_all (λ (p : Part KeptItem). not (is_sibling_number (fields (shape_of parts) type) f p.number)) (parts_of m) each) ∙ kept_whole m
 
   abbrev pub Takes : List (ℕ × Content) → Type 0
   Takes cs = AllByRecursion (TakesContent (shape_of parts) type) cs
 
   abbrev Stays : FieldShape → ℕ × Content → Type 0
-  Stays f y = not (is_rival_number (fields (shape_of parts) type) f y.0) ≡ true
+  Stays f y = not (is_sibling_number (fields (shape_of parts) type) f y.0) ≡ true
 
   at_last : (a : ℕ) (ws zs : List (ℕ × Content)) (x : ℕ × Content) → AllByRecursion (λ (l : ℕ × Content). AreApart (fields (shape_of parts) type) a l.0) (ws ++ x ∷ zs) → AreApart (fields (shape_of parts) type) a x.0
   at_last a [] zs x k = k.0
   at_last a (w ∷ ws) zs x k = at_last a ws zs x k.1
 
-  apart_before : (ys zs : List (ℕ × Content)) (x : ℕ × Content) → NoneRivals (fields (shape_of parts) type) (ys ++ x ∷ zs) → AllByRecursion (λ (y : ℕ × Content). AreApart (fields (shape_of parts) type) y.0 x.0) ys
+  apart_before : (ys zs : List (ℕ × Content)) (x : ℕ × Content) → NoneSiblings (fields (shape_of parts) type) (ys ++ x ∷ zs) → AllByRecursion (λ (y : ℕ × Content). AreApart (fields (shape_of parts) type) y.0 x.0) ys
   apart_before [] zs x k = tt
   apart_before (y ∷ ys) zs x k = (at_last y.0 ys zs x k.0, apart_before ys zs x k.1)
 
   module _ (h : IsSchema parts) (n : ℕ) (f : FieldShape) (found : field_at (fields (shape_of parts) type) n ≡ Some f) where
     stays : (y : ℕ × Content) → TakesContent (shape_of parts) type y → AreApart (fields (shape_of parts) type) y.0 n → Stays f y
-    stays y (g, taken) apart = ap not (rival_found (fields (shape_of parts) type) f g y.0 (rising parts h type) taken.found ∙ rivals_back g f (apart g f taken.found found))
+    stays y (g, taken) apart = ap not (sibling_found (fields (shape_of parts) type) f g y.0 (rising parts h type) taken.found ∙ siblings_back g f (apart g f taken.found found))
 
     each_last : (c : Content) (ys : List (ℕ × Content)) → AllByRecursion (Stays f) ys → AllByRecursion (Stays f) (ys ++ (n, c) ∷ [])
-    each_last c [] k = (ap not (no_self_rival parts h type f n found), tt)
+    each_last c [] k = (ap not (no_self_sibling parts h type f n found), tt)
     each_last c (y ∷ ys) k = (k.0, each_last c ys k.1)
 
-    -- a content apart from those before is put in as into a message without rivals
-    pub fill_fits : (xs rest : List (ℕ × Content)) (c : Content) (m new : Kept) → IsWhole (shape_of parts) type xs m → IsWhole (shape_of parts) type (xs ++ (n, c) ∷ []) new → Takes xs → NoneRivals (fields (shape_of parts) type) (xs ++ (n, c) ∷ rest)
-        → (Fits (shape_of parts) (without_rivals (fields (shape_of parts) type) f m) → Fits (shape_of parts) (without_rivals (fields (shape_of parts) type) f new)) → Fits (shape_of parts) m → Fits (shape_of parts) new
+    -- a content apart from those before is put in as into a message without siblings
+    pub fill_fits : (xs rest : List (ℕ × Content)) (c : Content) (m new : Kept) → IsWhole (shape_of parts) type xs m → IsWhole (shape_of parts) type (xs ++ (n, c) ∷ []) new → Takes xs → NoneSiblings (fields (shape_of parts) type) (xs ++ (n, c) ∷ rest)
+        → (Fits (shape_of parts) (without_siblings (fields (shape_of parts) type) f m) → Fits (shape_of parts) (without_siblings (fields (shape_of parts) type) f new)) → Fits (shape_of parts) m → Fits (shape_of parts) new
     fill_fits xs rest c m new whole whole_new takes apart put fits =
-        let Q = λ (k : ℕ). not (is_rival_number (fields (shape_of parts) type) f k) in
+        let Q = λ (k : ℕ). not (is_sibling_number (fields (shape_of parts) type) f k) in
         let each =
         each_weaker (λ (y : ℕ × Content). TakesContent (shape_of parts) type y × AreApart (fields (shape_of parts) type) y.0 n) (Stays f) (λ y k. stays y k.0 k.1) xs
         (each_both (TakesContent (shape_of parts) type) (λ (y : ℕ × Content). AreApart (fields (shape_of parts) type) y.0 n) xs takes (apart_before xs rest (n, c) apart)) in

@@ -7,7 +7,7 @@ use Rattle.pg_schema.specs.Shape.{Shape, FieldShape, IsShape, fields, field_at}
 use Rattle.pg_wire.specs.Records.{WireRecord}
 use Rattle.pg_dyn.specs.Optional.{all_some}
 use Rattle.pg_dyn.specs.Message.{Item, Message, Part, IsPlain}
-use Rattle.pg_dyn.specs.Content.{takes, is_rival, content}
+use Rattle.pg_dyn.specs.Content.{takes, is_sibling, content}
 use Rattle.pg_dyn.specs.Writing.{field_records}
 use Rattle.pg_dyn.specs.Encoding.{enc, cap}
 use Rattle.pg_dyn.specs.Decoding.{Reader, is_readable, read_part, dec}
@@ -43,7 +43,7 @@ EachFieldKept view child fs gs cs =
 -- of two fields of the new type in one oneof one has no cells
 abbrev pub NoCellsMeet : List FieldShape → List Cell → Type 0
 NoCellsMeet gs cs =
-    (g h : FieldShape) → field_at gs g.number ≡ Some g → field_at gs h.number ≡ Some h → is_rival g h ≡ true →
+    (g h : FieldShape) → field_at gs g.number ≡ Some g → field_at gs h.number ≡ Some h → is_sibling g h ≡ true →
     (cells_at g.number cs ≡ []) ⊎ (cells_at h.number cs ≡ [])
 
 -- Where no two fields meet in one oneof of the new type, a message is kept just where each shared field's content is.

@@ -17,7 +17,7 @@ use Rattle.pg_dyn.specs.KeyOrder.{Rise}
 use Rattle.pg_dyn.specs.Message.{is_zero}
 use Rattle.pg_dyn.specs.Kept.{type_of}
 use Rattle.pg_dyn.specs.Seen.{leaf_of}
-use Rattle.pg_dyn.specs.Content.{is_rival}
+use Rattle.pg_dyn.specs.Content.{is_sibling}
 use Rattle.pg_dyn.specs.Belonging.{IsUnknown}
 use Rattle.pg_dyn.specs.Fits.{Fits}
 use Rattle.pg_dyn.specs.ScalarItems.{IsItemOf}
@@ -54,22 +54,22 @@ pub record HoldsContent (shape : Shape) (type : TypeId) (c : ℕ × Content) : T
   pub fits : ContentFits shape field.presence field.element c.1
 
 -- whether two fields, where there are both, are members of one oneof
-abbrev pub are_rivals_by : Option FieldShape → Option FieldShape → Bool
-are_rivals_by (Some f) (Some g) = is_rival f g
-are_rivals_by (Some f) None = false
-are_rivals_by None g = false
+abbrev pub are_siblings_by : Option FieldShape → Option FieldShape → Bool
+are_siblings_by (Some f) (Some g) = is_sibling f g
+are_siblings_by (Some f) None = false
+are_siblings_by None g = false
 
 -- the two contents aren't members of one oneof
 abbrev pub AreApart : List FieldShape → ℕ → ℕ → Type 0
-AreApart fs a b = (f g : FieldShape) → field_at fs a ≡ Some f → field_at fs b ≡ Some g → is_rival f g ≡ false
+AreApart fs a b = (f g : FieldShape) → field_at fs a ≡ Some f → field_at fs b ≡ Some g → is_sibling f g ≡ false
 
-abbrev pub NoneRivals : {A : Type 0} → List FieldShape → List (ℕ × A) → Type 0
-NoneRivals fs [] = ⊤
-NoneRivals {A} fs (m ∷ ms) = AllByRecursion (λ (l : ℕ × A). AreApart fs m.0 l.0) ms × NoneRivals fs ms
+abbrev pub NoneSiblings : {A : Type 0} → List FieldShape → List (ℕ × A) → Type 0
+NoneSiblings fs [] = ⊤
+NoneSiblings {A} fs (m ∷ ms) = AllByRecursion (λ (l : ℕ × A). AreApart fs m.0 l.0) ms × NoneSiblings fs ms
 
 -- a message of the type with these contents and unknown records fits
 pub record FitsByContents (shape : Shape) (type : TypeId) (ms : List (ℕ × Content)) (us : List WireRecord) : Type 0 where
   pub type_is_there : type.index < length shape
   pub each : AllByRecursion (HoldsContent shape type) ms
-  pub apart : NoneRivals (fields shape type) ms
+  pub apart : NoneSiblings (fields shape type) ms
   pub unknown : AllByRecursion (IsUnknown (fields shape type)) us

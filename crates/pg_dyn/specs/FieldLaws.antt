@@ -28,7 +28,7 @@ use Rattle.pg_dyn.specs.Kept.{Kept, KeptItem, message_of, type_of}
 use Rattle.pg_dyn.specs.Kept as kept
 use Rattle.pg_dyn.specs.Seen.{IsKey, content_seen}
 use Rattle.pg_dyn.specs.ScalarItems.{IsItemOf}
-use Rattle.pg_dyn.specs.Replacing.{kept_onto, with_parts, without_rivals}
+use Rattle.pg_dyn.specs.Replacing.{kept_onto, with_parts, without_siblings}
 
 -- The fields of each type of a sound shape are sound; the field that is found by a number has it; each field of a type is found by
 -- its number; the type of a message field is that of its children.
@@ -86,7 +86,7 @@ abbrev pub PartsKeepTypes : Type 0
 PartsKeepTypes =
     ((ps : List (Part KeptItem)) (later : Kept) → type_of (kept_onto ps later) ≡ type_of later)
     × ((n : ℕ) (ps : List (Part KeptItem)) (m : Kept) → type_of (with_parts n ps m) ≡ type_of m)
-    × ((fs : List FieldShape) (f : FieldShape) (m : Kept) → type_of (without_rivals fs f m) ≡ type_of m)
+    × ((fs : List FieldShape) (f : FieldShape) (m : Kept) → type_of (without_siblings fs f m) ≡ type_of m)
 
 -- The parts of a content have the number under which it stands, and an item of a scalar is no message.
 abbrev pub ContentsAreSeen : Type 0

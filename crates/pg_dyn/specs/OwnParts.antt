@@ -14,7 +14,7 @@ use Rattle.pg_dyn.specs.Coding.{body, form}
 use Rattle.pg_dyn.specs.Bodies.{IsNestedLeaf, IsReadAs, entry_body, record_with}
 use Rattle.pg_dyn.specs.Belonging.{IsMessage, KeyFits, MayBeZero, MayFollow}
 use Rattle.pg_dyn.specs.Comparison.{View, cells, writes}
-use Rattle.pg_dyn.specs.Content.{is_rival, same_oneof}
+use Rattle.pg_dyn.specs.Content.{is_sibling, same_oneof}
 use Rattle.pg_dyn.specs.Writing.{key_of}
 use Rattle.pg_dyn.specs.Encoding.{cap, child_type, enc, encoded_parts}
 
@@ -81,15 +81,15 @@ OwnPartsFit =
 abbrev pub OneIsEmpty : Type 0
 OneIsEmpty =
     (shape : Shape) (type : TypeId) (m : Message) (f g : FieldShape) → IsShape shape → IsMessage shape type m →
-    field_at (fields shape type) f.number ≡ Some f → field_at (fields shape type) g.number ≡ Some g → is_rival f g ≡ true →
+    field_at (fields shape type) f.number ≡ Some f → field_at (fields shape type) g.number ≡ Some g → is_sibling f g ≡ true →
     (filter (is_of f.number) (encoded_parts shape type m) ≡ []) ⊎ (filter (is_of g.number) (encoded_parts shape type m) ≡ [])
 
--- Rivals are so either way round, and have two numbers.
-abbrev pub RivalsMutual : Type 0
-RivalsMutual =
+-- Siblings are so either way round, and have two numbers.
+abbrev pub SiblingsMutual : Type 0
+SiblingsMutual =
     ((a b : Option ℕ) → same_oneof a b ≡ true → same_oneof b a ≡ true)
-    × ((f g : FieldShape) → is_rival f g ≡ true → is_rival g f ≡ true)
-    × ((f g : FieldShape) → is_rival f g ≡ true → f.number ≢ g.number)
+    × ((f g : FieldShape) → is_sibling f g ≡ true → is_sibling g f ≡ true)
+    × ((f g : FieldShape) → is_sibling f g ≡ true → f.number ≢ g.number)
 
 -- each child has fewer bytes than that number
 abbrev pub ChildrenShorter : Shape → TypeId → ℕ → Message → Type 0

@@ -5,7 +5,7 @@ use Rattle.pg_schema.specs.declared.field.TypeId.{TypeId}
 use Rattle.pg_schema.specs.Shape.{FieldShape}
 use Rattle.pg_wire.specs.Records.{WireRecord}
 use Rattle.pg_dyn.specs.Message.{Leaf, Part}
-use Rattle.pg_dyn.specs.Content.{is_rival}
+use Rattle.pg_dyn.specs.Content.{is_sibling}
 use Rattle.pg_dyn.specs.Kept.{Kept, ends, holds, nests, KeptItem, Plain, Msg, type_of, parts_of, unknown_of}
 
 -- the message with these parts in front
@@ -27,13 +27,13 @@ with_parts number ps m =
     kept_from (type_of m) (filter (λ p. nat_lt p.number number) (parts_of m) ++ (ps ++ filter (λ p. nat_lt number p.number) (parts_of m))) (unknown_of m)
 
 -- the number is that of another member of the field's oneof
-abbrev pub is_rival_number : List FieldShape → FieldShape → ℕ → Bool
-is_rival_number fs f number = list_any (λ g. is_rival f g && nat_eq g.number number) fs
+abbrev pub is_sibling_number : List FieldShape → FieldShape → ℕ → Bool
+is_sibling_number fs f number = list_any (λ g. is_sibling f g && nat_eq g.number number) fs
 
 -- the message without the contents of the other members of the field's oneof
-abbrev pub without_rivals : List FieldShape → FieldShape → Kept → Kept
-without_rivals fs f m = kept_from (type_of m) (filter (λ p. not (is_rival_number fs f p.number)) (parts_of m)) (unknown_of m)
+abbrev pub without_siblings : List FieldShape → FieldShape → Kept → Kept
+without_siblings fs f m = kept_from (type_of m) (filter (λ p. not (is_sibling_number fs f p.number)) (parts_of m)) (unknown_of m)
 
 -- The message with this content in the field, in the place of the field's own and of those of the other members of its oneof.
 abbrev pub with_content : List FieldShape → FieldShape → List (Part KeptItem) → Kept → Kept
-with_content fs f ps m = with_parts f.number ps (without_rivals fs f m)
+with_content fs f ps m = with_parts f.number ps (without_siblings fs f m)

@@ -30,31 +30,31 @@ by_rising_key [] = []
 by_rising_key (p ∷ ps) = put_entry p (by_rising_key ps)
 
 -- what of a content a field holds: a zero in an implicit field is none, and a map's entries stand by rising key
-abbrev pub settled_by : Presence → List (Part KeptItem) → List (Part KeptItem)
-settled_by presences.Implicit ps = filter (λ p. not (is_zero_kept p.item)) ps
-settled_by presences.Explicit ps = ps
-settled_by (presences.Repeated packed) ps = ps
-settled_by (presences.Map key) ps = by_rising_key ps
+abbrev pub normalized_by : Presence → List (Part KeptItem) → List (Part KeptItem)
+normalized_by presences.Implicit ps = filter (λ p. not (is_zero_kept p.item)) ps
+normalized_by presences.Explicit ps = ps
+normalized_by (presences.Repeated packed) ps = ps
+normalized_by (presences.Map key) ps = by_rising_key ps
 
-abbrev pub settled : FieldShape → List (Part KeptItem) → List (Part KeptItem)
-settled f ps = settled_by f.presence ps
+abbrev pub normalized : FieldShape → List (Part KeptItem) → List (Part KeptItem)
+normalized f ps = normalized_by f.presence ps
 
 -- The new message has the content in the field of the number, nothing in the other members of its oneof, and all else as before.
 abbrev pub IsSetTo : Shape → ℕ → Content → Kept → Kept → Type 0
 IsSetTo shape number content old new =
     (f : FieldShape) × (field_at (fields shape (type_of old)) number ≡ Some f)
-    × (new ≡ with_content (fields shape (type_of old)) f (settled f (content_seen number content)) old)
+    × (new ≡ with_content (fields shape (type_of old)) f (normalized f (content_seen number content)) old)
 
 -- what a content leaves in the field of its number
-abbrev pub settled_parts : List FieldShape → ℕ × Content → List (Part KeptItem)
-settled_parts fs c = of (field_at fs c.0)
+abbrev pub normalized_parts : List FieldShape → ℕ × Content → List (Part KeptItem)
+normalized_parts fs c = of (field_at fs c.0)
   where
     of : Option FieldShape → List (Part KeptItem)
-    of (Some f) = settled f (content_seen c.0 c.1)
+    of (Some f) = normalized f (content_seen c.0 c.1)
     of None = []
 
 -- The message of the type without unknown records that has under each number just what is given there.
 pub record IsWhole (shape : Shape) (type : TypeId) (given : List (ℕ × Content)) (m : Kept) : Type 0 where
   pub of_type : type_of m ≡ type
-  pub contents : (number : ℕ) → of_number number m ≡ flat_map (settled_parts (fields shape type)) (filter (λ (c : ℕ × Content). nat_eq c.0 number) given)
+  pub contents : (number : ℕ) → of_number number m ≡ flat_map (normalized_parts (fields shape type)) (filter (λ (c : ℕ × Content). nat_eq c.0 number) given)
   pub no_unknown : unknown_of m ≡ []

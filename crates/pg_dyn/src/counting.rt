@@ -25,21 +25,25 @@ use pg_schema::{Element, Field, Scalar, Schema};
 use pg_wire::{WireType, tag_len, varint_len};
 use std::alloc::AllocError;
 
-/// The most bytes that an encoding has.
-pub(crate) const MOST: usize = 2_147_483_647;
+/// The most bytes that an encoding has (Protocol Buffers encoding guide, "Message Structure").
+pub const MAX_ENCODING_LEN: usize = 2_147_483_647;
 
 /// A length, or one more than the most.
-pub(crate) fn cap(len: usize) -> usize
+pub(crate) fn saturated_len(len: usize) -> usize
     ensures { result ≡ capped len }
 {
-    if len > MOST { MOST + 1 } else { len }
+    if len > MAX_ENCODING_LEN {
+        MAX_ENCODING_LEN + 1
+    } else {
+        len
+    }
 }
 
 /// The sum of two lengths that are counted so.
 fn add(first: usize, second: usize) -> usize
     ensures { (m n : ℕ) → first ≡ capped m → second ≡ capped n → result ≡ capped (m + n) }
 {
-    cap(cap(first) + cap(second))
+    saturated_len(saturated_len(first) + saturated_len(second))
 }
 
 // How many bytes a word takes as a body.
@@ -86,8 +90,8 @@ pub(crate) fn record_len(number: u32, wire_type: WireType, len: usize) -> usize
     ensures { (bytes : List ℕ) → len ≡ capped (length bytes)
         → result ≡ capped (length (written number wire_type bytes).bytes) }
 {
-    let before = cap(tag_len(number)) + cap(length_len(wire_type, len));
-    cap(before + cap(len))
+    let before = saturated_len(tag_len(number)) + saturated_len(length_len(wire_type, len));
+    saturated_len(before + saturated_len(len))
 }
 
 /// How many bytes the body of an item takes that is no message.
@@ -110,7 +114,7 @@ fn each_len<M: Lends>(element: Element, values: &[M::Value]) -> usize
 {
     let mut total = 0;
     for value in values {
-        total = add(total, cap(leaf_len(element, M::leaf(value))));
+        total = add(total, saturated_len(leaf_len(element, M::leaf(value))));
     }
     total
 }
@@ -138,8 +142,8 @@ fn packed_len<M: Lends>(element: Element, values: &[M::Value]) -> usize
     ensures { result ≡ capped (length (packed_body M.item element values.now)) }
 {
     match element_wire_type(element) {
-        WireType::I64 => cap(values.len().saturating_mul(8)),
-        WireType::I32 => cap(values.len().saturating_mul(4)),
+        WireType::I64 => saturated_len(values.len().saturating_mul(8)),
+        WireType::I32 => saturated_len(values.len().saturating_mul(4)),
         WireType::Varint | WireType::Len => bodies_len::<M>(element, values),
     }
 }
@@ -174,7 +178,7 @@ pub(crate) fn entry_len(key: Scalar, leaf: LeafRef<'_>, wire_type: WireType, len
         → result ≡ capped (length ((item_record 1 (elements.Scalar key)
         (leaf_lent leaf.entry)).bytes ++ (written 2 wire_type bytes).bytes)) }
 {
-    let first = record_len(1, wire_type_of(key), cap(body_len(key, leaf)));
+    let first = record_len(1, wire_type_of(key), saturated_len(body_len(key, leaf)));
     let second = record_len(2, wire_type, len);
     add(first, second)
 }
@@ -185,7 +189,7 @@ fn unknown_len<M: Lends>(records: &[M::Unknown]) -> usize
 {
     let mut total = 0;
     for found in records {
-        total = add(total, cap(M::record_bytes(found).len()));
+        total = add(total, saturated_len(M::record_bytes(found).len()));
     }
     total
 }
@@ -214,8 +218,8 @@ fn count_item<M: Lends>(
             Ok(len)
         }
         (Element::Message(_), None) => Ok(0),
-        (Element::Scalar(scalar), _) => Ok(cap(body_len(scalar, M::leaf(value)))),
-        (Element::Enum(_), _) => Ok(cap(body_len(Scalar::Int32, M::leaf(value)))),
+        (Element::Scalar(scalar), _) => Ok(saturated_len(body_len(scalar, M::leaf(value)))),
+        (Element::Enum(_), _) => Ok(saturated_len(body_len(Scalar::Int32, M::leaf(value)))),
     }
 }
 

@@ -1,263 +1,31 @@
-ghost use Rattle.std.specs.Prelude.{◌≡◌, ◌⊎◌, ℕ, ◌+◌, ◌<◌, ◌≤◌, ◌++◌, List, length, flat_map, true, OnOk, IfOk, IfErr};
+//! How a message that fits is written: its records, counted first.
+
+mod records;
+
+ghost use Rattle.std.specs.Prelude.{◌≡◌, ℕ, ◌≤◌, ◌++◌, List, length, flat_map, IfOk, IfErr};
 ghost use Rattle.std.specs.List.{AllByRecursion};
-ghost use Rattle.pg_schema.specs.declared.field.Element.TheVariants as elements;
 ghost use Rattle.pg_schema.specs.Invariant.{IsSchema};
 ghost use Rattle.pg_schema.specs.Parts.{field_shape, shape_of};
 ghost use Rattle.pg_wire.specs.declared.record.WireType.TheVariants.{Len};
-ghost use Rattle.pg_wire.specs.Records.{length_before, tag, wire_code, written};
-ghost use Rattle.pg_wire.specs.Varint.{varint};
-ghost use Rattle.pg_dyn.specs.Coding.{InRange, body, form, scalar_form};
+ghost use Rattle.pg_wire.specs.Records.{written};
+ghost use Rattle.pg_dyn.specs.Coding.{InRange, scalar_form};
 ghost use Rattle.pg_dyn.specs.Encoding.{cap, enc};
 ghost use Rattle.pg_dyn.specs.Fits.{Fits};
 ghost use Rattle.pg_dyn.specs.Kept.{message_of, type_of};
-ghost use Rattle.pg_dyn.specs.Lending.{Child, bare_leaf, leaf_lent};
+ghost use Rattle.pg_dyn.specs.Lending.{Child, bare_leaf};
 ghost use Rattle.pg_dyn.specs.PartsFit.{IsPartOf};
-ghost use Rattle.pg_dyn.specs.Writing.{item_record};
-ghost use Rattle.pg_dyn.specs.Written.{Adds, BareFits, CanBePacked, LeafFits, LeavesFit, MayNotAdd, MayNotWrite, capped, entry_record, field_lengths, field_written, inner_lengths, item_body, item_bytes, item_lengths, own_bytes, packed_body, packed_bytes, packed_lengths};
+ghost use Rattle.pg_dyn.specs.Written.{Adds, BareFits, CanBePacked, MayNotAdd, MayNotWrite, capped, entry_record, field_lengths, field_written, inner_lengths, item_body, item_bytes, item_lengths, own_bytes};
 
+use self::records::{not_too_long, push_front, push_item, push_packed, push_unknown};
 use crate::accept::{element_wire_type, is_packed, map_key};
-use crate::body::{push_body, push_varint, wire_type_of};
-use crate::counting::{MOST, body_len, cap, count_message, entry_len};
+use crate::counting::{MAX_ENCODING_LEN, body_len, count_message, entry_len, saturated_len};
 use crate::error::DynError;
-use crate::lending::{LeafRef, Lends};
+use crate::lending::Lends;
 use crate::message::Message;
 use crate::message_ref::MessageRef;
 use pg_schema::{Element, Field, Scalar, Schema};
 use pg_wire::WireType;
-use std::alloc::{AllocError, Global};
-
-// Adds the length before a body of as many bytes, which only LEN records have.
-fn push_length(out: &mut Vec<u8>, wire_type: WireType, len: usize) -> Result<(), AllocError>
-    ensures ok { OnOk result ((bytes : List ℕ) → length bytes ≡ len
-        → out.new.items ≡ out.old.items ++ length_before wire_type bytes) }
-{
-    match wire_type {
-        WireType::Len => push_varint(out, len as u64),
-        WireType::Varint | WireType::I64 | WireType::I32 => Ok(()),
-    }
-}
-
-// The code of a wire type in a tag.
-fn wire_code(wire_type: WireType) -> u64
-    ensures code { result ≡ wire_code wire_type }
-    ensures small { result < 8 }
-{
-    match wire_type {
-        WireType::Varint => 0,
-        WireType::I64 => 1,
-        WireType::Len => 2,
-        WireType::I32 => 5,
-    }
-}
-
-// Adds the tag of a record and, where it is LEN, the length of its body.
-fn push_front(
-    out: &mut Vec<u8>,
-    number: u32,
-    wire_type: WireType,
-    len: usize,
-) -> Result<(), AllocError>
-    ensures ok { OnOk result ((bytes : List ℕ) → length bytes ≡ len
-        → out.new.items ≡ out.old.items
-        ++ (tag number wire_type ++ length_before wire_type bytes)) }
-{
-    push_varint(out, 8 * u64::from(number) + wire_code(wire_type))?;
-    push_length(out, wire_type, len)
-}
-
-// Adds the record of an item that is no message.
-#[inline(always)]
-fn push_record(
-    out: &mut Vec<u8>,
-    number: u32,
-    scalar: Scalar,
-    leaf: LeafRef<'_>,
-) -> Result<(), AllocError>
-    requires { InRange (scalar_form scalar) (leaf_lent leaf) }
-    ensures ok { OnOk result (out.new.items
-        ≡ out.old.items ++ (item_record number (elements.Scalar scalar)
-        (leaf_lent leaf.entry)).bytes) }
-{
-    push_front(out, number, wire_type_of(scalar), body_len(scalar, leaf))?;
-    push_body(out, scalar, leaf)
-}
-
-// The same of a lent item. Not inlined, so that a level of messages takes no more of the stack for
-// it.
-#[inline(never)]
-fn push_item<M: Lends>(
-    out: &mut Vec<u8>,
-    number: u32,
-    scalar: Scalar,
-    value: &M::Value,
-) -> Result<(), AllocError>
-    requires { InRange (scalar_form scalar) (bare_leaf (M.item value.now)) }
-    ensures ok { OnOk result (out.new.items
-        ≡ out.old.items ++ (item_record number (elements.Scalar scalar)
-        (bare_leaf (M.item value.now))).bytes) }
-{
-    push_record(out, number, scalar, M::leaf(value))
-}
-
-// Adds the body of an item that is no message.
-#[inline(always)]
-fn push_leaf(out: &mut Vec<u8>, element: Element, leaf: LeafRef<'_>) -> Result<(), AllocError>
-    requires { LeafFits element (leaf_lent leaf) }
-    ensures ok { OnOk result (out.new.items
-        ≡ out.old.items ++ body (form element) (leaf_lent leaf.entry)) }
-{
-    match element {
-        Element::Scalar(scalar) => push_body(out, scalar, leaf),
-        Element::Enum(_) => push_body(out, Scalar::Int32, leaf),
-        Element::Message(_) => Ok(()),
-    }
-}
-
-// Adds the body of each item of a list.
-#[inline(always)]
-fn push_each<M: Lends>(
-    out: &mut Vec<u8>,
-    element: Element,
-    values: &[M::Value],
-) -> Result<(), AllocError>
-    requires { LeavesFit M.item element values.now }
-    ensures ok { OnOk result (out.new.items
-        ≡ out.old.items ++ packed_body M.item element values.now) }
-{
-    for value in values {
-        push_leaf(out, element, M::leaf(value))?;
-    }
-    Ok(())
-}
-
-// Adds the bodies of a list, by a loop for each scalar of which lists are packed. Not inlined, as
-// `push_item`.
-#[inline(never)]
-fn push_bodies<M: Lends>(
-    out: &mut Vec<u8>,
-    element: Element,
-    values: &[M::Value],
-) -> Result<(), AllocError>
-    requires { LeavesFit M.item element values.now }
-    ensures ok { OnOk result (out.new.items
-        ≡ out.old.items ++ packed_body M.item element values.now) }
-{
-    match element {
-        Element::Scalar(Scalar::Double) => push_each::<M>(
-            out,
-            Element::Scalar(Scalar::Double),
-            values,
-        ),
-        Element::Scalar(Scalar::Float) => push_each::<M>(
-            out,
-            Element::Scalar(Scalar::Float),
-            values,
-        ),
-        Element::Scalar(Scalar::Int32) => push_each::<M>(
-            out,
-            Element::Scalar(Scalar::Int32),
-            values,
-        ),
-        Element::Scalar(Scalar::Int64) => push_each::<M>(
-            out,
-            Element::Scalar(Scalar::Int64),
-            values,
-        ),
-        Element::Scalar(Scalar::Uint32) => push_each::<M>(
-            out,
-            Element::Scalar(Scalar::Uint32),
-            values,
-        ),
-        Element::Scalar(Scalar::Uint64) => push_each::<M>(
-            out,
-            Element::Scalar(Scalar::Uint64),
-            values,
-        ),
-        Element::Scalar(Scalar::Sint32) => push_each::<M>(
-            out,
-            Element::Scalar(Scalar::Sint32),
-            values,
-        ),
-        Element::Scalar(Scalar::Sint64) => push_each::<M>(
-            out,
-            Element::Scalar(Scalar::Sint64),
-            values,
-        ),
-        Element::Scalar(Scalar::Fixed32) => push_each::<M>(
-            out,
-            Element::Scalar(Scalar::Fixed32),
-            values,
-        ),
-        Element::Scalar(Scalar::Fixed64) => push_each::<M>(
-            out,
-            Element::Scalar(Scalar::Fixed64),
-            values,
-        ),
-        Element::Scalar(Scalar::Sfixed32) => push_each::<M>(
-            out,
-            Element::Scalar(Scalar::Sfixed32),
-            values,
-        ),
-        Element::Scalar(Scalar::Sfixed64) => push_each::<M>(
-            out,
-            Element::Scalar(Scalar::Sfixed64),
-            values,
-        ),
-        Element::Scalar(Scalar::Bool) => push_each::<M>(out, Element::Scalar(Scalar::Bool), values),
-        _ => push_each::<M>(out, element, values),
-    }
-}
-
-// Adds the record of a packed list, where it isn't empty. The lengths then begin with that of its
-// body; what is left of them is answered.
-fn push_packed<'a, M: Lends>(
-    out: &mut Vec<u8>,
-    number: u32,
-    element: Element,
-    values: &[M::Value],
-    lengths: &'a [usize],
-) -> Result<&'a [usize], DynError>
-    requires { LeavesFit M.item element values.now }
-    ensures ok { IfOk result (λ left. Adds lengths.now
-        (packed_lengths M.item element values.now) out.old.items
-        (packed_bytes M.item number element values.now) out.new.items left.now) }
-    ensures err { IfErr result (MayNotAdd lengths.now (packed_lengths M.item element values.now)
-        (packed_bytes M.item number element values.now)) }
-{
-    if values.is_empty() {
-        return Ok(lengths);
-    }
-    match lengths {
-        [len, left @ ..] => {
-            push_front(out, number, WireType::Len, not_too_long(*len)?)?;
-            push_bodies::<M>(out, element, values)?;
-            Ok(left)
-        }
-        [] => Ok(lengths),
-    }
-}
-
-// A counted length, which is told where it isn't too long.
-fn not_too_long(len: usize) -> Result<usize, DynError>
-    ensures ok { IfOk result (λ told. (n : ℕ) → len ≡ capped n → told ≡ n) }
-    ensures err { IfErr result (λ e. (n : ℕ) → len ≡ capped n → MayNotWrite n e) }
-{
-    if len > MOST {
-        return Err(DynError::TooLong);
-    }
-    Ok(len)
-}
-
-// Adds the records at the end.
-fn push_unknown<M: Lends>(out: &mut Vec<u8>, records: &[M::Unknown]) -> Result<(), AllocError>
-    ensures ok { OnOk result (out.new.items
-        ≡ out.old.items ++ flat_map (λ r. (M.record_of r).bytes) records.now) }
-{
-    for found in records {
-        out.extend_from_slice(M::record_bytes(found))?;
-    }
-    Ok(())
-}
+use std::alloc::Global;
 
 // How many bytes the item's body takes, as it was counted: of a message the first of the lengths.
 #[inline(always)]
@@ -277,8 +45,8 @@ fn counted_len<M: Lends>(
             [len, ..] => *len,
             [] => 0,
         },
-        Element::Scalar(scalar) => cap(body_len(scalar, M::leaf(value))),
-        Element::Enum(_) => cap(body_len(Scalar::Int32, M::leaf(value))),
+        Element::Scalar(scalar) => saturated_len(body_len(scalar, M::leaf(value))),
+        Element::Enum(_) => saturated_len(body_len(Scalar::Int32, M::leaf(value))),
     }
 }
 
@@ -532,7 +300,7 @@ fn encode_lent<M: Lends>(alloc: Global, schema: &Schema, message: &M) -> Result<
     schema.parts();
     let mut lengths = Vec::new(alloc);
     let len = count_message(message, schema, &mut lengths)?;
-    if len > MOST {
+    if len > MAX_ENCODING_LEN {
         return Err(DynError::TooLong);
     }
     // With room for the longest varint where the last byte stands, so that none makes it grow.

@@ -20,7 +20,7 @@ ghost use Rattle.pg_dyn.specs.declared.error.DynError.TheVariants as errors;
 use crate::accept::{accepts, is_own};
 use crate::error::DynError;
 use crate::reading::elements::scalar_of;
-use crate::reading::rows::check_row;
+use crate::reading::packed::check_packed;
 use pg_schema::{Element, Field, Presence, Scalar, Schema, TypeId};
 use pg_wire::{Record, Records};
 
@@ -210,7 +210,7 @@ fn check_known(
     if is_own(found.wire_type, field.element) {
         return check_item(schema, field.element, found, at, levels);
     }
-    check_row(scalar_of(field.element), found.body, at)
+    check_packed(scalar_of(field.element), found.body, at)
 }
 
 // Refuses a record of a message that has a fault.

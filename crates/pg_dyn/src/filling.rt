@@ -6,7 +6,7 @@ ghost use Rattle.pg_schema.specs.Parts.{shape_of};
 ghost use Rattle.pg_schema.specs.Shape.{field_at, fields};
 ghost use Rattle.pg_dyn.specs.declared.error.DynError.TheVariants as errors;
 ghost use Rattle.pg_dyn.specs.ContentFaults.{AnyOf, ContentFault, ContentsFault, HasKeyTwice, HasNoFault, MayRefuseFor, PassTwice};
-ghost use Rattle.pg_dyn.specs.ContentFits.{NoneRivals};
+ghost use Rattle.pg_dyn.specs.ContentFits.{NoneSiblings};
 ghost use Rattle.pg_dyn.specs.Fits.{Fits};
 ghost use Rattle.pg_dyn.specs.Seen.{Rises};
 ghost use Rattle.pg_dyn.specs.Setting.{IsWhole};
@@ -89,9 +89,9 @@ impl Message {
     ghost use Rattle.std.specs.Prelude.{Some};
     ghost use Rattle.pg_schema.specs.Shape.{FieldShape};
     ghost use Rattle.pg_dyn.specs.Kept.{type_of};
-    ghost use Rattle.pg_dyn.specs.Replacing.{with_parts, without_rivals};
+    ghost use Rattle.pg_dyn.specs.Replacing.{with_parts, without_siblings};
     ghost use Rattle.pg_dyn.specs.Seen.{content_seen};
-    ghost use Rattle.pg_dyn.specs.Setting.{settled};
+    ghost use Rattle.pg_dyn.specs.Setting.{normalized};
 
     // Puts a content that its field takes; none may stand in another member of the field's oneof.
     fn add(&mut self, schema: &Schema, number: u32, content: Content) -> Result<(), DynError>
@@ -100,13 +100,13 @@ impl Message {
         requires once { HasKeyTwice content → ⊥ }
         ensures ok { OnOk result ((f : FieldShape)
             → field_at (fields (shape_of schema.now) (type_of self.old)) number ≡ Some f
-            → self.new ≡ with_parts number (settled f (content_seen number content)) self.old) }
+            → self.new ≡ with_parts number (normalized f (content_seen number content)) self.old) }
         ensures fits { OnOk result ((f : FieldShape)
             → field_at (fields (shape_of schema.now) (type_of self.old)) number ≡ Some f
             → Fits (shape_of schema.now)
-            (without_rivals (fields (shape_of schema.now) (type_of self.old)) f self.old)
+            (without_siblings (fields (shape_of schema.now) (type_of self.old)) f self.old)
             → Fits (shape_of schema.now)
-            (without_rivals (fields (shape_of schema.now) (type_of self.old)) f self.new)) }
+            (without_siblings (fields (shape_of schema.now) (type_of self.old)) f self.new)) }
         ensures err { IfErr result (λ e. e ≡ errors.Memory) }
     {
         let Some(field) = schema.field(self.type_id, number) else {
@@ -132,7 +132,7 @@ impl Message {
         requires taken { AllByRecursion
             (TakesContent (shape_of schema.now) type_id) contents.items }
         requires once { AllByRecursion (λ c. HasKeyTwice c.1 → ⊥) contents.items }
-        requires apart { NoneRivals (fields (shape_of schema.now) type_id) contents.items }
+        requires apart { NoneSiblings (fields (shape_of schema.now) type_id) contents.items }
         ensures ok { IfOk result (IsWhole (shape_of schema.now) type_id contents.items) }
         ensures fits { IfOk result (Fits (shape_of schema.now)) }
         ensures err { IfErr result (λ e. e ≡ errors.Memory) }

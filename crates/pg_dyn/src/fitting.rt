@@ -14,7 +14,7 @@ ghost use Rattle.pg_dyn.specs.Seen.{IsKey, leaf_of, record_seen};
 use crate::accept::accepts;
 use crate::check::check_item;
 use crate::message::{Content, Message, UnknownRecord, Value};
-use crate::oneofs::none_rivals;
+use crate::oneofs::none_siblings;
 use pg_schema::{Element, Field, Presence, Scalar, Schema, TypeId};
 use std::cmp::Ordering;
 
@@ -169,7 +169,7 @@ impl Message {
                 return false;
             }
         }
-        if !none_rivals(schema, self.type_id, &self.fields) {
+        if !none_siblings(schema, self.type_id, &self.fields) {
             return false;
         }
         unknown_fit(schema, self.type_id, &self.unknown)

@@ -5,7 +5,7 @@ ghost use Rattle.pg_schema.specs.Parts.{shape_of};
 ghost use Rattle.pg_schema.specs.Shape.{field_at, fields};
 ghost use Rattle.pg_dyn.specs.Content.{same_oneof};
 ghost use Rattle.pg_dyn.specs.ContentFaults.{members};
-ghost use Rattle.pg_dyn.specs.ContentFits.{NoneRivals};
+ghost use Rattle.pg_dyn.specs.ContentFits.{NoneSiblings};
 ghost use Rattle.pg_dyn.specs.Seen.{Rises};
 
 use crate::message::Content;
@@ -108,9 +108,9 @@ pub(crate) fn each_oneof_once(schema: &Schema, type_id: TypeId, contents: &[(u32
 }
 
 /// Whether no two of the contents are of members of one oneof.
-pub(crate) fn none_rivals(schema: &Schema, type_id: TypeId, contents: &[(u32, Content)]) -> bool
+pub(crate) fn none_siblings(schema: &Schema, type_id: TypeId, contents: &[(u32, Content)]) -> bool
     requires { Rises contents.now }
-    ensures { IsTrue result ↔ NoneRivals (fields (shape_of schema.now) type_id) contents.now }
+    ensures { IsTrue result ↔ NoneSiblings (fields (shape_of schema.now) type_id) contents.now }
 {
     each_oneof_once(schema, type_id, contents)
 }

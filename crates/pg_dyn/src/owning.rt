@@ -110,7 +110,7 @@ impl<'a> MessageRef<'a> {
             type_id: self.type_id,
             fields,
             unknown,
-            noted: Vec::new(alloc),
+            last_set: Vec::new(alloc),
         })
     }
 }

@@ -29,9 +29,9 @@ impl Message {
             // A content that is taken has a field.
             unreachable!();
         };
-        let members = self.held_rivals(schema, field);
+        let members = self.held_siblings(schema, field);
         self.put_content(schema, field, content)?;
-        self.settle_rivals(schema, field, members);
+        self.replace_siblings(schema, field, members);
         Ok(())
     }
 }

@@ -6,12 +6,12 @@ mod gathering;
 mod items;
 mod keys;
 mod nested;
+mod oneof_runs;
 mod ordering;
+pub(crate) mod packed;
 mod parts;
-pub(crate) mod rows;
 mod scalars;
 mod sorting;
 pub(crate) mod stop;
-mod streaks;
 
 pub(crate) use nested::read_message;

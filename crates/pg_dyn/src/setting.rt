@@ -50,10 +50,10 @@ impl Message {
         if let Err(error) = check_keys(alloc, &content) {
             return Err((error, content));
         }
-        let members = self.held_rivals(schema, field);
+        let members = self.held_siblings(schema, field);
         match self.put_content(schema, field, content) {
             Ok(()) => {
-                self.settle_rivals(schema, field, members);
+                self.replace_siblings(schema, field, members);
                 Ok(())
             }
             Err(back) => Err((DynError::Memory, back)),
@@ -63,9 +63,9 @@ impl Message {
 
 impl Message {
     ghost use Rattle.pg_schema.specs.Invariant.{IsSchema};
-    ghost use Rattle.pg_dyn.specs.Replacing.{with_parts, without_rivals};
+    ghost use Rattle.pg_dyn.specs.Replacing.{with_parts, without_siblings};
     ghost use Rattle.pg_dyn.specs.Seen.{content_seen};
-    ghost use Rattle.pg_dyn.specs.Setting.{settled};
+    ghost use Rattle.pg_dyn.specs.Setting.{normalized};
     ghost use Rattle.pg_dyn.specs.Told.{ItemsFit};
 
     /// Puts a content that is one of the field, in place of the one that stands there, whatever
@@ -85,12 +85,12 @@ impl Message {
         requires once { HasKeyTwice content → ⊥ }
         ensures ok { OnOk result (self.new
             ≡ with_parts field.now.number
-            (settled (field_shape field.now) (content_seen field.now.number content)) self.old) }
+            (normalized (field_shape field.now) (content_seen field.now.number content)) self.old) }
         ensures fits { OnOk result (Fits (shape_of schema.now)
-            (without_rivals (fields (shape_of schema.now) (type_of self.old))
+            (without_siblings (fields (shape_of schema.now) (type_of self.old))
             (field_shape field.now) self.old)
             → Fits (shape_of schema.now)
-            (without_rivals (fields (shape_of schema.now) (type_of self.old))
+            (without_siblings (fields (shape_of schema.now) (type_of self.old))
             (field_shape field.now) self.new)) }
         ensures err { IfErr result (λ back. (back ≡ content) × (self.new ≡ self.old)) }
     {
@@ -104,7 +104,7 @@ impl Message {
         put(
             &mut self.fields,
             field.number,
-            content.settled(schema, field),
+            content.normalized(schema, field),
         );
         Ok(())
     }

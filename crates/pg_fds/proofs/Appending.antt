@@ -17,12 +17,12 @@ use Rattle.pg_dyn.specs.Message.{Message, Part, Item, message_from}
 use Rattle.pg_dyn.specs.Message as model
 use Rattle.pg_dyn.specs.Replacing.{kept_from, with_parts, with_content}
 use Rattle.pg_dyn.specs.Seen.{content_seen, item_seen}
-use Rattle.pg_dyn.specs.Setting.{IsSetTo, settled}
+use Rattle.pg_dyn.specs.Setting.{IsSetTo, normalized}
 use Rattle.pg_dyn.specs.Fits.{Fits}
 use Rattle.pg_dyn.specs.ContentFits.{ItemFits}
 use Rattle.pg_dyn.specs.Told.{ItemsFit, TakesContent}
 use Rattle.pg_dyn.proofs.Lists.{filter_all, filter_none}
-use Rattle.pg_dyn.proofs.ReplacingLaws.{no_rivals, parts_of-kept_onto, unknown_of-kept_onto, type_of-kept_onto, parts-message_of, unknown-message_of, item_of, part_item}
+use Rattle.pg_dyn.proofs.ReplacingLaws.{no_siblings, parts_of-kept_onto, unknown_of-kept_onto, type_of-kept_onto, parts-message_of, unknown-message_of, item_of, part_item}
 use Rattle.pg_fds.specs.Descriptor.{descriptor_shape, one, many}
 use Rattle.pg_fds.specs.Building.{items_of, items_in, items_within, shown, greatest, last_number, IsChild, AreChildren, IsOf, HasOne, HasMany, written_shape}
 use Rattle.pg_fds.specs.Items.{item, child, children, texts}
@@ -46,7 +46,7 @@ above_none n (p ∷ ps) h =
 pub appended : (fs : List FieldShape) (f : FieldShape) (ps : List (Part KeptItem)) (m : Kept) → f.oneof ≡ None → greatest (parts_of m) < f.number
     → with_content fs f ps m ≡ kept_from (type_of m) (parts_of m ++ ps) (unknown_of m)
 appended fs f ps m alone h =
-    ap (with_parts f.number ps) (no_rivals fs f m alone)
+    ap (with_parts f.number ps) (no_siblings fs f m alone)
     ∙ ap₂ (λ xs ys. kept_from (type_of m) (xs ++ (ps ++ ys)) (unknown_of m)) (filter_all (λ (p : Part KeptItem). nat_lt p.number f.number) (parts_of m) (below_all f.number (parts_of m) h))
     (filter_none (λ (p : Part KeptItem). nat_lt f.number p.number) (parts_of m) (above_none f.number (parts_of m) h))
     ∙ ap (λ ys. kept_from (type_of m) (parts_of m ++ ys) (unknown_of m)) (append-nil ps)
@@ -110,7 +110,7 @@ unfolding last_number
 set_one shape type number e v old new of_type field h (f, found, is) =
     let own : one number e ≡ f = same_Some (one number e) f (sym (along (fields shape type) (fields shape (type_of old)) (one number e) number (ap (fields shape) (sym of_type)) field) ∙ found) in
     let made : new ≡ with_content (fields shape (type_of old)) (one number e) (content_seen number (contents.One v)) old =
-    subst (λ x. new ≡ with_content (fields shape (type_of old)) x (settled x (content_seen number (contents.One v))) old) (sym own) is in
+    subst (λ x. new ≡ with_content (fields shape (type_of old)) x (normalized x (content_seen number (contents.One v))) old) (sym own) is in
     let all = grown number (content_seen number (contents.One v)) old new h (omega arith) (made ∙ appended (fields shape (type_of old)) (one number e) (content_seen number (contents.One v)) old refl h) in
     (all.items ∙ ap (λ i. items_of old ++ item number i ∷ []) (shown_item false v), all.of_type, all.unknown, all.last)
 
@@ -121,7 +121,7 @@ unfolding last_number
 set_many shape type number e vs content old new of_type field h seen (f, found, is) =
     let own : many number e ≡ f = same_Some (many number e) f (sym (along (fields shape type) (fields shape (type_of old)) (many number e) number (ap (fields shape) (sym of_type)) field) ∙ found) in
     let made : new ≡ with_content (fields shape (type_of old)) (many number e) (content_seen number content) old =
-    subst (λ x. new ≡ with_content (fields shape (type_of old)) x (settled x (content_seen number content)) old) (sym own) is in
+    subst (λ x. new ≡ with_content (fields shape (type_of old)) x (normalized x (content_seen number content)) old) (sym own) is in
     let made_list : new ≡ with_content (fields shape (type_of old)) (many number e) (map (listed_part number) vs) old =
     subst (λ ps. new ≡ with_content (fields shape (type_of old)) (many number e) ps old) seen made in
     let all = grown number (map (listed_part number) vs) old new h (of_list number vs) (made_list ∙ appended (fields shape (type_of old)) (many number e) (map (listed_part number) vs) old refl h) in

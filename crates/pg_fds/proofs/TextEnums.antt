@@ -17,7 +17,7 @@ use Rattle.pg_schema.specs.Sound.{IsSound}
 use Rattle.pg_schema.specs.TextSets.{is_among}
 use Rattle.pg_schema.proofs.PairLemmas.{and_both, and_left, and_right}
 use Rattle.pg_link.specs.declared.target.Target.{Target}
-use Rattle.pg_check.specs.Groups.{Placed, enum_id, placed_from, places_in}
+use Rattle.pg_check.specs.ByScope.{Placed, enum_id, placed_from, places_in}
 use Rattle.pg_check.specs.MadeEnums.{enumeration, made_enum}
 use Rattle.pg_check.specs.MadeNumbers.{index_of}
 use Rattle.pg_check.specs.MadeParts.{ArePartsOf, Declared, EachIs, IsFileOf, IsTypeOf, Source, TypeTree, file_shape, nothing, placed_enums, placed_messages, type_tree, type_trees, with_file, with_files}

@@ -11,7 +11,7 @@ use Rattle.pg_schema.specs.declared.message_type.MessageType.{MessageType}
 use Rattle.pg_schema.specs.Pairs.{are_distinct, differ}
 use Rattle.pg_schema.specs.TextSets.{is_among}
 use Rattle.pg_schema.proofs.PairLemmas.{and_left, and_right}
-use Rattle.pg_check.specs.Groups.{Placed, placed_from, places_in, type_id}
+use Rattle.pg_check.specs.ByScope.{Placed, placed_from, places_in, type_id}
 use Rattle.pg_check.specs.Outline.{Message, message_scope}
 use Rattle.pg_fds.specs.Again.{holds_inside, nest_within}
 use Rattle.pg_fds.specs.InOrder.{inner_types, types_below}

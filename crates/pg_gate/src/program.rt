@@ -67,13 +67,15 @@ pub fn run<S: Sources, T: Sources, W: Sink>(
 
     // Else the sink took exactly the text of the words' call and an answer granted to it.
     ensures printed { IfOk result (λ status. status ≢ USAGE → Prints
-        (Grants (seen (S.may_give old.old) (S.may_lack old.old) (S.failures old.old) (S.failures old.new))
+        (Grants (seen (S.may_give old.old) (S.may_lack old.old)
+        (S.failures old.old) (S.failures old.new))
         (seen (T.may_give new.old) (T.may_lack new.old) (T.failures new.old) (T.failures new.new)))
         (texts words.now) status (W.taken sink.old) (W.taken sink.new)) }
 
     // A sink that fails took a beginning of it, and memory that fails leaves the sink alone.
     ensures begun { IsErrOf result GateError.WriteFailed → call_of (texts words.now) ≢ None → Begins
-        (Grants (seen (S.may_give old.old) (S.may_lack old.old) (S.failures old.old) (S.failures old.new))
+        (Grants (seen (S.may_give old.old) (S.may_lack old.old)
+        (S.failures old.old) (S.failures old.new))
         (seen (T.may_give new.old) (T.may_lack new.old) (T.failures new.old) (T.failures new.new)))
         (texts words.now) (W.taken sink.old) (W.taken sink.new) }
     ensures only { IfErr result IsRunError }

@@ -160,7 +160,8 @@ impl Index {
     ) -> Result<Option<String>, AllocError>
         ensures { IfOk result (λ outer. option_map string_bytes outer ≡ option_map names.called
             (resolves.innermost (spec.names_seen self.now.names (spec.visible_of visible.entry))
-            (resolves.sought_among (resolves.part_words parts.now)) (names.called (word.now ∷ [])) (spec.texts scope.now))) }
+            (resolves.sought_among (resolves.part_words parts.now)) (names.called (word.now ∷ []))
+            (spec.texts scope.now))) }
     {
         let mut full = called(alloc, scope)?;
         let mut len = scope.len();
@@ -191,7 +192,8 @@ impl Index {
         ensures { IfOk result (λ outer. option_map
             (λ o. string_bytes o ++ resolves.written (resolves.reference name.now)) outer
             ≡ resolves.meant
-            (spec.names_seen self.now.names (spec.visible_of visible.entry)) (spec.texts scope.now) (resolves.reference name.now)) }
+            (spec.names_seen self.now.names (spec.visible_of visible.entry))
+            (spec.texts scope.now) (resolves.reference name.now)) }
     {
         if name.is_full {
             return Ok(Some(String::with_capacity(alloc, ROOM)?));
@@ -210,7 +212,8 @@ impl Index {
     ) -> Result<Option<(&str, &Named)>, AllocError>
         ensures found { IfOk result (λ f. option_map (λ f. (f.0.now, f.1.now.kind)) f
             ≡ resolves.found
-            (spec.names_seen self.now.names (spec.visible_of visible.entry)) (spec.texts scope.now) (resolves.reference name.now)) }
+            (spec.names_seen self.now.names (spec.visible_of visible.entry))
+            (spec.texts scope.now) (resolves.reference name.now)) }
         ensures held { IfOk result (λ f. IfSome f
             (λ f. get_by_text self.now.names f.0.now ≡ Some f.1.now)) }
     {

@@ -17,10 +17,10 @@ use Rattle.pg_dyn.specs.Coding.{form, zero_leaf}
 use Rattle.pg_dyn.specs.Belonging.{LeafFits, IsMessage}
 use Rattle.pg_dyn.specs.Message as model
 use Rattle.pg_dyn.specs.Kept.{Kept, ends, KeptItem, Plain, Msg, type_of, message_of}
-use Rattle.pg_dyn.specs.Content.{same_oneof, is_rival}
-use Rattle.pg_dyn.specs.Replacing.{kept_part, kept_onto, kept_from, is_rival_number, with_content}
+use Rattle.pg_dyn.specs.Content.{same_oneof, is_sibling}
+use Rattle.pg_dyn.specs.Replacing.{kept_part, kept_onto, kept_from, is_sibling_number, with_content}
 use Rattle.pg_dyn.specs.Seen.{leaf_of, item_seen, content_seen}
-use Rattle.pg_dyn.specs.Setting.{settled, settled_by, IsSetTo}
+use Rattle.pg_dyn.specs.Setting.{normalized, normalized_by, IsSetTo}
 use Rattle.pg_dyn.proofs.Lists.{each_at, each_weaker, list_any_none}
 use Rattle.pg_pairs.specs.declared.choice.Choice.{Choice}
 use Rattle.pg_pairs.specs.declared.choice.Pair.{Pair}
@@ -36,7 +36,7 @@ use Rattle.pg_pairs.proofs.CarryContents.{child_there_is}
 use Rattle.pg_pairs.proofs.LeastContents.{nonzero_is}
 use Rattle.pg_pairs.proofs.Messages.{one_found}
 use Rattle.pg_pairs.proofs.Reached.{choice_known, choices_carried}
-use Rattle.pg_dyn.proofs.PublicLaws.{contents_are_seen, fields_are_found, parts_keep_types, rivals_mutual}
+use Rattle.pg_dyn.proofs.PublicLaws.{contents_are_seen, fields_are_found, parts_keep_types, siblings_mutual}
 
 -- The parts of a content in a message are those that are seen of it.
 
@@ -110,19 +110,19 @@ value_short : (number : ℕ) (key : Leaf) (child : Option Message) (leaf : Optio
 value_short number key (Some child) leaf = tt
 value_short number key None leaf = leaf_short number (Some key) leaf
 
-lost_settled : (number : ℕ) (p q : Presence) (zero : Item) → IsSettled p (lost_onto number p q zero)
-lost_settled number presences.Implicit q zero = inr (alone_short number None zero)
-lost_settled number presences.Explicit q zero = inr (alone_short number None zero)
-lost_settled number (presences.Map k) q zero = inr (alone_short number None zero)
-lost_settled number (presences.Repeated w) q zero = inl refl
+lost_normalized : (number : ℕ) (p q : Presence) (zero : Item) → IsSettled p (lost_onto number p q zero)
+lost_normalized number presences.Implicit q zero = inr (alone_short number None zero)
+lost_normalized number presences.Explicit q zero = inr (alone_short number None zero)
+lost_normalized number (presences.Map k) q zero = inr (alone_short number None zero)
+lost_normalized number (presences.Repeated w) q zero = inl refl
 
-carried_settled : (sight : Sight) (f g : FieldShape) (case part : ℕ) (child : Option Message) → IsSettled f.presence (carried_field sight f g case part child)
-carried_settled sight f g case part child =
+carried_normalized : (sight : Sight) (f g : FieldShape) (case part : ℕ) (child : Option Message) → IsSettled f.presence (carried_field sight f g case part child)
+carried_normalized sight f g case part child =
     either f.presence (nat_eq case 1) _ _
     (either f.presence (zero_counts f g) _ _ (inr (least_short f.number f.presence f.element)) (inr (alone_short f.number (least_key f.presence) (item_by (λ x. nonzero_leaf x) f.element))))
     (either f.presence (nat_eq case 2) _ _ (inr (leaf_short f.number None (gap_item sight (zero_counts f g) f.element g.element)))
     (either f.presence (nat_eq case 3) _ _ (inr (child_short f.number None child))
-    (either f.presence (nat_eq case 4) _ _ (lost_settled f.number f.presence g.presence (item_by (λ x. zero_leaf x) f.element))
+    (either f.presence (nat_eq case 4) _ _ (lost_normalized f.number f.presence g.presence (item_by (λ x. zero_leaf x) f.element))
     (either f.presence (nat_eq part 1) _ _ (inr (key_short f.number f.element (gap_item sight true (elements.Scalar (key_of f.presence)) (elements.Scalar (key_of g.presence)))))
     (either f.presence (nat_eq part 2) _ _ (inr (value_short f.number (zero_leaf (form (elements.Scalar (key_of f.presence)))) child (gap_item sight true f.element g.element)))
     (inr (alone_short f.number (Some (apart_leaf (elements.Scalar (key_of f.presence)) (elements.Scalar (key_of g.presence)))) (apart_item f.element g.element))))))))
@@ -149,24 +149,24 @@ module _ (shape : Shape) (type : TypeId) where
   made_short ps v is short = short_back place_of ps (subst IsShort (sym (ap places is) ∙ places_made ps) short)
 
   -- A content that is short or in a list stays as it is where it is set, but for a zero in an implicit field.
-  settled_same : (p : Presence) (ps : List (Part KeptItem)) → IsSettled p (made ps) → (p ≡ presences.Implicit → first_is_zero (made ps) ≡ false) → settled_by p ps ≡ ps
-  settled_same presences.Implicit ps (inl h) nonzero = absurd (cc)
-  settled_same presences.Implicit ps (inr h) nonzero = implicit ps (made_short ps (made ps) refl h) (nonzero refl)
+  normalized_same : (p : Presence) (ps : List (Part KeptItem)) → IsSettled p (made ps) → (p ≡ presences.Implicit → first_is_zero (made ps) ≡ false) → normalized_by p ps ≡ ps
+  normalized_same presences.Implicit ps (inl h) nonzero = absurd (cc)
+  normalized_same presences.Implicit ps (inr h) nonzero = implicit ps (made_short ps (made ps) refl h) (nonzero refl)
     where
-      item : (number : ℕ) (key : Option Leaf) (x : KeptItem) → first_is_zero (message_of (kept_part number key x (ends type []))) ≡ false → settled_by presences.Implicit (record { number = number; key = key; item = x } ∷ []) ≡ record { number = number; key = key; item = x } ∷ []
+      item : (number : ℕ) (key : Option Leaf) (x : KeptItem) → first_is_zero (message_of (kept_part number key x (ends type []))) ≡ false → normalized_by presences.Implicit (record { number = number; key = key; item = x } ∷ []) ≡ record { number = number; key = key; item = x } ∷ []
       item number key (Plain listed leaf) zero = rw zero refl
       item number key (Msg listed child) zero = refl
 
-      implicit : (qs : List (Part KeptItem)) → IsShort qs → first_is_zero (made qs) ≡ false → settled_by presences.Implicit qs ≡ qs
+      implicit : (qs : List (Part KeptItem)) → IsShort qs → first_is_zero (made qs) ≡ false → normalized_by presences.Implicit qs ≡ qs
       implicit [] short zero = refl
       implicit (p ∷ []) short zero = item p.number p.key p.item zero
       implicit (p ∷ q ∷ qs) short zero = absurd short
-  settled_same presences.Explicit ps h nonzero = refl
-  settled_same (presences.Repeated w) ps h nonzero = refl
-  settled_same (presences.Map k) ps (inl h) nonzero = absurd (cc)
-  settled_same (presences.Map k) ps (inr h) nonzero = entry ps (made_short ps (made ps) refl h)
+  normalized_same presences.Explicit ps h nonzero = refl
+  normalized_same (presences.Repeated w) ps h nonzero = refl
+  normalized_same (presences.Map k) ps (inl h) nonzero = absurd (cc)
+  normalized_same (presences.Map k) ps (inr h) nonzero = entry ps (made_short ps (made ps) refl h)
     where
-      entry : (qs : List (Part KeptItem)) → IsShort qs → settled_by (presences.Map k) qs ≡ qs
+      entry : (qs : List (Part KeptItem)) → IsShort qs → normalized_by (presences.Map k) qs ≡ qs
       entry [] short = refl
       entry (p ∷ []) short = refl
       entry (p ∷ q ∷ qs) short = absurd short
@@ -227,10 +227,10 @@ module _ (sight : Sight) (old new : Shape) (table : Table) (law : IsSight sight)
         let ps = content_seen c.number content in
         let field_is : f' ≡ f = one_found (fields old pair.old) c.number f' f found' found in
         let made_is : made old pair.old ps ≡ carried_field sight f g c.case c.part (option_map message_of child) = content_made c.number content (ends pair.old []) ∙ is in
-        let stays : settled f ps ≡ ps =
-        settled_same old pair.old f.presence ps (subst (IsSettled f.presence) (sym made_is) (carried_settled sight f g c.case c.part (option_map message_of child))) (nonzero content child made_is given) in
+        let stays : normalized f ps ≡ ps =
+        normalized_same old pair.old f.presence ps (subst (IsSettled f.presence) (sym made_is) (carried_normalized sight f g c.case c.part (option_map message_of child))) (nonzero content child made_is given) in
         let m_made : m ≡ kept_from pair.old ps [] =
-        m_is ∙ ap (λ x. with_content (fields old pair.old) x (settled x ps) (ends pair.old [])) field_is
+        m_is ∙ ap (λ x. with_content (fields old pair.old) x (normalized x ps) (ends pair.old [])) field_is
         ∙ ap (λ qs. with_content (fields old pair.old) f qs (ends pair.old [])) stays ∙ with_content_empty old pair.old (fields old pair.old) f ps in
         ap message_of m_made ∙ made_is ∙ sym (carried_is (option_map message_of child))
 
@@ -243,39 +243,39 @@ least_nonzero number p (elements.Enum s) implicit = ap (λ q. is_zero (least_lea
 
 -- two oneofs that aren't one, the other way round
 apart_sym : (a b : Option ℕ) → same_oneof a b ≡ false → same_oneof b a ≡ false
-apart_sym a b h = ⊎_elim (λ same. absurd (let yes = rivals_mutual.0 b a same in let no : true ≡ false = sym yes ∙ h in cc)) (λ no. no) (cases_Bool (same_oneof b a))
+apart_sym a b h = ⊎_elim (λ same. absurd (let yes = siblings_mutual.0 b a same in let no : true ≡ false = sym yes ∙ h in cc)) (λ no. no) (cases_Bool (same_oneof b a))
 
-not_rival : (fs : List FieldShape) → Rising fs → (f e : FieldShape) → field_at fs f.number ≡ Some f → same_oneof e.oneof f.oneof ≡ false → is_rival_number fs e f.number ≡ false
-not_rival fs rising f e found apart =
-    list_any_none (λ g. is_rival e g && nat_eq g.number f.number) fs
-    (each_weaker (λ (g : FieldShape). field_at fs g.number ≡ Some g) (λ g. (is_rival e g && nat_eq g.number f.number) ≡ false) (λ g there. of g there (nat_eq g.number f.number) refl) fs (fields_are_found.2 fs rising))
+not_sibling : (fs : List FieldShape) → Rising fs → (f e : FieldShape) → field_at fs f.number ≡ Some f → same_oneof e.oneof f.oneof ≡ false → is_sibling_number fs e f.number ≡ false
+not_sibling fs rising f e found apart =
+    list_any_none (λ g. is_sibling e g && nat_eq g.number f.number) fs
+    (each_weaker (λ (g : FieldShape). field_at fs g.number ≡ Some g) (λ g. (is_sibling e g && nat_eq g.number f.number) ≡ false) (λ g there. of g there (nat_eq g.number f.number) refl) fs (fields_are_found.2 fs rising))
   where
-    of : (g : FieldShape) → field_at fs g.number ≡ Some g → (b : Bool) → nat_eq g.number f.number ≡ b → (is_rival e g && nat_eq g.number f.number) ≡ false
-    of g there false h = and_right (is_rival e g) (nat_eq g.number f.number) h
+    of : (g : FieldShape) → field_at fs g.number ≡ Some g → (b : Bool) → nat_eq g.number f.number ≡ b → (is_sibling e g && nat_eq g.number f.number) ≡ false
+    of g there false h = and_right (is_sibling e g) (nat_eq g.number f.number) h
     of g there true h =
         let same : g ≡ f = one_found fs f.number g f (ap (field_at fs) (sym (eqb-true g.number f.number h)) ∙ there) found in
-        and_left (is_rival e g) (nat_eq g.number f.number)
+        and_left (is_sibling e g) (nat_eq g.number f.number)
         (and_left (same_oneof e.oneof g.oneof) (not (nat_eq e.number g.number)) (subst (λ (x : FieldShape). same_oneof e.oneof x.oneof ≡ false) (sym same) apart))
 
 module _ (type : TypeId) where
   -- a content set behind one part of a lower number that isn't in its oneof
-  with_content_behind : (fs : List FieldShape) (e : FieldShape) (number : ℕ) (key : Option Leaf) (item : KeptItem) (qs : List (Part KeptItem)) → is_rival_number fs e number ≡ false → nat_lt number e.number ≡ true → nat_lt e.number number ≡ false → with_content fs e qs (kept_from type (record { number = number; key = key; item = item } ∷ []) []) ≡ kept_from type (record { number = number; key = key; item = item } ∷ qs) []
-  with_content_behind fs e number key (Plain listed leaf) qs rival below above =
-      rw (rival) (rw (below, above) (ap (λ x. kept_from type (record { number = number; key = key; item = Plain listed leaf } ∷ x) []) (append-nil qs)))
-  with_content_behind fs e number key (Msg listed child) qs rival below above =
-      rw (rival) (rw (below, above) (ap (λ x. kept_from type (record { number = number; key = key; item = Msg listed child } ∷ x) []) (append-nil qs)))
+  with_content_behind : (fs : List FieldShape) (e : FieldShape) (number : ℕ) (key : Option Leaf) (item : KeptItem) (qs : List (Part KeptItem)) → is_sibling_number fs e number ≡ false → nat_lt number e.number ≡ true → nat_lt e.number number ≡ false → with_content fs e qs (kept_from type (record { number = number; key = key; item = item } ∷ []) []) ≡ kept_from type (record { number = number; key = key; item = item } ∷ qs) []
+  with_content_behind fs e number key (Plain listed leaf) qs sibling below above =
+      rw (sibling) (rw (below, above) (ap (λ x. kept_from type (record { number = number; key = key; item = Plain listed leaf } ∷ x) []) (append-nil qs)))
+  with_content_behind fs e number key (Msg listed child) qs sibling below above =
+      rw (sibling) (rw (below, above) (ap (λ x. kept_from type (record { number = number; key = key; item = Msg listed child } ∷ x) []) (append-nil qs)))
 
-  behind_short : (fs : List FieldShape) (e : FieldShape) (number : ℕ) (ps qs : List (Part KeptItem)) → IsShort ps → AllByRecursion (λ (p : Part KeptItem). p.number ≡ number) ps → is_rival_number fs e number ≡ false → nat_lt number e.number ≡ true → nat_lt e.number number ≡ false → with_content fs e qs (kept_from type ps []) ≡ kept_onto ps (kept_from type qs [])
-  behind_short fs e number [] qs short own rival below above = ap (λ x. kept_from type x []) (append-nil qs)
-  behind_short fs e number (p ∷ []) qs short own rival below above =
-      with_content_behind fs e p.number p.key p.item qs (subst (λ n. is_rival_number fs e n ≡ false) (sym own.0) rival) (subst (λ n. nat_lt n e.number ≡ true) (sym own.0) below) (subst (λ n. nat_lt e.number n ≡ false) (sym own.0) above)
-  behind_short fs e number (p ∷ q ∷ ps) qs short own rival below above = absurd short
+  behind_short : (fs : List FieldShape) (e : FieldShape) (number : ℕ) (ps qs : List (Part KeptItem)) → IsShort ps → AllByRecursion (λ (p : Part KeptItem). p.number ≡ number) ps → is_sibling_number fs e number ≡ false → nat_lt number e.number ≡ true → nat_lt e.number number ≡ false → with_content fs e qs (kept_from type ps []) ≡ kept_onto ps (kept_from type qs [])
+  behind_short fs e number [] qs short own sibling below above = ap (λ x. kept_from type x []) (append-nil qs)
+  behind_short fs e number (p ∷ []) qs short own sibling below above =
+      with_content_behind fs e p.number p.key p.item qs (subst (λ n. is_sibling_number fs e n ≡ false) (sym own.0) sibling) (subst (λ n. nat_lt n e.number ≡ true) (sym own.0) below) (subst (λ n. nat_lt e.number n ≡ false) (sym own.0) above)
+  behind_short fs e number (p ∷ q ∷ ps) qs short own sibling below above = absurd short
 
 module _ (sight : Sight) (old new : Shape) (table : Table) (law : IsSight sight) (shape_old : IsShape old) (shape_new : IsShape new) (pair : Pair) (c : Choice) (among : IsAmong c (choices sight table old new pair)) where
   -- the least content of a field stays as it is where it is set
-  least_stays : (f : FieldShape) (ps : List (Part KeptItem)) → made old pair.old ps ≡ least_part f (model.ends []) → settled f ps ≡ ps
+  least_stays : (f : FieldShape) (ps : List (Part KeptItem)) → made old pair.old ps ≡ least_part f (model.ends []) → normalized f ps ≡ ps
   least_stays f ps is =
-      settled_same old pair.old f.presence ps (inr (subst (λ v. IsShort (places v)) (sym is) (least_short f.number f.presence f.element)))
+      normalized_same old pair.old f.presence ps (inr (subst (λ v. IsShort (places v)) (sym is) (least_short f.number f.presence f.element)))
       (λ implicit. ap first_is_zero is ∙ least_nonzero f.number f.presence f.element implicit)
 
   pub carried_double : nat_eq c.case 6 ≡ true → (f e g : FieldShape) → field_at (fields old pair.old) c.number ≡ Some f → field_at (fields old pair.old) c.part ≡ Some e → field_at (fields new pair.new) c.number ≡ Some g → f.number ≡ c.number → e.number ≡ c.part → (first second : Content) (child : Option Message) → Puts c.number first (least_part f) → Puts c.part second (least_part e) → (m n : Kept) → IsSetTo old c.number first (ends pair.old []) m → IsSetTo old c.part second m n → message_of n ≡ carried sight old new pair c child
@@ -288,17 +288,17 @@ module _ (sight : Sight) (old new : Shape) (table : Table) (law : IsSight sight)
       let rising = (fields_are_found.0 old pair.old shape_old).rising in
       let first_is : f' ≡ f = one_found (fields old pair.old) c.number f' f found' found in
       let m_made : m ≡ kept_from pair.old ps [] =
-      m_is ∙ ap (λ x. with_content (fields old pair.old) x (settled x ps) (ends pair.old [])) first_is
+      m_is ∙ ap (λ x. with_content (fields old pair.old) x (normalized x ps) (ends pair.old [])) first_is
       ∙ ap (λ xs. with_content (fields old pair.old) f xs (ends pair.old [])) (least_stays f ps made_ps) ∙ with_content_empty old pair.old (fields old pair.old) f ps in
       let type_is : type_of m ≡ pair.old = ap type_of m_made ∙ parts_keep_types.0 ps (ends pair.old []) in
       let second_is : e' ≡ e = one_found (fields old pair.old) c.part e' e (ap (λ t. field_at (fields old t) c.part) (sym type_is) ∙ found_e') found_e in
-      let not_in : is_rival_number (fields old pair.old) e c.number ≡ false =
-      subst (λ k. is_rival_number (fields old pair.old) e k ≡ false) own (not_rival (fields old pair.old) rising f e (ap (field_at (fields old pair.old)) own ∙ found) (apart_sym f.oneof e.oneof (apart f e found found_e))) in
+      let not_in : is_sibling_number (fields old pair.old) e c.number ≡ false =
+      subst (λ k. is_sibling_number (fields old pair.old) e k ≡ false) own (not_sibling (fields old pair.old) rising f e (ap (field_at (fields old pair.old)) own ∙ found) (apart_sym f.oneof e.oneof (apart f e found found_e))) in
       let less : c.number < e.number = omega (arith, below, own_e) in
       let behind = behind_short pair.old (fields old pair.old) e c.number ps qs (made_short old pair.old ps (least_part f (model.ends [])) made_ps (least_short f.number f.presence f.element)) (contents_are_seen.0 c.number first) not_in (lt-ltb c.number e.number less) (le-ltb e.number c.number (omega (arith, less))) in
       let n_made : n ≡ kept_onto ps (kept_from pair.old qs []) =
-      n_is ∙ ap (λ t. with_content (fields old t) e' (settled e' qs) m) type_is
-      ∙ ap (λ x. with_content (fields old pair.old) x (settled x qs) m) second_is
+      n_is ∙ ap (λ t. with_content (fields old t) e' (normalized e' qs) m) type_is
+      ∙ ap (λ x. with_content (fields old pair.old) x (normalized x qs) m) second_is
       ∙ ap₂ (λ xs x. with_content (fields old pair.old) e xs x) (least_stays e qs made_qs) m_made ∙ behind in
       let carried_is : carried sight old new pair c child ≡ least_part f (least_part e (model.ends [])) =
       ap₂ (λ x y. carried_of sight x y (field_at (fields old pair.old) c.part) c child) found at

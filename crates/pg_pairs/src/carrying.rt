@@ -84,7 +84,8 @@ pub fn carry<V: View>(
         ≡ carried (sight_by V.View view.now old.now new.now) (shape_of old.now)
         (shape_of new.now) pair choice.now (option_map message_of child)) }
     ensures reached { IfOk result (λ m. (table : Table) →
-        IsAmong choice.now (choices (sight_by V.View view.now old.now new.now) table (shape_of old.now) (shape_of new.now) pair)
+        IsAmong choice.now (choices (sight_by V.View view.now old.now new.now) table
+        (shape_of old.now) (shape_of new.now) pair)
         → ChildReached (sight_by V.View view.now old.now new.now) (shape_of old.now)
         (shape_of new.now) table (choice_child (shape_of old.now)
         (shape_of new.now) pair choice.now) (option_map message_of child)

@@ -19,7 +19,7 @@ use crate::carried::Beside;
 use crate::item::Sides;
 use crate::shown::{count, held_at, is_same_key, is_same_leaf, shown};
 use crate::view::View;
-use pg_dyn::{Content, DynError, Message, UnknownRecord, Value, encode_outside};
+use pg_dyn::{Content, DynError, Message, UnknownRecord, Value, encode_unshared};
 use pg_schema::{Element, Field, Schema, TypeId};
 use std::alloc::{AllocError, Global};
 
@@ -90,7 +90,7 @@ fn is_same_outside<V: View>(
         (fields (shape_of sides.now.new.now) (type_of read.now)) (message_of message.now))) }
 {
     let kept = outside_bytes(alloc, sides.new, read)?;
-    match encode_outside(alloc, sides.old, message, sides.new, read.type_id()) {
+    match encode_unshared(alloc, sides.old, message, sides.new, read.type_id()) {
         Ok(written) => Ok(kept.as_slice() == written.as_slice()),
         Err(DynError::Memory) => Err(AllocError),
         // A part of an encoding isn't too long.

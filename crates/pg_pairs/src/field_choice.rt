@@ -13,11 +13,9 @@ use crate::element::are_like;
 use crate::gap_cost::{child_body, gap_body};
 use crate::table::Table;
 use crate::view::View;
+use pg_dyn::MAX_ENCODING_LEN;
 use pg_schema::{Element, Field, Presence, Scalar, Schema, TypeId};
 use std::alloc::AllocError;
-
-/// An encoding has at most that many bytes (Protocol Buffers encoding guide, "Message Structure").
-pub(crate) const CAP: u64 = 0x7fff_ffff;
 
 /// Whether zero counts as an item of the old field beside the new one.
 pub(crate) fn zero_counts(old: &Field, new: &Field) -> bool
@@ -92,7 +90,7 @@ pub(crate) fn offer(
     let Some(cost) = cost else {
         return Ok(());
     };
-    if cost > CAP {
+    if cost > MAX_ENCODING_LEN as u64 {
         return Ok(());
     }
     choices.push(Choice {

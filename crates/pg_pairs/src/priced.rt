@@ -12,12 +12,12 @@ use crate::choice::{Choice, Pair};
 use crate::cost::{one_item, with_length};
 use crate::descent::{child_beside, children};
 use crate::edge::{Edge, Part};
-use crate::field_choice::CAP;
 use crate::least_cost::cheapest;
 use crate::prices::Prices;
 use crate::table::NoBounds;
 use crate::view::View;
 use crate::work::Work;
+use pg_dyn::MAX_ENCODING_LEN;
 use pg_schema::{Field, Presence, Schema};
 use std::alloc::{AllocError, Global};
 
@@ -90,7 +90,7 @@ fn price(old: &Schema, edge: &Edge, bound: u32) -> Option<u32>
     old.parts();
     let field = old.field(edge.from.old, edge.number)?;
     let cost = one_item(field, with_length(u64::from(bound)));
-    if cost > CAP {
+    if cost > MAX_ENCODING_LEN as u64 {
         return None;
     }
     Some(cost as u32)

@@ -23,7 +23,8 @@ pub fn run<S: Sources, T: Sources, W: Sink>(
 ) -> Result<u8, GateError>
     // The sink took exactly the text of the words' call and an answer granted to it.
     ensures printed { IfOk result (λ status. status ≢ 4 → Prints
-        (Grants (seen (S.may_give old.old) (S.may_lack old.old) (S.failures old.old) (S.failures old.new))
+        (Grants (seen (S.may_give old.old) (S.may_lack old.old)
+        (S.failures old.old) (S.failures old.new))
         (seen (T.may_give new.old) (T.may_lack new.old) (T.failures new.old) (T.failures new.new)))
         (texts words.now) status (W.taken sink.old) (W.taken sink.new)) }
 {

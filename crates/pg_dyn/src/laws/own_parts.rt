@@ -1,6 +1,6 @@
 //! Laws of the parts of a message of a type. Each is the contract of a function that does nothing.
 
-ghost use Rattle.pg_dyn.specs.OwnParts.{CellsAreWritten, ChildrenAreShorter, OneIsEmpty, OwnPartsFit, RivalsMutual};
+ghost use Rattle.pg_dyn.specs.OwnParts.{CellsAreWritten, ChildrenAreShorter, OneIsEmpty, OwnPartsFit, SiblingsMutual};
 
 /// The parts of a field fit it, and stand in order.
 pub fn own_parts_fit()
@@ -12,9 +12,9 @@ pub fn one_is_empty()
     ensures { OneIsEmpty }
 {}
 
-/// Rivals in a oneof are so either way round, and have two numbers.
-pub fn rivals_mutual()
-    ensures { RivalsMutual }
+/// Siblings in a oneof are so either way round, and have two numbers.
+pub fn siblings_mutual()
+    ensures { SiblingsMutual }
 {}
 
 /// Each child of a message has fewer bytes than the message.

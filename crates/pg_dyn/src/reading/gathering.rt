@@ -10,8 +10,8 @@ ghost use Rattle.pg_dyn.specs.ByFields.{StopsFor};
 ghost use Rattle.pg_dyn.specs.Gathering.{AreGathered};
 
 use crate::accept::accepts;
+use crate::reading::oneof_runs::OneofRuns;
 use crate::reading::stop::Stop;
-use crate::reading::streaks::Streaks;
 use pg_schema::{Schema, TypeId};
 use pg_wire::{Record, Records};
 use std::alloc::Global;
@@ -24,7 +24,7 @@ pub(crate) struct Gathered<'a> {
     /// The others, in that order.
     pub(crate) unknown: Vec<Record<'a>>,
     /// Which of the known ones count in the oneofs.
-    pub(crate) streaks: Streaks,
+    pub(crate) oneof_runs: OneofRuns,
 }
 
 impl<'a> Gathered<'a> {
@@ -39,7 +39,7 @@ impl<'a> Gathered<'a> {
         Gathered {
             known: Vec::new(alloc),
             unknown: Vec::new(alloc),
-            streaks: Streaks::new(alloc),
+            oneof_runs: OneofRuns::new(alloc),
         }
     }
 
@@ -55,7 +55,7 @@ impl<'a> Gathered<'a> {
     {
         match schema.field(type_id, found.number) {
             Some(field) if accepts(field, found.wire_type) => {
-                self.streaks.note(field, self.known.len())?;
+                self.oneof_runs.note(field, self.known.len())?;
                 self.known.push(found)?;
             }
             _ => self.unknown.push(found)?,

@@ -16,7 +16,7 @@ ghost use Rattle.pg_dyn.specs.Content.{is_unknown};
 ghost use Rattle.pg_dyn.specs.BorrowedItems.{ItemFits};
 ghost use Rattle.pg_dyn.specs.Decoding.{dec, read_records};
 ghost use Rattle.pg_dyn.specs.Fits.{Fits};
-ghost use Rattle.pg_dyn.specs.Gathering.{AreGathered, AreStreaks, IsCounted, NumbersRise};
+ghost use Rattle.pg_dyn.specs.Gathering.{AreGathered, AreOneofRuns, IsCounted, NumbersRise};
 ghost use Rattle.pg_dyn.specs.Kept.{ends, message_of, type_of};
 ghost use Rattle.pg_dyn.specs.Borrowed.{HasKeys, IsFilled, fields_onto};
 ghost use Rattle.pg_dyn.specs.Seen.{Rises};
@@ -25,12 +25,12 @@ ghost use Rattle.pg_dyn.specs.Steps.{HeldFits, IsShallowIn};
 use crate::message_ref::{ContentRef, EntryRef, MessageRef, ValueRef};
 use crate::reading::elements::scalar_of;
 use crate::reading::gathering::Gathered;
+use crate::reading::oneof_runs::OneofRuns;
 use crate::reading::ordering::last_of_keys;
 use crate::reading::parts::{or_zero, read_parts};
 use crate::reading::scalars::{read_last, read_list};
 use crate::reading::sorting::{by_number, run_end};
 use crate::reading::stop::Stop;
-use crate::reading::streaks::Streaks;
 use pg_schema::{Element, Field, Presence, Scalar, Schema, TypeId};
 use pg_wire::Record;
 use std::alloc::Global;
@@ -209,15 +209,15 @@ fn counted<'a>(
     schema: &Schema,
     type_id: TypeId,
     known: &[Record<'a>],
-    streaks: &Streaks,
+    oneof_runs: &OneofRuns,
     levels: usize,
 ) -> Result<Vec<Record<'a>>, Stop>
     requires is_schema { IsSchema schema.now }
     requires are_records { AllByRecursion IsRecord (map seen_record known.now) }
     requires known { AllByRecursion (λ r. is_unknown (fields (shape_of schema.now) type_id) r
         ≡ false) (map seen_record known.now) }
-    requires streaks { AreStreaks (fields (shape_of schema.now) type_id)
-        (map seen_record known.now) streaks.now }
+    requires oneof_runs { AreOneofRuns (fields (shape_of schema.now) type_id)
+        (map seen_record known.now) oneof_runs.now }
     ensures ok { IfOk result (λ left. IsCounted (fields (shape_of schema.now) type_id)
         (map seen_record known.now) (map seen_record left.items)) }
     ensures good { IfOk result (λ left. RecordsGood (shape_of schema.now) levels
@@ -232,7 +232,7 @@ fn counted<'a>(
     for place in 0..known.len() {
         let record = known[place];
         if let Some(field) = schema.field(type_id, record.number) {
-            if streaks.counts(field, place) {
+            if oneof_runs.counts(field, place) {
                 counted.push(record)?;
             } else {
                 read_content(alloc, schema, field, &known[place..place + 1], levels)?;
@@ -318,12 +318,12 @@ fn read_gathered<'a>(
     let Gathered {
         known,
         unknown,
-        streaks,
+        oneof_runs,
     } = gathered;
-    let left = if streaks.all_count {
+    let left = if oneof_runs.all_count {
         known
     } else {
-        counted(alloc, schema, type_id, &known, &streaks, levels)?
+        counted(alloc, schema, type_id, &known, &oneof_runs, levels)?
     };
     let sorted = by_number(left)?;
     let fields = read_contents(alloc, schema, type_id, &sorted, levels)?;

@@ -2,7 +2,7 @@
 
 ghost use Rattle.std.specs.Prelude.{◌≡◌, [], IfOk};
 ghost use Rattle.pg_dyn.specs.BorrowedItems.{AreAlike, key_of};
-ghost use Rattle.pg_dyn.specs.Settled.{placed};
+ghost use Rattle.pg_dyn.specs.Normalized.{placed};
 
 use crate::message_ref::EntryRef;
 use crate::reading::entries::put_in;
@@ -15,11 +15,11 @@ fn put_all<'a>(alloc: Global, entries: Vec<EntryRef<'a>>) -> Result<Vec<EntryRef
     requires { AreAlike entries.items }
     ensures { IfOk result (λ v. v.items ≡ placed key_of [] entries.entry.items) }
 {
-    let mut settled = Vec::new(alloc);
+    let mut normalized = Vec::new(alloc);
     for entry in entries {
-        put_in(&mut settled, entry)?;
+        put_in(&mut normalized, entry)?;
     }
-    Ok(settled)
+    Ok(normalized)
 }
 
 /// The entries by rising key, of each key the last.

@@ -13,7 +13,7 @@ use crate::accept::is_own;
 use crate::message_ref::{ContentRef, ValueRef};
 use crate::reading::elements::scalar_of;
 use crate::reading::items::{left, list_left};
-use crate::reading::rows::push_packed;
+use crate::reading::packed::push_packed;
 use crate::reading::stop::Stop;
 use crate::scalar::item_in;
 use pg_schema::Field;

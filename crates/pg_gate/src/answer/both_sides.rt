@@ -34,12 +34,16 @@ pub(crate) fn compile_both<S: Sources, T: Sources>(
     new: &mut T,
 ) -> Result<BothSides, GateError>
     ensures old_compiled { IfOk result (λ both. IsSide
-        (world (S.may_give old.old) (S.may_lack old.old) old_files.now.folder.now (paths_of old_files.now.paths.now)) both.old.schema) }
+        (world (S.may_give old.old) (S.may_lack old.old)
+        old_files.now.folder.now (paths_of old_files.now.paths.now)) both.old.schema) }
     ensures new_compiled { IfOk result (λ both. IsSide
-        (world (T.may_give new.old) (T.may_lack new.old) new_files.now.folder.now (paths_of new_files.now.paths.now)) both.new.schema) }
+        (world (T.may_give new.old) (T.may_lack new.old)
+        new_files.now.folder.now (paths_of new_files.now.paths.now)) both.new.schema) }
     ensures refused { IfErr result (IsSidesError
-        (world (S.may_give old.old) (S.may_lack old.old) old_files.now.folder.now (paths_of old_files.now.paths.now))
-        (world (T.may_give new.old) (T.may_lack new.old) new_files.now.folder.now (paths_of new_files.now.paths.now))) }
+        (world (S.may_give old.old) (S.may_lack old.old)
+        old_files.now.folder.now (paths_of old_files.now.paths.now))
+        (world (T.may_give new.old) (T.may_lack new.old)
+        new_files.now.folder.now (paths_of new_files.now.paths.now))) }
     ensures old_counted { S.failures old.new ≡ S.failures old.old + side_failures Side.Old result }
     ensures new_counted { T.failures new.new ≡ T.failures new.old + side_failures Side.New result }
     ensures old_given { S.may_give old.new ≡ S.may_give old.old }

@@ -144,13 +144,17 @@ fn find<S: Sources, T: Sources>(
     new: &mut T,
 ) -> Result<Reply, GateError>
     ensures found { IfOk result (λ reply. Between
-        (world (S.may_give old.old) (S.may_lack old.old) asked.now.sides.now.old_dir.now (asked.now.sides.now.old.now ∷ []))
-        (world (T.may_give new.old) (T.may_lack new.old) asked.now.sides.now.new_dir.now (asked.now.sides.now.new.now ∷ []))
+        (world (S.may_give old.old) (S.may_lack old.old)
+        asked.now.sides.now.old_dir.now (asked.now.sides.now.old.now ∷ []))
+        (world (T.may_give new.old) (T.may_lack new.old)
+        asked.now.sides.now.new_dir.now (asked.now.sides.now.new.now ∷ []))
         (λ a b. IsGateReply a b asked.now.root.now asked.now.certificate_only asked.now.both
         reply)) }
     ensures refused { IfErr result (IsGateError asked.now.root.now
-        (world (S.may_give old.old) (S.may_lack old.old) asked.now.sides.now.old_dir.now (asked.now.sides.now.old.now ∷ []))
-        (world (T.may_give new.old) (T.may_lack new.old) asked.now.sides.now.new_dir.now (asked.now.sides.now.new.now ∷ []))) }
+        (world (S.may_give old.old) (S.may_lack old.old)
+        asked.now.sides.now.old_dir.now (asked.now.sides.now.old.now ∷ []))
+        (world (T.may_give new.old) (T.may_lack new.old)
+        asked.now.sides.now.new_dir.now (asked.now.sides.now.new.now ∷ []))) }
     ensures old_counted { S.failures old.new ≡ S.failures old.old + side_failures Side.Old result }
     ensures new_counted { T.failures new.new ≡ T.failures new.old + side_failures Side.New result }
     ensures old_given { S.may_give old.new ≡ S.may_give old.old }

@@ -73,7 +73,8 @@ pub(crate) fn shown<S: Sources>(
         (world (S.may_give source.old) (S.may_lack source.old) folder.now (file.now ∷ []))
         (λ schema. IsShown schema root.now word.now (string_bytes text))) }
     ensures refused { IfErr result (IsShowError
-        (world (S.may_give source.old) (S.may_lack source.old) folder.now (file.now ∷ [])) root.now word.now) }
+        (world (S.may_give source.old) (S.may_lack source.old)
+        folder.now (file.now ∷ [])) root.now word.now) }
     ensures counted { S.failures source.new
         ≡ S.failures source.old + call_failures Side.Old result }
     ensures same_given { S.may_give source.new ≡ S.may_give source.old }

@@ -179,11 +179,15 @@ pub(crate) fn verify<S: Sources, T: Sources>(
     new: &mut T,
 ) -> Result<Finding, CallError>
     ensures found { IfOk result (IsVerified certificate.now
-        (world (S.may_give old.old) (S.may_lack old.old) sides.now.old_dir.now (sides.now.old.now ∷ []))
-        (world (T.may_give new.old) (T.may_lack new.old) sides.now.new_dir.now (sides.now.new.now ∷ []))) }
+        (world (S.may_give old.old) (S.may_lack old.old)
+        sides.now.old_dir.now (sides.now.old.now ∷ []))
+        (world (T.may_give new.old) (T.may_lack new.old)
+        sides.now.new_dir.now (sides.now.new.now ∷ []))) }
     ensures refused { IfErr result (IsVerifyError certificate.now
-        (world (S.may_give old.old) (S.may_lack old.old) sides.now.old_dir.now (sides.now.old.now ∷ []))
-        (world (T.may_give new.old) (T.may_lack new.old) sides.now.new_dir.now (sides.now.new.now ∷ []))) }
+        (world (S.may_give old.old) (S.may_lack old.old)
+        sides.now.old_dir.now (sides.now.old.now ∷ []))
+        (world (T.may_give new.old) (T.may_lack new.old)
+        sides.now.new_dir.now (sides.now.new.now ∷ []))) }
     ensures old_counted { S.failures old.new ≡ S.failures old.old + call_failures Side.Old result }
     ensures new_counted { T.failures new.new ≡ T.failures new.old + call_failures Side.New result }
     ensures old_given { S.may_give old.new ≡ S.may_give old.old }

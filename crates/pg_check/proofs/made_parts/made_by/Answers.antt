@@ -1,5 +1,5 @@
 use Rattle.std.proofs.Common.{◌∙◌, map, ap, subst}
-use Rattle.pg_check.specs.Groups.{group}
+use Rattle.pg_check.specs.ByScope.{in_scope}
 use Rattle.pg_check.specs.MadeEnums.{made_enum}
 use Rattle.pg_check.specs.MadeParts.{EachIs, IsFileOf, IsTypeOf, grouped_tree, placed_enums, placed_messages}
 use Rattle.pg_check.specs.MadeServices.{service, service_ids}
@@ -13,8 +13,8 @@ returns c =
     let s = source c.args.file.now in
     let in_types = placed_messages c.args.types s.tree in
     let in_enums = placed_enums c.args.enums s.tree in
-    let types = group c.in_ok-in_types.in_types in
-    let enums = group c.in_ok-in_enums.in_enums in
+    let types = in_scope c.in_ok-in_types.in_types in
+    let enums = in_scope c.in_ok-in_enums.in_enums in
     let trees = ap (map (grouped_tree s.targets types enums)) (ap (map outline.message) c.deref-4.ensures.value ∙ c.in_ok-messages.ensures)
     ∙ trees_are s.targets types enums in_types in_enums c.in_ok-in_types.ensures c.in_ok-in_enums.ensures (outline.file_messages s.tree) in
     record {

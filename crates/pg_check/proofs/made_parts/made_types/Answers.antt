@@ -1,4 +1,4 @@
-use Rattle.pg_check.specs.Groups.{group}
+use Rattle.pg_check.specs.ByScope.{in_scope}
 use Rattle.pg_check.specs.MadeParts.{IsTypeOf, grouped_tree}
 use Rattle.pg_check.specs.Outline.{message}
 use Rattle.pg_check.proofs.Eachs.{each-more}
@@ -7,5 +7,5 @@ use Rattle.pg_check.specs.EnumPlaces.{target_in}
 
 pub loop-one-preserved : goal.loop-one-preserved
 loop-one-preserved c =
-    each-more IsTypeOf (grouped_tree (target_in c.args.targets.now) (group c.args.types.now) (group c.args.enums.now)) message c.args.found.now c.loop-one.one-index
+    each-more IsTypeOf (grouped_tree (target_in c.args.targets.now) (in_scope c.args.types.now) (in_scope c.args.enums.now)) message c.args.found.now c.loop-one.one-index
     c.one-item.result c.loop-one.made.items c.push.new.self.items c.in_ok-next.next c.loop-one-test.true c.one-item.is c.in_ok-push.ensures.items c.in_ok-next.ensures c.loop-one.invariant

@@ -11,7 +11,7 @@ returns-clause-ok g c =
     let lengths = c.deref.ensures.value ∙ c.in_ok-len.ensures.inner ∙ ap (λ xs. xs ++ inner_lengths (shape_of c.args.schema.now) m) c.new-lengths.ensures.items in
     let wrote = c.in_ok-write_message.ensures.ok [] (lengths ∙ sym (append-nil (inner_lengths (shape_of c.args.schema.now) m))) in
     let is : c.write_message.new.out.items ≡ own_bytes (shape_of c.args.schema.now) m = wrote.0 ∙ ap (λ xs. xs ++ own_bytes (shape_of c.args.schema.now) m) c.in_ok-out.ensures.items in
-    (is, omega (arith, ap length is, c.in_ok-len.ensures.len, c.if-len-gt-MOST.false))
+    (is, omega (arith, ap length is, c.in_ok-len.ensures.len, c.if-len-gt-MAX_ENCODING_LEN.false))
 
 pub returns-in_err-write_message-clause-err : goal.returns-in_err-write_message-clause-err
 returns-in_err-write_message-clause-err g c =

@@ -89,14 +89,14 @@ check_known-returns t c =
     let no_map : is_map f.presence ≡ false = not_map c.args.field.now.presence c.in_default.not-Map in
     let other : same_wire r.wire (form_wire (form f.element)) ≡ false = sym c.is_own.ensures ∙ c.if-is_own.false in
     let packable : is_packable f.element ≡ true = packable_of f r c.requires.taken no_map other in
-    let result = c.check_row.result in
+    let result = c.check_packed.result in
     record {
       readable = on_ok_map result (λ h. steps.row_reads shape f r no_map packable other
-          (subst (λ s. is_some (packed_leaves (scalar_form s) r.body) ≡ true) c.scalar_of.ensures h)) c.check_row.ensures.readable;
+          (subst (λ s. is_some (packed_leaves (scalar_form s) r.body) ≡ true) c.scalar_of.ensures h)) c.check_packed.ensures.readable;
       shallow = on_any_ok result (steps.row_shallow shape f r no_map packable other c.args.levels);
       err = if_err _ _ result (λ e h. steps.row_refused shape f r no_map packable other c.args.levels c.args.at e
-          (subst (λ s. RowRefused s r.body c.args.at e) c.scalar_of.ensures h)) c.check_row.ensures.err;
-      not_memory = c.check_row.ensures.not_memory;
+          (subst (λ s. RowRefused s r.body c.args.at e) c.scalar_of.ensures h)) c.check_packed.ensures.err;
+      not_memory = c.check_packed.ensures.not_memory;
     }
 
 pub check_entry-returns-in_err-has_value-clause-err : goal.check_entry-returns-in_err-has_value-clause-err

@@ -5,7 +5,7 @@ use Rattle.pg_dyn.specs.ContentFaults.{HasKeyTwice}
 use Rattle.pg_dyn.specs.Told.{TakesContent}
 use Rattle.pg_dyn.proofs.FitsSteps.{each_more}
 use Rattle.pg_dyn.proofs.PutLaws.{content_alike}
-use Rattle.pg_dyn.proofs.SettledLaws.{found_at}
+use Rattle.pg_dyn.proofs.NormalizedLaws.{found_at}
 use Rattle.pg_dyn.proofs.Standing.{any_from, stands_at}
 use Rattle.pg_dyn.proofs.filling.check_all_keys.Goals as goal
 

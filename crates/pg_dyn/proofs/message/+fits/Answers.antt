@@ -11,7 +11,7 @@ use Rattle.pg_dyn.specs.declared.message.Content.{Content}
 use Rattle.pg_dyn.specs.declared.message.Content.TheVariants as contents
 use Rattle.pg_dyn.specs.declared.message.UnknownRecord.{UnknownRecord}
 use Rattle.pg_dyn.specs.declared.message.Value.{Value}
-use Rattle.pg_dyn.specs.ContentFits.{ContentFits, HoldsContent, ItemFits, NoneRivals}
+use Rattle.pg_dyn.specs.ContentFits.{ContentFits, HoldsContent, ItemFits, NoneSiblings}
 use Rattle.pg_dyn.specs.Content.{is_unknown}
 use Rattle.pg_dyn.specs.ScalarItems.{IsItemOf}
 use Rattle.pg_dyn.specs.Seen.{IsKey, Rises, record_seen}
@@ -92,17 +92,17 @@ Content::fits-loop-entry_key-preserved t c =
     each_more (λ (x : Value × Value). IsItemOf c.in-Map-Map.key x.0 × ItemFits (shape_of c.args.schema.now) c.args.field.now.element x.1) c.deref-entry_key-items.result.now c.loop-entry_key.entry_key-index c.loop-entry_key-item.result c.loop-entry_key-test.true c.loop-entry_key-item.is c.loop-entry_key.invariant
     (c.is_item.ensures.0 c.if-not-is_item.false, c.fits-in-loop-entry_key.ensures.0 c.if-not-fits-2.false)
 
-pub Message::is_one_of-none_rivals-requires : goal.Message::is_one_of-none_rivals-requires
-Message::is_one_of-none_rivals-requires t c = subst Rises (sym c.deref.ensures.value) c.self.invariant.rises
+pub Message::is_one_of-none_siblings-requires : goal.Message::is_one_of-none_siblings-requires
+Message::is_one_of-none_siblings-requires t c = subst Rises (sym c.deref.ensures.value) c.self.invariant.rises
 
-pub Message::is_one_of-returns-then-not-none_rivals : goal.Message::is_one_of-returns-then-not-none_rivals
-Message::is_one_of-returns-then-not-none_rivals t c =
+pub Message::is_one_of-returns-then-not-none_siblings : goal.Message::is_one_of-returns-then-not-none_siblings
+Message::is_one_of-returns-then-not-none_siblings t c =
     let a = c.self.inside in (
       (λ e. absurd (true≢false (sym e))),
       λ fits.
           let by = contents_from_fits (shape_of c.args.schema.now) a.type_id a.fields.items (map record_seen a.unknown.items) c.args.self.now c.self.view_is c.requires.shape c.self.invariant.filled c.self.invariant.keys fits in
-          let apart = subst (NoneRivals (fields (shape_of c.args.schema.now) a.type_id)) (sym c.deref.ensures.value) by.apart in
-          absurd (true≢false (sym (c.none_rivals.ensures.1 apart) ∙ c.if-not-none_rivals.true)),
+          let apart = subst (NoneSiblings (fields (shape_of c.args.schema.now) a.type_id)) (sym c.deref.ensures.value) by.apart in
+          absurd (true≢false (sym (c.none_siblings.ensures.1 apart) ∙ c.if-not-none_siblings.true)),
     )
 
 pub Message::is_one_of-returns : goal.Message::is_one_of-returns
@@ -113,7 +113,7 @@ Message::is_one_of-returns t c =
           fits_from_contents (shape_of c.args.schema.now) a.type_id a.fields.items (map record_seen a.unknown.items) c.args.self.now c.self.view_is c.self.invariant.rises (record {
             type_is_there = c.has.ensures.0 c.if-not-has.false;
             each = each_from_take (HoldsContent (shape_of c.args.schema.now) a.type_id) _ _ c.loop-number.number-index c.deref-number-items.ensures.value c.loop-number-test.false c.loop-number.invariant;
-            apart = subst (NoneRivals (fields (shape_of c.args.schema.now) a.type_id)) c.deref.ensures.value (c.none_rivals.ensures.0 c.if-not-none_rivals.false);
+            apart = subst (NoneSiblings (fields (shape_of c.args.schema.now) a.type_id)) c.deref.ensures.value (c.none_siblings.ensures.0 c.if-not-none_siblings.false);
             unknown = all_unknown (fields (shape_of c.args.schema.now) a.type_id) a.unknown.items
                 (subst (λ (us : List UnknownRecord). AllByRecursion (λ (u : UnknownRecord). is_unknown (fields (shape_of c.args.schema.now) a.type_id) (record_seen u) ≡ true) us) c.deref-2.ensures.value (c.unknown_fit.ensures.0 e)) c.self.invariant.records;
           })),

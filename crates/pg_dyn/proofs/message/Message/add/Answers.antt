@@ -6,9 +6,9 @@ use Rattle.pg_schema.specs.Shape.{FieldShape, fields, field_at}
 use Rattle.pg_dyn.specs.declared.error.DynError.{DynError}
 use Rattle.pg_dyn.specs.Fits.{Fits}
 use Rattle.pg_dyn.specs.Kept.{type_of}
-use Rattle.pg_dyn.specs.Replacing.{with_parts, without_rivals}
+use Rattle.pg_dyn.specs.Replacing.{with_parts, without_siblings}
 use Rattle.pg_dyn.specs.Seen.{content_seen, record_seen}
-use Rattle.pg_dyn.specs.Setting.{settled}
+use Rattle.pg_dyn.specs.Setting.{normalized}
 use Rattle.pg_dyn.specs.Told.{ItemsFit}
 use Rattle.pg_dyn.proofs.FitsChecks.{none_found, same_field}
 use Rattle.pg_dyn.proofs.ReplacingLaws.{type_shown}
@@ -47,15 +47,15 @@ returns-clause-ok c =
     let f = field_shape c.in-Some.field.now in
     let found = ap (λ (t : TypeId). field_at (fields (shape_of c.args.schema.now) t) c.args.number) same ∙ sym c.in-Some.ensures.shape in
     let number = found_number (fields (shape_of c.args.schema.now) a.type_id) c.args.number f (sym c.in-Some.ensures.shape) in
-    elim c.match-put_content.branch as (λ b. OnOk c.match-put_content.result ((g : FieldShape) → field_at (fields (shape_of c.args.schema.now) (type_of c.args.self.now)) c.args.number ≡ Some g → c.put_content.new.self ≡ with_parts c.args.number (settled g (content_seen c.args.number c.args.content)) c.args.self.now)) [
+    elim c.match-put_content.branch as (λ b. OnOk c.match-put_content.result ((g : FieldShape) → field_at (fields (shape_of c.args.schema.now) (type_of c.args.self.now)) c.args.number ≡ Some g → c.put_content.new.self ≡ with_parts c.args.number (normalized g (content_seen c.args.number c.args.content)) c.args.self.now)) [
       | in-Ok w ↦
-          subst (λ (r : Result (Unit {0}) DynError). OnOk r ((g : FieldShape) → field_at (fields (shape_of c.args.schema.now) (type_of c.args.self.now)) c.args.number ≡ Some g → c.put_content.new.self ≡ with_parts c.args.number (settled g (content_seen c.args.number c.args.content)) c.args.self.now))
+          subst (λ (r : Result (Unit {0}) DynError). OnOk r ((g : FieldShape) → field_at (fields (shape_of c.args.schema.now) (type_of c.args.self.now)) c.args.number ≡ Some g → c.put_content.new.self ≡ with_parts c.args.number (normalized g (content_seen c.args.number c.args.content)) c.args.self.now))
           (sym w.result-is)
           (λ g there.
-          w.in-Ok.ensures.ok ∙ ap (λ (k : ℕ). with_parts k (settled (field_shape c.in-Some.field.now) (content_seen k c.args.content)) c.args.self.now) number
-          ∙ ap (λ (x : FieldShape). with_parts c.args.number (settled x (content_seen c.args.number c.args.content)) c.args.self.now) (same_field f g (sym found ∙ there)))
+          w.in-Ok.ensures.ok ∙ ap (λ (k : ℕ). with_parts k (normalized (field_shape c.in-Some.field.now) (content_seen k c.args.content)) c.args.self.now) number
+          ∙ ap (λ (x : FieldShape). with_parts c.args.number (normalized x (content_seen c.args.number c.args.content)) c.args.self.now) (same_field f g (sym found ∙ there)))
       | in-Err w ↦
-          subst (λ (r : Result (Unit {0}) DynError). OnOk r ((g : FieldShape) → field_at (fields (shape_of c.args.schema.now) (type_of c.args.self.now)) c.args.number ≡ Some g → c.put_content.new.self ≡ with_parts c.args.number (settled g (content_seen c.args.number c.args.content)) c.args.self.now))
+          subst (λ (r : Result (Unit {0}) DynError). OnOk r ((g : FieldShape) → field_at (fields (shape_of c.args.schema.now) (type_of c.args.self.now)) c.args.number ≡ Some g → c.put_content.new.self ≡ with_parts c.args.number (normalized g (content_seen c.args.number c.args.content)) c.args.self.now))
           (sym w.result-is) tt
     ]
 
@@ -66,16 +66,16 @@ returns-clause-fits c =
     let f = field_shape c.in-Some.field.now in
     let found = ap (λ (t : TypeId). field_at (fields (shape_of c.args.schema.now) t) c.args.number) same ∙ sym c.in-Some.ensures.shape in
     elim c.match-put_content.branch as (λ b. OnOk c.match-put_content.result ((g : FieldShape) → field_at (fields (shape_of c.args.schema.now) (type_of c.args.self.now)) c.args.number ≡ Some g
-    → Fits (shape_of c.args.schema.now) (without_rivals (fields (shape_of c.args.schema.now) (type_of c.args.self.now)) g c.args.self.now) → Fits (shape_of c.args.schema.now) (without_rivals (fields (shape_of c.args.schema.now) (type_of c.args.self.now)) g c.put_content.new.self))) [
+    → Fits (shape_of c.args.schema.now) (without_siblings (fields (shape_of c.args.schema.now) (type_of c.args.self.now)) g c.args.self.now) → Fits (shape_of c.args.schema.now) (without_siblings (fields (shape_of c.args.schema.now) (type_of c.args.self.now)) g c.put_content.new.self))) [
       | in-Ok w ↦
           subst (λ (r : Result (Unit {0}) DynError). OnOk r ((g : FieldShape) → field_at (fields (shape_of c.args.schema.now) (type_of c.args.self.now)) c.args.number ≡ Some g
-          → Fits (shape_of c.args.schema.now) (without_rivals (fields (shape_of c.args.schema.now) (type_of c.args.self.now)) g c.args.self.now) → Fits (shape_of c.args.schema.now) (without_rivals (fields (shape_of c.args.schema.now) (type_of c.args.self.now)) g c.put_content.new.self)))
+          → Fits (shape_of c.args.schema.now) (without_siblings (fields (shape_of c.args.schema.now) (type_of c.args.self.now)) g c.args.self.now) → Fits (shape_of c.args.schema.now) (without_siblings (fields (shape_of c.args.schema.now) (type_of c.args.self.now)) g c.put_content.new.self)))
           (sym w.result-is)
           (λ g there.
-          subst (λ (x : FieldShape). Fits (shape_of c.args.schema.now) (without_rivals (fields (shape_of c.args.schema.now) (type_of c.args.self.now)) x c.args.self.now) → Fits (shape_of c.args.schema.now) (without_rivals (fields (shape_of c.args.schema.now) (type_of c.args.self.now)) x c.put_content.new.self))
+          subst (λ (x : FieldShape). Fits (shape_of c.args.schema.now) (without_siblings (fields (shape_of c.args.schema.now) (type_of c.args.self.now)) x c.args.self.now) → Fits (shape_of c.args.schema.now) (without_siblings (fields (shape_of c.args.schema.now) (type_of c.args.self.now)) x c.put_content.new.self))
           (same_field f g (sym found ∙ there)) w.in-Ok.ensures.fits)
       | in-Err w ↦
           subst (λ (r : Result (Unit {0}) DynError). OnOk r ((g : FieldShape) → field_at (fields (shape_of c.args.schema.now) (type_of c.args.self.now)) c.args.number ≡ Some g
-          → Fits (shape_of c.args.schema.now) (without_rivals (fields (shape_of c.args.schema.now) (type_of c.args.self.now)) g c.args.self.now) → Fits (shape_of c.args.schema.now) (without_rivals (fields (shape_of c.args.schema.now) (type_of c.args.self.now)) g c.put_content.new.self)))
+          → Fits (shape_of c.args.schema.now) (without_siblings (fields (shape_of c.args.schema.now) (type_of c.args.self.now)) g c.args.self.now) → Fits (shape_of c.args.schema.now) (without_siblings (fields (shape_of c.args.schema.now) (type_of c.args.self.now)) g c.put_content.new.self)))
           (sym w.result-is) tt
     ]

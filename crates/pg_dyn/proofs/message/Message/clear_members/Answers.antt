@@ -3,10 +3,10 @@ use Rattle.std.proofs.Common.{ℕ, map, not, sym, subst}
 use Rattle.std.specs.List.{AllByRecursion}
 use Rattle.pg_schema.specs.Parts.{field_shape}
 use Rattle.pg_dyn.specs.declared.message.Content.{Content}
-use Rattle.pg_dyn.specs.Replacing.{is_rival_number}
+use Rattle.pg_dyn.specs.Replacing.{is_sibling_number}
 use Rattle.pg_dyn.specs.Seen.{IsFilled, HasKeys, Rises, record_seen}
 use Rattle.pg_dyn.proofs.FieldListLaws.{rises-filter}
-use Rattle.pg_dyn.proofs.WithoutRivals.{cleared_shown, each_left}
+use Rattle.pg_dyn.proofs.WithoutSiblings.{cleared_shown, each_left}
 use Rattle.pg_dyn.proofs.message.Message.clear_members.Goals as goal
 
 pub invariant_of-self : goal.invariant_of-self
@@ -16,7 +16,7 @@ invariant_of-self c =
     let f = field_shape c.args.field.now in
     let is = sym c.remove_members.ensures in
     record {
-      rises = subst Rises is (rises-filter (λ (x : ℕ × Content). not (is_rival_number (map field_shape c.args.members.now) (field_shape c.args.field.now) x.0)) a.fields.items c.self.invariant.rises);
+      rises = subst Rises is (rises-filter (λ (x : ℕ × Content). not (is_sibling_number (map field_shape c.args.members.now) (field_shape c.args.field.now) x.0)) a.fields.items c.self.invariant.rises);
       filled = subst (AllByRecursion (λ (x : ℕ × Content). IsFilled x.1)) is (each_left (λ (x : ℕ × Content). IsFilled x.1) fs f a.fields.items c.self.invariant.filled);
       keys = subst (AllByRecursion (λ (x : ℕ × Content). HasKeys x.1)) is (each_left (λ (x : ℕ × Content). HasKeys x.1) fs f a.fields.items c.self.invariant.keys);
       records = c.self.invariant.records;

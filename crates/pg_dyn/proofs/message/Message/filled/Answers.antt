@@ -6,10 +6,10 @@ use Rattle.pg_schema.specs.Parts.{shape_of}
 use Rattle.pg_schema.specs.Shape.{fields, field_at}
 use Rattle.pg_dyn.specs.declared.message.Content.{Content}
 use Rattle.pg_dyn.specs.ContentFaults.{HasKeyTwice}
-use Rattle.pg_dyn.specs.ContentFits.{NoneRivals}
+use Rattle.pg_dyn.specs.ContentFits.{NoneSiblings}
 use Rattle.pg_dyn.specs.Fits.{Fits}
 use Rattle.pg_dyn.specs.Kept.{type_of}
-use Rattle.pg_dyn.specs.Replacing.{without_rivals}
+use Rattle.pg_dyn.specs.Replacing.{without_siblings}
 use Rattle.pg_dyn.specs.Seen.{Rises}
 use Rattle.pg_dyn.specs.Told.{TakesContent}
 use Rattle.pg_dyn.proofs.WholeSteps.{whole_more, fill_fits, rises_before, fact_of_next, facts_before}
@@ -26,12 +26,12 @@ loop-number-preserved c =
     let given = ap (λ xs. l.yielded ++ xs) (sym steps) ∙ l.invariant.given in
     let rises = subst Rises (sym given) c.requires.rises in
     let takes = subst (AllByRecursion (TakesContent shape type)) (sym given) c.requires.taken in
-    let apart = subst (NoneRivals (fields shape type)) (sym given) c.requires.apart in
+    let apart = subst (NoneSiblings (fields shape type)) (sym given) c.requires.apart in
     let (f, taken) = fact_of_next (TakesContent shape type) l.yielded rest x takes in
     let found_there : field_at (fields shape (type_of l.message)) x.0 ≡ Some f = ap (λ (t : TypeId). field_at (fields (shape_of c.args.schema.now) t) c.in-Some.number) l.invariant.whole.of_type ∙ taken.found in
     let is_new = c.in-Ok.ensures.ok f found_there in
     let whole = whole_more c.args.schema.now type l.yielded x.0 x.1 f l.message c.add.new.self l.invariant.whole (rises_before l.yielded rest x rises) taken.found is_new in
-    let put = subst (λ (t : TypeId). Fits (shape_of c.args.schema.now) (without_rivals (fields (shape_of c.args.schema.now) t) f c.loop-number.message) → Fits (shape_of c.args.schema.now) (without_rivals (fields (shape_of c.args.schema.now) t) f c.add.new.self)) l.invariant.whole.of_type (c.in-Ok.ensures.fits f found_there) in
+    let put = subst (λ (t : TypeId). Fits (shape_of c.args.schema.now) (without_siblings (fields (shape_of c.args.schema.now) t) f c.loop-number.message) → Fits (shape_of c.args.schema.now) (without_siblings (fields (shape_of c.args.schema.now) t) f c.add.new.self)) l.invariant.whole.of_type (c.in-Ok.ensures.fits f found_there) in
     record {
       given = append_assoc l.yielded (x ∷ []) _ ∙ given;
       whole = whole;

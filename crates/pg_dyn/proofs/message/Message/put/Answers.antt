@@ -1,36 +1,36 @@
--- The content is put into the field that takes it, and the rivals are taken out.
+-- The content is put into the field that takes it, and the siblings are taken out.
 use Rattle.std.proofs.Common.{◌≡◌, IfSome, map, ap, sym, subst, ◌∙◌}
 use Rattle.pg_schema.specs.declared.field.TypeId.{TypeId}
 use Rattle.pg_schema.specs.Parts.{field_shape, shape_of}
 use Rattle.pg_schema.specs.Shape.{FieldShape, fields, field_at}
 use Rattle.pg_dyn.specs.Fits.{Fits}
 use Rattle.pg_dyn.specs.Kept.{type_of}
-use Rattle.pg_dyn.specs.Replacing.{without_rivals}
+use Rattle.pg_dyn.specs.Replacing.{without_siblings}
 use Rattle.pg_dyn.specs.Seen.{record_seen}
 use Rattle.pg_dyn.specs.Told.{IsTaken, ItemsFit}
 use Rattle.pg_dyn.proofs.FitsChecks.{none_found, same_field}
-use Rattle.pg_dyn.proofs.PutLaws.{cleared_fits, settled_number}
+use Rattle.pg_dyn.proofs.PutLaws.{cleared_fits, normalized_number}
 use Rattle.pg_dyn.proofs.ReplacingLaws.{type_shown, type_of-with_parts}
 use Rattle.pg_dyn.proofs.SetSteps.{members_after, set_to}
 use Rattle.pg_dyn.proofs.Splitting.{found_number}
 use Rattle.pg_dyn.proofs.message.Message.put.Goals as goal
 
-pub held_rivals-members-requires-clause-found : goal.held_rivals-members-requires-clause-found
-held_rivals-members-requires-clause-found c =
+pub held_siblings-members-requires-clause-found : goal.held_siblings-members-requires-clause-found
+held_siblings-members-requires-clause-found c =
     let a = c.self.inside in
     let same : type_of c.args.self.now ≡ a.type_id = sym (ap type_of c.self.view_is) ∙ type_shown a.type_id a.fields.items (map record_seen a.unknown.items) in
     let found = sym c.in-Some.ensures.shape in
     let number = found_number (fields (shape_of c.args.schema.now) a.type_id) c.args.number (field_shape c.in-Some.field.now) found in
     ap (λ (t : TypeId). field_at (fields (shape_of c.args.schema.now) t) c.in-Some.field.now.number) same ∙ ap (field_at (fields (shape_of c.args.schema.now) a.type_id)) number ∙ found
 
-pub settle_rivals-requires : goal.settle_rivals-requires
-settle_rivals-requires c =
+pub replace_siblings-requires : goal.replace_siblings-requires
+replace_siblings-requires c =
     let f = field_shape c.in-Some.field.now in
     let put = c.put_content.new.self in
     let put_type : type_of put ≡ type_of c.args.self.now = ap type_of c.in_ok-put_content.ensures.ok ∙ type_of-with_parts f.number _ c.args.self.now in
-    subst (λ (t : TypeId). IfSome c.held_rivals-members.result (λ members. without_rivals (map field_shape members.now) f c.put_content.new.self ≡ without_rivals (fields (shape_of c.args.schema.now) t) f c.put_content.new.self)) (sym put_type)
+    subst (λ (t : TypeId). IfSome c.held_siblings-members.result (λ members. without_siblings (map field_shape members.now) f c.put_content.new.self ≡ without_siblings (fields (shape_of c.args.schema.now) t) f c.put_content.new.self)) (sym put_type)
     (members_after (λ members. map field_shape members.now) (fields (shape_of c.args.schema.now) (type_of c.args.self.now)) f _ c.args.self.now put c.in_ok-put_content.ensures.ok
-    (settled_number f.presence f.number c.args.content) c.held_rivals-members.result c.held_rivals-members.ensures)
+    (normalized_number f.presence f.number c.args.content) c.held_siblings-members.result c.held_siblings-members.ensures)
 
 pub put_content-requires-clause-found : goal.put_content-requires-clause-found
 put_content-requires-clause-found c =
@@ -66,8 +66,8 @@ returns-clause-ok c =
     let taken = subst (IsTaken (shape_of c.args.schema.now) (type_of c.args.self.now) c.args.number c.args.content) (same_field g f (sym given.found ∙ found)) given in
     let put = c.put_content.new.self in
     let put_type : type_of put ≡ type_of c.args.self.now = ap type_of c.in_ok-put_content.ensures.ok ∙ type_of-with_parts f.number _ c.args.self.now in
-    let new = c.settle_rivals.ensures ∙ ap (λ (t : TypeId). without_rivals (fields (shape_of c.args.schema.now) t) (field_shape c.in-Some.field.now) c.put_content.new.self) put_type in
-    set_to c.args.schema.now c.parts.ensures.checked c.args.number c.args.content f c.args.self.now put c.settle_rivals.new.self taken c.in_ok-put_content.ensures.ok new
+    let new = c.replace_siblings.ensures ∙ ap (λ (t : TypeId). without_siblings (fields (shape_of c.args.schema.now) t) (field_shape c.in-Some.field.now) c.put_content.new.self) put_type in
+    set_to c.args.schema.now c.parts.ensures.checked c.args.number c.args.content f c.args.self.now put c.replace_siblings.new.self taken c.in_ok-put_content.ensures.ok new
 
 pub returns-clause-fits : goal.returns-clause-fits
 returns-clause-fits c =
@@ -78,7 +78,7 @@ returns-clause-fits c =
     let same : type_of c.args.self.now ≡ a.type_id = sym (ap type_of c.self.view_is) ∙ type_shown a.type_id a.fields.items us in
     let put = c.put_content.new.self in
     let put_type : type_of put ≡ type_of c.args.self.now = ap type_of c.in_ok-put_content.ensures.ok ∙ type_of-with_parts f.number _ c.args.self.now in
-    let new = c.settle_rivals.ensures ∙ ap (λ (t : TypeId). without_rivals (fields (shape_of c.args.schema.now) t) (field_shape c.in-Some.field.now) c.put_content.new.self) put_type in
+    let new = c.replace_siblings.ensures ∙ ap (λ (t : TypeId). without_siblings (fields (shape_of c.args.schema.now) t) (field_shape c.in-Some.field.now) c.put_content.new.self) put_type in
     let cleared = cleared_fits c.args.schema.now c.parts.ensures.checked a.type_id f c.args.number (sym c.in-Some.ensures.shape) a.fields.items us c.args.self.now c.self.view_is c.self.invariant.rises c.self.invariant.filled c.self.invariant.keys c.requires.fits in
-    let here = subst (λ (t : TypeId). Fits (shape_of c.args.schema.now) (without_rivals (fields (shape_of c.args.schema.now) t) (field_shape c.in-Some.field.now) c.args.self.now)) (sym same) cleared in
+    let here = subst (λ (t : TypeId). Fits (shape_of c.args.schema.now) (without_siblings (fields (shape_of c.args.schema.now) t) (field_shape c.in-Some.field.now) c.args.self.now)) (sym same) cleared in
     subst (Fits shape) (sym new) (c.in_ok-put_content.ensures.fits here)

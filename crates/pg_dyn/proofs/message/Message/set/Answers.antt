@@ -1,4 +1,4 @@
--- A content that passes the tests is put in and the rivals taken out; one that doesn't comes back.
+-- A content that passes the tests is put in and the siblings taken out; one that doesn't comes back.
 use Rattle.std.proofs.Common.{◌≡◌, IfSome, map, ⊎_elim, refl, ap, sym, subst, ◌∙◌}
 use Rattle.pg_schema.specs.declared.field.TypeId.{TypeId}
 use Rattle.pg_schema.specs.Parts.{field_shape, shape_of}
@@ -7,10 +7,10 @@ use Rattle.pg_dyn.specs.declared.error.DynError.{DynError}
 use Rattle.pg_dyn.specs.ContentFaults.{ContentFault, IsLowest, MayRefuseFor}
 use Rattle.pg_dyn.specs.Fits.{Fits}
 use Rattle.pg_dyn.specs.Kept.{type_of}
-use Rattle.pg_dyn.specs.Replacing.{without_rivals}
+use Rattle.pg_dyn.specs.Replacing.{without_siblings}
 use Rattle.pg_dyn.specs.Seen.{record_seen}
 use Rattle.pg_dyn.specs.Told.{IsTaken}
-use Rattle.pg_dyn.proofs.PutLaws.{cleared_fits, content_alike, settled_number}
+use Rattle.pg_dyn.proofs.PutLaws.{cleared_fits, content_alike, normalized_number}
 use Rattle.pg_dyn.proofs.ReplacingLaws.{type_shown, type_of-with_parts}
 use Rattle.pg_dyn.proofs.SetSteps.{accepted, key_twice, may_refuse, members_after, number_is, set_to}
 use Rattle.pg_dyn.proofs.message.Message.set.Goals as goal
@@ -48,21 +48,21 @@ put_content-requires-clause-found c =
     let taken = subst (λ (t : TypeId). IsTaken (shape_of c.args.schema.now) t c.args.number c.args.content (field_shape c.in-Ok.field.now)) (sym same) c.in-Ok.ensures.ok in
     ap (field_at (fields (shape_of c.args.schema.now) (type_of c.args.self.now))) (number_is c.args.schema.now c.parts.ensures.checked c.args.number c.args.content (field_shape c.in-Ok.field.now) (type_of c.args.self.now) taken) ∙ taken.found
 
-pub held_rivals-members-requires-clause-found : goal.held_rivals-members-requires-clause-found
-held_rivals-members-requires-clause-found c =
+pub held_siblings-members-requires-clause-found : goal.held_siblings-members-requires-clause-found
+held_siblings-members-requires-clause-found c =
     let a = c.self.inside in
     let same : type_of c.args.self.now ≡ a.type_id = sym (ap type_of c.self.view_is) ∙ type_shown a.type_id a.fields.items (map record_seen a.unknown.items) in
     let taken = subst (λ (t : TypeId). IsTaken (shape_of c.args.schema.now) t c.args.number c.args.content (field_shape c.in-Ok.field.now)) (sym same) c.in-Ok.ensures.ok in
     ap (field_at (fields (shape_of c.args.schema.now) (type_of c.args.self.now))) (number_is c.args.schema.now c.parts.ensures.checked c.args.number c.args.content (field_shape c.in-Ok.field.now) (type_of c.args.self.now) taken) ∙ taken.found
 
-pub settle_rivals-requires : goal.settle_rivals-requires
-settle_rivals-requires c =
+pub replace_siblings-requires : goal.replace_siblings-requires
+replace_siblings-requires c =
     let f = field_shape c.in-Ok.field.now in
     let put = c.put_content.new.self in
     let put_type : type_of put ≡ type_of c.args.self.now = ap type_of c.in-Ok-put_content.ensures.ok ∙ type_of-with_parts f.number _ c.args.self.now in
-    subst (λ (t : TypeId). IfSome c.held_rivals-members.result (λ members. without_rivals (map field_shape members.now) f c.put_content.new.self ≡ without_rivals (fields (shape_of c.args.schema.now) t) f c.put_content.new.self)) (sym put_type)
+    subst (λ (t : TypeId). IfSome c.held_siblings-members.result (λ members. without_siblings (map field_shape members.now) f c.put_content.new.self ≡ without_siblings (fields (shape_of c.args.schema.now) t) f c.put_content.new.self)) (sym put_type)
     (members_after (λ members. map field_shape members.now) (fields (shape_of c.args.schema.now) (type_of c.args.self.now)) f _ c.args.self.now put c.in-Ok-put_content.ensures.ok
-    (settled_number f.presence f.number c.args.content) c.held_rivals-members.result c.held_rivals-members.ensures)
+    (normalized_number f.presence f.number c.args.content) c.held_siblings-members.result c.held_siblings-members.ensures)
 
 pub returns-in-Ok-put_content-clause-ok : goal.returns-in-Ok-put_content-clause-ok
 returns-in-Ok-put_content-clause-ok c =
@@ -72,8 +72,8 @@ returns-in-Ok-put_content-clause-ok c =
     let taken = subst (λ (t : TypeId). IsTaken (shape_of c.args.schema.now) t c.args.number c.args.content (field_shape c.in-Ok.field.now)) (sym same) c.in-Ok.ensures.ok in
     let put = c.put_content.new.self in
     let put_type : type_of put ≡ type_of c.args.self.now = ap type_of c.in-Ok-put_content.ensures.ok ∙ type_of-with_parts f.number _ c.args.self.now in
-    let new = c.settle_rivals.ensures ∙ ap (λ (t : TypeId). without_rivals (fields (shape_of c.args.schema.now) t) (field_shape c.in-Ok.field.now) c.put_content.new.self) put_type in
-    set_to c.args.schema.now c.parts.ensures.checked c.args.number c.args.content f c.args.self.now put c.settle_rivals.new.self taken c.in-Ok-put_content.ensures.ok new
+    let new = c.replace_siblings.ensures ∙ ap (λ (t : TypeId). without_siblings (fields (shape_of c.args.schema.now) t) (field_shape c.in-Ok.field.now) c.put_content.new.self) put_type in
+    set_to c.args.schema.now c.parts.ensures.checked c.args.number c.args.content f c.args.self.now put c.replace_siblings.new.self taken c.in-Ok-put_content.ensures.ok new
 
 pub returns-in-Ok-put_content-clause-fits : goal.returns-in-Ok-put_content-clause-fits
 returns-in-Ok-put_content-clause-fits c =
@@ -84,9 +84,9 @@ returns-in-Ok-put_content-clause-fits c =
     let same : type_of c.args.self.now ≡ a.type_id = sym (ap type_of c.self.view_is) ∙ type_shown a.type_id a.fields.items us in
     let put = c.put_content.new.self in
     let put_type : type_of put ≡ type_of c.args.self.now = ap type_of c.in-Ok-put_content.ensures.ok ∙ type_of-with_parts f.number _ c.args.self.now in
-    let new = c.settle_rivals.ensures ∙ ap (λ (t : TypeId). without_rivals (fields (shape_of c.args.schema.now) t) (field_shape c.in-Ok.field.now) c.put_content.new.self) put_type in
+    let new = c.replace_siblings.ensures ∙ ap (λ (t : TypeId). without_siblings (fields (shape_of c.args.schema.now) t) (field_shape c.in-Ok.field.now) c.put_content.new.self) put_type in
     let cleared = cleared_fits c.args.schema.now c.parts.ensures.checked a.type_id f c.args.number c.in-Ok.ensures.ok.found a.fields.items us c.args.self.now c.self.view_is c.self.invariant.rises c.self.invariant.filled c.self.invariant.keys c.requires.fits in
-    let here = subst (λ (t : TypeId). Fits (shape_of c.args.schema.now) (without_rivals (fields (shape_of c.args.schema.now) t) (field_shape c.in-Ok.field.now) c.args.self.now)) (sym same) cleared in
+    let here = subst (λ (t : TypeId). Fits (shape_of c.args.schema.now) (without_siblings (fields (shape_of c.args.schema.now) t) (field_shape c.in-Ok.field.now) c.args.self.now)) (sym same) cleared in
     subst (Fits shape) (sym new) (c.in-Ok-put_content.ensures.fits here)
 
 pub returns-in-Ok-put_content-clause-accepted : goal.returns-in-Ok-put_content-clause-accepted

@@ -17,7 +17,7 @@ use Rattle.pg_dyn.specs.Told.{TakesContent}
 use Rattle.pg_dyn.proofs.KeyLaws.{count_moved, each_moved}
 use Rattle.pg_dyn.proofs.Standing.{any_moved}
 use Rattle.pg_dyn.proofs.WholeSteps.{of_field, kept_under}
-use Rattle.pg_dyn.proofs.WholeFaults.{no_rivals_from, once, once_unsorted, whole_accepted, whole_key_twice, whole_refused, whole_twice, whole_unsorted}
+use Rattle.pg_dyn.proofs.WholeFaults.{no_siblings_from, once, once_unsorted, whole_accepted, whole_key_twice, whole_refused, whole_twice, whole_unsorted}
 use Rattle.pg_dyn.proofs.message.Message.whole.Goals as goal
 
 if_ok : {T E : Type 0} (r : Result T E) (P Q : T → Type 0) → ((x : T) → P x → Q x) → IfOk r P → IfOk r Q
@@ -101,7 +101,7 @@ filled-requires-clause-taken c =
 
 pub filled-requires-clause-apart : goal.filled-requires-clause-apart
 filled-requires-clause-apart c =
-    no_rivals_from (fields (shape_of c.args.schema.now) c.args.type_id) c.sort_by_key.new.self.items (λ o.
+    no_siblings_from (fields (shape_of c.args.schema.now) c.args.type_id) c.sort_by_key.new.self.items (λ o.
     let here = subst (λ (zs : List (ℕ × Content)). length (members (fields (shape_of c.args.schema.now) c.args.type_id) o zs) ≤ 1) c.deref-3.ensures.value (c.each_oneof_once.ensures.once c.if-not-each_oneof_once.false o) in
     here)
 

@@ -24,7 +24,7 @@ use Rattle.pg_dyn.proofs.EntriesByFields as entries
 use Rattle.pg_dyn.proofs.MapsByFields.{AreEntriesRead}
 use Rattle.pg_dyn.proofs.MapsByFields as maps
 use Rattle.pg_dyn.proofs.StopSteps.{stopped, handed_on, stops_for}
-use Rattle.pg_dyn.proofs.reading.nested.+reading.Goals.{read_entry-in-Message+in_ok-value-in-Message, read_entry-in-Scalar, counted-in-Some+then-counts+in_ok-push, counted-in-Some+else-counts+in_ok-read_content+in-Some+in-One+in-Msg-1, counted-in-Some+else-counts+in_ok-read_content+in-Some+in-One+in-Int-1, counted-in-Some+else-counts+in_ok-read_content+in-Some+in-Many-1, counted-in-Some+else-counts+in_ok-read_content+in-Some+in-Map-1, counted-in-Some+else-counts+in_ok-read_content+in-None-1, counted-in_default, read_gathered-then-streaks, read_gathered-else-streaks+in_ok-left}
+use Rattle.pg_dyn.proofs.reading.nested.+reading.Goals.{read_entry-in-Message+in_ok-value-in-Message, read_entry-in-Scalar, counted-in-Some+then-counts+in_ok-push, counted-in-Some+else-counts+in_ok-read_content+in-Some+in-One+in-Msg-1, counted-in-Some+else-counts+in_ok-read_content+in-Some+in-One+in-Int-1, counted-in-Some+else-counts+in_ok-read_content+in-Some+in-Many-1, counted-in-Some+else-counts+in_ok-read_content+in-Some+in-Map-1, counted-in-Some+else-counts+in_ok-read_content+in-None-1, counted-in_default, read_gathered-then-oneof_runs, read_gathered-else-oneof_runs+in_ok-left}
 use Rattle.pg_dyn.proofs.reading.nested.+reading.Goals as goal
 use Rattle.pg_wire.specs.declared.record.Record.{Record}
 use Rattle.pg_dyn.proofs.CountedRecords.{CountedUpTo}
@@ -50,10 +50,10 @@ counted-read_content-requires t c =
     let l = c.loop-place in
     let f = field_shape c.in-Some.field.now in
     let one =
-    counting.one_of shape c.args.levels fs up c.args.streaks.now c.args.known.now c.requires.are_records c.requires.known l.place l.counted.items
+    counting.one_of shape c.args.levels fs up c.args.oneof_runs.now c.args.known.now c.requires.are_records c.requires.known l.place l.counted.items
     l.invariant c.loop-place-test.true _ f (sym c.in-Some.ensures.shape) in
     let some =
-    counting.one_some shape c.args.levels fs up c.args.streaks.now c.args.known.now c.requires.are_records c.requires.known l.place l.counted.items
+    counting.one_some shape c.args.levels fs up c.args.oneof_runs.now c.args.known.now c.requires.are_records c.requires.known l.place l.counted.items
     l.invariant c.loop-place-test.true _ f (sym c.in-Some.ensures.shape) in
     (omega arith, (c.requires.is_schema, (is_field_of c.args.schema.now c.requires.is_schema c.args.type_id _ f (sym c.in-Some.ensures.shape), (one, some))))
 
@@ -66,7 +66,7 @@ counted-returns-in_err-read_content-clause-err t c =
     let f = field_shape c.in-Some.field.now in
     let (y, is, from) = err_from_is_err_and c.from_residual-in_err-read_content.result c.from_residual-in_err-read_content.ensures.1 in
     let one =
-    counting.one_good shape c.args.levels fs up c.args.streaks.now c.args.known.now c.requires.are_records c.requires.known l.place l.counted.items
+    counting.one_good shape c.args.levels fs up c.args.oneof_runs.now c.args.known.now c.requires.are_records c.requires.known l.place l.counted.items
     l.invariant c.loop-place-test.true _ f (sym c.in-Some.ensures.shape) in
     handed_on (StopsFor (RecordsGood shape c.args.levels fs (map seen_record c.args.known.now))) c.from_residual-in_err-read_content.result _ y is from
     (stops_for _ _ one _ c.in_err-read_content.ensures.err)
@@ -77,14 +77,14 @@ counted-returns-clause-ok t c =
     let fs = fields shape c.args.type_id in
     let up = rising c.args.schema.now c.requires.is_schema c.args.type_id in
     let l = c.loop-place in
-    counted_so_far fs up c.args.streaks.now c.args.known.now c.requires.are_records c.requires.known l.place l.counted.items l.invariant.counted
-    c.loop-place-test.false c.requires.streaks
+    counted_so_far fs up c.args.oneof_runs.now c.args.known.now c.requires.are_records c.requires.known l.place l.counted.items l.invariant.counted
+    c.loop-place-test.false c.requires.oneof_runs
 
 pub counted-returns-clause-good : goal.counted-returns-clause-good
 counted-returns-clause-good t c =
     let shape = shape_of c.args.schema.now in
     let fs = fields shape c.args.type_id in
-    counting.all_counted_good shape c.args.levels fs (rising c.args.schema.now c.requires.is_schema c.args.type_id) c.args.streaks.now c.args.known.now
+    counting.all_counted_good shape c.args.levels fs (rising c.args.schema.now c.requires.is_schema c.args.type_id) c.args.oneof_runs.now c.args.known.now
     c.loop-place.place c.loop-place.counted.items c.loop-place-test.false c.loop-place.invariant
 
 pub read_child-loop-record-init : goal.read_child-loop-record-init
@@ -394,17 +394,17 @@ pub read_gathered-read_contents-requires : goal.read_gathered-read_contents-requ
 read_gathered-read_contents-requires t c =
     let shape = shape_of c.args.schema.now in
     let (rs, are) = c.requires.gathered in
-    let left : IsLeft shape c.args.levels (fields shape c.args.type_id) rs c.if-streaks.left.items =
-    elim c.if-streaks.branch [
-      | read_gathered-then-streaks w ↦ rw w.left-is (gathered.all_left shape c.args.levels c.args.type_id rs c.args.gathered are w.if-streaks.true)
-      | read_gathered-else-streaks+in_ok-left w ↦
+    let left : IsLeft shape c.args.levels (fields shape c.args.type_id) rs c.if-oneof_runs.left.items =
+    elim c.if-oneof_runs.branch [
+      | read_gathered-then-oneof_runs w ↦ rw w.left-is (gathered.all_left shape c.args.levels c.args.type_id rs c.args.gathered are w.if-oneof_runs.true)
+      | read_gathered-else-oneof_runs+in_ok-left w ↦
           rw w.left-is
           (gathered.some_left shape c.args.levels c.args.type_id rs c.args.gathered are w.deref.result.now w.in_ok-left.left.items
           w.deref.ensures.value w.in_ok-left.ensures.ok w.in_ok-left.ensures.good)
     ] in
-    let by = subst (AreByNumber c.if-streaks.left.items) (sym c.deref-2.ensures.value) c.in_ok-sorted.ensures in
+    let by = subst (AreByNumber c.if-oneof_runs.left.items) (sym c.deref-2.ensures.value) c.in_ok-sorted.ensures in
     let up = rising c.args.schema.now c.requires.is_schema c.args.type_id in
-    let count = gathered.all_count shape c.args.levels c.args.type_id rs c.args.gathered are up c.if-streaks.left.items c.deref-2.result.now left by in
+    let count = gathered.all_count shape c.args.levels c.args.type_id rs c.args.gathered are up c.if-oneof_runs.left.items c.deref-2.result.now left by in
     (omega arith, (c.requires.is_schema, (c.requires.type_id, (by.rise, count))))
 
 pub read_gathered-returns-in_err-fields-clause-err : goal.read_gathered-returns-in_err-fields-clause-err
@@ -414,17 +414,17 @@ read_gathered-returns-in_err-fields-clause-err t c =
     handed_on (λ e. (rs : List WireRecord) → AreGathered shape c.args.type_id rs c.args.gathered
     → StopsFor (RecordsGood shape c.args.levels (fields shape c.args.type_id) rs) e) c.from_residual-in_err-fields.result _ y is from
     (λ rs are.
-    let left : IsLeft shape c.args.levels (fields shape c.args.type_id) rs c.if-streaks.left.items =
-    elim c.if-streaks.branch [
-      | read_gathered-then-streaks w ↦ rw w.left-is (gathered.all_left shape c.args.levels c.args.type_id rs c.args.gathered are w.if-streaks.true)
-      | read_gathered-else-streaks+in_ok-left w ↦
+    let left : IsLeft shape c.args.levels (fields shape c.args.type_id) rs c.if-oneof_runs.left.items =
+    elim c.if-oneof_runs.branch [
+      | read_gathered-then-oneof_runs w ↦ rw w.left-is (gathered.all_left shape c.args.levels c.args.type_id rs c.args.gathered are w.if-oneof_runs.true)
+      | read_gathered-else-oneof_runs+in_ok-left w ↦
           rw w.left-is
           (gathered.some_left shape c.args.levels c.args.type_id rs c.args.gathered are w.deref.result.now w.in_ok-left.left.items
           w.deref.ensures.value w.in_ok-left.ensures.ok w.in_ok-left.ensures.good)
     ] in
-    let by = subst (AreByNumber c.if-streaks.left.items) (sym c.deref-2.ensures.value) c.in_ok-sorted.ensures in
+    let by = subst (AreByNumber c.if-oneof_runs.left.items) (sym c.deref-2.ensures.value) c.in_ok-sorted.ensures in
     stops_for _ _ (gathered.good_before shape c.args.levels c.args.type_id rs c.args.gathered are
-    (rising c.args.schema.now c.requires.is_schema c.args.type_id) c.if-streaks.left.items c.deref-2.result.now left by) _ c.in_err-fields.ensures.err)
+    (rising c.args.schema.now c.requires.is_schema c.args.type_id) c.if-oneof_runs.left.items c.deref-2.result.now left by) _ c.in_err-fields.ensures.err)
 
 pub read_gathered-invariant_of-result : goal.read_gathered-invariant_of-result
 read_gathered-invariant_of-result t c =
@@ -441,17 +441,17 @@ read_gathered-invariant_of-result t c =
 pub read_gathered-returns-clause-ok : goal.read_gathered-returns-clause-ok
 read_gathered-returns-clause-ok t c rs are =
     let shape = shape_of c.args.schema.now in
-    let left : IsLeft shape c.args.levels (fields shape c.args.type_id) rs c.if-streaks.left.items =
-    elim c.if-streaks.branch [
-      | read_gathered-then-streaks w ↦ rw w.left-is (gathered.all_left shape c.args.levels c.args.type_id rs c.args.gathered are w.if-streaks.true)
-      | read_gathered-else-streaks+in_ok-left w ↦
+    let left : IsLeft shape c.args.levels (fields shape c.args.type_id) rs c.if-oneof_runs.left.items =
+    elim c.if-oneof_runs.branch [
+      | read_gathered-then-oneof_runs w ↦ rw w.left-is (gathered.all_left shape c.args.levels c.args.type_id rs c.args.gathered are w.if-oneof_runs.true)
+      | read_gathered-else-oneof_runs+in_ok-left w ↦
           rw w.left-is
           (gathered.some_left shape c.args.levels c.args.type_id rs c.args.gathered are w.deref.result.now w.in_ok-left.left.items
           w.deref.ensures.value w.in_ok-left.ensures.ok w.in_ok-left.ensures.good)
     ] in
-    let by = subst (AreByNumber c.if-streaks.left.items) (sym c.deref-2.ensures.value) c.in_ok-sorted.ensures in
+    let by = subst (AreByNumber c.if-oneof_runs.left.items) (sym c.deref-2.ensures.value) c.in_ok-sorted.ensures in
     gathered.read_of_all shape c.args.levels c.args.type_id rs c.args.gathered are
-    (rising c.args.schema.now c.requires.is_schema c.args.type_id) c.if-streaks.left.items c.deref-2.result.now left by c.in_ok-fields.fields.items
+    (rising c.args.schema.now c.requires.is_schema c.args.type_id) c.if-oneof_runs.left.items c.deref-2.result.now left by c.in_ok-fields.fields.items
     c.in_ok-fields.ensures.good c.in_ok-fields.ensures.ok
 
 pub read_gathered-returns-clause-fits : goal.read_gathered-returns-clause-fits
@@ -465,17 +465,17 @@ read_gathered-returns-clause-fits t c =
 pub read_gathered-returns-clause-good : goal.read_gathered-returns-clause-good
 read_gathered-returns-clause-good t c rs are =
     let shape = shape_of c.args.schema.now in
-    let left : IsLeft shape c.args.levels (fields shape c.args.type_id) rs c.if-streaks.left.items =
-    elim c.if-streaks.branch [
-      | read_gathered-then-streaks w ↦ rw w.left-is (gathered.all_left shape c.args.levels c.args.type_id rs c.args.gathered are w.if-streaks.true)
-      | read_gathered-else-streaks+in_ok-left w ↦
+    let left : IsLeft shape c.args.levels (fields shape c.args.type_id) rs c.if-oneof_runs.left.items =
+    elim c.if-oneof_runs.branch [
+      | read_gathered-then-oneof_runs w ↦ rw w.left-is (gathered.all_left shape c.args.levels c.args.type_id rs c.args.gathered are w.if-oneof_runs.true)
+      | read_gathered-else-oneof_runs+in_ok-left w ↦
           rw w.left-is
           (gathered.some_left shape c.args.levels c.args.type_id rs c.args.gathered are w.deref.result.now w.in_ok-left.left.items
           w.deref.ensures.value w.in_ok-left.ensures.ok w.in_ok-left.ensures.good)
     ] in
-    let by = subst (AreByNumber c.if-streaks.left.items) (sym c.deref-2.ensures.value) c.in_ok-sorted.ensures in
+    let by = subst (AreByNumber c.if-oneof_runs.left.items) (sym c.deref-2.ensures.value) c.in_ok-sorted.ensures in
     gathered.good_after shape c.args.levels c.args.type_id rs c.args.gathered are
-    (rising c.args.schema.now c.requires.is_schema c.args.type_id) c.if-streaks.left.items c.deref-2.result.now left by c.in_ok-fields.ensures.good
+    (rising c.args.schema.now c.requires.is_schema c.args.type_id) c.if-oneof_runs.left.items c.deref-2.result.now left by c.in_ok-fields.ensures.good
 
 pub read_map-loop-record-preserved : goal.read_map-loop-record-preserved
 read_map-loop-record-preserved t c =
@@ -530,8 +530,8 @@ pub counted-loop-place-init : goal.counted-loop-place-init
 counted-loop-place-init t c =
     let shape = shape_of c.args.schema.now in
     let fs = fields shape c.args.type_id in
-    subst (λ (xs : List Record). CountedUpTo shape c.args.levels fs c.args.streaks.now c.args.known.now 0 xs) (sym c.new-counted.ensures.items)
-    (counting.none_counted shape c.args.levels fs (rising c.args.schema.now c.requires.is_schema c.args.type_id) c.args.streaks.now c.args.known.now)
+    subst (λ (xs : List Record). CountedUpTo shape c.args.levels fs c.args.oneof_runs.now c.args.known.now 0 xs) (sym c.new-counted.ensures.items)
+    (counting.none_counted shape c.args.levels fs (rising c.args.schema.now c.requires.is_schema c.args.type_id) c.args.oneof_runs.now c.args.known.now)
 
 pub counted-loop-place-preserved : goal.counted-loop-place-preserved
 counted-loop-place-preserved t c =
@@ -540,13 +540,13 @@ counted-loop-place-preserved t c =
     let up = rising c.args.schema.now c.requires.is_schema c.args.type_id in
     let l = c.loop-place in
     let keeps =
-    counting.one_kept shape c.args.levels fs up c.args.streaks.now c.args.known.now c.requires.are_records c.requires.known l.place l.counted.items
+    counting.one_kept shape c.args.levels fs up c.args.oneof_runs.now c.args.known.now c.requires.are_records c.requires.known l.place l.counted.items
     l.invariant c.loop-place-test.true in
     let drops =
-    counting.one_read shape c.args.levels fs up c.args.streaks.now c.args.known.now c.requires.are_records c.requires.known l.place l.counted.items
+    counting.one_read shape c.args.levels fs up c.args.oneof_runs.now c.args.known.now c.requires.are_records c.requires.known l.place l.counted.items
     l.invariant c.loop-place-test.true in
     let some =
-    counting.some_field shape c.args.levels fs up c.args.streaks.now c.args.known.now c.requires.are_records c.requires.known l.place l.counted.items
+    counting.some_field shape c.args.levels fs up c.args.oneof_runs.now c.args.known.now c.requires.are_records c.requires.known l.place l.counted.items
     l.invariant c.loop-place-test.true in
     elim c.match-field.branch [
       | counted-in-Some+then-counts+in_ok-push w ↦

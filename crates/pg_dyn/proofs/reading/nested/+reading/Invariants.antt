@@ -54,4 +54,4 @@ invariant-read_map-loop-record l =
     EntriesSoFar (shape_of l.schema) l.levels (field_shape l.field) l.key (map seen_record (take l.record-index l.run)) l.entries.items
 
 abbrev pub invariant-counted-loop-place : goal.invariant-counted-loop-place
-invariant-counted-loop-place l = CountedUpTo (shape_of l.schema) l.levels (fields (shape_of l.schema) l.type_id) l.streaks l.known l.place l.counted.items
+invariant-counted-loop-place l = CountedUpTo (shape_of l.schema) l.levels (fields (shape_of l.schema) l.type_id) l.oneof_runs l.known l.place l.counted.items

@@ -1,6 +1,6 @@
--- the entries so far are settled, and the rest is put in behind them
-use Rattle.pg_dyn.proofs.SettledEntries.{SettlesTo}
+-- the entries so far are normalized, and the rest is put in behind them
+use Rattle.pg_dyn.proofs.NormalizedEntries.{NormalizesTo}
 use Rattle.pg_dyn.proofs.reading.ordering.put_all.Given as goal
 
 abbrev pub invariant-loop-entry : goal.invariant-loop-entry
-invariant-loop-entry l = SettlesTo l.fn.entries.items l.settled.items l.entry-iterator.rest.items
+invariant-loop-entry l = NormalizesTo l.fn.entries.items l.normalized.items l.entry-iterator.rest.items

@@ -28,7 +28,7 @@ returns-in_ok-push-in-Some-clause-ok c =
     let place : length (known_of fs rs) ≡ c.len.result =
     omega (arith, known_length shape c.args.type_id rs c.args.self.now h, c.args.self.now.known.ok.0, c.len.ensures) in
     known_added shape c.args.type_id rs c.args.self.now _ h c.args.found c.requires.is_record (ap not known) c.in_ok-push-in-Some.ensures.items refl
-    (c.in_ok-note-in-Some.ensures.ok fs (known_of fs rs) r (rising c.args.schema.now c.requires.is_schema c.args.type_id) found_f taken place h.streaks)
+    (c.in_ok-note-in-Some.ensures.ok fs (known_of fs rs) r (rising c.args.schema.now c.requires.is_schema c.args.type_id) found_f taken place h.oneof_runs)
 
 pub returns-in_ok-push-in_default-clause-ok : goal.returns-in_ok-push-in_default-clause-ok
 returns-in_ok-push-in_default-clause-ok c =

@@ -1,0 +1,157 @@
+ghost use Rattle.std.specs.Prelude.{◌≡◌, ◌<◌, ◌≤◌, true, Ok, Err, Some, is_some, take, drop, length, OnOk, IfOk, IfErr};
+ghost use Rattle.pg_schema.specs.declared.field.Element.TheVariants as elements;
+ghost use Rattle.pg_schema.specs.Shape.{is_packable};
+ghost use Rattle.pg_wire.specs.Errors.{error_at};
+ghost use Rattle.pg_wire.specs.Reading.{Fault};
+ghost use Rattle.pg_wire.specs.declared.error.WireError.TheVariants as wire_errors;
+ghost use Rattle.pg_dyn.specs.ByFields.{StopsFor};
+ghost use Rattle.pg_dyn.specs.Coding.{element_at, form_wire, scalar_form, word_in};
+ghost use Rattle.pg_dyn.specs.Content.{packed_leaves};
+ghost use Rattle.pg_dyn.specs.declared.error.DynError.TheVariants as errors;
+ghost use Rattle.pg_dyn.specs.Steps.{RowReads, RowRefused};
+ghost use Rattle.pg_dyn.specs.WordOf.{HasBits};
+
+use crate::body::wire_type_of;
+use crate::error::DynError;
+use crate::message_ref::ValueRef;
+use crate::reading::stop::Stop;
+use crate::scalar::word_item;
+use pg_schema::Scalar;
+use pg_wire::{WireError, WireType, read_varint};
+
+// The word at the front of a packed list, and how many bytes it takes.
+#[inline(always)]
+#[tactic(auto, unfolding(crate::specs::Coding::word_in))]
+fn front_word(wire_type: WireType, bytes: &[u8]) -> Result<(u64, usize), WireError>
+    ensures ok { IfOk result (λ read.
+        (element_at wire_type bytes.now ≡ Ok (take read.1 bytes.now, drop read.1 bytes.now))
+        × (1 ≤ read.1)
+        × (read.1 ≤ length bytes.now)) }
+    ensures word { IfOk result (λ read. (word_in wire_type (take read.1 bytes.now) ≡ read.0)
+        × HasBits wire_type read.0) }
+    ensures err { IfErr result (λ e. (fault : Fault) × (element_at wire_type bytes.now ≡ Err fault)
+        × (e ≡ error_at fault 0)) }
+{
+    match wire_type {
+        WireType::Varint => read_varint(bytes),
+        WireType::I64 => match bytes.split_first_chunk::<8>() {
+            Some((word, _)) => Ok((u64::from_le_bytes(*word), 8)),
+            None => Err(WireError::Truncated { at: 0 }),
+        },
+        WireType::I32 => match bytes.split_first_chunk::<4>() {
+            Some((word, _)) => Ok((u64::from(u32::from_le_bytes(*word)), 4)),
+            None => Err(WireError::Truncated { at: 0 }),
+        },
+        WireType::Len => Err(WireError::Truncated { at: 0 }),
+    }
+}
+
+// How many of the bytes end a varint: these are below 128.
+fn ends_in(piece: &[u8]) -> u8
+    requires { length piece.now ≤ 128 }
+{
+    let mut count = 0;
+    for place in 0..piece.len() {
+        count += u8::from(piece[place] < 128);
+    }
+    count
+}
+
+// How many varints end in the bytes. They are counted in pieces, of which each count is a byte: so
+// many bytes are added at a time.
+fn varints_in(body: &[u8]) -> usize {
+    let mut count: usize = 0;
+    for piece in body.chunks(128) {
+        count = count.saturating_add(usize::from(ends_in(piece)));
+    }
+    count
+}
+
+// How many items a packed list has, where it is one.
+fn row_len(wire_type: WireType, body: &[u8]) -> usize {
+    match wire_type {
+        WireType::Varint => varints_in(body),
+        WireType::I64 => body.len() / 8,
+        WireType::I32 => body.len() / 4,
+        WireType::Len => 0,
+    }
+}
+
+// Reads a packed list of words of the wire type behind the items. Inlined, so that there is a loop
+// for each scalar.
+#[inline(always)]
+fn push_words(
+    wire_type: WireType,
+    scalar: Scalar,
+    values: &mut Vec<ValueRef<'_>>,
+    body: &[u8],
+) -> Result<(), Stop>
+    requires packable { is_packable (elements.Scalar scalar) ≡ true }
+    requires wire { wire_type ≡ form_wire (scalar_form scalar) }
+    ensures ok { OnOk result (RowReads scalar body.now values.old.items values.new.items) }
+    ensures err { IfErr result (StopsFor
+        (is_some (packed_leaves (scalar_form scalar) body.now) ≡ true)) }
+{
+    let mut start = 0;
+    while start < body.len() {
+        let (word, len) = match front_word(wire_type, &body[start..]) {
+            Ok(read) => read,
+            Err(_) => return Err(Stop::Fault),
+        };
+        values.push(word_item(scalar, word))?;
+        start += len;
+    }
+    Ok(())
+}
+
+/// Reads a packed list behind the items (Protocol Buffers encoding guide, "Packed Repeated
+/// Fields"). Room for all of them is made at once. Not inlined, so that a level of messages takes
+/// no more of the stack for it.
+#[inline(never)]
+pub(crate) fn push_packed(
+    scalar: Scalar,
+    values: &mut Vec<ValueRef<'_>>,
+    body: &[u8],
+) -> Result<(), Stop>
+    requires { is_packable (elements.Scalar scalar) ≡ true }
+    ensures ok { OnOk result (RowReads scalar body.now values.old.items values.new.items) }
+    ensures err { IfErr result (StopsFor
+        (is_some (packed_leaves (scalar_form scalar) body.now) ≡ true)) }
+{
+    values.reserve(row_len(wire_type_of(scalar), body))?;
+    match scalar {
+        Scalar::Double => push_words(WireType::I64, Scalar::Double, values, body),
+        Scalar::Float => push_words(WireType::I32, Scalar::Float, values, body),
+        Scalar::Int32 => push_words(WireType::Varint, Scalar::Int32, values, body),
+        Scalar::Int64 => push_words(WireType::Varint, Scalar::Int64, values, body),
+        Scalar::Uint32 => push_words(WireType::Varint, Scalar::Uint32, values, body),
+        Scalar::Uint64 => push_words(WireType::Varint, Scalar::Uint64, values, body),
+        Scalar::Sint32 => push_words(WireType::Varint, Scalar::Sint32, values, body),
+        Scalar::Sint64 => push_words(WireType::Varint, Scalar::Sint64, values, body),
+        Scalar::Fixed32 => push_words(WireType::I32, Scalar::Fixed32, values, body),
+        Scalar::Fixed64 => push_words(WireType::I64, Scalar::Fixed64, values, body),
+        Scalar::Sfixed32 => push_words(WireType::I32, Scalar::Sfixed32, values, body),
+        Scalar::Sfixed64 => push_words(WireType::I64, Scalar::Sfixed64, values, body),
+        Scalar::Bool => push_words(WireType::Varint, Scalar::Bool, values, body),
+        Scalar::String => push_words(WireType::Len, Scalar::String, values, body),
+        Scalar::Bytes => push_words(WireType::Len, Scalar::Bytes, values, body),
+    }
+}
+
+/// Refuses a packed list that isn't one, which stands in the record at that place.
+pub(crate) fn check_packed(scalar: Scalar, body: &[u8], at: usize) -> Result<(), DynError>
+    requires { is_packable (elements.Scalar scalar) ≡ true }
+    ensures readable { OnOk result (is_some (packed_leaves (scalar_form scalar) body.now) ≡ true) }
+    ensures err { IfErr result (RowRefused scalar body.now at) }
+    ensures not_memory { IfErr result (λ e. e ≡ errors.Memory → ⊥) }
+{
+    let wire_type = wire_type_of(scalar);
+    let mut start = 0;
+    while start < body.len() {
+        match front_word(wire_type, &body[start..]) {
+            Ok((_, len)) => start += len,
+            Err(error) => return Err(DynError::Wire(error.after(at))),
+        }
+    }
+    Ok(())
+}
