@@ -52,7 +52,7 @@ show_app = with_rules (new_app (codes "show")) (folder (codes "dir") ∷ named (
 
 abbrev pub top_app : App
 top_app = let app = new_app (codes "protogate") in
-    record app { top = record app.top { no_binary_name = true; subcommand_required = true } }
+    record app { top = record app.top { no_binary_name = true; subcommand_required = true; has_version = true } }
 
 abbrev pub whole_app : App
 whole_app = with_subcommand (with_subcommand (with_subcommand (with_subcommand top_app compile_app.top) gate_app.top)

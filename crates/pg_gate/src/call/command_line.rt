@@ -17,7 +17,7 @@ const STATUSES: &str = "Statuses:
   1  breaks: it doesn't see all of some message, of both directions in either
   2  refused: a fault in a file, a certificate or bytes, or the message type is missing
   3  out of memory, or a file or the output failed
-  4  help, or a bad command line
+  4  help, the version, or a bad command line
   5  bound: a certificate says only how long a message is at least that breaks";
 
 /// What help says of a set that is written: what is printed, and the statuses.
@@ -28,7 +28,7 @@ Statuses:
   0  the set is written to standard output, and nothing else
   2  refused: a fault in a file
   3  out of memory, or a file or the output failed
-  4  help, or a bad command line";
+  4  help, the version, or a bad command line";
 
 /// What help says of the gate's answers: what is printed, and the statuses.
 const GATE_ANSWERS: &str = "Prints lines:
@@ -49,7 +49,7 @@ Statuses:
   1  breaks: it doesn't see all of some message, of both directions in either
   2  refused: a fault in a file, or the message type is missing
   3  out of memory, or a file or the output failed
-  4  help, or a bad command line
+  4  help, the version, or a bad command line
   5  never of gate: only verify ends so, where a certificate says a bound alone";
 
 /// What help says of a message that is shown: what is printed, and the statuses.
@@ -68,7 +68,7 @@ Statuses:
   0  the message is shown
   2  refused: a fault in a file, the message type is missing, or HEX is none or no message of it
   3  out of memory, or a file or the output failed
-  4  help, or a bad command line";
+  4  help, the version, or a bad command line";
 
 /// What help says of a checked certificate: what is printed, and the statuses.
 const VERIFY_ANSWERS: &str = "Prints one line:
@@ -82,8 +82,11 @@ Statuses:
   1  breaks: it holds, and its witness is a shortest message that breaks
   2  refused: a fault in a file, or the certificate doesn't hold
   3  out of memory, or a file or the output failed
-  4  help, or a bad command line
+  4  help, the version, or a bad command line
   5  bound: it holds, and says only how long a message is at least that breaks";
+
+/// What follows the program's name with `--version`: its version, and the kit that proves it.
+const VERSION: &str = "unreleased, proved with rattle-kit-13f";
 
 /// What help says of a side's file.
 const OLD_FILE: &str = "The old proto3 file, or a descriptor set where F doesn't end in .proto";
@@ -222,6 +225,7 @@ fn whole_command<'a>(alloc: Global) -> Result<Command<'a>, AllocError>
             "Compare proto3 message types before a changed file is released, write descriptor sets, and show messages",
         )
         .after_help(STATUSES)
+        .version(VERSION)
         .no_binary_name(true)
         .subcommand_required(true)
         .subcommand(compile_command(alloc)?)?

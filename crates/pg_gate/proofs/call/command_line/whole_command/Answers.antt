@@ -14,9 +14,10 @@ returns c =
     let named = with_text c.in_ok-bin_name.field-0 made c.in_ok-bin_name.ensures.0 refl refl in
     let told = with_text c.about.result named c.about.ensures refl refl in
     let bare = with_text c.after_help.result told c.after_help.ensures refl refl in
-    let fields = c.subcommand_required.ensures ∙ ap (λ (f : Command-F Command). record f { subcommand_required = true }) c.no_binary_name.ensures in
+    let named_so = c.no_binary_name.ensures ∙ ap (λ (f : Command-F Command). record f { no_binary_name = true }) c.version.ensures in
+    let fields = c.subcommand_required.ensures ∙ ap (λ (f : Command-F Command). record f { subcommand_required = true }) named_so in
     let start : HasApp top_app c.subcommand_required.result = record {
-      shape = ap app_of_fields fields ∙ ap (λ (a : App). record a { top = record a.top { no_binary_name = true; subcommand_required = true } }) bare.shape;
+      shape = ap app_of_fields fields ∙ ap (λ (a : App). record a { top = record a.top { no_binary_name = true; subcommand_required = true; has_version = true } }) bare.shape;
       local = ap (λ (f : Command-F Command). f.has_globals) fields ∙ bare.local;
     } in
     let with_1 = with_sub c.in_ok-subcommand.field-0 start c.in_ok-compile_command.ensures refl (c.in_ok-subcommand.ensures.shape c.in_ok-compile_command.ensures.local) c.in_ok-subcommand.ensures.globals in
