@@ -86,14 +86,14 @@ class Tries:
         return sum(is_refused for is_refused, _ in self.said.values())
 
     def failed(self):
-        return len(self.said) - self.passed() + len(self.faults)
+        return len(self.said) - self.passed() + bool(self.faults)
 
     def lines(self):
-        """Returns a line for each edit, and one for each fault."""
+        """Returns a line for each edit, and some for what is wrong beside."""
         name = self.crate.name
         found = [f"{name}/{edit}: {text}" for edit, (_, text) in sorted(self.said.items())]
         found += [f"{name}/{edit}: left to rt: {why}" for edit, why in sorted(self.left.items())]
-        return found + [f"{name}: {it}" for it in self.faults]
+        return found + [f"{name}: {it[:300]}" for it in self.faults[:10]]
 
 
 def check(kit, crate, room):
@@ -133,14 +133,14 @@ def files_below(folder, parts):
 
 def key_of(kit, tries):
     """Returns a sum of all that the tries rest on: the kit, these scripts, the crate with its copies, and those below it."""
-    made = hashlib.sha256(repr((kit.kit_sum(), tries.copies, sorted(tries.said))).encode())
-    files = [f"{TOP}/tools/{it}" for it in TOOLS]
+    made = hashlib.sha256(repr((kit.kit_sum(), tries.copies)).encode())
+    files = {f"tools/{it}": f"{TOP}/tools/{it}" for it in TOOLS}
     for crate in (*tries.crate.below(), tries.crate):
         made.update(repr((crate.name, crate.said)).encode())
-        files += files_below(crate.folder, PARTS)
-    for path in files:
+        files.update({f"{crate.name}{it.removeprefix(crate.folder)}": it for it in files_below(crate.folder, PARTS)})
+    for name, path in sorted(files.items()):
         with open(path, "rb") as file:
-            made.update(repr((path.removeprefix(os.path.dirname(tries.crate.folder)), file.read())).encode())
+            made.update(repr((name, file.read())).encode())
     return made.hexdigest()
 
 
