@@ -27,6 +27,7 @@ pub mod MadeMembers
 pub mod SetNames
 pub mod Outlines
 pub mod OutlinedPlaces
+pub mod OutlinedScopes
 pub mod InOrder
 pub mod Views
 pub mod DescriptorParts
