@@ -36,6 +36,7 @@ pub mod Rows
 pub mod MadeOptions
 pub mod Reads
 pub mod Refused
+pub mod StatesInside
 pub mod Again
 pub mod ReadAgain
 pub mod ReadExamples
