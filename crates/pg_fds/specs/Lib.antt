@@ -37,6 +37,7 @@ pub mod MadeOptions
 pub mod Reads
 pub mod Refused
 pub mod StatesInside
+pub mod PutParts
 pub mod Again
 pub mod ReadAgain
 pub mod ReadExamples
