@@ -1,20 +1,11 @@
 -- The fields that a message type declares.
-use Rattle.std.proofs.Common.{◌≡◌, ℕ, ◌+◌, ◌≤◌, Bool, true, false, cond, List, [], ◌∷◌, ◌++◌, length, flat_map, find, nat_eq, Option, Some, None, option_and_then, ap, arith}
+use Rattle.std.proofs.Common.{ℕ, ◌+◌, ◌≤◌, Bool, true, false, cond, List, [], ◌∷◌, ◌++◌, length, flat_map, find, nat_eq, Option, Some, None, arith}
 use Rattle.std.specs.List.{AllByRecursion}
 use Rattle.pg_schema.specs.declared.field.Field.{Field}
-use Rattle.pg_schema.specs.declared.field.TypeId.{TypeId}
-use Rattle.pg_schema.specs.declared.message_type.MessageType.{MessageType}
-use Rattle.pg_schema.specs.declared.parts.Parts.{Parts}
-use Rattle.pg_schema.specs.Parts.{type_at}
-use Rattle.pg_fds.specs.Lent.{fields_at}
 use Rattle.pg_fds.specs.Messages.{where_found}
 
 abbrev found : List Field → ℕ → List Field
 found fs number = where_found (λ f. f) (find (λ (f : Field). nat_eq f.number number) fs)
-
-pub fields_found : (parts : Parts) (id : TypeId) (t : MessageType) (numbers : List ℕ) → type_at parts id ≡ Some t → fields_at parts id numbers ≡ flat_map (found t.fields.items) numbers
-fields_found parts id t numbers is =
-    ap (λ (o : Option MessageType). flat_map (λ number. where_found (λ f. f) (option_and_then (λ (x : MessageType). find (λ (f : Field). nat_eq f.number number) x.fields.items) o)) numbers) is
 
 one_holds : (P : Field → Type 0) (test : Field → Bool) (fs : List Field) → AllByRecursion P fs → AllByRecursion P (where_found (λ f. f) (find test fs))
 one_holds P test [] all = tt

@@ -1,6 +1,6 @@
 -- Of files that state a schema, parts are made that say the same.
 use Rattle.std.proofs.Common.{◌≡◌, ◌⊎◌, inl, inr, ℕ, ◌<◌, Bool, List, map, length}
-use Rattle.std.specs.List.{AllByRecursion, AllZip, flat_map}
+use Rattle.std.specs.List.{AllByRecursion, AllZip}
 use denote.Ref.{Bor}
 use Rattle.pg_schema.specs.declared.parts.Parts.{Parts}
 use Rattle.pg_dyn.specs.Kept.{Kept, message_of}
@@ -11,8 +11,8 @@ use Rattle.pg_fds.specs.declared.outline.Outline.{Outline}
 use Rattle.pg_fds.specs.FilePlaces.{AreOrdered, HasPathTexts}
 use Rattle.pg_fds.specs.Lent.{lent}
 use Rattle.pg_fds.specs.Made.{AreOutlined}
-use Rattle.pg_fds.specs.OutlinedPlaces.{no_counts, placed_file, placed_files, placed_type, types_of_files}
-use Rattle.pg_fds.specs.Outlines.{AreEnumsNamed, AreTypesNamed, MayDeclare, file_enums, file_services, file_types, files_at, row, type_row}
+use Rattle.pg_fds.specs.OutlinedScopes.{OutlinesFiles}
+use Rattle.pg_fds.specs.Outlines.{MayDeclare, files_at}
 use Rattle.pg_fds.specs.Places.{declared_in}
 use Rattle.pg_fds.specs.PostOrder.{HasNoOrder}
 use Rattle.pg_fds.specs.Reads.{CanBeRead, StatesFiles, importer_of}
@@ -47,8 +47,5 @@ module _ (skips : Bool) (files : List (Bor Kept)) (order : List ℕ) (ordered : 
   declare = may_declare skips found parts can.sound can.places can.few_enums can.few_services zip
 
   -- what is outlined is theirs
-  pub outlined : (outline : Outline) → map type_row outline.types.items ≡ flat_map (file_types most_deep) found → map row outline.enums.items ≡ flat_map (file_enums most_deep) found
-      → map row outline.services.items ≡ flat_map file_services found → map placed_file outline.files.items ≡ placed_files most_deep no_counts found → map placed_type outline.types.items ≡ types_of_files most_deep no_counts found
-      → AreTypesNamed outline.names (map type_row outline.types.items) → AreEnumsNamed outline.names (map row outline.enums.items) → AreOutlined skips parts outline
-  outlined outline types enums services placed_files_are placed_types_are types_named enums_named =
-      are_outlined skips found parts can.places zip outline types enums services placed_files_are placed_types_are types_named enums_named
+  pub outlined : (outline : Outline) → OutlinesFiles most_deep found outline → AreOutlined skips parts outline
+  outlined = are_outlined skips found parts can.places zip

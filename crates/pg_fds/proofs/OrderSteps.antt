@@ -38,15 +38,6 @@ stands_twice f xs i x h is among =
 
 -- ---- paths that are kept
 
-pub path_left_out : (skips : Bool) (paths : List (List ℕ)) (path : List ℕ) → (skips && is_descriptor path) ≡ true → kept_paths skips (paths ++ path ∷ []) ≡ kept_paths skips paths
-path_left_out skips [] path out = ap (λ b. cond (not b) (path ∷ []) []) out
-path_left_out skips (p ∷ paths) path out = of (skips && is_descriptor p) (path_left_out skips paths path out)
-  where
-    of : (b : Bool) → kept_paths skips (paths ++ path ∷ []) ≡ kept_paths skips paths
-        → cond (not b) (p ∷ kept_paths skips (paths ++ path ∷ [])) (kept_paths skips (paths ++ path ∷ [])) ≡ cond (not b) (p ∷ kept_paths skips paths) (kept_paths skips paths)
-    of true later = later
-    of false later = ap (λ ps. p ∷ ps) later
-
 pub path_kept : (skips : Bool) (paths : List (List ℕ)) (path : List ℕ) → (skips && is_descriptor path) ≡ false → kept_paths skips (paths ++ path ∷ []) ≡ kept_paths skips paths ++ path ∷ []
 path_kept skips [] path kept = ap (λ b. cond (not b) (path ∷ []) []) kept
 path_kept skips (p ∷ paths) path kept = of (skips && is_descriptor p) (path_kept skips paths path kept)
@@ -63,15 +54,6 @@ map_more f (y ∷ xs) x = ap (λ zs. f y ∷ zs) (map_more f xs x)
 pub stand_more : (all : List (List ℕ)) (places : List ℕ) (these : List (List ℕ)) (place : ℕ) (path : List ℕ) → slice_get all place ≡ Some path → StandAt all places these → StandAt all (places ++ place ∷ []) (these ++ path ∷ [])
 stand_more all places these place path is stand =
     map_more (slice_get all) places place ∙ (ap₂ (λ xs x. xs ++ x ∷ []) stand is ∙ sym (map_more (λ t. Some t) these path))
-
-one_fails : {A : Type 0} (test : A → Bool) (xs : List A) (i : ℕ) (x : A) → i < length xs → x ≡ get_or xs i x → test x ≡ false → list_all test xs ≡ false
-one_fails test [] i x h is fails = absurd (omega (arith, h))
-one_fails test (y ∷ xs) zero x h is fails = ap (λ b. b && list_all test xs) (ap test (sym is) ∙ fails)
-one_fails test (y ∷ xs) (suc i) x h is fails = later (test y) (list_all test xs) (one_fails test xs i x (omega (arith, h)) is fails)
-  where
-    later : (a b : Bool) → b ≡ false → (a && b) ≡ false
-    later true b e = e
-    later false b e = refl
 
 -- a kept path that fails the test
 pub kept_fails : (skips : Bool) (test : List ℕ → Bool) (paths : List (Bor (List ℕ))) (i : ℕ) (path : Bor (List ℕ)) → i < length paths → path ≡ get_or paths i path

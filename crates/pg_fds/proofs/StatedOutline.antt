@@ -17,8 +17,9 @@ use Rattle.pg_fds.specs.declared.outline.OutlinedFile.{OutlinedFile}
 use Rattle.pg_fds.specs.declared.outline.OutlinedType.{OutlinedType}
 use Rattle.pg_fds.specs.InOrder.{StandInOrder}
 use Rattle.pg_fds.specs.Made.{AreOutlined, IsOutlinedEnum, IsOutlinedFile, IsOutlinedService, IsOutlinedType}
-use Rattle.pg_fds.specs.OutlinedPlaces.{no_counts, placed_file, placed_files, placed_type, types_of_files}
-use Rattle.pg_fds.specs.Outlines.{AreEnumsNamed, AreTypesNamed, file_enums, file_services, file_types, row, type_row}
+use Rattle.pg_fds.specs.OutlinedPlaces.{no_counts, placed_file, placed_type, types_of_files}
+use Rattle.pg_fds.specs.OutlinedScopes.{OutlinesFiles}
+use Rattle.pg_fds.specs.Outlines.{file_enums, file_services, file_types, row, type_row}
 use Rattle.pg_fds.specs.Places.{Declared, declared_in}
 use Rattle.pg_fds.specs.StatesFiles.{StatesFile, most_deep}
 use Rattle.pg_fds.specs.Walks.{places_from}
@@ -129,18 +130,16 @@ module _ (skips : Bool) (files : List Message) (parts : Parts) (stand : StandInO
   types_placed : AllZip (IsOfPlaced all) (types_of_files most_deep no_counts files) all.types
   types_placed = all_rows (IsOfPlaced all) all.types (types_of_files most_deep no_counts files) (flat_map (types_in all most_deep) parts.files.items) stand.types counted.placed
 
-  pub are_outlined : (outline : Outline) → map type_row outline.types.items ≡ flat_map (file_types most_deep) files → map row outline.enums.items ≡ flat_map (file_enums most_deep) files
-      → map row outline.services.items ≡ flat_map file_services files → map placed_file outline.files.items ≡ placed_files most_deep no_counts files → map placed_type outline.types.items ≡ types_of_files most_deep no_counts files
-      → AreTypesNamed outline.names (map type_row outline.types.items) → AreEnumsNamed outline.names (map row outline.enums.items) → AreOutlined skips parts outline
-  are_outlined outline types enums services files_are placed types_named enums_named =
-      let rows_of_types : AllZip (IsTypeOf all) (map type_row outline.types.items) all.types = subst (λ rs. AllZip (IsTypeOf all) rs all.types) (sym types) types_told in
-      let rows_of_enums : AllZip IsEnumOf (map row outline.enums.items) all.enums = subst (λ rs. AllZip IsEnumOf rs all.enums) (sym enums) enums_told in
-      let rows_of_services : AllZip (IsServiceOf all) (map row outline.services.items) all.services = subst (λ rs. AllZip (IsServiceOf all) rs all.services) (sym services) services_told in
-      let kept_by_types : AllZip (IsOfPlaced all) (map placed_type outline.types.items) all.types = subst (λ ps. AllZip (IsOfPlaced all) ps all.types) (sym placed) types_placed in
-      let kept_by_files : AllZip (IsOfFile states) (map placed_file outline.files.items) parts.files.items = subst (λ ps. AllZip (IsOfFile states) ps parts.files.items) (sym files_are) counted.files in
+  pub are_outlined : (outline : Outline) → OutlinesFiles most_deep files outline → AreOutlined skips parts outline
+  are_outlined outline told =
+      let rows_of_types : AllZip (IsTypeOf all) (map type_row outline.types.items) all.types = subst (λ rs. AllZip (IsTypeOf all) rs all.types) (sym told.types) types_told in
+      let rows_of_enums : AllZip IsEnumOf (map row outline.enums.items) all.enums = subst (λ rs. AllZip IsEnumOf rs all.enums) (sym told.enums) enums_told in
+      let rows_of_services : AllZip (IsServiceOf all) (map row outline.services.items) all.services = subst (λ rs. AllZip (IsServiceOf all) rs all.services) (sym told.services) services_told in
+      let kept_by_types : AllZip (IsOfPlaced all) (map placed_type outline.types.items) all.types = subst (λ ps. AllZip (IsOfPlaced all) ps all.types) (sym told.placed) types_placed in
+      let kept_by_files : AllZip (IsOfFile states) (map placed_file outline.files.items) parts.files.items = subst (λ ps. AllZip (IsOfFile states) ps parts.files.items) (sym told.files) counted.files in
       record {
-        table = has_names outline.names all (map type_row outline.types.items) (map row outline.enums.items) rows_of_types rows_of_enums types_named enums_named;
-        entries = has_entry_names outline.names all (map type_row outline.types.items) all.types rows_of_types (λ k r at. (types_named k r at).entries);
+        table = has_names outline.names all (map type_row outline.types.items) (map row outline.enums.items) rows_of_types rows_of_enums told.named told.enums_named;
+        entries = has_entry_names outline.names all (map type_row outline.types.items) all.types rows_of_types (λ k r at. (told.named k r at).entries);
         files = zip_of_made placed_file (IsOfFile states) (IsOutlinedFile all skips) (outlined_file all skips) outline.files.items parts.files.items kept_by_files;
         types = zip_of_made placed_type (IsOfPlaced all) (λ o t. (scope : List ℕ) × IsOutlinedType all scope o t) (outlined_type all) outline.types.items all.types kept_by_types;
         enums = zip_of_made row IsEnumOf (λ o e. (scope : List ℕ) × IsOutlinedEnum scope o e) (outlined_enum all) outline.enums.items all.enums rows_of_enums;

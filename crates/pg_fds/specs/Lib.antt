@@ -27,6 +27,7 @@ pub mod MadeMembers
 pub mod SetNames
 pub mod Outlines
 pub mod OutlinedPlaces
+pub mod OutlinedScopes
 pub mod InOrder
 pub mod Views
 pub mod DescriptorParts
@@ -35,6 +36,8 @@ pub mod Rows
 pub mod MadeOptions
 pub mod Reads
 pub mod Refused
+pub mod StatesInside
+pub mod PutParts
 pub mod Again
 pub mod ReadAgain
 pub mod ReadExamples

@@ -51,6 +51,30 @@ pub fn declare(
     }
 }
 
+/// Puts the full name of what a message is called in the scope in the table, and answers it.
+pub fn declare_named(
+    alloc: Global,
+    names: &mut BTreeMap<String, Named>,
+    scope: &str,
+    message: &Message,
+    named: Named,
+) -> Result<String, Unstated>
+    ensures name { IfOk result (λ name. string_bytes name
+        ≡ full_name scope.now (message_of message.now)) }
+    ensures has { OnOk result (get_by_text names.new (full_name scope.now (message_of message.now))
+        ≡ Some named) }
+    ensures declares { OnOk result ((packages : List (List ℕ))
+        → Declares packages (full_name scope.now (message_of message.now) ∷ []) names.old
+        names.new) }
+    ensures refused { IfErr result (λ e. (packages : List (List ℕ))
+        → WantsMemory packages (full_name scope.now (message_of message.now) ∷ []) names.old e) }
+{
+    let own = text(message, proto::NAME)?;
+    let full = full_name(alloc, scope, own)?;
+    declare(names, full.clone()?, named)?;
+    Ok(full)
+}
+
 // Puts the full name of what a message is called in the scope in the table.
 fn declare_own(
     alloc: Global,
@@ -67,9 +91,8 @@ fn declare_own(
     ensures refused { IfErr result (λ e. (packages : List (List ℕ))
         → WantsMemory packages (full_name scope.now (message_of message.now) ∷ []) names.old e) }
 {
-    let own = text(message, proto::NAME)?;
-    let full = full_name(alloc, scope, own)?;
-    declare(names, full, named)
+    declare_named(alloc, names, scope, message, named)?;
+    Ok(())
 }
 
 /// Puts the full names of what messages are called in the scope in the table.

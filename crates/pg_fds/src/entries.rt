@@ -43,11 +43,11 @@ fn field_message(
 {
     let mut message = empty(alloc, FIELD);
     let to = &mut message;
-    let type_name = element_name(alloc, source, element)?;
     put_text(alloc, to, table, FIELD, FIELD_NAME, name)?;
     put_count(to, table, FIELD, FIELD_NUMBER, NUMBER, number)?;
     put_count(to, table, FIELD, FIELD_LABEL, LABEL, 1)?;
     put_count(to, table, FIELD, FIELD_TYPE, TYPE, element_code(element))?;
+    let type_name = element_name(alloc, source, element)?;
     put_maybe_text(alloc, to, table, FIELD, FIELD_TYPE_NAME, type_name)?;
     put_text(alloc, to, table, FIELD, FIELD_JSON_NAME, name)?;
     Ok(message)
@@ -109,11 +109,17 @@ fn entry_message(
 {
     let mut message = empty(alloc, MESSAGE);
     let to = &mut message;
-    let name = entry_name(alloc, &field.name)?;
+    put_text(
+        alloc,
+        to,
+        table,
+        MESSAGE,
+        MESSAGE_NAME,
+        &entry_name(alloc, &field.name)?,
+    )?;
     let fields = key_and_value(alloc, table, source, key, field.element)?;
-    let options = entry_options(alloc, table)?;
-    put_text(alloc, to, table, MESSAGE, MESSAGE_NAME, &name)?;
     put_children(to, table, MESSAGE, MESSAGE_FIELD, FIELD, fields)?;
+    let options = entry_options(alloc, table)?;
     put_child(
         alloc,
         to,

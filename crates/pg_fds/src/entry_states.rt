@@ -89,16 +89,14 @@ fn entry_field(
     ensures refused { IfErr result (λ r. StatesEntryField
         (declared_in source.now) name.now place element (message_of message.now) → r ≡ Memory) }
 {
-    let type_name = element_name(alloc, source, element)?;
-    let json_name = default_json_name(alloc, name)?;
     same_text(text(message, proto::FIELD_NAME)?, name)?;
     ensure(number(message, proto::FIELD_NUMBER) == i128::from(place))?;
     ensure(label_of(message) == 1)?;
     ensure(number(message, proto::FIELD_TYPE) == i128::from(element_code(element)))?;
-    has_type_name(message, &type_name)?;
+    has_type_name(message, &element_name(alloc, source, element)?)?;
     has_no_options(message, proto::FIELD_OPTIONS)?;
     lacks(message, proto::FIELD_ONEOF_INDEX)?;
-    has_json_name(alloc, message, &json_name)?;
+    has_json_name(alloc, message, &default_json_name(alloc, name)?)?;
     ensure(!flag(message, proto::FIELD_PROTO3_OPTIONAL))
 }
 
@@ -135,16 +133,22 @@ fn entry(
     ensures refused { IfErr result (λ r. StatesEntry (declared_in source.now) field.now key
         (message_of message.now) → r ≡ Memory) }
 {
-    let name = entry_name(alloc, &field.name)?;
-    same_text(text(message, proto::MESSAGE_NAME)?, &name)?;
-    let fields = children(alloc, message, proto::MESSAGE_FIELD)?;
-    key_and_value(alloc, source, &fields, key, field.element)?;
+    key_and_value(
+        alloc,
+        source,
+        &children(alloc, message, proto::MESSAGE_FIELD)?,
+        key,
+        field.element,
+    )?;
     lacks_all(message, proto::MESSAGE_NESTED_TYPE)?;
     lacks_all(message, proto::MESSAGE_ENUM_TYPE)?;
     ensure(option(message, proto::MESSAGE_OPTIONS, proto::MESSAGE_DEPRECATED).is_none())?;
     lacks_all(message, proto::MESSAGE_ONEOF_DECL)?;
     lacks_all(message, proto::MESSAGE_RESERVED_RANGE)?;
-    lacks_all(message, proto::MESSAGE_RESERVED_NAME)
+    lacks_all(message, proto::MESSAGE_RESERVED_NAME)?;
+    let name = entry_name(alloc, &field.name)?;
+    same_text(text(message, proto::MESSAGE_NAME)?, &name)?;
+    Ok(())
 }
 
 // The places of entry types by their names.

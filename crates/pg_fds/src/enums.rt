@@ -27,10 +27,10 @@ fn value_message(alloc: Global, table: &Schema, value: &EnumValue) -> Result<Mes
     ensures kept { IfOk result (IsOf VALUE) }
 {
     let mut message = empty(alloc, VALUE);
-    let stated = value.options.deprecated;
-    let options = one_flag(alloc, table, VALUE_OPTIONS, VALUE_DEPRECATED, stated)?;
     put_text(alloc, &mut message, table, VALUE, VALUE_NAME, &value.name)?;
     put_whole(&mut message, table, VALUE, VALUE_NUMBER, value.number)?;
+    let stated = value.options.deprecated;
+    let options = one_flag(alloc, table, VALUE_OPTIONS, VALUE_DEPRECATED, stated)?;
     put_options(
         alloc,
         &mut message,
@@ -100,7 +100,9 @@ fn enum_message(alloc: Global, table: &Schema, declared: &EnumType) -> Result<Me
     let mut message = empty(alloc, ENUM);
     let to = &mut message;
     let stated = declared.options;
+    put_text(alloc, to, table, ENUM, ENUM_NAME, own_name(&declared.name))?;
     let values = values(alloc, table, &declared.values)?;
+    put_children(to, table, ENUM, ENUM_VALUE, VALUE, values)?;
     let options = two_flags(
         alloc,
         table,
@@ -108,9 +110,6 @@ fn enum_message(alloc: Global, table: &Schema, declared: &EnumType) -> Result<Me
         stated.allow_alias,
         stated.deprecated,
     )?;
-    let ranges = ranges(alloc, table, &declared.reserved_numbers)?;
-    put_text(alloc, to, table, ENUM, ENUM_NAME, own_name(&declared.name))?;
-    put_children(to, table, ENUM, ENUM_VALUE, VALUE, values)?;
     put_options(
         alloc,
         to,
@@ -120,6 +119,7 @@ fn enum_message(alloc: Global, table: &Schema, declared: &EnumType) -> Result<Me
         ENUM_OPTIONS,
         options,
     )?;
+    let ranges = ranges(alloc, table, &declared.reserved_numbers)?;
     put_children(to, table, ENUM, ENUM_RESERVED_RANGE, VALUE_RANGE, ranges)?;
     put_texts(
         alloc,

@@ -1,12 +1,13 @@
 //! Messages of fields, `FieldDescriptorProto` of descriptor.proto. Each call is refused only where
 //! memory is.
 
-ghost use Rattle.std.specs.Prelude.{◌≡◌, ◌<◌, ◌≤◌, ◌^◌, IfOk, map, option_map};
+ghost use Rattle.std.specs.Prelude.{◌≡◌, ◌<◌, ◌≤◌, ◌^◌, ◌++◌, IfOk, OnOk, map, option_map};
 ghost use Rattle.std.specs.String.{string_bytes};
 ghost use Rattle.pg_schema.specs.Parts.{shape_of};
-ghost use Rattle.pg_fds.specs.Building.{IsOf, items_of, written_shape};
+ghost use Rattle.pg_fds.specs.Building.{IsOf, items_of, last_number, written_shape};
 ghost use Rattle.pg_fds.specs.Fields.{element_code, element_name, field_items, label, named_type, oneof_place, scalar_code, type_code};
 ghost use Rattle.pg_fds.specs.Places.{declared_in};
+ghost use Rattle.pg_fds.specs.PutParts.{kind_items};
 ghost use Rattle.pg_fds.specs.Small.{HasSmallNumbers};
 
 use crate::building::{
@@ -135,6 +136,32 @@ fn oneof_place(next: u32, field: &Field) -> Option<u32>
     }
 }
 
+// Puts how often a field's items stand and what they are: its label, its type, and what that is
+// called in a message of that full name.
+fn put_kind(
+    alloc: Global,
+    to: &mut Message,
+    table: &Schema,
+    source: &Schema,
+    scope: &str,
+    field: &Field,
+) -> Result<(), AllocError>
+    requires table { shape_of table.now ≡ written_shape }
+    requires kept { IsOf FIELD to.old }
+    requires behind { last_number to.old < 4 }
+    ensures items { OnOk result (items_of to.new
+        ≡ items_of to.old ++ kind_items (declared_in source.now) scope.now field.now) }
+    ensures kept { OnOk result (IsOf FIELD to.new) }
+    ensures last { OnOk result (last_number to.new ≤ 6) }
+{
+    let code = type_code(field.presence, field.element);
+    put_count(to, table, FIELD, FIELD_LABEL, LABEL, label(field.presence))?;
+    put_count(to, table, FIELD, FIELD_TYPE, TYPE, code)?;
+    let name = named_type(alloc, source, scope, field)?;
+    put_maybe_text(alloc, to, table, FIELD, FIELD_TYPE_NAME, name)?;
+    Ok(())
+}
+
 /// The message of a field, in a message of that full name, where the next synthetic oneof has that
 /// place.
 pub fn field_message(
@@ -155,8 +182,10 @@ pub fn field_message(
     let mut message = empty(alloc, FIELD);
     let to = &mut message;
     let stated = field.options;
-    let code = type_code(field.presence, field.element);
-    let name = named_type(alloc, source, scope, field)?;
+    let place = oneof_place(next, field);
+    put_text(alloc, to, table, FIELD, FIELD_NAME, &field.name)?;
+    put_count(to, table, FIELD, FIELD_NUMBER, NUMBER, field.number)?;
+    put_kind(alloc, to, table, source, scope, field)?;
     let options = two_flags(
         alloc,
         table,
@@ -164,12 +193,6 @@ pub fn field_message(
         stated.packed,
         stated.deprecated,
     )?;
-    let place = oneof_place(next, field);
-    put_text(alloc, to, table, FIELD, FIELD_NAME, &field.name)?;
-    put_count(to, table, FIELD, FIELD_NUMBER, NUMBER, field.number)?;
-    put_count(to, table, FIELD, FIELD_LABEL, LABEL, label(field.presence))?;
-    put_count(to, table, FIELD, FIELD_TYPE, TYPE, code)?;
-    put_maybe_text(alloc, to, table, FIELD, FIELD_TYPE_NAME, name)?;
     put_options(
         alloc,
         to,

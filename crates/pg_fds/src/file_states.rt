@@ -17,6 +17,7 @@ ghost use Rattle.pg_fds.specs.Places.{declared_in};
 ghost use Rattle.pg_fds.specs.Proto as proto;
 ghost use Rattle.pg_fds.specs.Said.{item_at, options_at, text_at, texts_at};
 ghost use Rattle.pg_fds.specs.StatesFiles.{StatesFile, StatesOptions, import_of, is_descriptor, is_proto3, is_skipped, kept_imports, option_item, stated_option};
+ghost use Rattle.pg_fds.specs.StatesInside.{StatesDeclared, StatesImports};
 ghost use Rattle.pg_fds.specs.StatesTypes.{AreMarked};
 
 use crate::error::Unstated;
@@ -195,6 +196,58 @@ fn kept_imports(
 
 // ---- files
 
+// The message states what the file declares.
+fn declares(
+    alloc: Global,
+    source: &Schema,
+    message: &Message,
+    declared: &File,
+) -> Result<(), Unstated>
+    ensures ok { OnOk result (StatesDeclared (declared_in source.now)
+        (message_of message.now) declared.now) }
+    ensures refused { IfErr result (λ r. IsSound source.now
+        → StatesDeclared (declared_in source.now) (message_of message.now) declared.now
+        → r ≡ Memory) }
+{
+    let scope = declared.package.as_str();
+    types(
+        alloc,
+        source,
+        MOST_DEEP,
+        scope,
+        &children(alloc, message, proto::FILE_MESSAGE_TYPE)?,
+        &declared.types,
+    )?;
+    enums(
+        alloc,
+        source,
+        scope,
+        &children(alloc, message, proto::FILE_ENUM_TYPE)?,
+        &declared.enums,
+    )?;
+    services(
+        alloc,
+        source,
+        scope,
+        &children(alloc, message, proto::FILE_SERVICE)?,
+        &declared.services,
+    )?;
+    Ok(())
+}
+
+// The message states the file's imports.
+fn imports(alloc: Global, skips: bool, message: &Message, declared: &File) -> Result<(), Unstated>
+    ensures ok { OnOk result (StatesImports skips (message_of message.now) declared.now) }
+    ensures refused { IfErr result (λ r. StatesImports skips (message_of message.now) declared.now
+        → r ≡ Memory) }
+{
+    let paths = texts(alloc, message, proto::FILE_DEPENDENCY)?;
+    let public = numbers(alloc, message, proto::FILE_PUBLIC_DEPENDENCY)?;
+    let marks = marks(alloc, &public, paths.len())?;
+    kept_imports(skips, &public, &marks, &paths, &declared.imports)?;
+    Ok(())
+}
+
 /// The message, which imports no path twice, states the file. Where the schema is sound and the
 /// file keeps to the rules, it is refused, memory aside, only where it doesn't.
 pub fn file(
@@ -211,30 +264,12 @@ pub fn file(
         → StatesFile (declared_in source.now) skips (message_of message.now) declared.now
         → r ≡ Memory) }
 {
-    let paths = texts(alloc, message, proto::FILE_DEPENDENCY)?;
-    let public = numbers(alloc, message, proto::FILE_PUBLIC_DEPENDENCY)?;
-    let marks = marks(alloc, &public, paths.len())?;
     let scope = declared.package.as_str();
     same_text(text(message, proto::FILE_NAME)?, &declared.name)?;
     same_text(text(message, proto::FILE_PACKAGE)?, scope)?;
-    kept_imports(skips, &public, &marks, &paths, &declared.imports)?;
-    let inside = children(alloc, message, proto::FILE_MESSAGE_TYPE)?;
-    types(alloc, source, MOST_DEEP, scope, &inside, &declared.types)?;
-    enums(
-        alloc,
-        source,
-        scope,
-        &children(alloc, message, proto::FILE_ENUM_TYPE)?,
-        &declared.enums,
-    )?;
-    services(
-        alloc,
-        source,
-        scope,
-        &children(alloc, message, proto::FILE_SERVICE)?,
-        &declared.services,
-    )?;
-    options(message, &declared.options)?;
     ensure(is_proto3(message)?)?;
+    options(message, &declared.options)?;
+    declares(alloc, source, message, declared)?;
+    imports(alloc, skips, message, declared)?;
     Ok(())
 }

@@ -15,6 +15,7 @@ ghost use Rattle.pg_fds.specs.Descriptor as descriptor;
 ghost use Rattle.pg_fds.specs.Items as rows;
 ghost use Rattle.pg_fds.specs.Messages.{types_items};
 ghost use Rattle.pg_fds.specs.Places.{declared_in};
+ghost use Rattle.pg_fds.specs.PutParts.{declared_items};
 ghost use Rattle.pg_fds.specs.Set.{file_items, file_options, mode_code, option_items, public_places};
 ghost use Rattle.pg_fds.specs.Small.{IsSmallType};
 ghost use Rattle.pg_fds.specs.Writable.{IsWritable};
@@ -187,6 +188,33 @@ fn type_count(source: &Schema) -> usize
     source.parts().types.len()
 }
 
+// Puts what a file declares: message types, enums and services.
+fn put_declared(
+    alloc: Global,
+    to: &mut Message,
+    table: &Schema,
+    source: &Schema,
+    file: &File,
+) -> Result<(), AllocError>
+    requires table { shape_of table.now ≡ written_shape }
+    requires types { AllByRecursion IsSmallType source.now.types.items }
+    requires kept { IsOf FILE to.old }
+    requires behind { last_number to.old < 4 }
+    ensures items { OnOk result (items_of to.new
+        ≡ items_of to.old ++ declared_items (declared_in source.now) file.now) }
+    ensures kept { OnOk result (IsOf FILE to.new) }
+    ensures last { OnOk result (last_number to.new ≤ 6) }
+{
+    let depth = type_count(source);
+    let types = types(alloc, table, source, depth, &file.types)?;
+    put_children(to, table, FILE, FILE_MESSAGE_TYPE, MESSAGE, types)?;
+    let enums = enums(alloc, table, source, &file.enums)?;
+    put_children(to, table, FILE, FILE_ENUM_TYPE, ENUM, enums)?;
+    let services = services(alloc, table, source, &file.services)?;
+    put_children(to, table, FILE, FILE_SERVICE, SERVICE, services)?;
+    Ok(())
+}
+
 // The message of a file.
 fn file_message(
     alloc: Global,
@@ -202,18 +230,18 @@ fn file_message(
 {
     let mut message = empty(alloc, FILE);
     let to = &mut message;
-    let paths = paths(alloc, &file.imports)?;
-    let depth = type_count(source);
-    let types = types(alloc, table, source, depth, &file.types)?;
-    let enums = enums(alloc, table, source, &file.enums)?;
-    let services = services(alloc, table, source, &file.services)?;
-    let options = options(alloc, table, &file.options)?;
     put_text(alloc, to, table, FILE, FILE_NAME, &file.name)?;
     put_filled(alloc, to, table, FILE, FILE_PACKAGE, &file.package)?;
-    put_texts(alloc, to, table, FILE, FILE_DEPENDENCY, &paths)?;
-    put_children(to, table, FILE, FILE_MESSAGE_TYPE, MESSAGE, types)?;
-    put_children(to, table, FILE, FILE_ENUM_TYPE, ENUM, enums)?;
-    put_children(to, table, FILE, FILE_SERVICE, SERVICE, services)?;
+    put_texts(
+        alloc,
+        to,
+        table,
+        FILE,
+        FILE_DEPENDENCY,
+        &paths(alloc, &file.imports)?,
+    )?;
+    put_declared(alloc, to, table, source, file)?;
+    let options = options(alloc, table, &file.options)?;
     put_options(
         alloc,
         to,

@@ -35,6 +35,7 @@ use crate::outline::{Named, Outlined, OutlinedType};
 use crate::proto;
 use crate::said::{children, count, ensure, maybe_number, number, option, place_in, text, texts};
 use crate::type_states::entries_of;
+use crate::types::numbers;
 use pg_dyn::Message;
 use pg_schema::{
     EnumOptions, EnumType, EnumValue, EnumValueOptions, Field, MessageOptions, MessageType,
@@ -254,17 +255,6 @@ fn fields<'a>(
     Ok(fields)
 }
 
-// The numbers of the fields, in their order.
-fn numbers(alloc: Global, fields: &[Field]) -> Result<Vec<u32>, AllocError>
-    ensures { IfOk result (λ found. found.items ≡ map (λ (f : StatedField). f.number) fields.now) }
-{
-    let mut numbers = Vec::new(alloc);
-    for field in fields {
-        numbers.push(field.number)?;
-    }
-    Ok(numbers)
-}
-
 // The fields by rising number.
 fn by_number(mut fields: Vec<Field>) -> Result<Vec<Field>, AllocError>
     ensures same { IfOk result (λ sorted. IsPermutation fields.items sorted.items) }
@@ -424,10 +414,11 @@ pub fn made_type(
 {
     let message = outlined.message;
     let members = made_members(alloc, names, outlined)?;
-    let ranges = children(alloc, message, proto::MESSAGE_RESERVED_RANGE)?;
-    let reserved_numbers = field_ranges(alloc, &ranges)?;
-    let reserved = texts(alloc, message, proto::MESSAGE_RESERVED_NAME)?;
-    let reserved_names = copies(alloc, &reserved)?;
+    let reserved_numbers = field_ranges(
+        alloc,
+        &children(alloc, message, proto::MESSAGE_RESERVED_RANGE)?,
+    )?;
+    let reserved_names = copies(alloc, &texts(alloc, message, proto::MESSAGE_RESERVED_NAME)?)?;
     let name = outlined.name.clone()?;
     let nested_types = outlined.types.clone()?;
     let nested_enums = outlined.enums.clone()?;

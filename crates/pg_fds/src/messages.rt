@@ -5,11 +5,12 @@ ghost use Rattle.std.specs.Prelude.{◌≡◌, ◌+◌, ◌<◌, ◌≤◌, ◌^
 ghost use Rattle.std.specs.List.{AllByRecursion};
 ghost use Rattle.std.specs.String.{string_bytes};
 ghost use Rattle.pg_schema.specs.Parts.{shape_of, type_at};
-ghost use Rattle.pg_fds.specs.Building.{AreChildren, IsOf, items_of, items_within, written_shape};
+ghost use Rattle.pg_fds.specs.Building.{AreChildren, IsOf, items_of, items_within, last_number, written_shape};
 ghost use Rattle.pg_fds.specs.Fields.{fields_items};
 ghost use Rattle.pg_fds.specs.Lent.{lent};
 ghost use Rattle.pg_fds.specs.Messages.{declared_fields, field_range, oneof_items, oneof_names, type_items};
 ghost use Rattle.pg_fds.specs.Places.{declared_in};
+ghost use Rattle.pg_fds.specs.PutParts.{type_rest};
 ghost use Rattle.pg_fds.specs.Small.{HasSmallNumbers, IsSmallRange, IsSmallType};
 
 use crate::building::{empty, put_children, put_count, put_options, put_text, put_texts};
@@ -28,6 +29,7 @@ use crate::proto::{
 };
 use crate::scope::names_within;
 use crate::synthetic::synthetic_oneofs;
+use crate::type_states::declared_fields;
 use pg_dyn::{Message, Value};
 use pg_schema::{Field, MessageType, ReservedFields, Schema, TypeId};
 use std::alloc::{AllocError, Global};
@@ -139,12 +141,7 @@ fn fields_of<'a>(
     ensures few { IfOk result (λ fields. length fields.items
         ≤ length message_type.now.declared.items) }
 {
-    let mut fields = Vec::new(alloc);
-    for number in &message_type.declared {
-        if let Some(field) = source.field(id, *number) {
-            fields.push(field)?;
-        }
-    }
+    let fields = declared_fields(alloc, source, id, message_type)?;
     Ok(fields)
 }
 
@@ -176,6 +173,51 @@ fn fields(
     Ok(made)
 }
 
+// Puts what stands behind the enums: options, oneofs and what is reserved.
+fn put_rest(
+    alloc: Global,
+    to: &mut Message,
+    table: &Schema,
+    source: &Schema,
+    message_type: &MessageType,
+    fields: &[&Field],
+) -> Result<(), AllocError>
+    requires table { shape_of table.now ≡ written_shape }
+    requires kept { IsOf MESSAGE to.old }
+    requires behind { last_number to.old < 7 }
+    requires small { IsSmallType message_type.now }
+    requires fields { lent fields.now ≡ declared_fields message_type.now }
+    ensures items { OnOk result (items_of to.new
+        ≡ items_of to.old ++ type_rest (declared_in source.now) message_type.now) }
+    ensures kept { OnOk result (IsOf MESSAGE to.new) }
+{
+    let stated = message_type.options.deprecated;
+    let options = one_flag(alloc, table, MESSAGE_OPTIONS, MESSAGE_DEPRECATED, stated)?;
+    put_options(
+        alloc,
+        to,
+        table,
+        MESSAGE,
+        proto::MESSAGE_OPTIONS,
+        MESSAGE_OPTIONS,
+        options,
+    )?;
+    let oneofs = oneofs(alloc, table, source, message_type, fields)?;
+    put_children(to, table, MESSAGE, MESSAGE_ONEOF_DECL, ONEOF, oneofs)?;
+    let ranges = ranges(alloc, table, &message_type.reserved_numbers)?;
+    let reserved = &message_type.reserved_names;
+    put_children(
+        to,
+        table,
+        MESSAGE,
+        MESSAGE_RESERVED_RANGE,
+        FIELD_RANGE,
+        ranges,
+    )?;
+    put_texts(alloc, to, table, MESSAGE, MESSAGE_RESERVED_NAME, reserved)?;
+    Ok(())
+}
+
 /// The message of the message type at that place, with the messages of the message types inside it.
 pub fn type_message(
     alloc: Global,
@@ -195,40 +237,17 @@ pub fn type_message(
 {
     let mut message = empty(alloc, MESSAGE);
     let to = &mut message;
+    let name = own_name(&message_type.name);
+    put_text(alloc, to, table, MESSAGE, MESSAGE_NAME, name)?;
     let declared = fields_of(alloc, source, id, message_type)?;
     let real = message_type.oneofs.len() as u32;
     let own = fields(alloc, table, source, &message_type.name, real, &declared)?;
+    put_children(to, table, MESSAGE, MESSAGE_FIELD, FIELD, own)?;
     let mut types = nested;
     push_entries(alloc, table, source, &mut types, &declared)?;
-    let enums = enums(alloc, table, source, &message_type.nested_enums)?;
-    let stated = message_type.options.deprecated;
-    let options = one_flag(alloc, table, MESSAGE_OPTIONS, MESSAGE_DEPRECATED, stated)?;
-    let oneofs = oneofs(alloc, table, source, message_type, &declared)?;
-    let ranges = ranges(alloc, table, &message_type.reserved_numbers)?;
-    let name = own_name(&message_type.name);
-    let reserved = &message_type.reserved_names;
-    put_text(alloc, to, table, MESSAGE, MESSAGE_NAME, name)?;
-    put_children(to, table, MESSAGE, MESSAGE_FIELD, FIELD, own)?;
     put_children(to, table, MESSAGE, MESSAGE_NESTED_TYPE, MESSAGE, types)?;
+    let enums = enums(alloc, table, source, &message_type.nested_enums)?;
     put_children(to, table, MESSAGE, MESSAGE_ENUM_TYPE, ENUM, enums)?;
-    put_options(
-        alloc,
-        to,
-        table,
-        MESSAGE,
-        proto::MESSAGE_OPTIONS,
-        MESSAGE_OPTIONS,
-        options,
-    )?;
-    put_children(to, table, MESSAGE, MESSAGE_ONEOF_DECL, ONEOF, oneofs)?;
-    put_children(
-        to,
-        table,
-        MESSAGE,
-        MESSAGE_RESERVED_RANGE,
-        FIELD_RANGE,
-        ranges,
-    )?;
-    put_texts(alloc, to, table, MESSAGE, MESSAGE_RESERVED_NAME, reserved)?;
+    put_rest(alloc, to, table, source, message_type, &declared)?;
     Ok(message)
 }

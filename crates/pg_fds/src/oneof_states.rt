@@ -187,8 +187,7 @@ fn marked_oneofs(
         → r ≡ Memory) }
 {
     let stated = message_type.oneofs.as_slice();
-    let names = real_names(alloc, oneofs, numbers, marks)?;
-    same_texts(names.as_slice(), stated)?;
+    same_texts(&real_names(alloc, oneofs, numbers, marks)?, stated)?;
     let optional = optional_count(messages);
     if optional > oneofs.len() {
         return Err(Unstated::Reference);

@@ -2,24 +2,27 @@
 //! aside, and bytes that are no text, names are refused only where one stands twice or is a part of
 //! a package.
 
-ghost use Rattle.std.specs.Prelude.{◌≡◌, ◌+◌, ◌<◌, ◌≤◌, ◌^◌, ◌++◌, ◌∷◌, [], ℕ, true, IfErr, IfOk, List, OnErr, OnOk, filter, flat_map, length, map};
+ghost use Rattle.std.specs.Prelude.{◌≡◌, ◌+◌, ◌<◌, ◌≤◌, ◌^◌, ◌++◌, ◌∷◌, [], ℕ, true, IfErr, IfOk, List, OnErr, OnOk, filter, length, map};
 ghost use Rattle.std.specs.List.{AllByRecursion};
-ghost use Rattle.pg_schema.specs.Scopes.{enum_places, service_places, type_places};
+ghost use Rattle.pg_schema.specs.Scopes.{enum_places, type_places};
 ghost use Rattle.pg_schema.specs.TextSets.{is_among};
 ghost use Rattle.pg_dyn.specs.Kept.{message_of};
 ghost use Rattle.pg_fds.specs.declared.error.Unstated.TheVariants.{Memory};
 ghost use Rattle.pg_fds.specs.Lent.{lent};
-ghost use Rattle.pg_fds.specs.Outlines.{AreEnumsNamed, AreTypesNamed, IsTypeNamed, MayDeclare, MayPlace, NameOneofs, NamesOneofs, enum_rows, file_enums, file_services, file_types, files_at, row, row_in, rows_in, type_row, type_rows};
-ghost use Rattle.pg_fds.specs.OutlinedPlaces.{PlacedType, counts_of, file_places, inside_file, no_counts, placed_file, placed_files, placed_type, placed_types, places_of_types, types_of_files, without_inside};
-ghost use Rattle.pg_fds.specs.Proto as proto;
-ghost use Rattle.pg_fds.specs.Said.{children_at, text_at};
-ghost use Rattle.pg_fds.specs.SetNames.{Declares, WantsMemory, enum_names, enums_names, file_names, member_names, own_names, service_names, services_names, types_names};
+ghost use Rattle.pg_fds.specs.Outlines.{AreTypesNamed, IsTypeNamed, MayDeclare, MayPlace, NameOneofs, NamesOneofs, enum_rows, files_at, type_row, type_rows};
+ghost use Rattle.pg_fds.specs.OutlinedPlaces.{PlacedType, counts_of, placed_type, places_of_types, without_inside};
+ghost use Rattle.pg_fds.specs.OutlinedScopes.{OutlinesFile, OutlinesFiles, OutlinesTypes};
+ghost use Rattle.pg_fds.specs.SetNames.{Declares, WantsMemory, file_names, member_names, own_names, types_names};
 ghost use Rattle.pg_fds.specs.StatesTypes.{is_entry};
-ghost use Rattle.pg_fds.specs.Walks.{places_from};
+
+mod enums;
+mod services;
 
 use crate::declare::{declare, declare_each, declare_package, full_name, real_oneofs};
 use crate::error::Unstated;
 use crate::oneof_states::{marks, synthetic_places};
+use crate::outline::enums::outline_enums;
+use crate::outline::services::outline_services;
 use crate::proto;
 use crate::said::{children, text};
 use crate::type_states::{entries_of, types_of};
@@ -82,133 +85,6 @@ fn next_place(count: usize) -> Result<u32, Unstated>
         Ok(place) => Ok(place),
         Err(_) => Err(Unstated::Reference),
     }
-}
-
-// ---- enums
-
-// An enum, with its name and those of its values.
-fn outline_enum<'a>(
-    alloc: Global,
-    names: &mut BTreeMap<String, Named>,
-    enums: &mut Vec<Outlined<'a>>,
-    scope: &str,
-    message: &'a Message,
-) -> Result<EnumId, Unstated>
-    ensures placed { IfOk result (λ id. id.index ≡ length enums.old.items) }
-    ensures rows { OnOk result (map row enums.new.items ≡ map row enums.old.items
-        ++ row_in scope.now (message_of message.now) ∷ []) }
-    ensures named { OnOk result (AreEnumsNamed names.old (map row enums.old.items)
-        → AreEnumsNamed names.new (map row enums.new.items)) }
-    ensures declares { OnOk result ((packages : List (List ℕ))
-        → Declares packages (enum_names scope.now (message_of message.now)) names.old names.new) }
-    ensures refused { IfErr result (λ e. length enums.old.items < 2 ^ 32
-        → (packages : List (List ℕ))
-        → WantsMemory packages (enum_names scope.now (message_of message.now)) names.old e) }
-{
-    let own = text(message, proto::ENUM_NAME)?;
-    let name = full_name(alloc, scope, own)?;
-    let index = next_place(enums.len())?;
-    let id = EnumId { index };
-    declare(names, name.clone()?, Named::Enum(id))?;
-    let values = children(alloc, message, proto::ENUM_VALUE)?;
-    declare_each(alloc, names, scope, values.as_slice(), Named::Other)?;
-    enums.push(Outlined { message, name })?;
-    Ok(id)
-}
-
-// The enums that a scope declares.
-fn outline_enums<'a>(
-    alloc: Global,
-    names: &mut BTreeMap<String, Named>,
-    enums: &mut Vec<Outlined<'a>>,
-    scope: &str,
-    messages: &[&'a Message],
-) -> Result<Vec<EnumId>, Unstated>
-    ensures ids { IfOk result (λ ids. enum_places ids.items
-        ≡ places_from (length enums.old.items) (length messages.now)) }
-    ensures rows { OnOk result (map row enums.new.items ≡ map row enums.old.items
-        ++ rows_in scope.now (map message_of (lent messages.now))) }
-    ensures named { OnOk result (AreEnumsNamed names.old (map row enums.old.items)
-        → AreEnumsNamed names.new (map row enums.new.items)) }
-    ensures declares { OnOk result ((packages : List (List ℕ))
-        → Declares packages (enums_names scope.now (map message_of (lent messages.now))) names.old
-        names.new) }
-    ensures refused { IfErr result (λ e. length enums.old.items + length messages.now ≤ 2 ^ 32
-        → (packages : List (List ℕ))
-        → WantsMemory packages (enums_names scope.now (map message_of (lent messages.now)))
-        names.old e) }
-{
-    let mut ids = Vec::new(alloc);
-    for message in messages {
-        let id = outline_enum(alloc, names, enums, scope, message)?;
-        ids.push(id)?;
-    }
-    Ok(ids)
-}
-
-// ---- services
-
-// A service, with its name and those of its methods.
-fn outline_service<'a>(
-    alloc: Global,
-    names: &mut BTreeMap<String, Named>,
-    services: &mut Vec<Outlined<'a>>,
-    scope: &str,
-    message: &'a Message,
-) -> Result<ServiceId, Unstated>
-    ensures placed { IfOk result (λ id. id.index ≡ length services.old.items) }
-    ensures rows { OnOk result (map row services.new.items ≡ map row services.old.items
-        ++ row_in scope.now (message_of message.now) ∷ []) }
-    ensures declares { OnOk result ((packages : List (List ℕ))
-        → Declares packages (service_names scope.now (message_of message.now)) names.old
-        names.new) }
-    ensures refused { IfErr result (λ e. length services.old.items < 2 ^ 32
-        → (packages : List (List ℕ))
-        → WantsMemory packages (service_names scope.now (message_of message.now)) names.old e) }
-{
-    let own = text(message, proto::SERVICE_NAME)?;
-    let name = full_name(alloc, scope, own)?;
-    let index = next_place(services.len())?;
-    let id = ServiceId { index };
-    declare(names, name.clone()?, Named::Other)?;
-    let methods = children(alloc, message, proto::SERVICE_METHOD)?;
-    declare_each(
-        alloc,
-        names,
-        name.as_str(),
-        methods.as_slice(),
-        Named::Other,
-    )?;
-    services.push(Outlined { message, name })?;
-    Ok(id)
-}
-
-// The services that a scope declares.
-fn outline_services<'a>(
-    alloc: Global,
-    names: &mut BTreeMap<String, Named>,
-    services: &mut Vec<Outlined<'a>>,
-    scope: &str,
-    messages: &[&'a Message],
-) -> Result<Vec<ServiceId>, Unstated>
-    ensures ids { IfOk result (λ ids. service_places ids.items
-        ≡ places_from (length services.old.items) (length messages.now)) }
-    ensures rows { OnOk result (map row services.new.items ≡ map row services.old.items
-        ++ rows_in scope.now (map message_of (lent messages.now))) }
-    ensures declares { OnOk result ((packages : List (List ℕ))
-        → Declares packages (services_names scope.now (map message_of (lent messages.now)))
-        names.old names.new) }
-    ensures refused { IfErr result (λ e. length services.old.items + length messages.now ≤ 2 ^ 32
-        → (packages : List (List ℕ))
-        → WantsMemory packages (services_names scope.now (map message_of (lent messages.now)))
-        names.old e) }
-{
-    let mut ids = Vec::new(alloc);
-    for message in messages {
-        let id = outline_service(alloc, names, services, scope, message)?;
-        ids.push(id)?;
-    }
-    Ok(ids)
 }
 
 // ---- message types
@@ -366,31 +242,11 @@ impl<'a> Outline<'a> {
         scope: &str,
         messages: &[&'a Message],
     ) -> Result<Vec<TypeId>, Unstated>
-        ensures rows { OnOk result (map type_row self.new.types.items
-            ≡ map type_row self.old.types.items
-            ++ type_rows depth scope.now (map message_of (lent messages.now))) }
-        ensures enum_rows { OnOk result (map row self.new.enums.items
-            ≡ map row self.old.enums.items
-            ++ enum_rows depth scope.now (map message_of (lent messages.now))) }
         ensures ids { IfOk result (λ ids. type_places ids.items
             ≡ places_of_types depth scope.now (counts_of self.old)
             (map message_of (lent messages.now))) }
-        ensures placed { OnOk result (map placed_type self.new.types.items
-            ≡ map placed_type self.old.types.items
-            ++ placed_types depth scope.now (counts_of self.old)
-            (map message_of (lent messages.now))) }
-        ensures others { OnOk result
-            ((self.new.services.items ≡ self.old.services.items)
-            × (self.new.files.items ≡ self.old.files.items)) }
-        ensures named { OnOk result (AreTypesNamed self.old.names
-            (map type_row self.old.types.items)
-            → AreTypesNamed self.new.names (map type_row self.new.types.items)) }
-        ensures enums_named { OnOk result
-            (AreEnumsNamed self.old.names (map row self.old.enums.items)
-            → AreEnumsNamed self.new.names (map row self.new.enums.items)) }
-        ensures declares { OnOk result ((packages : List (List ℕ))
-            → Declares packages (types_names depth scope.now (map message_of (lent messages.now)))
-            self.old.names self.new.names) }
+        ensures outlined { OnOk result (OutlinesTypes depth scope.now
+            (map message_of (lent messages.now)) self.old self.new) }
         ensures refused { IfErr result
             (λ e. length self.old.types.items + length
             (type_rows depth scope.now (map message_of (lent messages.now))) ≤ 2 ^ 32
@@ -430,32 +286,8 @@ impl<'a> Outline<'a> {
         depth: usize,
         message: &'a Message,
     ) -> Result<(), Unstated>
-        ensures types { OnOk result (map type_row self.new.types.items
-            ≡ map type_row self.old.types.items ++ file_types depth (message_of message.now)) }
-        ensures enums { OnOk result (map row self.new.enums.items ≡ map row self.old.enums.items
-            ++ file_enums depth (message_of message.now)) }
-        ensures services { OnOk result
-            (map row self.new.services.items ≡ map row self.old.services.items
-            ++ file_services (message_of message.now)) }
-        ensures files { OnOk result (map placed_file self.new.files.items
-            ≡ map placed_file self.old.files.items ++ file_places depth (counts_of self.old)
-            (message_of message.now) ∷ []) }
-        ensures placed { OnOk result (map placed_type self.new.types.items
-            ≡ map placed_type self.old.types.items
-            ++ placed_types depth (text_at proto.file_package (message_of message.now))
-            (inside_file (counts_of self.old) (message_of message.now))
-            (children_at proto.file_message_type (message_of message.now))) }
-        ensures named { OnOk result (AreTypesNamed self.old.names
-            (map type_row self.old.types.items)
-            → AreTypesNamed self.new.names (map type_row self.new.types.items)) }
-        ensures enums_named { OnOk result
-            (AreEnumsNamed self.old.names (map row self.old.enums.items)
-            → AreEnumsNamed self.new.names (map row self.new.enums.items)) }
-        ensures declares { OnOk result
-            ((packages : List (List ℕ))
-            → is_among packages (text_at proto.file_package (message_of message.now)) ≡ true
-            → Declares packages (file_names depth (message_of message.now)) self.old.names
-            self.new.names) }
+        ensures outlined { OnOk result (OutlinesFile depth (message_of message.now)
+            self.old self.new) }
         ensures refused { IfErr result (λ e. (packages : List (List ℕ))
             → MayPlace depth (length self.old.types.items) (length self.old.enums.items)
             (length self.old.services.items) packages (message_of message.now)
@@ -496,20 +328,8 @@ pub fn outline_files<'a>(
     files: &[&'a Message],
     order: &[usize],
 ) -> Result<Outline<'a>, Unstated>
-    ensures types { IfOk result (λ outline. map type_row outline.types.items
-        ≡ flat_map (file_types depth) (files_at (map message_of (lent files.now)) order.now)) }
-    ensures enums { IfOk result (λ outline. map row outline.enums.items
-        ≡ flat_map (file_enums depth) (files_at (map message_of (lent files.now)) order.now)) }
-    ensures services { IfOk result (λ outline. map row outline.services.items
-        ≡ flat_map file_services (files_at (map message_of (lent files.now)) order.now)) }
-    ensures files { IfOk result (λ outline. map placed_file outline.files.items
-        ≡ placed_files depth no_counts (files_at (map message_of (lent files.now)) order.now)) }
-    ensures placed { IfOk result (λ outline. map placed_type outline.types.items
-        ≡ types_of_files depth no_counts (files_at (map message_of (lent files.now)) order.now)) }
-    ensures named { IfOk result (λ outline. AreTypesNamed outline.names
-        (map type_row outline.types.items)) }
-    ensures enums_named { IfOk result
-        (λ outline. AreEnumsNamed outline.names (map row outline.enums.items)) }
+    ensures outlined { IfOk result (OutlinesFiles depth
+        (files_at (map message_of (lent files.now)) order.now)) }
     ensures refused { IfErr result (λ e. AllByRecursion
         (λ place. place < length files.now) order.now
         → MayDeclare depth (files_at (map message_of (lent files.now)) order.now) → e ≡ Memory) }

@@ -37,13 +37,13 @@ fn method_message(
 {
     let mut message = empty(alloc, METHOD);
     let to = &mut message;
+    put_text(alloc, to, table, METHOD, METHOD_NAME, &method.name)?;
     let input = element_name(alloc, source, Element::Message(method.input))?;
+    put_maybe_text(alloc, to, table, METHOD, METHOD_INPUT_TYPE, input)?;
     let output = element_name(alloc, source, Element::Message(method.output))?;
+    put_maybe_text(alloc, to, table, METHOD, METHOD_OUTPUT_TYPE, output)?;
     let stated = method.options.deprecated;
     let options = one_flag(alloc, table, METHOD_OPTIONS, METHOD_DEPRECATED, stated)?;
-    put_text(alloc, to, table, METHOD, METHOD_NAME, &method.name)?;
-    put_maybe_text(alloc, to, table, METHOD, METHOD_INPUT_TYPE, input)?;
-    put_maybe_text(alloc, to, table, METHOD, METHOD_OUTPUT_TYPE, output)?;
     put_options(
         alloc,
         to,
@@ -104,9 +104,6 @@ fn service_message(
 {
     let mut message = empty(alloc, SERVICE);
     let to = &mut message;
-    let methods = methods(alloc, table, source, &service.methods)?;
-    let stated = service.options.deprecated;
-    let options = one_flag(alloc, table, SERVICE_OPTIONS, SERVICE_DEPRECATED, stated)?;
     put_text(
         alloc,
         to,
@@ -115,7 +112,10 @@ fn service_message(
         SERVICE_NAME,
         own_name(&service.name),
     )?;
+    let methods = methods(alloc, table, source, &service.methods)?;
     put_children(to, table, SERVICE, SERVICE_METHOD, METHOD, methods)?;
+    let stated = service.options.deprecated;
+    let options = one_flag(alloc, table, SERVICE_OPTIONS, SERVICE_DEPRECATED, stated)?;
     put_options(
         alloc,
         to,

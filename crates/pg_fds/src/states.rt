@@ -232,12 +232,11 @@ fn field(
         (message_of message.now) declared.now → r ≡ Memory) }
 {
     let code = type_code(declared.presence, declared.element);
-    let type_name = named_type(alloc, source, scope, declared)?;
     same_text(text(message, proto::FIELD_NAME)?, &declared.name)?;
     ensure(number(message, proto::FIELD_NUMBER) == i128::from(declared.number))?;
     ensure(label_of(message) == i128::from(label(declared.presence)))?;
     ensure(number(message, proto::FIELD_TYPE) == i128::from(code))?;
-    has_type_name(message, &type_name)?;
+    has_type_name(message, &named_type(alloc, source, scope, declared)?)?;
     ensure(option(message, proto::FIELD_OPTIONS, proto::FIELD_PACKED) == declared.options.packed)?;
     ensure(
         option(message, proto::FIELD_OPTIONS, proto::FIELD_DEPRECATED)

@@ -9,6 +9,7 @@ ghost use Rattle.pg_fds.specs.declared.error.Unstated.TheVariants.{Memory};
 ghost use Rattle.pg_fds.specs.Lent.{lent};
 ghost use Rattle.pg_fds.specs.Messages.{declared_fields};
 ghost use Rattle.pg_fds.specs.Places.{declared_in};
+ghost use Rattle.pg_fds.specs.StatesInside.{StatesInside, StatesMembers, StatesReserved};
 ghost use Rattle.pg_fds.specs.StatesTypes.{StatesType, StatesTypes, is_entry, is_no_entry};
 
 use crate::entry_states::entries;
@@ -62,8 +63,9 @@ pub fn types_of<'a>(alloc: Global, messages: &[&'a Message]) -> Result<Vec<&'a M
     Ok(found)
 }
 
-// The fields of the message type at that place, in order of declaration.
-fn declared_fields<'a>(
+/// The fields of the message type at that place, in order of declaration. Refused only where memory
+/// is.
+pub fn declared_fields<'a>(
     alloc: Global,
     source: &'a Schema,
     id: TypeId,
@@ -81,6 +83,77 @@ fn declared_fields<'a>(
     Ok(fields)
 }
 
+// The message states the fields and the oneofs of the message type at that place.
+fn members(
+    alloc: Global,
+    source: &Schema,
+    message: &Message,
+    id: TypeId,
+    declared: &MessageType,
+) -> Result<(), Unstated>
+    requires { type_at source.now id ≡ Some declared.now }
+    ensures ok { OnOk result (StatesMembers (declared_in source.now)
+        (message_of message.now) declared.now) }
+    ensures refused { IfErr result (λ r. StatesMembers (declared_in source.now)
+        (message_of message.now) declared.now → r ≡ Memory) }
+{
+    let own = children(alloc, message, proto::MESSAGE_FIELD)?;
+    let own_declared = declared_fields(alloc, source, id, declared)?;
+    fields(alloc, source, &declared.name, &own, &own_declared)?;
+    let inside = children(alloc, message, proto::MESSAGE_ONEOF_DECL)?;
+    oneofs(alloc, &inside, &own, declared, &own_declared)?;
+    Ok(())
+}
+
+// It states its entry types and enums.
+fn inside(
+    alloc: Global,
+    source: &Schema,
+    message: &Message,
+    id: TypeId,
+    declared: &MessageType,
+) -> Result<(), Unstated>
+    requires { type_at source.now id ≡ Some declared.now }
+    ensures ok { OnOk result (StatesInside (declared_in source.now)
+        (message_of message.now) declared.now) }
+    ensures refused { IfErr result (λ r. IsSound source.now
+        → StatesInside (declared_in source.now) (message_of message.now) declared.now
+        → r ≡ Memory) }
+{
+    enums(
+        alloc,
+        source,
+        &declared.name,
+        &children(alloc, message, proto::MESSAGE_ENUM_TYPE)?,
+        &declared.nested_enums,
+    )?;
+    let inside = children(alloc, message, proto::MESSAGE_NESTED_TYPE)?;
+    entries(
+        alloc,
+        source,
+        &entries_of(alloc, &inside)?,
+        &declared.fields,
+    )?;
+    Ok(())
+}
+
+// It states what is reserved.
+fn reserved(alloc: Global, message: &Message, declared: &MessageType) -> Result<(), Unstated>
+    ensures ok { OnOk result (StatesReserved (message_of message.now) declared.now) }
+    ensures refused { IfErr result (λ r. StatesReserved (message_of message.now) declared.now
+        → r ≡ Memory) }
+{
+    field_ranges(
+        &children(alloc, message, proto::MESSAGE_RESERVED_RANGE)?,
+        &declared.reserved_numbers,
+    )?;
+    same_texts(
+        &texts(alloc, message, proto::MESSAGE_RESERVED_NAME)?,
+        &declared.reserved_names,
+    )?;
+    Ok(())
+}
+
 fn own_type(
     alloc: Global,
     source: &Schema,
@@ -96,35 +169,16 @@ fn own_type(
         → StatesType (declared_in source.now) scope.now (message_of message.now) declared.now
         → r ≡ Memory) }
 {
-    let own = children(alloc, message, proto::MESSAGE_FIELD)?;
-    let declared_fields = declared_fields(alloc, source, id, declared)?;
-    let inside = children(alloc, message, proto::MESSAGE_NESTED_TYPE)?;
     let name = declared.name.as_str();
     is_within(alloc, scope, text(message, proto::MESSAGE_NAME)?, name)?;
     ensure(!is_entry(message))?;
-    fields(alloc, source, name, &own, &declared_fields)?;
-    entries(
-        alloc,
-        source,
-        &entries_of(alloc, &inside)?,
-        &declared.fields,
-    )?;
-    let enums_inside = children(alloc, message, proto::MESSAGE_ENUM_TYPE)?;
-    enums(alloc, source, name, &enums_inside, &declared.nested_enums)?;
     ensure(
         option(message, proto::MESSAGE_OPTIONS, proto::MESSAGE_DEPRECATED)
             == declared.options.deprecated,
     )?;
-    let oneofs_inside = children(alloc, message, proto::MESSAGE_ONEOF_DECL)?;
-    oneofs(alloc, &oneofs_inside, &own, declared, &declared_fields)?;
-    field_ranges(
-        &children(alloc, message, proto::MESSAGE_RESERVED_RANGE)?,
-        &declared.reserved_numbers,
-    )?;
-    same_texts(
-        &texts(alloc, message, proto::MESSAGE_RESERVED_NAME)?,
-        &declared.reserved_names,
-    )?;
+    members(alloc, source, message, id, declared)?;
+    inside(alloc, source, message, id, declared)?;
+    reserved(alloc, message, declared)?;
     Ok(())
 }
 

@@ -62,8 +62,8 @@ fn fields(alloc: Global, rows: &[FieldRow<'_>]) -> Result<Vec<Field>, AllocError
     Ok(fields)
 }
 
-// The numbers of fields, in order. Refused only where memory is.
-fn numbers(alloc: Global, fields: &[Field]) -> Result<Vec<u32>, AllocError>
+/// The numbers of fields, in order. Refused only where memory is.
+pub fn numbers(alloc: Global, fields: &[Field]) -> Result<Vec<u32>, AllocError>
     ensures { IfOk result (λ numbers. numbers.items ≡ map (λ (f : Field). f.number) fields.now) }
 {
     let mut numbers = Vec::new(alloc);

@@ -11,5 +11,5 @@ pub returns-in_err-text-clause-refused : goal.returns-in_err-text-clause-refused
 returns-in_err-text-clause-refused c =
     MatchResult-from_err c.from_residual-in_err-text.result _ _ c.from_residual-in_err-text.ensures.0
     (λ r states.
-    let is : string_bytes c.in_ok-name.name ≡ text_at 1 (message_of c.args.message.now) = cc (c.in_ok-name.ensures, c.deref.ensures, states.name) in
+    let is : string_bytes c.in_ok-name.name ≡ text_at 1 (message_of c.args.message.now) = cc (c.in_ok-name.ensures, c.deref-2.ensures, states.name) in
     absurd (c.in_err-text.ensures.refused (subst IsUtf8 is (IsUtf8-string_bytes c.in_ok-name.name))))

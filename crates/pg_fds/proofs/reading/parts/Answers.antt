@@ -25,10 +25,9 @@ returns c =
     let skips = c.args.skips in
     let files = c.args.files.now in
     let outline = c.in_ok-outline.outline in
-    let told = c.in_ok-outline.ensures in
     let theirs : (parts : Parts) → CanBeMade parts → StatesFiles skips (map message_of (lent files)) parts → AreOutlined skips parts outline =
     λ parts can states.
-    outlined skips files c.args.order.now c.requires parts can.able states outline told.types told.enums told.services told.files told.placed told.named told.enums_named in
+    outlined skips files c.args.order.now c.requires parts can.able states outline c.in_ok-outline.ensures.outlined in
     record {
       made = IfOk-weaker c.made_parts.result _ (λ made. (parts : Parts) → CanBeMade parts → StatesFiles skips (map message_of (lent files)) parts → parts_view made ≡ parts_view parts)
           (λ made is parts can states. is parts can.able.sound can.numbers (theirs parts can states)) c.made_parts.ensures.made;

@@ -6,5 +6,5 @@ use Rattle.pg_fds.proofs.states.field.Goals as goal
 
 pub returns-in_err-text-clause-refused : goal.returns-in_err-text-clause-refused
 returns-in_err-text-clause-refused c =
-    MatchResult-from_err c.from_residual-in_err-text.result _ _ c.from_residual-in_err-text.ensures.0
+    MatchResult-from_err c.from_residual.result _ _ c.from_residual.ensures.0
     (λ r states. absurd (c.in_err-text.ensures.refused (subst IsUtf8 (sym states.name) (IsUtf8-string_bytes c.args.declared.now.name))))

@@ -26,14 +26,16 @@ returns-then-depth-eq0 t c =
     let scope = c.args.scope.now in
     let self = c.args.self.now in
     record {
-      rows = no_type_rows c.args.depth scope ms (map type_row self.types.items) c.if-depth-eq0.true;
-      enum_rows = no_enum_rows c.args.depth scope ms (map row self.enums.items) c.if-depth-eq0.true;
       ids = ap type_places c.new-ids.ensures.items ∙ sym (ap (λ d. places_of_types d scope (counts_of self) ms) c.if-depth-eq0.true);
-      placed = no_placed c.args.depth scope (counts_of self) ms (map placed_type self.types.items) c.if-depth-eq0.true;
-      others = (refl, refl);
-      named = λ before. before;
-      enums_named = λ before. before;
-      declares = λ packages. subst (λ ns. Declares packages ns self.names self.names) (sym (no_names c.args.depth scope ms c.if-depth-eq0.true)) (declares_none packages self.names);
+      outlined = record {
+        rows = no_type_rows c.args.depth scope ms (map type_row self.types.items) c.if-depth-eq0.true;
+        enum_rows = no_enum_rows c.args.depth scope ms (map row self.enums.items) c.if-depth-eq0.true;
+        placed = no_placed c.args.depth scope (counts_of self) ms (map placed_type self.types.items) c.if-depth-eq0.true;
+        others = (refl, refl);
+        named = λ before. before;
+        enums_named = λ before. before;
+        declares = λ packages. subst (λ ns. Declares packages ns self.names self.names) (sym (no_names c.args.depth scope ms c.if-depth-eq0.true)) (declares_none packages self.names);
+      };
       refused = tt;
     }
 
@@ -164,12 +166,12 @@ loop-message-preserved t c =
     let b = c.outline_types.new.self in
     let row_there : map type_row last.types.items ≡ map type_row mid.types.items ++ rows_of_type (type_rows (depth - 1)) scope mm =
     type_rows_on (depth - 1) scope at mm inner (map type_row mid.types.items) (map type_row a.types.items) (map type_row last.types.items) here types c.in_ok-id.ensures.rows
-    (c.place_inside.ensures.rows ∙ c.in_ok-types.ensures.rows) in
+    (c.place_inside.ensures.rows ∙ c.in_ok-types.ensures.outlined.rows) in
     let enums_there : map row last.enums.items ≡ map row mid.enums.items ++ rows_of_enums (enum_rows (depth - 1)) scope mm =
     enum_rows_on (depth - 1) scope at mm inner found (map row mid.enums.items) (map row c.outline_enums.new.enums.items) (map row last.enums.items) here types all
     (c.in_ok-enums.ensures.rows ∙ ap (λ es. map row es ++ rows_in at found) c.in_ok-id.ensures.others.0)
-    (ap (map row) c.place_inside.ensures.others.1 ∙ c.in_ok-types.ensures.enum_rows) in
-    let services_same : last.services.items ≡ mid.services.items = c.place_inside.ensures.others.2 ∙ (c.in_ok-types.ensures.others.0 ∙ c.in_ok-id.ensures.others.1) in
+    (ap (map row) c.place_inside.ensures.others.1 ∙ c.in_ok-types.ensures.outlined.enum_rows) in
+    let services_same : last.services.items ≡ mid.services.items = c.place_inside.ensures.others.2 ∙ (c.in_ok-types.ensures.outlined.others.0 ∙ c.in_ok-id.ensures.others.1) in
     let one = rows_long type_row mid.types.items a.types.items ((at, mm) ∷ []) c.in_ok-id.ensures.rows in
     let many : length c.as_slice-own_enums.result.now ≡ length (children_at 4 mm) = sym (seen_long c.as_slice-own_enums.result.now) ∙ ap length all in
     let own = rows_long row a.enums.items c.outline_enums.new.enums.items (rows_in at found) c.in_ok-enums.ensures.rows in
@@ -189,26 +191,26 @@ loop-message-preserved t c =
           (map placed_type mid.types.items) (map placed_type last.types.items) more inv.counts inv.placed
           (placed_on (depth - 1) scope at mm inner (map placed_type mid.types.items) (map placed_type a.types.items) (map placed_type b.types.items) (map placed_type last.types.items) (counts_of mid)
           (type_places c.in_ok-types.types.items) (enum_places c.in_ok-enums.enums.items) (length a.enums.items) (length c.as_slice-own_enums.result.now) here types c.in_ok-id.ensures.empty
-          (c.in_ok-types.ensures.placed ∙ ap (λ k. map placed_type a.types.items ++ placed_types (depth - 1) at k inner) inside_counts)
+          (c.in_ok-types.ensures.outlined.placed ∙ ap (λ k. map placed_type a.types.items ++ placed_types (depth - 1) at k inner) inside_counts)
           (c.in_ok-types.ensures.ids ∙ ap (λ k. places_of_types (depth - 1) at k inner) inside_counts) c.in_ok-enums.ensures.ids (ap length c.in_ok-id.ensures.others.0) many
           (λ behind r is. c.place_inside.ensures.inside (map placed_type mid.types.items) behind r is at_place));
       counts = counts_on on (counts_of old) (counts_of mid) (counts_of last) (seen (take i ms)) (seen (take (i + 1) ms)) mm more inv.counts
           (counts_are (counts_of last) (on (counts_of mid) mm) types_long enums_long (ap length services_same));
-      others = (services_same ∙ inv.others.0, c.place_inside.ensures.others.3 ∙ (c.in_ok-types.ensures.others.1 ∙ (c.in_ok-id.ensures.others.2 ∙ inv.others.1)));
+      others = (services_same ∙ inv.others.0, c.place_inside.ensures.others.3 ∙ (c.in_ok-types.ensures.outlined.others.1 ∙ (c.in_ok-id.ensures.others.2 ∙ inv.others.1)));
       named = λ before.
           subst (AreTypesNamed last.names) (sym c.place_inside.ensures.rows)
           (subst (λ table. AreTypesNamed table (map type_row b.types.items)) same
-          (c.in_ok-types.ensures.named (types_still [] _ t1 t2 (c.in_ok-enums.ensures.declares []) (map type_row a.types.items) (c.in_ok-id.ensures.named (inv.named before)))));
+          (c.in_ok-types.ensures.outlined.named (types_still [] _ t1 t2 (c.in_ok-enums.ensures.declares []) (map type_row a.types.items) (c.in_ok-id.ensures.named (inv.named before)))));
       enums_named = λ before.
           subst (AreEnumsNamed last.names) (sym (ap (map row) c.place_inside.ensures.others.1))
           (subst (λ table. AreEnumsNamed table (map row b.enums.items)) same
-          (c.in_ok-types.ensures.enums_named (c.in_ok-enums.ensures.named
+          (c.in_ok-types.ensures.outlined.enums_named (c.in_ok-enums.ensures.named
           (subst (λ es. AreEnumsNamed t1 (map row es)) (sym c.in_ok-id.ensures.others.0) (enums_still [] _ t0 t1 (c.in_ok-id.ensures.declares []) (map row mid.enums.items) (inv.enums_named before))))));
       declares = λ packages.
           subst (λ table. Declares packages (flat_map (type_names (types_names (depth - 1)) scope) (seen (take (i + 1) ms))) old.names table) same
           (loop_declares (type_names (types_names (depth - 1)) scope) ms i m h c.message-item.is packages old.names t0 t3 (inv.declares packages)
           (type_declared (depth - 1) scope mm at here packages t0 t1 (c.in_ok-id.ensures.declares packages) found all t2 (c.in_ok-enums.ensures.declares packages) inner types t3
-          (c.in_ok-types.ensures.declares packages)));
+          (c.in_ok-types.ensures.outlined.declares packages)));
     }
 
 pub returns : goal.returns
@@ -223,17 +225,19 @@ returns t c =
     let old = c.args.self.now in
     let mid = c.loop-message.self in
     record {
-      rows = lists_end (rows_of_type (type_rows (depth - 1)) scope) ms i (map type_row old.types.items) (map type_row mid.types.items) (type_rows depth scope (seen ms)) h (rows_below scope (seen ms) depth some) inv.rows;
-      enum_rows = lists_end (rows_of_enums (enum_rows (depth - 1)) scope) ms i (map row old.enums.items) (map row mid.enums.items) (enum_rows depth scope (seen ms)) h (enums_below scope (seen ms) depth some) inv.enum_rows;
       ids = inv.ids ∙ (ap (λ xs. each_from (behind_type (depth - 1) scope) (λ c m. c.types ∷ []) (counts_of old) (seen xs)) (taken ms i h) ∙ sym (places_below scope (counts_of old) (seen ms) depth some));
-      placed = inv.placed ∙ ap (λ xs. map placed_type old.types.items ++ xs)
-          (ap (λ xs. each_from (behind_type (depth - 1) scope) (placed_with (depth - 1) (placed_types (depth - 1)) scope) (counts_of old) (seen xs)) (taken ms i h) ∙ sym (placed_below scope (counts_of old) (seen ms) depth some));
-      others = inv.others;
-      named = inv.named;
-      enums_named = inv.enums_named;
-      declares = λ packages.
-          subst (λ ns. Declares packages ns old.names mid.names) (ap (λ xs. flat_map (type_names (types_names (depth - 1)) scope) (seen xs)) (taken ms i h) ∙ sym (names_below scope (seen ms) depth some))
-          (inv.declares packages);
+      outlined = record {
+        rows = lists_end (rows_of_type (type_rows (depth - 1)) scope) ms i (map type_row old.types.items) (map type_row mid.types.items) (type_rows depth scope (seen ms)) h (rows_below scope (seen ms) depth some) inv.rows;
+        enum_rows = lists_end (rows_of_enums (enum_rows (depth - 1)) scope) ms i (map row old.enums.items) (map row mid.enums.items) (enum_rows depth scope (seen ms)) h (enums_below scope (seen ms) depth some) inv.enum_rows;
+        placed = inv.placed ∙ ap (λ xs. map placed_type old.types.items ++ xs)
+            (ap (λ xs. each_from (behind_type (depth - 1) scope) (placed_with (depth - 1) (placed_types (depth - 1)) scope) (counts_of old) (seen xs)) (taken ms i h) ∙ sym (placed_below scope (counts_of old) (seen ms) depth some));
+        others = inv.others;
+        named = inv.named;
+        enums_named = inv.enums_named;
+        declares = λ packages.
+            subst (λ ns. Declares packages ns old.names mid.names) (ap (λ xs. flat_map (type_names (types_names (depth - 1)) scope) (seen xs)) (taken ms i h) ∙ sym (names_below scope (seen ms) depth some))
+            (inv.declares packages);
+      };
       refused = tt;
     }
 

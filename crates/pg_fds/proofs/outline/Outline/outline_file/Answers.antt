@@ -107,8 +107,8 @@ returns-in_err-services-clause-refused c =
     rw (p.1, p.2) (λ packages may.
     let few = may.few_services in
     file_services_wanted depth m packages at here enums same_enums c.args.self.now.names c.declare_scope.new.names (c.in_ok-declare_scope.ensures.declares packages (subst (λ a. is_among packages a ≡ true) (sym here) may.package_name))
-    c.outline_enums.new.names (c.in_ok-enums.ensures.declares packages) types same_types c.outline_types.new.self.names (c.in_ok-types.ensures.declares packages) services same_services _
-    (c.in_err-services.ensures.refused (omega (arith, few, ap length c.in_ok-types.ensures.others.0, ap length same_services, seen_long c.as_slice-own_services.result.now, length-map (children_at 6 m) (row_in (text_at 2 m)))) packages))
+    c.outline_enums.new.names (c.in_ok-enums.ensures.declares packages) types same_types c.outline_types.new.self.names (c.in_ok-types.ensures.outlined.declares packages) services same_services _
+    (c.in_err-services.ensures.refused (omega (arith, few, ap length c.in_ok-types.ensures.outlined.others.0, ap length same_services, seen_long c.as_slice-own_services.result.now, length-map (children_at 6 m) (row_in (text_at 2 m)))) packages))
 
 pub returns : goal.returns
 returns c =
@@ -137,27 +137,29 @@ returns c =
     counts_are _ (inside_file (counts_of self) m) refl (omega (arith, own, ap length same_enums, length-map enums (row_in at))) refl in
     let first = c.in_ok-declare_scope.ensures.declares (at ∷ []) (own_package at) in
     record {
-      types = c.in_ok-types.ensures.rows ∙ ap (λ rs. map type_row self.types.items ++ rs) type_count;
-      enums = c.in_ok-types.ensures.enum_rows ∙ (ap (λ rs. rs ++ enum_rows depth at types) c.in_ok-enums.ensures.rows
-          ∙ (append_assoc (map row self.enums.items) (rows_in at enums) (enum_rows depth at types) ∙ ap (λ rs. map row self.enums.items ++ rs) enum_count));
-      services = c.in_ok-services.ensures.rows ∙ (ap (λ ss. map row ss ++ rows_in at services) c.in_ok-types.ensures.others.0
-          ∙ ap (λ rs. map row self.services.items ++ rs) (ap (λ a. rows_in a services) here ∙ ap (rows_in (text_at 2 m)) same_services));
-      files = ap (map placed_file) c.in_ok-push.ensures.items ∙ (map_more placed_file deep.files.items _ ∙ ap₂ (λ fs f. map placed_file fs ++ f ∷ []) c.in_ok-types.ensures.others.1
-          (file_placed depth m at types (counts_of self) (type_places c.in_ok-types.types.items) (enum_places c.in_ok-enums.enums.items) (service_places c.in_ok-services.services.items)
-          (length self.enums.items) (length c.as_slice-own_enums.result.now) (length deep.services.items) (length c.as_slice-own_services.result.now) here same_types
-          (c.in_ok-types.ensures.ids ∙ ap (λ k. places_of_types depth at k types) counts) c.in_ok-enums.ensures.ids refl (sym (seen_long c.as_slice-own_enums.result.now) ∙ ap length same_enums)
-          c.in_ok-services.ensures.ids (ap length c.in_ok-types.ensures.others.0) (sym (seen_long c.as_slice-own_services.result.now) ∙ ap length same_services)));
-      placed = c.in_ok-types.ensures.placed
-          ∙ ap (λ ps. map placed_type self.types.items ++ ps) (ap (λ k. placed_types depth at k types) counts ∙ (ap (λ a. placed_types depth a (inside_file (counts_of self) m) types) here ∙ ap (placed_types depth (text_at 2 m) (inside_file (counts_of self) m)) same_types));
-      named = λ before.
-          types_still [] _ t3 t4 (c.in_ok-services.ensures.declares []) (map type_row deep.types.items)
-          (c.in_ok-types.ensures.named (types_still [] _ t1 t2 (c.in_ok-enums.ensures.declares []) (map type_row self.types.items)
-          (types_still (at ∷ []) [] t0 t1 first (map type_row self.types.items) before)));
-      enums_named = λ before.
-          enums_still [] _ t3 t4 (c.in_ok-services.ensures.declares []) (map row deep.enums.items)
-          (c.in_ok-types.ensures.enums_named (c.in_ok-enums.ensures.named (enums_still (at ∷ []) [] t0 t1 first (map row self.enums.items) before)));
-      declares = λ packages among.
-          file_declared depth m packages at here enums same_enums t0 t1 (c.in_ok-declare_scope.ensures.declares packages (subst (λ a. is_among packages a ≡ true) (sym here) among)) t2
-          (c.in_ok-enums.ensures.declares packages) types same_types t3 (c.in_ok-types.ensures.declares packages) services same_services t4 (c.in_ok-services.ensures.declares packages);
+      outlined = record {
+        types = c.in_ok-types.ensures.outlined.rows ∙ ap (λ rs. map type_row self.types.items ++ rs) type_count;
+        enums = c.in_ok-types.ensures.outlined.enum_rows ∙ (ap (λ rs. rs ++ enum_rows depth at types) c.in_ok-enums.ensures.rows
+            ∙ (append_assoc (map row self.enums.items) (rows_in at enums) (enum_rows depth at types) ∙ ap (λ rs. map row self.enums.items ++ rs) enum_count));
+        services = c.in_ok-services.ensures.rows ∙ (ap (λ ss. map row ss ++ rows_in at services) c.in_ok-types.ensures.outlined.others.0
+            ∙ ap (λ rs. map row self.services.items ++ rs) (ap (λ a. rows_in a services) here ∙ ap (rows_in (text_at 2 m)) same_services));
+        files = ap (map placed_file) c.in_ok-push.ensures.items ∙ (map_more placed_file deep.files.items _ ∙ ap₂ (λ fs f. map placed_file fs ++ f ∷ []) c.in_ok-types.ensures.outlined.others.1
+            (file_placed depth m at types (counts_of self) (type_places c.in_ok-types.types.items) (enum_places c.in_ok-enums.enums.items) (service_places c.in_ok-services.services.items)
+            (length self.enums.items) (length c.as_slice-own_enums.result.now) (length deep.services.items) (length c.as_slice-own_services.result.now) here same_types
+            (c.in_ok-types.ensures.ids ∙ ap (λ k. places_of_types depth at k types) counts) c.in_ok-enums.ensures.ids refl (sym (seen_long c.as_slice-own_enums.result.now) ∙ ap length same_enums)
+            c.in_ok-services.ensures.ids (ap length c.in_ok-types.ensures.outlined.others.0) (sym (seen_long c.as_slice-own_services.result.now) ∙ ap length same_services)));
+        placed = c.in_ok-types.ensures.outlined.placed
+            ∙ ap (λ ps. map placed_type self.types.items ++ ps) (ap (λ k. placed_types depth at k types) counts ∙ (ap (λ a. placed_types depth a (inside_file (counts_of self) m) types) here ∙ ap (placed_types depth (text_at 2 m) (inside_file (counts_of self) m)) same_types));
+        named = λ before.
+            types_still [] _ t3 t4 (c.in_ok-services.ensures.declares []) (map type_row deep.types.items)
+            (c.in_ok-types.ensures.outlined.named (types_still [] _ t1 t2 (c.in_ok-enums.ensures.declares []) (map type_row self.types.items)
+            (types_still (at ∷ []) [] t0 t1 first (map type_row self.types.items) before)));
+        enums_named = λ before.
+            enums_still [] _ t3 t4 (c.in_ok-services.ensures.declares []) (map row deep.enums.items)
+            (c.in_ok-types.ensures.outlined.enums_named (c.in_ok-enums.ensures.named (enums_still (at ∷ []) [] t0 t1 first (map row self.enums.items) before)));
+        declares = λ packages among.
+            file_declared depth m packages at here enums same_enums t0 t1 (c.in_ok-declare_scope.ensures.declares packages (subst (λ a. is_among packages a ≡ true) (sym here) among)) t2
+            (c.in_ok-enums.ensures.declares packages) types same_types t3 (c.in_ok-types.ensures.outlined.declares packages) services same_services t4 (c.in_ok-services.ensures.declares packages);
+      };
       refused = tt;
     }

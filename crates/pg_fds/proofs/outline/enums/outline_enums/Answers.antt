@@ -6,7 +6,7 @@ use Rattle.pg_fds.specs.SetNames.{enum_names}
 use Rattle.pg_fds.proofs.NameLoops.{loop_declares, loop_wants}
 use Rattle.pg_fds.proofs.NameTable.{declares_none}
 use Rattle.pg_fds.proofs.OutlinedNames.{count_at, ids_on, maps_on}
-use Rattle.pg_fds.proofs.outline.outline_enums.Goals as goal
+use Rattle.pg_fds.proofs.outline.enums.outline_enums.Goals as goal
 
 pub loop-message-init : goal.loop-message-init
 loop-message-init c = record { ids = search rules; rows = search rules; named = λ before. before; declares = λ packages. declares_none packages c.args.names.now }

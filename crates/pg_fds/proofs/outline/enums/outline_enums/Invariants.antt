@@ -5,7 +5,7 @@ use Rattle.pg_fds.specs.Lent.{lent}
 use Rattle.pg_fds.specs.Outlines.{AreEnumsNamed, row, rows_in}
 use Rattle.pg_fds.specs.SetNames.{Declares, enums_names}
 use Rattle.pg_fds.specs.Walks.{places_from}
-use Rattle.pg_fds.proofs.outline.outline_enums.Given as goal
+use Rattle.pg_fds.proofs.outline.enums.outline_enums.Given as goal
 
 abbrev pub invariant-loop-message : goal.invariant-loop-message
 invariant-loop-message l = record {

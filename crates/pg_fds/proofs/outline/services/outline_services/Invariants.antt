@@ -5,7 +5,7 @@ use Rattle.pg_fds.specs.Lent.{lent}
 use Rattle.pg_fds.specs.Outlines.{row, rows_in}
 use Rattle.pg_fds.specs.SetNames.{Declares, services_names}
 use Rattle.pg_fds.specs.Walks.{places_from}
-use Rattle.pg_fds.proofs.outline.outline_services.Given as goal
+use Rattle.pg_fds.proofs.outline.services.outline_services.Given as goal
 
 abbrev pub invariant-loop-message : goal.invariant-loop-message
 invariant-loop-message l = record {

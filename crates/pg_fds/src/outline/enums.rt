@@ -1,0 +1,77 @@
+//! The enums of a set, each with its place, its name and those of its values.
+
+ghost use Rattle.std.specs.Prelude.{◌≡◌, ◌+◌, ◌<◌, ◌≤◌, ◌^◌, ◌++◌, ◌∷◌, [], ℕ, IfErr, IfOk, List, OnOk, length, map};
+ghost use Rattle.pg_schema.specs.Scopes.{enum_places};
+ghost use Rattle.pg_dyn.specs.Kept.{message_of};
+ghost use Rattle.pg_fds.specs.Lent.{lent};
+ghost use Rattle.pg_fds.specs.Outlines.{AreEnumsNamed, row, row_in, rows_in};
+ghost use Rattle.pg_fds.specs.SetNames.{Declares, WantsMemory, enum_names, enums_names};
+ghost use Rattle.pg_fds.specs.Walks.{places_from};
+
+use crate::declare::{declare_each, declare_named};
+use crate::error::Unstated;
+use crate::outline::{Named, Outlined, next_place};
+use crate::proto;
+use crate::said::children;
+use pg_dyn::Message;
+use pg_schema::EnumId;
+use std::alloc::Global;
+use std::collections::BTreeMap;
+
+// An enum, with its name and those of its values.
+fn outline_enum<'a>(
+    alloc: Global,
+    names: &mut BTreeMap<String, Named>,
+    enums: &mut Vec<Outlined<'a>>,
+    scope: &str,
+    message: &'a Message,
+) -> Result<EnumId, Unstated>
+    ensures placed { IfOk result (λ id. id.index ≡ length enums.old.items) }
+    ensures rows { OnOk result (map row enums.new.items ≡ map row enums.old.items
+        ++ row_in scope.now (message_of message.now) ∷ []) }
+    ensures named { OnOk result (AreEnumsNamed names.old (map row enums.old.items)
+        → AreEnumsNamed names.new (map row enums.new.items)) }
+    ensures declares { OnOk result ((packages : List (List ℕ))
+        → Declares packages (enum_names scope.now (message_of message.now)) names.old names.new) }
+    ensures refused { IfErr result (λ e. length enums.old.items < 2 ^ 32
+        → (packages : List (List ℕ))
+        → WantsMemory packages (enum_names scope.now (message_of message.now)) names.old e) }
+{
+    let index = next_place(enums.len())?;
+    let id = EnumId { index };
+    let name = declare_named(alloc, names, scope, message, Named::Enum(id))?;
+    let values = children(alloc, message, proto::ENUM_VALUE)?;
+    declare_each(alloc, names, scope, values.as_slice(), Named::Other)?;
+    enums.push(Outlined { message, name })?;
+    Ok(id)
+}
+
+/// The enums that a scope declares: the place of each, in order.
+pub fn outline_enums<'a>(
+    alloc: Global,
+    names: &mut BTreeMap<String, Named>,
+    enums: &mut Vec<Outlined<'a>>,
+    scope: &str,
+    messages: &[&'a Message],
+) -> Result<Vec<EnumId>, Unstated>
+    ensures ids { IfOk result (λ ids. enum_places ids.items
+        ≡ places_from (length enums.old.items) (length messages.now)) }
+    ensures rows { OnOk result (map row enums.new.items ≡ map row enums.old.items
+        ++ rows_in scope.now (map message_of (lent messages.now))) }
+    ensures named { OnOk result (AreEnumsNamed names.old (map row enums.old.items)
+        → AreEnumsNamed names.new (map row enums.new.items)) }
+    ensures declares { OnOk result ((packages : List (List ℕ))
+        → Declares packages (enums_names scope.now (map message_of (lent messages.now))) names.old
+        names.new) }
+    ensures refused { IfErr result (λ e. length enums.old.items + length messages.now ≤ 2 ^ 32
+        → (packages : List (List ℕ))
+        → WantsMemory packages (enums_names scope.now (map message_of (lent messages.now)))
+        names.old e) }
+{
+    let mut ids = Vec::new(alloc);
+    for message in messages {
+        let id = outline_enum(alloc, names, enums, scope, message)?;
+        ids.push(id)?;
+    }
+    Ok(ids)
+}

@@ -1,0 +1,80 @@
+//! The services of a set, each with its place, its name and those of its methods.
+
+ghost use Rattle.std.specs.Prelude.{◌≡◌, ◌+◌, ◌<◌, ◌≤◌, ◌^◌, ◌++◌, ◌∷◌, [], ℕ, IfErr, IfOk, List, OnOk, length, map};
+ghost use Rattle.pg_schema.specs.Scopes.{service_places};
+ghost use Rattle.pg_dyn.specs.Kept.{message_of};
+ghost use Rattle.pg_fds.specs.Lent.{lent};
+ghost use Rattle.pg_fds.specs.Outlines.{row, row_in, rows_in};
+ghost use Rattle.pg_fds.specs.SetNames.{Declares, WantsMemory, service_names, services_names};
+ghost use Rattle.pg_fds.specs.Walks.{places_from};
+
+use crate::declare::{declare_each, declare_named};
+use crate::error::Unstated;
+use crate::outline::{Named, Outlined, next_place};
+use crate::proto;
+use crate::said::children;
+use pg_dyn::Message;
+use pg_schema::ServiceId;
+use std::alloc::Global;
+use std::collections::BTreeMap;
+
+// A service, with its name and those of its methods.
+fn outline_service<'a>(
+    alloc: Global,
+    names: &mut BTreeMap<String, Named>,
+    services: &mut Vec<Outlined<'a>>,
+    scope: &str,
+    message: &'a Message,
+) -> Result<ServiceId, Unstated>
+    ensures placed { IfOk result (λ id. id.index ≡ length services.old.items) }
+    ensures rows { OnOk result (map row services.new.items ≡ map row services.old.items
+        ++ row_in scope.now (message_of message.now) ∷ []) }
+    ensures declares { OnOk result ((packages : List (List ℕ))
+        → Declares packages (service_names scope.now (message_of message.now)) names.old
+        names.new) }
+    ensures refused { IfErr result (λ e. length services.old.items < 2 ^ 32
+        → (packages : List (List ℕ))
+        → WantsMemory packages (service_names scope.now (message_of message.now)) names.old e) }
+{
+    let index = next_place(services.len())?;
+    let id = ServiceId { index };
+    let name = declare_named(alloc, names, scope, message, Named::Other)?;
+    let methods = children(alloc, message, proto::SERVICE_METHOD)?;
+    declare_each(
+        alloc,
+        names,
+        name.as_str(),
+        methods.as_slice(),
+        Named::Other,
+    )?;
+    services.push(Outlined { message, name })?;
+    Ok(id)
+}
+
+/// The services that a scope declares: the place of each, in order.
+pub fn outline_services<'a>(
+    alloc: Global,
+    names: &mut BTreeMap<String, Named>,
+    services: &mut Vec<Outlined<'a>>,
+    scope: &str,
+    messages: &[&'a Message],
+) -> Result<Vec<ServiceId>, Unstated>
+    ensures ids { IfOk result (λ ids. service_places ids.items
+        ≡ places_from (length services.old.items) (length messages.now)) }
+    ensures rows { OnOk result (map row services.new.items ≡ map row services.old.items
+        ++ rows_in scope.now (map message_of (lent messages.now))) }
+    ensures declares { OnOk result ((packages : List (List ℕ))
+        → Declares packages (services_names scope.now (map message_of (lent messages.now)))
+        names.old names.new) }
+    ensures refused { IfErr result (λ e. length services.old.items + length messages.now ≤ 2 ^ 32
+        → (packages : List (List ℕ))
+        → WantsMemory packages (services_names scope.now (map message_of (lent messages.now)))
+        names.old e) }
+{
+    let mut ids = Vec::new(alloc);
+    for message in messages {
+        let id = outline_service(alloc, names, services, scope, message)?;
+        ids.push(id)?;
+    }
+    Ok(ids)
+}
