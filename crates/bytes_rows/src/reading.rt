@@ -2,8 +2,8 @@
 use crate::contents::{spelled_message, word};
 use crate::types::FIRST;
 use pg_dyn::{
-    DynError, Message, copy, decode, decode_ref, decode_unlimited, encode, encode_unshared,
-    encode_ref, fits,
+    DynError, Message, copy, decode, decode_ref, decode_unlimited, encode, encode_ref,
+    encode_unshared, fits,
 };
 use pg_schema::Schema;
 use pg_show::{HexError, bytes_of_hex, show};
