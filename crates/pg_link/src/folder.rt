@@ -1,3 +1,5 @@
+//! The files of the system as a source.
+
 ghost use Rattle.std.specs.Prelude.{◌≡◌, [], Some, true};
 
 use crate::{GhostCount, GhostPaths, SourceError, Sources};
