@@ -34,6 +34,7 @@ pub fn get<'m, 'a>(message: &'m MessageRef<'a>, number: u32) -> Option<&'m Conte
     ensures content { MatchOption result (of_number number message.now ≡ [])
         (λ content. of_number number message.now ≡ borrowed.content_seen number content.now) }
     ensures filled { IfSome result (λ content. borrowed.IsFilled content.now) }
+    ensures keys { IfSome result (λ content. borrowed.HasKeys content.now) }
     ensures fits { IfSome result (λ content. (shape : Shape) → IsShape shape
         → Fits shape message.now
         → AllByRecursion (HoldsPart shape (type_of message.now))

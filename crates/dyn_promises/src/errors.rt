@@ -2,8 +2,10 @@
 
 ghost use Rattle.std.specs.Prelude.{◌≡◌};
 ghost use Rattle.pg_dyn.specs.Codes.{code_of, place_of};
+ghost use Rattle.pg_dyn.specs.declared.error.DynError.TheVariants as errors;
 
 use pg_dyn::DynError;
+use std::alloc::{AllocError, AllocFailed};
 
 /// What `DynError::code` answers.
 pub fn code(error: DynError) -> u16
@@ -17,4 +19,18 @@ pub fn at(error: DynError) -> Option<usize>
     ensures { result ≡ place_of error }
 {
     error.at()
+}
+
+/// What `DynError::from` answers of a refused growth.
+pub fn error_of(error: AllocError) -> DynError
+    ensures { result ≡ errors.Memory }
+{
+    DynError::from(error)
+}
+
+/// What `DynError::from` answers of a refused growth that hands back a value.
+pub fn error_of_failed<T: Drop>(failed: AllocFailed<T>) -> DynError
+    ensures { result ≡ errors.Memory }
+{
+    DynError::from(failed)
 }

@@ -1,18 +1,18 @@
 //! What is read of bytes.
 
-ghost use Rattle.std.specs.Prelude.{◌≡◌, ◌<◌, ℕ, length, option_map, true, is_some, Some, OnOk, OnErr, IfOk, IfErr, IfSome};
+ghost use Rattle.std.specs.Prelude.{◌≡◌, ◌<◌, ℕ, length, true, is_some, None, Some, OnOk, IfOk, IfErr};
 ghost use Rattle.pg_schema.specs.Parts.{shape_of};
 ghost use Rattle.pg_schema.specs.Shape.{fields};
 ghost use Rattle.pg_dyn.specs.Decoding.{dec};
 ghost use Rattle.pg_dyn.specs.Fits.{Fits};
 ghost use Rattle.pg_dyn.specs.Kept.{message_of, type_of};
-ghost use Rattle.pg_dyn.specs.Refusals.{MayRefuse};
+ghost use Rattle.pg_dyn.specs.Refusals.{MayRefuse, MayRefuseUnlimited};
 ghost use Rattle.pg_dyn.specs.TooDeep.{TooDeepIn};
 ghost use Rattle.pg_dyn.specs.declared.error.DynError.TheVariants as errors;
 
 use pg_dyn::{DynError, Message, MessageRef};
 use pg_schema::{Schema, TypeId};
-use std::alloc::{AllocError, Global};
+use std::alloc::Global;
 
 /// What `decode_ref` answers.
 pub fn decode_ref<'a>(
@@ -64,19 +64,44 @@ pub fn decode(
     pg_dyn::decode(alloc, schema, type_id, bytes, limit)
 }
 
+/// What `decode_ref_unlimited` answers.
+pub fn decode_ref_unlimited<'a>(
+    alloc: Global,
+    schema: &Schema,
+    type_id: TypeId,
+    bytes: &'a [u8],
+) -> Result<MessageRef<'a>, DynError>
+    requires type_id { type_id.index < length (shape_of schema.now) }
+    ensures message { IfOk result (λ m. dec (shape_of schema.now) type_id bytes.now
+        ≡ Some (message_of m)) }
+    ensures fits { IfOk result (λ m. Fits (shape_of schema.now) m × (type_of m ≡ type_id)) }
+    ensures refused { IfErr result (λ e.
+        MayRefuseUnlimited (shape_of schema.now) type_id bytes.now e) }
+    ensures unread { IfErr result (λ e. (e ≡ errors.Memory → ⊥)
+        → dec (shape_of schema.now) type_id bytes.now ≡ None) }
+    ensures lacking { IfErr result (λ e. e ≡ errors.Memory
+        → is_some (dec (shape_of schema.now) type_id bytes.now) ≡ true) }
+{
+    pg_dyn::decode_ref_unlimited(alloc, schema, type_id, bytes)
+}
+
 /// What `decode_unlimited` answers.
 pub fn decode_unlimited(
     alloc: Global,
     schema: &Schema,
     type_id: TypeId,
     bytes: &[u8],
-) -> Result<Option<Message>, AllocError>
+) -> Result<Message, DynError>
     requires type_id { type_id.index < length (shape_of schema.now) }
-    ensures message { IfOk result (λ found. option_map message_of found
-        ≡ dec (shape_of schema.now) type_id bytes.now) }
-    ensures fits { IfOk result (λ found. IfSome found
-        (λ m. Fits (shape_of schema.now) m × (type_of m ≡ type_id))) }
-    ensures lacking { OnErr result (is_some (dec (shape_of schema.now) type_id bytes.now) ≡ true) }
+    ensures message { IfOk result (λ m. dec (shape_of schema.now) type_id bytes.now
+        ≡ Some (message_of m)) }
+    ensures fits { IfOk result (λ m. Fits (shape_of schema.now) m × (type_of m ≡ type_id)) }
+    ensures refused { IfErr result (λ e.
+        MayRefuseUnlimited (shape_of schema.now) type_id bytes.now e) }
+    ensures unread { IfErr result (λ e. (e ≡ errors.Memory → ⊥)
+        → dec (shape_of schema.now) type_id bytes.now ≡ None) }
+    ensures lacking { IfErr result (λ e. e ≡ errors.Memory
+        → is_some (dec (shape_of schema.now) type_id bytes.now) ≡ true) }
 {
     pg_dyn::decode_unlimited(alloc, schema, type_id, bytes)
 }

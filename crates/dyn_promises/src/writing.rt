@@ -63,6 +63,25 @@ pub fn encode_unshared(
     pg_dyn::encode_unshared(alloc, schema, message, other, other_type)
 }
 
+/// What `encode_unshared_ref` answers.
+pub fn encode_unshared_ref(
+    alloc: Global,
+    schema: &Schema,
+    message: &MessageRef<'_>,
+    other: &Schema,
+    other_type: TypeId,
+) -> Result<Vec<u8>, DynError>
+    requires { Fits (shape_of schema.now) message.now }
+    ensures ok { IfOk result (λ bytes. bytes.items
+        ≡ unshared_bytes (shape_of schema.now) (type_of message.now)
+        (fields (shape_of other.now) other_type) (message_of message.now)) }
+    ensures err { IfErr result (λ e.
+        MayNotWrite (length (unshared_bytes (shape_of schema.now) (type_of message.now)
+        (fields (shape_of other.now) other_type) (message_of message.now))) e) }
+{
+    pg_dyn::encode_unshared_ref(alloc, schema, message, other, other_type)
+}
+
 /// What `copy` answers.
 pub fn copy(alloc: Global, schema: &Schema, message: &Message) -> Result<Message, DynError>
     requires { Fits (shape_of schema.now) message.now }

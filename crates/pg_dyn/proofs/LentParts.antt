@@ -1,6 +1,5 @@
 -- The parts that messages lend, of those that own them and of those that borrow.
-use Rattle.std.proofs.Common.{◌≡◌, ◌≢◌, ℕ, List, [], ◌∷◌, map, Bool, true, false, Option, Some, None, refl, ap, ap₂, sym, subst, ◌∙◌}
-use Rattle.std.specs.List.{AllByRecursion}
+use Rattle.std.proofs.Common.{◌≡◌, ◌≢◌, ℕ, List, [], ◌∷◌, map, Bool, true, false, Option, Some, None, refl, ap, ap₂, sym, ◌∙◌}
 use Rattle.pg_schema.specs.declared.field.TypeId.{TypeId}
 use Rattle.pg_wire.specs.Records.{WireRecord}
 use Rattle.pg_dyn.specs.declared.message.Content.{Content}
@@ -14,15 +13,11 @@ use Rattle.pg_dyn.specs.declared.message_ref.ValueRef.{ValueRef}
 use Rattle.pg_dyn.specs.declared.message_ref.ValueRef.TheVariants as borrows
 use Rattle.pg_dyn.specs.Borrowed as borrowed
 use Rattle.pg_dyn.specs.Kept.{Kept, KeptItem, ends, type_of, unknown_of}
-use Rattle.pg_dyn.specs.Lending.{AreKeyed, AreKeyless, AreOf, Bare, HoldsParts, all_parts, bare_leaf, entry_part, in_list, item_part, lent_item, owned_item}
+use Rattle.pg_dyn.specs.Lending.{AreKeyed, AreKeyless, all_parts, bare_leaf, entry_part, in_list, item_part, lent_item, owned_item}
 use Rattle.pg_dyn.specs.Message.{Leaf, Part}
 use Rattle.pg_dyn.specs.Replacing.{kept_onto}
 use Rattle.pg_dyn.specs.Seen.{IsFilled, content_seen, fields_onto, item_seen, leaf_of}
-use Rattle.pg_schema.specs.Shape.{IsShape, Shape}
-use Rattle.pg_dyn.specs.Fits.{Fits}
-use Rattle.pg_dyn.proofs.EncodeSteps.{contents_held}
-use Rattle.pg_dyn.proofs.Lists.{each_of_all, each_weaker}
-use Rattle.pg_dyn.proofs.ReplacingLaws.{content_number, fields_from, type_of-kept_onto, type_shown, unknown_of-kept_onto}
+use Rattle.pg_dyn.proofs.ReplacingLaws.{fields_from, type_of-kept_onto, unknown_of-kept_onto}
 
 -- a message is its parts, its type and its unknown records
 pub lent_whole : {C : Type 0} (parts : ℕ → C → List (Part KeptItem)) (ms : List (ℕ × C)) (type : TypeId) (us : List WireRecord) (m : Kept) → kept_onto (all_parts parts ms) (ends type us) ≡ m
@@ -84,14 +79,6 @@ pub owned_filled : (n : ℕ) (c : Content) → IsFilled c → content_seen n c �
 owned_filled n (owned.One v) filled e = absurd (cc)
 owned_filled n (owned.Many vs) filled e = some_of (λ v. record { number = n; key = None; item = item_seen true v }) vs.items filled e
 owned_filled n (owned.Map es) filled e = some_of (owned_entry_part n) es.items filled e
-
-pub owned_held : (shape : Shape) (ms : List (ℕ × Content)) (type : TypeId) (us : List WireRecord) (m : Kept) → fields_onto ms (ends type us) ≡ m → IsShape shape → AllByRecursion (λ (c : ℕ × Content). IsFilled c.1) ms → Fits shape m
-    → AllByRecursion (λ (c : ℕ × Content). HoldsParts shape type c.0 (content_seen c.0 c.1)) ms
-owned_held shape ms type us m view is_shape filled fits =
-    subst (λ t. AllByRecursion (λ (c : ℕ × Content). HoldsParts shape t c.0 (content_seen c.0 c.1)) ms) (ap type_of (sym view) ∙ type_shown type ms us)
-    (contents_held content_seen shape m ms is_shape fits (owned_whole ms type us m view)
-    (each_weaker (λ (c : ℕ × Content). IsFilled c.1) (λ (c : ℕ × Content). content_seen c.0 c.1 ≢ []) (λ c. owned_filled c.0 c.1) ms filled)
-    (each_of_all (λ (c : ℕ × Content). AreOf c.0 (content_seen c.0 c.1)) (λ c. content_number c.0 c.1) ms))
 
 abbrev pub owned_items : Content → List Value
 owned_items (owned.One v) = v ∷ []

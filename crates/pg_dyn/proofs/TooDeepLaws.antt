@@ -1,5 +1,5 @@
 -- Where a message stands deeper than a limit, the bytes are at least as many: each message inside another has a byte more around it.
-use Rattle.std.proofs.Common.{◌≡◌, ◌≢◌, ℕ, suc, ◌≤◌, ◌<◌, List, ◌++◌, length, None, refl, ap, sym, arith, length-append}
+use Rattle.std.proofs.Common.{◌≡◌, ◌≢◌, ℕ, suc, ◌≤◌, ◌<◌, List, ◌++◌, length, None, Result, Ok, Err, IfErr, refl, ap, sym, arith, length-append}
 use Rattle.pg_schema.specs.declared.field.TypeId.{TypeId}
 use Rattle.pg_schema.specs.Shape.{Shape, FieldShape, fields}
 use Rattle.pg_wire.specs.Errors.{fault_of, place_of}
@@ -10,7 +10,7 @@ use Rattle.pg_dyn.specs.declared.error.DynError.{DynError}
 use Rattle.pg_dyn.specs.declared.error.DynError.TheVariants as errors
 use Rattle.pg_dyn.specs.Decoding.{dec}
 use Rattle.pg_dyn.specs.Faults.{Wire, NotUtf8}
-use Rattle.pg_dyn.specs.Refusals.{MayRefuse}
+use Rattle.pg_dyn.specs.Refusals.{MayRefuse, MayRefuseUnlimited}
 use Rattle.pg_dyn.proofs.Faulty.{dec_of_fault}
 use Rattle.pg_dyn.specs.TooDeep.{TooDeepIn, the_root, in_record, TooDeepOf, the_child, in_child, in_entry, missing_value}
 
@@ -46,3 +46,21 @@ refused_unread shape type limit bytes errors.OutOfRange short other h = absurd h
 refused_unread shape type limit bytes errors.OneofTwice short other h = absurd h
 refused_unread shape type limit bytes errors.DuplicateKey short other h = absurd h
 refused_unread shape type limit bytes errors.TooLong short other h = absurd h
+
+-- What is refused within a limit above the length isn't for want of depth.
+pub refused_unlimited : (shape : Shape) (type : TypeId) (limit : ℕ) (bytes : List ℕ) (e : DynError) → length bytes < limit → MayRefuse shape type limit bytes e → MayRefuseUnlimited shape type bytes e
+refused_unlimited shape type limit bytes errors.Memory short h = tt
+refused_unlimited shape type limit bytes (errors.NotUtf8 at) short h = h
+refused_unlimited shape type limit bytes (errors.TooDeep at) short h = absurd (let long = deep_bytes shape limit (fields shape type) bytes at h in omega arith)
+refused_unlimited shape type limit bytes (errors.Wire e) short h = h
+refused_unlimited shape type limit bytes errors.NoSuchField short h = absurd h
+refused_unlimited shape type limit bytes errors.WrongKind short h = absurd h
+refused_unlimited shape type limit bytes errors.OutOfRange short h = absurd h
+refused_unlimited shape type limit bytes errors.OneofTwice short h = absurd h
+refused_unlimited shape type limit bytes errors.DuplicateKey short h = absurd h
+refused_unlimited shape type limit bytes errors.TooLong short h = absurd h
+
+-- what an error says, by what it said
+pub of_error : {A : Type 0} {P Q : DynError → Type 0} (r : Result A DynError) → ((e : DynError) → P e → Q e) → IfErr r P → IfErr r Q
+of_error (Ok x) f h = tt
+of_error (Err e) f h = f e h

@@ -20,3 +20,16 @@ MayRefuse shape type limit bytes errors.OutOfRange = ⊥
 MayRefuse shape type limit bytes errors.OneofTwice = ⊥
 MayRefuse shape type limit bytes errors.DuplicateKey = ⊥
 MayRefuse shape type limit bytes errors.TooLong = ⊥
+
+-- read at any depth: memory was refused, or the bytes have the fault that the error names at its place
+abbrev pub MayRefuseUnlimited : Shape → TypeId → List ℕ → DynError → Type 0
+MayRefuseUnlimited shape type bytes errors.Memory = ⊤
+MayRefuseUnlimited shape type bytes (errors.NotUtf8 at) = FaultIn shape (fields shape type) bytes NotUtf8 at
+MayRefuseUnlimited shape type bytes (errors.TooDeep at) = ⊥
+MayRefuseUnlimited shape type bytes (errors.Wire e) = FaultIn shape (fields shape type) bytes (Wire (fault_of e)) (place_of e)
+MayRefuseUnlimited shape type bytes errors.NoSuchField = ⊥
+MayRefuseUnlimited shape type bytes errors.WrongKind = ⊥
+MayRefuseUnlimited shape type bytes errors.OutOfRange = ⊥
+MayRefuseUnlimited shape type bytes errors.OneofTwice = ⊥
+MayRefuseUnlimited shape type bytes errors.DuplicateKey = ⊥
+MayRefuseUnlimited shape type bytes errors.TooLong = ⊥

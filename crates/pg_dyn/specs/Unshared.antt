@@ -2,9 +2,9 @@
 use Rattle.std.specs.Prelude.{ℕ, List, [], is_none, if◌then◌else◌}
 use Rattle.pg_schema.specs.declared.field.TypeId.{TypeId}
 use Rattle.pg_schema.specs.Shape.{Shape, FieldShape, field_at}
-use Rattle.pg_dyn.specs.declared.message.Content.{Content}
-use Rattle.pg_dyn.specs.Seen.{content_seen}
+use Rattle.pg_dyn.specs.Kept.{KeptItem}
+use Rattle.pg_dyn.specs.Message.{Part}
 use Rattle.pg_dyn.specs.Written.{parts_written}
 
-abbrev pub outside_written : Shape → TypeId → List FieldShape → ℕ × Content → List ℕ
-outside_written shape type gs c = if is_none (field_at gs c.0) then parts_written shape type c.0 (content_seen c.0 c.1) else []
+abbrev pub outside_written : {C : Type 0} → (ℕ → C → List (Part KeptItem)) → Shape → TypeId → List FieldShape → ℕ × C → List ℕ
+outside_written parts shape type gs c = if is_none (field_at gs c.0) then parts_written shape type c.0 (parts c.0 c.1) else []

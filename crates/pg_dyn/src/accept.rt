@@ -1,3 +1,5 @@
+//! Which wire types a field accepts.
+
 ghost use Rattle.std.specs.Prelude.{◌≡◌, ◌&&◌, ◌||◌, false, MatchOption};
 ghost use Rattle.pg_schema.specs.declared.field.Presence.TheVariants as presences;
 ghost use Rattle.pg_schema.specs.Parts.{field_shape};

@@ -32,9 +32,10 @@ pub fn copy(alloc: Global, schema: &Schema, message: &Message) -> Result<Message
     schema.parts();
     reads_again();
     let bytes = encode(alloc, schema, message)?;
-    match decode_unlimited(alloc, schema, message.type_id(), &bytes)? {
-        Some(copy) => Ok(copy),
+    match decode_unlimited(alloc, schema, message.type_id(), &bytes) {
+        Ok(copy) => Ok(copy),
+        Err(DynError::Memory) => Err(DynError::Memory),
         // An encoding is read again.
-        None => unreachable!(),
+        Err(_) => unreachable!(),
     }
 }

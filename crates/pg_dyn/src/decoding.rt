@@ -1,3 +1,5 @@
+//! Reading a message from bytes: borrowed from them, or with parts of its own.
+
 ghost use Rattle.std.specs.Prelude.{◌≡◌, ◌<◌, ℕ, length, true, is_some, Some, OnOk, IfOk, IfErr};
 ghost use Rattle.pg_schema.specs.Parts.{shape_of};
 ghost use Rattle.pg_schema.specs.Shape.{fields};

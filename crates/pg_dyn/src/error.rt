@@ -1,3 +1,5 @@
+//! Errors of making, writing and reading messages.
+
 use pg_wire::WireError;
 use std::alloc::{AllocError, AllocFailed};
 use thiserror::Error;

@@ -1,3 +1,5 @@
+//! A message's contents, listed by rising field number.
+
 ghost use Rattle.std.specs.Prelude.{◌≡◌, ◌<◌, ◌≤◌, ℕ, get_or, length, take, drop, IsTrue, OnOk};
 ghost use Rattle.std.specs.List.{AllByRecursion};
 ghost use Rattle.pg_dyn.specs.declared.message.Content.{Content as TheContent};

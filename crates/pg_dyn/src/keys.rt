@@ -1,3 +1,5 @@
+//! Keys of maps: their order, and whether one stands twice.
+
 ghost use Rattle.std.specs.Prelude.{◌≡◌, ◌⊎◌, map, false, IfErr, IfOk, IsTrue, OnOk};
 ghost use Rattle.std.specs.List.Sorted.{IsPermutation, IsSortedBy};
 ghost use Rattle.pg_dyn.specs.declared.error.DynError.TheVariants.{DuplicateKey, Memory};

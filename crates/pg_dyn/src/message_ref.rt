@@ -108,6 +108,7 @@ impl<'a> MessageRef<'a> {
         ensures content { MatchOption result (of_number number self.now ≡ [])
             (λ content. of_number number self.now ≡ borrowed.content_seen number content.now) }
         ensures filled { IfSome result (λ content. borrowed.IsFilled content.now) }
+        ensures keys { IfSome result (λ content. borrowed.HasKeys content.now) }
         ensures fits { IfSome result
             (λ content. (shape : Shape) → IsShape shape → Fits shape self.now
             → AllByRecursion (HoldsPart shape (type_of self.now))

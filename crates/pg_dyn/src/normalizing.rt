@@ -1,3 +1,5 @@
+//! Contents in the form in which a field holds them.
+
 ghost use Rattle.std.specs.Prelude.{◌≡◌, ℕ, Bool, map, true, false};
 ghost use Rattle.std.specs.List.{AllByRecursion};
 ghost use Rattle.pg_schema.specs.Parts.{field_shape, shape_of};

@@ -1,3 +1,5 @@
+//! Setting a member of a oneof takes out the other members.
+
 ghost use Rattle.std.specs.Prelude.{◌≡◌, filter, map, not};
 ghost use Rattle.pg_schema.specs.Parts.{field_shape, shape_of};
 ghost use Rattle.pg_schema.specs.Shape.{fields};

@@ -1,3 +1,5 @@
+//! Setting a content that is known to be one of its field.
+
 ghost use Rattle.std.specs.Prelude.{◌≡◌, OnOk, IfErr};
 ghost use Rattle.pg_schema.specs.Parts.{shape_of};
 ghost use Rattle.pg_dyn.specs.ContentFaults.{HasKeyTwice};

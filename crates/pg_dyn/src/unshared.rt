@@ -9,68 +9,69 @@ ghost use Rattle.pg_dyn.specs.Fits.{Fits};
 ghost use Rattle.pg_dyn.specs.Kept.{message_of, type_of};
 ghost use Rattle.pg_dyn.specs.Unshared.{outside_written};
 ghost use Rattle.pg_dyn.specs.Lending.{HoldsParts};
-ghost use Rattle.pg_dyn.specs.Seen.{content_seen};
 ghost use Rattle.pg_dyn.specs.Written.{MayNotWrite, parts_written};
 
 use crate::counting::{MAX_ENCODING_LEN, count_content};
 use crate::encoding::write_content;
 use crate::error::DynError;
-use crate::message::{Content, Message};
+use crate::lending::Lends;
+use crate::message::Message;
+use crate::message_ref::MessageRef;
 use pg_schema::{Schema, TypeId};
 use std::alloc::Global;
 
 // Adds the records of a content that the type's field of the number holds.
-fn push_content(
+fn push_content<M: Lends>(
     alloc: Global,
     out: &mut Vec<u8>,
     schema: &Schema,
     type_id: TypeId,
-    held: &(u32, Content),
+    held: &(u32, M::Content),
 ) -> Result<(), DynError>
     requires is_schema { IsSchema schema.now }
     requires holds { HoldsParts (shape_of schema.now) type_id held.now.0
-        (content_seen held.now.0 held.now.1) }
+        (M.parts held.now.0 held.now.1) }
     ensures ok { OnOk result (out.new.items
         ≡ out.old.items ++ parts_written (shape_of schema.now) type_id held.now.0
-        (content_seen held.now.0 held.now.1)) }
+        (M.parts held.now.0 held.now.1)) }
     ensures err { IfErr result (λ e.
         MayNotWrite (length (parts_written (shape_of schema.now) type_id held.now.0
-        (content_seen held.now.0 held.now.1))) e) }
+        (M.parts held.now.0 held.now.1))) e) }
 {
     let (number, content) = held;
     let Some(field) = schema.field(type_id, *number) else {
         return Ok(());
     };
     let mut lengths = Vec::new(alloc);
-    let len = count_content::<Message>(content, schema, field, &mut lengths)?;
+    let len = count_content::<M>(content, schema, field, &mut lengths)?;
     if len > MAX_ENCODING_LEN {
         return Err(DynError::TooLong);
     }
-    write_content::<Message>(content, out, schema, field, &lengths)?;
+    write_content::<M>(content, out, schema, field, &lengths)?;
     Ok(())
 }
 
 // The same, where another type has no field of the number; else nothing.
-fn push_outside(
+fn push_outside<M: Lends>(
     alloc: Global,
     out: &mut Vec<u8>,
     schemas: &Other<'_>,
     type_id: TypeId,
-    held: &(u32, Content),
+    held: &(u32, M::Content),
 ) -> Result<(), DynError>
     requires is_schema { IsSchema schemas.now.own.now }
     requires holds { HoldsParts (shape_of schemas.now.own.now) type_id held.now.0
-        (content_seen held.now.0 held.now.1) }
+        (M.parts held.now.0 held.now.1) }
     ensures ok { OnOk result (out.new.items
-        ≡ out.old.items ++ outside_written (shape_of schemas.now.own.now) type_id
+        ≡ out.old.items ++ outside_written M.parts (shape_of schemas.now.own.now) type_id
         (fields (shape_of schemas.now.other.now) schemas.now.other_type) held.now) }
     ensures err { IfErr result (λ e.
-        MayNotWrite (length (outside_written (shape_of schemas.now.own.now) type_id
+        MayNotWrite (length (outside_written M.parts (shape_of schemas.now.own.now) type_id
         (fields (shape_of schemas.now.other.now) schemas.now.other_type) held.now)) e) }
 {
     match schemas.other.field(schemas.other_type, held.0) {
         Some(_) => Ok(()),
-        None => push_content(alloc, out, schemas.own, type_id, held),
+        None => push_content::<M>(alloc, out, schemas.own, type_id, held),
     }
 }
 
@@ -80,6 +81,32 @@ struct Other<'a> {
     own: &'a Schema,
     other: &'a Schema,
     other_type: TypeId,
+}
+
+// Of a message's encoding the records of the fields whose numbers another type doesn't have.
+fn encode_unshared_lent<M: Lends>(
+    alloc: Global,
+    message: &M,
+    schemas: &Other<'_>,
+) -> Result<Vec<u8>, DynError>
+    requires { Fits (shape_of schemas.now.own.now) (M.kept message.now) }
+    ensures ok { IfOk result (λ bytes. bytes.items
+        ≡ unshared_bytes (shape_of schemas.now.own.now) (type_of (M.kept message.now))
+        (fields (shape_of schemas.now.other.now) schemas.now.other_type)
+        (message_of (M.kept message.now))) }
+    ensures err { IfErr result (λ e. MayNotWrite (length
+        (unshared_bytes (shape_of schemas.now.own.now) (type_of (M.kept message.now))
+        (fields (shape_of schemas.now.other.now) schemas.now.other_type)
+        (message_of (M.kept message.now)))) e) }
+{
+    // What holds of every schema.
+    schemas.own.parts();
+    let type_id = message.message_type();
+    let mut out = Vec::new(alloc);
+    for held in message.fields() {
+        push_outside::<M>(alloc, &mut out, schemas, type_id, held)?;
+    }
+    Ok(out)
 }
 
 /// Of a message's encoding the records of the fields whose numbers another type doesn't have, in
@@ -103,16 +130,35 @@ pub fn encode_unshared(
         MayNotWrite (length (unshared_bytes (shape_of schema.now) (type_of message.now)
         (fields (shape_of other.now) other_type) (message_of message.now))) e) }
 {
-    // What holds of every schema.
-    schema.parts();
     let schemas = Other {
         own: schema,
         other,
         other_type,
     };
-    let mut out = Vec::new(alloc);
-    for held in &message.fields {
-        push_outside(alloc, &mut out, &schemas, message.type_id, held)?;
-    }
-    Ok(out)
+    encode_unshared_lent(alloc, message, &schemas)
+}
+
+/// The same of a message that borrows, as `encode_unshared` gives it of one that owns its parts.
+/// The condition and the errors are the same.
+pub fn encode_unshared_ref(
+    alloc: Global,
+    schema: &Schema,
+    message: &MessageRef<'_>,
+    other: &Schema,
+    other_type: TypeId,
+) -> Result<Vec<u8>, DynError>
+    requires { Fits (shape_of schema.now) message.now }
+    ensures ok { IfOk result (λ bytes. bytes.items
+        ≡ unshared_bytes (shape_of schema.now) (type_of message.now)
+        (fields (shape_of other.now) other_type) (message_of message.now)) }
+    ensures err { IfErr result (λ e.
+        MayNotWrite (length (unshared_bytes (shape_of schema.now) (type_of message.now)
+        (fields (shape_of other.now) other_type) (message_of message.now))) e) }
+{
+    let schemas = Other {
+        own: schema,
+        other,
+        other_type,
+    };
+    encode_unshared_lent(alloc, message, &schemas)
 }

@@ -1,3 +1,5 @@
+//! The scalar types as which elements are read.
+
 ghost use Rattle.std.specs.Prelude.{◌≡◌};
 ghost use Rattle.pg_dyn.specs.Held.{read_as};
 

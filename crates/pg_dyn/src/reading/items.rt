@@ -1,3 +1,5 @@
+//! What a field holds after the items that are read, and the zero of each scalar.
+
 ghost use Rattle.std.specs.Prelude.{◌≡◌};
 ghost use Rattle.pg_dyn.specs.Borrowed.{leaf_of};
 ghost use Rattle.pg_dyn.specs.BorrowedItems.{IsItemOf, is_zero_value};

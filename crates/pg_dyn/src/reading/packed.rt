@@ -1,3 +1,5 @@
+//! Reading packed lists.
+
 ghost use Rattle.std.specs.Prelude.{◌≡◌, ◌<◌, ◌≤◌, true, Ok, Err, Some, is_some, take, drop, length, OnOk, IfOk, IfErr};
 ghost use Rattle.pg_schema.specs.declared.field.Element.TheVariants as elements;
 ghost use Rattle.pg_schema.specs.Shape.{is_packable};

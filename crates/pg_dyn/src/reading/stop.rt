@@ -1,3 +1,5 @@
+//! Why a reader stops.
+
 use std::alloc::{AllocError, AllocFailed};
 
 /// Why bytes aren't read as a message: memory was refused, or they have a fault, of which

@@ -7,5 +7,8 @@ returns-clause-content c = search rules
 pub returns-clause-filled : goal.returns-clause-filled
 returns-clause-filled c = search rules
 
+pub returns-clause-keys : goal.returns-clause-keys
+returns-clause-keys c = search rules
+
 pub returns-clause-fits : goal.returns-clause-fits
 returns-clause-fits c = search rules

@@ -9,3 +9,9 @@ returns-clause-fits c = search rules
 
 pub returns-clause-lacking : goal.returns-clause-lacking
 returns-clause-lacking c = search rules
+
+pub returns-clause-refused : goal.returns-clause-refused
+returns-clause-refused c = search rules
+
+pub returns-clause-unread : goal.returns-clause-unread
+returns-clause-unread c = search rules

@@ -3,7 +3,7 @@ use Rattle.std.proofs.Common.{◌≡◌, ◌<◌, ◌≢◌, ℕ, List, ◌∷�
 use Rattle.std.specs.List.{AllByRecursion}
 use Rattle.pg_wire.specs.Reads.{seen_record}
 use Rattle.pg_dyn.specs.declared.message_ref.ContentRef.{ContentRef}
-use Rattle.pg_dyn.specs.Borrowed.{IsFilled}
+use Rattle.pg_dyn.specs.Borrowed.{HasKeys, IsFilled}
 use Rattle.pg_dyn.specs.Kept.{of_number, parts_of, type_of}
 use Rattle.pg_dyn.specs.Message.{is_of}
 use Rattle.pg_dyn.specs.PartsFit.{HoldsPart}
@@ -29,6 +29,12 @@ returns-then-index-number-clause-filled c =
     let a = c.self.inside in
     let place = c.place_of-place.result in
     found_fact (λ f. IsFilled f.1) a.fields.items place c.index-then-index-number.result.now (omega (arith, c.if-place-len.true, c.len.ensures, a.fields.ok.0)) c.self.invariant.filled c.index-then-index-number.ensures
+
+pub returns-then-index-number-clause-keys : goal.returns-then-index-number-clause-keys
+returns-then-index-number-clause-keys c =
+    let a = c.self.inside in
+    let place = c.place_of-place.result in
+    found_fact (λ f. HasKeys f.1) a.fields.items place c.index-then-index-number.result.now (omega (arith, c.if-place-len.true, c.len.ensures, a.fields.ok.0)) c.self.invariant.keys c.index-then-index-number.ensures
 
 pub returns-then-index-number-clause-fits : goal.returns-then-index-number-clause-fits
 returns-then-index-number-clause-fits c shape is_shape fits =
