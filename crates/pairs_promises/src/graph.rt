@@ -6,11 +6,21 @@ ghost use Rattle.pg_pairs.specs.Among.{IsAmong};
 ghost use Rattle.pg_pairs.specs.Covering as covering;
 ghost use Rattle.pg_pairs.specs.Edges as prices;
 ghost use Rattle.pg_pairs.specs.LeastCosts.{least_cost};
-ghost use Rattle.pg_pairs.specs.Views.{sight_of};
+ghost use Rattle.pg_pairs.specs.SightBy.{sight_by};
 ghost use Rattle.pg_pairs.specs.Works.{opened_more, relaxed_more};
 
 use pg_pairs::{Edge, Pair, Priced, Prices, View, Work};
+use pg_schema::Schema;
 use std::alloc::{AllocError, Global};
+
+/// The graph of two schemas under a view.
+pub fn priced<'a, V: View>(view: &'a V, old: &'a Schema, new: &'a Schema) -> Priced<'a, V>
+    ensures view { result.view.now ≡ view.now }
+    ensures old { result.old.now ≡ old.now }
+    ensures new { result.new.now ≡ new.now }
+{
+    Priced::new(view, old, new)
+}
 
 /// Whether it knows the pair.
 pub fn knows<V: View>(graph: &Priced<'_, V>, pair: Pair) -> bool
@@ -59,9 +69,8 @@ pub fn base<V: View>(
         ≡ true }
     requires room { work.old.opened + 1 < 2 ^ 64 }
     ensures cost { IfOk result (λ cost. cost
-        ≡ least_cost (sight_of (V.is_alike graph.now.view.now)
-        (V.least_differing graph.now.view.now) graph.now.old.now graph.now.new.now) prices.no_bounds
-        (shape_of graph.now.old.now) (shape_of graph.now.new.now) pair) }
+        ≡ least_cost (sight_by V.View graph.now.view.now graph.now.old.now graph.now.new.now)
+        prices.no_bounds (shape_of graph.now.old.now) (shape_of graph.now.new.now) pair) }
     ensures counted { OnOk result (work.new ≡ opened_more work.old) }
     ensures unchanged { OnErr result (work.new ≡ work.old) }
 {

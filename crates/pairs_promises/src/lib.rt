@@ -4,6 +4,7 @@
 
 mod graph;
 mod names;
+mod returning;
 
 ghost use Rattle.std.specs.Prelude.{◌≡◌, ◌↔◌, ◌⊎◌, ◌<◌, ◌≤◌, length, option_map, true, None, IsTrue, IfErr, IfOk, OnOk};
 ghost use Rattle.pg_schema.specs.Parts.{shape_of};
@@ -19,13 +20,14 @@ ghost use Rattle.pg_pairs.specs.Choices.{Table, choices};
 ghost use Rattle.pg_pairs.specs.Covering as covering;
 ghost use Rattle.pg_pairs.specs.Gaps as gaps;
 ghost use Rattle.pg_pairs.specs.Laws.{ReachedBy};
-ghost use Rattle.pg_pairs.specs.Views.{sight_of};
+ghost use Rattle.pg_pairs.specs.SightBy.{sight_by};
 
-pub use graph::{base, edge_cost, edges, knows};
+pub use graph::{base, edge_cost, edges, knows, priced};
 pub use names::{alike_by_name, least_by_name};
-use pg_dyn::{DynError, Message};
+use pg_dyn::{DynError, Message, MessageRef};
 use pg_pairs::{Choice, Gap, Numbers, Pair, Table, View};
 use pg_schema::{EnumType, Scalar, Schema};
+pub use returning::returns;
 use std::alloc::{AllocError, Global};
 
 /// What `breaks` answers.
@@ -40,7 +42,7 @@ pub fn breaks<V: View>(
     requires { Fits (shape_of old.now) message.now }
     ensures exact { IfOk result (λ b. IsTrue b
         ↔ ((type_of message.now ≡ pair.old)
-        × Breaks (sight_of (V.is_alike view.now) (V.least_differing view.now) old.now new.now).alike
+        × Breaks (sight_by V.View view.now old.now new.now).alike
         (shape_of old.now) (shape_of new.now) pair.old pair.new (message_of message.now))) }
     ensures encoded { OnOk result (length
         (enc (shape_of old.now) (type_of message.now) (message_of message.now)) ≤ cap) }
@@ -49,6 +51,29 @@ pub fn breaks<V: View>(
         < length (enc (shape_of old.now) (type_of message.now) (message_of message.now))))) }
 {
     pg_pairs::breaks(alloc, view, old, new, pair, message)
+}
+
+/// What `breaks_as_written` answers.
+pub fn breaks_as_written<V: View>(
+    alloc: Global,
+    view: &V,
+    old: &Schema,
+    new: &Schema,
+    pair: Pair,
+    message: &MessageRef<'_>,
+    bytes: &[u8],
+) -> Result<bool, AllocError>
+    requires fits { Fits (shape_of old.now) message.now }
+    requires written { enc (shape_of old.now) (type_of message.now) (message_of message.now)
+        ≡ bytes.now }
+    requires within { length (enc (shape_of old.now) (type_of message.now)
+        (message_of message.now)) ≤ cap }
+    ensures { IfOk result (λ b. IsTrue b
+        ↔ ((type_of message.now ≡ pair.old)
+        × Breaks (sight_by V.View view.now old.now new.now).alike
+        (shape_of old.now) (shape_of new.now) pair.old pair.new (message_of message.now))) }
+{
+    pg_pairs::breaks_as_written(alloc, view, old, new, pair, message, bytes)
 }
 
 /// What `carry` answers.
@@ -62,25 +87,22 @@ pub fn carry<V: View>(
     child: Option<Message>,
 ) -> Result<Message, AllocError>
     requires choice { carried.IsChoiceOf
-        (sight_of (V.is_alike view.now) (V.least_differing view.now) old.now new.now)
+        (sight_by V.View view.now old.now new.now)
         (shape_of old.now) (shape_of new.now) pair choice.now }
     requires child { carried.ChildGiven (shape_of old.now)
         (carried.choice_child (shape_of old.now) (shape_of new.now) pair choice.now) child }
     ensures fits { IfOk result (λ m. Fits (shape_of old.now) m) }
     ensures type_is { IfOk result (λ m. type_of m ≡ pair.old) }
     ensures made { IfOk result (λ m. message_of m
-        ≡ carried.carried (sight_of (V.is_alike view.now)
-        (V.least_differing view.now) old.now new.now) (shape_of old.now)
+        ≡ carried.carried (sight_by V.View view.now old.now new.now) (shape_of old.now)
         (shape_of new.now) pair choice.now (option_map message_of child)) }
     ensures reached { IfOk result (λ m. (table : Table) →
-        IsAmong choice.now (choices (sight_of (V.is_alike view.now)
-        (V.least_differing view.now) old.now new.now) table
+        IsAmong choice.now (choices (sight_by V.View view.now old.now new.now) table
         (shape_of old.now) (shape_of new.now) pair)
-        → carried.ChildReached (sight_of (V.is_alike view.now)
-        (V.least_differing view.now) old.now new.now) (shape_of old.now) (shape_of new.now) table
-        (carried.choice_child (shape_of old.now) (shape_of new.now) pair choice.now)
+        → carried.ChildReached (sight_by V.View view.now old.now new.now) (shape_of old.now)
+        (shape_of new.now) table (carried.choice_child (shape_of old.now) (shape_of new.now) pair choice.now)
         (option_map message_of child)
-        → ReachedBy (sight_of (V.is_alike view.now) (V.least_differing view.now) old.now new.now)
+        → ReachedBy (sight_by V.View view.now old.now new.now)
         (shape_of old.now) (shape_of new.now) pair (message_of m) choice.now.cost) }
 {
     pg_pairs::carry(alloc, view, old, new, pair, choice, child)
@@ -116,9 +138,8 @@ pub fn cheapest<V: View, T: Table>(
     table: &T,
 ) -> Result<Option<Choice>, AllocError>
     ensures { IfOk result (λ found. found
-        ≡ least.cheapest (choices (sight_of (V.is_alike view.now)
-        (V.least_differing view.now) old.now new.now) (T.bounds table.now) (shape_of old.now)
-        (shape_of new.now) pair)) }
+        ≡ least.cheapest (choices (sight_by V.View view.now old.now new.now)
+        (T.bounds table.now) (shape_of old.now) (shape_of new.now) pair)) }
 {
     pg_pairs::cheapest(alloc, view, old, new, pair, table)
 }
@@ -133,7 +154,7 @@ pub fn options<V: View, T: Table>(
     table: &T,
 ) -> Result<Vec<Choice>, AllocError>
     ensures { IfOk result (λ cs. cs.items
-        ≡ choices (sight_of (V.is_alike view.now) (V.least_differing view.now) old.now new.now)
+        ≡ choices (sight_by V.View view.now old.now new.now)
         (T.bounds table.now) (shape_of old.now) (shape_of new.now) pair) }
 {
     pg_pairs::options(alloc, view, old, new, pair, table)

@@ -2,7 +2,7 @@
 
 ghost use Rattle.std.specs.Prelude.{◌≡◌};
 ghost use Rattle.pg_dyn.specs.ViewNames.{named_numbers, same_names};
-ghost use Rattle.pg_pairs.specs.Sight.{IsLeastOf};
+ghost use Rattle.pg_pairs.specs.LeastByName as by_name;
 
 use pg_pairs::{Names, View};
 use pg_schema::EnumType;
@@ -16,7 +16,7 @@ pub fn alike_by_name(old: &EnumType, new: &EnumType, number: i32) -> bool
 
 /// The least of the shortest numbers that aren't alike by `Names`.
 pub fn least_by_name(old: &EnumType, new: &EnumType, zero: bool) -> Option<i32>
-    ensures { IsLeastOf (same_names (named_numbers old.now) (named_numbers new.now)) zero result }
+    ensures { result ≡ by_name.least_by_name old.now new.now zero }
 {
     Names.least(old, new, zero)
 }

@@ -1,5 +1,5 @@
 -- What a message's encoding is read as decides whether it breaks.
-use Rattle.std.proofs.Common.{◌≡◌, ◌<◌, ◌≤◌, ◌↔◌, ℕ, zero, suc, List, [], ◌∷◌, ◌++◌, length, get_or, filter, Bool, true, false, not, IsTrue, nat_eq, Some, None, refl, ap, sym, ◌∙◌, subst, arith, eqb-true, eq-eqb, true≢false}
+use Rattle.std.proofs.Common.{◌≡◌, ◌<◌, ◌≤◌, ◌↔◌, ℕ, zero, suc, List, [], ◌∷◌, ◌++◌, length, get_or, filter, Bool, true, false, not, IsTrue, nat_eq, Option, Some, None, refl, ap, ap₂, sym, ◌∙◌, subst, arith, eqb-true, eq-eqb, true≢false}
 use Rattle.std.specs.List.{list_all}
 use Rattle.std.proofs.lemmas.Bool.{not-true}
 use Rattle.pg_schema.specs.declared.field.TypeId.{TypeId}
@@ -13,6 +13,7 @@ use Rattle.pg_dyn.specs.Encoding.{cap, enc, encoded_parts}
 use Rattle.pg_dyn.specs.Fits.{Fits}
 use Rattle.pg_dyn.specs.Kept.{Kept, message_of, type_of}
 use Rattle.pg_dyn.specs.Kept as kept
+use Rattle.pg_dyn.specs.Laws.{ReadsAgain}
 use Rattle.pg_dyn.specs.Message.{Message, unknown_of}
 use Rattle.pg_dyn.specs.Message as model
 use Rattle.pg_dyn.specs.Writing.{records_in}
@@ -87,3 +88,33 @@ module _ (view : View) (old new : Shape) (m : Kept) (a b : TypeId) where
       kept_is view old new (type_of m) b (message_of m) (message_of read) found
       ∙ ap (λ t. same view old new (type_of m) t (message_of m) (message_of read)) (sym type_is)
       ∙ sym is
+
+-- ---- what is read of a message's own encoding is the message
+
+module _ (again : ReadsAgain) (old : Shape) (is_shape : IsShape old) (m lent : Kept) (fits : Fits old m) (short : length (enc old (type_of m) (message_of m)) ≤ cap)
+    (bytes : List ℕ) (written : bytes ≡ enc old (type_of m) (message_of m)) (t : TypeId) (of_type : t ≡ type_of m) (read : dec old t bytes ≡ Some (message_of lent)) (type_is : type_of lent ≡ t) where
+  lent_message : message_of lent ≡ message_of m
+  lent_message =
+      let both : ◌≡◌ {A = Option Message} (Some (message_of lent)) (Some (message_of m)) =
+      sym read ∙ ap (dec old t) written ∙ ap (λ u. dec old u (enc old (type_of m) (message_of m))) of_type ∙ again old (type_of m) (message_of m) is_shape fits.is_message short in cc
+
+  lent_bytes : enc old (type_of lent) (message_of lent) ≡ enc old (type_of m) (message_of m)
+  lent_bytes = ap₂ (λ u x. enc old u x) (type_is ∙ of_type) lent_message
+
+  pub lent_written : enc old (type_of lent) (message_of lent) ≡ bytes
+  lent_written = lent_bytes ∙ sym written
+
+  pub lent_within : length (enc old (type_of lent) (message_of lent)) ≤ cap
+  lent_within = subst (λ (xs : List ℕ). length xs ≤ cap) (sym lent_bytes) short
+
+  pub lent_answers : (view : View) (new : Shape) (a b : TypeId) (so : Bool) → Answers view old new lent a b so → Answers view old new m a b so
+  lent_answers view new a b so h =
+      subst (λ u. IsTrue so ↔ ((u ≡ a) × Breaks view old new a b (message_of m))) (type_is ∙ of_type)
+      (subst (λ x. IsTrue so ↔ ((type_of lent ≡ a) × Breaks view old new a b x)) lent_message h)
+
+-- ---- an encoding is read
+
+pub unread_never : (again : ReadsAgain) (old : Shape) → IsShape old → (m : Kept) → Fits old m → length (enc old (type_of m) (message_of m)) ≤ cap → (bytes : List ℕ) → bytes ≡ enc old (type_of m) (message_of m) → (t : TypeId) → t ≡ type_of m → dec old t bytes ≡ None → ⊥
+unread_never again old is_shape m fits short bytes written t of_type none =
+    let clash : ◌≡◌ {A = Option Message} None (Some (message_of m)) =
+    sym none ∙ ap (dec old t) written ∙ ap (λ u. dec old u (enc old (type_of m) (message_of m))) of_type ∙ again old (type_of m) (message_of m) is_shape fits.is_message short in absurd (cc)

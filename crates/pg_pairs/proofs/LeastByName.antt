@@ -10,7 +10,8 @@ use Rattle.pg_pairs.specs.Among.{IsAmong}
 use Rattle.pg_pairs.specs.Sight.{Differs}
 use Rattle.pg_pairs.specs.LeastNumbers.{least_number, lesser, lesser_of, has_32_bits, number_counts}
 use Rattle.pg_pairs.specs.LeastNumberLaws.{least_of_those, one_least, least_of_both, lesser_of-some}
-use Rattle.pg_pairs.specs.LeastByName.{differing, is_missing, missing_numbers}
+use Rattle.pg_pairs.specs.LeastByName.{differing}
+use Rattle.pg_pairs.specs.MissingNames.{is_missing, missing_numbers}
 use Rattle.pg_pairs.specs.NameLaws.{among_filter, filter_among, among_map, map_among, among_left, among_right, among_cases, counting, counted_so, unlike_parts, least_differing_is}
 
 -- A value of the former with a number that is missing among the latter shows that the number differs.

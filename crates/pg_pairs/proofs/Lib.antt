@@ -64,3 +64,8 @@ pub mod ChoicePlaces
 pub mod SameLengths
 pub mod LeastByName
 pub mod NamedSights
+pub mod Grown
+pub mod Reaching
+pub mod ReturnSteps
+pub mod HomeExamples
+pub mod ReadBack

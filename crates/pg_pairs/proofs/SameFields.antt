@@ -1,114 +1,162 @@
 -- A field shows what the definitions say where its items meet.
-use Rattle.std.proofs.Common.{◌≡◌, ℕ, ℤ, Bor, List, [], ◌∷◌, map, filter, Bool, true, false, not, ◌&&◌, cond, nat_eq, Option, Some, None, option_map, IfSome, MatchOption, refl, ap, ap₂, sym, ◌∙◌, subst}
+use Rattle.std.proofs.Common.{◌≡◌, ℕ, ℤ, Bor, List, [], ◌∷◌, map, filter, Bool, true, false, not, ◌&&◌, ◌||◌, cond, nat_eq, Option, Some, None, option_map, IfSome, MatchOption, refl, ap, ap₂, sym, ◌∙◌, subst, true≢false}
 use Rattle.std.specs.Bool.{⊤}
 use Rattle.std.specs.List.{AllByRecursion}
 use Rattle.std.specs.Option.{option_copied}
 use lib.Pointwise.{pointwise}
 use Rattle.pg_schema.specs.declared.enum_type.EnumType.{EnumType}
 use Rattle.pg_schema.specs.declared.field.TypeId.{TypeId}
-use Rattle.pg_schema.specs.declared.field.Scalar.TheVariants.{Int32}
 use Rattle.pg_schema.specs.declared.field.Element.{Element}
 use Rattle.pg_schema.specs.declared.field.Element.TheVariants as elements
 use Rattle.pg_schema.specs.declared.field.Presence.{Presence}
 use Rattle.pg_schema.specs.declared.field.Presence.TheVariants as presences
 use Rattle.pg_schema.specs.declared.parts.Parts.{Parts}
 use Rattle.pg_schema.specs.Parts.{shape_of}
-use Rattle.pg_schema.specs.Shape.{Shape, FieldShape, IsShape, fields, field_at, is_singular}
-use Rattle.pg_dyn.specs.declared.message.Content.{Content}
-use Rattle.pg_dyn.specs.declared.message.Content.TheVariants as contents
-use Rattle.pg_dyn.specs.declared.message.Value.{Value}
-use Rattle.pg_dyn.specs.declared.message.Value.TheVariants as values
-use Rattle.pg_dyn.specs.Message.{Item, Part, is_of, is_zero, parts}
+use Rattle.pg_schema.specs.Shape.{Shape, FieldShape, IsShape, fields, field_at, is_implicit, is_repeated, is_singular}
+use Rattle.pg_dyn.specs.declared.message_ref.ContentRef.{ContentRef}
+use Rattle.pg_dyn.specs.declared.message_ref.ContentRef.TheVariants as contents
+use Rattle.pg_dyn.specs.declared.message_ref.EntryRef.{EntryRef}
+use Rattle.pg_dyn.specs.declared.message_ref.ValueRef.{ValueRef}
+use Rattle.pg_dyn.specs.declared.message_ref.ValueRef.TheVariants as values
+use Rattle.pg_dyn.specs.Message.{Item, Leaf, Part, is_zero, parts}
 use Rattle.pg_dyn.specs.Message as model
 use Rattle.pg_dyn.specs.Kept.{Kept, KeptItem, type_of, message_of, of_number}
 use Rattle.pg_dyn.specs.Kept as kept
-use Rattle.pg_dyn.specs.Seen.{IsFilled, IsKey, leaf_of, item_seen, content_seen}
-use Rattle.pg_dyn.specs.ContentFits.{ContentFits, HoldsContent, ItemFits, is_zero_value}
-use Rattle.pg_dyn.specs.ScalarItems.{IsItemOf}
+use Rattle.pg_dyn.specs.Belonging.{KeyFits, LeafFits}
+use Rattle.pg_dyn.specs.Borrowed.{HasKeys, IsFilled, IsKey, leaf_of, item_part, entry_part, item_seen, content_seen}
+use Rattle.pg_dyn.specs.BorrowedItems.{ItemFits, is_zero_value}
+use Rattle.pg_dyn.specs.PartsFit.{HoldsItem, HoldsPart, IsElementItem}
 use Rattle.pg_dyn.specs.Setting.{is_zero_kept}
 use Rattle.pg_dyn.specs.Encoding.{child_type, element_type}
 use Rattle.pg_dyn.specs.Fits.{Fits}
 use Rattle.pg_dyn.specs.Comparison.{View, Sought, Alike, is_zero_sought, is_zero_item, hides_zero, shown, same_key, meets, sought, same}
 use Rattle.pg_dyn.specs.Comparison as comparison
-use Rattle.pg_pairs.specs.Comparing.{view_by, Keyed, keyed, keyed_if, keyed_shown, IsSingle, value_sought, value_item, all_meet, is_same_beside}
+use Rattle.pg_pairs.specs.Comparing.{view_by, HeldFits, IsKeyIf, Keyed, keyed, keyed_if, keyed_shown, IsSingle, value_sought, item_lent, all_meet, is_same_beside}
 use Rattle.pg_pairs.proofs.SameSteps.{list_if, part_with, seen_keyed, of_number_seen, pointwise-map, copied_fact}
-use Rattle.pg_dyn.proofs.PublicLaws.{contents_are_seen}
 
 -- ---- contents that fit
 
-abbrev KeyFits : Option Value → Type 0
-KeyFits (Some key) = IsKey key
-KeyFits None = ⊤
+-- an item of a field is one of its element
 
--- an item under a key that is no message
-abbrev pub HeldFits : Shape → Element → Keyed → Type 0
-HeldFits shape e x = KeyFits x.0 × ItemFits shape e x.1
+leaf_item : (shape : Shape) (n : ℕ) (p : Presence) (e : Element) (o : Option ℕ) (leaf : Leaf) → LeafFits (record { number = n; presence = p; element = e; oneof = o }) leaf → IsElementItem shape e (kept.Plain false leaf)
+leaf_item shape n p (elements.Scalar s) o leaf h = h.0
+leaf_item shape n p (elements.Enum t) o leaf h = h.0
+leaf_item shape n p (elements.Message t) o leaf h = absurd h
 
-pub keyed_fits : (shape : Shape) (p : Presence) (e : Element) (c : Content) → ContentFits shape p e c → AllByRecursion (HeldFits shape e) (keyed c)
-keyed_fits shape presences.Implicit e (contents.One v) h = ((tt, h.0), tt)
-keyed_fits shape presences.Implicit e (contents.Many vs) h = absurd h
-keyed_fits shape presences.Implicit e (contents.Map es) h = absurd h
-keyed_fits shape presences.Explicit e (contents.One v) h = ((tt, h), tt)
-keyed_fits shape presences.Explicit e (contents.Many vs) h = absurd h
-keyed_fits shape presences.Explicit e (contents.Map es) h = absurd h
-keyed_fits shape (presences.Repeated packed) e (contents.One v) h = absurd h
-keyed_fits shape (presences.Repeated packed) e (contents.Many vs) h = go vs.items h
-  where
-    go : (xs : List Value) → AllByRecursion (ItemFits shape e) xs → AllByRecursion (HeldFits shape e) (map {B = Keyed} (λ value. (None, value)) xs)
-    go [] k = tt
-    go (x ∷ xs) k = ((tt, k.0), go xs k.1)
-keyed_fits shape (presences.Repeated packed) e (contents.Map es) h = absurd h
-keyed_fits shape (presences.Map key) e (contents.One v) h = absurd h
-keyed_fits shape (presences.Map key) e (contents.Many vs) h = absurd h
-keyed_fits shape (presences.Map key) e (contents.Map es) h = go es.items h.0
-  where
-    go : (xs : List (Value × Value)) → AllByRecursion (λ (x : Value × Value). IsItemOf key x.0 × ItemFits shape e x.1) xs → AllByRecursion (HeldFits shape e) (map {B = Keyed} (λ (x : Value × Value). (Some x.0, x.1)) xs)
-    go [] k = tt
-    go (x ∷ xs) k = ((contents_are_seen.1 key x.0 k.0.0, k.0.1), go xs k.1)
+item_fits : (shape : Shape) (f : FieldShape) (listed : Bool) (v : ValueRef) → HoldsItem shape f (item_seen listed v) → ItemFits shape f.element v
+item_fits shape f listed (values.Int n) h = leaf_item shape f.number f.presence f.element f.oneof (leaf_of (values.Int n)) h.1
+item_fits shape f listed (values.F32 n) h = leaf_item shape f.number f.presence f.element f.oneof (leaf_of (values.F32 n)) h.1
+item_fits shape f listed (values.F64 n) h = leaf_item shape f.number f.presence f.element f.oneof (leaf_of (values.F64 n)) h.1
+item_fits shape f listed (values.Text n) h = leaf_item shape f.number f.presence f.element f.oneof (leaf_of (values.Text n)) h.1
+item_fits shape f listed (values.Bytes n) h = leaf_item shape f.number f.presence f.element f.oneof (leaf_of (values.Bytes n)) h.1
+item_fits shape f listed (values.Msg child) h = subst (λ (e : Element). IsElementItem shape e (kept.Msg false child.value)) (sym h.2) (h.1, refl)
 
--- a singular field holds one item
-single_fits : (shape : Shape) (p : Presence) (e : Element) (c : Content) → ContentFits shape p e c → is_singular p ≡ true → IsSingle (Some c)
-single_fits shape presences.Implicit e (contents.One v) h is = tt
-single_fits shape presences.Implicit e (contents.Many vs) h is = absurd h
-single_fits shape presences.Implicit e (contents.Map es) h is = absurd h
-single_fits shape presences.Explicit e (contents.One v) h is = tt
-single_fits shape presences.Explicit e (contents.Many vs) h is = absurd h
-single_fits shape presences.Explicit e (contents.Map es) h is = absurd h
-single_fits shape (presences.Repeated packed) e c h is = absurd (cc)
-single_fits shape (presences.Map key) e c h is = absurd (cc)
+-- it stands in a list just where the field is repeated
+is_listed : (shape : Shape) (f : FieldShape) (listed : Bool) (v : ValueRef) → HoldsItem shape f (item_seen listed v) → is_repeated f.presence ≡ listed
+is_listed shape f listed (values.Int n) h = h.0
+is_listed shape f listed (values.F32 n) h = h.0
+is_listed shape f listed (values.F64 n) h = h.0
+is_listed shape f listed (values.Text n) h = h.0
+is_listed shape f listed (values.Bytes n) h = h.0
+is_listed shape f listed (values.Msg child) h = h.0
+
+-- a singular field has neither lists nor keys
+no_list : (p : Presence) → is_singular p ≡ true → is_repeated p ≡ true → ⊥
+no_list presences.Implicit is repeated = true≢false (sym repeated)
+no_list presences.Explicit is repeated = true≢false (sym repeated)
+no_list (presences.Repeated packed) is repeated = true≢false (sym is)
+no_list (presences.Map key) is repeated = true≢false (sym is)
+
+no_key : (p : Presence) (k : Leaf) → is_singular p ≡ true → KeyFits p (Some k) → ⊥
+no_key presences.Implicit k is h = cc
+no_key presences.Explicit k is h = cc
+no_key (presences.Repeated packed) k is h = true≢false (sym is)
+no_key (presences.Map key) k is h = true≢false (sym is)
+
+module _ (shape : Shape) (type : TypeId) (n : ℕ) (f : FieldShape) (found : field_at (fields shape type) n ≡ Some f) where
+  abbrev Fitting : List (Part KeptItem) → Type 0
+  Fitting ps = AllByRecursion (HoldsPart shape type) ps
+
+  -- the field that holds a part is that of its number
+  its_field : (k : Option Leaf) (item : KeptItem) (h : HoldsPart shape type (record { number = n; key = k; item = item })) → h.field ≡ f
+  its_field k item h =
+      let both : ◌≡◌ {A = Option FieldShape} (Some h.field) (Some f) = sym h.found ∙ found in cc
+
+  its_item : (k : Option Leaf) (item : KeptItem) → HoldsPart shape type (record { number = n; key = k; item = item }) → HoldsItem shape f item
+  its_item k item h = subst (λ (g : FieldShape). HoldsItem shape g item) (its_field k item h) h.item
+
+  its_key : (k : Option Leaf) (item : KeptItem) → HoldsPart shape type (record { number = n; key = k; item = item }) → KeyFits f.presence k
+  its_key k item h = subst (λ (g : FieldShape). KeyFits g.presence k) (its_field k item h) h.key
+
+  value_fits : (k : Option Leaf) (listed : Bool) (v : ValueRef) → HoldsPart shape type (record { number = n; key = k; item = item_seen listed v }) → ItemFits shape f.element v
+  value_fits k listed v h = item_fits shape f listed v (its_item k (item_seen listed v) h)
+
+  keyed_fits : (c : ContentRef) → HasKeys c → Fitting (content_seen n c) → AllByRecursion (HeldFits shape f.element) (keyed c)
+  keyed_fits (contents.One v) keys h = ((tt, value_fits None false v h.0), tt)
+  keyed_fits (contents.Many vs) keys h = go vs.items h
+    where
+      go : (xs : List ValueRef) → Fitting (map (item_part n true) xs) → AllByRecursion (HeldFits shape f.element) (map {B = Keyed} (λ value. (None, value)) xs)
+      go [] k = tt
+      go (x ∷ xs) k = ((tt, value_fits None true x k.0), go xs k.1)
+  keyed_fits (contents.Map es) keys h = go es.items keys h
+    where
+      go : (xs : List EntryRef) → AllByRecursion (λ (e : EntryRef). IsKey e.key) xs → Fitting (map (entry_part n) xs) → AllByRecursion (HeldFits shape f.element) (map {B = Keyed} (λ (e : EntryRef). (Some e.key, e.value)) xs)
+      go [] ks k = tt
+      go (x ∷ xs) ks k = ((ks.0, value_fits (Some (leaf_of x.key)) false x.value k.0), go xs ks.1 k.1)
+
+  -- a singular field holds one item
+  single_fits : (c : ContentRef) → IsFilled c → Fitting (content_seen n c) → is_singular f.presence ≡ true → IsSingle (Some c)
+  single_fits (contents.One v) filled h is = tt
+  single_fits (contents.Many vs) filled h is = go vs.items filled h
+    where
+      go : (xs : List ValueRef) → (xs ≡ [] → ⊥) → Fitting (map (item_part n true) xs) → ⊥
+      go [] some k = some refl
+      go (x ∷ xs) some k = no_list f.presence is (is_listed shape f true x (its_item None (item_seen true x) k.0))
+  single_fits (contents.Map es) filled h is = go es.items filled h
+    where
+      go : (xs : List EntryRef) → (xs ≡ [] → ⊥) → Fitting (map (entry_part n) xs) → ⊥
+      go [] some k = some refl
+      go (x ∷ xs) some k = no_key f.presence (leaf_of x.key) is (its_key (Some (leaf_of x.key)) (item_seen false x.value) k.0)
 
 -- What a look-up says of what it finds.
-abbrev FitsWhereFound : Kept → ℕ → Content → Type 0
-FitsWhereFound m n c = (shape : Shape) → IsShape shape → Fits shape m → HoldsContent shape (type_of m) (n, c)
+abbrev FitsWhereFound : Kept → ℕ → ContentRef → Type 0
+FitsWhereFound m n c = (shape : Shape) → IsShape shape → Fits shape m → AllByRecursion (HoldsPart shape (type_of m)) (content_seen n c)
 
 module _ (shape : Shape) (m : Kept) (n : ℕ) (f : FieldShape) (is_shape : IsShape shape) (fits : Fits shape m) (found : field_at (fields shape (type_of m)) n ≡ Some f) where
-  content_fits : (c : Content) → FitsWhereFound m n c → ContentFits shape f.presence f.element c
-  content_fits c h =
-      let held = h shape is_shape fits in
-      let both : ◌≡◌ {A = Option FieldShape} (Some held.field) (Some f) = sym held.found ∙ found in
-      let same : held.field ≡ f = cc in
-      subst (λ (x : FieldShape). ContentFits shape x.presence x.element c) same held.fits
-
-  pub single_found : (o : Option (Bor Content)) → IfSome o (λ c. FitsWhereFound m n c.now) → is_singular f.presence ≡ true → IsSingle (option_copied o)
-  single_found None h is = tt
-  single_found (Some c) h is = single_fits shape f.presence f.element c.now (content_fits c.now h) is
+  pub single_found : (o : Option (Bor ContentRef)) → IfSome o (λ c. IsFilled c.now) → IfSome o (λ c. FitsWhereFound m n c.now) → is_singular f.presence ≡ true → IsSingle (option_copied o)
+  single_found None filled h is = tt
+  single_found (Some c) filled h is = single_fits shape (type_of m) n f found c.now filled (h shape is_shape fits) is
 
   -- what is shown of what was found fits
-  pub shown_fits : (o s : Option (Bor Content)) (c : Bor Content) → IfSome o (λ c. FitsWhereFound m n c.now) → IfSome s (λ c. option_copied o ≡ Some c.now) → s ≡ Some c → ContentFits shape f.presence f.element c.now
-  shown_fits o s c h same is =
-      let from : option_copied o ≡ Some c.now = subst (λ (x : Option (Bor Content)). IfSome x (λ y. option_copied o ≡ Some y.now)) is same in
-      content_fits c.now (copied_fact (FitsWhereFound m n) o c.now h from)
+  pub shown_fits : (o s : Option (Bor ContentRef)) (c : Bor ContentRef) → IfSome o (λ c. HasKeys c.now) → IfSome o (λ c. FitsWhereFound m n c.now) → IfSome s (λ c. option_copied o ≡ Some c.now) → s ≡ Some c → AllByRecursion (HeldFits shape f.element) (keyed c.now)
+  shown_fits o s c keys h same is =
+      let from : option_copied o ≡ Some c.now = subst (λ (x : Option (Bor ContentRef)). IfSome x (λ y. option_copied o ≡ Some y.now)) is same in
+      let there : FitsWhereFound m n c.now = copied_fact (FitsWhereFound m n) o c.now h from in
+      keyed_fits shape (type_of m) n f found c.now (copied_fact HasKeys o c.now keys from) (there shape is_shape fits)
 
-  keyed_found : (o : Option (Bor Content)) → IfSome o (λ c. FitsWhereFound m n c.now) → AllByRecursion (HeldFits shape f.element) (keyed_if (option_copied o))
-  keyed_found None h = tt
-  keyed_found (Some c) h = keyed_fits shape f.presence f.element c.now (content_fits c.now h)
+  keyed_found : (o : Option (Bor ContentRef)) → IfSome o (λ c. HasKeys c.now) → IfSome o (λ c. FitsWhereFound m n c.now) → AllByRecursion (HeldFits shape f.element) (keyed_if (option_copied o))
+  keyed_found None keys h = tt
+  keyed_found (Some c) keys h = keyed_fits shape (type_of m) n f found c.now keys (h shape is_shape fits)
 
-pub key_lent : (o : Option (Bor Value)) → KeyFits (option_copied o) → IfSome o (λ key. IsKey key.now)
+-- where zeros are hidden, both fields are singular
+
+pub hides_first : (f g : FieldShape) → hides_zero f g ≡ true → is_singular f.presence ≡ true
+hides_first f g h =
+    elim (is_singular f.presence) as (λ a. (a && is_singular g.presence && (is_implicit f.presence || is_implicit g.presence)) ≡ true → a ≡ true) [ true ↦ λ e. refl | false ↦ λ e. e ] h
+
+pub hides_second : (f g : FieldShape) → hides_zero f g ≡ true → is_singular g.presence ≡ true
+hides_second f g h =
+    elim (is_singular f.presence) as (λ a. (a && is_singular g.presence && (is_implicit f.presence || is_implicit g.presence)) ≡ true → is_singular g.presence ≡ true) [
+      | true ↦ elim (is_singular g.presence) as (λ b. (true && b && (is_implicit f.presence || is_implicit g.presence)) ≡ true → b ≡ true) [ true ↦ λ e. refl | false ↦ λ e. e ]
+      | false ↦ λ e. absurd (true≢false (sym e))
+    ] h
+
+pub key_lent : (o : Option (Bor ValueRef)) → IsKeyIf (option_copied o) → IfSome o (λ key. IsKey key.now)
 key_lent None h = tt
 key_lent (Some key) h = h
 
 -- a message as an item
-pub message_fits : (shape : Shape) (e : Element) (v : Value) (m : Kept) → item_seen false v ≡ kept.Msg false m → ItemFits shape e v → Fits shape m
+pub message_fits : (shape : Shape) (e : Element) (v : ValueRef) (m : Kept) → item_seen false v ≡ kept.Msg false m → ItemFits shape e v → Fits shape m
 message_fits shape e (values.Int n) m is h = absurd (cc)
 message_fits shape e (values.F32 n) m is h = absurd (cc)
 message_fits shape e (values.F64 n) m is h = absurd (cc)
@@ -120,26 +168,18 @@ message_fits shape (elements.Message t) (values.Msg child) m is h = let same : c
 
 -- ---- types of messages inside
 
-abbrev IsOfType : TypeId → Value → Type 0
+abbrev IsOfType : TypeId → ValueRef → Type 0
 IsOfType t (values.Msg child) = type_of child.value ≡ t
 IsOfType t value = ⊤
 
-leaf_type : (t : TypeId) (v : Value) → IsKey v → IsOfType t v
-leaf_type t (values.Int n) h = tt
-leaf_type t (values.F32 n) h = tt
-leaf_type t (values.F64 n) h = tt
-leaf_type t (values.Text n) h = tt
-leaf_type t (values.Bytes n) h = tt
-leaf_type t (values.Msg child) h = absurd h
-
-item_type : (shape : Shape) (e : Element) (v : Value) → ItemFits shape e v → IsOfType (element_type e) v
-item_type shape (elements.Scalar s) v h = leaf_type (element_type (elements.Scalar s)) v (contents_are_seen.1 s v h)
-item_type shape (elements.Enum s) v h = leaf_type (element_type (elements.Enum s)) v (contents_are_seen.1 Int32 v h)
-item_type shape (elements.Message t) (values.Int n) h = tt
-item_type shape (elements.Message t) (values.F32 n) h = tt
-item_type shape (elements.Message t) (values.F64 n) h = tt
-item_type shape (elements.Message t) (values.Text n) h = tt
-item_type shape (elements.Message t) (values.Bytes n) h = tt
+item_type : (shape : Shape) (e : Element) (v : ValueRef) → ItemFits shape e v → IsOfType (element_type e) v
+item_type shape e (values.Int n) h = tt
+item_type shape e (values.F32 n) h = tt
+item_type shape e (values.F64 n) h = tt
+item_type shape e (values.Text n) h = tt
+item_type shape e (values.Bytes n) h = tt
+item_type shape (elements.Scalar s) (values.Msg child) h = absurd h
+item_type shape (elements.Enum s) (values.Msg child) h = absurd h
 item_type shape (elements.Message t) (values.Msg child) h = h.1
 
 -- ---- the parts that are shown, with something in the place of their items
@@ -150,10 +190,10 @@ is_shown_part hidden p = not (hidden && is_zero_kept p.item)
 abbrev put_in : {B : Type 0} → (ℕ → KeptItem → B) → Part KeptItem → Part B
 put_in make p = record { number = p.number; key = p.key; item = make p.number p.item }
 
-abbrev put_held : {B : Type 0} → ℕ → (Value → B) → Keyed → Part B
+abbrev put_held : {B : Type 0} → ℕ → (ValueRef → B) → Keyed → Part B
 put_held n make x = record { number = n; key = option_map leaf_of x.0; item = make x.1 }
 
-zero_same : (listed : Bool) (v : Value) → is_zero_kept (item_seen listed v) ≡ is_zero_value v
+zero_same : (listed : Bool) (v : ValueRef) → is_zero_kept (item_seen listed v) ≡ is_zero_value v
 zero_same listed (values.Int n) = refl
 zero_same listed (values.F32 n) = refl
 zero_same listed (values.F64 n) = refl
@@ -161,7 +201,7 @@ zero_same listed (values.Text n) = refl
 zero_same listed (values.Bytes n) = refl
 zero_same listed (values.Msg child) = refl
 
-held_as : {B : Type 0} (n : ℕ) (hidden listed : Bool) (make : ℕ → KeptItem → B) (from : Value → B) (xs : List Keyed) → AllByRecursion (λ (x : Keyed). make n (item_seen listed x.1) ≡ from x.1) xs →
+held_as : {B : Type 0} (n : ℕ) (hidden listed : Bool) (make : ℕ → KeptItem → B) (from : ValueRef → B) (xs : List Keyed) → AllByRecursion (λ (x : Keyed). make n (item_seen listed x.1) ≡ from x.1) xs →
     map (put_in make) (filter (is_shown_part hidden) (map (part_with n listed) xs)) ≡ map (put_held n from) (filter (λ (x : Keyed). not (hidden && is_zero_value x.1)) xs)
 held_as {B} n hidden listed make from [] h = refl
 held_as {B} n hidden listed make from (x ∷ xs) h =
@@ -236,11 +276,11 @@ module _ (view : View) (old new : Shape) (a b : TypeId) where
         | false ↦ rest
       ]
 
-read_as : (alike : EnumType → EnumType → ℤ → Bool) (old new : Parts) (n : ℕ) (listed : Bool) (xs : List Keyed) → AllByRecursion (λ (x : Keyed). item_read n (item_seen listed x.1) ≡ value_item x.1) xs
+read_as : (alike : EnumType → EnumType → ℤ → Bool) (old new : Parts) (n : ℕ) (listed : Bool) (xs : List Keyed) → AllByRecursion (λ (x : Keyed). item_read n (item_seen listed x.1) ≡ item_lent x.1) xs
 read_as alike old new n listed [] = tt
 read_as alike old new n listed (x ∷ xs) = (of x.1, read_as alike old new n listed xs)
   where
-    of : (v : Value) → item_read n (item_seen listed v) ≡ value_item v
+    of : (v : ValueRef) → item_read n (item_seen listed v) ≡ item_lent v
     of (values.Int m) = refl
     of (values.F32 m) = refl
     of (values.F64 m) = refl
@@ -254,7 +294,7 @@ module _ (alike : EnumType → EnumType → ℤ → Bool) (old new : Parts) (f g
   sought_as listed of_old of_new [] h = tt
   sought_as listed of_old of_new (x ∷ xs) h = (one x.1 (item_type (shape_of old) f.element x.1 h.0.1), sought_as listed of_old of_new xs h.1)
     where
-      one : (value : Value) → IsOfType (element_type f.element) value → item_sought (view_by alike old new) (shape_of old) (shape_of new) (type_of v) (type_of w) f.number (item_seen listed value) ≡ value_sought alike old new (element_type g.element) value
+      one : (value : ValueRef) → IsOfType (element_type f.element) value → item_sought (view_by alike old new) (shape_of old) (shape_of new) (type_of v) (type_of w) f.number (item_seen listed value) ≡ value_sought alike old new (element_type g.element) value
       one (values.Int m) k = refl
       one (values.F32 m) k = refl
       one (values.F64 m) k = refl
@@ -264,11 +304,11 @@ module _ (alike : EnumType → EnumType → ℤ → Bool) (old new : Parts) (f g
 
   module _ (is_old : IsShape (shape_of old)) (fits : Fits (shape_of old) v) (found : field_at (fields (shape_of old) (type_of v)) f.number ≡ Some f) (beside : field_at (fields (shape_of new) (type_of w)) f.number ≡ Some g) where
     -- a field shows what it means where the shown items meet
-    pub beside_is : (got other shown_got shown_other : Option (Bor Content))
+    pub beside_is : (got other shown_got shown_other : Option (Bor ContentRef))
         → MatchOption got (of_number f.number v ≡ []) (λ c. of_number f.number v ≡ content_seen f.number c.now) → MatchOption other (of_number f.number w ≡ []) (λ c. of_number f.number w ≡ content_seen f.number c.now)
-        → IfSome got (λ c. FitsWhereFound v f.number c.now) → keyed_if (option_copied shown_got) ≡ keyed_shown (hides_zero f g) (option_copied got) → keyed_if (option_copied shown_other) ≡ keyed_shown (hides_zero f g) (option_copied other)
+        → IfSome got (λ c. HasKeys c.now) → IfSome got (λ c. FitsWhereFound v f.number c.now) → keyed_if (option_copied shown_got) ≡ keyed_shown (hides_zero f g) (option_copied got) → keyed_if (option_copied shown_other) ≡ keyed_shown (hides_zero f g) (option_copied other)
         → all_meet alike old new f g (keyed_if (option_copied shown_got)) (keyed_if (option_copied shown_other)) ≡ is_same_beside alike old new v w f (field_at (fields (shape_of new) (type_of w)) f.number)
-    beside_is got other shown_got shown_other seen seen_other held is is_other =
+    beside_is got other shown_got shown_other seen seen_other keys held is is_other =
         let n = f.number in
         let hidden = hides_zero f g in
         let of_old : child_type (fields (shape_of old) (type_of v)) f.number ≡ element_type f.element = rw found refl in
@@ -276,43 +316,43 @@ module _ (alike : EnumType → EnumType → ℤ → Bool) (old new : Parts) (f g
         let first = sought_shown (view_by alike old new) (shape_of old) (shape_of new) (type_of v) (type_of w) (hides_zero f g) f.number v
         ∙ ap (λ ps. map (put_in (item_sought (view_by alike old new) (shape_of old) (shape_of new) (type_of v) (type_of w))) (filter (is_shown_part (hides_zero f g)) ps)) (of_number_seen f.number v got seen ∙ seen_keyed f.number (option_copied got))
         ∙ held_as f.number (hides_zero f g) (list_if (option_copied got)) (item_sought (view_by alike old new) (shape_of old) (shape_of new) (type_of v) (type_of w)) (value_sought alike old new (element_type g.element)) (keyed_if (option_copied got))
-        (sought_as (list_if (option_copied got)) of_old of_new (keyed_if (option_copied got)) (keyed_found (shape_of old) v f.number f is_old fits found got held))
+        (sought_as (list_if (option_copied got)) of_old of_new (keyed_if (option_copied got)) (keyed_found (shape_of old) v f.number f is_old fits found got keys held))
         ∙ ap (map (put_held f.number (value_sought alike old new (element_type g.element)))) (sym is) in
         let second = parts_shown (hides_zero f g) f.number w
         ∙ ap (λ ps. map (put_in item_read) (filter (is_shown_part (hides_zero f g)) ps)) (of_number_seen f.number w other seen_other ∙ seen_keyed f.number (option_copied other))
-        ∙ held_as f.number (hides_zero f g) (list_if (option_copied other)) item_read value_item (keyed_if (option_copied other)) (read_as alike old new f.number (list_if (option_copied other)) (keyed_if (option_copied other)))
-        ∙ ap (map (put_held f.number value_item)) (sym is_other) in
+        ∙ held_as f.number (hides_zero f g) (list_if (option_copied other)) item_read item_lent (keyed_if (option_copied other)) (read_as alike old new f.number (list_if (option_copied other)) (keyed_if (option_copied other)))
+        ∙ ap (map (put_held f.number item_lent)) (sym is_other) in
         sym (ap (λ o. is_same_beside alike old new v w f o) beside
         ∙ ap₂ (pointwise (λ (p : Part Sought) (q : Part Item). same_key p.key q.key && meets (view_by alike old new) f g p.item q.item)) first second
-        ∙ pointwise-map (λ (p : Part Sought) (q : Part Item). same_key p.key q.key && meets (view_by alike old new) f g p.item q.item) (put_held f.number (value_sought alike old new (element_type g.element))) (put_held f.number value_item) (keyed_if (option_copied shown_got)) (keyed_if (option_copied shown_other)))
+        ∙ pointwise-map (λ (p : Part Sought) (q : Part Item). same_key p.key q.key && meets (view_by alike old new) f g p.item q.item) (put_held f.number (value_sought alike old new (element_type g.element))) (put_held f.number item_lent) (keyed_if (option_copied shown_got)) (keyed_if (option_copied shown_other)))
 
-    pub beside_with : (got other shown_got shown_other x y : Option (Bor Content))
+    pub beside_with : (got other shown_got shown_other x y : Option (Bor ContentRef))
         → MatchOption got (of_number f.number v ≡ []) (λ c. of_number f.number v ≡ content_seen f.number c.now) → MatchOption other (of_number f.number w ≡ []) (λ c. of_number f.number w ≡ content_seen f.number c.now)
-        → IfSome got (λ c. FitsWhereFound v f.number c.now) → keyed_if (option_copied shown_got) ≡ keyed_shown (hides_zero f g) (option_copied got) → keyed_if (option_copied shown_other) ≡ keyed_shown (hides_zero f g) (option_copied other)
+        → IfSome got (λ c. HasKeys c.now) → IfSome got (λ c. FitsWhereFound v f.number c.now) → keyed_if (option_copied shown_got) ≡ keyed_shown (hides_zero f g) (option_copied got) → keyed_if (option_copied shown_other) ≡ keyed_shown (hides_zero f g) (option_copied other)
         → shown_got ≡ x → shown_other ≡ y
         → all_meet alike old new f g (keyed_if (option_copied x)) (keyed_if (option_copied y)) ≡ is_same_beside alike old new v w f (field_at (fields (shape_of new) (type_of w)) f.number)
-    beside_with got other shown_got shown_other x y seen seen_other held is is_other is_x is_y =
+    beside_with got other shown_got shown_other x y seen seen_other keys held is is_other is_x is_y =
         ap₂ (λ s t. all_meet alike old new f g (keyed_if (option_copied s)) (keyed_if (option_copied t))) (sym is_x) (sym is_y)
-        ∙ beside_is got other shown_got shown_other seen seen_other held is is_other
+        ∙ beside_is got other shown_got shown_other seen seen_other keys held is is_other
 
 -- ---- a content beside none
 
-filled_keyed : (c : Content) → IsFilled c → keyed c ≡ [] → ⊥
+filled_keyed : (c : ContentRef) → IsFilled c → keyed c ≡ [] → ⊥
 filled_keyed (contents.One v) h is = cc
 filled_keyed (contents.Many vs) h is = of vs.items h is
   where
-    of : (xs : List Value) → (xs ≡ [] → ⊥) → map {B = Keyed} (λ value. (None, value)) xs ≡ [] → ⊥
+    of : (xs : List ValueRef) → (xs ≡ [] → ⊥) → map {B = Keyed} (λ value. (None, value)) xs ≡ [] → ⊥
     of [] k e = k refl
     of (x ∷ xs) k e = cc
 filled_keyed (contents.Map es) h is = of es.items h is
   where
-    of : (xs : List (Value × Value)) → (xs ≡ [] → ⊥) → map {B = Keyed} (λ (x : Value × Value). (Some x.0, x.1)) xs ≡ [] → ⊥
+    of : (xs : List EntryRef) → (xs ≡ [] → ⊥) → map {B = Keyed} (λ (x : EntryRef). (Some x.key, x.value)) xs ≡ [] → ⊥
     of [] k e = k refl
     of (x ∷ xs) k e = cc
 
-pub shown_filled : (o s : Option (Bor Content)) (c : Bor Content) → IfSome o (λ c. IsFilled c.now) → IfSome s (λ c. option_copied o ≡ Some c.now) → s ≡ Some c → keyed c.now ≡ [] → ⊥
+pub shown_filled : (o s : Option (Bor ContentRef)) (c : Bor ContentRef) → IfSome o (λ c. IsFilled c.now) → IfSome s (λ c. option_copied o ≡ Some c.now) → s ≡ Some c → keyed c.now ≡ [] → ⊥
 shown_filled o s c filled same is =
-    filled_keyed c.now (copied_fact IsFilled o c.now filled (subst (λ (x : Option (Bor Content)). IfSome x (λ y. option_copied o ≡ Some y.now)) is same))
+    filled_keyed c.now (copied_fact IsFilled o c.now filled (subst (λ (x : Option (Bor ContentRef)). IfSome x (λ y. option_copied o ≡ Some y.now)) is same))
 
 pub first_alone : (test : Keyed → Keyed → Bool) (xs : List Keyed) → (xs ≡ [] → ⊥) → false ≡ pointwise test xs []
 first_alone test [] h = absurd (h refl)

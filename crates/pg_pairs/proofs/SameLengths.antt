@@ -6,14 +6,15 @@ use Rattle.std.specs.Option.{option_copied}
 use Rattle.pg_schema.specs.declared.field.TypeId.{TypeId}
 use Rattle.pg_wire.specs.Records.{WireRecord}
 use Rattle.pg_schema.specs.Shape.{Shape, FieldShape, IsShape, fields, field_at}
-use Rattle.pg_dyn.specs.declared.message.Content.{Content}
-use Rattle.pg_dyn.specs.declared.message.Content.TheVariants as contents
-use Rattle.pg_dyn.specs.declared.message.Value.{Value}
-use Rattle.pg_dyn.specs.declared.message.Value.TheVariants as values
-use Rattle.pg_dyn.specs.Message.{Leaf, Part, Message, is_of}
+use Rattle.pg_dyn.specs.declared.message_ref.ContentRef.{ContentRef}
+use Rattle.pg_dyn.specs.declared.message_ref.ContentRef.TheVariants as contents
+use Rattle.pg_dyn.specs.declared.message_ref.EntryRef.{EntryRef}
+use Rattle.pg_dyn.specs.declared.message_ref.ValueRef.{ValueRef}
+use Rattle.pg_dyn.specs.declared.message_ref.ValueRef.TheVariants as values
+use Rattle.pg_dyn.specs.Message.{Part, Message, is_of}
 use Rattle.pg_dyn.specs.Message as model
 use Rattle.pg_dyn.specs.Kept.{Kept, KeptItem, Plain, Msg, ends, holds, nests, type_of, message_of, parts_of, of_number}
-use Rattle.pg_dyn.specs.Seen.{leaf_of, item_seen, content_seen}
+use Rattle.pg_dyn.specs.Borrowed.{item_part, entry_part, item_seen, content_seen}
 use Rattle.pg_dyn.specs.Writing.{records_in, bytes_of, field_records}
 use Rattle.pg_dyn.specs.Encoding.{cap, enc, encoded_parts}
 use Rattle.pg_dyn.specs.Fits.{Fits, PartsAgree}
@@ -40,7 +41,7 @@ module _ (shape : Shape) where
   each_encoded is_shape m fits short =
       parts_encoded m (length (enc shape (type_of m) (message_of m))) short fits.parts_agree (children_are_shorter shape (type_of m) (message_of m) is_shape fits.is_message short)
 
-  value_encoded : (listed : Bool) (value : Value) → PartHasEncoding (item_seen listed value) → ItemHasEncoding shape value
+  value_encoded : (listed : Bool) (value : ValueRef) → PartHasEncoding (item_seen listed value) → ItemHasEncoding shape value
   value_encoded listed (values.Int n) h = tt
   value_encoded listed (values.F32 bits) h = tt
   value_encoded listed (values.F64 bits) h = tt
@@ -48,28 +49,28 @@ module _ (shape : Shape) where
   value_encoded listed (values.Bytes bytes) h = tt
   value_encoded listed (values.Msg child) h = h
 
-  keyed_encoded : (number : ℕ) (content : Content) → AllByRecursion (λ (p : Part KeptItem). PartHasEncoding p.item) (content_seen number content) → AllByRecursion (λ (x : Keyed). ItemHasEncoding shape x.1) (keyed content)
+  keyed_encoded : (number : ℕ) (content : ContentRef) → AllByRecursion (λ (p : Part KeptItem). PartHasEncoding p.item) (content_seen number content) → AllByRecursion (λ (x : Keyed). ItemHasEncoding shape x.1) (keyed content)
   keyed_encoded number (contents.One value) h = (value_encoded false value h.0, tt)
   keyed_encoded number (contents.Many vs) h = go vs.items h
     where
-      go : (xs : List Value) → AllByRecursion (λ (p : Part KeptItem). PartHasEncoding p.item) (map (λ value. record { number = number; key = None; item = item_seen true value }) xs) → AllByRecursion (λ (x : Keyed). ItemHasEncoding shape x.1) (map {B = Keyed} (λ value. (None, value)) xs)
+      go : (xs : List ValueRef) → AllByRecursion (λ (p : Part KeptItem). PartHasEncoding p.item) (map (item_part number true) xs) → AllByRecursion (λ (x : Keyed). ItemHasEncoding shape x.1) (map {B = Keyed} (λ value. (None, value)) xs)
       go [] h = tt
       go (x ∷ xs) h = (value_encoded true x h.0, go xs h.1)
   keyed_encoded number (contents.Map es) h = go es.items h
     where
-      go : (xs : List (Value × Value)) → AllByRecursion (λ (p : Part KeptItem). PartHasEncoding p.item) (map (λ (e : Value × Value). record { number = number; key = Some (leaf_of e.0); item = item_seen false e.1 }) xs) → AllByRecursion (λ (x : Keyed). ItemHasEncoding shape x.1) (map {B = Keyed} (λ (e : Value × Value). (Some e.0, e.1)) xs)
+      go : (xs : List EntryRef) → AllByRecursion (λ (p : Part KeptItem). PartHasEncoding p.item) (map (entry_part number) xs) → AllByRecursion (λ (x : Keyed). ItemHasEncoding shape x.1) (map {B = Keyed} (λ (e : EntryRef). (Some e.key, e.value)) xs)
       go [] h = tt
-      go (x ∷ xs) h = (value_encoded false x.1 h.0, go xs h.1)
+      go (x ∷ xs) h = (value_encoded false x.value h.0, go xs h.1)
 
-  pub shown_encoded : IsShape shape → (m : Kept) → Fits shape m → HasEncoding shape m → (number : ℕ) (o s : Option (Bor Content)) (c : Bor Content) → MatchOption o (of_number number m ≡ []) (λ c. of_number number m ≡ content_seen number c.now) → IfSome s (λ c. option_copied o ≡ Some c.now) → s ≡ Some c → AllByRecursion (λ (x : Keyed). ItemHasEncoding shape x.1) (keyed c.now)
+  pub shown_encoded : IsShape shape → (m : Kept) → Fits shape m → HasEncoding shape m → (number : ℕ) (o s : Option (Bor ContentRef)) (c : Bor ContentRef) → MatchOption o (of_number number m ≡ []) (λ c. of_number number m ≡ content_seen number c.now) → IfSome s (λ c. option_copied o ≡ Some c.now) → s ≡ Some c → AllByRecursion (λ (x : Keyed). ItemHasEncoding shape x.1) (keyed c.now)
   shown_encoded is_shape m fits short number o s c found same is =
-      let from : option_copied o ≡ Some c.now = subst (λ (x : Option (Bor Content)). IfSome x (λ y. option_copied o ≡ Some y.now)) is same in
+      let from : option_copied o ≡ Some c.now = subst (λ (x : Option (Bor ContentRef)). IfSome x (λ y. option_copied o ≡ Some y.now)) is same in
       keyed_encoded number c.now
       (subst (AllByRecursion (λ (p : Part KeptItem). PartHasEncoding p.item)) (of_number_seen number m o found ∙ ap (seen_if number) from)
       (each_filtered (λ (p : Part KeptItem). PartHasEncoding p.item) (is_of number) (parts_of m) (each_encoded is_shape m fits short)))
 
   -- a child's encoding
-  pub child_encoded : (value : Value) (m : Kept) → item_seen false value ≡ Msg false m → ItemHasEncoding shape value → HasEncoding shape m
+  pub child_encoded : (value : ValueRef) (m : Kept) → item_seen false value ≡ Msg false m → ItemHasEncoding shape value → HasEncoding shape m
   child_encoded (values.Int n) m is h = absurd (cc)
   child_encoded (values.F32 n) m is h = absurd (cc)
   child_encoded (values.F64 n) m is h = absurd (cc)

@@ -11,9 +11,9 @@ use Rattle.pg_schema.specs.declared.parts.Parts.{Parts}
 use Rattle.pg_schema.specs.declared.message_type.MessageType.{MessageType}
 use Rattle.pg_schema.specs.Parts.{field_shape, shape_of, type_at}
 use Rattle.pg_schema.specs.Shape.{Shape, FieldShape, IsShape, fields, field_at}
-use Rattle.pg_dyn.specs.declared.message.UnknownRecord.{UnknownRecord}
+use Rattle.pg_wire.specs.declared.record.Record.{Record}
+use Rattle.pg_wire.specs.Reads.{seen_record}
 use Rattle.pg_dyn.specs.Kept.{Kept, type_of, message_of, unknown_of}
-use Rattle.pg_dyn.specs.Seen.{record_seen}
 use Rattle.pg_dyn.specs.Writing.{bytes_of}
 use Rattle.pg_dyn.specs.Comparison.{records_outside, unshared_bytes, same}
 use Rattle.pg_pairs.specs.Comparing.{is_same, is_same_beside, outside_record}
@@ -22,12 +22,12 @@ use Rattle.pg_pairs.proofs.SameSteps.{list_all-map, each-unmap}
 use Rattle.pg_dyn.proofs.PublicLaws.{fields_are_found, unknown_is_kept}
 use Rattle.pg_dyn.proofs.Lists.{each_at_index, list_all_true}
 
-pub outside_all : (gs : List FieldShape) (us : List UnknownRecord) → flat_map (outside_record gs) us ≡ bytes_of (records_outside gs (map record_seen us))
+pub outside_all : (gs : List FieldShape) (us : List Record) → flat_map (outside_record gs) us ≡ bytes_of (records_outside gs (map seen_record us))
 outside_all gs [] = refl
 outside_all gs (u ∷ us) =
     let rest = outside_all gs us in
-    elim (is_none (field_at gs u.number)) as (λ b. cond b u.bytes.items [] ++ flat_map (outside_record gs) us ≡ bytes_of (cond b (record_seen u ∷ records_outside gs (map record_seen us)) (records_outside gs (map record_seen us)))) [
-      | true ↦ ap (λ bytes. u.bytes.items ++ bytes) rest
+    elim (is_none (field_at gs u.number)) as (λ b. cond b u.bytes.now [] ++ flat_map (outside_record gs) us ≡ bytes_of (cond b (seen_record u ∷ records_outside gs (map seen_record us)) (records_outside gs (map seen_record us)))) [
+      | true ↦ ap (λ bytes. u.bytes.now ++ bytes) rest
       | false ↦ rest
     ]
 

@@ -4,15 +4,16 @@ use Rattle.std.specs.List.{AllByRecursion, list_all}
 use Rattle.std.proofs.lemmas.List.{drop_all}
 use Rattle.std.specs.Option.{option_copied}
 use lib.Pointwise.{pointwise}
-use Rattle.pg_dyn.specs.declared.message.Content.{Content}
-use Rattle.pg_dyn.specs.declared.message.Content.TheVariants as contents
-use Rattle.pg_dyn.specs.declared.message.Value.{Value}
-use Rattle.pg_dyn.specs.declared.message.Value.TheVariants as values
+use Rattle.pg_dyn.specs.declared.message_ref.ContentRef.{ContentRef}
+use Rattle.pg_dyn.specs.declared.message_ref.ContentRef.TheVariants as contents
+use Rattle.pg_dyn.specs.declared.message_ref.EntryRef.{EntryRef}
+use Rattle.pg_dyn.specs.declared.message_ref.ValueRef.{ValueRef}
+use Rattle.pg_dyn.specs.declared.message_ref.ValueRef.TheVariants as values
 use Rattle.pg_dyn.specs.Message.{Part, is_of}
 use Rattle.pg_dyn.specs.Kept.{Kept, KeptItem, type_of, message_of, parts_of, of_number, weight}
 use Rattle.pg_dyn.specs.Kept as kept
-use Rattle.pg_dyn.specs.Seen.{leaf_of, item_seen, content_seen}
-use Rattle.pg_dyn.specs.ContentFits.{is_zero_value}
+use Rattle.pg_dyn.specs.Borrowed.{leaf_of, item_part, entry_part, item_seen, content_seen}
+use Rattle.pg_dyn.specs.BorrowedItems.{is_zero_value}
 use Rattle.pg_pairs.specs.Comparing.{Keyed, keyed, keyed_if, keyed_shown}
 
 -- ---- lists
@@ -70,17 +71,17 @@ copied_fact P None x h is = absurd (cc)
 copied_fact P (Some b) x h is = let same : b.now ≡ x = cc in subst P same h
 
 -- the parts of a content that may be missing
-abbrev pub seen_if : ℕ → Option Content → List (Part KeptItem)
+abbrev pub seen_if : ℕ → Option ContentRef → List (Part KeptItem)
 seen_if n (Some content) = content_seen n content
 seen_if n None = []
 
-pub of_number_seen : (n : ℕ) (m : Kept) (o : Option (Bor Content)) → MatchOption o (of_number n m ≡ []) (λ content. of_number n m ≡ content_seen n content.now) → of_number n m ≡ seen_if n (option_copied o)
+pub of_number_seen : (n : ℕ) (m : Kept) (o : Option (Bor ContentRef)) → MatchOption o (of_number n m ≡ []) (λ content. of_number n m ≡ content_seen n content.now) → of_number n m ≡ seen_if n (option_copied o)
 of_number_seen n m None h = h
 of_number_seen n m (Some b) h = h
 
 -- ---- weights: of a message more than that of the items of each of its contents
 
-abbrev pub held_weight : Value → ℕ
+abbrev pub held_weight : ValueRef → ℕ
 held_weight (values.Msg child) = weight child.value
 held_weight value = 0
 
@@ -127,36 +128,36 @@ abbrev pub part_with : ℕ → Bool → Keyed → Part KeptItem
 part_with n listed x = record { number = n; key = option_map leaf_of x.0; item = item_seen listed x.1 }
 
 -- whether a content is a list
-abbrev is_list : Content → Bool
+abbrev is_list : ContentRef → Bool
 is_list (contents.One value) = false
 is_list (contents.Many vs) = true
 is_list (contents.Map es) = false
 
-pub content_keyed : (n : ℕ) (c : Content) → content_seen n c ≡ map (part_with n (is_list c)) (keyed c)
+pub content_keyed : (n : ℕ) (c : ContentRef) → content_seen n c ≡ map (part_with n (is_list c)) (keyed c)
 content_keyed n (contents.One value) = refl
 content_keyed n (contents.Many vs) = go vs.items
   where
-    go : (xs : List Value) → map (λ value. record { number = n; key = None; item = item_seen true value }) xs ≡ map (part_with n true) (map (λ value. (None, value)) xs)
+    go : (xs : List ValueRef) → map (item_part n true) xs ≡ map (part_with n true) (map (λ value. (None, value)) xs)
     go [] = refl
-    go (x ∷ xs) = ap (λ ps. record { number = n; key = None; item = item_seen true x } ∷ ps) (go xs)
+    go (x ∷ xs) = ap (λ ps. item_part n true x ∷ ps) (go xs)
 content_keyed n (contents.Map es) = go es.items
   where
-    go : (xs : List (Value × Value)) → map (λ (e : Value × Value). record { number = n; key = Some (leaf_of e.0); item = item_seen false e.1 }) xs ≡ map (part_with n false) (map (λ (e : Value × Value). (Some e.0, e.1)) xs)
+    go : (xs : List EntryRef) → map (entry_part n) xs ≡ map (part_with n false) (map (λ (e : EntryRef). (Some e.key, e.value)) xs)
     go [] = refl
-    go (x ∷ xs) = ap (λ ps. record { number = n; key = Some (leaf_of x.0); item = item_seen false x.1 } ∷ ps) (go xs)
+    go (x ∷ xs) = ap (λ ps. entry_part n x ∷ ps) (go xs)
 
-abbrev pub list_if : Option Content → Bool
+abbrev pub list_if : Option ContentRef → Bool
 list_if (Some c) = is_list c
 list_if None = false
 
-pub seen_keyed : (n : ℕ) (o : Option Content) → seen_if n o ≡ map (part_with n (list_if o)) (keyed_if o)
+pub seen_keyed : (n : ℕ) (o : Option ContentRef) → seen_if n o ≡ map (part_with n (list_if o)) (keyed_if o)
 seen_keyed n (Some c) = content_keyed n c
 seen_keyed n None = refl
 
 pub item_weight : (n : ℕ) (listed : Bool) (x : Keyed) → part_weight (part_with n listed x) ≡ held_weight x.1
 item_weight n listed x = of x.1
   where
-    of : (v : Value) → part_weight (record { number = n; key = option_map leaf_of x.0; item = item_seen listed v }) ≡ held_weight v
+    of : (v : ValueRef) → part_weight (record { number = n; key = option_map leaf_of x.0; item = item_seen listed v }) ≡ held_weight v
     of (values.Int m) = refl
     of (values.F32 m) = refl
     of (values.F64 m) = refl
@@ -169,7 +170,7 @@ map_weight n listed [] = refl
 map_weight n listed (x ∷ xs) = ap₂ (λ a b. a + b) (item_weight n listed x) (map_weight n listed xs)
 
 -- the items that a field shows weigh less than the message
-pub shown_weight : (n : ℕ) (m : Kept) (o : Option Content) (hidden : Bool) → of_number n m ≡ seen_if n o → total (keyed_shown hidden o) < weight m
+pub shown_weight : (n : ℕ) (m : Kept) (o : Option ContentRef) (hidden : Bool) → of_number n m ≡ seen_if n o → total (keyed_shown hidden o) < weight m
 shown_weight n m o hidden is =
     let less = filter_total (λ (x : Keyed). not (hidden && is_zero_value x.1)) (keyed_if o) in
     let same : parts_weight (of_number n m) ≡ total (keyed_if o) = ap parts_weight (is ∙ seen_keyed n o) ∙ map_weight n (list_if o) (keyed_if o) in

@@ -8,11 +8,12 @@ use Rattle.pg_schema.specs.Shape.{Shape, FieldShape, is_map}
 use Rattle.pg_dyn.specs.declared.message.Content.{Content}
 use Rattle.pg_dyn.specs.declared.message.Content.TheVariants as contents
 use Rattle.pg_dyn.specs.declared.message.Value.{Value}
+use Rattle.pg_dyn.specs.declared.message.Value.TheVariants as values
 use Rattle.pg_dyn.specs.ContentFaults.{HasKeyTwice}
 use Rattle.pg_dyn.specs.Told.{ItemsFit}
-use Rattle.pg_dyn.specs.Message.{Leaf, Message, ends, with_part}
+use Rattle.pg_dyn.specs.Message.{Leaf, Item, Plain, Msg, Message, ends, with_part}
 use Rattle.pg_dyn.specs.Coding.{Form, zero_leaf}
-use Rattle.pg_dyn.specs.Kept.{Kept, type_of}
+use Rattle.pg_dyn.specs.Kept.{Kept, message_of, type_of}
 use Rattle.pg_dyn.specs.Seen.{leaf_of}
 use Rattle.pg_pairs.specs.declared.item.Small.{Small}
 use Rattle.pg_pairs.specs.declared.item.Small.TheVariants.{Zero, NotZero, Far}
@@ -20,13 +21,17 @@ use Rattle.pg_pairs.specs.Sight.{Sight}
 use Rattle.pg_pairs.specs.Likeness.{like}
 use Rattle.pg_pairs.specs.Gaps.{gap_item}
 use Rattle.pg_pairs.specs.Choices.{zero_counts}
-use Rattle.pg_pairs.specs.Comparing.{value_item}
 use Rattle.pg_pairs.specs.Carried.{nonzero_leaf, far_leaf, key_of}
 
 abbrev pub leaf_by : Small → Form → Leaf
 leaf_by Zero f = zero_leaf f
 leaf_by NotZero f = nonzero_leaf f
 leaf_by Far f = far_leaf f
+
+-- a value as an item of a message
+abbrev pub value_item : Value → Item
+value_item (values.Msg child) = Msg (message_of child.value)
+value_item value = Plain (leaf_of value)
 
 -- The parts of a content, before others.
 

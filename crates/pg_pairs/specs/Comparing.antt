@@ -8,15 +8,16 @@ use Rattle.pg_schema.specs.declared.field.TypeId.{TypeId}
 use Rattle.pg_schema.specs.declared.parts.Parts.{Parts}
 use Rattle.pg_schema.specs.Parts.{enum_at, shape_of}
 use Rattle.pg_schema.specs.Shape.{Shape, FieldShape, field_at}
-use Rattle.pg_dyn.specs.declared.message.Content.{Content}
-use Rattle.pg_dyn.specs.declared.message.Content.TheVariants as contents
-use Rattle.pg_dyn.specs.declared.message.UnknownRecord.{UnknownRecord}
-use Rattle.pg_dyn.specs.declared.message.Value.{Value}
-use Rattle.pg_dyn.specs.declared.message.Value.TheVariants as values
+use Rattle.pg_wire.specs.declared.record.Record.{Record}
+use Rattle.pg_dyn.specs.declared.message_ref.ContentRef.{ContentRef}
+use Rattle.pg_dyn.specs.declared.message_ref.ContentRef.TheVariants as contents
+use Rattle.pg_dyn.specs.declared.message_ref.EntryRef.{EntryRef}
+use Rattle.pg_dyn.specs.declared.message_ref.ValueRef.{ValueRef}
+use Rattle.pg_dyn.specs.declared.message_ref.ValueRef.TheVariants as values
+use Rattle.pg_dyn.specs.Borrowed.{IsKey, leaf_of}
+use Rattle.pg_dyn.specs.BorrowedItems.{ItemFits, is_zero_value}
 use Rattle.pg_dyn.specs.Message.{Leaf, Int, Item, Plain, Msg, parts}
 use Rattle.pg_dyn.specs.Kept.{Kept, type_of, message_of}
-use Rattle.pg_dyn.specs.Seen.{leaf_of}
-use Rattle.pg_dyn.specs.ContentFits.{is_zero_value}
 use Rattle.pg_dyn.specs.Encoding.{cap, element_type, enc}
 use Rattle.pg_dyn.specs.Comparison.{View, Sought, Alike, same_content, same_key, meets, sought, same}
 use Rattle.pg_dyn.specs.Comparison as comparison
@@ -26,10 +27,10 @@ use Rattle.pg_pairs.specs.Views.{alike_at}
 abbrev pub view_by : (EnumType → EnumType → ℤ → Bool) → Parts → Parts → View
 view_by alike old new = λ a b n. alike_at alike (enum_at old a) (enum_at new b) n
 
--- a value as an item of a message
-abbrev pub value_item : Value → Item
-value_item (values.Msg child) = Msg (message_of child.value)
-value_item value = Plain (leaf_of value)
+-- a value that is lent as an item of a message
+abbrev pub item_lent : ValueRef → Item
+item_lent (values.Msg child) = Msg (message_of child.value)
+item_lent value = Plain (leaf_of value)
 
 module _ (alike : EnumType → EnumType → ℤ → Bool) (old new : Parts) where
   -- the new message shows what the old one means
@@ -42,7 +43,7 @@ module _ (alike : EnumType → EnumType → ℤ → Bool) (old new : Parts) wher
   is_same_beside v w f None = true
 
   -- what an item of a field whose messages are read as that type has to be met by
-  abbrev pub value_sought : TypeId → Value → Sought
+  abbrev pub value_sought : TypeId → ValueRef → Sought
   value_sought b (values.Msg child) = comparison.Kept (same (view_by alike old new) (shape_of old) (shape_of new) (type_of child.value) b (message_of child.value))
   value_sought b value = Alike (leaf_of value)
 
@@ -51,37 +52,46 @@ module _ (alike : EnumType → EnumType → ℤ → Bool) (old new : Parts) wher
   is_alike_leaf (elements.Enum e) (elements.Enum g) (Int n) = view_by alike old new e g n
   is_alike_leaf e g leaf = true
 
-  abbrev pub items_meet : FieldShape → FieldShape → Value → Value → Bool
-  items_meet f g a b = meets (view_by alike old new) f g (value_sought (element_type g.element) a) (value_item b)
+  abbrev pub items_meet : FieldShape → FieldShape → ValueRef → ValueRef → Bool
+  items_meet f g a b = meets (view_by alike old new) f g (value_sought (element_type g.element) a) (item_lent b)
 
 -- a message's encoding isn't too long
 abbrev pub HasEncoding : Shape → Kept → Type 0
 HasEncoding shape m = length (enc shape (type_of m) (message_of m)) ≤ cap
 
 -- nor is that of a message as an item
-abbrev pub ItemHasEncoding : Shape → Value → Type 0
+abbrev pub ItemHasEncoding : Shape → ValueRef → Type 0
 ItemHasEncoding shape (values.Msg child) = HasEncoding shape child.value
 ItemHasEncoding shape value = ⊤
 
 -- the items of a content, each with its key in a map
 abbrev pub Keyed : Type 0
-Keyed = Option Value × Value
+Keyed = Option ValueRef × ValueRef
 
-abbrev pub keyed : Content → List Keyed
+abbrev pub keyed : ContentRef → List Keyed
 keyed (contents.One value) = (None, value) ∷ []
 keyed (contents.Many vs) = map (λ value. (None, value)) vs.items
-keyed (contents.Map es) = map (λ (e : Value × Value). (Some e.0, e.1)) es.items
+keyed (contents.Map es) = map (λ (e : EntryRef). (Some e.key, e.value)) es.items
 
-abbrev pub keyed_if : Option Content → List Keyed
+-- a key, where there is one, is no message
+abbrev pub IsKeyIf : Option ValueRef → Type 0
+IsKeyIf (Some key) = IsKey key
+IsKeyIf None = ⊤
+
+-- such a key, and an item of the element
+abbrev pub HeldFits : Shape → Element → Keyed → Type 0
+HeldFits shape element x = IsKeyIf x.0 × ItemFits shape element x.1
+
+abbrev pub keyed_if : Option ContentRef → List Keyed
 keyed_if (Some content) = keyed content
 keyed_if None = []
 
 -- those that are shown
-abbrev pub keyed_shown : Bool → Option Content → List Keyed
+abbrev pub keyed_shown : Bool → Option ContentRef → List Keyed
 keyed_shown hidden content = filter (λ (x : Keyed). not (hidden && is_zero_value x.1)) (keyed_if content)
 
 -- one item at most, in no list
-abbrev pub IsSingle : Option Content → Type 0
+abbrev pub IsSingle : Option ContentRef → Type 0
 IsSingle (Some (contents.One value)) = ⊤
 IsSingle (Some (contents.Many vs)) = ⊥
 IsSingle (Some (contents.Map es)) = ⊥
@@ -96,5 +106,5 @@ module _ (alike : EnumType → EnumType → ℤ → Bool) (old new : Parts) wher
   all_meet f g xs ys = pointwise (keyed_meet f g) xs ys
 
 -- the bytes of a record whose number the type hasn't
-abbrev pub outside_record : List FieldShape → UnknownRecord → List ℕ
-outside_record gs r = if is_none (field_at gs r.number) then r.bytes.items else []
+abbrev pub outside_record : List FieldShape → Record → List ℕ
+outside_record gs r = if is_none (field_at gs r.number) then r.bytes.now else []

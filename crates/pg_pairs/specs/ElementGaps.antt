@@ -1,10 +1,9 @@
--- The gap between any two like elements that are no messages, under any view of enum items; and zero, which like scalars see.
+-- The gap between any two like elements that are no messages, under any view of enum items; and zero, which like elements see.
 use Rattle.std.specs.Prelude.{◌≡◌, ⊤, Bool, true, false}
-use Rattle.pg_schema.specs.declared.field.Scalar.{Scalar}
 use Rattle.pg_schema.specs.declared.field.Element.{Element}
 use Rattle.pg_schema.specs.declared.field.Element.TheVariants as elements
 use Rattle.pg_dyn.specs.Message.{Leaf, is_zero}
-use Rattle.pg_dyn.specs.Coding.{scalar_form, InRange}
+use Rattle.pg_dyn.specs.Coding.{form, InRange}
 use Rattle.pg_dyn.specs.Comparison.{numbers}
 use Rattle.pg_pairs.specs.Sight.{Sight, IsSight}
 use Rattle.pg_pairs.specs.Likeness.{like}
@@ -22,8 +21,8 @@ ElementGaps =
     (sight : Sight) → IsSight sight → (zero : Bool) (old new : Element) → IsNoMessage old → like old new ≡ true →
     IsGapItem sight.alike zero old new (gap_item sight zero old new)
 
--- Zero is seen between any two like scalars: an item that isn't seen isn't zero.
+-- By number, zero is seen between any two like elements: an item that isn't seen isn't zero.
 abbrev pub UnseenAreNotZero : Type 0
 UnseenAreNotZero =
-    (s t : Scalar) → like (elements.Scalar s) (elements.Scalar t) ≡ true → (item : Leaf) → InRange (scalar_form s) item →
-    is_seen numbers (elements.Scalar s) (elements.Scalar t) item ≡ false → is_zero item ≡ false
+    (old new : Element) → IsNoMessage old → like old new ≡ true → (item : Leaf) → InRange (form old) item →
+    is_seen numbers old new item ≡ false → is_zero item ≡ false

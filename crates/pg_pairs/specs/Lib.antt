@@ -3,6 +3,7 @@ pub mod Sight
 pub mod LeastNumbers
 pub mod LeastNumberLaws
 pub mod LeastByName
+pub mod MissingNames
 pub mod NameLaws
 pub mod NamedSight
 pub mod Views
@@ -28,6 +29,11 @@ pub mod LeastCosts
 pub mod SmallPairs
 pub mod Works
 pub mod Reached
+pub mod Seen
+pub mod Returns
+pub mod Home
+pub mod HomeExamples
+pub mod ReadBack
 pub mod LeastOf
 pub mod Edges
 pub mod EdgeChildren

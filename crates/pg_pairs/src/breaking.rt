@@ -13,14 +13,57 @@ use crate::choice::Pair;
 use crate::comparing::is_same_message;
 use crate::item::Sides;
 use crate::view::View;
-use pg_dyn::{DynError, Message, decode_unlimited, encode};
+use pg_dyn::laws::reads_again;
+use pg_dyn::{DynError, Message, MessageRef, decode_ref_unlimited, encode};
 use pg_schema::Schema;
-use std::alloc::Global;
+use std::alloc::{AllocError, Global};
 
-/// Whether the message breaks: it is one of the pair's old type without unknown records, and the
-/// new type's reader, at any depth, can't read its encoding or sees something else in it than was
-/// meant. The message is one of the old schema; of another type it doesn't break, nor where the new
-/// schema hasn't the pair's new type.
+/// Whether the message breaks of which those bytes are the encoding: it is one of the pair's old
+/// type without unknown records, and the new type's reader, at any depth, can't read the bytes or
+/// sees something else in them than was meant. The message is one of the old schema; of another
+/// type it doesn't break, nor where the new schema hasn't the pair's new type.
+///
+/// Refused only where memory is.
+pub fn breaks_as_written<V: View>(
+    alloc: Global,
+    view: &V,
+    old: &Schema,
+    new: &Schema,
+    pair: Pair,
+    message: &MessageRef<'_>,
+    bytes: &[u8],
+) -> Result<bool, AllocError>
+    requires fits { Fits (shape_of old.now) message.now }
+    requires written { enc (shape_of old.now) (type_of message.now) (message_of message.now)
+        ≡ bytes.now }
+    requires within { length (enc (shape_of old.now) (type_of message.now)
+        (message_of message.now)) ≤ cap }
+    ensures { IfOk result (λ b. IsTrue b
+        ↔ ((type_of message.now ≡ pair.old)
+        × Breaks (sight_by V.View view.now old.now new.now).alike (shape_of old.now)
+        (shape_of new.now) pair.old pair.new (message_of message.now))) }
+{
+    // What holds of every schema.
+    old.parts();
+    new.parts();
+    if message.type_id() != pair.old || !message.is_plain() || !new.has(pair.new) {
+        return Ok(false);
+    }
+    match decode_ref_unlimited(alloc, new, pair.new, bytes) {
+        Ok(read) => {
+            let sides = Sides { view, old, new };
+            Ok(!is_same_message(alloc, &sides, message, &read)?)
+        }
+        Err(error) => match error {
+            DynError::Memory => Err(AllocError),
+            _ => Ok(true),
+        },
+    }
+}
+
+/// Whether the message breaks, as `breaks_as_written` says of its encoding. The message is one of
+/// the old schema; of another type it doesn't break, nor where the new schema hasn't the pair's new
+/// type.
 ///
 /// The errors are `TooLong`, just where the message's encoding has more than 2,147,483,647 bytes,
 /// and `Memory`.
@@ -43,18 +86,17 @@ pub fn breaks<V: View>(
         ⊎ ((e ≡ errors.TooLong) × (cap
         < length (enc (shape_of old.now) (type_of message.now) (message_of message.now))))) }
 {
-    // What holds of every schema.
+    // What holds of every schema, and of what a type writes.
     old.parts();
-    new.parts();
+    reads_again();
     let bytes = encode(alloc, old, message)?;
-    if message.type_id() != pair.old || !message.is_plain() || !new.has(pair.new) {
-        return Ok(false);
-    }
-    match decode_unlimited(alloc, new, pair.new, &bytes)? {
-        Some(read) => {
-            let sides = Sides { view, old, new };
-            Ok(!is_same_message(alloc, &sides, message, &read)?)
-        }
-        None => Ok(true),
+    let written = bytes.as_slice();
+    match decode_ref_unlimited(alloc, old, message.type_id(), written) {
+        Ok(lent) => Ok(breaks_as_written(alloc, view, old, new, pair, &lent, written)?),
+        Err(error) => match error {
+            DynError::Memory => Err(error),
+            // An encoding is read again.
+            _ => unreachable!(),
+        },
     }
 }

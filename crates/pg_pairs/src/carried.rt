@@ -11,8 +11,7 @@ ghost use Rattle.pg_dyn.specs.Message.{with_part};
 ghost use Rattle.pg_dyn.specs.ScalarItems.{IsItemOf};
 ghost use Rattle.pg_dyn.specs.Seen.{leaf_of, IsKey};
 ghost use Rattle.pg_pairs.specs.Carried.{alone, apart_item, apart_leaf, carried_field, child_alone, entry_message, item_by, key_alone, key_of, leaf_alone, least_key, least_part, lost_onto, unlike_message, value_alone};
-ghost use Rattle.pg_pairs.specs.CarriedItems.{apart_small, content_alone, has_content, has_entry, has_value, is_child_of, IsTakenBy, leaf_by, Puts};
-ghost use Rattle.pg_pairs.specs.Comparing.{value_item};
+ghost use Rattle.pg_pairs.specs.CarriedItems.{apart_small, content_alone, has_content, has_entry, has_value, is_child_of, IsTakenBy, leaf_by, Puts, value_item};
 ghost use Rattle.pg_pairs.specs.Gaps.{gap_item};
 ghost use Rattle.pg_pairs.specs.SightBy.{sight_by};
 

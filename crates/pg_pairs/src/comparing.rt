@@ -7,24 +7,25 @@ ghost use Rattle.std.specs.Str.{bytes_eq};
 ghost use Rattle.pg_schema.specs.Invariant.{IsSchema};
 ghost use Rattle.pg_schema.specs.Parts.{field_shape, shape_of};
 ghost use Rattle.pg_schema.specs.Shape.{field_at, fields};
+ghost use Rattle.pg_dyn.specs.Borrowed.{IsKey, leaf_of};
+ghost use Rattle.pg_dyn.specs.BorrowedItems.{ItemFits};
 ghost use Rattle.pg_dyn.specs.Comparison.{records_outside, unshared_bytes};
-ghost use Rattle.pg_dyn.specs.ContentFits.{ContentFits, ItemFits};
 ghost use Rattle.pg_dyn.specs.Fits.{Fits};
 ghost use Rattle.pg_dyn.specs.Kept.{message_of, type_of, unknown_of};
-ghost use Rattle.pg_dyn.specs.Seen.{IsKey, leaf_of};
 ghost use Rattle.pg_dyn.specs.Writing.{bytes_of};
-ghost use Rattle.pg_pairs.specs.Comparing.{all_meet, HasEncoding, is_alike_leaf, is_same, is_same_beside, ItemHasEncoding, items_meet, keyed, keyed_if, outside_record};
+ghost use Rattle.pg_pairs.specs.Comparing.{all_meet, HasEncoding, HeldFits, is_alike_leaf, is_same, is_same_beside, ItemHasEncoding, items_meet, keyed, keyed_if, outside_record};
 
 use crate::carried::Beside;
 use crate::item::Sides;
 use crate::shown::{count, held_at, is_same_key, is_same_leaf, shown};
 use crate::view::View;
-use pg_dyn::{Content, DynError, Message, UnknownRecord, Value, encode_unshared};
+use pg_dyn::{ContentRef, DynError, MessageRef, ValueRef, encode_unshared_ref};
 use pg_schema::{Element, Field, Schema, TypeId};
+use pg_wire::Record;
 use std::alloc::{AllocError, Global};
 
 // Whether the view finds the number alike in the two enums; one that isn't there has no say.
-fn is_alike<V: View>(sides: &Sides<'_, V>, fields: &Beside<'_>, value: &Value) -> bool
+fn is_alike<V: View>(sides: &Sides<'_, V>, fields: &Beside<'_>, value: &ValueRef<'_>) -> bool
     requires key { IsKey value.now }
     requires fits { ItemFits (shape_of sides.now.old.now) fields.now.old.now.element value.now }
     ensures { result ≡ is_alike_leaf
@@ -38,7 +39,7 @@ fn is_alike<V: View>(sides: &Sides<'_, V>, fields: &Beside<'_>, value: &Value) -
         return true;
     };
     match value {
-        Value::Int(number) => sides.view.alike(from, to, *number as i32),
+        ValueRef::Int(number) => sides.view.alike(from, to, *number as i32),
         _ => true,
     }
 }
@@ -48,19 +49,23 @@ fn push_outside(
     bytes: &mut Vec<u8>,
     schema: &Schema,
     type_id: TypeId,
-    found: &UnknownRecord,
+    found: &Record<'_>,
 ) -> Result<(), AllocError>
     ensures { OnOk result (bytes.new.items
         ≡ bytes.old.items ++ outside_record (fields (shape_of schema.now) type_id) found.now) }
 {
     match schema.field(type_id, found.number) {
         Some(_) => Ok(()),
-        None => bytes.extend_from_slice(&found.bytes),
+        None => bytes.extend_from_slice(found.bytes),
     }
 }
 
 // The bytes of the records whose numbers the type of the message hasn't.
-fn outside_bytes(alloc: Global, schema: &Schema, message: &Message) -> Result<Vec<u8>, AllocError>
+fn outside_bytes(
+    alloc: Global,
+    schema: &Schema,
+    message: &MessageRef<'_>,
+) -> Result<Vec<u8>, AllocError>
     ensures { IfOk result (λ bytes. bytes.items
         ≡ bytes_of (records_outside (fields (shape_of schema.now) (type_of message.now))
         (unknown_of message.now))) }
@@ -79,8 +84,8 @@ fn outside_bytes(alloc: Global, schema: &Schema, message: &Message) -> Result<Ve
 fn is_same_outside<V: View>(
     alloc: Global,
     sides: &Sides<'_, V>,
-    message: &Message,
-    read: &Message,
+    message: &MessageRef<'_>,
+    read: &MessageRef<'_>,
 ) -> Result<bool, AllocError>
     requires fits { Fits (shape_of sides.now.old.now) message.now }
     requires encoded { HasEncoding (shape_of sides.now.old.now) message.now }
@@ -90,7 +95,7 @@ fn is_same_outside<V: View>(
         (fields (shape_of sides.now.new.now) (type_of read.now)) (message_of message.now))) }
 {
     let kept = outside_bytes(alloc, sides.new, read)?;
-    match encode_unshared(alloc, sides.old, message, sides.new, read.type_id()) {
+    match encode_unshared_ref(alloc, sides.old, message, sides.new, read.type_id()) {
         Ok(written) => Ok(kept.as_slice() == written.as_slice()),
         Err(DynError::Memory) => Err(AllocError),
         // A part of an encoding isn't too long.
@@ -104,8 +109,8 @@ fn is_same_item<V: View>(
     alloc: Global,
     sides: &Sides<'_, V>,
     fields: &Beside<'_>,
-    value: &Value,
-    read: &Value,
+    value: &ValueRef<'_>,
+    read: &ValueRef<'_>,
 ) -> Result<bool, AllocError>
     requires old_schema { IsSchema sides.now.old.now }
     requires new_schema { IsSchema sides.now.new.now }
@@ -117,8 +122,8 @@ fn is_same_item<V: View>(
         (field_shape fields.now.old.now) (field_shape fields.now.new.now) value.now read.now) }
 {
     match (value, read) {
-        (Value::Msg(child), Value::Msg(other)) => is_same_message(alloc, sides, child, other),
-        (Value::Msg(_), _) | (_, Value::Msg(_)) => Ok(false),
+        (ValueRef::Msg(child), ValueRef::Msg(other)) => is_same_message(alloc, sides, child, other),
+        (ValueRef::Msg(_), _) | (_, ValueRef::Msg(_)) => Ok(false),
         _ => Ok(is_same_leaf(value, read) && is_alike(sides, fields, value)),
     }
 }
@@ -129,17 +134,17 @@ fn is_same_content<V: View>(
     alloc: Global,
     sides: &Sides<'_, V>,
     fields: &Beside<'_>,
-    content: &Content,
-    read: &Content,
+    content: &ContentRef<'_>,
+    read: &ContentRef<'_>,
 ) -> Result<bool, AllocError>
     requires old_schema { IsSchema sides.now.old.now }
     requires new_schema { IsSchema sides.now.new.now }
-    requires fits { ContentFits (shape_of sides.now.old.now) fields.now.old.now.presence
-        fields.now.old.now.element content.now }
+    requires fits { AllByRecursion (HeldFits (shape_of sides.now.old.now)
+        fields.now.old.now.element) (keyed content.now) }
     requires encoded { AllByRecursion (λ x. ItemHasEncoding (shape_of sides.now.old.now) x.1)
         (keyed content.now) }
-    requires read_fits { ContentFits (shape_of sides.now.new.now) fields.now.new.now.presence
-        fields.now.new.now.element read.now }
+    requires read_fits { AllByRecursion (HeldFits (shape_of sides.now.new.now)
+        fields.now.new.now.element) (keyed read.now) }
     ensures { IfOk result (λ is. is ≡ all_meet
         (V.is_alike sides.now.view.now) sides.now.old.now sides.now.new.now
         (field_shape fields.now.old.now) (field_shape fields.now.new.now) (keyed content.now)
@@ -169,8 +174,8 @@ fn is_same_field<V: View>(
     alloc: Global,
     sides: &Sides<'_, V>,
     field: &Field,
-    message: &Message,
-    read: &Message,
+    message: &MessageRef<'_>,
+    read: &MessageRef<'_>,
 ) -> Result<bool, AllocError>
     requires old_schema { IsSchema sides.now.old.now }
     requires new_schema { IsSchema sides.now.new.now }
@@ -206,8 +211,8 @@ fn are_same_fields<V: View>(
     alloc: Global,
     sides: &Sides<'_, V>,
     list: &[Field],
-    message: &Message,
-    read: &Message,
+    message: &MessageRef<'_>,
+    read: &MessageRef<'_>,
 ) -> Result<bool, AllocError>
     requires old_schema { IsSchema sides.now.old.now }
     requires new_schema { IsSchema sides.now.new.now }
@@ -238,8 +243,8 @@ fn are_same_fields<V: View>(
 pub(crate) fn is_same_message<V: View>(
     alloc: Global,
     sides: &Sides<'_, V>,
-    message: &Message,
-    read: &Message,
+    message: &MessageRef<'_>,
+    read: &MessageRef<'_>,
 ) -> Result<bool, AllocError>
     requires old_schema { IsSchema sides.now.old.now }
     requires new_schema { IsSchema sides.now.new.now }

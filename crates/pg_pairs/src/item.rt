@@ -10,8 +10,7 @@ ghost use Rattle.pg_dyn.specs.Message.{Bytes, Msg};
 ghost use Rattle.pg_pairs.specs.Gaps.{gap, gap_item, item_of};
 ghost use Rattle.pg_pairs.specs.SightBy.{sight_by};
 ghost use Rattle.pg_pairs.specs.Carried.{item_by};
-ghost use Rattle.pg_pairs.specs.CarriedItems.{is_child_of, leaf_by};
-ghost use Rattle.pg_pairs.specs.Comparing.{value_item};
+ghost use Rattle.pg_pairs.specs.CarriedItems.{is_child_of, leaf_by, value_item};
 ghost use Rattle.pg_dyn.specs.Fits.{Fits};
 ghost use Rattle.pg_dyn.specs.Kept.{message_of};
 

@@ -1,5 +1,6 @@
 //! Laws about the definitions. Each is the contract of a function that does nothing.
 
+ghost use Rattle.std.specs.Prelude.{◌≡◌};
 ghost use Rattle.pg_pairs.specs.Carried.{EachChildCostsLess, EachChoiceIsCarried};
 ghost use Rattle.pg_pairs.specs.Cheapest.{CheapestIsLeast};
 ghost use Rattle.pg_pairs.specs.Contents.{ContentsCost};
@@ -8,15 +9,27 @@ ghost use Rattle.pg_pairs.specs.ElementGaps.{ElementGaps, UnseenAreNotZero};
 ghost use Rattle.pg_pairs.specs.FieldCosts.{ChildrenCost, ListsCost, MapsCost, SingleScalarsCost};
 ghost use Rattle.pg_pairs.specs.FirstSeen.{OnePairMore};
 ghost use Rattle.pg_pairs.specs.Gaps.{GapTable};
+ghost use Rattle.pg_pairs.specs.HomeExamples.{HomeExamples};
 ghost use Rattle.pg_pairs.specs.Laws.{CoveringBounds, EachChoiceIsReached, ExactIsLeast, ExactTablesAgree, NoneIsCompatible};
 ghost use Rattle.pg_pairs.specs.LeastCosts.{LeastCostsAreExact, LeastCostsAreLengths};
+ghost use Rattle.pg_pairs.specs.NamedSight.{NamedSights, sight_named};
+ghost use Rattle.pg_pairs.specs.ReadBack.{SeenItemsHaveOneBody};
 ghost use Rattle.pg_pairs.specs.SmallPairs.{SmallPairs};
-ghost use Rattle.pg_pairs.specs.Sight.{IsSight, by_numbers};
+ghost use Rattle.pg_pairs.specs.Sight.{IsSight};
+ghost use Rattle.pg_pairs.specs.SightBy.{sight_by};
 ghost use Rattle.pg_pairs.specs.Views.{NumbersAreAlike};
+
+use crate::view::View;
+use pg_schema::Schema;
 
 /// Small pairs of types with all their choices.
 pub fn small_pairs()
     ensures { SmallPairs }
+{}
+
+/// Small types, what a program with the new one relays, and what of it comes home.
+pub fn home_examples()
+    ensures { HomeExamples }
 {}
 
 /// The table of gaps is true: each value is a shortest item that isn't seen, and where there is
@@ -31,19 +44,37 @@ pub fn element_gaps()
     ensures { ElementGaps }
 {}
 
-/// An item of a scalar that the reader of a like scalar doesn't read as the same item isn't zero.
+/// An item that the reader of a like element doesn't read as the same item isn't zero, where enum
+/// items are compared by their numbers.
 pub fn unseen_are_not_zero()
     ensures { UnseenAreNotZero }
 {}
 
-/// By their numbers all enum items are alike.
-pub fn numbers_sight()
-    ensures { IsSight by_numbers }
+/// An item that the reader of a like element reads as itself has one body in both, so that what the
+/// new type writes of it is read as itself again; but for a zigzag number that is read as a bool.
+pub fn seen_items_have_one_body()
+    ensures { SeenItemsHaveOneBody }
 {}
 
 /// Between any two schemas the view by numbers sees by numbers.
 pub fn numbers_are_alike()
     ensures { NumbersAreAlike }
+{}
+
+/// What a view sees between two schemas keeps the view's law, for enums that aren't there too.
+pub fn sees<V: View>(_view: &V, _old: &Schema, _new: &Schema)
+    ensures { IsSight (sight_by V.View _view.now _old.now _new.now) }
+{}
+
+/// A view sees between two schemas what the view of its name does.
+pub fn sees_by_name<V: View>(_view: &V, _old: &Schema, _new: &Schema)
+    ensures { sight_by V.View _view.now _old.now _new.now ≡ sight_named V.NAME _old.now _new.now }
+{}
+
+/// What the view of a name sees keeps the law of views, and finds alike what the view of that name
+/// does.
+pub fn named_sights()
+    ensures { NamedSights }
 {}
 
 /// A content that breaks alone has at least the bytes of one of its field's choices: of scalars,

@@ -3,7 +3,7 @@
 ghost use Rattle.std.specs.Prelude.{◌≡◌, ◌&&◌, map};
 ghost use Rattle.pg_dyn.specs.ViewNames.{declares, has_name, named, names_within};
 ghost use Rattle.pg_pairs.specs.LeastNumbers.{least_number, lesser_of, number_counts, number_word};
-ghost use Rattle.pg_pairs.specs.LeastByName.{is_missing, missing_numbers};
+ghost use Rattle.pg_pairs.specs.MissingNames.{is_missing, missing_numbers};
 
 use crate::view::View;
 use pg_dyn::{ViewName, complement_64};

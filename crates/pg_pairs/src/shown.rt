@@ -4,14 +4,16 @@ ghost use Rattle.std.specs.Prelude.{◌≡◌, ◌<◌, length, slice_get, optio
 ghost use Rattle.std.specs.Option.{option_copied};
 ghost use Rattle.pg_schema.specs.Parts.{field_shape};
 ghost use Rattle.pg_schema.specs.Shape.{is_implicit, is_singular};
+ghost use Rattle.std.specs.Str.{bytes_eq};
 ghost use Rattle.pg_dyn.specs.Comparison.{hides_zero, same_key};
-ghost use Rattle.pg_dyn.specs.ContentFits.{is_zero_value};
+ghost use Rattle.pg_dyn.specs.Content.{leaf_bytes};
+ghost use Rattle.pg_dyn.specs.Borrowed.{IsKey, leaf_of};
+ghost use Rattle.pg_dyn.specs.BorrowedItems.{is_zero_value};
 ghost use Rattle.pg_dyn.specs.Message.{leaf_eq};
-ghost use Rattle.pg_dyn.specs.Seen.{IsKey, leaf_of};
 ghost use Rattle.pg_pairs.specs.Comparing.{IsSingle, keyed, keyed_if, keyed_shown};
 
 use crate::carried::Beside;
-use pg_dyn::{Content, Value};
+use pg_dyn::{ContentRef, ValueRef};
 use pg_schema::{Field, Presence};
 
 // Whether the field holds one item at most.
@@ -39,78 +41,97 @@ fn hides_zero(fields: &Beside<'_>) -> bool
 }
 
 // Whether the item is a zero, as no message is.
-fn is_zero(value: &Value) -> bool
+fn is_zero(value: &ValueRef<'_>) -> bool
     ensures { result ≡ is_zero_value value.now }
 {
     match value {
-        Value::Int(number) => *number == 0,
-        Value::F32(bits) => *bits == 0,
-        Value::F64(bits) => *bits == 0,
-        Value::Text(text) => text.is_empty(),
-        Value::Bytes(bytes) => bytes.is_empty(),
-        Value::Msg(_) => false,
+        ValueRef::Int(number) => *number == 0,
+        ValueRef::F32(bits) => *bits == 0,
+        ValueRef::F64(bits) => *bits == 0,
+        ValueRef::Text(text) => text.is_empty(),
+        ValueRef::Bytes(bytes) => bytes.is_empty(),
+        ValueRef::Msg(_) => false,
     }
 }
 
+// The bytes of a text, or bytes; of another item none.
+fn bytes_of<'b>(value: &'b ValueRef<'_>) -> &'b [u8]
+    ensures { result.now ≡ leaf_bytes (leaf_of value.now) }
+{
+    match value {
+        ValueRef::Text(text) => text.as_bytes(),
+        ValueRef::Bytes(bytes) => bytes,
+        _ => &[],
+    }
+}
+
+// Whether the bytes of two texts, or two items of bytes, are equal.
+fn has_same_bytes(first: &ValueRef<'_>, second: &ValueRef<'_>) -> bool
+    ensures { result ≡ bytes_eq (leaf_bytes (leaf_of first.now))
+        (leaf_bytes (leaf_of second.now)) }
+{
+    bytes_of(first) == bytes_of(second)
+}
+
 /// Whether the two items, which are no messages, are equal. Texts are their bytes.
-pub(crate) fn is_same_leaf(first: &Value, second: &Value) -> bool
+pub(crate) fn is_same_leaf(first: &ValueRef<'_>, second: &ValueRef<'_>) -> bool
     requires first { IsKey first.now }
     requires second { IsKey second.now }
     ensures { result ≡ leaf_eq (leaf_of first.now) (leaf_of second.now) }
 {
     match (first, second) {
-        (Value::Int(first), Value::Int(second)) => first == second,
-        (Value::F32(first), Value::F32(second)) => first == second,
-        (Value::F64(first), Value::F64(second)) => first == second,
-        (Value::Text(first), Value::Text(second)) => first.as_bytes() == second.as_bytes(),
-        (Value::Text(first), Value::Bytes(second)) => first.as_bytes() == second.as_slice(),
-        (Value::Bytes(first), Value::Text(second)) => first.as_slice() == second.as_bytes(),
-        (Value::Bytes(first), Value::Bytes(second)) => first.as_slice() == second.as_slice(),
+        (ValueRef::Int(first), ValueRef::Int(second)) => first == second,
+        (ValueRef::F32(first), ValueRef::F32(second)) => first == second,
+        (ValueRef::F64(first), ValueRef::F64(second)) => first == second,
+        (ValueRef::Text(_), ValueRef::Text(_)) => has_same_bytes(first, second),
+        (ValueRef::Text(_), ValueRef::Bytes(_)) => has_same_bytes(first, second),
+        (ValueRef::Bytes(_), ValueRef::Text(_)) => has_same_bytes(first, second),
+        (ValueRef::Bytes(_), ValueRef::Bytes(_)) => has_same_bytes(first, second),
         _ => false,
     }
 }
 
 /// An item of a content, in a map with its key.
 #[derive(Drop)]
-pub(crate) struct Held<'a> {
-    pub key: Option<&'a Value>,
-    pub item: &'a Value,
+pub(crate) struct Held<'b, 'a> {
+    pub key: Option<&'b ValueRef<'a>>,
+    pub item: &'b ValueRef<'a>,
 }
 
 /// How many items the content has.
-pub(crate) fn count(content: &Content) -> usize
+pub(crate) fn count(content: &ContentRef<'_>) -> usize
     ensures { result ≡ length (keyed content.now) }
 {
     match content {
-        Content::One(_) => 1,
-        Content::Many(values) => values.len(),
-        Content::Map(entries) => entries.len(),
+        ContentRef::One(_) => 1,
+        ContentRef::Many(values) => values.len(),
+        ContentRef::Map(entries) => entries.len(),
     }
 }
 
 /// The item at that place, which the content has.
-pub(crate) fn held_at(content: &Content, at: usize) -> Held<'_>
+pub(crate) fn held_at<'b, 'a>(content: &'b ContentRef<'a>, at: usize) -> Held<'b, 'a>
     requires { at < length (keyed content.now) }
     ensures { slice_get (keyed content.now) at ≡ Some (option_copied result.key, result.item.now) }
 {
     match content {
-        Content::One(value) => Held {
+        ContentRef::One(value) => Held {
             key: None,
             item: value,
         },
-        Content::Many(values) => Held {
+        ContentRef::Many(values) => Held {
             key: None,
             item: &values[at],
         },
-        Content::Map(entries) => Held {
-            key: Some(&entries[at].0),
-            item: &entries[at].1,
+        ContentRef::Map(entries) => Held {
+            key: Some(&entries[at].key),
+            item: &entries[at].value,
         },
     }
 }
 
 /// Whether both are equal keys, or neither is there.
-pub(crate) fn is_same_key(first: Option<&Value>, second: Option<&Value>) -> bool
+pub(crate) fn is_same_key(first: Option<&ValueRef<'_>>, second: Option<&ValueRef<'_>>) -> bool
     requires first { IfSome first (λ key. IsKey key.now) }
     requires second { IfSome second (λ key. IsKey key.now) }
     ensures { result ≡ same_key (option_map leaf_of (option_copied first.entry))
@@ -124,7 +145,10 @@ pub(crate) fn is_same_key(first: Option<&Value>, second: Option<&Value>) -> bool
 }
 
 /// What is shown of a content of one of the two fields.
-pub(crate) fn shown<'a>(fields: &Beside<'_>, content: Option<&'a Content>) -> Option<&'a Content>
+pub(crate) fn shown<'b, 'a>(
+    fields: &Beside<'_>,
+    content: Option<&'b ContentRef<'a>>,
+) -> Option<&'b ContentRef<'a>>
     requires { hides_zero (field_shape fields.now.old.now) (field_shape fields.now.new.now) ≡ true
         → IsSingle (option_copied content) }
     ensures same { IfSome result (λ shown. option_copied content.entry ≡ Some shown.now) }
@@ -135,7 +159,7 @@ pub(crate) fn shown<'a>(fields: &Beside<'_>, content: Option<&'a Content>) -> Op
     if !hides_zero(fields) {
         return content;
     }
-    let Some(Content::One(value)) = content else {
+    let Some(ContentRef::One(value)) = content else {
         return None;
     };
     if is_zero(value) {

@@ -4,11 +4,10 @@ ghost use Rattle.std.specs.Prelude.{◌≡◌, ℤ, Bool, true, Option, None};
 ghost use Rattle.pg_schema.specs.declared.enum_type.EnumType.{EnumType};
 ghost use Rattle.pg_dyn.specs.declared.view_name.ViewName.{ViewName};
 ghost use Rattle.pg_dyn.specs.ViewNames.{alike_under};
-ghost use Rattle.pg_pairs.specs.Sight.{IsLeastOf, IsSight};
-ghost use Rattle.pg_pairs.specs.Views.{sight_of};
+ghost use Rattle.pg_pairs.specs.Sight.{IsLeastOf};
 
 use pg_dyn::ViewName;
-use pg_schema::{EnumType, Schema};
+use pg_schema::EnumType;
 
 /// How the numbers of an old enum are compared with those of a new one.
 ///
@@ -71,9 +70,3 @@ impl View for Numbers {
         None
     }
 }
-
-/// What a view sees between two schemas keeps the view's law, for enums that aren't there too.
-pub fn sees<V: View>(_view: &V, _old: &Schema, _new: &Schema)
-    ensures { IsSight (sight_of (V.is_alike _view.now)
-        (V.least_differing _view.now) _old.now _new.now) }
-{}

@@ -1,45 +1,24 @@
--- What the new type's reader makes of the encoding decides.
-use Rattle.std.proofs.Common.{◌≡◌, ◌∙◌, ◌≤◌, ℕ, List, length, false, Some, None, IfSome, option_map, ap, subst, sym, true≢false}
+-- What is read of the encoding is the message itself.
+use Rattle.std.proofs.Common.{◌∙◌, ◌≤◌, ℕ, List, length, subst}
 use Rattle.pg_schema.specs.Parts.{shape_of}
-use Rattle.pg_dyn.specs.Decoding.{dec}
-use Rattle.pg_dyn.specs.Encoding.{cap, enc}
-use Rattle.pg_dyn.specs.Fits.{Fits}
-use Rattle.pg_dyn.specs.Kept.{Kept, message_of, type_of}
+use Rattle.pg_dyn.specs.Encoding.{cap}
 use Rattle.pg_pairs.specs.Comparing.{view_by}
-use Rattle.pg_pairs.proofs.BreakSteps.{absent_keeps, answered, of_read, other_type, same_type, unread_is}
-use Rattle.pg_pairs.proofs.breaking.breaks.Goals.{then-ne-via-then-ne, then-ne-via-else-ne+then-not-is_plain, then-ne-via-else-ne+else-not-is_plain+then-not-has}
+use Rattle.pg_pairs.proofs.BreakSteps.{lent_answers, lent_within, lent_written, unread_never}
 use Rattle.pg_pairs.proofs.breaking.breaks.Goals as goal
-use Rattle.pg_dyn.proofs.PublicLaws.{plain_is_kept}
 
-pub returns-then-ne-clause-exact : goal.returns-then-ne-clause-exact
-returns-then-ne-clause-exact g c = (
-  (λ e. absurd (true≢false (sym e))),
-  λ k.
-      elim c.then-ne.branch [
-        | then-ne-via-then-ne w ↦ absurd (other_type c.type_id.result c.args.pair.old c.ne.result c.ne.ensures w.if-ne.true (c.type_id.ensures ∙ k.0))
-        | then-ne-via-else-ne+then-not-is_plain w ↦
-            absurd (true≢false (sym (w.is_plain.ensures.1 ((plain_is_kept c.args.message.now).1 k.1.is_plain)) ∙ w.if-not-is_plain.true))
-        | then-ne-via-else-ne+else-not-is_plain+then-not-has w ↦
-            absurd (true≢false (sym (absent_keeps (view_by (g.V.View.is_alike c.args.view.now) c.args.old.now c.args.new.now) (shape_of c.args.old.now) (shape_of c.args.new.now) c.args.pair.old c.args.pair.new (message_of c.args.message.now) c.parts.ensures.checked.shape c.parts-2.ensures.checked.shape k.1.is_message k.1.is_plain k.1.has_encoding (λ there. true≢false (sym (w.has.ensures.1 there) ∙ w.if-not-has.true))) ∙ k.1.not_kept))
-      ],
-)
+pub breaks_as_written-requires-clause-written : goal.breaks_as_written-requires-clause-written
+breaks_as_written-requires-clause-written g c =
+    lent_written c.reads_again.ensures (shape_of c.args.old.now) c.parts.ensures.checked.shape c.args.message.now c.in-Ok.lent c.requires (subst (λ (xs : List ℕ). length xs ≤ cap) c.in_ok-bytes.ensures.ok.0 c.in_ok-bytes.ensures.ok.1) c.as_slice-written.result.now (c.as_slice-written.ensures.value ∙ c.in_ok-bytes.ensures.ok.0) c.type_id.result c.type_id.ensures c.in-Ok.ensures.message c.in-Ok.ensures.fits.1
 
-pub returns-in-Some-clause-exact : goal.returns-in-Some-clause-exact
-returns-in-Some-clause-exact g c =
-    let view = view_by (g.V.View.is_alike c.args.view.now) c.args.old.now c.args.new.now in
-    let encoded : c.deref.result.now ≡ enc (shape_of c.args.old.now) (type_of c.args.message.now) (message_of c.args.message.now) = c.deref.ensures.value ∙ c.in_ok-bytes.ensures.ok.0 in
-    let fits = subst (λ o. IfSome o (λ (m : Kept). Fits (shape_of c.args.new.now) m × (type_of m ≡ c.args.pair.new))) c.in-Some.is c.in_ok-read.ensures.fits in
-    let found : dec (shape_of c.args.new.now) c.args.pair.new (enc (shape_of c.args.old.now) (type_of c.args.message.now) (message_of c.args.message.now)) ≡ Some (message_of c.in-Some.read) =
-    ap (dec (shape_of c.args.new.now) c.args.pair.new) (sym encoded) ∙ sym c.in_ok-read.ensures.message ∙ ap (option_map message_of) c.in-Some.is in
-    let type_is = sym c.type_id.ensures ∙ same_type c.type_id.result c.args.pair.old c.ne.result c.ne.ensures c.if-ne.false in
-    answered (view_by (g.V.View.is_alike c.args.view.now) c.args.old.now c.args.new.now) (shape_of c.args.old.now) (shape_of c.args.new.now) c.args.message.now c.args.pair.old c.args.pair.new c.in_ok-is_same_message-in-Some.field-0 type_is c.requires (c.is_plain.ensures.0 c.if-not-is_plain.false) (subst (λ (bytes : List ℕ). length bytes ≤ cap) c.in_ok-bytes.ensures.ok.0 c.in_ok-bytes.ensures.ok.1)
-    (of_read (view_by (g.V.View.is_alike c.args.view.now) c.args.old.now c.args.new.now) (shape_of c.args.old.now) (shape_of c.args.new.now) c.args.message.now c.args.pair.old c.args.pair.new c.in-Some.read c.in_ok-is_same_message-in-Some.field-0 c.in_ok-is_same_message-in-Some.ensures fits.1 found)
+pub breaks_as_written-requires-clause-within : goal.breaks_as_written-requires-clause-within
+breaks_as_written-requires-clause-within g c =
+    lent_within c.reads_again.ensures (shape_of c.args.old.now) c.parts.ensures.checked.shape c.args.message.now c.in-Ok.lent c.requires (subst (λ (xs : List ℕ). length xs ≤ cap) c.in_ok-bytes.ensures.ok.0 c.in_ok-bytes.ensures.ok.1) c.as_slice-written.result.now (c.as_slice-written.ensures.value ∙ c.in_ok-bytes.ensures.ok.0) c.type_id.result c.type_id.ensures c.in-Ok.ensures.message c.in-Ok.ensures.fits.1
 
-pub returns-clause-exact : goal.returns-clause-exact
-returns-clause-exact g c =
-    let encoded : c.deref.result.now ≡ enc (shape_of c.args.old.now) (type_of c.args.message.now) (message_of c.args.message.now) = c.deref.ensures.value ∙ c.in_ok-bytes.ensures.ok.0 in
-    let found : dec (shape_of c.args.new.now) c.args.pair.new (enc (shape_of c.args.old.now) (type_of c.args.message.now) (message_of c.args.message.now)) ≡ None =
-    ap (dec (shape_of c.args.new.now) c.args.pair.new) (sym encoded) ∙ sym c.in_ok-read.ensures.message ∙ ap (option_map message_of) c.in-None.is in
-    let type_is = sym c.type_id.ensures ∙ same_type c.type_id.result c.args.pair.old c.ne.result c.ne.ensures c.if-ne.false in
-    answered (view_by (g.V.View.is_alike c.args.view.now) c.args.old.now c.args.new.now) (shape_of c.args.old.now) (shape_of c.args.new.now) c.args.message.now c.args.pair.old c.args.pair.new false type_is c.requires (c.is_plain.ensures.0 c.if-not-is_plain.false) (subst (λ (bytes : List ℕ). length bytes ≤ cap) c.in_ok-bytes.ensures.ok.0 c.in_ok-bytes.ensures.ok.1)
-    (unread_is (view_by (g.V.View.is_alike c.args.view.now) c.args.old.now c.args.new.now) (shape_of c.args.old.now) (shape_of c.args.new.now) (type_of c.args.message.now) c.args.pair.new (message_of c.args.message.now) found)
+pub returns-in-Ok-clause-exact : goal.returns-in-Ok-clause-exact
+returns-in-Ok-clause-exact g c =
+    lent_answers c.reads_again.ensures (shape_of c.args.old.now) c.parts.ensures.checked.shape c.args.message.now c.in-Ok.lent c.requires (subst (λ (xs : List ℕ). length xs ≤ cap) c.in_ok-bytes.ensures.ok.0 c.in_ok-bytes.ensures.ok.1) c.as_slice-written.result.now (c.as_slice-written.ensures.value ∙ c.in_ok-bytes.ensures.ok.0) c.type_id.result c.type_id.ensures c.in-Ok.ensures.message c.in-Ok.ensures.fits.1
+    (view_by (g.V.View.is_alike c.args.view.now) c.args.old.now c.args.new.now) (shape_of c.args.new.now) c.args.pair.old c.args.pair.new c.in_ok-breaks_as_written-in-Ok.field-0 c.in_ok-breaks_as_written-in-Ok.ensures
+
+pub unreachable-requires : goal.unreachable-requires
+unreachable-requires g c =
+    unread_never c.reads_again.ensures (shape_of c.args.old.now) c.parts.ensures.checked.shape c.args.message.now c.requires (subst (λ (xs : List ℕ). length xs ≤ cap) c.in_ok-bytes.ensures.ok.0 c.in_ok-bytes.ensures.ok.1) c.as_slice-written.result.now (c.as_slice-written.ensures.value ∙ c.in_ok-bytes.ensures.ok.0) c.type_id.result c.type_id.ensures (c.in-Err.ensures.unread c.in_default.not-Memory)

@@ -8,12 +8,12 @@ use Rattle.pg_schema.specs.Shape.{field_at, fields}
 use Rattle.pg_dyn.specs.Comparison.{hides_zero}
 use Rattle.pg_dyn.specs.Kept.{type_of, weight}
 use Rattle.pg_dyn.specs.Kept as kept
-use Rattle.pg_dyn.specs.Seen.{item_seen}
+use Rattle.pg_dyn.specs.Borrowed.{item_seen}
 use Rattle.std.proofs.lemmas.Result.{IfOk-weaker}
 use Rattle.pg_dyn.proofs.Lists.{list_all_each, each_at_index, each_from_take}
-use Rattle.pg_pairs.specs.Comparing.{ItemHasEncoding, items_meet, Keyed, keyed, keyed_if, keyed_meet, keyed_shown}
+use Rattle.pg_pairs.specs.Comparing.{HeldFits, ItemHasEncoding, items_meet, Keyed, keyed, keyed_if, keyed_meet, keyed_shown}
 use Rattle.pg_pairs.proofs.SameSteps.{both_go_on, each_got, held_weight, of_number_seen, shown_weight, total, total_got, weight_is}
-use Rattle.pg_pairs.proofs.SameFields.{HeldFits, beside_with, first_alone, key_lent, keyed_fits, message_fits, second_alone, shown_filled, shown_fits}
+use Rattle.pg_pairs.proofs.SameFields.{beside_with, first_alone, hides_first, hides_second, key_lent, message_fits, second_alone, shown_filled, shown_fits, single_found}
 use Rattle.pg_pairs.proofs.SameLengths.{child_encoded, shown_encoded}
 use Rattle.pg_pairs.proofs.SameMessages.{all_found, no_fields, none_is, same_of_all, same_of_none}
 use Rattle.pg_pairs.proofs.comparing.+same.Goals.{is_same_message-in-Some+in_ok-are_same_fields+else-not-branch, is_same_message-in_default}
@@ -32,13 +32,13 @@ pub is_same_content-is_same_key-requires-clause-first : goal.is_same_content-is_
 is_same_content-is_same_key-requires-clause-first g t c =
     key_lent c.held_at-first.result.key
     (each_got (HeldFits (shape_of c.args.sides.now.old.now) c.args.fields.now.old.now.element) (keyed c.args.content.now) c.loop-at.at (option_copied c.held_at-first.result.key, c.held_at-first.result.item.now)
-    (keyed_fits (shape_of c.args.sides.now.old.now) c.args.fields.now.old.now.presence c.args.fields.now.old.now.element c.args.content.now c.requires.fits) c.held_at-first.ensures).0
+    c.requires.fits c.held_at-first.ensures).0
 
 pub is_same_content-is_same_key-requires-clause-second : goal.is_same_content-is_same_key-requires-clause-second
 is_same_content-is_same_key-requires-clause-second g t c =
     key_lent c.held_at-second.result.key
     (each_got (HeldFits (shape_of c.args.sides.now.new.now) c.args.fields.now.new.now.element) (keyed c.args.read.now) c.loop-at.at (option_copied c.held_at-second.result.key, c.held_at-second.result.item.now)
-    (keyed_fits (shape_of c.args.sides.now.new.now) c.args.fields.now.new.now.presence c.args.fields.now.new.now.element c.args.read.now c.requires.read_fits) c.held_at-second.ensures).0
+    c.requires.read_fits c.held_at-second.ensures).0
 
 pub is_same_content-returns-then-not-is_same_key : goal.is_same_content-returns-then-not-is_same_key
 is_same_content-returns-then-not-is_same_key g t c =
@@ -54,9 +54,9 @@ is_same_content-is_same_item-requires g t c κs within =
     let old = shape_of c.args.sides.now.old.now in
     let new = shape_of c.args.sides.now.new.now in
     let first = each_got (HeldFits (shape_of c.args.sides.now.old.now) c.args.fields.now.old.now.element) (keyed c.args.content.now) c.loop-at.at (option_copied c.held_at-first.result.key, c.held_at-first.result.item.now)
-    (keyed_fits (shape_of c.args.sides.now.old.now) c.args.fields.now.old.now.presence c.args.fields.now.old.now.element c.args.content.now c.requires.fits) c.held_at-first.ensures in
+    c.requires.fits c.held_at-first.ensures in
     let second = each_got (HeldFits (shape_of c.args.sides.now.new.now) c.args.fields.now.new.now.element) (keyed c.args.read.now) c.loop-at.at (option_copied c.held_at-second.result.key, c.held_at-second.result.item.now)
-    (keyed_fits (shape_of c.args.sides.now.new.now) c.args.fields.now.new.now.presence c.args.fields.now.new.now.element c.args.read.now c.requires.read_fits) c.held_at-second.ensures in
+    c.requires.read_fits c.held_at-second.ensures in
     let encoded = each_got (λ (x : Keyed). ItemHasEncoding (shape_of c.args.sides.now.old.now) x.1) (keyed c.args.content.now) c.loop-at.at (option_copied c.held_at-first.result.key, c.held_at-first.result.item.now) c.requires.encoded c.held_at-first.ensures in
     let less = total_got (keyed c.args.content.now) c.loop-at.at (option_copied c.held_at-first.result.key, c.held_at-first.result.item.now) c.held_at-first.ensures in
     (omega (arith, c.decreases, less), (within, (c.requires.old_schema, (c.requires.new_schema, (first.1, (encoded, second.1))))))
@@ -77,6 +77,16 @@ is_same_content-loop-at-preserved g t c =
     ∙ ap₂ (λ a b. (a && b) && rest) (sym c.is_same_key.ensures ∙ c.if-not-is_same_key.false) (sym c.in_ok-is_same_item.ensures ∙ c.if-not-branch.false))
     ∙ c.loop-at.invariant
 
+pub is_same_field-shown-content-requires : goal.is_same_field-shown-content-requires
+is_same_field-shown-content-requires g t c hidden =
+    single_found (shape_of c.args.sides.now.old.now) c.args.message.now c.args.field.now.number (field_shape c.args.field.now) c.requires.old_schema.shape c.requires.fits c.requires.found c.get.result c.get.ensures.filled c.get.ensures.fits (hides_first (field_shape c.args.field.now) (field_shape c.in-Some.beside.now) hidden)
+
+pub is_same_field-shown-other-requires : goal.is_same_field-shown-other-requires
+is_same_field-shown-other-requires g t c hidden =
+    let found : field_at (fields (shape_of c.args.sides.now.new.now) (type_of c.args.read.now)) c.args.field.now.number ≡ Some (field_shape c.in-Some.beside.now) =
+    ap (λ type. field_at (fields (shape_of c.args.sides.now.new.now) type) c.args.field.now.number) (sym c.type_id.ensures) ∙ sym c.in-Some.ensures.shape in
+    single_found (shape_of c.args.sides.now.new.now) c.args.read.now c.args.field.now.number (field_shape c.in-Some.beside.now) c.requires.new_schema.shape c.requires.read_fits found c.get-2.result c.get-2.ensures.filled c.get-2.ensures.fits (hides_second (field_shape c.args.field.now) (field_shape c.in-Some.beside.now) hidden)
+
 pub is_same_field-is_same_content-requires : goal.is_same_field-is_same_content-requires
 is_same_field-is_same_content-requires g t c κs within =
     let f = field_shape c.args.field.now in
@@ -94,10 +104,10 @@ is_same_field-is_same_content-requires g t c κs within =
           (
             c.requires.new_schema,
             (
-              shown_fits (shape_of c.args.sides.now.old.now) c.args.message.now c.args.field.now.number (field_shape c.args.field.now) c.requires.old_schema.shape c.requires.fits c.requires.found c.get.result c.shown-content.result c.in-Some-Some.content c.get.ensures.fits c.shown-content.ensures.same c.in-Some-Some.is-0,
+              shown_fits (shape_of c.args.sides.now.old.now) c.args.message.now c.args.field.now.number (field_shape c.args.field.now) c.requires.old_schema.shape c.requires.fits c.requires.found c.get.result c.shown-content.result c.in-Some-Some.content c.get.ensures.keys c.get.ensures.fits c.shown-content.ensures.same c.in-Some-Some.is-0,
               (
                 shown_encoded (shape_of c.args.sides.now.old.now) c.requires.old_schema.shape c.args.message.now c.requires.fits c.requires.encoded c.args.field.now.number c.get.result c.shown-content.result c.in-Some-Some.content c.get.ensures.content c.shown-content.ensures.same c.in-Some-Some.is-0,
-                shown_fits (shape_of c.args.sides.now.new.now) c.args.read.now c.args.field.now.number (field_shape c.in-Some.beside.now) c.requires.new_schema.shape c.requires.read_fits found c.get-2.result c.shown-other.result c.in-Some-Some.other c.get-2.ensures.fits c.shown-other.ensures.same c.in-Some-Some.is-1,
+                shown_fits (shape_of c.args.sides.now.new.now) c.args.read.now c.args.field.now.number (field_shape c.in-Some.beside.now) c.requires.new_schema.shape c.requires.read_fits found c.get-2.result c.shown-other.result c.in-Some-Some.other c.get-2.ensures.keys c.get-2.ensures.fits c.shown-other.ensures.same c.in-Some-Some.is-1,
               ),
             ),
           ),
@@ -111,14 +121,14 @@ is_same_field-returns-in-Some-Some g t c =
     ap (λ type. field_at (fields (shape_of c.args.sides.now.new.now) type) c.args.field.now.number) (sym c.type_id.ensures) ∙ sym c.in-Some.ensures.shape in
     IfOk-weaker c.is_same_content.result _ _ (λ so h.
     h
-    ∙ beside_with (g.V.View.is_alike c.args.sides.now.view.now) c.args.sides.now.old.now c.args.sides.now.new.now (field_shape c.args.field.now) (field_shape c.in-Some.beside.now) c.args.message.now c.args.read.now c.requires.old_schema.shape c.requires.fits c.requires.found found c.get.result c.get-2.result c.shown-content.result c.shown-other.result (Some c.in-Some-Some.content) (Some c.in-Some-Some.other) c.get.ensures.content c.get-2.ensures.content c.get.ensures.fits c.shown-content.ensures.items c.shown-other.ensures.items c.in-Some-Some.is-0 c.in-Some-Some.is-1)
+    ∙ beside_with (g.V.View.is_alike c.args.sides.now.view.now) c.args.sides.now.old.now c.args.sides.now.new.now (field_shape c.args.field.now) (field_shape c.in-Some.beside.now) c.args.message.now c.args.read.now c.requires.old_schema.shape c.requires.fits c.requires.found found c.get.result c.get-2.result c.shown-content.result c.shown-other.result (Some c.in-Some-Some.content) (Some c.in-Some-Some.other) c.get.ensures.content c.get-2.ensures.content c.get.ensures.keys c.get.ensures.fits c.shown-content.ensures.items c.shown-other.ensures.items c.in-Some-Some.is-0 c.in-Some-Some.is-1)
     c.is_same_content.ensures
 
 pub is_same_field-returns-in-None-None : goal.is_same_field-returns-in-None-None
 is_same_field-returns-in-None-None g t c =
     let found : field_at (fields (shape_of c.args.sides.now.new.now) (type_of c.args.read.now)) c.args.field.now.number ≡ Some (field_shape c.in-Some.beside.now) =
     ap (λ type. field_at (fields (shape_of c.args.sides.now.new.now) type) c.args.field.now.number) (sym c.type_id.ensures) ∙ sym c.in-Some.ensures.shape in
-    beside_with (g.V.View.is_alike c.args.sides.now.view.now) c.args.sides.now.old.now c.args.sides.now.new.now (field_shape c.args.field.now) (field_shape c.in-Some.beside.now) c.args.message.now c.args.read.now c.requires.old_schema.shape c.requires.fits c.requires.found found c.get.result c.get-2.result c.shown-content.result c.shown-other.result None None c.get.ensures.content c.get-2.ensures.content c.get.ensures.fits c.shown-content.ensures.items c.shown-other.ensures.items c.in-None-None.is-0 c.in-None-None.is-1
+    beside_with (g.V.View.is_alike c.args.sides.now.view.now) c.args.sides.now.old.now c.args.sides.now.new.now (field_shape c.args.field.now) (field_shape c.in-Some.beside.now) c.args.message.now c.args.read.now c.requires.old_schema.shape c.requires.fits c.requires.found found c.get.result c.get-2.result c.shown-content.result c.shown-other.result None None c.get.ensures.content c.get-2.ensures.content c.get.ensures.keys c.get.ensures.fits c.shown-content.ensures.items c.shown-other.ensures.items c.in-None-None.is-0 c.in-None-None.is-1
 
 pub is_same_field-returns-in_default-2 : goal.is_same_field-returns-in_default-2
 is_same_field-returns-in_default-2 g t c =
@@ -126,7 +136,7 @@ is_same_field-returns-in_default-2 g t c =
     ap (λ type. field_at (fields (shape_of c.args.sides.now.new.now) type) c.args.field.now.number) (sym c.type_id.ensures) ∙ sym c.in-Some.ensures.shape in
     let test = keyed_meet (g.V.View.is_alike c.args.sides.now.view.now) c.args.sides.now.old.now c.args.sides.now.new.now (field_shape c.args.field.now) (field_shape c.in-Some.beside.now) in
     first_alone test (keyed c.in_default-2.field-0-0.now) (shown_filled c.get.result c.shown-content.result c.in_default-2.field-0-0 c.get.ensures.filled c.shown-content.ensures.same c.in_default-2.is-0)
-    ∙ beside_with (g.V.View.is_alike c.args.sides.now.view.now) c.args.sides.now.old.now c.args.sides.now.new.now (field_shape c.args.field.now) (field_shape c.in-Some.beside.now) c.args.message.now c.args.read.now c.requires.old_schema.shape c.requires.fits c.requires.found found c.get.result c.get-2.result c.shown-content.result c.shown-other.result (Some c.in_default-2.field-0-0) None c.get.ensures.content c.get-2.ensures.content c.get.ensures.fits c.shown-content.ensures.items c.shown-other.ensures.items c.in_default-2.is-0 c.in_default-2.is-1
+    ∙ beside_with (g.V.View.is_alike c.args.sides.now.view.now) c.args.sides.now.old.now c.args.sides.now.new.now (field_shape c.args.field.now) (field_shape c.in-Some.beside.now) c.args.message.now c.args.read.now c.requires.old_schema.shape c.requires.fits c.requires.found found c.get.result c.get-2.result c.shown-content.result c.shown-other.result (Some c.in_default-2.field-0-0) None c.get.ensures.content c.get-2.ensures.content c.get.ensures.keys c.get.ensures.fits c.shown-content.ensures.items c.shown-other.ensures.items c.in_default-2.is-0 c.in_default-2.is-1
 
 pub is_same_field-returns-in_default-2-2 : goal.is_same_field-returns-in_default-2-2
 is_same_field-returns-in_default-2-2 g t c =
@@ -134,7 +144,7 @@ is_same_field-returns-in_default-2-2 g t c =
     ap (λ type. field_at (fields (shape_of c.args.sides.now.new.now) type) c.args.field.now.number) (sym c.type_id.ensures) ∙ sym c.in-Some.ensures.shape in
     let test = keyed_meet (g.V.View.is_alike c.args.sides.now.view.now) c.args.sides.now.old.now c.args.sides.now.new.now (field_shape c.args.field.now) (field_shape c.in-Some.beside.now) in
     second_alone test (keyed c.in_default-2.field-0-1.now) (shown_filled c.get-2.result c.shown-other.result c.in_default-2.field-0-1 c.get-2.ensures.filled c.shown-other.ensures.same c.in_default-2.is-1)
-    ∙ beside_with (g.V.View.is_alike c.args.sides.now.view.now) c.args.sides.now.old.now c.args.sides.now.new.now (field_shape c.args.field.now) (field_shape c.in-Some.beside.now) c.args.message.now c.args.read.now c.requires.old_schema.shape c.requires.fits c.requires.found found c.get.result c.get-2.result c.shown-content.result c.shown-other.result None (Some c.in_default-2.field-0-1) c.get.ensures.content c.get-2.ensures.content c.get.ensures.fits c.shown-content.ensures.items c.shown-other.ensures.items c.in_default-2.is-0 c.in_default-2.is-1
+    ∙ beside_with (g.V.View.is_alike c.args.sides.now.view.now) c.args.sides.now.old.now c.args.sides.now.new.now (field_shape c.args.field.now) (field_shape c.in-Some.beside.now) c.args.message.now c.args.read.now c.requires.old_schema.shape c.requires.fits c.requires.found found c.get.result c.get-2.result c.shown-content.result c.shown-other.result None (Some c.in_default-2.field-0-1) c.get.ensures.content c.get-2.ensures.content c.get.ensures.keys c.get.ensures.fits c.shown-content.ensures.items c.shown-other.ensures.items c.in_default-2.is-0 c.in_default-2.is-1
 
 pub is_same_item-is_same_message-requires : goal.is_same_item-is_same_message-requires
 is_same_item-is_same_message-requires g t c κs within =

@@ -1,5 +1,5 @@
 use Rattle.pg_pairs.proofs.NamedSights.{seen_by_name}
-use Rattle.pg_pairs.proofs.named.sees_by_name.Goals as goal
+use Rattle.pg_pairs.proofs.laws.sees_by_name.Goals as goal
 
 pub returns : goal.returns
 returns g c =

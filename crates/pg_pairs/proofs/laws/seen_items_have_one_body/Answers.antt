@@ -1,0 +1,5 @@
+use Rattle.pg_pairs.proofs.ReadBack as ReadBack
+use Rattle.pg_pairs.proofs.laws.seen_items_have_one_body.Goals as goal
+
+pub returns : goal.returns
+returns c = ReadBack.seen_items_have_one_body
