@@ -5,20 +5,21 @@
 ghost use Rattle.std.specs.Prelude.{◌≡◌, ◌⊎◌, length, nat_eq, slice_get, string_bytes, option_map, true, false, IfErr, IfOk, OnOk};
 ghost use Rattle.std.specs.Option.{option_copied};
 ghost use Rattle.pg_schema.specs.Parts.{shape_of};
-ghost use Rattle.pg_pairs.specs.Sight.{by_numbers};
-ghost use Rattle.pg_pairs.specs.SightBy.{sight_by};
 ghost use Rattle.pg_cert.specs.declared.bounds.BoundsError.TheVariants.{Invariant};
 ghost use Rattle.pg_cert.specs.declared.error.CertError.TheVariants as errors;
 ghost use Rattle.pg_cert.specs.Bounds.{are_bounds, bound_in, is_bound, with_bound};
 ghost use Rattle.pg_cert.specs.Certificate.{AreBytes, Claim, Holds, is_witness, verdict_of};
+ghost use Rattle.pg_cert.specs.ClaimSight.{sight_in};
+ghost use Rattle.pg_cert.specs.Codes.{code_of};
 ghost use Rattle.pg_cert.specs.Faults.{IsFirstFault};
 ghost use Rattle.pg_cert.specs.Laws.{Says};
 ghost use Rattle.pg_cert.specs.Text as spec;
 
 use pg_cert::{Bounds, BoundsError, CertError, Certificate, PairBound, Verdict};
-use pg_pairs::{Pair, Table, View};
+use pg_dyn::ViewName;
+use pg_pairs::{Pair, Table};
 use pg_schema::Schema;
-use std::alloc::{AllocError, Global};
+use std::alloc::{AllocError, AllocFailed, Global};
 
 /// What `check` answers.
 pub fn check(
@@ -27,41 +28,19 @@ pub fn check(
     new: &Schema,
     certificate: &Certificate,
 ) -> Result<Verdict, CertError>
-    ensures holds { OnOk result (Holds by_numbers (shape_of old.now)
-        (shape_of new.now) certificate.now) }
-    ensures verdict { IfOk result (λ verdict. verdict ≡ verdict_of certificate.now) }
-    ensures says { IfOk result (λ verdict. Says by_numbers (shape_of old.now)
-        (shape_of new.now) certificate.now verdict) }
-    ensures first_fault { IfErr result
-        (λ e. (e ≡ errors.Memory) ⊎ IsFirstFault by_numbers (shape_of old.now)
-        (shape_of new.now) certificate.now e) }
-    ensures refused { IfErr result (λ e. (e ≡ errors.Memory)
-        ⊎ ¬ (Holds by_numbers (shape_of old.now) (shape_of new.now) certificate.now)) }
-{
-    pg_cert::check(alloc, old, new, certificate)
-}
-
-/// What `check_with` answers.
-pub fn check_with<V: View>(
-    alloc: Global,
-    view: &V,
-    old: &Schema,
-    new: &Schema,
-    certificate: &Certificate,
-) -> Result<Verdict, CertError>
-    ensures holds { OnOk result (Holds (sight_by V.View view.now old.now new.now)
+    ensures holds { OnOk result (Holds (sight_in old.now new.now certificate.now)
         (shape_of old.now) (shape_of new.now) certificate.now) }
     ensures verdict { IfOk result (λ verdict. verdict ≡ verdict_of certificate.now) }
-    ensures says { IfOk result (λ verdict. Says (sight_by V.View view.now old.now new.now)
+    ensures says { IfOk result (λ verdict. Says (sight_in old.now new.now certificate.now)
         (shape_of old.now) (shape_of new.now) certificate.now verdict) }
     ensures first_fault { IfErr result
-        (λ e. (e ≡ errors.Memory) ⊎ IsFirstFault (sight_by V.View view.now old.now new.now)
+        (λ e. (e ≡ errors.Memory) ⊎ IsFirstFault (sight_in old.now new.now certificate.now)
         (shape_of old.now) (shape_of new.now) certificate.now e) }
     ensures refused { IfErr result (λ e. (e ≡ errors.Memory)
-        ⊎ ¬ (Holds (sight_by V.View view.now old.now new.now) (shape_of old.now)
+        ⊎ ¬ (Holds (sight_in old.now new.now certificate.now) (shape_of old.now)
         (shape_of new.now) certificate.now)) }
 {
-    pg_cert::check_with(alloc, view, old, new, certificate)
+    pg_cert::check(alloc, old, new, certificate)
 }
 
 /// What `from_text` answers.
@@ -89,20 +68,41 @@ pub fn to_text(
     certificate: &Certificate,
 ) -> Result<String, AllocError>
     requires { spec.IsClaimOf old.now new.now certificate.now }
-    ensures { IfOk result (λ text. spec.Certifies old.now new.now
+    ensures certifies { IfOk result (λ text. spec.Certifies old.now new.now
+        (string_bytes text) certificate.now) }
+    ensures second { IfOk result (λ text. spec.IsSecondText old.now new.now
         (string_bytes text) certificate.now) }
 {
     pg_cert::to_text(alloc, old, new, certificate)
 }
 
+/// What `to_text` answers of the certificate that `from_text` reads: the same certificate's text of
+/// version 2, whatever version the bytes are of.
+pub fn text_again(
+    alloc: Global,
+    old: &Schema,
+    new: &Schema,
+    bytes: &[u8],
+) -> Result<String, CertError>
+    ensures { IfOk result (λ text. (claim : Claim)
+        → spec.Certifies old.now new.now bytes.now claim
+        → spec.IsSecondText old.now new.now (string_bytes text) claim) }
+{
+    let certificate = from_text(alloc, old, new, bytes)?;
+    let text = to_text(alloc, old, new, &certificate)?;
+    Ok(text)
+}
+
 /// What `Certificate::new` answers.
 pub fn certificate(
+    view: ViewName,
     root: Pair,
     bounds: Bounds,
     witness: Option<Vec<u8>>,
 ) -> Result<Certificate, (Bounds, Option<Vec<u8>>)>
     ensures claim { IfOk result (λ c. c
         ≡ record {
+          view = view;
           root = root;
           bounds = bounds;
           witness = option_map (λ bytes. bytes.items) witness;
@@ -111,7 +111,14 @@ pub fn certificate(
     ensures empty { IfErr result (λ _. is_witness (option_map (λ bytes. bytes.items) witness)
         ≡ false) }
 {
-    Certificate::new(root, bounds, witness)
+    Certificate::new(view, root, bounds, witness)
+}
+
+/// What `Certificate::view` answers.
+pub fn view(certificate: &Certificate) -> ViewName
+    ensures { result ≡ certificate.now.view }
+{
+    certificate.view()
 }
 
 /// What `Certificate::root` answers.
@@ -184,4 +191,25 @@ pub fn bound(bounds: &Bounds, pair: Pair) -> Option<Option<u32>>
     ensures { result ≡ bound_in bounds.now pair }
 {
     bounds.bound(pair)
+}
+
+/// What `CertError::code` answers.
+pub fn code(error: CertError) -> u16
+    ensures { result ≡ code_of error }
+{
+    error.code()
+}
+
+/// What `CertError::from` answers of a refused growth.
+pub fn error_of(error: AllocError) -> CertError
+    ensures { result ≡ errors.Memory }
+{
+    CertError::from(error)
+}
+
+/// What `CertError::from` answers of a refused growth that hands back a value.
+pub fn error_of_failed<T: Drop>(failed: AllocFailed<T>) -> CertError
+    ensures { result ≡ errors.Memory }
+{
+    CertError::from(failed)
 }

@@ -10,6 +10,7 @@ pub mod Fronts
 pub mod LinesRead
 pub mod WitnessRead
 pub mod WholeRead
+pub mod HeadingsRead
 pub mod Places
 pub mod FullNames
 pub mod OneSpelling

@@ -13,10 +13,11 @@ use Rattle.pg_cert.specs.declared.bounds.PairBound.{PairBound}
 use Rattle.pg_cert.specs.Bounds.{is_bound, are_bounds}
 use Rattle.pg_cert.specs.Certificate.{AreBytes}
 use Rattle.pg_cert.specs.Reading.{lacks, IsBlank}
-use Rattle.pg_cert.specs.Text.{IsPairOf, names_of, lines_text, last_text, bound_word, witness_word}
+use Rattle.pg_cert.specs.Text.{IsPairOf, names_of, lines_text, last_text, bound_word, view_of, witness_word}
 use Rattle.pg_cert.specs.Laws.{OneSpelling}
 use Rattle.pg_cert.proofs.Cuts.{position-found, front-found, back-found}
 use Rattle.pg_cert.proofs.Fronts.{same_behind}
+use Rattle.pg_cert.proofs.HeadingsRead.{same_heading}
 use Rattle.pg_cert.proofs.LinesRead.{words_of, row}
 use Rattle.pg_cert.proofs.Plain.{name_there, name_lacks}
 use Rattle.pg_cert.proofs.Tables.{first_of_bounds}
@@ -109,8 +110,11 @@ module _ (old new : Parts) (is_old : IsSchema old) (is_new : IsSchema new) where
 
 pub one_spelling : OneSpelling
 one_spelling old new text a b is_old is_new a_is b_is =
-    let behind = same_behind (codes "protogate-certificate 1\nroot ") _ _ (sym (head-row (names_of old) (names_of new) a) ∙ sym a_is.spelled ∙ b_is.spelled ∙ head-row (names_of old) (names_of new) b) in
-    let root = same_pair old new is_old is_new a.root b.root 10 _ _ end a_is.of_schemas.root b_is.of_schemas.root behind in
-    let lines = same_lines old new is_old is_new a.bounds b.bounds a.witness b.witness a_is.of_schemas.bounds b_is.of_schemas.bounds a_is.bounds b_is.bounds a_is.bytes b_is.bytes root.1 in
+    let one = a_is.has_texts in
+    let other = b_is.has_texts in
+    let fronts = same_heading a_is.heading b_is.heading _ _ (sym (head-row a_is.heading (names_of old) (names_of new) a) ∙ sym a_is.spelled ∙ b_is.spelled ∙ head-row b_is.heading (names_of old) (names_of new) b) in
+    let view_is : a.view ≡ b.view = sym a_is.viewed ∙ ap view_of fronts.0 ∙ b_is.viewed in
+    let root = same_pair old new is_old is_new a.root b.root 10 _ _ end one.of_schemas.root other.of_schemas.root fronts.1 in
+    let lines = same_lines old new is_old is_new a.bounds b.bounds a.witness b.witness one.of_schemas.bounds other.of_schemas.bounds one.bounds other.bounds one.bytes other.bytes root.1 in
     let root_is = root.0 in let bounds_are = lines.0 in let witness_is = lines.1 in
-    λ j. record { root = root_is j; bounds = bounds_are j; witness = witness_is j }
+    λ j. record { view = view_is j; root = root_is j; bounds = bounds_are j; witness = witness_is j }

@@ -1,6 +1,7 @@
 -- What a certificate that holds shows is true.
 use Rattle.std.proofs.Common.{◌≡◌, ℕ, List, length, Option, Some, None, is_some, refl, ap, sym, ◌∙◌, subst, true≢false}
 use Rattle.pg_schema.specs.Shape.{Shape, IsShape}
+use Rattle.pg_dyn.specs.declared.view_name.ViewName.{ViewName}
 use Rattle.pg_pairs.specs.declared.choice.Pair.{Pair}
 use Rattle.pg_pairs.specs.Sight.{Sight, IsSight}
 use Rattle.pg_pairs.specs.Covering.{Covers}
@@ -12,13 +13,13 @@ use Rattle.pg_cert.specs.Bounds.{bound_in}
 use Rattle.pg_cert.specs.Certificate.{Claim, Holds, IsWitnessed, IsWitnessedIfThere, bound_verdict, verdict_of}
 use Rattle.pg_cert.specs.Laws.{Says, VerdictsAreTrue}
 
-module _ (covering : CoveringBounds) (compatible : NoneIsCompatible) (sight : Sight) (old new : Shape) (root : Pair) (bounds : List PairBound) (is_sight : IsSight sight) (is_old : IsShape old) (is_new : IsShape new) where
-  of_bound : (bound : Option (Option ℕ)) → bound_in bounds root ≡ bound → Covers sight old new (bound_in bounds) root → Says sight old new (record { root = root; bounds = bounds; witness = None }) (bound_verdict bound)
+module _ (covering : CoveringBounds) (compatible : NoneIsCompatible) (sight : Sight) (old new : Shape) (view : ViewName) (root : Pair) (bounds : List PairBound) (is_sight : IsSight sight) (is_old : IsShape old) (is_new : IsShape new) where
+  of_bound : (bound : Option (Option ℕ)) → bound_in bounds root ≡ bound → Covers sight old new (bound_in bounds) root → Says sight old new (record { view = view; root = root; bounds = bounds; witness = None }) (bound_verdict bound)
   of_bound (Some (Some n)) found covers = λ v breaks. covering sight old new (bound_in bounds) root is_sight is_old is_new covers root (Some n) found v breaks
   of_bound (Some None) found covers = compatible sight old new (bound_in bounds) root is_sight is_old is_new covers root found
   of_bound None found covers = absurd (true≢false (sym covers.root_there ∙ ap is_some found))
 
-  of_witness : (witness : Option (List ℕ)) → Holds sight old new (record { root = root; bounds = bounds; witness = witness }) → Says sight old new (record { root = root; bounds = bounds; witness = witness }) (verdict_of (record { root = root; bounds = bounds; witness = witness }))
+  of_witness : (witness : Option (List ℕ)) → Holds sight old new (record { view = view; root = root; bounds = bounds; witness = witness }) → Says sight old new (record { view = view; root = root; bounds = bounds; witness = witness }) (verdict_of (record { view = view; root = root; bounds = bounds; witness = witness }))
   of_witness None holds = of_bound (bound_in bounds root) refl holds.covers
   of_witness (Some bytes) holds =
       let is = holds.witnessed in (
@@ -38,7 +39,7 @@ module _ (covering : CoveringBounds) (compatible : NoneIsCompatible) (sight : Si
       )
 
 pub verdicts_are_true : CoveringBounds → NoneIsCompatible → VerdictsAreTrue
-verdicts_are_true covering compatible sight old new claim is_sight is_old is_new holds = of_witness covering compatible sight old new claim.root claim.bounds is_sight is_old is_new claim.witness holds
+verdicts_are_true covering compatible sight old new claim is_sight is_old is_new holds = of_witness covering compatible sight old new claim.view claim.root claim.bounds is_sight is_old is_new claim.witness holds
 
 -- The verdict of a claim without a witness whose table has no fault.
 pub says : VerdictsAreTrue → (sight : Sight) (old new : Shape) (claim : Claim) → IsSight sight → IsShape old → IsShape new → Covers sight old new (bound_in claim.bounds) claim.root → claim.witness ≡ None →
@@ -51,7 +52,7 @@ says true_ sight old new claim is_sight is_old is_new covers no_witness verdict 
     none_there None h = tt
     none_there (Some bytes) h = absurd (cc)
 
-    without : (witness : Option (List ℕ)) → witness ≡ None → bound_verdict (bound_in claim.bounds claim.root) ≡ verdict_of (record { root = claim.root; bounds = claim.bounds; witness = witness })
+    without : (witness : Option (List ℕ)) → witness ≡ None → bound_verdict (bound_in claim.bounds claim.root) ≡ verdict_of (record { view = claim.view; root = claim.root; bounds = claim.bounds; witness = witness })
     without None h = refl
     without (Some bytes) h = absurd (cc)
 
@@ -66,6 +67,6 @@ says_witnessed true_ sight old new claim is_sight is_old is_new covers bytes is 
     there None h = absurd (cc)
     there (Some xs) h = let same : bytes ≡ xs = cc in subst (IsWitnessed sight old new claim.root (bound_in claim.bounds claim.root)) same witnessed
 
-    with_one : (witness : Option (List ℕ)) → witness ≡ Some bytes → verdict_of (record { root = claim.root; bounds = claim.bounds; witness = witness }) ≡ verdicts.Breaks
+    with_one : (witness : Option (List ℕ)) → witness ≡ Some bytes → verdict_of (record { view = claim.view; root = claim.root; bounds = claim.bounds; witness = witness }) ≡ verdicts.Breaks
     with_one None h = absurd (cc)
     with_one (Some xs) h = refl

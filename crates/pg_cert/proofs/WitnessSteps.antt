@@ -1,11 +1,11 @@
 -- What the old writer writes is what is read again, so that there is one message of it.
-use Rattle.std.proofs.Common.{◌≡◌, ◌<◌, ℕ, zero, suc, List, [], ◌∷◌, length, get_or, true, Option, Some, None, option_map, refl, ap, sym, ◌∙◌, subst, arith}
+use Rattle.std.proofs.Common.{◌≡◌, ◌<◌, ◌≤◌, ℕ, zero, suc, List, [], ◌∷◌, length, get_or, true, Option, Some, None, refl, ap, sym, ◌∙◌, subst, arith}
 use Rattle.pg_schema.specs.Shape.{Shape, FieldShape, IsShape, fields, field_at}
 use Rattle.pg_dyn.specs.Belonging.{IsMessage}
 use Rattle.pg_dyn.specs.Breaking.{Breaks}
 use Rattle.pg_dyn.specs.Decoding.{dec}
-use Rattle.pg_dyn.specs.Encoding.{enc}
-use Rattle.pg_dyn.specs.Kept.{Kept, message_of}
+use Rattle.pg_dyn.specs.Encoding.{cap, enc}
+use Rattle.pg_dyn.specs.Kept.{Kept, message_of, type_of}
 use Rattle.pg_dyn.specs.Kept as kept
 use Rattle.pg_dyn.specs.Laws.{ReadsAgain}
 use Rattle.pg_dyn.specs.Message.{Message, IsPlain, ends, holds, nests}
@@ -44,9 +44,11 @@ module _ (old : Shape) (root : Pair) (bytes : List ℕ) where
     message_is : (v : Message) (is : IsWritten old root bytes) → dec old root.old bytes ≡ Some v → is.message ≡ v
     message_is v is read = let both : ◌≡◌ {A = Option Message} (Some is.message) (Some v) = sym (read_of is) ∙ read in cc
 
-    pub not_plain : (m : Kept) (o : Option Kept) → option_map message_of o ≡ dec old root.old bytes → o ≡ Some m → (kept.IsPlain m → ⊥) → IsWritten old root bytes → ⊥
-    not_plain m o read found unplain is =
-        unplain ((plain_is_kept m).1 (subst IsPlain (message_is (message_of m) is (sym read ∙ ap (option_map message_of) found)) is.is_plain))
+    pub not_plain : (m : Kept) → dec old root.old bytes ≡ Some (message_of m) → (kept.IsPlain m → ⊥) → IsWritten old root bytes → ⊥
+    not_plain m read unplain is = unplain ((plain_is_kept m).1 (subst IsPlain (message_is (message_of m) is read) is.is_plain))
+
+    pub not_read : dec old root.old bytes ≡ None → IsWritten old root bytes → ⊥
+    not_read none is = let both : ◌≡◌ {A = Option Message} None (Some is.message) = sym none ∙ read_of is in cc
 
   module _ (m : Kept) (writing : IsWriting old root bytes m) where
     pub written_of : IsWritten old root bytes
@@ -57,6 +59,13 @@ module _ (old : Shape) (root : Pair) (bytes : List ℕ) where
       has_encoding = writing.has_encoding;
       written = writing.written;
     }
+
+    -- by the type that it says itself
+    pub own_written : enc old (type_of m) (message_of m) ≡ bytes
+    own_written = ap (λ t. enc old t (message_of m)) writing.type_is ∙ writing.written
+
+    pub own_within : length (enc old (type_of m) (message_of m)) ≤ cap
+    own_within = subst (λ t. length (enc old t (message_of m)) ≤ cap) (sym writing.type_is) writing.has_encoding
 
     module _ (sight : Sight) (new : Shape) (bound : Option (Option ℕ)) where
       pub witnessed_of : HasLength bound bytes → Breaks sight.alike old new root.old root.new (message_of m) → IsWitnessed sight old new root bound bytes

@@ -2,6 +2,7 @@
 use Rattle.std.specs.Prelude.{◌≡◌, ℕ, ◌<◌, ◌≤◌, ◌^◌, ⊤, Bool, true, false, List, [], ◌∷◌, length, Option, Some, None}
 use Rattle.std.specs.List.{AllByRecursion}
 use Rattle.pg_schema.specs.Shape.{Shape}
+use Rattle.pg_dyn.specs.declared.view_name.ViewName.{ViewName}
 use Rattle.pg_dyn.specs.Belonging.{IsMessage}
 use Rattle.pg_dyn.specs.Message.{Message, IsPlain}
 use Rattle.pg_dyn.specs.Encoding.{enc, cap}
@@ -14,8 +15,9 @@ use Rattle.pg_cert.specs.declared.verdict.Verdict.{Verdict}
 use Rattle.pg_cert.specs.declared.verdict.Verdict.TheVariants as verdicts
 use Rattle.pg_cert.specs.Bounds.{bound_in}
 
--- the pair of root types, bounds of pairs, and maybe the bytes of a message that breaks
+-- the name of the view, the pair of root types, bounds of pairs, and maybe the bytes of a message that breaks
 pub record Claim : Type 0 where
+  pub view : ViewName
   pub root : Pair
   pub bounds : List PairBound
   pub witness : Option (List ℕ)

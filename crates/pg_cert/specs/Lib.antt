@@ -1,9 +1,12 @@
 pub mod Bounds
 pub mod Entries
 pub mod Certificate
+pub mod ClaimSight
 pub mod Faults
 pub mod Laws
+pub mod Checked
 pub mod Worked
 pub mod Text
 pub mod WorkedTexts
 pub mod Reading
+pub mod Codes

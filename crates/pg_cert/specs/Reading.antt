@@ -1,10 +1,12 @@
 -- What a reader of a certificate's text finds in front of it.
-use Rattle.std.specs.Prelude.{◌≡◌, ℕ, ◌⊎◌, nat_eq, Bool, not, true, List, ◌++◌, slice_index}
+use Rattle.std.specs.Prelude.{◌≡◌, ℕ, ◌⊎◌, nat_eq, Bool, not, true, List, ◌∷◌, ◌++◌, codes, slice_index}
 use Rattle.std.specs.List.{AllByRecursion, list_all}
 use Rattle.pg_schema.specs.declared.parts.Parts.{Parts}
 use Rattle.pg_cert.specs.declared.bounds.PairBound.{PairBound}
+use Rattle.pg_cert.specs.declared.heading.Heading.{Heading}
 use Rattle.pg_cert.specs.Bounds.{are_bounds}
-use Rattle.pg_cert.specs.Text.{IsPairOf, lines_text, names_of}
+use Rattle.pg_cert.specs.Certificate.{Claim}
+use Rattle.pg_cert.specs.Text.{IsPairOf, Names, heading_text, last_text, lines_text, names_of}
 
 -- the byte isn't in the word
 abbrev pub lacks : ℕ → List ℕ → Bool
@@ -13,6 +15,13 @@ lacks byte word = list_all (λ b. not (nat_eq b byte)) word
 -- a space, or the end of a line
 abbrev pub IsBlank : ℕ → Type 0
 IsBlank byte = (byte ≡ 32) ⊎ (byte ≡ 10)
+
+-- the first lines of a text and the first word of the next, and what stands behind these
+abbrev pub front : Heading → List ℕ
+front heading = heading_text heading ++ codes "root "
+
+abbrev pub behind : Names → Names → Claim → List ℕ
+behind old new claim = old claim.root.old ++ 32 ∷ (new claim.root.new ++ 10 ∷ (lines_text old new claim.bounds ++ last_text claim.witness))
 
 -- the lines of these bounds of the schemas' pairs stand in front of what is left
 pub record IsRest (old new : Parts) (text : List ℕ) (bounds : List PairBound) (later : List ℕ) : Type 0 where

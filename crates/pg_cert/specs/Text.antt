@@ -5,8 +5,12 @@ use Rattle.hex.specs.Hex.{encode_lower}
 use Rattle.pg_schema.specs.declared.field.TypeId.{TypeId}
 use Rattle.pg_schema.specs.declared.parts.Parts.{Parts}
 use Rattle.pg_schema.specs.Parts.{name_at}
+use Rattle.pg_dyn.specs.declared.view_name.ViewName.{ViewName}
+use Rattle.pg_dyn.specs.declared.view_name.ViewName.TheVariants as views
 use Rattle.pg_pairs.specs.declared.choice.Pair.{Pair}
 use Rattle.pg_cert.specs.declared.bounds.PairBound.{PairBound}
+use Rattle.pg_cert.specs.declared.heading.Heading.{Heading}
+use Rattle.pg_cert.specs.declared.heading.Heading.TheVariants as headings
 use Rattle.pg_cert.specs.Bounds.{are_bounds}
 use Rattle.pg_cert.specs.Certificate.{Claim, AreBytes, is_witness}
 
@@ -41,8 +45,24 @@ root_words old new root = codes "root" ∷ old root.old ∷ new root.new ∷ []
 abbrev pub bound_words : Names → Names → PairBound → List (List ℕ)
 bound_words old new b = codes "pair" ∷ old b.pair.old ∷ new b.pair.new ∷ bound_word b.bound ∷ []
 
-abbrev pub header_words : List (List ℕ)
-header_words = codes "protogate-certificate" ∷ codes "1" ∷ []
+abbrev pub view_word : ViewName → List ℕ
+view_word views.Numbers = codes "numbers"
+view_word views.Names = codes "names"
+
+-- Of two versions the first means the view by numbers, and the second names its view in a line of its own.
+abbrev pub view_of : Heading → ViewName
+view_of headings.First = views.Numbers
+view_of (headings.Second view) = view
+
+abbrev pub version_words : List ℕ → List (List ℕ)
+version_words version = codes "protogate-certificate" ∷ version ∷ []
+
+abbrev pub heading_lines : Heading → List (List (List ℕ))
+heading_lines headings.First = version_words (codes "1") ∷ []
+heading_lines (headings.Second view) = version_words (codes "2") ∷ (codes "view" ∷ view_word view ∷ []) ∷ []
+
+abbrev pub heading_text : Heading → List ℕ
+heading_text heading = flat_map line_of (heading_lines heading)
 
 abbrev pub last_words : Option (List ℕ) → List (List (List ℕ))
 last_words witness = (codes "witness" ∷ witness_word witness ∷ []) ∷ (codes "end" ∷ []) ∷ []
@@ -54,13 +74,13 @@ lines_text old new bounds = flat_map (λ (b : PairBound). line_of (bound_words o
 abbrev pub last_text : Option (List ℕ) → List ℕ
 last_text witness = flat_map line_of (last_words witness)
 
--- the lines of a certificate
-abbrev pub lines_of : Names → Names → Claim → List (List (List ℕ))
-lines_of old new claim =
-    header_words ∷ root_words old new claim.root ∷ map (bound_words old new) claim.bounds ++ last_words claim.witness
+-- the lines of a certificate behind its heading
+abbrev pub claim_lines : Names → Names → Claim → List (List (List ℕ))
+claim_lines old new claim = root_words old new claim.root ∷ map (bound_words old new) claim.bounds ++ last_words claim.witness
 
-abbrev pub text_of : Names → Names → Claim → List ℕ
-text_of old new claim = flat_map line_of (lines_of old new claim)
+-- its text under a heading
+abbrev pub text_of : Heading → Names → Names → Claim → List ℕ
+text_of heading old new claim = flat_map line_of (heading_lines heading ++ claim_lines old new claim)
 
 -- both types of a pair, each behind a space
 abbrev pub pair_words : Names → Names → Pair → List ℕ
@@ -79,10 +99,20 @@ pub record IsClaimOf (old new : Parts) (claim : Claim) : Type 0 where
   pub root : IsPairOf old new claim.root
   pub bounds : AllByRecursion (λ (b : PairBound). IsPairOf old new b.pair) claim.bounds
 
--- the text is the one spelling of the claim, which is one of these schemas
-pub record Certifies (old new : Parts) (text : List ℕ) (claim : Claim) : Type 0 where
+-- a claim of these schemas that has texts: what stands in it is in range
+pub record HasTexts (old new : Parts) (claim : Claim) : Type 0 where
   pub of_schemas : IsClaimOf old new claim
   pub bounds : are_bounds claim.bounds ≡ true
   pub witness : is_witness claim.witness ≡ true
   pub bytes : AreBytes claim.witness
-  pub spelled : text ≡ text_of (names_of old) (names_of new) claim
+
+-- The text is the one spelling of the claim in its version: in version 1 only where the claim's view is that by numbers.
+pub record Certifies (old new : Parts) (text : List ℕ) (claim : Claim) : Type 0 where
+  pub has_texts : HasTexts old new claim
+  pub heading : Heading
+  pub viewed : view_of heading ≡ claim.view
+  pub spelled : text ≡ text_of heading (names_of old) (names_of new) claim
+
+-- the text is the claim's in version 2
+abbrev pub IsSecondText : Parts → Parts → List ℕ → Claim → Type 0
+IsSecondText old new text claim = text ≡ text_of (headings.Second claim.view) (names_of old) (names_of new) claim

@@ -4,6 +4,7 @@ use Rattle.pg_schema.specs.declared.field.Scalar.TheVariants.{Int32, Uint32}
 use Rattle.pg_schema.specs.declared.field.Element.TheVariants as elements
 use Rattle.pg_schema.specs.declared.field.Presence.TheVariants.{Implicit, Explicit, Repeated}
 use Rattle.pg_schema.specs.Shape.{Shape}
+use Rattle.pg_dyn.specs.declared.view_name.ViewName.TheVariants as views
 use Rattle.pg_dyn.specs.Examples.{first, second, field, scalar, of_fields, linked}
 use Rattle.pg_pairs.specs.declared.choice.Pair.{Pair}
 use Rattle.pg_pairs.specs.Sight.{by_numbers}
@@ -19,8 +20,12 @@ use Rattle.pg_cert.specs.Faults.{first_fault, WitnessFault}
 abbrev pub pair_bound : Pair → Option ℕ → PairBound
 pair_bound pair bound = record { pair = pair; bound = bound }
 
+-- a claim under the view by numbers, and the same under that by names
 abbrev pub claim : Pair → List PairBound → Option (List ℕ) → Claim
-claim root bounds witness = record { root = root; bounds = bounds; witness = witness }
+claim root bounds witness = record { view = views.Numbers; root = root; bounds = bounds; witness = witness }
+
+abbrev pub by_names : Claim → Claim
+by_names c = record c { view = views.Names }
 
 abbrev pub root : Pair
 root = both first
@@ -48,6 +53,10 @@ unchanged = claim root (pair_bound root None ∷ []) None
 
 abbrev pub to_unsigned : Option ℕ → Claim
 to_unsigned bound = claim root (pair_bound root bound ∷ []) (Some minus_one)
+
+-- the number 1
+abbrev pub one_renamed : Claim
+one_renamed = by_names (claim root (pair_bound root (Some 2) ∷ []) (Some (8 ∷ 1 ∷ [])))
 
 -- a message in a message: the number 2 ^ 31 as a uint32
 abbrev pub child_witness : List ℕ

@@ -6,13 +6,16 @@ ghost use Rattle.pg_cert.specs.Bounds.{are_bounds};
 ghost use Rattle.pg_cert.specs.Certificate.{AreBytes, is_witness};
 
 use crate::bounds::Bounds;
+use pg_dyn::ViewName;
 use pg_pairs::Pair;
 use std::marker::Model;
 
-/// What a gate hands out for a pair of root types: bounds of pairs, and where the root's bound is a
-/// number a breaking message of just so many bytes. Contracts see the parts.
+/// What a gate hands out for a pair of root types: the name of the view under which enums are
+/// compared, bounds of pairs, and where the root's bound is a number a breaking message of just so
+/// many bytes. Contracts see the parts.
 #[derive(Drop)]
 pub struct Certificate {
+    view: ViewName,
     root: Pair,
     bounds: Bounds,
     witness: Option<Vec<u8>>,
@@ -26,6 +29,7 @@ impl Model for Certificate {
     ghost Value = { Claim };
 
     ghost view = { λ c. record {
+      view = c.view;
       root = c.root;
       bounds = c.bounds;
       witness = option_map (λ bytes. bytes.items) c.witness;
@@ -47,12 +51,14 @@ impl Certificate {
     /// The certificate of these parts. A witness has at least one byte; without one, the bounds and
     /// the witness come back.
     pub fn new(
+        view: ViewName,
         root: Pair,
         bounds: Bounds,
         witness: Option<Vec<u8>>,
     ) -> Result<Certificate, (Bounds, Option<Vec<u8>>)>
         ensures claim { IfOk result (λ c. c
             ≡ record {
+              view = view;
               root = root;
               bounds = bounds;
               witness = option_map (λ bytes. bytes.items) witness;
@@ -69,10 +75,18 @@ impl Certificate {
             }
         }
         Ok(Certificate {
+            view,
             root,
             bounds,
             witness,
         })
+    }
+
+    /// The name of the view under which enums are compared.
+    pub fn view(&self) -> ViewName
+        ensures { result ≡ self.now.view }
+    {
+        self.view
     }
 
     /// The pair of root types.

@@ -3,11 +3,13 @@
 ghost use Rattle.std.specs.Prelude.{◌≡◌, ◌⊎◌, None, Some, MatchResult, IfErr, IfOk, OnOk, true};
 ghost use Rattle.pg_schema.specs.Parts.{shape_of};
 ghost use Rattle.pg_pairs.specs.Choices.{choices};
-ghost use Rattle.pg_pairs.specs.Sight.{by_numbers};
+ghost use Rattle.pg_pairs.specs.NamedSight.{sight_named};
 ghost use Rattle.pg_pairs.specs.SightBy.{sight_by};
 ghost use Rattle.pg_cert.specs.declared.error.CertError.TheVariants as errors;
 ghost use Rattle.pg_cert.specs.Bounds.{bound_in};
 ghost use Rattle.pg_cert.specs.Certificate.{Holds, bound_verdict, verdict_of};
+ghost use Rattle.pg_cert.specs.ClaimSight.{sight_in};
+ghost use Rattle.pg_cert.specs.Checked.{IsChecked};
 ghost use Rattle.pg_cert.specs.Faults.{IsFirstFault, cheaper_choice, first_fault, first_pair_fault, is_within, missing_child, pair_fault};
 ghost use Rattle.pg_cert.specs.Laws.{Says};
 
@@ -17,8 +19,9 @@ use crate::error::CertError;
 use crate::laws::{covers_without_fault, verdicts_are_true, witness_faults_are_real};
 use crate::verdict::Verdict;
 use crate::witness::check_witness;
-use pg_pairs::laws::{cheapest_is_least, numbers_are_alike};
-use pg_pairs::{Choice, Numbers, Pair, Table, View, cheapest, children, options, sees};
+use pg_dyn::ViewName;
+use pg_pairs::laws::{cheapest_is_least, sees, sees_by_name};
+use pg_pairs::{Choice, Names, Numbers, Pair, Table, View, cheapest, children, options};
 use pg_schema::Schema;
 use std::alloc::{AllocError, Global};
 
@@ -211,17 +214,8 @@ fn bound_verdict(bound: Option<Option<u32>>) -> Verdict
     }
 }
 
-/// Whether what the certificate claims holds under the view: its table covers its root, and its
-/// witness, where there is one, is what the old writer writes of a message without unknown records,
-/// has just as many bytes as the root's bound says, and breaks. With a witness it answers `Breaks`;
-/// without one `Compatible` where the root's bound is 'none', and else `AtLeast` that number.
-/// Messages are read at any depth.
-///
-/// The errors are, in this order, `RootMissing`; then pair by pair in the table's order
-/// `PairMissing` with the first child that the table lacks, and `BoundTooHigh` with the pair's
-/// first choice, by number, case and part, that costs less than the bound; then
-/// `WitnessNotWritten`, `WitnessLength` and `WitnessKeeps`; and `Memory` where memory was refused.
-pub fn check_with<V: View>(
+// Whether what the certificate claims holds under the view, which need not be its own.
+fn check_with<V: View>(
     alloc: Global,
     view: &V,
     old: &Schema,
@@ -260,11 +254,43 @@ pub fn check_with<V: View>(
     }
 }
 
+// The same by the name of the view.
+fn check_by_name<V: View>(
+    alloc: Global,
+    view: &V,
+    old: &Schema,
+    new: &Schema,
+    certificate: &Certificate,
+) -> Result<Verdict, CertError>
+    ensures { IsChecked (sight_named V.NAME old.now new.now) (shape_of old.now) (shape_of new.now)
+        certificate.now result }
+{
+    sees_by_name(view, old, new);
+    check_with(alloc, view, old, new, certificate)
+}
+
+// Whether what the certificate claims holds under the view of that name.
+fn check_under(
+    alloc: Global,
+    old: &Schema,
+    new: &Schema,
+    certificate: &Certificate,
+    view: ViewName,
+) -> Result<Verdict, CertError>
+    ensures { IsChecked (sight_named view old.now new.now) (shape_of old.now) (shape_of new.now)
+        certificate.now result }
+{
+    match view {
+        ViewName::Numbers => check_by_name(alloc, &Numbers, old, new, certificate),
+        ViewName::Names => check_by_name(alloc, &Names, old, new, certificate),
+    }
+}
+
 /// Whether what the certificate claims holds: its table covers its root, and its witness, where
 /// there is one, is what the old writer writes of a message without unknown records, has just as
 /// many bytes as the root's bound says, and breaks. With a witness it answers `Breaks`; without one
 /// `Compatible` where the root's bound is 'none', and else `AtLeast` that number. Messages are read
-/// at any depth. Enums are compared by their numbers alone, as `check_with` does by `Numbers`.
+/// at any depth. In all of it enums are compared by the view that the certificate names.
 ///
 /// The errors are, in this order, `RootMissing`; then pair by pair in the table's order
 /// `PairMissing` with the first child that the table lacks, and `BoundTooHigh` with the pair's
@@ -276,17 +302,17 @@ pub fn check(
     new: &Schema,
     certificate: &Certificate,
 ) -> Result<Verdict, CertError>
-    ensures holds { OnOk result (Holds by_numbers (shape_of old.now)
-        (shape_of new.now) certificate.now) }
+    ensures holds { OnOk result (Holds (sight_in old.now new.now certificate.now)
+        (shape_of old.now) (shape_of new.now) certificate.now) }
     ensures verdict { IfOk result (λ verdict. verdict ≡ verdict_of certificate.now) }
-    ensures says { IfOk result (λ verdict. Says by_numbers (shape_of old.now)
-        (shape_of new.now) certificate.now verdict) }
+    ensures says { IfOk result (λ verdict. Says (sight_in old.now new.now certificate.now)
+        (shape_of old.now) (shape_of new.now) certificate.now verdict) }
     ensures first_fault { IfErr result
-        (λ e. (e ≡ errors.Memory) ⊎ IsFirstFault by_numbers (shape_of old.now)
-        (shape_of new.now) certificate.now e) }
+        (λ e. (e ≡ errors.Memory) ⊎ IsFirstFault (sight_in old.now new.now certificate.now)
+        (shape_of old.now) (shape_of new.now) certificate.now e) }
     ensures refused { IfErr result (λ e. (e ≡ errors.Memory)
-        ⊎ ¬ (Holds by_numbers (shape_of old.now) (shape_of new.now) certificate.now)) }
+        ⊎ ¬ (Holds (sight_in old.now new.now certificate.now) (shape_of old.now)
+        (shape_of new.now) certificate.now)) }
 {
-    numbers_are_alike();
-    check_with(alloc, &Numbers, old, new, certificate)
+    check_under(alloc, old, new, certificate, certificate.view())
 }

@@ -1,3 +1,5 @@
+//! Errors of reading and checking certificates.
+
 use pg_pairs::Pair;
 use std::alloc::{AllocError, AllocFailed};
 use thiserror::Error;
@@ -29,6 +31,27 @@ pub enum CertError {
     /// E807: the witness doesn't break.
     #[error("The witness does not break.")]
     WitnessKeeps,
+}
+
+impl CertError {
+    ghost use Rattle.std.specs.Prelude.{◌≡◌};
+    ghost use Rattle.pg_cert.specs.Codes.{code_of};
+
+    /// The number behind the E by which users know the error.
+    pub fn code(self) -> u16
+        ensures { result ≡ code_of self }
+    {
+        match self {
+            CertError::Memory => 1,
+            CertError::BadText => 801,
+            CertError::RootMissing => 802,
+            CertError::PairMissing { .. } => 803,
+            CertError::BoundTooHigh { .. } => 804,
+            CertError::WitnessNotWritten => 805,
+            CertError::WitnessLength => 806,
+            CertError::WitnessKeeps => 807,
+        }
+    }
 }
 
 impl<T: Drop> From<AllocFailed<T>> for CertError {

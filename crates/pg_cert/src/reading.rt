@@ -5,19 +5,25 @@ ghost use Rattle.std.specs.List.{AllByRecursion};
 ghost use Rattle.std.specs.Option.{option_copied};
 ghost use Rattle.hex.specs.declared.error.FromHexError.TheVariants.{OutOfMemory};
 ghost use Rattle.pg_schema.specs.declared.field.TypeId.{TypeId};
+ghost use Rattle.pg_dyn.specs.declared.view_name.ViewName.{ViewName};
+ghost use Rattle.pg_dyn.specs.declared.view_name.ViewName.TheVariants as views;
 ghost use Rattle.pg_pairs.specs.declared.choice.Pair.{Pair};
 ghost use Rattle.pg_cert.specs.declared.bounds.PairBound.{PairBound};
 ghost use Rattle.pg_cert.specs.declared.error.CertError.TheVariants as errors;
+ghost use Rattle.pg_cert.specs.declared.heading.Heading.{Heading};
+ghost use Rattle.pg_cert.specs.declared.heading.Heading.TheVariants as headings;
 ghost use Rattle.pg_cert.specs.Bounds.{are_bounds, is_bound};
 ghost use Rattle.pg_cert.specs.Certificate.{AreBytes, Claim, is_witness};
-ghost use Rattle.pg_cert.specs.Reading.{IsBlank, IsRest, lacks};
+ghost use Rattle.pg_cert.specs.Reading.{IsBlank, IsRest, behind, front, lacks};
 ghost use Rattle.pg_cert.specs.Text as spec;
 
 use crate::bounds::{Bounds, BoundsError, PairBound};
 use crate::certificate::Certificate;
 use crate::error::CertError;
-use crate::writing::to_text;
+use crate::heading::Heading;
+use crate::writing::text_under;
 use hex::FromHexError;
+use pg_dyn::ViewName;
 use pg_pairs::Pair;
 use pg_schema::{Schema, TypeId};
 use std::alloc::Global;
@@ -230,12 +236,14 @@ fn table_of(alloc: Global, bounds: Vec<PairBound>) -> Result<Bounds, CertError>
 
 // The certificate of these parts.
 fn certificate_of(
+    view: ViewName,
     root: Pair,
     bounds: Bounds,
     witness: Option<Vec<u8>>,
 ) -> Result<Certificate, CertError>
     ensures claim { IfOk result (λ c. c
         ≡ record {
+          view = view;
           root = root;
           bounds = bounds;
           witness = option_map (λ bytes. bytes.items) witness;
@@ -243,33 +251,107 @@ fn certificate_of(
     ensures empty { IfErr result (λ _. is_witness (option_map (λ bytes. bytes.items) witness)
         ≡ false) }
 {
-    match Certificate::new(root, bounds, witness) {
+    match Certificate::new(view, root, bounds, witness) {
         Ok(certificate) => Ok(certificate),
         Err(_) => Err(CertError::BadText),
     }
 }
 
-// The parts of a certificate that the text spells, if it spells one.
-fn read(alloc: Global, old: &Schema, new: &Schema, text: &[u8]) -> Result<Certificate, CertError>
+// What stands behind the heading of version 2 that names the view by names.
+fn read_names(text: &[u8]) -> Option<(Heading, &[u8])>
+    ensures { (rest : List ℕ) → text.now ≡ front (headings.Second views.Names) ++ rest
+        → option_map {U = Heading × List ℕ} (λ parts. (parts.0, parts.1.now)) result
+        ≡ Some (headings.Second views.Names, rest) }
+{
+    match after(text, b"protogate-certificate 2\nview names\nroot ") {
+        Some(rest) => Some((Heading::Second(ViewName::Names), rest)),
+        None => None,
+    }
+}
+
+// The heading of version 2 in front, and what stands behind it.
+fn read_second(text: &[u8]) -> Option<(Heading, &[u8])>
+    ensures { (view : ViewName) (rest : List ℕ) → text.now ≡ front (headings.Second view) ++ rest
+        → option_map {U = Heading × List ℕ} (λ parts. (parts.0, parts.1.now)) result
+        ≡ Some (headings.Second view, rest) }
+{
+    match after(text, b"protogate-certificate 2\nview numbers\nroot ") {
+        Some(rest) => Some((Heading::Second(ViewName::Numbers), rest)),
+        None => read_names(text),
+    }
+}
+
+// The heading in front, and what stands behind it and the first word of the next line.
+fn read_heading(text: &[u8]) -> Option<(Heading, &[u8])>
+    ensures { (heading : Heading) (rest : List ℕ) → text.now ≡ front heading ++ rest
+        → option_map {U = Heading × List ℕ} (λ parts. (parts.0, parts.1.now)) result
+        ≡ Some (heading, rest) }
+{
+    match after(text, b"protogate-certificate 1\nroot ") {
+        Some(rest) => Some((Heading::First, rest)),
+        None => read_second(text),
+    }
+}
+
+// The certificate of the view whose lines stand behind the heading, if there is one.
+fn read_behind(
+    alloc: Global,
+    old: &Schema,
+    new: &Schema,
+    view: ViewName,
+    text: &[u8],
+) -> Result<Certificate, CertError>
     ensures of_schemas { IfOk result (λ c. spec.IsClaimOf old.now new.now c) }
-    ensures found { (claim : Claim) → spec.Certifies old.now new.now text.now claim
+    ensures viewed { IfOk result (λ c. c.view ≡ view) }
+    ensures found { (claim : Claim) → spec.HasTexts old.now new.now claim → claim.view ≡ view
+        → text.now ≡ behind (spec.names_of old.now) (spec.names_of new.now) claim
         → MatchResult result (λ c. c ≡ claim) (λ e. e ≡ errors.Memory) }
 {
-    let Some(words) = after(text, b"protogate-certificate 1\nroot ") else {
-        return Err(CertError::BadText);
-    };
-    let Some((root, lines)) = read_pair(old, new, words, b'\n') else {
+    let Some((root, lines)) = read_pair(old, new, text, b'\n') else {
         return Err(CertError::BadText);
     };
     let (bounds, last) = read_lines(alloc, old, new, lines)?;
     let witness = read_last(alloc, last)?;
     let bounds = table_of(alloc, bounds)?;
-    certificate_of(root, bounds, witness)
+    certificate_of(view, root, bounds, witness)
 }
 
-/// The certificate that the bytes spell, for two schemas (docs/CERTIFICATES.md). There is one at
-/// most, and one text for each certificate: what is read is written again and must be the same
-/// bytes.
+// The heading and the certificate that the text spells, if it spells one.
+fn read(
+    alloc: Global,
+    old: &Schema,
+    new: &Schema,
+    text: &[u8],
+) -> Result<(Heading, Certificate), CertError>
+    ensures of_schemas { IfOk result (λ found. spec.IsClaimOf old.now new.now found.1) }
+    ensures viewed { IfOk result (λ found. spec.view_of found.0 ≡ found.1.view) }
+    ensures found { (claim : Claim) (is : spec.Certifies old.now new.now text.now claim)
+        → MatchResult result (λ found. (found.0 ≡ is.heading) × (found.1 ≡ claim))
+        (λ e. e ≡ errors.Memory) }
+{
+    let Some((heading, words)) = read_heading(text) else {
+        return Err(CertError::BadText);
+    };
+    let view = heading.view();
+    let certificate = read_behind(alloc, old, new, view, words)?;
+    Ok((heading, certificate))
+}
+
+// Why a text is refused: memory was, or the text is no certificate's.
+fn text_fault(error: CertError) -> CertError
+    ensures { ((error ≡ errors.Memory) × (result ≡ errors.Memory))
+        ⊎ ((error ≡ errors.Memory → ⊥) × (result ≡ errors.BadText)) }
+{
+    match error {
+        CertError::Memory => CertError::Memory,
+        _ => CertError::BadText,
+    }
+}
+
+/// The certificate that the bytes spell, for two schemas, in version 1 or 2
+/// (docs/CERTIFICATES.md). Version 1 means the view by numbers. There is one at most, and one text
+/// for each certificate in each version: what is read is written again, in the same version, and
+/// must be the same bytes.
 ///
 /// Refused with `BadText` only where the bytes are no certificate's text for these schemas, and
 /// with `Memory` where memory was refused.
@@ -286,12 +368,11 @@ pub fn from_text(
         ⊎ ((e ≡ errors.BadText) × ((claim : Claim)
         → ¬ (spec.Certifies old.now new.now bytes.now claim)))) }
 {
-    let certificate = match read(alloc, old, new, bytes) {
-        Ok(certificate) => certificate,
-        Err(CertError::Memory) => return Err(CertError::Memory),
-        Err(_) => return Err(CertError::BadText),
+    let (heading, certificate) = match read(alloc, old, new, bytes) {
+        Ok(found) => found,
+        Err(error) => return Err(text_fault(error)),
     };
-    let again = to_text(alloc, old, new, &certificate)?;
+    let again = text_under(alloc, old, new, heading, &certificate)?;
     if again.as_bytes() == bytes {
         Ok(certificate)
     } else {

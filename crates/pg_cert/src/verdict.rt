@@ -1,3 +1,5 @@
+//! What the checker answers of a certificate that holds.
+
 /// What a certificate shows of its root pair.
 #[derive(Clone, Copy, Debug, PartialEq, Eq)]
 pub enum Verdict {

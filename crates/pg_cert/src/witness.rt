@@ -2,7 +2,6 @@
 
 ghost use Rattle.std.specs.Prelude.{◌≡◌, ◌⊎◌, ◌↔◌, ◌<◌, ◌≤◌, true, length, Some, MatchOption, MatchResult, IfOk, IsTrue};
 ghost use Rattle.pg_schema.specs.Parts.{shape_of};
-ghost use Rattle.pg_dyn.specs.Breaking.{Breaks};
 ghost use Rattle.pg_dyn.specs.Encoding.{cap, enc};
 ghost use Rattle.pg_dyn.specs.Fits.{Fits};
 ghost use Rattle.pg_dyn.specs.Kept.{message_of, type_of};
@@ -13,20 +12,24 @@ ghost use Rattle.pg_cert.specs.Faults.{IsReadBack, WitnessFault};
 
 use crate::error::CertError;
 use pg_dyn::laws::reads_again;
-use pg_dyn::{DynError, Message, decode_unlimited, encode};
-use pg_pairs::{Pair, View, breaks};
+use pg_dyn::{DynError, MessageRef, decode_ref_unlimited, encode_ref};
+use pg_pairs::{Pair, View, breaks_as_written};
 use pg_schema::Schema;
 use std::alloc::{AllocError, Global};
 
 // The encoding of a message that fits; `None` where it is too long.
-fn encoded(alloc: Global, old: &Schema, message: &Message) -> Result<Option<Vec<u8>>, AllocError>
+fn encoded(
+    alloc: Global,
+    old: &Schema,
+    message: &MessageRef<'_>,
+) -> Result<Option<Vec<u8>>, AllocError>
     requires { Fits (shape_of old.now) message.now }
     ensures { IfOk result (λ found. MatchOption found
         (cap < length (enc (shape_of old.now) (type_of message.now) (message_of message.now)))
         (λ bytes. (bytes.items ≡ enc (shape_of old.now) (type_of message.now)
         (message_of message.now)) × (length bytes.items ≤ cap))) }
 {
-    match encode(alloc, old, message) {
+    match encode_ref(alloc, old, message) {
         Ok(bytes) => Ok(Some(bytes)),
         Err(DynError::TooLong) => Ok(None),
         Err(DynError::Memory) => Err(AllocError),
@@ -37,12 +40,12 @@ fn encoded(alloc: Global, old: &Schema, message: &Message) -> Result<Option<Vec<
 
 // The message without unknown records that the old writer writes as those bytes, at any depth;
 // `None` where it writes none so.
-fn read_back(
+fn read_back<'a>(
     alloc: Global,
     old: &Schema,
     root: Pair,
-    bytes: &[u8],
-) -> Result<Option<Message>, AllocError>
+    bytes: &'a [u8],
+) -> Result<Option<MessageRef<'a>>, AllocError>
     requires { is_witness (Some bytes.now) ≡ true }
     ensures { IfOk result (λ found. IsReadBack (shape_of old.now) root bytes.now found) }
 {
@@ -52,8 +55,12 @@ fn read_back(
     if !old.has(root.old) {
         return Ok(None);
     }
-    let Some(message) = decode_unlimited(alloc, old, root.old, bytes)? else {
-        return Ok(None);
+    let message = match decode_ref_unlimited(alloc, old, root.old, bytes) {
+        Ok(message) => message,
+        Err(error) => match error {
+            DynError::Memory => return Err(AllocError),
+            _ => return Ok(None),
+        },
     };
     if !message.is_plain() {
         return Ok(None);
@@ -74,31 +81,6 @@ fn has_length(bound: Option<Option<u32>>, bytes: &[u8]) -> bool
     match bound {
         Some(Some(most)) => most as usize == bytes.len(),
         _ => false,
-    }
-}
-
-// Whether a message that has an encoding breaks.
-fn written_breaks<V: View>(
-    alloc: Global,
-    view: &V,
-    old: &Schema,
-    new: &Schema,
-    root: Pair,
-    message: &Message,
-) -> Result<bool, AllocError>
-    requires fits { Fits (shape_of old.now) message.now }
-    requires room { length (enc (shape_of old.now) (type_of message.now) (message_of message.now))
-        ≤ cap }
-    ensures { IfOk result (λ so. IsTrue so
-        ↔ ((type_of message.now ≡ root.old)
-        × Breaks (sight_by V.View view.now old.now new.now).alike (shape_of old.now)
-        (shape_of new.now) root.old root.new (message_of message.now))) }
-{
-    match breaks(alloc, view, old, new, root, message) {
-        Ok(so) => Ok(so),
-        Err(DynError::Memory) => Err(AllocError),
-        // What is too long has no encoding.
-        Err(_) => unreachable!(),
     }
 }
 
@@ -131,7 +113,8 @@ pub(crate) fn check_witness<V: View>(
     if !has_length(bound, bytes) {
         return Err(CertError::WitnessLength);
     }
-    if !written_breaks(alloc, view, old, new, root, &message)? {
+    // Its encoding is these bytes.
+    if !breaks_as_written(alloc, view, old, new, root, &message, bytes)? {
         return Err(CertError::WitnessKeeps);
     }
     Ok(())

@@ -1,15 +1,33 @@
 //! Certificates as texts.
 
-ghost use Rattle.std.specs.Prelude.{◌≡◌, ◌++◌, ◌∷◌, [], OnOk, IfOk, string_bytes};
+ghost use Rattle.std.specs.Prelude.{◌≡◌, ◌++◌, ◌∷◌, [], OnOk, IfOk, codes, string_bytes};
 ghost use Rattle.std.specs.Option.{option_copied};
 ghost use Rattle.pg_cert.specs.Text as spec;
 
 use crate::bounds::{Bounds, PairBound};
 use crate::certificate::Certificate;
+use crate::heading::Heading;
 use itoa::Buffer;
+use pg_dyn::ViewName;
 use pg_pairs::Pair;
 use pg_schema::{Schema, TypeId};
 use std::alloc::{AllocError, Global};
+
+// The lines of the heading, and the first word of the next.
+fn start_text(alloc: Global, heading: Heading) -> Result<String, AllocError>
+    ensures { IfOk result (λ text. string_bytes text
+        ≡ spec.heading_text heading ++ codes "root") }
+{
+    match heading {
+        Heading::First => String::from_str(alloc, "protogate-certificate 1\nroot"),
+        Heading::Second(ViewName::Numbers) => {
+            String::from_str(alloc, "protogate-certificate 2\nview numbers\nroot")
+        }
+        Heading::Second(ViewName::Names) => {
+            String::from_str(alloc, "protogate-certificate 2\nview names\nroot")
+        }
+    }
+}
 
 // A space and the full name of the type.
 fn push_name(text: &mut String, schema: &Schema, id: TypeId) -> Result<(), AllocError>
@@ -97,8 +115,31 @@ fn push_last(alloc: Global, text: &mut String, witness: Option<&[u8]>) -> Result
     text.push_str("\nend\n")
 }
 
-/// The text of the certificate, whose pairs are pairs of the two schemas' types
-/// (docs/CERTIFICATES.md).
+/// The text of the certificate under a heading of its view.
+pub(crate) fn text_under(
+    alloc: Global,
+    old: &Schema,
+    new: &Schema,
+    heading: Heading,
+    certificate: &Certificate,
+) -> Result<String, AllocError>
+    requires claim { spec.IsClaimOf old.now new.now certificate.now }
+    requires viewed { spec.view_of heading ≡ certificate.now.view }
+    ensures certifies { IfOk result (λ text. spec.Certifies old.now new.now
+        (string_bytes text) certificate.now) }
+    ensures spelled { IfOk result (λ text. string_bytes text ≡ spec.text_of heading
+        (spec.names_of old.now) (spec.names_of new.now) certificate.now) }
+{
+    let mut text = start_text(alloc, heading)?;
+    push_pair(&mut text, old, new, certificate.root())?;
+    text.push_str("\n")?;
+    push_lines(&mut text, old, new, certificate.bounds())?;
+    push_last(alloc, &mut text, certificate.witness())?;
+    Ok(text)
+}
+
+/// The text of the certificate in version 2, which names its view. Its pairs are pairs of the two
+/// schemas' types (docs/CERTIFICATES.md).
 ///
 /// Refused only where memory is.
 pub fn to_text(
@@ -108,13 +149,16 @@ pub fn to_text(
     certificate: &Certificate,
 ) -> Result<String, AllocError>
     requires { spec.IsClaimOf old.now new.now certificate.now }
-    ensures { IfOk result (λ text. spec.Certifies old.now new.now
+    ensures certifies { IfOk result (λ text. spec.Certifies old.now new.now
+        (string_bytes text) certificate.now) }
+    ensures second { IfOk result (λ text. spec.IsSecondText old.now new.now
         (string_bytes text) certificate.now) }
 {
-    let mut text = String::from_str(alloc, "protogate-certificate 1\nroot")?;
-    push_pair(&mut text, old, new, certificate.root())?;
-    text.push_str("\n")?;
-    push_lines(&mut text, old, new, certificate.bounds())?;
-    push_last(alloc, &mut text, certificate.witness())?;
-    Ok(text)
+    text_under(
+        alloc,
+        old,
+        new,
+        Heading::Second(certificate.view()),
+        certificate,
+    )
 }

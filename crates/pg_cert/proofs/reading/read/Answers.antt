@@ -1,55 +1,28 @@
-use Rattle.std.proofs.Common.{inl, inr, sym, ◌∙◌, ap, true≢false}
+use Rattle.std.proofs.Common.{◌≡◌, sym, ◌∙◌, ap}
 use Rattle.std.proofs.lemmas.Result.{err_from_is_err_and}
-use Rattle.pg_cert.specs.Bounds.{are_bounds}
-use Rattle.pg_cert.specs.Text.{names_of}
+use Rattle.pg_cert.specs.Text.{names_of, view_of}
 use Rattle.pg_cert.proofs.Cuts.{some_is, none_lost}
-use Rattle.pg_cert.proofs.WholeRead.{head-row, rest_of, made, made_of_schemas}
+use Rattle.pg_cert.proofs.WholeRead.{head-row}
 use Rattle.pg_cert.proofs.reading.read.Goals as goal
 
 pub returns-in_default-clause-found : goal.returns-in_default-clause-found
 returns-in_default-clause-found c =
-    λ claim is. none_lost _ c.after.result _ (c.after.ensures.found _ (is.spelled ∙ head-row (names_of c.args.old.now) (names_of c.args.new.now) claim)) c.in_default.is
+    λ claim is. none_lost _ c.read_heading.result _ (c.read_heading.ensures is.heading _ (is.spelled ∙ head-row is.heading (names_of c.args.old.now) (names_of c.args.new.now) claim)) c.in_default.is
 
-pub returns-in_err-bounds-clause-found : goal.returns-in_err-bounds-clause-found
-returns-in_err-bounds-clause-found c =
+pub returns-in_err-certificate-clause-found : goal.returns-in_err-certificate-clause-found
+returns-in_err-certificate-clause-found c =
     λ claim is.
-    let words = some_is _ c.after.result _ _ (c.after.ensures.found _ (is.spelled ∙ head-row (names_of c.args.old.now) (names_of c.args.new.now) claim)) c.in-Some.is in
-    let parts = some_is _ c.read_pair.result _ _ (c.read_pair.ensures.found claim.root _ is.of_schemas.root words) c.in-Some-read_pair.is in
-    let rest = rest_of c.args.old.now c.args.new.now c.args.text.now c.in-Some-read_pair.lines.now claim is (ap (λ p. p.1) parts) in
+    let parts = some_is _ c.read_heading.result _ _ (c.read_heading.ensures is.heading _ (is.spelled ∙ head-row is.heading (names_of c.args.old.now) (names_of c.args.new.now) claim)) c.in-Some.is in
+    let viewed : claim.view ≡ c.view-view.result = sym is.viewed ∙ ap view_of (sym (ap (λ p. p.0) parts)) ∙ sym c.view-view.ensures in
     let p = err_from_is_err_and c.from_residual.result c.from_residual.ensures.1 in
-    rw (p.1, p.2) (c.in_err-bounds.ensures.found claim.bounds _ rest)
+    rw (p.1, p.2) (c.in_err-certificate.ensures.found claim is.has_texts viewed (ap (λ p. p.1) parts))
 
-pub returns-in_err-witness-clause-found : goal.returns-in_err-witness-clause-found
-returns-in_err-witness-clause-found c =
-    λ claim is.
-    let words = some_is _ c.after.result _ _ (c.after.ensures.found _ (is.spelled ∙ head-row (names_of c.args.old.now) (names_of c.args.new.now) claim)) c.in-Some.is in
-    let parts = some_is _ c.read_pair.result _ _ (c.read_pair.ensures.found claim.root _ is.of_schemas.root words) c.in-Some-read_pair.is in
-    let rest = rest_of c.args.old.now c.args.new.now c.args.text.now c.in-Some-read_pair.lines.now claim is (ap (λ p. p.1) parts) in
-    let p = err_from_is_err_and c.from_residual-in_err-witness.result c.from_residual-in_err-witness.ensures.1 in
-    rw (p.1, p.2) (c.in_err-witness.ensures claim.witness is.bytes (c.in_ok-bounds.ensures.found claim.bounds _ rest).1)
-
-pub returns-in_err-bounds-2-clause-found : goal.returns-in_err-bounds-2-clause-found
-returns-in_err-bounds-2-clause-found c =
-    λ claim is.
-    let words = some_is _ c.after.result _ _ (c.after.ensures.found _ (is.spelled ∙ head-row (names_of c.args.old.now) (names_of c.args.new.now) claim)) c.in-Some.is in
-    let parts = some_is _ c.read_pair.result _ _ (c.read_pair.ensures.found claim.root _ is.of_schemas.root words) c.in-Some-read_pair.is in
-    let rest = rest_of c.args.old.now c.args.new.now c.args.text.now c.in-Some-read_pair.lines.now claim is (ap (λ p. p.1) parts) in
-    let p = err_from_is_err_and c.from_residual-in_err-bounds-2.result c.from_residual-in_err-bounds-2.ensures.1 in
-    rw (p.1, p.2)
-    (elim c.in_err-bounds-2.ensures.refused [
-      | inl memory ↦ memory
-      | inr wrong ↦ absurd (true≢false (sym is.bounds ∙ ap are_bounds (sym (c.in_ok-bounds.ensures.found claim.bounds _ rest).0) ∙ wrong))
-    ])
-
-pub returns-clause-of_schemas : goal.returns-clause-of_schemas
-returns-clause-of_schemas c =
-    made_of_schemas c.args.old.now c.args.new.now c.certificate_of.result c.in-Some-read_pair.root c.in_ok-bounds-2.bounds c.in_ok-bounds.bounds.items _ c.certificate_of.ensures.claim c.in-Some-read_pair.ensures.there c.in_ok-bounds.ensures.there c.in_ok-bounds-2.ensures.table
+pub returns-clause-viewed : goal.returns-clause-viewed
+returns-clause-viewed c = sym c.view-view.ensures ∙ sym c.in_ok-certificate.ensures.viewed
 
 pub returns-clause-found : goal.returns-clause-found
 returns-clause-found c =
     λ claim is.
-    let words = some_is _ c.after.result _ _ (c.after.ensures.found _ (is.spelled ∙ head-row (names_of c.args.old.now) (names_of c.args.new.now) claim)) c.in-Some.is in
-    let parts = some_is _ c.read_pair.result _ _ (c.read_pair.ensures.found claim.root _ is.of_schemas.root words) c.in-Some-read_pair.is in
-    let rest = rest_of c.args.old.now c.args.new.now c.args.text.now c.in-Some-read_pair.lines.now claim is (ap (λ p. p.1) parts) in
-    let found = c.in_ok-bounds.ensures.found claim.bounds _ rest in
-    made c.certificate_of.result c.in-Some-read_pair.root c.in_ok-bounds-2.bounds _ claim c.certificate_of.ensures.claim c.certificate_of.ensures.empty (ap (λ p. p.0) parts) (c.in_ok-bounds-2.ensures.table ∙ found.0) (c.in_ok-witness.ensures claim.witness is.bytes found.1) is.witness
+    let parts = some_is _ c.read_heading.result _ _ (c.read_heading.ensures is.heading _ (is.spelled ∙ head-row is.heading (names_of c.args.old.now) (names_of c.args.new.now) claim)) c.in-Some.is in
+    let viewed : claim.view ≡ c.view-view.result = sym is.viewed ∙ ap view_of (sym (ap (λ p. p.0) parts)) ∙ sym c.view-view.ensures in
+    (ap (λ p. p.0) parts, c.in_ok-certificate.ensures.found claim is.has_texts viewed (ap (λ p. p.1) parts))

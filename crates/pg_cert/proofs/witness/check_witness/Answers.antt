@@ -3,7 +3,7 @@ use Rattle.std.proofs.Common.{◌∙◌, inr, subst, sym, true≢false}
 use Rattle.pg_schema.specs.Parts.{shape_of}
 use Rattle.pg_pairs.specs.SightBy.{sight_by}
 use Rattle.pg_cert.specs.Faults.{IsReadBack}
-use Rattle.pg_cert.proofs.WitnessSteps.{keeps_of, witnessed_of, written_of}
+use Rattle.pg_cert.proofs.WitnessSteps.{keeps_of, own_within, own_written, witnessed_of, written_of}
 use Rattle.pg_cert.proofs.witness.check_witness.Goals as goal
 
 pub returns-then-not-has_length : goal.returns-then-not-has_length
@@ -14,11 +14,26 @@ returns-then-not-has_length g c =
       λ long. true≢false (sym (c.has_length.ensures.1 long) ∙ c.if-not-has_length.true),
     )
 
+pub breaks_as_written-requires-clause-fits : goal.breaks_as_written-requires-clause-fits
+breaks_as_written-requires-clause-fits g c =
+    let writing = subst (IsReadBack (shape_of c.args.old.now) c.args.root c.args.bytes.now) c.in-Some.is c.in_ok-message.ensures in
+    writing.fits
+
+pub breaks_as_written-requires-clause-written : goal.breaks_as_written-requires-clause-written
+breaks_as_written-requires-clause-written g c =
+    let writing = subst (IsReadBack (shape_of c.args.old.now) c.args.root c.args.bytes.now) c.in-Some.is c.in_ok-message.ensures in
+    own_written (shape_of c.args.old.now) c.args.root c.args.bytes.now c.in-Some.message writing
+
+pub breaks_as_written-requires-clause-within : goal.breaks_as_written-requires-clause-within
+breaks_as_written-requires-clause-within g c =
+    let writing = subst (IsReadBack (shape_of c.args.old.now) c.args.root c.args.bytes.now) c.in-Some.is c.in_ok-message.ensures in
+    own_within (shape_of c.args.old.now) c.args.root c.args.bytes.now c.in-Some.message writing
+
 pub returns-then-not-branch : goal.returns-then-not-branch
 returns-then-not-branch g c =
     let sight = sight_by g.V.View c.args.view.now c.args.old.now c.args.new.now in
     let writing = subst (IsReadBack (shape_of c.args.old.now) c.args.root c.args.bytes.now) c.in-Some.is c.in_ok-message.ensures in
-    let exact = c.in_ok-written_breaks.ensures in
+    let exact = c.in_ok-breaks_as_written.ensures in
     inr (
       written_of (shape_of c.args.old.now) c.args.root c.args.bytes.now c.in-Some.message writing,
       c.has_length.ensures.0 c.if-not-has_length.false,
@@ -30,5 +45,5 @@ pub returns : goal.returns
 returns g c =
     let sight = sight_by g.V.View c.args.view.now c.args.old.now c.args.new.now in
     let writing = subst (IsReadBack (shape_of c.args.old.now) c.args.root c.args.bytes.now) c.in-Some.is c.in_ok-message.ensures in
-    let exact = c.in_ok-written_breaks.ensures in
+    let exact = c.in_ok-breaks_as_written.ensures in
     witnessed_of (shape_of c.args.old.now) c.args.root c.args.bytes.now c.in-Some.message writing sight (shape_of c.args.new.now) c.args.bound (c.has_length.ensures.0 c.if-not-has_length.false) (exact.0 c.if-not-branch.false).1

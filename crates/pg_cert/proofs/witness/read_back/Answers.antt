@@ -8,5 +8,5 @@ returns-then-not-has c = no_type (shape_of c.args.old.now) c.args.root c.args.by
 
 pub returns-then-not-is_plain : goal.returns-then-not-is_plain
 returns-then-not-is_plain c =
-    not_plain (shape_of c.args.old.now) c.args.root c.args.bytes.now c.reads_again.ensures c.parts.ensures.checked.shape c.in-Some.message c.in_ok-message.field-0 c.in_ok-message.ensures.message c.in-Some.is
+    not_plain (shape_of c.args.old.now) c.args.root c.args.bytes.now c.reads_again.ensures c.parts.ensures.checked.shape c.in-Ok.message c.in-Ok.ensures.message
     (λ plain. true≢false (sym (c.is_plain.ensures.1 plain) ∙ c.if-not-is_plain.true))
