@@ -4,10 +4,12 @@
 
 ghost use Rattle.std.specs.Prelude.{◌≡◌, ◌<◌, true, is_some, length, IfOk};
 ghost use Rattle.pg_schema.specs.Parts.{shape_of};
+ghost use Rattle.pg_dyn.specs.declared.view_name.ViewName.TheVariants as views;
 ghost use Rattle.pg_pairs.specs.Edges.{edges};
 ghost use Rattle.pg_pairs.specs.Sight.{by_numbers};
 ghost use Rattle.pg_pairs.specs.SightBy.{sight_by};
 ghost use Rattle.pg_cert.specs.Bounds.{bound_in};
+ghost use Rattle.pg_cert.specs.ClaimSight.{sight_in};
 ghost use Rattle.pg_least.specs.Descent.{IsWay};
 ghost use Rattle.pg_least.specs.Exact.{IsBesideClaim, IsSearched};
 ghost use Rattle.pg_least.specs.Least.{IsCounted, IsSettled};
@@ -26,6 +28,7 @@ pub fn find(alloc: Global, old: &Schema, new: &Schema, root: Pair) -> Result<Fou
         (shape_of new.now) root found.certificate) }
     ensures witness { IfOk result (λ found. IsBesideClaim by_numbers (shape_of old.now)
         (shape_of new.now) found.certificate found.witness) }
+    ensures named { IfOk result (λ found. found.certificate.view ≡ views.Numbers) }
 {
     pg_least::find(alloc, old, new, root)
 }
@@ -46,6 +49,7 @@ pub fn find_with<V: View>(
     ensures witness { IfOk result (λ found.
         IsBesideClaim (sight_by V.View view.now old.now new.now)
         (shape_of old.now) (shape_of new.now) found.certificate found.witness) }
+    ensures named { IfOk result (λ found. found.certificate.view ≡ V.NAME) }
 {
     pg_least::find_with(alloc, view, old, new, root)
 }
@@ -60,8 +64,10 @@ pub fn search_with<V: View>(
 ) -> Result<Certificate, AllocError>
     requires old_type { root.old.index < length (shape_of old.now) }
     requires new_type { root.new.index < length (shape_of new.now) }
-    ensures { IfOk result (λ certificate. IsSearched (sight_by V.View view.now old.now new.now)
+    ensures searched { IfOk result (λ certificate.
+        IsSearched (sight_by V.View view.now old.now new.now)
         (shape_of old.now) (shape_of new.now) root certificate) }
+    ensures named { IfOk result (λ certificate. certificate.view ≡ V.NAME) }
 {
     pg_least::search_with(alloc, view, old, new, root)
 }
@@ -75,8 +81,9 @@ pub fn search(
 ) -> Result<Certificate, AllocError>
     requires old_type { root.old.index < length (shape_of old.now) }
     requires new_type { root.new.index < length (shape_of new.now) }
-    ensures { IfOk result (λ certificate. IsSearched by_numbers (shape_of old.now)
+    ensures searched { IfOk result (λ certificate. IsSearched by_numbers (shape_of old.now)
         (shape_of new.now) root certificate) }
+    ensures named { IfOk result (λ certificate. certificate.view ≡ views.Numbers) }
 {
     pg_least::search(alloc, old, new, root)
 }
@@ -92,6 +99,7 @@ pub fn search_counted(
     requires new_type { root.new.index < length (shape_of new.now) }
     ensures searched { IfOk result (λ found. IsSearched by_numbers (shape_of old.now)
         (shape_of new.now) root found.0) }
+    ensures named { IfOk result (λ found. found.0.view ≡ views.Numbers) }
     ensures counted { IfOk result (λ found.
         IsCounted (edges (shape_of old.now) (shape_of new.now)) found.0.bounds found.1) }
 {
@@ -106,11 +114,12 @@ pub fn way(
     new: &Schema,
     certificate: &Certificate,
 ) -> Result<Vec<Step>, AllocError>
-    requires searched { IsSearched by_numbers (shape_of old.now)
+    requires searched { IsSearched (sight_in old.now new.now certificate.now) (shape_of old.now)
         (shape_of new.now) certificate.now.root certificate.now }
     requires breaks { is_some certificate.now.witness ≡ true }
-    ensures { IfOk result (λ steps. IsWay by_numbers (shape_of old.now) (shape_of new.now)
-        (bound_in certificate.now.bounds) certificate.now.root steps.items) }
+    ensures { IfOk result (λ steps. IsWay (sight_in old.now new.now certificate.now)
+        (shape_of old.now) (shape_of new.now) (bound_in certificate.now.bounds) certificate.now.root
+        steps.items) }
 {
     pg_least::way(alloc, old, new, certificate)
 }

@@ -2,6 +2,7 @@
 use Rattle.std.proofs.Common.{◌≡◌, ℕ, ◌≤◌, ◌&&◌, List, [], ◌∷◌, flat_map, filter, find, length, Bool, true, false, not, nat_le, cond, is_some, option_map, Option, Some, None, refl, ap, sym, ◌∙◌, subst, arith}
 use Rattle.std.proofs.lemmas.Bool.{and_parts, leb-true, eq-eqb}
 use Rattle.pg_schema.specs.Shape.{Shape, IsShape}
+use Rattle.pg_dyn.specs.declared.view_name.ViewName.{ViewName}
 use Rattle.pg_dyn.specs.Encoding.{cap, enc}
 use Rattle.pg_dyn.specs.Kept.{Kept, message_of, type_of}
 use Rattle.pg_pairs.specs.declared.choice.Pair.{Pair}
@@ -47,7 +48,7 @@ pub never_empty : (bytes : List ℕ) → 1 ≤ length bytes → is_witness (Some
 never_empty [] some h = omega arith
 never_empty (byte ∷ bytes) some h = cc
 
-module _ (sight : Sight) (old new : Shape) (law : IsSight sight) (shape_old : IsShape old) (shape_new : IsShape new) (least : ExactIsLeast) (none : NoneIsCompatible) (root : Pair) (bounds : List PairBound) (table : IsTableOf sight old new root bounds) where
+module _ (sight : Sight) (old new : Shape) (law : IsSight sight) (shape_old : IsShape old) (shape_new : IsShape new) (least : ExactIsLeast) (none : NoneIsCompatible) (view : ViewName) (root : Pair) (bounds : List PairBound) (table : IsTableOf sight old new root bounds) where
   covers : Covers sight old new (bound_in bounds) root
   covers = record {
     root_there = first_there bounds root (filter (λ q. not (same_pair root q)) (distinct (flat_map (children old new) (pairs_of bounds)))) table.reached.in_order;
@@ -59,7 +60,7 @@ module _ (sight : Sight) (old new : Shape) (law : IsSight sight) (shape_old : Is
   says pair None is = none sight old new (bound_in bounds) root law shape_old shape_new covers pair is
 
   abbrev pub claim : Option (List ℕ) → Claim
-  claim witness = record { root = root; bounds = bounds; witness = witness }
+  claim witness = record { view = view; root = root; bounds = bounds; witness = witness }
 
   searched : (witness : Option (List ℕ)) → IsWitnessedIfThere sight old new root (bound_in bounds root) witness → is_some witness ≡ is_some (number_for (bound_in bounds) root) → IsSearched sight old new root (claim witness)
   searched witness witnessed where_it_breaks = record {

@@ -5,6 +5,7 @@ ghost use Rattle.pg_schema.specs.Parts.{shape_of};
 ghost use Rattle.pg_dyn.specs.Encoding.{cap, enc};
 ghost use Rattle.pg_dyn.specs.Fits.{Fits};
 ghost use Rattle.pg_dyn.specs.Kept.{message_of, type_of};
+ghost use Rattle.pg_dyn.specs.declared.view_name.ViewName.TheVariants as views;
 ghost use Rattle.pg_pairs.specs.Choices.{number_for};
 ghost use Rattle.pg_pairs.specs.Edges.{edges};
 ghost use Rattle.pg_pairs.specs.Sight.{by_numbers};
@@ -20,9 +21,9 @@ use pg_cert::{Bounds, Certificate};
 use pg_dyn::{DynError, Message, encode};
 use pg_pairs::laws::{
     exact_is_least, least_costs_are_exact, least_costs_by_edges, none_is_compatible,
-    numbers_are_alike,
+    numbers_are_alike, sees,
 };
-use pg_pairs::{Numbers, Pair, Priced, Table, View, Work, sees};
+use pg_pairs::{Numbers, Pair, Priced, Table, View, Work};
 use pg_schema::Schema;
 use std::alloc::{AllocError, Global};
 
@@ -68,6 +69,7 @@ fn broken<V: View>(
         IsBesideClaim (sight_by V.View view.now old.now new.now)
         (shape_of old.now) (shape_of new.now) found.certificate found.witness) }
     ensures bounds { IfOk result (λ found. found.certificate.bounds ≡ bounds) }
+    ensures named { IfOk result (λ found. found.certificate.view ≡ V.NAME) }
 {
     // What holds of every schema, every view and every table.
     old.parts();
@@ -78,7 +80,7 @@ fn broken<V: View>(
     bounds.len();
     let message = witness(alloc, view, old, new, &bounds, root)?;
     let bytes = written(alloc, old, &message)?;
-    match Certificate::new(root, bounds, Some(bytes)) {
+    match Certificate::new(V::NAME, root, bounds, Some(bytes)) {
         Ok(certificate) => Ok(Found {
             certificate,
             witness: Some(message),
@@ -98,6 +100,7 @@ fn unbroken<V: View>(view: &V, old: &Schema, new: &Schema, root: Pair, bounds: B
     ensures witness { IsBesideClaim (sight_by V.View view.now old.now new.now) (shape_of old.now)
         (shape_of new.now) result.certificate result.witness }
     ensures bounds { result.certificate.bounds ≡ bounds }
+    ensures named { result.certificate.view ≡ V.NAME }
 {
     // What holds of every schema and every view.
     old.parts();
@@ -105,7 +108,7 @@ fn unbroken<V: View>(view: &V, old: &Schema, new: &Schema, root: Pair, bounds: B
     sees(view, old, new);
     exact_is_least();
     none_is_compatible();
-    match Certificate::new(root, bounds, None) {
+    match Certificate::new(V::NAME, root, bounds, None) {
         Ok(certificate) => Found {
             certificate,
             witness: None,
@@ -133,6 +136,7 @@ fn certified<V: View>(
         IsBesideClaim (sight_by V.View view.now old.now new.now)
         (shape_of old.now) (shape_of new.now) found.certificate found.witness) }
     ensures bounds { IfOk result (λ found. found.certificate.bounds ≡ bounds) }
+    ensures named { IfOk result (λ found. found.certificate.view ≡ V.NAME) }
 {
     match bounds.bound(root) {
         Some(Some(_)) => broken(alloc, view, old, new, root, bounds),
@@ -180,6 +184,7 @@ fn found_counted<V: View>(
     ensures witness { IfOk result (λ found.
         IsBesideClaim (sight_by V.View view.now old.now new.now)
         (shape_of old.now) (shape_of new.now) found.0.certificate found.0.witness) }
+    ensures named { IfOk result (λ found. found.0.certificate.view ≡ V.NAME) }
     ensures counted { IfOk result (λ found.
         IsCounted (edges (shape_of old.now) (shape_of new.now)) found.0.certificate.bounds
         found.1) }
@@ -189,10 +194,10 @@ fn found_counted<V: View>(
     Ok((found, work))
 }
 
-/// The certificate of a pair of types under the view: the bounds of all pairs that it leads to,
-/// each the length of the shortest message of its pair that breaks, or 'none' where no message
-/// does; and where the pair's own bound is a number, a breaking message of just so many bytes. Both
-/// types of the pair have to be there.
+/// The certificate of a pair of types under the view, which it names: the bounds of all pairs that
+/// it leads to, each the length of the shortest message of its pair that breaks, or 'none' where no
+/// message does; and where the pair's own bound is a number, a breaking message of just so many
+/// bytes. Both types of the pair have to be there.
 ///
 /// Refused only where memory is.
 pub fn find_with<V: View>(
@@ -210,6 +215,7 @@ pub fn find_with<V: View>(
     ensures witness { IfOk result (λ found.
         IsBesideClaim (sight_by V.View view.now old.now new.now)
         (shape_of old.now) (shape_of new.now) found.certificate found.witness) }
+    ensures named { IfOk result (λ found. found.certificate.view ≡ V.NAME) }
 {
     let (found, _) = found_counted(alloc, view, old, new, root)?;
     Ok(found)
@@ -228,6 +234,7 @@ pub fn find(alloc: Global, old: &Schema, new: &Schema, root: Pair) -> Result<Fou
         (shape_of new.now) root found.certificate) }
     ensures witness { IfOk result (λ found. IsBesideClaim by_numbers (shape_of old.now)
         (shape_of new.now) found.certificate found.witness) }
+    ensures named { IfOk result (λ found. found.certificate.view ≡ views.Numbers) }
 {
     numbers_are_alike();
     find_with(alloc, &Numbers, old, new, root)
@@ -246,8 +253,10 @@ pub fn search_with<V: View>(
 ) -> Result<Certificate, AllocError>
     requires old_type { root.old.index < length (shape_of old.now) }
     requires new_type { root.new.index < length (shape_of new.now) }
-    ensures { IfOk result (λ certificate. IsSearched (sight_by V.View view.now old.now new.now)
+    ensures searched { IfOk result (λ certificate.
+        IsSearched (sight_by V.View view.now old.now new.now)
         (shape_of old.now) (shape_of new.now) root certificate) }
+    ensures named { IfOk result (λ certificate. certificate.view ≡ V.NAME) }
 {
     let found = find_with(alloc, view, old, new, root)?;
     Ok(found.certificate)
@@ -268,6 +277,7 @@ pub fn search_counted(
     requires new_type { root.new.index < length (shape_of new.now) }
     ensures searched { IfOk result (λ found. IsSearched by_numbers (shape_of old.now)
         (shape_of new.now) root found.0) }
+    ensures named { IfOk result (λ found. found.0.view ≡ views.Numbers) }
     ensures counted { IfOk result (λ found.
         IsCounted (edges (shape_of old.now) (shape_of new.now)) found.0.bounds found.1) }
 {
@@ -288,8 +298,9 @@ pub fn search(
 ) -> Result<Certificate, AllocError>
     requires old_type { root.old.index < length (shape_of old.now) }
     requires new_type { root.new.index < length (shape_of new.now) }
-    ensures { IfOk result (λ certificate. IsSearched by_numbers (shape_of old.now)
+    ensures searched { IfOk result (λ certificate. IsSearched by_numbers (shape_of old.now)
         (shape_of new.now) root certificate) }
+    ensures named { IfOk result (λ certificate. certificate.view ≡ views.Numbers) }
 {
     let (certificate, _) = search_counted(alloc, old, new, root)?;
     Ok(certificate)

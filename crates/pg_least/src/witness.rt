@@ -7,16 +7,17 @@ ghost use Rattle.pg_dyn.specs.Kept.{message_of, type_of};
 ghost use Rattle.pg_pairs.specs.Carried.{IsChoiceRound};
 ghost use Rattle.pg_pairs.specs.Choices.{Table, number_for};
 ghost use Rattle.pg_pairs.specs.Laws.{ReachedBy};
-ghost use Rattle.pg_pairs.specs.Sight.{by_numbers};
+ghost use Rattle.pg_pairs.specs.NamedSight.{sight_named};
 ghost use Rattle.pg_pairs.specs.SightBy.{sight_by};
 ghost use Rattle.pg_cert.specs.Bounds.{bound_in};
+ghost use Rattle.pg_cert.specs.ClaimSight.{sight_in};
 ghost use Rattle.pg_least.specs.Descent.{IsExactTable, IsStep, IsWay, IsWholeWay, first_step};
 ghost use Rattle.pg_least.specs.Exact.{IsSearched};
 
 use pg_cert::{Bounds, Certificate};
-use pg_dyn::Message;
-use pg_pairs::laws::{cheapest_is_least, each_child_costs_less, numbers_are_alike};
-use pg_pairs::{Choice, Numbers, Pair, View, carry, cheapest, choice_child, sees};
+use pg_dyn::{Message, ViewName};
+use pg_pairs::laws::{cheapest_is_least, each_child_costs_less, sees, sees_by_name};
+use pg_pairs::{Choice, Names, Numbers, Pair, View, carry, cheapest, choice_child};
 use pg_schema::Schema;
 use std::alloc::{AllocError, Global};
 
@@ -177,10 +178,50 @@ fn way_with<V: View>(
     Ok(steps)
 }
 
+// The same by the name of the view.
+fn way_by_name<V: View>(
+    alloc: Global,
+    view: &V,
+    old: &Schema,
+    new: &Schema,
+    certificate: &Certificate,
+) -> Result<Vec<Step>, AllocError>
+    requires searched { IsSearched (sight_named V.NAME old.now new.now) (shape_of old.now)
+        (shape_of new.now) certificate.now.root certificate.now }
+    requires breaks { is_some certificate.now.witness ≡ true }
+    ensures { IfOk result (λ steps. IsWay (sight_named V.NAME old.now new.now)
+        (shape_of old.now) (shape_of new.now) (bound_in certificate.now.bounds) certificate.now.root
+        steps.items) }
+{
+    sees_by_name(view, old, new);
+    way_with(alloc, view, old, new, certificate)
+}
+
+// The way of the witness of a certificate that a search under the view of that name answers.
+fn way_under(
+    alloc: Global,
+    old: &Schema,
+    new: &Schema,
+    certificate: &Certificate,
+    view: ViewName,
+) -> Result<Vec<Step>, AllocError>
+    requires searched { IsSearched (sight_named view old.now new.now) (shape_of old.now)
+        (shape_of new.now) certificate.now.root certificate.now }
+    requires breaks { is_some certificate.now.witness ≡ true }
+    ensures { IfOk result (λ steps. IsWay (sight_named view old.now new.now)
+        (shape_of old.now) (shape_of new.now) (bound_in certificate.now.bounds) certificate.now.root
+        steps.items) }
+{
+    match view {
+        ViewName::Numbers => way_by_name(alloc, &Numbers, old, new, certificate),
+        ViewName::Names => way_by_name(alloc, &Names, old, new, certificate),
+    }
+}
+
 /// The way of the witness of a certificate that a search answers: from the root by the cheapest
 /// choice of each pair to the pair of the message that the choice holds, as long as it holds one.
-/// The certificate has to be one that `find` or `search` answered for these two schemas, with a
-/// witness.
+/// The certificate has to be one that a search under the view that it names answered for these two
+/// schemas, with a witness.
 ///
 /// Refused only where memory is.
 pub fn way(
@@ -189,12 +230,12 @@ pub fn way(
     new: &Schema,
     certificate: &Certificate,
 ) -> Result<Vec<Step>, AllocError>
-    requires searched { IsSearched by_numbers (shape_of old.now)
+    requires searched { IsSearched (sight_in old.now new.now certificate.now) (shape_of old.now)
         (shape_of new.now) certificate.now.root certificate.now }
     requires breaks { is_some certificate.now.witness ≡ true }
-    ensures { IfOk result (λ steps. IsWay by_numbers (shape_of old.now) (shape_of new.now)
-        (bound_in certificate.now.bounds) certificate.now.root steps.items) }
+    ensures { IfOk result (λ steps. IsWay (sight_in old.now new.now certificate.now)
+        (shape_of old.now) (shape_of new.now) (bound_in certificate.now.bounds) certificate.now.root
+        steps.items) }
 {
-    numbers_are_alike();
-    way_with(alloc, &Numbers, old, new, certificate)
+    way_under(alloc, old, new, certificate, certificate.view())
 }

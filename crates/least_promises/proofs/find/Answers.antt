@@ -6,3 +6,6 @@ returns-clause-searched c = search rules
 
 pub returns-clause-witness : goal.returns-clause-witness
 returns-clause-witness c = search rules
+
+pub returns-clause-named : goal.returns-clause-named
+returns-clause-named c = search rules

@@ -6,3 +6,6 @@ returns-clause-searched g c = search rules
 
 pub returns-clause-witness : goal.returns-clause-witness
 returns-clause-witness g c = search rules
+
+pub returns-clause-named : goal.returns-clause-named
+returns-clause-named g c = search rules

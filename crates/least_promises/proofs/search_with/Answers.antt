@@ -1,5 +1,8 @@
 use Rattle.std.proofs.Common.{rules}
 use Rattle.least_promises.proofs.search_with.Goals as goal
 
-pub returns : goal.returns
-returns g c = search rules
+pub returns-clause-searched : goal.returns-clause-searched
+returns-clause-searched g c = search rules
+
+pub returns-clause-named : goal.returns-clause-named
+returns-clause-named g c = search rules

@@ -14,7 +14,7 @@ unreachable-requires g c =
     let new = shape_of c.args.new.now in
     let (n, number) = number_there (bound_in c.args.bounds) c.args.root c.requires.number in
     let long =
-    bytes_length sight old new c.sees.ensures c.parts.ensures.checked.shape c.parts-2.ensures.checked.shape c.exact_is_least.ensures c.none_is_compatible.ensures c.args.root c.args.bounds c.requires.table
+    bytes_length sight old new c.sees.ensures c.parts.ensures.checked.shape c.parts-2.ensures.checked.shape c.exact_is_least.ensures c.none_is_compatible.ensures g.V.View.NAME c.args.root c.args.bounds c.requires.table
     c.in_ok-message.message c.in_ok-message.ensures.type_is n number (c.in_ok-message.ensures.reached n number) c.in_ok-bytes.bytes.items c.in_ok-bytes.ensures in
     never_empty c.in_ok-bytes.bytes.items (subst (λ k. 1 ≤ k) (sym long) (one_at_least c.args.bounds c.args.root n c.len.ensures.checked number)) c.in-Err.ensures.empty
 
@@ -25,5 +25,5 @@ returns-clause-searched g c =
     let new = shape_of c.args.new.now in
     let (n, number) = number_there (bound_in c.args.bounds) c.args.root c.requires.number in
     subst (IsSearched sight old new c.args.root) (sym c.in-Ok.ensures.claim)
-    (searched_some sight old new c.sees.ensures c.parts.ensures.checked.shape c.parts-2.ensures.checked.shape c.exact_is_least.ensures c.none_is_compatible.ensures c.args.root c.args.bounds c.requires.table
+    (searched_some sight old new c.sees.ensures c.parts.ensures.checked.shape c.parts-2.ensures.checked.shape c.exact_is_least.ensures c.none_is_compatible.ensures _ c.args.root c.args.bounds c.requires.table
     c.in_ok-message.message c.in_ok-message.ensures.type_is n number (c.in_ok-message.ensures.reached n number) c.in_ok-bytes.bytes.items c.in_ok-bytes.ensures)

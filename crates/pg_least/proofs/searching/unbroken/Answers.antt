@@ -11,4 +11,4 @@ returns-clause-searched g c =
     let old = shape_of c.args.old.now in
     let new = shape_of c.args.new.now in
     subst (IsSearched sight old new c.args.root) (sym c.in-Ok.ensures.claim)
-    (searched_none sight old new c.sees.ensures c.parts.ensures.checked.shape c.parts-2.ensures.checked.shape c.exact_is_least.ensures c.none_is_compatible.ensures c.args.root c.args.bounds c.requires.table c.requires.none)
+    (searched_none sight old new c.sees.ensures c.parts.ensures.checked.shape c.parts-2.ensures.checked.shape c.exact_is_least.ensures c.none_is_compatible.ensures _ c.args.root c.args.bounds c.requires.table c.requires.none)

@@ -1,15 +1,18 @@
+-- The certificate's view is the one of its name.
 use Rattle.std.proofs.Common.{IfOk, subst, sym}
 use Rattle.pg_schema.specs.Parts.{shape_of}
+use Rattle.pg_dyn.specs.declared.view_name.ViewName.{ViewName}
+use Rattle.pg_pairs.specs.NamedSight.{sight_named}
 use Rattle.pg_cert.specs.Bounds.{bound_in}
 use Rattle.pg_least.specs.Descent.{IsWay}
 use Rattle.pg_least.specs.Exact.{IsSearched}
 use Rattle.pg_least.proofs.witness.way.Goals as goal
 
-pub way_with-requires-clause-searched : goal.way_with-requires-clause-searched
-way_with-requires-clause-searched c =
-    subst (λ sight. IsSearched sight (shape_of c.args.old.now) (shape_of c.args.new.now) c.args.certificate.now.root c.args.certificate.now) (sym (c.numbers_are_alike.ensures c.args.old.now c.args.new.now)) c.requires.searched
+pub way_under-requires-clause-searched : goal.way_under-requires-clause-searched
+way_under-requires-clause-searched c =
+    subst (λ (view : ViewName). IsSearched (sight_named view c.args.old.now c.args.new.now) (shape_of c.args.old.now) (shape_of c.args.new.now) c.args.certificate.now.root c.args.certificate.now) (sym c.view.ensures) c.requires.searched
 
 pub returns : goal.returns
 returns c =
-    subst (λ sight. IfOk c.way_with.result (λ steps. IsWay sight (shape_of c.args.old.now) (shape_of c.args.new.now) (bound_in c.args.certificate.now.bounds) c.args.certificate.now.root steps.items))
-    (c.numbers_are_alike.ensures c.args.old.now c.args.new.now) c.way_with.ensures
+    subst (λ (view : ViewName). IfOk c.way_under.result (λ steps. IsWay (sight_named view c.args.old.now c.args.new.now) (shape_of c.args.old.now) (shape_of c.args.new.now) (bound_in c.args.certificate.now.bounds) c.args.certificate.now.root steps.items))
+    c.view.ensures c.way_under.ensures
