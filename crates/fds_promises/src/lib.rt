@@ -17,7 +17,7 @@ ghost use Rattle.pg_fds.specs.Written.{HasNoSet};
 use memchr::memmem;
 use pg_fds::FdsError;
 use pg_schema::Schema;
-use std::alloc::{AllocError, Global};
+use std::alloc::{AllocError, AllocFailed, Global};
 
 /// The first place where the part stands, or the start. Only edits ask for it.
 pub fn place_of(bytes: &[u8], part: &[u8]) -> usize {
@@ -59,4 +59,18 @@ pub fn write_refused(alloc: Global, too_long: &Schema) -> Result<Vec<u8>, FdsErr
         ⊎ ((e ≡ errors.Bytes faults.TooLong) × HasNoSet too_long.now)) }
 {
     pg_fds::write(alloc, too_long)
+}
+
+/// What `FdsError::from` answers of a refused growth.
+pub fn error_of(error: AllocError) -> FdsError
+    ensures { result ≡ errors.Memory }
+{
+    FdsError::from(error)
+}
+
+/// What `FdsError::from` answers of a refused growth that hands back a value.
+pub fn error_of_failed<T: Drop>(failed: AllocFailed<T>) -> FdsError
+    ensures { result ≡ errors.Memory }
+{
+    FdsError::from(failed)
 }

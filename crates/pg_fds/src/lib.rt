@@ -15,7 +15,7 @@ mod fields;
 mod file_states;
 mod files;
 mod in_order;
-mod laws;
+pub mod laws;
 mod made_fields;
 mod made_files;
 mod made_maps;
@@ -45,8 +45,5 @@ mod writing;
 pub use again::read_again;
 pub use descriptor::descriptor_schema;
 pub use error::FdsError;
-pub use laws::{
-    descriptor_rules, texts_are_read_again, worked_pieces, worked_places, worked_reads, worked_sets,
-};
 pub use reading::read;
 pub use writing::write;

@@ -21,7 +21,7 @@ use crate::proto;
 use pg_dyn::laws::{encoding_spells, reads_again, writing_splits};
 use pg_dyn::{DynError, Message, encode};
 use pg_schema::{File, Parts, Schema};
-use pg_wire::lengths_grow;
+use pg_wire::laws::lengths_grow;
 use std::alloc::{AllocError, Global};
 
 // What an int32 counts.

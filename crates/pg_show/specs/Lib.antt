@@ -3,3 +3,4 @@ pub mod Lines
 pub mod Shown
 pub mod Contents
 pub mod Worked
+pub mod Codes

@@ -1,5 +1,5 @@
 -- Worked examples: small types, bytes, and the text by which they are shown; and hexadecimal words.
-use Rattle.std.specs.Prelude.{◌≡◌, ℕ, ◌-◌, List, [], ◌∷◌, ◌++◌, flat_map, get_or, codes, true, Option, Some, None}
+use Rattle.std.specs.Prelude.{◌≡◌, ℕ, ◌-◌, List, [], ◌∷◌, ◌++◌, flat_map, get_or, codes, true, Some, None}
 use Rattle.pg_schema.specs.declared.field.Element.TheVariants as elements
 use Rattle.pg_schema.specs.declared.field.Presence.TheVariants.{Implicit, Explicit, Repeated, Map}
 use Rattle.pg_schema.specs.declared.field.Scalar.TheVariants.{Int32}

@@ -6,12 +6,12 @@ ghost use Rattle.std.specs.Option.{option_copied};
 ghost use Rattle.hex.specs.Hex.{encode_lower};
 ghost use Rattle.pg_dyn.specs.Content.{leaf_bytes};
 ghost use Rattle.pg_dyn.specs.Encoding.{element_type};
-ghost use Rattle.pg_dyn.specs.Seen.{leaf_of};
+ghost use Rattle.pg_dyn.specs.Borrowed.{leaf_of};
 ghost use Rattle.pg_show.specs.Lines as spec;
 
 use crate::hex_word::push_hex;
 use itoa::Buffer;
-use pg_dyn::Value;
+use pg_dyn::ValueRef;
 use pg_schema::{Element, Scalar, TypeId};
 use std::alloc::{AllocError, Global};
 
@@ -36,12 +36,12 @@ fn kind(element: Element) -> &'static str
 }
 
 // The bytes of a text, or bytes; of another item none.
-fn bytes_of(value: &Value) -> &[u8]
+fn bytes_of<'b>(value: &'b ValueRef<'_>) -> &'b [u8]
     ensures { result.now ≡ leaf_bytes (leaf_of value.now) }
 {
     match value {
-        Value::Text(text) => text.as_bytes(),
-        Value::Bytes(bytes) => bytes.as_slice(),
+        ValueRef::Text(text) => text.as_bytes(),
+        ValueRef::Bytes(bytes) => bytes,
         _ => &[],
     }
 }
@@ -67,25 +67,25 @@ pub(crate) fn push_item(
     alloc: Global,
     text: &mut String,
     element: Element,
-    value: &Value,
+    value: &ValueRef<'_>,
 ) -> Result<(), AllocError>
     ensures { OnOk result (string_bytes text.new
         ≡ string_bytes text.old ++ spec.item element (leaf_of value.now)) }
 {
     match value {
-        Value::Int(number) => {
+        ValueRef::Int(number) => {
             text.push_str("int ")?;
             push_int(text, *number)
         }
-        Value::F32(single) => {
+        ValueRef::F32(single) => {
             text.push_str("f32 ")?;
             push_digits(alloc, text, &single.to_be_bytes())
         }
-        Value::F64(double) => {
+        ValueRef::F64(double) => {
             text.push_str("f64 ")?;
             push_digits(alloc, text, &double.to_be_bytes())
         }
-        Value::Text(_) | Value::Bytes(_) | Value::Msg(_) => {
+        ValueRef::Text(_) | ValueRef::Bytes(_) | ValueRef::Msg(_) => {
             text.push_str(kind(element))?;
             push_hex(alloc, text, bytes_of(value))
         }
@@ -96,7 +96,7 @@ pub(crate) fn push_item(
 pub(crate) fn push_key(
     alloc: Global,
     text: &mut String,
-    key: Option<&Value>,
+    key: Option<&ValueRef<'_>>,
 ) -> Result<(), AllocError>
     ensures { OnOk result (string_bytes text.new
         ≡ string_bytes text.old ++ spec.key_words (option_map leaf_of (option_copied key.entry))) }

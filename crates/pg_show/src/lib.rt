@@ -4,11 +4,10 @@
 mod error;
 mod hex_word;
 mod item;
-mod laws;
+pub mod laws;
 mod lines;
 mod showing;
 
 pub use error::HexError;
 pub use hex_word::bytes_of_hex;
-pub use laws::{words_read_again, worked_rows};
 pub use showing::show;

@@ -2,7 +2,7 @@
 
 ghost use Rattle.std.specs.Prelude.{◌≡◌, ◌++◌, flat_map, IfOk, OnOk, None, option_map, string_bytes};
 ghost use Rattle.std.specs.Option.{option_copied};
-ghost use Rattle.pg_dyn.specs.Seen.{leaf_of};
+ghost use Rattle.pg_dyn.specs.Borrowed.{leaf_of};
 ghost use Rattle.pg_schema.specs.Parts.{shape_of};
 ghost use Rattle.pg_schema.specs.Shape.{fields};
 ghost use Rattle.pg_show.specs.Lines.{element_of, front, inner};
@@ -12,8 +12,9 @@ ghost use Rattle.pg_show.specs.Shown.{names_of};
 use crate::hex_word::push_hex;
 use crate::item::{push_item, push_key, type_of};
 use itoa::Buffer;
-use pg_dyn::{Content, Message, UnknownRecord, Value};
+use pg_dyn::{ContentRef, EntryRef, MessageRef, ValueRef};
 use pg_schema::{Element, Scalar, Schema, TypeId};
+use pg_wire::Record;
 use std::alloc::{AllocError, Global};
 
 /// By which type a message is shown, and how far in its lines stand.
@@ -66,7 +67,11 @@ fn further_in(alloc: Global, indent: &str) -> Result<String, AllocError>
 }
 
 // Adds the front of a line, up to the item.
-fn push_front(text: &mut String, row: &Row<'_>, key: Option<&Value>) -> Result<(), AllocError>
+fn push_front(
+    text: &mut String,
+    row: &Row<'_>,
+    key: Option<&ValueRef<'_>>,
+) -> Result<(), AllocError>
     ensures { OnOk result (string_bytes text.new
         ≡ string_bytes text.old ++ front row.now.indent.now row.now.number row.now.name.now
         (option_map leaf_of (option_copied key.entry))) }
@@ -85,7 +90,7 @@ fn push_unknown(
     alloc: Global,
     text: &mut String,
     indent: &str,
-    unknown: &[UnknownRecord],
+    unknown: &[Record<'_>],
 ) -> Result<(), AllocError>
     ensures { OnOk result (string_bytes text.new
         ≡ string_bytes text.old ++ flat_map (record_line indent.now) unknown.now) }
@@ -93,7 +98,7 @@ fn push_unknown(
     for found in unknown {
         text.push_str(indent)?;
         text.push_str("unknown ")?;
-        push_hex(alloc, text, &found.bytes)?;
+        push_hex(alloc, text, found.bytes)?;
         text.push_str("\n")?;
     }
     Ok(())
@@ -104,8 +109,8 @@ fn push_unknown(
 fn push_value(
     text: &mut String,
     row: &Row<'_>,
-    key: Option<&Value>,
-    value: &Value,
+    key: Option<&ValueRef<'_>>,
+    value: &ValueRef<'_>,
 ) -> Result<(), AllocError>
     ensures { OnOk result (string_bytes text.new
         ≡ string_bytes text.old ++ value_lines row.now.schema.now row.now.indent.now row.now.number
@@ -113,7 +118,7 @@ fn push_value(
 {
     push_front(text, row, key)?;
     match value {
-        Value::Msg(child) => {
+        ValueRef::Msg(child) => {
             text.push_str("msg\n")?;
             let further = further_in(row.alloc, row.indent)?;
             let level = Level {
@@ -133,7 +138,7 @@ fn push_value(
 
 // Adds the lines of the items of a list.
 #[cycle(lines)]
-fn push_list(text: &mut String, row: &Row<'_>, values: &[Value]) -> Result<(), AllocError>
+fn push_list(text: &mut String, row: &Row<'_>, values: &[ValueRef<'_>]) -> Result<(), AllocError>
     ensures { OnOk result (string_bytes text.new
         ≡ string_bytes text.old ++ flat_map
         (value_lines row.now.schema.now row.now.indent.now row.now.number row.now.name.now
@@ -150,15 +155,15 @@ fn push_list(text: &mut String, row: &Row<'_>, values: &[Value]) -> Result<(), A
 fn push_entries(
     text: &mut String,
     row: &Row<'_>,
-    entries: &[(Value, Value)],
+    entries: &[EntryRef<'_>],
 ) -> Result<(), AllocError>
     ensures { OnOk result (string_bytes text.new
         ≡ string_bytes text.old ++ flat_map
         (entry_lines row.now.schema.now row.now.indent.now row.now.number row.now.name.now
         row.now.element) entries.now) }
 {
-    for (key, value) in entries {
-        push_value(text, row, Some(key), value)?;
+    for entry in entries {
+        push_value(text, row, Some(&entry.key), &entry.value)?;
     }
     Ok(())
 }
@@ -169,7 +174,7 @@ fn push_content(
     text: &mut String,
     level: &Level<'_>,
     number: u32,
-    content: &Content,
+    content: &ContentRef<'_>,
 ) -> Result<(), AllocError>
     ensures { OnOk result (string_bytes text.new
         ≡ string_bytes text.old ++ content_lines level.now.schema.now level.now.type_id
@@ -184,9 +189,9 @@ fn push_content(
         element: element_of(level.schema, level.type_id, number),
     };
     match content {
-        Content::One(value) => push_value(text, &row, None, value),
-        Content::Many(values) => push_list(text, &row, values),
-        Content::Map(entries) => push_entries(text, &row, entries),
+        ContentRef::One(value) => push_value(text, &row, None, value),
+        ContentRef::Many(values) => push_list(text, &row, values),
+        ContentRef::Map(entries) => push_entries(text, &row, entries),
     }
 }
 
@@ -196,7 +201,7 @@ fn push_content(
 pub(crate) fn push_message(
     text: &mut String,
     level: &Level<'_>,
-    message: &Message,
+    message: &MessageRef<'_>,
 ) -> Result<(), AllocError>
     ensures { OnOk result (string_bytes text.new
         ≡ string_bytes text.old ++ message_lines level.now.schema.now level.now.type_id

@@ -8,7 +8,7 @@ ghost use Rattle.pg_show.specs.Shown.{Refuses, Shows, again_line, most_levels, n
 
 use crate::hex_word::push_hex;
 use crate::lines::{Level, push_message};
-use pg_dyn::{DynError, decode, encode};
+use pg_dyn::{DynError, decode_ref, encode_ref};
 use pg_schema::{Schema, TypeId};
 use std::alloc::{AllocError, Global};
 
@@ -50,8 +50,8 @@ pub fn show(
         (fields (shape_of schema.now) type_id) bytes.now place → ⊥) }
     ensures refused { IfErr result (Refuses (shape_of schema.now) type_id bytes.now) }
 {
-    let message = decode(alloc, schema, type_id, bytes, MOST_LEVELS)?;
-    let again = encode(alloc, schema, &message)?;
+    let message = decode_ref(alloc, schema, type_id, bytes, MOST_LEVELS)?;
+    let again = encode_ref(alloc, schema, &message)?;
     let level = Level {
         alloc,
         schema,

@@ -6,6 +6,7 @@ ghost use Rattle.std.specs.Prelude.{◌≡◌, ◌<◌, ◌⊎◌, ℕ, length, 
 ghost use Rattle.pg_schema.specs.Parts.{shape_of};
 ghost use Rattle.pg_schema.specs.Shape.{fields};
 ghost use Rattle.pg_dyn.specs.TooDeep.{TooDeepIn};
+ghost use Rattle.pg_show.specs.Codes.{code_of};
 ghost use Rattle.pg_show.specs.Shown.{Refuses, Shows, most_levels, names_of};
 ghost use Rattle.pg_show.specs.declared.error.HexError.TheVariants.{BadHex, Memory};
 ghost use Rattle.pg_show.specs.Hex as spec;
@@ -40,4 +41,11 @@ pub fn bytes_of_hex(alloc: Global, word: &str) -> Result<Vec<u8>, HexError>
         ⊎ ((e ≡ BadHex) × (spec.bytes_in word.now ≡ None))) }
 {
     pg_show::bytes_of_hex(alloc, word)
+}
+
+/// What `HexError::code` answers.
+pub fn code(error: HexError) -> u16
+    ensures { result ≡ code_of error }
+{
+    error.code()
 }

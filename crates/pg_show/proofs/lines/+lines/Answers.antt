@@ -1,9 +1,9 @@
 -- A message's lines are those of its contents and of its unknown records, and what is inside weighs less.
-use Rattle.std.proofs.Common.{◌≡◌, ◌∙◌, ◌++◌, flat_map, string_bytes, take_all, map, ap, sym, arith, append_assoc}
+use Rattle.std.proofs.Common.{◌∙◌, ◌++◌, flat_map, string_bytes, take_all, ap, sym, arith, append_assoc}
 use Rattle.std.proofs.lemmas.Result.{on_ok_weaker}
 use denote.Param.Weighed.{at_most}
 use Rattle.pg_dyn.specs.Kept.{ends, type_of, unknown_of, weight}
-use Rattle.pg_dyn.specs.Seen.{fields_onto, record_seen}
+use Rattle.pg_dyn.specs.Borrowed.{fields_onto}
 use Rattle.pg_show.specs.Contents.{content_lines, record_line}
 use Rattle.pg_show.proofs.ByContent.{message_by_content}
 use Rattle.pg_show.proofs.Weights.{field_weight, fields_heavier, some_weight, value_weight}

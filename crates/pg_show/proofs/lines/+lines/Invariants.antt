@@ -1,5 +1,5 @@
 -- Each call goes to a part of the message. The items, entries and contents before the index have their lines.
-use Rattle.std.proofs.Common.{◌≡◌, ℕ, ◌+◌, ◌-◌, ◌*◌, ◌++◌, flat_map, None, string_bytes, take}
+use Rattle.std.proofs.Common.{◌≡◌, ◌+◌, ◌-◌, ◌*◌, ◌++◌, flat_map, None, string_bytes, take}
 use denote.Param.Weighed.{most}
 use Rattle.pg_dyn.specs.Kept.{weight}
 use Rattle.pg_show.specs.Contents.{content_lines, entry_lines, value_lines}
@@ -25,9 +25,9 @@ abbrev pub invariant-push_list-loop-value : goal.invariant-push_list-loop-value
 invariant-push_list-loop-value l =
     string_bytes l.text ≡ string_bytes l.fn.text ++ flat_map (value_lines l.row.schema.now l.row.indent.now l.row.number l.row.name.now l.row.element None) (take l.value-index l.values)
 
-abbrev pub invariant-push_entries-loop-key : goal.invariant-push_entries-loop-key
-invariant-push_entries-loop-key l =
-    string_bytes l.text ≡ string_bytes l.fn.text ++ flat_map (entry_lines l.row.schema.now l.row.indent.now l.row.number l.row.name.now l.row.element) (take l.key-index l.entries)
+abbrev pub invariant-push_entries-loop-entry : goal.invariant-push_entries-loop-entry
+invariant-push_entries-loop-entry l =
+    string_bytes l.text ≡ string_bytes l.fn.text ++ flat_map (entry_lines l.row.schema.now l.row.indent.now l.row.number l.row.name.now l.row.element) (take l.entry-index l.entries)
 
 abbrev pub invariant-push_message-loop-number : goal.invariant-push_message-loop-number
 invariant-push_message-loop-number l =

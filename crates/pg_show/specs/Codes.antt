@@ -1,0 +1,8 @@
+-- The number behind the E by which users know the error.
+use Rattle.std.specs.Prelude.{ℕ}
+use Rattle.pg_show.specs.declared.error.HexError.{HexError}
+use Rattle.pg_show.specs.declared.error.HexError.TheVariants as errors
+
+abbrev pub code_of : HexError → ℕ
+code_of errors.Memory = 1
+code_of errors.BadHex = 905
