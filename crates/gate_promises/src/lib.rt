@@ -1,15 +1,22 @@
-//! The promises of `gate` and `gate_with` of `pg_gate`, said again of calls of them: the edits of
-//! `must-fail` turn each answer, and every one must be refused.
+//! The promises of `gate`, `gate_with` and `relay` of `pg_gate`, and of what becomes a `GateError`
+//! and its code, said again of calls of them: the edits of `must-fail` turn each answer, and every
+//! one must be refused.
 #![tactic(auto)]
 
+mod relaying;
+
 ghost use Rattle.std.specs.Prelude.{◌≡◌, Err, IfErr, IfOk};
+ghost use Rattle.pg_cert.specs.declared.error.CertError.TheVariants as faults;
 ghost use Rattle.pg_gate.specs.Answer.{IsAnswer, IsRefusedRoot, Lacks};
+ghost use Rattle.pg_gate.specs.Codes.{code_of};
 ghost use Rattle.pg_gate.specs.ViewAnswer.{IsAnswerUnder};
 ghost use Rattle.pg_gate.specs.declared.error.GateError.TheVariants as errors;
 
-use pg_gate::{Answer, GateError, ViewName};
+use pg_cert::{CertError, Verdict};
+use pg_gate::{Answer, GateError, SinkError, ViewName};
 use pg_schema::Schema;
-use std::alloc::Global;
+pub use relaying::relay;
+use std::alloc::{AllocError, AllocFailed, Global};
 
 /// What `gate` answers.
 pub fn gate(alloc: Global, old: &Schema, new: &Schema, root: &str) -> Result<Answer, GateError>
@@ -37,4 +44,50 @@ pub fn gate_with(
     ensures refused { IfErr result (IsRefusedRoot old.now new.now root.now) }
 {
     pg_gate::gate_with(alloc, old, new, root, view)
+}
+
+/// What the checker says of the certificate that `gate_with` answers: it takes it, under the view
+/// that the certificate names, and is refused only memory.
+pub fn checked(
+    alloc: Global,
+    old: &Schema,
+    new: &Schema,
+    root: &str,
+    view: ViewName,
+) -> Result<Result<Verdict, CertError>, GateError>
+    ensures { IfOk result (λ checked. IfErr checked (λ error. error ≡ faults.Memory)) }
+{
+    let answer = gate_with(alloc, old, new, root, view)?;
+    Ok(match &answer {
+        Answer::Compatible(certificate) => pg_cert::check(alloc, old, new, certificate),
+        Answer::Breaks { certificate, .. } => pg_cert::check(alloc, old, new, certificate),
+    })
+}
+
+/// What `GateError::code` answers.
+pub fn code(error: &GateError) -> u16
+    ensures { result ≡ code_of error.now }
+{
+    error.code()
+}
+
+/// What `GateError::from` answers of a refused growth.
+pub fn error_of(error: AllocError) -> GateError
+    ensures { result ≡ errors.Memory }
+{
+    GateError::from(error)
+}
+
+/// What `GateError::from` answers of a refused growth that hands back a value.
+pub fn error_of_failed<T: Drop>(failed: AllocFailed<T>) -> GateError
+    ensures { result ≡ errors.Memory }
+{
+    GateError::from(failed)
+}
+
+/// What `GateError::from` answers of a sink that refuses.
+pub fn error_of_sink(refusal: SinkError) -> GateError
+    ensures { result ≡ errors.WriteFailed }
+{
+    GateError::from(refusal)
 }

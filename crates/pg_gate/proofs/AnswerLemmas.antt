@@ -14,29 +14,26 @@ use Rattle.pg_dyn.specs.Message.{Message, unknown_of}
 use Rattle.pg_dyn.specs.Writing.{bytes_of}
 use Rattle.pg_pairs.specs.declared.choice.Pair.{Pair}
 use Rattle.pg_pairs.specs.Choices.{number_for}
-use Rattle.pg_pairs.specs.Sight.{Sight, by_numbers}
+use Rattle.pg_dyn.specs.declared.view_name.ViewName.{ViewName}
+use Rattle.pg_pairs.specs.NamedSight.{sight_named}
+use Rattle.pg_pairs.specs.Sight.{Sight}
 use Rattle.pg_cert.specs.Bounds.{bound_in}
 use Rattle.pg_cert.specs.Certificate.{Claim, IsWitnessedIfThere}
+use Rattle.pg_cert.specs.ClaimSight.{sight_in}
 use Rattle.pg_cert.specs.Text.{IsClaimOf}
 use Rattle.pg_least.specs.Exact.{IsBesideClaim, IsSearched, IsWitnessMessage}
 use Rattle.pg_gate.specs.Answer.{AreRoots, IsAnswer, IsAnswerBy, IsBroken, IsCompatible, IsLost, IsRefusedRoot, Lacks, NewSees, OldWrites, certificate_of}
-use Rattle.pg_gate.specs.Call.{Request, compile, gate, show, verify}
+use Rattle.pg_gate.specs.ViewAnswer.{IsAnswerUnder}
 use Rattle.pg_gate.specs.Files.{IsFaultOfSide, IsSide, IsSideError}
-use Rattle.pg_gate.specs.Grants.{Between, Counted, Grants, IsAnswerOfFiles, IsErrorFor, IsFindingOf, IsGateError, IsGateReply, IsReplyFor, IsSidesError, IsSidesFault, Seen, Tells}
-use Rattle.pg_gate.specs.Refusals.{refusal_for, refusal_of}
-use Rattle.pg_gate.specs.declared.call.error.CallError.{CallError}
-use Rattle.pg_gate.specs.declared.call.error.CallError.TheVariants as calls
+use Rattle.pg_gate.specs.Grants.{Between, IsAnswerOfFiles, IsFindingOf, IsGateError, IsGateReply, IsSidesError, IsSidesFault, Tells}
 use Rattle.pg_gate.specs.declared.error.Side.TheVariants as sides
-use Rattle.pg_gate.specs.declared.print.refusal.Refusal.{Refusal}
 use Rattle.pg_link.specs.Walk.{World}
 use Rattle.pg_gate.specs.declared.answer.gate.Answer.{Answer}
 use Rattle.pg_gate.specs.declared.answer.gate.Answer.TheVariants as answers
 use Rattle.pg_gate.specs.declared.error.GateError.{GateError}
-use Rattle.pg_gate.specs.declared.error.GateError.TheVariants as errors
 use Rattle.pg_gate.specs.declared.print.reply.Finding.{Finding}
 use Rattle.pg_gate.specs.declared.print.reply.Finding.TheVariants as findings
 use Rattle.pg_gate.specs.declared.print.reply.Reply.{Reply}
-use Rattle.pg_gate.specs.declared.print.reply.Reply.TheVariants as replies
 use Rattle.pg_gate.specs.Failures.{failures_at, failures_by}
 use Rattle.pg_gate.specs.declared.error.Side.{Side}
 use Rattle.pg_gate.proofs.ErrorLemmas.{error-weaker, none_counted, of_none}
@@ -48,6 +45,11 @@ use Rattle.pg_gate.proofs.Roots.{named_there}
 abbrev pub answer_with : Claim → Option Kept → Answer
 answer_with claim (Some kept) = answers.Breaks kept claim
 answer_with claim None = answers.Compatible claim
+
+-- the certificate is the claim
+pub named_with : (view : ViewName) (claim : Claim) (witness : Option Kept) → claim.view ≡ view → (certificate_of (answer_with claim witness)).view ≡ view
+named_with view claim (Some kept) is = is
+named_with view claim None is = is
 
 -- a bound that is there and no number is 'none'
 none_is_there : (o : Option (Option ℕ)) → is_some o ≡ true → is_some (option_and_then (λ bound. bound) o) ≡ false → o ≡ Some None
@@ -155,64 +157,41 @@ answered sight old new root pair claim witness roots searched beside =
     (subst (λ (p : Pair). IsSearched sight (shape_of old) (shape_of new) p claim) same searched) witness beside
 
 -- the certificate of an answer is one of the schemas' types
-pub claim_of_answer : (old new : Parts) (root : Text) → IsShape (shape_of old) → IsShape (shape_of new) → (answer : Answer) → IsAnswer old new root answer → IsClaimOf old new (certificate_of answer)
-claim_of_answer old new root is_old is_new (answers.Compatible certificate) is = of certificate is.roots is.searched
+pub claim_of_answer : (view : ViewName) (old new : Parts) (root : Text) → IsShape (shape_of old) → IsShape (shape_of new) → (answer : Answer) → IsAnswerUnder view old new root answer → IsClaimOf old new (certificate_of answer)
+claim_of_answer view old new root is_old is_new (answers.Compatible certificate) is = of certificate is.1.roots is.1.searched
   where
-    of : (claim : Claim) → AreRoots old new root claim.root → IsSearched by_numbers (shape_of old) (shape_of new) claim.root claim → IsClaimOf old new claim
+    of : (claim : Claim) → AreRoots old new root claim.root → IsSearched (sight_named view old new) (shape_of old) (shape_of new) claim.root claim → IsClaimOf old new claim
     of claim roots searched =
-        searched_there by_numbers old new claim is_old is_new (named_there old root claim.root.old roots.old_named) (named_there new root claim.root.new roots.new_named) searched
-claim_of_answer old new root is_old is_new (answers.Breaks witness certificate) is = of certificate is.roots is.searched
+        searched_there (sight_named view old new) old new claim is_old is_new (named_there old root claim.root.old roots.old_named) (named_there new root claim.root.new roots.new_named) searched
+claim_of_answer view old new root is_old is_new (answers.Breaks witness certificate) is = of certificate is.1.roots is.1.searched
   where
-    of : (claim : Claim) → AreRoots old new root claim.root → IsSearched by_numbers (shape_of old) (shape_of new) claim.root claim → IsClaimOf old new claim
+    of : (claim : Claim) → AreRoots old new root claim.root → IsSearched (sight_named view old new) (shape_of old) (shape_of new) claim.root claim → IsClaimOf old new claim
     of claim roots searched =
-        searched_there by_numbers old new claim is_old is_new (named_there old root claim.root.old roots.old_named) (named_there new root claim.root.new roots.new_named) searched
+        searched_there (sight_named view old new) old new claim is_old is_new (named_there old root claim.root.old roots.old_named) (named_there new root claim.root.new roots.new_named) searched
 
--- the certificate of an answer is that of a search
-pub searched_by : (old new : Parts) (root : Text) (answer : Answer) → IsAnswer old new root answer
-    → IsSearched by_numbers (shape_of old) (shape_of new) (certificate_of answer).root (certificate_of answer)
-searched_by old new root (answers.Compatible certificate) is = is.searched
-searched_by old new root (answers.Breaks witness certificate) is = is.searched
+-- the certificate of an answer is that of a search under the view that it names
+pub searched_by : (view : ViewName) (old new : Parts) (root : Text) (answer : Answer) → IsAnswerUnder view old new root answer
+    → IsSearched (sight_in old new (certificate_of answer)) (shape_of old) (shape_of new) (certificate_of answer).root (certificate_of answer)
+searched_by view old new root (answers.Compatible certificate) is =
+    subst (λ (v : ViewName). IsSearched (sight_named v old new) (shape_of old) (shape_of new) certificate.root certificate) (sym is.0) is.1.searched
+searched_by view old new root (answers.Breaks witness certificate) is =
+    subst (λ (v : ViewName). IsSearched (sight_named v old new) (shape_of old) (shape_of new) certificate.root certificate) (sym is.0) is.1.searched
 
 -- ---- what is told of an answer
 
 -- what is told of an answer's certificate is what is found
-pub found_by : (old new : Parts) (root : Text) (answer : Answer) (certificate_only : Bool) (finding : Finding) → IsAnswer old new root answer
-    → Tells old new (certificate_of answer) certificate_only finding → IsFindingOf old new root certificate_only finding
-found_by old new root (answers.Compatible certificate) false findings.Compatible is tells = record { certificate = certificate; compatible = is }
-found_by old new root (answers.Breaks message certificate) false findings.Compatible is tells = absurd (let no : ◌≡◌ {A = Option (List ℕ)} None (Some _) = sym tells ∙ is.bytes_are in cc)
-found_by old new root (answers.Compatible certificate) false (findings.Breaks bytes steps) is tells = absurd (let no : ◌≡◌ {A = Option (List ℕ)} None (Some bytes.items) = sym is.no_witness ∙ tells.0 in cc)
-found_by old new root (answers.Breaks message certificate) false (findings.Breaks bytes steps) is tells = record { message = message; certificate = certificate; broken = is; bytes_are = tells.0; are_steps = tells.1 }
-found_by old new root answer false (findings.Certified text breaks) is tells = absurd tells
-found_by old new root answer true findings.Compatible is tells = absurd tells
-found_by old new root answer true (findings.Breaks bytes steps) is tells = absurd tells
-found_by old new root answer true (findings.Certified text breaks) is tells = record { answer = answer; is_answer = is; certifies = tells.0; breaks_is = tells.1 }
-found_by old new root answer false (findings.Verified verified) is tells = absurd tells
-found_by old new root answer true (findings.Verified verified) is tells = absurd tells
-
--- ---- both directions
-
--- what is found is of two types that are there
-found_roots : (old new : Parts) (root : Text) (certificate_only : Bool) (finding : Finding) → IsFindingOf old new root certificate_only finding → (pair : Pair) × AreRoots old new root pair
-found_roots old new root false findings.Compatible is = (is.certificate.root, is.compatible.roots)
-found_roots old new root false (findings.Breaks bytes steps) is = (is.certificate.root, is.broken.roots)
-found_roots old new root false (findings.Certified text breaks) is = absurd is
-found_roots old new root false (findings.Verified verified) is = absurd is
-found_roots old new root true findings.Compatible is = absurd is
-found_roots old new root true (findings.Breaks bytes steps) is = absurd is
-found_roots old new root true (findings.Certified text breaks) is = of is.answer is.is_answer
-  where
-    of : (answer : Answer) → IsAnswer old new root answer → (pair : Pair) × AreRoots old new root pair
-    of (answers.Compatible certificate) is = (certificate.root, is.roots)
-    of (answers.Breaks witness certificate) is = (certificate.root, is.roots)
-found_roots old new root true (findings.Verified verified) is = absurd is
-
--- so the other direction is refused for no root
-pub backward_refused : (old new : Parts) (root : Text) (certificate_only : Bool) (finding : Finding) → IsFindingOf old new root certificate_only finding
-    → (error : GateError) → IsRefusedRoot new old root error → IsRefusedRoot old new root error
-backward_refused old new root certificate_only finding found error is =
-    let (pair, roots) = found_roots old new root certificate_only finding found in
-    error-weaker (λ side fault. ⊥) (λ side fault. ⊥) (λ lacks. absurd (lacks pair.new roots.new_named)) (λ lacks. absurd (lacks.1 pair.old roots.old_named))
-    (λ no. no) (λ side fault no. no) error is
+pub found_by : (view : ViewName) (old new : Parts) (root : Text) (answer : Answer) (certificate_only : Bool) (finding : Finding) → IsAnswerUnder view old new root answer
+    → Tells old new (certificate_of answer) certificate_only finding → IsFindingOf view old new root certificate_only finding
+found_by view old new root (answers.Compatible certificate) false findings.Compatible is tells = record { certificate = certificate; named = is.0; compatible = is.1 }
+found_by view old new root (answers.Breaks message certificate) false findings.Compatible is tells = absurd (let no : ◌≡◌ {A = Option (List ℕ)} None (Some _) = sym tells ∙ is.1.bytes_are in cc)
+found_by view old new root (answers.Compatible certificate) false (findings.Breaks bytes steps) is tells = absurd (let no : ◌≡◌ {A = Option (List ℕ)} None (Some bytes.items) = sym is.1.no_witness ∙ tells.0 in cc)
+found_by view old new root (answers.Breaks message certificate) false (findings.Breaks bytes steps) is tells = record { message = message; certificate = certificate; named = is.0; broken = is.1; bytes_are = tells.0; are_steps = tells.1 }
+found_by view old new root answer false (findings.Certified text breaks) is tells = absurd tells
+found_by view old new root answer true findings.Compatible is tells = absurd tells
+found_by view old new root answer true (findings.Breaks bytes steps) is tells = absurd tells
+found_by view old new root answer true (findings.Certified text breaks) is tells = record { answer = answer; is_answer = is; certifies = tells.0; is_second = tells.1; breaks_is = tells.2 }
+found_by view old new root answer false (findings.Verified verified) is tells = absurd tells
+found_by view old new root answer true (findings.Verified verified) is tells = absurd tells
 
 -- ---- sides
 
@@ -237,9 +216,9 @@ module _ (root : Text) (old new : World) (a b : Parts) (of_old : IsSide old a) (
   pub answer_of_files : (answer : Answer) → IsAnswer a b root answer → IsAnswerOfFiles root old new answer
   answer_of_files answer is = record { old_schema = a; new_schema = b; of_old = of_old; of_new = of_new; so = is }
 
-  pub reply_of_files : (certificate_only both : Bool) (reply : Reply) → IsGateReply a b root certificate_only both reply
-      → Between old new (λ a b. IsGateReply a b root certificate_only both reply)
-  reply_of_files certificate_only both reply is = record { old_schema = a; new_schema = b; of_old = of_old; of_new = of_new; so = is }
+  pub reply_of_files : (view : ViewName) (certificate_only both : Bool) (reply : Reply) → IsGateReply view a b root certificate_only both reply
+      → Between old new (λ a b. IsGateReply view a b root certificate_only both reply)
+  reply_of_files view certificate_only both reply is = record { old_schema = a; new_schema = b; of_old = of_old; of_new = of_new; so = is }
 
   pub refused_of_files : (error : GateError) → IsRefusedRoot a b root error → IsGateError root old new error
   refused_of_files error is =
@@ -253,41 +232,3 @@ pub root_uncounted : {X : Type 0} (old new : Parts) (root : Text) (side : Side) 
 root_uncounted old new root side r is =
     none_counted r (λ e. IsRefusedRoot old new root e) (failures_at side)
     (λ e is. of_none (Lacks old root) ((Lacks old root → ⊥) × Lacks new root) ⊥ side e is) is
-
--- ---- calls
-
--- what is answered, where nothing is refused, is granted
-pub replied : (old new : Seen) (call : Request) (reply : Reply) → IsReplyFor old new call reply → Counted old new (λ side. 0) → Grants old new call reply
-replied old new call (replies.Set bytes) is counted = record { is_reply = is; counted = counted }
-replied old new call (replies.Shown text) is counted = record { is_reply = is; counted = counted }
-replied old new call (replies.Found finding) is counted = record { is_reply = is; counted = counted }
-replied old new call (replies.Both forward backward) is counted = record { is_reply = is; counted = counted }
-replied old new (compile dir files) (replies.Refused refusal) is counted = absurd is
-replied old new (gate sides root certificate_only both) (replies.Refused refusal) is counted = absurd is.so
-replied old new (show dir file root word) (replies.Refused refusal) is counted = absurd is
-replied old new (verify sides certificate) (replies.Refused refusal) is counted = absurd is
-
--- no call ends in a sink that failed
-never_written : (old new : Seen) (call : Request) → IsErrorFor old new call (calls.Gate errors.WriteFailed) → ⊥
-never_written old new (compile dir files) is = is
-never_written old new (gate sides root certificate_only both) is = is
-never_written old new (show dir file root word) is = is
-never_written old new (verify sides certificate) is = is
-
-unprinted : (call : Request) (refusal : Refusal) (error : CallError) → refusal_of error ≡ Some refusal → refusal_for call error ≡ None → ⊥
-unprinted (compile dir files) refusal error some none = let no = rw some at none in cc
-unprinted (gate sides root certificate_only both) refusal error some none = let no = rw some at none in cc
-unprinted (show dir file root word) refusal error some none = let no = rw some at none in cc
-unprinted (verify sides certificate) refusal error some none = let no = rw some at none in cc
-
--- each error of a call but out of memory is printed
-pub always_printed : (old new : Seen) (call : Request) (error : CallError) → IsErrorFor old new call error → (error ≡ calls.Gate errors.Memory → ⊥)
-    → refusal_for call error ≡ None → ⊥
-always_printed old new call (calls.Gate errors.Memory) is other none = other refl
-always_printed old new call (calls.Gate errors.RootMissingOld) is other none = unprinted call _ (calls.Gate errors.RootMissingOld) refl none
-always_printed old new call (calls.Gate errors.RootMissingNew) is other none = unprinted call _ (calls.Gate errors.RootMissingNew) refl none
-always_printed old new call (calls.Gate (errors.Compile side fault)) is other none = unprinted call _ (calls.Gate (errors.Compile side fault)) refl none
-always_printed old new call (calls.Gate errors.WriteFailed) is other none = never_written old new call is
-always_printed old new call (calls.Gate errors.BadHex) is other none = unprinted call _ (calls.Gate errors.BadHex) refl none
-always_printed old new call (calls.Certificate fault) is other none = unprinted call _ (calls.Certificate fault) refl none
-always_printed old new call (calls.Bytes error) is other none = unprinted call _ (calls.Bytes error) refl none

@@ -97,10 +97,6 @@ of_call G C B side g c (calls.Gate error) is = g error is
 of_call G C B side g c (calls.Certificate fault) is = c fault is
 of_call G C B side g c (calls.Bytes error) is = refl
 
--- a certificate is no affair of the new source
-pub of_certificate : (fault : CertificateFault) → call_failures_at sides.New (calls.Certificate fault) ≡ 0
-of_certificate fault = refl
-
 pub of_refused : (side : Side) → if_same side sides.Old 0 ≡ 0
 of_refused side = if_same-zero side sides.Old
 

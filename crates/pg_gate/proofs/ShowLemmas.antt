@@ -16,7 +16,7 @@ use Rattle.pg_gate.specs.declared.call.error.CallError.TheVariants as calls
 use Rattle.pg_gate.specs.declared.error.GateError.{GateError}
 use Rattle.pg_gate.specs.declared.error.Side.{Side}
 use Rattle.pg_gate.specs.declared.error.Side.TheVariants as sides
-use Rattle.pg_gate.proofs.ErrorLemmas.{call_error-weaker, error-weaker, memory_is, new_alone, of_call, of_none}
+use Rattle.pg_gate.proofs.ErrorLemmas.{call_error-weaker, error-weaker, memory_is, of_call, of_none}
 
 module _ (schema : Parts) (root word : Text) (type : TypeId) (named : IsNamed schema root type) where
   -- a word is refused by a schema that has the type
@@ -60,11 +60,3 @@ pub shown_uncounted : (schema : Parts) (root word : Text) (side : Side) (error :
 shown_uncounted schema root word side error is =
     of_call (IsError (Lacks schema root) ⊥ (IsBadWord schema root word) (λ side fault. ⊥)) (λ fault. ⊥) (IsRefusedWord schema root word) side
     (λ error is. of_none (Lacks schema root) ⊥ (IsBadWord schema root word) side error is) (λ fault no. absurd no) error is
-
--- and the new source isn't asked
-pub show_uncounted : (w : World) (root word : Text) (error : CallError) → IsShowError w root word error → call_failures_at sides.New error ≡ 0
-show_uncounted w root word error is =
-    of_call (IsError (OfSide w (λ schema. Lacks schema root)) ⊥ (OfSide w (λ schema. IsBadWord schema root word)) (λ side fault. (side ≡ sides.Old) × IsFaultOfSide w fault))
-    (λ fault. ⊥) (λ error. OfSide w (λ schema. IsRefusedWord schema root word error)) sides.New
-    (λ error is. new_alone (OfSide w (λ schema. Lacks schema root)) ⊥ (OfSide w (λ schema. IsBadWord schema root word)) (IsFaultOfSide w) error is)
-    (λ fault no. absurd no) error is

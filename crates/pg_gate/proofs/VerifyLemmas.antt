@@ -1,17 +1,18 @@
--- What a checker's answers are told as; and these as the answers of two sides.
+-- Why a certificate's bytes are refused, by what a checker answers; and this as the answer of two sides.
 use Rattle.std.proofs.Common.{arith, ◌≡◌, ◌∙◌, ◌<◌, ◌⊎◌, ℕ, zero, suc, List, [], ◌∷◌, Bool, true, false, Option, Some, None, refl, ap, sym, subst, inl, inr, is_some, string_bytes, unwrap_or, slice_get, length}
 use Rattle.std.specs.Option.{option_map, option_or}
 use Rattle.std.specs.Prelude.{IsTrue}
 use Rattle.clap.specs.Words.{Text}
 use Rattle.pg_cert.specs.Bounds.{bound_in}
 use Rattle.pg_cert.specs.Certificate.{Claim}
+use Rattle.pg_cert.specs.ClaimSight.{sight_in}
 use Rattle.pg_cert.specs.Faults.{IsFirstFault, WitnessFaultIfThere, cheaper_choice, first_fault, first_pair_fault, missing_child, root_fault, too_high}
 use Rattle.pg_cert.specs.Text.{Certifies, names_of}
 use Rattle.pg_cert.specs.declared.bounds.PairBound.{PairBound}
 use Rattle.pg_cert.specs.declared.error.CertError.{CertError}
 use Rattle.pg_cert.specs.declared.error.CertError.TheVariants as checks
 use Rattle.pg_pairs.specs.Choices.{Table}
-use Rattle.pg_pairs.specs.Sight.{Sight, by_numbers}
+use Rattle.pg_pairs.specs.Sight.{Sight}
 use Rattle.pg_pairs.specs.declared.choice.Choice.{Choice}
 use Rattle.pg_pairs.specs.declared.choice.Pair.{Pair}
 use Rattle.pg_schema.specs.Parts.{shape_of}
@@ -23,10 +24,11 @@ use Rattle.pg_gate.specs.Answer.{IsNamed}
 use Rattle.pg_gate.specs.Failures.{call_failures_at}
 use Rattle.pg_gate.specs.Files.{IsSide}
 use Rattle.pg_gate.specs.Grants.{IsSidesFault, IsUngiven, IsVerified, IsVerifyError}
-use Rattle.pg_gate.specs.Verified.{HasFirstFault, IsClaimError, IsHeldBy, IsToldOf}
+use Rattle.pg_gate.specs.Verified.{HasFirstFault, IsClaimError, IsClaimFault, IsFaultOfClaim, IsHeldBy, IsPlaceOf}
 use Rattle.pg_gate.specs.declared.call.error.CallError.{CallError}
 use Rattle.pg_gate.specs.declared.call.error.CallError.TheVariants as calls
 use Rattle.pg_gate.specs.declared.call.error.CertificateFault.TheVariants as certificates
+use Rattle.pg_gate.specs.declared.call.error.ClaimFault.{ClaimFault}
 use Rattle.pg_gate.specs.declared.error.Side.{Side}
 use Rattle.pg_gate.specs.declared.error.Side.TheVariants as sides
 use Rattle.pg_gate.specs.declared.print.reply.Finding.{Finding}
@@ -90,38 +92,49 @@ no_bad_text sight old new bounds root is =
     let yes : has_bad_text (first_fault sight old new bounds root) ≡ true = ap has_bad_text is in
     cc
 
-no_bad_witness : (old new : Shape) (claim : Claim) (o : Option (List ℕ)) → WitnessFaultIfThere by_numbers old new claim.root (bound_in claim.bounds claim.root) o checks.BadText → ⊥
-no_bad_witness old new claim (Some bytes) is = is
-no_bad_witness old new claim None is = is
+no_bad_witness : (sight : Sight) (old new : Shape) (claim : Claim) (o : Option (List ℕ)) → WitnessFaultIfThere sight old new claim.root (bound_in claim.bounds claim.root) o checks.BadText → ⊥
+no_bad_witness sight old new claim (Some bytes) is = is
+no_bad_witness sight old new claim None is = is
 
--- ---- what is told of an error
+-- ---- why bytes are refused
 
 module _ (old new : Parts) (bytes : Text) where
+  pub claim_fault : (error : CertError) (fault : ClaimFault) → fault.error ≡ error → IsPlaceOf old new error fault.location → IsFaultOfClaim old new bytes error
+      → IsClaimFault old new bytes fault
+  claim_fault error fault same placed is = record {
+    is_fault = subst (λ e. IsFaultOfClaim old new bytes e) (sym same) is;
+    is_place = subst (λ e. IsPlaceOf old new e fault.location) (sym same) placed;
+  }
+
+  -- a text that isn't read certifies nothing
+  pub text_fault : (error : CertError) → (error ≡ checks.Memory → ⊥)
+      → (error ≡ checks.Memory) ⊎ ((error ≡ checks.BadText) × ((claim : Claim) → Certifies old new bytes claim → ⊥)) → IsFaultOfClaim old new bytes error
+  text_fault error other (inl memory) = absurd (other memory)
+  text_fault error other (inr bad) = subst (λ e. IsFaultOfClaim old new bytes e) (sym bad.0) bad.1
+
   module _ (claim : Claim) (certifies : Certifies old new bytes claim) where
     abbrev IsCheckFault : CertError → Type 0
-    IsCheckFault fault = (fault ≡ checks.Memory) ⊎ IsFirstFault by_numbers (shape_of old) (shape_of new) claim fault
+    IsCheckFault error = (error ≡ checks.Memory) ⊎ IsFirstFault (sight_in old new claim) (shape_of old) (shape_of new) claim error
 
-    has_first : (fault : CertError) → (fault ≡ checks.Memory → ⊥) → IsCheckFault fault → HasFirstFault old new bytes fault
-    has_first fault other (inl memory) = absurd (other memory)
-    has_first fault other (inr first) = record { claim = claim; certifies = certifies; is_first = first }
+    has_first : (error : CertError) → (error ≡ checks.Memory → ⊥) → IsCheckFault error → HasFirstFault old new bytes error
+    has_first error other (inl memory) = absurd (other memory)
+    has_first error other (inr first) = record { claim = claim; certifies = certifies; is_first = first }
 
     no_bad_check : IsCheckFault checks.BadText → ⊥
     no_bad_check (inl memory) = cc
-    no_bad_check (inr (inl first)) = no_bad_text by_numbers (shape_of old) (shape_of new) claim.bounds claim.root first
-    no_bad_check (inr (inr witness)) = no_bad_witness (shape_of old) (shape_of new) claim claim.witness witness.1
+    no_bad_check (inr (inl first)) = no_bad_text (sight_in old new claim) (shape_of old) (shape_of new) claim.bounds claim.root first
+    no_bad_check (inr (inr witness)) = no_bad_witness (sight_in old new claim) (shape_of old) (shape_of new) claim claim.witness witness.1
 
-    -- the checker's error, told
-    pub check_error : (fault : CertError) (error : CallError) → IsCheckFault fault → IsToldOf old new fault error → IsClaimError old new bytes error
-    check_error checks.Memory error is told = subst (λ e. IsClaimError old new bytes e) (sym told) refl
-    check_error checks.BadText error is told = absurd (no_bad_check is)
-    check_error checks.RootMissing error is told = subst (λ e. IsClaimError old new bytes e) (sym told) (has_first checks.RootMissing (λ no. cc) is)
-    check_error (checks.PairMissing pair) error is told =
-        subst (λ e. IsClaimError old new bytes e) (sym told.told) (pair, told.are_names, has_first (checks.PairMissing pair) (λ no. cc) is)
-    check_error (checks.BoundTooHigh pair number case) error is told =
-        subst (λ e. IsClaimError old new bytes e) (sym told.told) (pair, told.are_names, has_first (checks.BoundTooHigh pair number case) (λ no. cc) is)
-    check_error checks.WitnessNotWritten error is told = subst (λ e. IsClaimError old new bytes e) (sym told) (has_first checks.WitnessNotWritten (λ no. cc) is)
-    check_error checks.WitnessLength error is told = subst (λ e. IsClaimError old new bytes e) (sym told) (has_first checks.WitnessLength (λ no. cc) is)
-    check_error checks.WitnessKeeps error is told = subst (λ e. IsClaimError old new bytes e) (sym told) (has_first checks.WitnessKeeps (λ no. cc) is)
+    -- the checker's error is the first fault
+    pub check_fault : (error : CertError) → (error ≡ checks.Memory → ⊥) → IsCheckFault error → IsFaultOfClaim old new bytes error
+    check_fault checks.Memory other is = absurd (other refl)
+    check_fault checks.BadText other is = absurd (no_bad_check is)
+    check_fault checks.RootMissing other is = has_first checks.RootMissing other is
+    check_fault (checks.PairMissing pair) other is = has_first (checks.PairMissing pair) other is
+    check_fault (checks.BoundTooHigh pair number case) other is = has_first (checks.BoundTooHigh pair number case) other is
+    check_fault checks.WitnessNotWritten other is = has_first checks.WitnessNotWritten other is
+    check_fault checks.WitnessLength other is = has_first checks.WitnessLength other is
+    check_fault checks.WitnessKeeps other is = has_first checks.WitnessKeeps other is
 
 -- ---- sides
 

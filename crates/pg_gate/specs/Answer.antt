@@ -15,6 +15,7 @@ use Rattle.pg_dyn.specs.Fits.{Fits}
 use Rattle.pg_dyn.specs.Kept.{Kept, message_of, type_of}
 use Rattle.pg_dyn.specs.Message.{IsPlain, Message, unknown_of}
 use Rattle.pg_dyn.specs.Writing.{bytes_of}
+use Rattle.pg_dyn.specs.declared.view_name.ViewName.TheVariants as views
 use Rattle.pg_pairs.specs.declared.choice.Pair.{Pair}
 use Rattle.pg_pairs.specs.Sight.{Sight, by_numbers}
 use Rattle.pg_cert.specs.Bounds.{bound_in}
@@ -89,14 +90,14 @@ abbrev pub IsAnswerBy : Sight → Parts → Parts → Text → Answer → Type 0
 IsAnswerBy sight old new root (answers.Compatible certificate) = IsCompatible sight old new root certificate
 IsAnswerBy sight old new root (answers.Breaks witness certificate) = IsBroken sight old new root witness certificate
 
--- The promise: of two schemas with a message type of that name the gate answers one of the two, and nothing else. Each number of two enums
--- is the same item.
-abbrev pub IsAnswer : Parts → Parts → Text → Answer → Type 0
-IsAnswer old new root answer = IsAnswerBy by_numbers old new root answer
-
 abbrev pub certificate_of : Answer → Claim
 certificate_of (answers.Compatible certificate) = certificate
 certificate_of (answers.Breaks witness certificate) = certificate
+
+-- The promise: of two schemas with a message type of that name the gate answers one of the two, and nothing else. Each number of two enums
+-- is the same item, and the certificate names the view that says so.
+abbrev pub IsAnswer : Parts → Parts → Text → Answer → Type 0
+IsAnswer old new root answer = ((certificate_of answer).view ≡ views.Numbers) × IsAnswerBy by_numbers old new root answer
 
 -- a refusal names a root that is missing: the old one first
 abbrev pub IsRefusedRoot : Parts → Parts → Text → GateError → Type 0

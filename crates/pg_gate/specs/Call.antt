@@ -1,11 +1,14 @@
 -- What the words of a command line call for.
-use Rattle.std.specs.Prelude.{Bool, false, List, [], ◌∷◌, Option, None, codes}
+use Rattle.std.specs.Prelude.{◌≡◌, Bool, true, false, List, [], ◌∷◌, Option, Some, None, codes}
 use Rattle.std.specs.Prelude.{unwrap_or, option_map, if◌then◌else◌}
+use Rattle.std.specs.Borrow.{Bor}
 use Rattle.std.specs.Option.{option_map_or}
 use Rattle.std.specs.Str.{bytes_eq}
 use Rattle.clap.specs.Walk.{texts}
 use Rattle.clap.specs.Words.{Kinds, Row, Text, all_of, fault_of, first_of, subcommand_of}
-use Rattle.pg_gate.specs.CommandLine.{whole_app}
+use Rattle.pg_dyn.specs.declared.view_name.ViewName.{ViewName}
+use Rattle.pg_dyn.specs.declared.view_name.ViewName.TheVariants as views
+use Rattle.pg_gate.specs.CommandLine.{view_names, whole_app}
 use Rattle.pg_gate.specs.declared.call.Call.{Call}
 use Rattle.pg_gate.specs.declared.call.Call.TheVariants as call
 use Rattle.pg_gate.specs.declared.call.Sides.{Sides}
@@ -20,7 +23,7 @@ pub record SideTexts : Type 0 where
 -- a call, as texts
 pub data Request : Type 0 where
   compile : (dir : Text) (files : List Text) → Request
-  gate : (sides : SideTexts) (root : Text) (certificate_only both : Bool) → Request
+  gate : (sides : SideTexts) (root : Text) (certificate_only both : Bool) (view : ViewName) → Request
   show : (dir file root word : Text) → Request
   verify : (sides : SideTexts) (certificate : Text) → Request
 
@@ -34,7 +37,7 @@ sides_of s = record {
 
 abbrev pub request_of : Call → Request
 request_of (call.Compile dir files) = compile dir.now (texts files.items)
-request_of (call.Gate sides root certificate_only both) = gate (sides_of sides) root.now certificate_only both
+request_of (call.Gate sides root certificate_only both view) = gate (sides_of sides) root.now certificate_only both view
 request_of (call.Show dir file root word) = show dir.now file.now root.now word.now
 request_of (call.Verify sides certificate) = verify (sides_of sides) certificate.now
 
@@ -49,6 +52,14 @@ texts_at id rows = unwrap_or (all_of id rows) []
 abbrev pub flag_at : Text → List Row → Bool
 flag_at id rows = option_map_or (λ value. bytes_eq value (codes "true")) (first_of id rows) false
 
+-- the view of an option that has one of the two names
+abbrev pub view_if : (by_names : Bool) → ViewName
+view_if true = views.Names
+view_if false = views.Numbers
+
+abbrev pub view_at : Text → List Row → ViewName
+view_at id rows = view_if (bytes_eq (text_at id rows) (codes "names"))
+
 abbrev pub sides_in : List Row → SideTexts
 sides_in rows = record {
   old_dir = text_at (codes "old-dir") rows;
@@ -61,7 +72,7 @@ abbrev pub compile_in : List Row → Request
 compile_in rows = compile (text_at (codes "dir") rows) (texts_at (codes "FILE") rows)
 
 abbrev pub gate_in : List Row → Request
-gate_in rows = gate (sides_in rows) (text_at (codes "type") rows) (flag_at (codes "cert") rows) (flag_at (codes "both") rows)
+gate_in rows = gate (sides_in rows) (text_at (codes "type") rows) (flag_at (codes "cert") rows) (flag_at (codes "both") rows) (view_at (codes "view") rows)
 
 abbrev pub verify_in : List Row → Request
 verify_in rows = verify (sides_in rows) (text_at (codes "CERT") rows)
@@ -82,6 +93,22 @@ abbrev pub call_by : Kinds → Option (Text × List Row) → Option Request
 call_by [] met = option_map request_in met
 call_by (kind ∷ kinds) met = None
 
--- what the words call for, where clap takes them
-abbrev pub call_of : List Text → Option Request
-call_of words = call_by (fault_of whole_app words) (subcommand_of whole_app words)
+-- what the words call for, where clap takes them, by a command that has the views' names from this reference
+abbrev pub call_with : Bor (List (Bor Text)) → List Text → Option Request
+call_with names words = call_by (fault_of (whole_app names) words) (subcommand_of (whole_app names) words)
+
+-- What the words call for, or that they are no call. A command keeps the reference to the list of names that `--view` takes, and so do
+-- clap's definitions; but they read no more of it than the names. So this is said of some reference to just these names.
+pub record CallsFor (words : List Text) (called : Option Request) : Type 0 where
+  pub names : Bor (List (Bor Text))
+  pub are_names : texts names.now ≡ view_names
+  pub by_clap : call_with names words ≡ called
+
+-- clap doesn't take the words
+abbrev pub IsNoCall : List Text → Type 0
+IsNoCall words = CallsFor words None
+
+-- the words call for something
+pub record IsCall (words : List Text) : Type 0 where
+  pub call : Request
+  pub called : CallsFor words (Some call)

@@ -1,16 +1,26 @@
 -- The command line, as clap's contracts see a command.
 use Rattle.std.specs.Prelude.{◌≡◌, List, [], ◌∷◌, Some, true, false, codes}
+use Rattle.std.specs.Borrow.{Bor}
 use Rattle.clap.specs.Words.{App, Rule, Text, app_of, new_app, new_rule, with_rule, with_subcommand}
 use Rattle.clap.specs.declared.ArgAction.TheVariants.{Append, SetTrue}
+use Rattle.clap.specs.declared.builder.value_parser.ValueParser.TheVariants as parsers
 use Rattle.clap.specs.declared.Command.{Command}
 use Rattle.clap.specs.declared.Command.TheViews.{out-Command}
 
 -- ---- arguments
 
+-- `--NAME VALUE`, by default that value
+abbrev pub defaulted : Text → Text → Rule
+defaulted name value =
+    record (new_rule name) { long = Some name; value_names = 1; defaults = value ∷ [] }
+
 -- `--NAME D`, by default `.`
 abbrev pub folder : Text → Rule
-folder name =
-    record (new_rule name) { long = Some name; value_names = 1; defaults = codes "." ∷ [] }
+folder name = defaulted name (codes ".")
+
+-- `--NAME VALUE`, one of these values, by default that one
+abbrev pub among : Text → Bor (List (Bor Text)) → Text → Rule
+among name values value = record (defaulted name value) { parser = Some (parsers.Names values) }
 
 -- `--NAME VALUE`
 abbrev pub named : Text → Rule
@@ -37,10 +47,15 @@ with_rules app (rule ∷ rules) = with_rules (with_rule app rule) rules
 abbrev pub compile_app : App
 compile_app = with_rules (new_app (codes "compile")) (folder (codes "dir") ∷ positionals (codes "FILE") ∷ [])
 
-abbrev pub gate_app : App
-gate_app = with_rules (new_app (codes "gate")) (folder (codes "old-dir") ∷ folder (codes "new-dir")
+-- the names of the views
+abbrev pub view_names : List Text
+view_names = codes "numbers" ∷ codes "names" ∷ []
+
+-- the gate's, with the names of the views behind this reference
+abbrev pub gate_app : Bor (List (Bor Text)) → App
+gate_app names = with_rules (new_app (codes "gate")) (folder (codes "old-dir") ∷ folder (codes "new-dir")
     ∷ named (codes "old") ∷ named (codes "new") ∷ named (codes "type") ∷ flag (codes "cert")
-    ∷ flag (codes "both") ∷ [])
+    ∷ flag (codes "both") ∷ among (codes "view") names (codes "numbers") ∷ [])
 
 abbrev pub verify_app : App
 verify_app = with_rules (new_app (codes "verify")) (folder (codes "old-dir") ∷ folder (codes "new-dir")
@@ -54,8 +69,8 @@ abbrev pub top_app : App
 top_app = let app = new_app (codes "protogate") in
     record app { top = record app.top { no_binary_name = true; subcommand_required = true; has_version = true } }
 
-abbrev pub whole_app : App
-whole_app = with_subcommand (with_subcommand (with_subcommand (with_subcommand top_app compile_app.top) gate_app.top)
+abbrev pub whole_app : Bor (List (Bor Text)) → App
+whole_app names = with_subcommand (with_subcommand (with_subcommand (with_subcommand top_app compile_app.top) (gate_app names).top)
     verify_app.top) show_app.top
 
 -- a command of this shape, with no argument that is global

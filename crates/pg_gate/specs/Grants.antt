@@ -2,9 +2,10 @@
 use Rattle.std.specs.Prelude.{◌≡◌, ◌+◌, ◌&&◌, ℕ, Bool, true, false, not, List, [], ◌∷◌, Some, None, is_some, string_bytes, IsTrue}
 use Rattle.clap.specs.Words.{Text}
 use Rattle.pg_cert.specs.Certificate.{Claim}
-use Rattle.pg_cert.specs.Text.{Certifies}
+use Rattle.pg_cert.specs.Text.{Certifies, IsSecondText}
+use Rattle.pg_dyn.specs.declared.view_name.ViewName.{ViewName}
 use Rattle.pg_dyn.specs.Kept.{Kept}
-use Rattle.pg_pairs.specs.Sight.{by_numbers}
+use Rattle.pg_pairs.specs.NamedSight.{sight_named}
 use Rattle.pg_schema.specs.declared.parts.Parts.{Parts}
 use Rattle.pg_gate.specs.Call.{Request, compile, gate, show, verify}
 use Rattle.pg_link.specs.Walk.{World, world}
@@ -17,6 +18,7 @@ use Rattle.pg_gate.specs.Refusals.{refusal_for}
 use Rattle.pg_gate.specs.Showing.{IsBadWord, IsRefusedWord, IsShown}
 use Rattle.pg_gate.specs.Steps.{AreSteps}
 use Rattle.pg_gate.specs.Verified.{IsClaimFault, IsHeldBy}
+use Rattle.pg_gate.specs.ViewAnswer.{IsAnswerUnder}
 use Rattle.pg_gate.specs.declared.call.error.CallError.{CallError}
 use Rattle.pg_gate.specs.declared.call.error.CertificateFault.{CertificateFault}
 use Rattle.pg_gate.specs.declared.call.error.CertificateFault.TheVariants as certificates
@@ -63,46 +65,49 @@ IsGateError root old new = IsError (Between old new (λ a b. Lacks a root)) (Bet
 abbrev pub IsAnswerOfFiles : Text → World → World → Answer → Type 0
 IsAnswerOfFiles root old new answer = Between old new (λ a b. IsAnswer a b root answer)
 
--- the types are compatible, as some certificate shows
-pub record IsShownCompatible (old new : Parts) (root : Text) : Type 0 where
+-- the types are compatible under the view, as some certificate shows
+pub record IsShownCompatible (view : ViewName) (old new : Parts) (root : Text) : Type 0 where
   pub certificate : Claim
-  pub compatible : IsCompatible by_numbers old new root certificate
+  pub named : certificate.view ≡ view
+  pub compatible : IsCompatible (sight_named view old new) old new root certificate
 
--- The bytes are those of a message that breaks, and no message that breaks has fewer, as some certificate shows. The steps are those of
--- the certificate's witness.
-pub record IsLeastWitness (old new : Parts) (root : Text) (bytes : List ℕ) (steps : List Step) : Type 0 where
+-- The bytes are those of a message that breaks under the view, and no message that breaks has fewer, as some certificate shows. The steps
+-- are those of the certificate's witness.
+pub record IsLeastWitness (view : ViewName) (old new : Parts) (root : Text) (bytes : List ℕ) (steps : List Step) : Type 0 where
   pub message : Kept
   pub certificate : Claim
-  pub broken : IsBroken by_numbers old new root message certificate
+  pub named : certificate.view ≡ view
+  pub broken : IsBroken (sight_named view old new) old new root message certificate
   pub bytes_are : certificate.witness ≡ Some bytes
   pub are_steps : AreSteps old new certificate steps
 
--- the text is that of the certificate of an answer, and this is whether a message breaks
-pub record IsCertificateText (old new : Parts) (root text : Text) (breaks : Bool) : Type 0 where
+-- the text is that of the certificate of an answer under the view, in version 2, and this is whether a message breaks
+pub record IsCertificateText (view : ViewName) (old new : Parts) (root text : Text) (breaks : Bool) : Type 0 where
   pub answer : Answer
-  pub is_answer : IsAnswer old new root answer
+  pub is_answer : IsAnswerUnder view old new root answer
   pub certifies : Certifies old new text (certificate_of answer)
+  pub is_second : IsSecondText old new text (certificate_of answer)
   pub breaks_is : breaks ≡ is_some (certificate_of answer).witness
 
--- what the gate finds of the types of that name; the certificate where that is asked for, and nowhere else
-abbrev pub IsFindingOf : Parts → Parts → Text → Bool → Finding → Type 0
-IsFindingOf old new root false findings.Compatible = IsShownCompatible old new root
-IsFindingOf old new root false (findings.Breaks witness steps) = IsLeastWitness old new root witness.items steps.items
-IsFindingOf old new root false (findings.Certified text breaks) = ⊥
-IsFindingOf old new root false (findings.Verified verified) = ⊥
-IsFindingOf old new root true findings.Compatible = ⊥
-IsFindingOf old new root true (findings.Breaks witness steps) = ⊥
-IsFindingOf old new root true (findings.Certified text breaks) = IsCertificateText old new root (string_bytes text) breaks
-IsFindingOf old new root true (findings.Verified verified) = ⊥
+-- what the gate finds of the types of that name under the view; the certificate where that is asked for, and nowhere else
+abbrev pub IsFindingOf : ViewName → Parts → Parts → Text → Bool → Finding → Type 0
+IsFindingOf view old new root false findings.Compatible = IsShownCompatible view old new root
+IsFindingOf view old new root false (findings.Breaks witness steps) = IsLeastWitness view old new root witness.items steps.items
+IsFindingOf view old new root false (findings.Certified text breaks) = ⊥
+IsFindingOf view old new root false (findings.Verified verified) = ⊥
+IsFindingOf view old new root true findings.Compatible = ⊥
+IsFindingOf view old new root true (findings.Breaks witness steps) = ⊥
+IsFindingOf view old new root true (findings.Certified text breaks) = IsCertificateText view old new root (string_bytes text) breaks
+IsFindingOf view old new root true (findings.Verified verified) = ⊥
 
 -- What the gate answers of the types of that name: what it finds from the old to the new one; where both directions are asked for, and
--- not the certificate alone, also what it finds from the new to the old one.
-abbrev pub IsGateReply : Parts → Parts → Text → (certificate_only both : Bool) → Reply → Type 0
-IsGateReply old new root certificate_only both (replies.Set bytes) = ⊥
-IsGateReply old new root certificate_only both (replies.Shown text) = ⊥
-IsGateReply old new root certificate_only both (replies.Found finding) = ((both && not certificate_only) ≡ false) × IsFindingOf old new root certificate_only finding
-IsGateReply old new root certificate_only both (replies.Both forward backward) = ((both && not certificate_only) ≡ true) × IsFindingOf old new root false forward × IsFindingOf new old root false backward
-IsGateReply old new root certificate_only both (replies.Refused refusal) = ⊥
+-- not the certificate alone, also what it finds from the new to the old one. Both are found under the same view.
+abbrev pub IsGateReply : ViewName → Parts → Parts → Text → (certificate_only both : Bool) → Reply → Type 0
+IsGateReply view old new root certificate_only both (replies.Set bytes) = ⊥
+IsGateReply view old new root certificate_only both (replies.Shown text) = ⊥
+IsGateReply view old new root certificate_only both (replies.Found finding) = ((both && not certificate_only) ≡ false) × IsFindingOf view old new root certificate_only finding
+IsGateReply view old new root certificate_only both (replies.Both forward backward) = ((both && not certificate_only) ≡ true) × IsFindingOf view old new root false forward × IsFindingOf view new old root false backward
+IsGateReply view old new root certificate_only both (replies.Refused refusal) = ⊥
 
 -- a finding tells a certificate's witness and its steps, or that it has none
 abbrev pub TellsAnswer : Parts → Parts → Claim → Finding → Type 0
@@ -111,11 +116,11 @@ TellsAnswer old new certificate (findings.Breaks witness steps) = (certificate.w
 TellsAnswer old new certificate (findings.Certified text breaks) = ⊥
 TellsAnswer old new certificate (findings.Verified verified) = ⊥
 
--- a finding tells a certificate's text, and whether it has a witness
+-- a finding tells a certificate's text in version 2, and whether it has a witness
 abbrev pub TellsCertificate : Parts → Parts → Claim → Finding → Type 0
 TellsCertificate old new certificate findings.Compatible = ⊥
 TellsCertificate old new certificate (findings.Breaks witness steps) = ⊥
-TellsCertificate old new certificate (findings.Certified text breaks) = Certifies old new (string_bytes text) certificate × (breaks ≡ is_some certificate.witness)
+TellsCertificate old new certificate (findings.Certified text breaks) = Certifies old new (string_bytes text) certificate × IsSecondText old new (string_bytes text) certificate × (breaks ≡ is_some certificate.witness)
 TellsCertificate old new certificate (findings.Verified verified) = ⊥
 
 abbrev pub Tells : Parts → Parts → Claim → Bool → Finding → Type 0
@@ -214,8 +219,8 @@ IsVerifyReply path old new (replies.Refused refusal) = ⊥
 -- what is answered to a call, where nothing is refused
 abbrev pub IsReplyFor : Seen → Seen → Request → Reply → Type 0
 IsReplyFor old new (compile dir files) reply = IsSetReply (world_of old dir files) reply
-IsReplyFor old new (gate sides root certificate_only both) reply =
-    Between (world_of old sides.old_dir (sides.old ∷ [])) (world_of new sides.new_dir (sides.new ∷ [])) (λ a b. IsGateReply a b root certificate_only both reply)
+IsReplyFor old new (gate sides root certificate_only both view) reply =
+    Between (world_of old sides.old_dir (sides.old ∷ [])) (world_of new sides.new_dir (sides.new ∷ [])) (λ a b. IsGateReply view a b root certificate_only both reply)
 IsReplyFor old new (show dir file root word) reply = IsShowReply (world_of old dir (file ∷ [])) root word reply
 IsReplyFor old new (verify sides certificate) reply =
     IsVerifyReply certificate (world_of old sides.old_dir (sides.old ∷ [])) (world_of new sides.new_dir (sides.new ∷ [])) reply
@@ -227,7 +232,7 @@ OfGate is = IsCallError is (λ fault. ⊥) (λ error. ⊥)
 -- why nothing is answered to a call
 abbrev pub IsErrorFor : Seen → Seen → Request → CallError → Type 0
 IsErrorFor old new (compile dir files) error = OfGate (IsSetError (world_of old dir files)) error
-IsErrorFor old new (gate sides root certificate_only both) error =
+IsErrorFor old new (gate sides root certificate_only both view) error =
     OfGate (IsGateError root (world_of old sides.old_dir (sides.old ∷ [])) (world_of new sides.new_dir (sides.new ∷ []))) error
 IsErrorFor old new (show dir file root word) error = IsShowError (world_of old dir (file ∷ [])) root word error
 IsErrorFor old new (verify sides certificate) error =

@@ -53,7 +53,7 @@ text_of root (reply.Refused r) = refusal_of r
 -- the name of the root types; a certificate has its own, and a set and the lines of a message have none
 abbrev pub root_of : Request → Text
 root_of (compile dir files) = []
-root_of (gate sides root certificate_only both) = root
+root_of (gate sides root certificate_only both view) = root
 root_of (show dir file root word) = []
 root_of (verify sides certificate) = []
 

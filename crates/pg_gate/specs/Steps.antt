@@ -5,10 +5,10 @@ use Rattle.std.specs.Option.{option_map_or}
 use Rattle.clap.specs.Words.{Text}
 use Rattle.pg_cert.specs.Bounds.{bound_in}
 use Rattle.pg_cert.specs.Certificate.{Claim}
+use Rattle.pg_cert.specs.ClaimSight.{sight_in}
 use Rattle.pg_cert.specs.Text.{names_of}
 use Rattle.pg_least.specs.Descent.{IsWay}
 use Rattle.pg_least.specs.declared.witness.Step as stages
-use Rattle.pg_pairs.specs.Sight.{by_numbers}
 use Rattle.pg_pairs.specs.declared.choice.Choice.{Choice}
 use Rattle.pg_pairs.specs.declared.choice.Pair.{Pair}
 use Rattle.pg_schema.specs.declared.field.Field.{Field}
@@ -42,8 +42,8 @@ abbrev pub named : Step → NamedStep
 named step = record { number = step.number; old = string_bytes step.old.name; new = string_bytes step.new.name }
 
 -- The steps are the fields of the choices on the witness's way, root first: from the claim's root by the cheapest choice of each pair to
--- the pair of the message that the choice holds.
+-- the pair of the message that the choice holds. Enums are compared by the view that the claim names.
 pub record AreSteps (old new : Parts) (claim : Claim) (steps : List Step) : Type 0 where
   pub way : List stages.Step
-  pub is_way : IsWay by_numbers (shape_of old) (shape_of new) (bound_in claim.bounds) claim.root way
+  pub is_way : IsWay (sight_in old new claim) (shape_of old) (shape_of new) (bound_in claim.bounds) claim.root way
   pub are : map named steps ≡ flat_map (steps_by old new) way

@@ -9,8 +9,8 @@ use Rattle.pg_cert.specs.declared.verdict.Verdict.TheVariants as verdicts
 use Rattle.pg_link.specs.declared.error.Place.{Place}
 use Rattle.pg_gate.specs.declared.error.Side.{Side}
 use Rattle.pg_gate.specs.declared.error.Side.TheVariants as side
-use Rattle.pg_gate.specs.declared.print.refusal.Location.{Location}
-use Rattle.pg_gate.specs.declared.print.refusal.Location.TheVariants as location
+use Rattle.pg_gate.specs.declared.print.location.Location.{Location}
+use Rattle.pg_gate.specs.declared.print.location.Location.TheVariants as location
 use Rattle.pg_gate.specs.declared.print.refusal.Refusal.{Refusal}
 use Rattle.pg_gate.specs.declared.print.reply.Finding.{Finding}
 use Rattle.pg_gate.specs.declared.print.reply.Finding.TheVariants as finding

@@ -3,6 +3,8 @@
 pub(crate) mod command_line;
 pub(crate) mod error;
 
+use pg_dyn::ViewName;
+
 /// The words of a command line, as they are meant.
 #[derive(Debug, Drop)]
 pub(crate) enum Call<'a> {
@@ -12,13 +14,15 @@ pub(crate) enum Call<'a> {
         dir: &'a str,
         files: Vec<&'a str>,
     },
-    /// What a reader of the new type sees of the messages that a writer of the old one writes; the
-    /// certificate alone where that is asked for, and else both directions where these are.
+    /// What a reader of the new type sees of the messages that a writer of the old one writes, with
+    /// enums compared by the view; the certificate alone where that is asked for, and else both
+    /// directions where these are.
     Gate {
         sides: Sides<'a>,
         root: &'a str,
         certificate_only: bool,
         both: bool,
+        view: ViewName,
     },
     /// The message that the bytes of this word are read as, by the type of this full name in the
     /// text or the descriptor set of this path below the folder.

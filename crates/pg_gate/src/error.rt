@@ -4,6 +4,7 @@ use crate::print::sink::SinkError;
 use pg_check::CheckError;
 use pg_fds::FdsError;
 use pg_link::LinkError;
+use pg_show::HexError;
 use std::alloc::{AllocError, AllocFailed};
 use std::fmt;
 use thiserror::Error;
@@ -54,6 +55,42 @@ pub enum GateError {
     /// character.
     #[error("The word is not pairs of hexadecimal digits.")]
     BadHex,
+}
+
+impl Fault {
+    ghost use Rattle.std.specs.Prelude.{◌≡◌};
+    ghost use Rattle.pg_gate.specs.Codes.{fault_code};
+
+    /// The number behind the E by which users know the fault.
+    pub(crate) fn code(&self) -> u16
+        ensures { result ≡ fault_code self.now }
+    {
+        match self {
+            Fault::Link(error) => error.code(),
+            Fault::Check(error) => error.code(),
+            Fault::Set(error) => error.code(),
+        }
+    }
+}
+
+impl GateError {
+    ghost use Rattle.std.specs.Prelude.{◌≡◌};
+    ghost use Rattle.pg_gate.specs.Codes.{code_of};
+
+    /// The number behind the E by which users know the error: of a side that does not compile, the
+    /// one that says what is wrong there.
+    pub fn code(&self) -> u16
+        ensures { result ≡ code_of self.now }
+    {
+        match self {
+            GateError::Memory => 1,
+            GateError::RootMissingOld => 901,
+            GateError::RootMissingNew => 902,
+            GateError::Compile(_, fault) => fault.code(),
+            GateError::WriteFailed => 904,
+            GateError::BadHex => HexError::BadHex.code(),
+        }
+    }
 }
 
 impl fmt::Display for Side {

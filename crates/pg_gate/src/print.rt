@@ -1,8 +1,8 @@
 //! How an answer is printed.
 
 pub(crate) mod buffer;
-pub(crate) mod diagnostic;
 pub(crate) mod hex;
+pub(crate) mod location;
 pub(crate) mod refusal;
 pub(crate) mod reply;
 pub(crate) mod sink;

@@ -1,11 +1,11 @@
 //! The whole program: words, call, answer, text, sink and status.
-ghost use Rattle.std.specs.Prelude.{◌≡◌, ◌≢◌, ◌+◌, Some, None, IfErr, IfOk, IsErrOf, OnOk};
+ghost use Rattle.std.specs.Prelude.{◌≡◌, ◌≢◌, ◌+◌, IfErr, IfOk, IsErrOf, OnOk};
 ghost use Rattle.clap.specs.Walk.{texts};
 ghost use Rattle.clap.specs.Words.{kind_of};
-ghost use Rattle.pg_gate.specs.Call.{call_of, request_of};
+ghost use Rattle.pg_gate.specs.Call.{IsCall, IsNoCall, request_of};
 ghost use Rattle.pg_gate.specs.Grants.{Grants, seen};
 ghost use Rattle.pg_gate.specs.Printed.{root_of};
-ghost use Rattle.pg_gate.specs.Run.{Begins, IsRunError, Prints, failures_in};
+ghost use Rattle.pg_gate.specs.Run.{Begins, IsRunError, Keeps, MayLack, Prints, failures_in};
 
 use crate::answer::dispatch::answer;
 use crate::call::{Call, command_line};
@@ -38,6 +38,7 @@ fn usage<W: Sink>(alloc: Global, error: &clap::Error, sink: &mut W) -> Result<u8
         → kind_of error.now ≢ ErrorKind.OutOfMemory }
     ensures only { IfErr result IsRunError }
     ensures untouched { IsErrOf result GateError.Memory → W.taken sink.new ≡ W.taken sink.old }
+    ensures kept { Keeps (W.taken sink.old) (W.taken sink.new) }
     ensures counted { W.failures sink.new ≡ W.failures sink.old + failures_in result }
 {
     if error.kind() == ErrorKind::OutOfMemory {
@@ -63,7 +64,7 @@ pub fn run<S: Sources, T: Sources, W: Sink>(
     sink: &mut W,
 ) -> Result<u8, GateError>
     // Only words that `clap` does not take end with the status of usage.
-    ensures usage { IfOk result (λ status. status ≡ USAGE → call_of (texts words.now) ≡ None) }
+    ensures usage { IfOk result (λ status. status ≡ USAGE → IsNoCall (texts words.now)) }
 
     // Else the sink took exactly the text of the words' call and an answer granted to it.
     ensures printed { IfOk result (λ status. status ≢ USAGE → Prints
@@ -73,14 +74,27 @@ pub fn run<S: Sources, T: Sources, W: Sink>(
         (texts words.now) status (W.taken sink.old) (W.taken sink.new)) }
 
     // A sink that fails took a beginning of it, and memory that fails leaves the sink alone.
-    ensures begun { IsErrOf result GateError.WriteFailed → call_of (texts words.now) ≢ None → Begins
+    ensures begun { IsErrOf result GateError.WriteFailed → ¬ (IsNoCall (texts words.now)) → Begins
         (Grants (seen (S.may_give old.old) (S.may_lack old.old)
         (S.failures old.old) (S.failures old.new))
         (seen (T.may_give new.old) (T.may_lack new.old) (T.failures new.old) (T.failures new.new)))
         (texts words.now) (W.taken sink.old) (W.taken sink.new) }
     ensures only { IfErr result IsRunError }
     ensures untouched { IsErrOf result GateError.Memory → W.taken sink.new ≡ W.taken sink.old }
+    ensures kept { Keeps (W.taken sink.old) (W.taken sink.new) }
     ensures counted { W.failures sink.new ≡ W.failures sink.old + failures_in result }
+
+    // Words that are no call leave the sources as they were. Where memory runs out, no source
+    // failed, or as an answer reports that is granted.
+    ensures unasked { IfOk result (λ status. status ≡ USAGE
+        → (old.new ≡ old.old) × (new.new ≡ new.old)) }
+    ensures uncalled { ¬ (IsCall (texts words.now)) → (old.new ≡ old.old) × (new.new ≡ new.old) }
+    ensures lacking { IsErrOf result GateError.Memory → MayLack
+        (Grants (seen (S.may_give old.old) (S.may_lack old.old)
+        (S.failures old.old) (S.failures old.new))
+        (seen (T.may_give new.old) (T.may_lack new.old) (T.failures new.old) (T.failures new.new)))
+        (texts words.now) ((S.failures old.new ≡ S.failures old.old)
+        × (T.failures new.new ≡ T.failures new.old)) }
 
     // The sources' reads leave what they may give and lack.
     ensures old_given { S.may_give old.new ≡ S.may_give old.old }

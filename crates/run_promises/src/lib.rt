@@ -3,11 +3,11 @@
 //! reads leave, aren't said again.
 #![tactic(auto)]
 
-ghost use Rattle.std.specs.Prelude.{◌≡◌, ◌≢◌, None, IfOk};
+ghost use Rattle.std.specs.Prelude.{◌≡◌, ◌≢◌, IfOk, IsErrOf};
 ghost use Rattle.clap.specs.Walk.{texts};
-ghost use Rattle.pg_gate.specs.Call.{call_of};
+ghost use Rattle.pg_gate.specs.Call.{IsCall, IsNoCall};
 ghost use Rattle.pg_gate.specs.Grants.{Grants, seen};
-ghost use Rattle.pg_gate.specs.Run.{Prints};
+ghost use Rattle.pg_gate.specs.Run.{MayLack, Prints};
 
 use pg_gate::{GateError, Sink};
 use pg_link::Sources;
@@ -40,7 +40,30 @@ pub fn run_usage<S: Sources, T: Sources, W: Sink>(
     sink: &mut W,
 ) -> Result<u8, GateError>
     // Only words that `clap` does not take end with it.
-    ensures usage { IfOk result (λ status. status ≡ 4 → call_of (texts said.now) ≡ None) }
+    ensures usage { IfOk result (λ status. status ≡ 4 → IsNoCall (texts said.now)) }
 {
     pg_gate::run(alloc, said, old, new, sink)
+}
+
+/// What `run` leaves of its sources where it prints no answer.
+pub fn run_unanswered<S: Sources, T: Sources, W: Sink>(
+    alloc: Global,
+    given: &[&str],
+    old: &mut S,
+    new: &mut T,
+    sink: &mut W,
+) -> Result<u8, GateError>
+    // Words that are no call leave the sources as they were.
+    ensures unasked { IfOk result (λ status. status ≡ 4
+        → (old.new ≡ old.old) × (new.new ≡ new.old)) }
+    ensures uncalled { ¬ (IsCall (texts given.now)) → (old.new ≡ old.old) × (new.new ≡ new.old) }
+    // Where memory runs out, no source failed, or as an answer reports that is granted.
+    ensures lacking { IsErrOf result GateError.Memory → MayLack
+        (Grants (seen (S.may_give old.old) (S.may_lack old.old)
+        (S.failures old.old) (S.failures old.new))
+        (seen (T.may_give new.old) (T.may_lack new.old) (T.failures new.old) (T.failures new.new)))
+        (texts given.now) ((S.failures old.new ≡ S.failures old.old)
+        × (T.failures new.new ≡ T.failures new.old)) }
+{
+    pg_gate::run(alloc, given, old, new, sink)
 }

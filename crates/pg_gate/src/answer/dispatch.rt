@@ -1,8 +1,8 @@
 //! What a call is answered, from its sources.
-ghost use Rattle.std.specs.Prelude.{◌≡◌, ◌+◌, [], ◌∷◌, IfErr, IfOk};
+ghost use Rattle.std.specs.Prelude.{◌≡◌, ◌+◌, [], ◌∷◌, IfErr, IfOk, OnErr};
+ghost use Rattle.pg_cert.specs.ClaimSight.{sight_in};
 ghost use Rattle.pg_cert.specs.Text.{IsClaimOf};
 ghost use Rattle.pg_least.specs.Exact.{IsSearched};
-ghost use Rattle.pg_pairs.specs.Sight.{by_numbers};
 ghost use Rattle.pg_schema.specs.Parts.{shape_of};
 ghost use Rattle.pg_gate.specs.Answer.{IsRefusedRoot};
 ghost use Rattle.pg_gate.specs.Call.{request_of, sides_of};
@@ -13,7 +13,7 @@ ghost use Rattle.pg_link.specs.Walk.{world};
 
 use crate::answer::both_sides::{SideFiles, compile_both};
 use crate::answer::compile::Compiled;
-use crate::answer::gate::gate;
+use crate::answer::gate::gate_with;
 use crate::answer::showing::shown;
 use crate::answer::stepping::steps;
 use crate::answer::verifying::verify;
@@ -24,6 +24,7 @@ use crate::print::refusal::refusal_for;
 use crate::print::reply::{Finding, Reply};
 use crate::print::writing::written;
 use pg_cert::{Certificate, to_text};
+use pg_dyn::ViewName;
 use pg_link::Sources;
 use pg_schema::Schema;
 use std::alloc::{AllocError, Global};
@@ -35,6 +36,7 @@ struct Asked<'a> {
     root: &'a str,
     certificate_only: bool,
     both: bool,
+    view: ViewName,
 }
 
 /// What is told of an answer with this certificate: its witness's bytes and steps, where it has
@@ -45,8 +47,8 @@ fn told(
     new: &Compiled,
     certificate: &Certificate,
 ) -> Result<Finding, AllocError>
-    requires { IsSearched by_numbers (shape_of old.now.schema)
-        (shape_of new.now.schema) certificate.now.root certificate.now }
+    requires { IsSearched (sight_in old.now.schema new.now.schema certificate.now)
+        (shape_of old.now.schema) (shape_of new.now.schema) certificate.now.root certificate.now }
     ensures { IfOk result (TellsAnswer old.now.schema new.now.schema certificate.now) }
 {
     match certificate.witness() {
@@ -82,8 +84,8 @@ fn finding_of(
     certificate: &Certificate,
     certificate_only: bool,
 ) -> Result<Finding, AllocError>
-    requires searched { IsSearched by_numbers (shape_of old.now.schema)
-        (shape_of new.now.schema) certificate.now.root certificate.now }
+    requires searched { IsSearched (sight_in old.now.schema new.now.schema certificate.now)
+        (shape_of old.now.schema) (shape_of new.now.schema) certificate.now.root certificate.now }
     requires claim { IsClaimOf old.now.schema new.now.schema certificate.now }
     ensures { IfOk result (Tells old.now.schema new.now.schema certificate.now certificate_only) }
 {
@@ -94,28 +96,29 @@ fn finding_of(
     }
 }
 
-/// What the gate finds from an old to a new side.
+/// What the gate finds from an old to a new side under the view.
 fn one_way(
     alloc: Global,
     old: &Compiled,
     new: &Compiled,
     root: &str,
     certificate_only: bool,
+    view: ViewName,
 ) -> Result<Finding, GateError>
-    ensures found { IfOk result (IsFindingOf old.now.schema new.now.schema root.now
+    ensures found { IfOk result (IsFindingOf view old.now.schema new.now.schema root.now
         certificate_only) }
     ensures refused { IfErr result (IsRefusedRoot old.now.schema new.now.schema root.now) }
 {
     // What holds of every schema.
     old.schema.parts();
     new.schema.parts();
-    let answer = gate(alloc, &old.schema, &new.schema, root)?;
+    let answer = gate_with(alloc, &old.schema, &new.schema, root, view)?;
     let finding = finding_of(alloc, old, new, answer.certificate(), certificate_only)?;
     Ok(finding)
 }
 
 /// What the gate answers of two sides that compiled: for the certificate alone, or in one direction
-/// or both.
+/// or both, under the same view.
 fn between(
     alloc: Global,
     old: &Compiled,
@@ -123,16 +126,17 @@ fn between(
     root: &str,
     certificate_only: bool,
     both: bool,
+    view: ViewName,
 ) -> Result<Reply, GateError>
-    ensures found { IfOk result (IsGateReply old.now.schema new.now.schema root.now certificate_only
-        both) }
+    ensures found { IfOk result (IsGateReply view old.now.schema new.now.schema root.now
+        certificate_only both) }
     ensures refused { IfErr result (IsRefusedRoot old.now.schema new.now.schema root.now) }
 {
-    let forward = one_way(alloc, old, new, root, certificate_only)?;
+    let forward = one_way(alloc, old, new, root, certificate_only, view)?;
     if certificate_only || !both {
         return Ok(Reply::Found(forward));
     }
-    let backward = one_way(alloc, new, old, root, false)?;
+    let backward = one_way(alloc, new, old, root, false, view)?;
     Ok(Reply::Both { forward, backward })
 }
 
@@ -148,8 +152,8 @@ fn find<S: Sources, T: Sources>(
         asked.now.sides.now.old_dir.now (asked.now.sides.now.old.now ∷ []))
         (world (T.may_give new.old) (T.may_lack new.old)
         asked.now.sides.now.new_dir.now (asked.now.sides.now.new.now ∷ []))
-        (λ a b. IsGateReply a b asked.now.root.now asked.now.certificate_only asked.now.both
-        reply)) }
+        (λ a b. IsGateReply asked.now.view a b asked.now.root.now asked.now.certificate_only
+        asked.now.both reply)) }
     ensures refused { IfErr result (IsGateError asked.now.root.now
         (world (S.may_give old.old) (S.may_lack old.old)
         asked.now.sides.now.old_dir.now (asked.now.sides.now.old.now ∷ []))
@@ -186,6 +190,7 @@ fn find<S: Sources, T: Sources>(
         asked.root,
         asked.certificate_only,
         asked.both,
+        asked.view,
     )
 }
 
@@ -218,12 +223,14 @@ fn reply_to<S: Sources, T: Sources>(
             root,
             certificate_only,
             both,
+            view,
         } => {
             let asked = Asked {
                 sides,
                 root,
                 certificate_only: *certificate_only,
                 both: *both,
+                view: *view,
             };
             Ok(find(alloc, &asked, old, new)?)
         }
@@ -250,6 +257,8 @@ pub(crate) fn answer<S: Sources, T: Sources>(
         (seen (S.may_give old.old) (S.may_lack old.old) (S.failures old.old) (S.failures old.new))
         (seen (T.may_give new.old) (T.may_lack new.old) (T.failures new.old) (T.failures new.new))
         (request_of call.now)) }
+    ensures lacking { OnErr result ((S.failures old.new ≡ S.failures old.old)
+        × (T.failures new.new ≡ T.failures new.old)) }
     ensures old_given { S.may_give old.new ≡ S.may_give old.old }
     ensures old_lacked { S.may_lack old.new ≡ S.may_lack old.old }
     ensures new_given { T.may_give new.new ≡ T.may_give new.old }

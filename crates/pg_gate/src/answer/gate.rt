@@ -17,8 +17,8 @@ use pg_cert::Certificate;
 use pg_dyn::{Message, ViewName};
 use pg_least::{Found, find_with};
 use pg_link::Sources;
-use pg_pairs::laws::numbers_are_alike;
-use pg_pairs::{Names, Numbers, Pair, View, sees_by_name};
+use pg_pairs::laws::{numbers_are_alike, sees_by_name};
+use pg_pairs::{Names, Numbers, Pair, View};
 use pg_schema::Schema;
 use std::alloc::{AllocError, Global};
 
@@ -82,6 +82,7 @@ fn found_by<V: View>(
         (shape_of old.now) (shape_of new.now) pair found.certificate) }
     ensures witness { IfOk result (λ found. IsBesideClaim (sight_named V.NAME old.now new.now)
         (shape_of old.now) (shape_of new.now) found.certificate found.witness) }
+    ensures named { IfOk result (λ found. found.certificate.view ≡ V.NAME) }
 {
     sees_by_name(view, old, new);
     find_with(alloc, view, old, new, pair)
@@ -101,6 +102,7 @@ fn found_under(
         (shape_of old.now) (shape_of new.now) pair found.certificate) }
     ensures witness { IfOk result (λ found. IsBesideClaim (sight_named view old.now new.now)
         (shape_of old.now) (shape_of new.now) found.certificate found.witness) }
+    ensures named { IfOk result (λ found. found.certificate.view ≡ view) }
 {
     match view {
         ViewName::Numbers => found_by(alloc, &Numbers, old, new, pair),
@@ -111,8 +113,8 @@ fn found_under(
 /// Whether the new reader sees all that the old writer writes, for the message types of this full
 /// name: that it does, or a message of the old type that breaks, of which none has fewer bytes;
 /// either with the certificate of the two types, which a checker takes. Enums are compared by the
-/// view of that name: under `Names` a number that both enums declare is another item where they
-/// give it other names.
+/// view of that name, which stands in the certificate: under `Names` a number that both enums
+/// declare is another item where they give it other names.
 ///
 /// Refused are want of memory (`Memory`), an old schema without the name (`RootMissingOld`), and
 /// else a new one without it (`RootMissingNew`).

@@ -1,9 +1,9 @@
 //! The steps of a witness: the fields on its path.
 ghost use Rattle.std.specs.Prelude.{◌≡◌, ◌++◌, IfOk, OnOk, true, is_some, map, string_bytes};
 ghost use Rattle.std.specs.List.{flat_map};
+ghost use Rattle.pg_cert.specs.ClaimSight.{sight_in};
 ghost use Rattle.pg_cert.specs.Text.{names_of};
 ghost use Rattle.pg_least.specs.Exact.{IsSearched};
-ghost use Rattle.pg_pairs.specs.Sight.{by_numbers};
 ghost use Rattle.pg_schema.specs.Parts.{shape_of};
 ghost use Rattle.pg_gate.specs.Steps as spec;
 
@@ -164,8 +164,8 @@ pub(crate) fn steps(
     new: &Compiled,
     certificate: &Certificate,
 ) -> Result<Vec<Step>, AllocError>
-    requires searched { IsSearched by_numbers (shape_of old.now.schema)
-        (shape_of new.now.schema) certificate.now.root certificate.now }
+    requires searched { IsSearched (sight_in old.now.schema new.now.schema certificate.now)
+        (shape_of old.now.schema) (shape_of new.now.schema) certificate.now.root certificate.now }
     requires breaks { is_some certificate.now.witness ≡ true }
     ensures { IfOk result (λ steps. spec.AreSteps old.now.schema new.now.schema certificate.now
         steps.items) }

@@ -1,9 +1,9 @@
 //! What a certificate shows of two sides.
 ghost use Rattle.std.specs.Prelude.{◌≡◌, ◌+◌, List, ℕ, [], ◌∷◌, IfErr, IfOk, IsTrue, OnOk, string_bytes};
 ghost use Rattle.pg_cert.specs.Certificate.{Holds, verdict_of};
+ghost use Rattle.pg_cert.specs.ClaimSight.{sight_in};
 ghost use Rattle.pg_cert.specs.Laws.{Says};
 ghost use Rattle.pg_cert.specs.Text.{Certifies, names_of};
-ghost use Rattle.pg_pairs.specs.Sight.{by_numbers};
 ghost use Rattle.pg_link.specs.Walk.{world};
 ghost use Rattle.pg_schema.specs.Parts.{shape_of};
 ghost use Rattle.pg_gate.specs.Failures.{call_failures};
@@ -15,6 +15,7 @@ use crate::answer::verified::Verified;
 use crate::call::Sides;
 use crate::call::error::{CallError, CertificateFault, ClaimFault, PairNames};
 use crate::error::{GateError, Side};
+use crate::print::location::Location;
 use crate::print::reply::Finding;
 use pg_cert::{CertError, Certificate, Verdict, check, from_text};
 use pg_link::{SourceError, Sources};
@@ -66,42 +67,49 @@ fn pair_names(
     })
 }
 
-/// The refusal of a certificate's bytes.
-fn refused(fault: ClaimFault) -> CallError
-    ensures { result ≡ spec.refused fault }
-{
-    CallError::Certificate(CertificateFault::Refused(fault))
-}
-
-/// What is told of a checker's error.
-fn error_of(
+/// Where a checker's error is reported: at the pair that it is of, or nowhere.
+fn location_of(
     alloc: Global,
     old: &Schema,
     new: &Schema,
     error: CertError,
-) -> Result<CallError, AllocError>
-    ensures { IfOk result (spec.IsToldOf old.now new.now error) }
+) -> Result<Location, AllocError>
+    ensures { IfOk result (spec.IsPlaceOf old.now new.now error) }
 {
     match error {
-        CertError::Memory => Ok(CallError::Gate(GateError::Memory)),
-        CertError::BadText => Ok(refused(ClaimFault::BadText)),
-        CertError::RootMissing => Ok(refused(ClaimFault::RootMissing)),
         CertError::PairMissing { pair } => {
             let names = pair_names(alloc, old, new, pair)?;
-            Ok(refused(ClaimFault::PairMissing(names)))
+            Ok(Location::AtPair(names))
         }
         CertError::BoundTooHigh { pair, number, case } => {
             let names = pair_names(alloc, old, new, pair)?;
-            Ok(refused(ClaimFault::BoundTooHigh {
+            Ok(Location::AtChoice {
                 names,
                 number,
                 case,
-            }))
+            })
         }
-        CertError::WitnessNotWritten => Ok(refused(ClaimFault::WitnessNotWritten)),
-        CertError::WitnessLength => Ok(refused(ClaimFault::WitnessLength)),
-        CertError::WitnessKeeps => Ok(refused(ClaimFault::WitnessKeeps)),
+        CertError::Memory
+        | CertError::BadText
+        | CertError::RootMissing
+        | CertError::WitnessNotWritten
+        | CertError::WitnessLength
+        | CertError::WitnessKeeps => Ok(Location::Nowhere),
     }
+}
+
+/// The fault of a certificate's bytes, by the checker's error.
+fn fault_of(
+    alloc: Global,
+    old: &Schema,
+    new: &Schema,
+    error: CertError,
+) -> Result<ClaimFault, AllocError>
+    ensures same { IfOk result (λ fault. fault.error ≡ error) }
+    ensures placed { IfOk result (λ fault. spec.IsPlaceOf old.now new.now error fault.location) }
+{
+    let location = location_of(alloc, old, new, error)?;
+    Ok(ClaimFault { error, location })
 }
 
 /// The certificate that the bytes spell.
@@ -116,29 +124,37 @@ fn spelled(
 {
     match from_text(alloc, old, new, bytes) {
         Ok(certificate) => Ok(certificate),
-        Err(error) => Err(error_of(alloc, old, new, error)?),
+        Err(CertError::Memory) => Err(CallError::Gate(GateError::Memory)),
+        Err(error) => {
+            let fault = fault_of(alloc, old, new, error)?;
+            Err(CallError::Certificate(CertificateFault::Refused(fault)))
+        }
     }
 }
 
-/// The verdict of the certificate, if it holds.
+/// The verdict of the certificate, if it holds under the view that it names.
 fn checked(
     alloc: Global,
     old: &Schema,
     new: &Schema,
     certificate: &Certificate,
 ) -> Result<Verdict, CallError>
-    ensures holds { OnOk result (Holds by_numbers (shape_of old.now)
-        (shape_of new.now) certificate.now) }
+    ensures holds { OnOk result (Holds (sight_in old.now new.now certificate.now)
+        (shape_of old.now) (shape_of new.now) certificate.now) }
     ensures verdict { IfOk result (λ verdict. verdict ≡ verdict_of certificate.now) }
-    ensures says { IfOk result (Says by_numbers (shape_of old.now)
-        (shape_of new.now) certificate.now) }
+    ensures says { IfOk result (Says (sight_in old.now new.now certificate.now)
+        (shape_of old.now) (shape_of new.now) certificate.now) }
     ensures refused { IfErr result (λ error. (bytes : List ℕ)
         → Certifies old.now new.now bytes certificate.now
         → spec.IsClaimError old.now new.now bytes error) }
 {
     match check(alloc, old, new, certificate) {
         Ok(verdict) => Ok(verdict),
-        Err(error) => Err(error_of(alloc, old, new, error)?),
+        Err(CertError::Memory) => Err(CallError::Gate(GateError::Memory)),
+        Err(error) => {
+            let fault = fault_of(alloc, old, new, error)?;
+            Err(CallError::Certificate(CertificateFault::Refused(fault)))
+        }
     }
 }
 

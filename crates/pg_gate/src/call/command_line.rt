@@ -1,5 +1,5 @@
 //! The command line, read with `clap`.
-ghost use Rattle.std.specs.Prelude.{◌≡◌, ◌≢◌, Some, None, false, IfErr, IfOk};
+ghost use Rattle.std.specs.Prelude.{◌≡◌, ◌≢◌, Some, false, IfErr, IfOk};
 ghost use Rattle.clap.specs.Walk.{texts};
 ghost use Rattle.clap.specs.Words.{found_of, kind_of, rows_of, rule_of};
 ghost use Rattle.pg_gate.specs.CommandLine.{HasApp};
@@ -9,6 +9,7 @@ ghost use Rattle.pg_gate.specs.CommandLine as command_line;
 use crate::call::{Call, Sides};
 use clap::error::ErrorKind;
 use clap::{Arg, ArgAction, ArgMatches, Command, Error};
+use pg_dyn::ViewName;
 use std::alloc::{AllocError, Global};
 
 /// What help says of the statuses.
@@ -43,6 +44,7 @@ const GATE_ANSWERS: &str = "Prints lines:
   refused E901          no answer, since the old side has no message type of that name
   refused E902          no answer, since only the old side has it
 With --cert it prints the lines of the certificate, or those of a refusal.
+With --view names a number that both sides' enums have is another value if it has other names.
 
 Statuses:
   0  compatible: the new reader sees all that the old writer writes
@@ -88,6 +90,9 @@ Statuses:
 /// What follows the program's name with `--version`: its version, and the kit that proves it.
 const VERSION: &str = "unreleased, proved with rattle-kit-13f";
 
+/// The names of the views by which enums are compared.
+static VIEW_NAMES: [&str; 2] = ["numbers", "names"];
+
 /// What help says of a side's file.
 const OLD_FILE: &str = "The old proto3 file, or a descriptor set where F doesn't end in .proto";
 
@@ -96,16 +101,45 @@ const NEW_FILE: &str = "The new proto3 file, or a descriptor set where F doesn't
 /// What help says of the file by which a message is shown.
 const SHOWN_FILE: &str = "The proto3 file, or a descriptor set where F doesn't end in .proto";
 
+/// An option that may be left out, and then has that value.
+fn defaulted<'a>(
+    alloc: Global,
+    name: &'a str,
+    value_name: &'a str,
+    value: &'a str,
+    help: &'a str,
+) -> Arg<'a>
+    ensures rule { rule_of result ≡ command_line.defaulted name.entry.now value.entry.now }
+    ensures local { result.global ≡ false }
+{
+    Arg::new(alloc, name)
+        .long(name)
+        .value_name(value_name)
+        .default_value(value)
+        .help(help)
+}
+
 /// A folder, by default the current one.
 fn folder<'a>(alloc: Global, name: &'a str, help: &'a str) -> Arg<'a>
     ensures rule { rule_of result ≡ command_line.folder name.entry.now }
     ensures local { result.global ≡ false }
 {
-    Arg::new(alloc, name)
-        .long(name)
-        .value_name("D")
-        .default_value(".")
-        .help(help)
+    defaulted(alloc, name, "D", ".", help)
+}
+
+/// An option that has one of these values, by default that one.
+fn among<'a>(
+    alloc: Global,
+    name: &'a str,
+    values: &'a [&'a str],
+    value: &'a str,
+    help: &'a str,
+) -> Arg<'a>
+    ensures rule { rule_of result
+        ≡ command_line.among name.entry.now values.entry value.entry.now }
+    ensures local { result.global ≡ false }
+{
+    defaulted(alloc, name, "VIEW", value, help).value_parser(values)
 }
 
 /// An option that has to be there.
@@ -157,8 +191,8 @@ fn compile_command<'a>(alloc: Global) -> Result<Command<'a>, AllocError>
         .arg(positionals(alloc, "FILE", "The proto3 files"))
 }
 
-fn gate_command<'a>(alloc: Global) -> Result<Command<'a>, AllocError>
-    ensures { IfOk result (HasApp command_line.gate_app) }
+fn gate_command<'a>(alloc: Global, views: &'a [&'a str]) -> Result<Command<'a>, AllocError>
+    ensures { IfOk result (HasApp (command_line.gate_app views.entry)) }
 {
     Command::new(alloc, "gate")
         .about("Find whether a reader of the new type sees all that a writer of the old one writes")
@@ -177,6 +211,13 @@ fn gate_command<'a>(alloc: Global) -> Result<Command<'a>, AllocError>
             alloc,
             "both",
             "Ask for both directions; with --cert it does nothing",
+        ))?
+        .arg(among(
+            alloc,
+            "view",
+            views,
+            "numbers",
+            "Compare enums by their numbers alone, or by the names of the numbers too",
         ))
 }
 
@@ -216,8 +257,8 @@ fn show_command<'a>(alloc: Global) -> Result<Command<'a>, AllocError>
 }
 
 /// The whole command line, but for the program's name.
-fn whole_command<'a>(alloc: Global) -> Result<Command<'a>, AllocError>
-    ensures { IfOk result (HasApp command_line.whole_app) }
+fn whole_command<'a>(alloc: Global, views: &'a [&'a str]) -> Result<Command<'a>, AllocError>
+    ensures { IfOk result (HasApp (command_line.whole_app views.entry)) }
 {
     Command::new(alloc, "protogate")
         .bin_name("protogate")?
@@ -229,7 +270,7 @@ fn whole_command<'a>(alloc: Global) -> Result<Command<'a>, AllocError>
         .no_binary_name(true)
         .subcommand_required(true)
         .subcommand(compile_command(alloc)?)?
-        .subcommand(gate_command(alloc)?)?
+        .subcommand(gate_command(alloc, views)?)?
         .subcommand(verify_command(alloc)?)?
         .subcommand(show_command(alloc)?)
 }
@@ -262,6 +303,24 @@ fn is_set(found: &ArgMatches<'_>, name: &str) -> bool
     }
 }
 
+/// The view by names where it is that, and else the view by numbers.
+fn view_if(by_names: bool) -> ViewName
+    ensures { result ≡ spec.view_if by_names }
+{
+    if by_names {
+        ViewName::Names
+    } else {
+        ViewName::Numbers
+    }
+}
+
+/// The view that an option names.
+fn view(found: &ArgMatches<'_>, name: &str) -> ViewName
+    ensures { result ≡ spec.view_at name.now (rows_of (found_of found.now)) }
+{
+    view_if(text(found, name) == "names")
+}
+
 fn sides<'a>(found: &ArgMatches<'a>) -> Sides<'a>
     ensures { spec.sides_of result ≡ spec.sides_in (rows_of (found_of found.now)) }
 {
@@ -291,6 +350,7 @@ fn gate_call<'a>(found: &ArgMatches<'a>) -> Call<'a>
         root: text(found, "type"),
         certificate_only: is_set(found, "cert"),
         both: is_set(found, "both"),
+        view: view(found, "view"),
     }
 }
 
@@ -330,11 +390,12 @@ fn call_in<'a>(alloc: Global, name: &str, found: &ArgMatches<'a>) -> Result<Call
 /// What the words after the program's name call for, or why `clap` does not take them.
 pub(crate) fn call_of<'a>(alloc: Global, words: &'a [&'a str]) -> Result<Call<'a>, Error>
     ensures call { IfOk result (λ call.
-        spec.call_of (texts words.entry.now) ≡ Some (spec.request_of call)) }
+        spec.CallsFor (texts words.entry.now) (Some (spec.request_of call))) }
     ensures refused { IfErr result (λ error. kind_of error ≢ ErrorKind.OutOfMemory
-        → spec.call_of (texts words.entry.now) ≡ None) }
+        → spec.IsNoCall (texts words.entry.now)) }
 {
-    let matches = whole_command(alloc)?.try_get_matches_from(words)?;
+    let command = whole_command(alloc, VIEW_NAMES.as_slice())?;
+    let matches = command.try_get_matches_from(words)?;
     let (name, found) = matches.subcommand().unwrap();
     Ok(call_in(alloc, name, found)?)
 }

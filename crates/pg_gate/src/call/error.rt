@@ -1,8 +1,16 @@
 //! Why a call has no answer.
 
 use crate::error::GateError;
+use crate::print::location::Location;
+use pg_cert::CertError;
 use pg_dyn::DynError;
 use std::alloc::{AllocError, AllocFailed};
+
+/// The code of a file that is not there.
+const MISSING_FILE: u16 = 301;
+
+/// The code of a source that failed.
+pub(crate) const SOURCE_FAILED: u16 = 309;
 
 /// The full names of an old and a new message type.
 #[derive(Debug, Drop)]
@@ -11,28 +19,13 @@ pub struct PairNames {
     pub new: String,
 }
 
-/// What a certificate is refused for, of two schemas.
+/// What a certificate's bytes are refused for, of two schemas.
 #[derive(Drop)]
-pub(crate) enum ClaimFault {
-    /// E801: the bytes are no certificate's text for the schemas.
-    BadText,
-    /// E802: the table lacks the root.
-    RootMissing,
-    /// E803: the table lacks this pair, a child of one that it has.
-    PairMissing(PairNames),
-    /// E804: a message of the pair that breaks by the case at the number is shorter than the bound
-    /// says.
-    BoundTooHigh {
-        names: PairNames,
-        number: u32,
-        case: u8,
-    },
-    /// E805: no message of the old root without unknown records encodes to the witness.
-    WitnessNotWritten,
-    /// E806: the witness has not as many bytes as the root's bound says.
-    WitnessLength,
-    /// E807: the witness doesn't break.
-    WitnessKeeps,
+pub(crate) struct ClaimFault {
+    /// The checker's error, E801 to E807.
+    pub error: CertError,
+    /// The pair that the error is of, by the full names of its types, or nowhere.
+    pub location: Location,
 }
 
 /// Why a certificate is not taken.
@@ -55,6 +48,38 @@ pub(crate) enum CallError {
     /// E501 to E505, E604, E607, E608: bytes that are to be shown aren't read as a message, or the
     /// message has no encoding.
     Bytes(DynError),
+}
+
+impl CertificateFault {
+    ghost use Rattle.std.specs.Prelude.{◌≡◌};
+    ghost use Rattle.pg_gate.specs.Codes.{certificate_code};
+
+    /// The number behind the E by which users know the fault.
+    fn code(&self) -> u16
+        ensures { result ≡ certificate_code self.now }
+    {
+        match self {
+            CertificateFault::Missing(_) => MISSING_FILE,
+            CertificateFault::Failed(_) => SOURCE_FAILED,
+            CertificateFault::Refused(fault) => fault.error.code(),
+        }
+    }
+}
+
+impl CallError {
+    ghost use Rattle.std.specs.Prelude.{◌≡◌};
+    ghost use Rattle.pg_gate.specs.Codes.{call_code};
+
+    /// The number behind the E by which users know the error.
+    pub(crate) fn code(&self) -> u16
+        ensures { result ≡ call_code self.now }
+    {
+        match self {
+            CallError::Gate(error) => error.code(),
+            CallError::Certificate(fault) => fault.code(),
+            CallError::Bytes(error) => error.code(),
+        }
+    }
 }
 
 impl From<GateError> for CallError {

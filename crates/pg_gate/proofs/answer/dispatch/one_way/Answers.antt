@@ -1,8 +1,8 @@
 use Rattle.std.proofs.Common.{subst, sym}
 use Rattle.pg_cert.specs.Certificate.{Claim}
+use Rattle.pg_cert.specs.ClaimSight.{sight_in}
 use Rattle.pg_cert.specs.Text.{IsClaimOf}
 use Rattle.pg_least.specs.Exact.{IsSearched}
-use Rattle.pg_pairs.specs.Sight.{by_numbers}
 use Rattle.pg_schema.specs.Parts.{shape_of}
 use Rattle.pg_gate.specs.Grants.{Tells}
 use Rattle.pg_gate.proofs.AnswerLemmas.{claim_of_answer, found_by, searched_by}
@@ -12,19 +12,19 @@ pub finding_of-requires-clause-searched : goal.finding_of-requires-clause-search
 finding_of-requires-clause-searched c =
     let old = c.args.old.now.schema in
     let new = c.args.new.now.schema in
-    subst (λ (claim : Claim). IsSearched by_numbers (shape_of old) (shape_of new) claim.root claim) (sym c.certificate.ensures)
-    (searched_by old new c.args.root.now c.in_ok-answer.answer c.in_ok-answer.ensures.answer)
+    subst (λ (claim : Claim). IsSearched (sight_in old new claim) (shape_of old) (shape_of new) claim.root claim) (sym c.certificate.ensures)
+    (searched_by c.args.view old new c.args.root.now c.in_ok-answer.answer c.in_ok-answer.ensures.answer)
 
 pub finding_of-requires-clause-claim : goal.finding_of-requires-clause-claim
 finding_of-requires-clause-claim c =
     let old = c.args.old.now.schema in
     let new = c.args.new.now.schema in
     subst (λ (claim : Claim). IsClaimOf old new claim) (sym c.certificate.ensures)
-    (claim_of_answer old new c.args.root.now c.parts.ensures.checked.shape c.parts-2.ensures.checked.shape c.in_ok-answer.answer c.in_ok-answer.ensures.answer)
+    (claim_of_answer c.args.view old new c.args.root.now c.parts.ensures.checked.shape c.parts-2.ensures.checked.shape c.in_ok-answer.answer c.in_ok-answer.ensures.answer)
 
 pub returns-clause-found : goal.returns-clause-found
 returns-clause-found c =
     let old = c.args.old.now.schema in
     let new = c.args.new.now.schema in
-    found_by old new c.args.root.now c.in_ok-answer.answer c.args.certificate_only c.in_ok-finding.finding c.in_ok-answer.ensures.answer
+    found_by c.args.view old new c.args.root.now c.in_ok-answer.answer c.args.certificate_only c.in_ok-finding.finding c.in_ok-answer.ensures.answer
     (subst (λ (claim : Claim). Tells old new claim c.args.certificate_only c.in_ok-finding.finding) c.certificate.ensures c.in_ok-finding.ensures)

@@ -1,8 +1,10 @@
 -- The view by numbers has the sight by numbers.
-use Rattle.std.proofs.Common.{IfOk, subst}
-use Rattle.pg_gate.specs.Answer.{IsAnswerBy}
+use Rattle.std.proofs.Common.{◌≡◌, IfOk, subst}
+use Rattle.pg_dyn.specs.declared.view_name.ViewName.TheVariants as views
+use Rattle.pg_gate.specs.Answer.{IsAnswerBy, certificate_of}
 use Rattle.pg_gate.proofs.answer.gate.gate.Goals as goal
 
 pub returns-clause-answer : goal.returns-clause-answer
 returns-clause-answer c =
-    subst (λ sight. IfOk c.gate_with.result (IsAnswerBy sight c.args.old.now c.args.new.now c.args.root.now)) (c.numbers_are_alike.ensures c.args.old.now c.args.new.now) c.gate_with.ensures.answer
+    subst (λ sight. IfOk c.gate_with.result (λ answer. ((certificate_of answer).view ≡ views.Numbers) × IsAnswerBy sight c.args.old.now c.args.new.now c.args.root.now answer))
+    (c.numbers_are_alike.ensures c.args.old.now c.args.new.now) c.gate_with.ensures.answer

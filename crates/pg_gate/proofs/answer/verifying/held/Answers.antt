@@ -23,6 +23,6 @@ returns-clause-found c =
       holds = c.in_ok-verdict.ensures.holds;
       verdict_is = c.in_ok-verdict.ensures.verdict;
       says = c.in_ok-verdict.ensures.says;
-      named = named_by c.args.old.now c.in_ok-certificate.certificate.root.old _ certifies.of_schemas.root.0 (c.in_ok-name.ensures ∙ ap (λ (pair : Pair). names_of c.args.old.now pair.old) c.root-root.ensures.root);
+      named = named_by c.args.old.now c.in_ok-certificate.certificate.root.old _ certifies.has_texts.of_schemas.root.0 (c.in_ok-name.ensures ∙ ap (λ (pair : Pair). names_of c.args.old.now pair.old) c.root-root.ensures.root);
       length_is = c.witness_length-length.ensures;
     }

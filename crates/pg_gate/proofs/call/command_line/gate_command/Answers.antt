@@ -16,4 +16,5 @@ returns c =
     let with_4 = with_arg c.in_ok-arg-4.field-0 with_3 c.named-2.ensures.rule c.named-2.ensures.local (c.in_ok-arg-4.ensures.shape c.named-2.ensures.local) c.in_ok-arg-4.ensures.globals in
     let with_5 = with_arg c.in_ok-arg-5.field-0 with_4 c.named-3.ensures.rule c.named-3.ensures.local (c.in_ok-arg-5.ensures.shape c.named-3.ensures.local) c.in_ok-arg-5.ensures.globals in
     let with_6 = with_arg c.in_ok-arg-6.field-0 with_5 c.flag.ensures.rule c.flag.ensures.local (c.in_ok-arg-6.ensures.shape c.flag.ensures.local) c.in_ok-arg-6.ensures.globals in
-    IfOk-weaker c.arg-7.result _ _ (λ r adds. with_arg r with_6 c.flag-2.ensures.rule c.flag-2.ensures.local (adds.shape c.flag-2.ensures.local) adds.globals) c.arg-7.ensures
+    let with_7 = with_arg c.in_ok-arg-7.field-0 with_6 c.flag-2.ensures.rule c.flag-2.ensures.local (c.in_ok-arg-7.ensures.shape c.flag-2.ensures.local) c.in_ok-arg-7.ensures.globals in
+    IfOk-weaker c.arg-8.result _ _ (λ r adds. with_arg r with_7 c.among.ensures.rule c.among.ensures.local (adds.shape c.among.ensures.local) adds.globals) c.arg-8.ensures

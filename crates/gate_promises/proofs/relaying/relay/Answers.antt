@@ -1,0 +1,11 @@
+use Rattle.std.proofs.Common.{rules}
+use Rattle.gate_promises.proofs.relaying.relay.Goals as goal
+
+pub returns-clause-relayed : goal.returns-clause-relayed
+returns-clause-relayed c = search rules
+
+pub returns-clause-short : goal.returns-clause-short
+returns-clause-short c = search rules
+
+pub returns-clause-refused : goal.returns-clause-refused
+returns-clause-refused c = search rules

@@ -1,0 +1,110 @@
+//! Where a fault is.
+ghost use Rattle.std.specs.Prelude.{◌≡◌, Some};
+ghost use Rattle.pg_gate.specs.Refusals as refusals;
+ghost use Rattle.pg_gate.specs.Text as spec;
+
+use crate::call::error::{CertificateFault, PairNames};
+use crate::error::Fault;
+use pg_link::Place;
+use std::fmt;
+
+/// Where a fault is.
+#[derive(Debug, Drop)]
+pub enum Location {
+    /// A fault of no place, as a missing root.
+    Nowhere,
+    /// A file, with a line and a column from 1 on; columns count bytes.
+    InPlace(Place),
+    /// A file as a whole.
+    InFile(String),
+    /// A byte of the input, counted from 0.
+    AtByte(usize),
+    /// The full names of a pair of types in a certificate.
+    AtPair(PairNames),
+    /// A choice of a pair: the number of its field, and which of the choices of that field it is.
+    AtChoice {
+        names: PairNames,
+        number: u32,
+        case: u8,
+    },
+}
+
+/// Where a place is: a line and a column of its file, or the file as a whole.
+fn located(place: Place) -> Location
+    ensures { result ≡ refusals.located place }
+{
+    if place.line == 0 {
+        Location::InFile(place.file)
+    } else {
+        Location::InPlace(place)
+    }
+}
+
+fn location_at(place: Option<Place>) -> Location
+    ensures { result ≡ refusals.location_at place }
+{
+    match place {
+        Some(place) => located(place),
+        None => Location::Nowhere,
+    }
+}
+
+/// A byte, or none.
+pub(crate) fn location_of(at: Option<usize>) -> Location
+    ensures { result ≡ refusals.location_of at }
+{
+    match at {
+        Some(at) => Location::AtByte(at),
+        None => Location::Nowhere,
+    }
+}
+
+/// Where a side is at fault. A rule that a set breaks has no place in a text.
+pub(crate) fn location_of_fault(fault: Fault) -> Location
+    ensures { result ≡ refusals.location_of_fault fault }
+{
+    match fault {
+        Fault::Link(error) => location_at(error.place()),
+        Fault::Check(error) => location_at(error.place()),
+        Fault::Set(error) => location_of(error.at()),
+    }
+}
+
+/// Where a certificate is at fault. One that isn't given is reported by its file.
+pub(crate) fn location_of_certificate(fault: CertificateFault) -> Location
+    ensures { result ≡ refusals.location_of_certificate fault }
+{
+    match fault {
+        CertificateFault::Missing(file) | CertificateFault::Failed(file) => Location::InFile(file),
+        CertificateFault::Refused(fault) => fault.location,
+    }
+}
+
+impl fmt::Display for Location {
+    ghost output = { λ it. Some (spec.location_of it) };
+
+    fn fmt<W: fmt::Write>(&self, f: &mut fmt::Formatter<W>) -> fmt::Result {
+        match self {
+            Location::Nowhere => Ok(()),
+            Location::InPlace(place) => write!(
+                f,
+                " {}:{}:{}",
+                place.file, place.line, place.column
+            ),
+            Location::InFile(file) => {
+                if file.is_empty() {
+                    Ok(())
+                } else {
+                    write!(f, " {file}")
+                }
+            }
+            Location::AtByte(at) => write!(f, " at {at}"),
+            Location::AtPair(names) => write!(f, " {} {}", names.old, names.new),
+            Location::AtChoice {
+                names,
+                number,
+                case,
+            } => write!(f, " {} {} {number} {case}", names.old, names.new),
+        }
+    }
+}

@@ -1,0 +1,36 @@
+//! Messages that a program of the new schema reads and writes again.
+
+ghost use Rattle.std.specs.Prelude.{◌≡◌, ◌<◌, ◌≤◌, length, Some, IfErr, IfOk};
+ghost use Rattle.pg_schema.specs.Parts.{shape_of};
+ghost use Rattle.pg_dyn.specs.Encoding.{cap};
+ghost use Rattle.pg_pairs.specs.Home.{relayed};
+ghost use Rattle.pg_gate.specs.Relaying.{IsRelayError};
+
+use pg_dyn::{DynError, decode_unlimited, encode};
+use pg_pairs::Pair;
+use pg_schema::Schema;
+use std::alloc::Global;
+
+/// What a program of the new schema hands on of bytes: the encoding of the message that it reads
+/// them as by the pair's new type, which its schema has, at any depth. Records that the type
+/// doesn't accept stand behind its own fields, byte for byte and in the order read.
+///
+/// The errors are `Wire` and `NotUtf8`, of bytes that have no reading, as `pg_dyn::decode` tells
+/// them; `TooLong`, where what is read has an encoding of more than 2,147,483,647 bytes; and
+/// `Memory`.
+pub fn relay(
+    alloc: Global,
+    _old: &Schema,
+    new: &Schema,
+    pair: Pair,
+    bytes: &[u8],
+) -> Result<Vec<u8>, DynError>
+    requires new_type { pair.new.index < length (shape_of new.now) }
+    ensures relayed { IfOk result (λ again. relayed (shape_of new.now) pair.new bytes.now
+        ≡ Some again.items) }
+    ensures short { IfOk result (λ again. length again.items ≤ cap) }
+    ensures refused { IfErr result (IsRelayError (shape_of new.now) pair.new bytes.now) }
+{
+    let message = decode_unlimited(alloc, new, pair.new, bytes)?;
+    encode(alloc, new, &message)
+}
