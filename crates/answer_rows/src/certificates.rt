@@ -2,16 +2,15 @@
 use crate::searches::list_of;
 use crate::shown;
 use crate::spelled::{bounds_of, hex_bytes, pair_of, table_of};
-use pg_cert::{
-    Bounds, BoundsError, CertError, Certificate, PairBound, check, check_with, from_text, to_text,
-};
-use pg_pairs::{Pair, View};
+use pg_cert::{Bounds, BoundsError, CertError, Certificate, PairBound, check, from_text, to_text};
+use pg_dyn::ViewName;
+use pg_pairs::Pair;
 use pg_schema::Schema;
 use rows::{bytes_of, cut};
 use std::alloc::{AllocError, Global};
 
-// What the checker says.
-fn checked(
+/// What the checker says.
+pub(crate) fn checked(
     alloc: Global,
     old: &Schema,
     new: &Schema,
@@ -23,32 +22,18 @@ fn checked(
     }
 }
 
-/// What the checker says under the view.
-pub(crate) fn checked_by<V: View>(
+/// What the checker says of the certificate of these parts.
+pub(crate) fn check_claim(
     alloc: Global,
-    view: &V,
-    old: &Schema,
-    new: &Schema,
-    certificate: &Certificate,
-) -> Result<String, AllocError> {
-    match check_with(alloc, view, old, new, certificate) {
-        Ok(verdict) => shown::verdict(alloc, verdict),
-        Err(error) => shown::fault(alloc, error),
-    }
-}
-
-/// What the checker says under the view of the certificate of these parts.
-pub(crate) fn check_claim<V: View>(
-    alloc: Global,
-    view: &V,
+    view: ViewName,
     old: &Schema,
     new: &Schema,
     root: Pair,
     bounds: Bounds,
     witness: Option<Vec<u8>>,
 ) -> Result<String, AllocError> {
-    match Certificate::new(root, bounds, witness) {
-        Ok(certificate) => checked_by(alloc, view, old, new, &certificate),
+    match Certificate::new(view, root, bounds, witness) {
+        Ok(certificate) => checked(alloc, old, new, &certificate),
         Err(_) => String::from_str(alloc, "no certificate"),
     }
 }
@@ -61,9 +46,9 @@ fn witness_of(alloc: Global, text: &str) -> Result<Option<Vec<u8>>, AllocError> 
 }
 
 /// `check | OLD | NEW | ROOT | BOUNDS [| WITNESS]`: what the checker says.
-pub(crate) fn check_parts<V: View>(
+pub(crate) fn check_parts(
     alloc: Global,
-    view: &V,
+    view: ViewName,
     old: &Schema,
     new: &Schema,
     words: &str,

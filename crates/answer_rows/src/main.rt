@@ -14,6 +14,7 @@ mod choices;
 mod drawn;
 mod gaps;
 mod messages;
+mod returning;
 mod row;
 mod searches;
 mod shown;

@@ -1,5 +1,5 @@
 //! Which call a row is of.
-use crate::{certificates, choices, drawn, gaps, messages, searches, sight};
+use crate::{certificates, choices, drawn, gaps, messages, returning, searches, sight};
 use pg_pairs::{Names, Numbers, View};
 use pg_schema::Schema;
 use rows::cut;
@@ -22,7 +22,7 @@ fn seen<V: View>(
         "carry" => messages::carry_choice(alloc, view, old, new, words),
         "breaks" => messages::break_or_keep(alloc, view, old, new, words),
         "sight" => sight::sight(alloc, view, old, new, words),
-        "check" => certificates::check_parts(alloc, view, old, new, words),
+        "check" => certificates::check_parts(alloc, V::NAME, old, new, words),
         "search" => searches::search_by(alloc, view, old, new, words),
         _ => String::from_str(alloc, "no such call"),
     }
@@ -37,6 +37,7 @@ fn between(
 ) -> Result<String, AllocError> {
     match call {
         "children" => choices::child_pairs(alloc, old, new, words),
+        "returns" => returning::may_return(alloc, old, new, words),
         "text" => certificates::text(alloc, old, new, words),
         "fronts" => certificates::fronts(alloc, old, new, words),
         "search" => searches::search_pair(alloc, old, new, words),

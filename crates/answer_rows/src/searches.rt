@@ -1,12 +1,14 @@
 //! Searches, and the ways to their witnesses.
-use crate::certificates::{check_claim, checked_by};
+use crate::certificates::{check_claim, checked};
 use crate::messages::spelled;
 use crate::shown;
 use crate::shown::add;
 use crate::spelled::{pair_of, table_of};
 use pg_cert::Bounds;
+use pg_dyn::ViewName;
 use pg_least::{Found, Step, find, find_with, search, search_counted, search_with, way};
-use pg_pairs::{Numbers, Pair, View};
+use pg_pairs::laws::numbers_are_alike;
+use pg_pairs::{Pair, View};
 use pg_schema::Schema;
 use std::alloc::{AllocError, Global};
 
@@ -31,7 +33,7 @@ fn alone(
     list: &str,
 ) -> Result<String, AllocError> {
     match table_of(alloc, list)? {
-        Some(table) => check_claim(alloc, &Numbers, old, new, root, table, None),
+        Some(table) => check_claim(alloc, ViewName::Numbers, old, new, root, table, None),
         None => String::from_str(alloc, "no table"),
     }
 }
@@ -111,7 +113,7 @@ pub(crate) fn search_by<V: View>(
     let list = list_of(alloc, certificate.bounds())?;
     let pair = shown::pair(alloc, certificate.root())?;
     let witness = beside_by(alloc, view, old, new, root)?;
-    let verdict = checked_by(alloc, view, old, new, &certificate)?;
+    let verdict = checked(alloc, old, new, &certificate)?;
     format!(in alloc; "{pair} | {list} | {witness} | {verdict}")
 }
 
@@ -136,6 +138,8 @@ pub(crate) fn way_down(
     if !old.has(root.old) || !new.has(root.new) {
         return String::from_str(alloc, "no such type");
     }
+    // The certificate names the view by which it was searched.
+    numbers_are_alike();
     let certificate = search(alloc, old, new, root)?;
     if certificate.witness().is_none() {
         return String::from_str(alloc, "no witness");

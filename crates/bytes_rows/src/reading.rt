@@ -2,8 +2,8 @@
 use crate::contents::{spelled_message, word};
 use crate::types::FIRST;
 use pg_dyn::{
-    DynError, Message, copy, decode, decode_ref, decode_unlimited, encode, encode_ref,
-    encode_unshared, fits,
+    DynError, Message, copy, decode, decode_ref, decode_ref_unlimited, decode_unlimited, encode,
+    encode_ref, encode_unshared, encode_unshared_ref, fits,
 };
 use pg_schema::Schema;
 use pg_show::{HexError, bytes_of_hex, show};
@@ -114,15 +114,30 @@ fn copied_again(alloc: Global, schema: &Schema, bytes: &[u8]) -> Result<String, 
     copied(alloc, schema, &message)
 }
 
-// The same of a message that is read without a limit of depth, or `none`.
-fn unlimited(alloc: Global, schema: &Schema, bytes: &[u8]) -> Result<String, DynError> {
+// What is written again of a message that borrows from bytes, read without a limit of depth.
+fn unlimited_lent(alloc: Global, schema: &Schema, bytes: &[u8]) -> Result<String, DynError> {
     if !schema.has(FIRST) {
         return Err(DynError::NoSuchField);
     }
-    match decode_unlimited(alloc, schema, FIRST, bytes)? {
-        Some(message) => copied(alloc, schema, &message),
-        None => text(alloc, "none"),
+    match decode_ref_unlimited(alloc, schema, FIRST, bytes) {
+        Ok(message) => Ok(word(alloc, &encode_ref(alloc, schema, &message)?)?),
+        Err(error) => Err(error),
     }
+}
+
+// What is written of the copy of a message that is read without a limit of depth; of one that
+// borrows from the bytes it is the same.
+fn unlimited(alloc: Global, schema: &Schema, bytes: &[u8]) -> Result<String, DynError> {
+    let lent = unlimited_lent(alloc, schema, bytes)?;
+    if !schema.has(FIRST) {
+        return Err(DynError::NoSuchField);
+    }
+    let message = decode_unlimited(alloc, schema, FIRST, bytes)?;
+    let owned = copied(alloc, schema, &message)?;
+    if owned.as_str() != lent.as_str() {
+        return text(alloc, "written otherwise where it borrows");
+    }
+    Ok(owned)
 }
 
 // Whether a message is one of the other schema too.
@@ -136,21 +151,45 @@ fn of_both(
     answer(alloc, fits(other, &message))
 }
 
-// What the other type doesn't have of a message.
+// What the other type doesn't have of a message that borrows from the bytes.
+fn outside_lent(
+    alloc: Global,
+    schema: &Schema,
+    other: &Schema,
+    bytes: &[u8],
+) -> Result<String, DynError> {
+    if !schema.has(FIRST) {
+        return Err(DynError::NoSuchField);
+    }
+    match decode_ref(alloc, schema, FIRST, bytes, 100) {
+        Ok(message) => Ok(word(
+            alloc,
+            &encode_unshared_ref(alloc, schema, &message, other, FIRST)?,
+        )?),
+        Err(error) => Err(error),
+    }
+}
+
+// What the other type doesn't have of a message; of one that borrows it is the same.
 fn outside(
     alloc: Global,
     schema: &Schema,
     other: &Schema,
     bytes: &[u8],
 ) -> Result<String, DynError> {
+    let lent = outside_lent(alloc, schema, other, bytes)?;
     let message = read(alloc, schema, bytes, 100)?;
     if !fits(schema, &message) {
         return Err(DynError::WrongKind);
     }
-    Ok(word(
+    let owned = word(
         alloc,
         &encode_unshared(alloc, schema, &message, other, FIRST)?,
-    )?)
+    )?;
+    if owned.as_str() != lent.as_str() {
+        return text(alloc, "written otherwise where it borrows");
+    }
+    Ok(owned)
 }
 
 fn shown(alloc: Global, schema: &Schema, bytes: &[u8]) -> Result<String, DynError> {

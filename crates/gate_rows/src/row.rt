@@ -1,5 +1,6 @@
 //! One row: `WHAT | WORDS | OLD FILES | NEW FILES`, and ` | PARTS` where only these are known of
-//! the text. Words have a blank between.
+//! the text. Words have a blank between. A row of `gate` that names no view is run under both:
+//! what it prints by names stands behind the rest where it isn't the same but for the view.
 use crate::files::{File, files, lent};
 use crate::parts::told;
 use pg_gate::{Buffer, run};
@@ -58,6 +59,28 @@ fn ran(alloc: Global, words: &str, old: &str, new: &str) -> Result<(u8, String),
     Ok((status, spelled(alloc, &bytes)?))
 }
 
+// Whether the run was one of `gate` that named no view and wasn't refused for its words.
+fn has_two_views(words: &str, status: u8) -> bool {
+    words.starts_with("gate ") && !words.contains("--view") && status < 4
+}
+
+// What the same run prints by names, where it isn't the same but for the view.
+fn by_names(
+    alloc: Global,
+    words: &str,
+    old: &str,
+    new: &str,
+    by_numbers: (u8, &str),
+) -> Result<String, AllocError> {
+    let words = format!(in alloc; "{words} --view names")?;
+    let (status, text) = ran(alloc, words.as_str(), old, new)?;
+    let wanted = by_numbers.1.replace(alloc, "view numbers", "view names")?;
+    if status == by_numbers.0 && text.as_str() == wanted.as_str() {
+        return Ok(String::new(alloc));
+    }
+    format!(in alloc; " | by names {status} {text}")
+}
+
 /// What a row shows, and the status and the text of its run.
 pub(crate) fn answer(alloc: Global, row: &str) -> Result<String, AllocError> {
     let (what, rest) = cut(row);
@@ -65,6 +88,10 @@ pub(crate) fn answer(alloc: Global, row: &str) -> Result<String, AllocError> {
     let (old, rest) = cut(rest);
     let (new, parts) = cut(rest);
     let (status, text) = ran(alloc, words, old, new)?;
+    let mut named = String::new(alloc);
+    if has_two_views(words, status) {
+        named = by_names(alloc, words, old, new, (status, text.as_str()))?;
+    }
     let text = told(alloc, text, parts)?;
-    format!(in alloc; "{what} | {status} {text}")
+    format!(in alloc; "{what} | {status} {text}{named}")
 }

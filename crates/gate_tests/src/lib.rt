@@ -12,6 +12,8 @@ mod failing_source;
 #[cfg(test)]
 mod one_byte;
 #[cfg(test)]
+mod relay_tests;
+#[cfg(test)]
 mod runs;
 #[cfg(test)]
 mod sink_tests;

@@ -153,7 +153,7 @@ pub(crate) static CALLS: [(&[&str], &str, u8); 16] = [
             "--type=M",
             "--cert",
         ],
-        "protogate-certificate 1\nroot M M\npair M M 11\nwitness 08ffffffffffffffffff01\nend\n",
+        "protogate-certificate 2\nview numbers\nroot M M\npair M M 11\nwitness 08ffffffffffffffffff01\nend\n",
         1,
     ),
     // Through a message of a file that is imported, in a type that leads back to itself.

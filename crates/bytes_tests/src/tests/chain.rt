@@ -3,6 +3,7 @@
 use super::schema_of;
 use super::tables::{line, table};
 use pg_cert::{Bounds, Certificate, PairBound, Verdict, check};
+use pg_dyn::ViewName;
 use pg_pairs::Pair;
 use pg_schema::{Schema, TypeId};
 use pg_wire::write_varint;
@@ -70,7 +71,7 @@ fn verdict(
     table: Bounds,
     witness: Option<Vec<u8>>,
 ) -> Result<Verdict, Fail> {
-    match Certificate::new(same(LINKS), table, witness) {
+    match Certificate::new(ViewName::Numbers, same(LINKS), table, witness) {
         Ok(certificate) => Ok(check(alloc, old, new, &certificate)?),
         Err(_) => Err("a witness without bytes".into()),
     }

@@ -2,6 +2,7 @@
 //! rows of `answer_rows`.
 use super::M;
 use pg_cert::{Bounds, BoundsError, Certificate, PairBound};
+use pg_dyn::ViewName;
 use pg_pairs::{Pair, Table};
 use pg_schema::TypeId;
 use std::alloc::{AllocError, Global};
@@ -65,7 +66,10 @@ fn another_bound(rt: HostRuntime) -> Result<(), Fail> {
 #[test]
 fn a_witness_has_bytes(rt: HostRuntime) -> Result<(), Fail> {
     let alloc = rt.alloc();
-    let Err((table, witness)) = Certificate::new(ROOT, table(alloc, &[])?, Some(Vec::new(alloc)))
+    let table_of_none = table(alloc, &[])?;
+    let witness = Some(Vec::new(alloc));
+    let Err((table, witness)) =
+        Certificate::new(ViewName::Numbers, ROOT, table_of_none, witness)
     else {
         return Err("a witness without bytes".into());
     };

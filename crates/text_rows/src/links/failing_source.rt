@@ -1,3 +1,5 @@
+//! A source whose read of a given number fails.
+
 ghost use Rattle.std.specs.Prelude.{◌≡◌, ◌+◌, Some};
 
 use pg_link::{GhostCount, GhostPaths, SourceError, Sources};
