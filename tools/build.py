@@ -4,9 +4,11 @@
 usage: tools/build.py    what is built already, and unchanged, is taken as it stands, so a build that was stopped goes on from there
 """
 
+import contextlib
 import os
 import re
 import shutil
+import signal
 import subprocess
 import sys
 import tempfile
@@ -111,7 +113,7 @@ def begin(name, jobs, folder, room):
     """Starts the crate's check. A program is run as soon as it is built: its help says that it is there."""
     words = ["rt", "run", "--", "--help"] if name == PROGRAM else ["rt", "lib", "--jobs", str(jobs)]
     with open(f"{room}/{name}", "w", encoding="utf-8") as log:
-        how = {"stdin": subprocess.DEVNULL, "stdout": log, "stderr": subprocess.STDOUT}
+        how = {"stdin": subprocess.DEVNULL, "stdout": log, "stderr": subprocess.STDOUT, "process_group": 0}
         return subprocess.Popen(words, cwd=folder, **how)
 
 
@@ -142,31 +144,46 @@ def start_ready(left, running, longest, said, room):
         say(f"proving {name} ({len(left)} of {len(longest)} crates left)")
 
 
+def stop(running):
+    """Stops the checks that are running, with what they started, and waits for them."""
+    for check in running.values():
+        with contextlib.suppress(ProcessLookupError):
+            os.killpg(check.pid, signal.SIGINT)
+        check.wait()
+
+
+def tell(name, room):
+    """Prints what the check said of a crate that isn't proved."""
+    with open(f"{room}/{name}", encoding="utf-8", errors="replace") as log:
+        sys.stderr.write(log.read())
+    say(f"{name} is not proved; what is proved is kept, and the next run goes on from there")
+
+
 def build(room):
     said = crates()
     names = below(PROGRAM, said)
     longest, left, running = chains(names, said), [*names], {}
     for name in names:
         close_lane(name)
-    while left:
-        start_ready(left, running, longest, said, room)
-        name, status = ended(running)
-        close_lane(name)
-        del running[name]
-        left.remove(name)
-        if status != (USAGE if name == PROGRAM else 0):
-            with open(f"{room}/{name}", encoding="utf-8", errors="replace") as log:
-                sys.stderr.write(log.read())
-            say(f"{name} is not proved; what is proved is kept, and the next run goes on from there")
-            for check in running.values():
-                check.terminate()
-            return False
-    return True
+    try:
+        while left:
+            start_ready(left, running, longest, said, room)
+            name, status = ended(running)
+            close_lane(name)
+            del running[name]
+            left.remove(name)
+            if status != (USAGE if name == PROGRAM else 0):
+                tell(name, room)
+                return False
+        return True
+    finally:
+        stop(running)
 
 
 def main():
     begun = time.time()
-    say("proving and building: half an hour on four idle processors the first time")
+    signal.signal(signal.SIGTERM, lambda *_: sys.exit(143))
+    say("proving and building: some 40 minutes on four idle processors the first time")
     with tempfile.TemporaryDirectory(prefix="protogate-build-") as room:
         if not build(room):
             return 1

@@ -226,15 +226,20 @@ def try_set(room, random_, seeds):
     return judge_gate(room, random_, sides_of(seed), random_.choice(seed.types))[0] in ACCEPTED["gate"]
 
 
+def in_version_2(certificate):
+    """Returns the certificate of version 2 that says what one of version 1 does; others as they are."""
+    return certificate.replace(b"protogate-certificate 1\n", b"protogate-certificate 2\nview numbers\n", 1)
+
+
 def judge_verdict(room, seed, certificate, said):
-    """Compares what a certificate proves with what the gate answers, where the types of both sides have one name."""
-    forms = ANSWERS["certificate"]
+    """Compares what a certificate proves with what the gate answers by its view, where the types of both sides have one name."""
+    forms, certificate = ANSWERS["certificate"], in_version_2(certificate)
     expect(forms[0].fullmatch(certificate) or forms[1].fullmatch(certificate), f"verify takes {quoted(certificate)}")
     verdict, root, *length = said.split()
-    old, new = certificate.split(b"\n")[1].split()[1:]
-    if old != new:
+    view, types = (line.split()[1:] for line in certificate.split(b"\n")[1:3])
+    if types[0] != types[1]:
         return
-    answer, found, *rest = room.run(["gate", *sides_of(seed), "--type", root.decode()])[1].split()
+    answer, found, *rest = room.run(["gate", *sides_of(seed), "--type", root.decode(), "--view", view[0].decode()])[1].split()
     if verdict == b"bound":
         is_proved = answer == b"compatible" or int(rest[0]) >= int(length[0])
     else:

@@ -26,7 +26,7 @@ BREAKS = rb"breaks %s %s\nwitness %s\n(?:%s)+" % (NAME, NUMBER, HEX, STEP)
 ITEM = rb"(?:int -?\d+|f32 [0-9a-f]{8}|f64 [0-9a-f]{16}|(?:text|bytes) %s|msg)" % BYTES
 SHOWN = rb"(?:  )*(?:%s %s (?:key %s value )?%s|unknown %s)\n" % (NUMBER, WORD, ITEM, ITEM, HEX)
 
-CERTIFICATE = rb"protogate-certificate 1\nroot %s %s\n(?:pair %s %s (?:none|%s)\n)+" % (NAME, NAME, NAME, NAME, NUMBER)
+CERTIFICATE = rb"protogate-certificate 2\nview (?:numbers|names)\nroot %s %s\n(?:pair %s %s (?:none|%s)\n)+" % (NAME, NAME, NAME, NAME, NUMBER)
 
 
 def refused(*rests):

@@ -78,10 +78,13 @@ def step(number, old, new):
     return "step %d %s %s\n" % (number, field(*old), field(*new))
 
 
-def certificate(root, pairs, witness="none"):
+FIRST, SECOND = "protogate-certificate 1\n", "protogate-certificate 2\nview numbers\n"
+
+
+def certificate(root, pairs, witness="none", heading=SECOND):
     """The text of a certificate between types of the same names."""
     table = "".join("pair %s %s %s\n" % (name, name, bound) for name, bound in pairs)
-    return "protogate-certificate 1\nroot %s %s\n%switness %s\nend\n" % (root, root, table, witness)
+    return "%sroot %s %s\n%switness %s\nend\n" % (heading, root, root, table, witness)
 
 
 def varint(number):
@@ -134,12 +137,13 @@ def cut_set_rows():
 
 
 def cut_certificate_rows():
-    """A certificate that is cut off is none."""
+    """A certificate that is cut off is none, in either version."""
     old, new = message("int32 a = 1;"), files(("m.proto", message("uint32 a = 1;")))
-    whole = certificate("M", [("M", 11)], "08ffffffffffffffffff01")
-    for length in range(len(whole)):
-        sides = files(("m.proto", old), ("c", whole[:length])), new
-        row("a certificate cut off behind byte %d" % length, "verify %s c" % TEXTS, *sides, 2, "refused E801\n")
+    for what, heading in ("a certificate", FIRST), ("a certificate of version 2", SECOND):
+        whole = certificate("M", [("M", 11)], "08ffffffffffffffffff01", heading)
+        for length in range(len(whole)):
+            sides = files(("m.proto", old), ("c", whole[:length])), new
+            row("%s cut off behind byte %d" % (what, length), "verify %s c" % TEXTS, *sides, 2, "refused E801\n")
 
 
 def forged_certificate_row(what, sides, lines, refused):

@@ -25,8 +25,8 @@ def text(x, y, words, color=INK, anchor="middle", weight="normal", size=14):
     return f"<text x='{x:.0f}' y='{y:.0f}' {font} font-size='{size}' font-weight='{weight}' fill='{color}' text-anchor='{anchor}'>{escape(words)}</text>"
 
 
-def box(x, y, width, height, fill=FILL):
-    return f"<rect x='{x:.0f}' y='{y:.0f}' width='{width:.0f}' height='{height:.0f}' rx='6' fill='{fill}' stroke='{INK}'/>"
+def box(x, y, width, height, fill=FILL, rounding=6):
+    return f"<rect x='{x:.0f}' y='{y:.0f}' width='{width:.0f}' height='{height:.0f}' rx='{rounding}' fill='{fill}' stroke='{INK}'/>"
 
 
 def arrow(path):
@@ -62,7 +62,7 @@ def table(lines):
         x, y = 20, 56 + 40 * at
         fill = HEAD if at == 0 else LAST if at == len(rows) - 1 else "#ffffff"
         for cell, wide in zip(row, widths):
-            parts += [box(x, y, wide, 40, fill), text(x + wide / 2, y + 25, cell, weight="bold" if at == 0 else "normal")]
+            parts += [box(x, y, wide, 40, fill, 0), text(x + wide / 2, y + 25, cell, weight="bold" if at == 0 else "normal")]
             x += wide
     return parts, sum(widths) + 40, 76 + 40 * len(rows)
 

@@ -3,20 +3,21 @@
 
 usage: tools/prove.py [--anew] [CRATE..]    ends with the gate's status, and with its last line, 'N passed, M failed'
 
-The gate runs on a copy of the repository, or, where crates are named, of these and of those that they stand on. The edits of crates of
-promises are taken out of the copy, and tried afterwards, all those of a crate in one check (try_edits.py); `rt ci` in the repository
-itself tries each alone. With no names the documents are compared first with the definitions and the pictures, and what was built is put
-back into the repository and tried last: the program and the libraries' calls with each request for memory refused, and the program on
-random inputs.
+The gate runs on a copy of the repository, or, where crates are named, of these and of those that they stand on. Edits are taken out of the
+copy, and tried afterwards over the libraries that `rt ci` built there, those of a crate in one check or a few (try_edits.py); `rt ci` in
+the repository itself tries each alone, and proves each crate that has some a second time. With no names the documents' words, links and
+pictures are compared first, and what was built is put back into the repository and tried last: the program and the libraries' calls with
+each request for memory refused, the program on random inputs, the scripts that call it, and the commands of the documents.
 What earlier runs on this machine passed is taken as it stands; with --anew all is proved and tried again.
 
-Lines of rt stand behind the seconds since the start. Behind them stand the processor seconds of each crate by kind: its proof, the
-second proof that its edits begin with (the seed), its edits, its tests, and what builds and runs programs. Without RT_JOBS as many
-checks run side by side as there are processors, and memory for 5 GB each.
+Lines of rt stand behind the seconds since the start. The last lines are the processor seconds of each crate by kind: its proof, its edits
+(with a second proof where some are left to `rt ci`), its tests, and what builds and runs programs, with what tries the built ones. Without
+RT_JOBS as many checks run side by side as there are processors, and memory for 5 GB each.
 """
 
 import os
 import re
+import resource
 import shutil
 import subprocess
 import sys
@@ -27,9 +28,12 @@ import time
 sys.dont_write_bytecode = True
 from try_edits import lanes, load_kit, plan, try_all  # noqa: E402
 
-KINDS = ("proof", "seed", "edits", "tests", "programs")
-# What tries what was built: the program and the calls with each request for memory refused, and the program on random inputs.
-TESTERS = ("try_program_memory.py", "try_call_memory.py", "fuzz.py")
+KINDS = ("proof", "edits", "tests", "programs")
+# What tries what was built: the program and the calls with each request for memory refused, the program on random inputs, and the
+# scripts that call it.
+TESTERS = ("try_program_memory.py", "try_call_memory.py", "fuzz.py", "test_ci.py", "test_packages.py")
+# What runs the commands of the documents with the program that was built. It comes last, since some of its waits go by the clock.
+EXAMPLES = ("tools/try_examples.sh", "crates/protogate/out/protogate")
 TICKS = os.sysconf("SC_CLK_TCK")
 # How often processes are looked at, in seconds: what a process takes after the last look counts for no crate, but for the sum.
 PAUSE = 0.2
@@ -60,7 +64,7 @@ def kind_of(pid, words):
     """Returns the crate that a check is of, and the kind of work that it is."""
     crate = behind("--crate-name", words)
     if "/rt-edit-" in os.readlink(f"/proc/{pid}/cwd"):
-        return crate, "seed" if behind("--incremental", words).endswith("/seed") else "edits"
+        return crate, "edits"
     if "--crate-checked" in words:
         return crate, "programs"
     return crate, "tests" if "--test" in words else "proof"
@@ -113,7 +117,7 @@ class Costs:
 
 
 def print_costs(table, whole):
-    """Prints a line for each crate and one for the sum; what no check took (rt itself, linking, the runs) counts among programs."""
+    """Prints a line for each crate and one for the sum; what no check took (rt itself, linking, the runs, testers) counts among programs."""
     print(f"{'processor seconds':24}" + "".join(f"{it:>10}" for it in (*KINDS, "whole")))
     sums = dict.fromkeys(KINDS, 0.0)
     for crate, row in sorted(table.items(), key=lambda it: -sum(it[1].values())):
@@ -160,7 +164,7 @@ def copy_of(lines, room):
 
 
 def take_edits(kit, room):
-    """Takes the edits that are tried on copies out of a repository, and returns them: none where `rt ci` will say what is wrong with it."""
+    """Takes the edits that try_edits.py tries out of a repository, and returns them: none where `rt ci` will say what is wrong with it."""
     try:
         plans = plan(kit, room)
     except SystemExit:
@@ -199,7 +203,8 @@ def run_ci(room, words, begun, jobs):
 
 
 def prove(room, words):
-    """Runs `rt ci` on the repository in the room, and tries its edits of promises. Returns the status and the last line."""
+    """Runs `rt ci` on the repository in the room, and tries the edits of its crates. Returns the status, the last line, the costs of each
+    crate and their sum."""
     begun, kit, jobs = time.time(), load_kit(), lanes()
     plans = take_edits(kit, room)
     status, last, table, whole = run_ci(room, words, begun, jobs)
@@ -209,9 +214,8 @@ def prove(room, words):
         for it in (it for it in plans if it.seconds):
             table.setdefault(it.crate.name, dict.fromkeys(KINDS, 0.0))["edits"] += it.seconds
             whole += it.seconds
-    print_costs(table, whole)
-    print(f"{time.time() - begun:.0f} seconds in all, {jobs} checks side by side")
-    return status, last
+    print(f"{time.time() - begun:.0f} seconds by the clock, {jobs} checks side by side", flush=True)
+    return status, last, table, whole
 
 
 def put_back(room):
@@ -226,17 +230,23 @@ def put_back(room):
 
 
 def documents_agree():
-    """Returns whether the documents name the files that the promise rests on, and the pictures say what their texts say."""
-    return all([subprocess.run([f"tools/{it}", "--compare"]).returncode == 0 for it in ("model_files.py", "pictures.py")])
+    """Returns whether the documents name the files that the promise rests on, their links lead somewhere, and the pictures say what
+    their texts say."""
+    return all([subprocess.run([f"tools/{it}", "--compare"]).returncode == 0 for it in ("model_files.py", "links.py", "pictures.py")])
 
 
 def try_program():
-    """Runs the testers of what `rt ci` built side by side. Prints what each said, in that order, and returns which passed."""
+    """Runs the testers of what `rt ci` built side by side, and then the examples. Prints what each said, in that order. Returns which passed,
+    and the processor seconds of all."""
+    before = resource.getrusage(resource.RUSAGE_CHILDREN)
     how = {"stdin": subprocess.DEVNULL, "stdout": subprocess.PIPE, "stderr": subprocess.STDOUT, "text": True, "errors": "replace"}
     testers = [subprocess.Popen([f"tools/{it}"], **how) for it in TESTERS]
     for tester in testers:
         print(tester.communicate()[0], end="", flush=True)
-    return [it.returncode == 0 for it in testers]
+    examples = subprocess.run(EXAMPLES, **how)
+    print(examples.stdout, end="", flush=True)
+    after = resource.getrusage(resource.RUSAGE_CHILDREN)
+    return [it.returncode == 0 for it in (*testers, examples)], after.ru_utime + after.ru_stime - before.ru_utime - before.ru_stime
 
 
 def counted(last, passed, failed):
@@ -251,10 +261,10 @@ def prove_all(flags):
         return 1
     with tempfile.TemporaryDirectory(prefix="protogate-gate-") as room:
         copy_all(room)
-        status, last = prove(room, flags)
+        status, last, table, whole = prove(room, flags)
         put_back(room)
-    sys.stdout.flush()
-    passed = try_program() if status == 0 else []
+    passed, seconds = try_program() if status == 0 else ([], 0)
+    print_costs(table, whole + seconds)
     print(counted(last, sum(passed), len(passed) - sum(passed)))
     return status or 1 - all(passed)
 
@@ -268,7 +278,8 @@ def prove_named(names, flags):
         return 2
     with tempfile.TemporaryDirectory(prefix="protogate-gate-") as room:
         copy_of(lines, room)
-        status, last = prove(room, flags)
+        status, last, table, whole = prove(room, flags)
+    print_costs(table, whole)
     print(last)
     return status
 

@@ -29,7 +29,7 @@ CRATES = os.path.join(ROOT, "crates")
 # What a row answers that lacks memory, where it doesn't end the program.
 LACKS = re.compile(r"E001|E1 1:1|Memory")
 # How a program or a test ends that hands on want of memory.
-HANDED_ON = re.compile(rb"Error: Kind\(OutOfMemory\)\n|error: (AllocError|AllocFailed \{ \.\. \}|Memory)\n")
+HANDED_ON = re.compile(rb"Error: Kind\(OutOfMemory\)\n|error: (AllocError|AllocFailed \{ \.\. \}|Memory)\n(the test failed: its result gives status 1\n)?")
 # So many wrong runs of a row or a test are printed.
 MOST_PRINTED = 5
 
@@ -42,10 +42,14 @@ CALLS = [
     Rows("lex", "text_rows", ["the escapes of control characters", "a character over two literals", "a float on the second line"]),
     Rows("parse", "text_rows", ["each part of a message, one token a word", "streams both ways"]),
     Rows("link", "text_rows", ["a file that two files import", "a circle of three files", "two messages of one name", "an import of an import"]),
+    Rows("link", "text_rows", ["a missing import", "one path twice in a file", "a message with the name of a field"]),
+    Rows("link", "text_rows", ["a name that only a field bears", "the full name of a value"]),
     Rows("read_file", "text_rows", ["a file read below a folder"]),
     Rows("resolve", "text_rows", ["uses of types in fields, maps and rpcs", "the first part of a dotted name decides", "a service as a type"]),
     Rows("build", "text_rows", ["the message types of two files", "the services of two files"]),
+    Rows("build", "text_rows", ["a number given twice", "a number in two reserved items"]),
     Rows("admit", "text_rows", ["parts: two fields", "parts: an enum of two values", "parts: a reserved number"]),
+    Rows("default_json_name", "text_rows", ["the default JSON name of foo_bar, as protoc makes it"]),
     Rows("from_parts", "text_rows", ["parts: two types"], ["Memory 2"]),
     Rows("set", "bytes_rows", ["a member of a oneof clears the others"], ["Memory 7 -"]),
     Rows("set", "bytes_rows", ["a map's entries are kept by rising key"], ["Memory {2:1 1:0 -1:1} -"]),
@@ -74,16 +78,22 @@ CALLS = [
     Rows("options, children", "answer_rows", ["the cheapest choice holds a child", "children beside two fields that meet"]),
     Rows("cheapest", "answer_rows", ["the cheapest of two choices", "no cheapest of no choice"]),
     Rows("carry, breaks", "answer_rows", ["message of a map whose key int32 becomes fixed32", "lists, texts and a child are kept"]),
+    Rows("returns", "answer_rows", ["in a child of a child that leads back"]),
     Rows("search", "answer_rows", ["search of four steps down to no change", "search of a bound that falls"]),
     Rows("search_counted", "answer_rows", ["work of a type that holds itself and changes"]),
     Rows("settle", "answer_rows", ["bounds of a graph in which an edge costs three times the bound"]),
     Rows("way", "answer_rows", ["way of four steps down"]),
     Rows("Bounds::new", "answer_rows", ["bounds of two pairs make a table"], ["Memory 0 0 2147483647, 1 0 none"]),
     Rows("Bounds::new", "answer_rows", ["a pair twice makes no table"], ["Memory 0 0 none, 0 0 2"]),
-    Rows("check_with", "answer_rows", ["a witness that is longer than the bound", "a child is missing"]),
+    Rows("check", "answer_rows", ["a witness that is longer than the bound", "a child is missing"]),
     Rows("search_with, find_with", "answer_rows", ["by names, a renamed number in a child, found"]),
     Rows("gate_with", "view_rows", ["a renamed number in a child"]),
-    Rows("to_text, from_text, check", "answer_rows", ["a text of two pairs without a witness", "a text of a witness of all letters"]),
+    Tests("relay", "gate_tests", ["three_programs_hand_on_what_they_do_not_know"]),
+    Rows(
+        "to_text, from_text, check",
+        "answer_rows",
+        ["a text of two pairs without a witness", "a text of a witness of all letters", "a renamed number in a text by names"],
+    ),
     Rows("read, write, read_again", "fds_rows", ["protoc's set of m.proto"]),
 ]
 

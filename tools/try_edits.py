@@ -1,18 +1,22 @@
 #!/usr/bin/env python3
-"""Tries the edits of the crates of promises, all those of a crate in one check: each wrong body on a copy of its function.
+"""Tries the edits of crates, those of a crate in one check: each wrong body on a copy of its function.
 
-usage: tools/try_edits.py [--anew] [CRATE..]    all crates of promises, where none is named
+usage: tools/try_edits.py [--anew] [--list] [CRATE..]    all crates with edits, where none is named
 
-Each alone, an edit costs a check of its crate, and nearly all of that is reading the libraries anew. So a check is made of a copy of
-the crate in which each wrong body stands beside the original (wrong_copies.py). An edit is refused where the prover leaves a goal open
-in just its copy, and says nothing else of it; and where all else is proved, among it a copy of each of these functions that is as it
-stands. A line says for each edit in which function it was refused, and for which clause or other goal. One that is proved, that doesn't
-compile, or that is refused for a name or the shape of a proof, fails. One that turns more than bodies of functions is not tried
-here, but by `rt must-fail` and `rt ci` alone, which try all others too.
+Each alone, an edit costs a check of its crate, and nearly all of that is reading the libraries anew; and the edits of a crate begin with a
+second proof of it. So a check is made of a copy of the crate in which each wrong body stands beside the original (wrong_copies.py), of
+these copies alone and of what they call. An edit is refused where the prover leaves a goal open in just its copy, and says nothing else of
+it; and where all else is proved, among it a copy of each of these functions that is as it stands (read_goals.py says what that rests on).
+A function that calls itself, or others that call it, can't be copied so. The first check proves it as it stands, and then its edit is
+tried alone in its place, over what that check proved of what it calls.
+
+A line says for each edit in which function it was refused, and for which clause or other goal. One that is proved, that doesn't compile, or
+that is refused for a name alone, fails. One that turns more than bodies of functions is not tried here, but by `rt must-fail` and `rt ci`
+alone, which try all others too.
 
 Wants the libraries that `rt lib` builds, and builds those that are not there. What an earlier run on this machine passed is kept beside
-what the kit keeps, by the checksum of all that it read; with --anew all is tried. The last line counts what was refused and what
-wasn't; the status is 1 where one wasn't.
+what the kit keeps, by the checksum of all that it read; with --anew all is tried. With --list a table of all edits stands before the last
+line. This counts what was refused and what wasn't; the status is 1 where one wasn't.
 """
 
 import hashlib
@@ -25,15 +29,19 @@ import shutil
 import subprocess
 import sys
 import tempfile
+from collections import namedtuple
 from concurrent.futures import ThreadPoolExecutor
 
 sys.dont_write_bytecode = True
 from read_goals import not_compiled, of_edits, verdicts  # noqa: E402
-from wrong_copies import CONTROL, PARTS, Bad, Left, controls, copies_for, make_room  # noqa: E402
+from wrong_copies import CONTROL, PARTS, Bad, Left, controls, controls_in_place, copies_for, files_below  # noqa: E402
+from wrong_copies import make_edited_room, make_room, spots_of  # noqa: E402
 
 TOP = os.path.dirname(os.path.dirname(os.path.realpath(__file__)))
 # The scripts that a result rests on.
 TOOLS = ("try_edits.py", "wrong_copies.py", "read_goals.py", "why_refused.py")
+# An edit that is tried where it stands: the files' texts with it, and where the functions stand that it turns.
+InPlace = namedtuple("InPlace", "texts spots")
 
 
 def load_kit():
@@ -54,11 +62,11 @@ def lanes():
 
 
 class Tries:
-    """The edits of a crate: the wrong copies to be tried, what is said of each edit once that is known and whether it was refused as it
-    must be, those that are left to rt, what is wrong beside, and the processor seconds that it took."""
+    """The edits of a crate: the wrong copies to be tried, the edits to be tried in place, what is said of each edit once that is known and
+    whether it was refused as it must be, those that are left to rt, what is wrong beside, and the processor seconds that it took."""
 
     def __init__(self, kit, crate):
-        self.crate, self.copies, self.paths, self.left = crate, [], [], {}
+        self.crate, self.copies, self.in_place, self.paths, self.left = crate, [], {}, [], {}
         self.said, self.faults, self.seconds, self.is_kept = {}, [], 0.0, False
         good, bad = kit.edits_of(crate)
         for path in bad:
@@ -71,7 +79,10 @@ class Tries:
         try:
             if why:
                 raise Bad(why)
-            self.copies += copies_for(texts, self.crate.folder, edit)
+            copies = copies_for(texts, self.crate.folder, edit)
+            self.copies += copies
+            if not copies:
+                self.in_place[edit] = InPlace(texts, spots_of(texts, self.crate.folder, edit))
         except Bad as reason:
             self.fail(edit, f"BAD EDIT: {reason}")
         except Left as reason:
@@ -96,9 +107,11 @@ class Tries:
         return found + [f"{name}: {it[:300]}" for it in self.faults[:10]]
 
 
-def check(kit, crate, room):
-    """Checks from nothing what stands in the room as this crate. Returns the status, what was said, and the processor seconds."""
-    words = [kit.rtlib.RATTLE, "check", *crate.words(["--jobs", "1"], keeps=False)]
+def check(kit, crate, room, spots, kept):
+    """Checks these functions of what stands in the room as this crate, and what they call: from nothing, or over the folder in which checks of the same
+    tries keep what they proved. Returns the status, what was said, and the processor seconds."""
+    only = [word for it in dict.fromkeys(it.place for it in spots) for word in ("--only", it.replace("/", "::"))]
+    words = [kit.rtlib.RATTLE, "check", *crate.words(["--jobs", "1", *only], keeps=False), *(["--incremental", kept] if kept else [])]
     with tempfile.TemporaryFile("w+", encoding="utf-8", errors="replace") as log:
         how = {"cwd": room, "stdin": subprocess.DEVNULL, "stdout": log, "stderr": subprocess.STDOUT}
         run = subprocess.Popen(words, **how)
@@ -108,13 +121,15 @@ def check(kit, crate, room):
         return run.returncode, log.read(), used.ru_utime + used.ru_stime
 
 
-def try_copies(kit, tries):
-    """Tries the copies in one check. Where some don't compile, they are told, and the others are tried without them."""
+def try_copies(kit, tries, kept):
+    """Tries the copies in one check, which also proves as they stand the functions that other edits turn in place. Where some copies don't compile, they
+    are told, and the others are tried without them."""
     crate, copies = tries.crate, tries.copies
-    while copies:
+    standing = controls_in_place({it: spot for edited in tries.in_place.values() for it, spot in edited.spots.items()})
+    while copies or standing:
         with tempfile.TemporaryDirectory(prefix="protogate-edits-") as room:
-            made = make_room(room, crate.name, crate.folder, copies + controls(crate.folder, copies))
-            status, told, seconds = check(kit, crate, room)
+            made = make_room(room, crate.name, crate.folder, copies + controls(crate.folder, copies)) | standing
+            status, told, seconds = check(kit, crate, room, made.values(), kept)
         tries.seconds += seconds
         broken = not_compiled(told, made)
         if not broken or any(it is None or it.edit == CONTROL for it in broken):
@@ -126,18 +141,40 @@ def try_copies(kit, tries):
         copies = [it for it in copies if it.edit not in {at.edit for at in broken}]
 
 
-def files_below(folder, parts):
-    walked = (found for part in parts for found in os.walk(f"{folder}/{part}"))
-    return sorted(f"{at}/{name}" for at, _, names in walked for name in names)
+def try_in_place(kit, tries, edit, kept):
+    """Tries an edit alone, where it stands, over a copy of what was kept: so what one edit leaves is of no account to the next."""
+    crate, (texts, spots) = tries.crate, tries.in_place[edit]
+    with tempfile.TemporaryDirectory(prefix="protogate-edits-") as room:
+        make_edited_room(room, crate.folder, texts)
+        with tempfile.TemporaryDirectory(prefix="protogate-kept-") as own:
+            kit.linked(kept, f"{own}/kept")
+            status, told, seconds = check(kit, crate, room, spots.values(), f"{own}/kept")
+    tries.seconds += seconds
+    broken = not_compiled(told, spots)
+    if broken:
+        tries.fail(edit, f"BAD EDIT: it isn't compiled, so no contract was tried: {next(iter(broken.values()))}")
+    else:
+        tries.said.update(of_edits(verdicts(crate.name, status, told, spots)[0]))
+
+
+def try_each(kit, tries):
+    """Tries the copies, and then each edit in place, over what the first check proved. Where that shows nothing, no edit counts."""
+    with tempfile.TemporaryDirectory(prefix="protogate-kept-") as kept:
+        try_copies(kit, tries, kept if tries.in_place else None)
+        for edit in tries.in_place:
+            if tries.faults:
+                tries.fail(edit, f"NOT TRIED: {tries.faults[0][:300]}")
+            else:
+                try_in_place(kit, tries, edit, kept)
 
 
 def key_of(kit, tries):
     """Returns a sum of all that the tries rest on: the kit, these scripts, the crate with its copies, and those below it."""
-    made = hashlib.sha256(repr((kit.kit_sum(), tries.copies)).encode())
+    made = hashlib.sha256(repr((kit.kit_sum(), tries.copies, tries.in_place)).encode())
     files = {f"tools/{it}": f"{TOP}/tools/{it}" for it in TOOLS}
     for crate in (*tries.crate.below(), tries.crate):
         made.update(repr((crate.name, crate.said)).encode())
-        files.update({f"{crate.name}{it.removeprefix(crate.folder)}": it for it in files_below(crate.folder, PARTS)})
+        files.update({f"{crate.name}{it.removeprefix(crate.folder)}": it for it in files_below(crate.folder, *PARTS)})
     for name, path in sorted(files.items()):
         with open(path, "rb") as file:
             made.update(repr((name, file.read())).encode())
@@ -154,14 +191,26 @@ def kept_at(kit):
         return None
 
 
+def said_before(path, edits):
+    """Returns what an earlier run said of just these edits, all of which it passed; nothing where there is no such run."""
+    try:
+        with open(path, encoding="utf-8") as file:
+            said = {it: tuple(found) for it, found in json.load(file).items()}
+    except (OSError, ValueError):
+        return {}
+    return said if {*said} == edits and all(is_refused for is_refused, _ in said.values()) else {}
+
+
 def try_one(kit, tries, is_anew):
-    """Tries the edits of a crate, or takes what an earlier run passed of the same."""
+    """Tries the edits of a crate, or takes what an earlier run passed of the same. What is said already, of edits that can't be tried, stays said."""
     at, key = kept_at(kit), key_of(kit, tries)
-    if at and not is_anew and os.path.isfile(f"{at}/{key}"):
-        with open(f"{at}/{key}", encoding="utf-8") as file:
-            tries.said, tries.is_kept = {it: tuple(said) for it, said in json.load(file).items()}, True
+    edits = {*(it.edit for it in tries.copies), *tries.in_place}
+    before = {} if is_anew or not at else said_before(f"{at}/{key}", edits)
+    if before:
+        tries.said.update(before)
+        tries.is_kept = True
         return tries
-    try_copies(kit, tries)
+    try_each(kit, tries)
     if at and not tries.failed() and key_of(kit, tries) == key:
         with tempfile.NamedTemporaryFile("w", dir=at, delete=False, encoding="utf-8") as file:
             json.dump(tries.said, file)
@@ -170,14 +219,15 @@ def try_one(kit, tries, is_anew):
 
 
 def plan(kit, top, names=()):
-    """Returns the tries of the crates of promises in this repository that have edits, or of those that are named."""
-    crates = [it for it in kit.rtlib.crates_below(top) if it.name.endswith("_promises") and it.name in (names or [it.name])]
+    """Returns the tries of the crates in this repository that have edits, or of those that are named."""
+    crates = [it for it in kit.rtlib.crates_below(top) if it.name in (names or [it.name])]
     return [Tries(kit, it) for it in crates if os.path.isdir(f"{it.folder}/must-fail")]
 
 
 def try_all(kit, plans, jobs, is_anew):
-    """Tries the edits of these crates, those with most copies first, and prints what is said of each. Returns the counts of refused and of others."""
-    begun = sorted(plans, key=lambda it: -len(it.copies))
+    """Tries the edits of these crates, those with most checks and copies first, and prints what is said of each. Returns the counts of refused and of
+    others."""
+    begun = sorted(plans, key=lambda it: (-len(it.in_place), -len(it.copies)))
     with ThreadPoolExecutor(jobs) as pool:
         for done in [pool.submit(try_one, kit, it, is_anew) for it in begun]:
             tries = done.result()
@@ -194,17 +244,30 @@ def build_below(plans):
     return True
 
 
+def table_of(plans):
+    """Returns the lines of a table of the edits: the function that each turns, and the clauses or other goals that refused it."""
+    rows = ["| Edit | Function | Refused for |", "|---|---|---|"]
+    for it in sorted(plans, key=lambda it: it.crate.name):
+        for edit, (is_refused, text) in sorted(it.said.items()):
+            refused = [part.partition(": ") for part in text.split("; ")] if is_refused else [("", "", text)]
+            rows += [f"| {it.crate.name}/{edit} | {at} | {why} |" for at, _, why in refused]
+        rows += [f"| {it.crate.name}/{edit} | | left to rt: {why} |" for edit, why in sorted(it.left.items())]
+    return rows
+
+
 def main(words):
-    names = [it for it in words if it != "--anew"]
+    names = [it for it in words if it not in ("--anew", "--list")]
     kit = load_kit()
     plans = plan(kit, TOP, names)
     unknown = {*names} - {it.crate.name for it in plans}
     if unknown:
-        print(f"no crates of promises with edits: {', '.join(sorted(unknown))}", file=sys.stderr)
+        print(f"no crates with edits: {', '.join(sorted(unknown))}", file=sys.stderr)
         return 2
     if not build_below(plans):
         return 1
     passed, failed = try_all(kit, plans, lanes(), "--anew" in words)
+    if "--list" in words:
+        print("\n".join(table_of(plans)))
     left = sum(len(it.left) for it in plans)
     print(f"{passed} edits refused, {failed} not refused as they must be, {left} left to rt")
     return 1 if failed else 0

@@ -3,6 +3,9 @@
 An edit that turns bodies of functions gets a copy of each of these, called NAME_as_EDIT, right behind the original, with a copy of the
 original's proof files. Nothing of the originals is changed. For each function with an edit there is one more copy that is not turned,
 NAME_as_it_stands: it has to be proved, so that no wrong copy is refused for its name alone.
+
+A function that calls itself, or that is proved together with others (`#[cycle(..)]`), has no copy: what it calls would call the original.
+Its edit is written where it stands (spots_of), in a copy of the crate of its own.
 """
 
 import collections
@@ -16,15 +19,26 @@ CONTROL = "it_stands"
 HEAD = re.compile(r"( *)(?:pub(?:\([^)]*\))? )?(?:const )?fn (\w+)")
 # What stands above a function and belongs to it.
 ABOVE = re.compile(r" *(?:///|//|#\[)")
+CYCLE = re.compile(r" *#\[cycle\((\w+)\)\]")
+TYPE = re.compile(r"^(?:pub(?:\([^)]*\))? )?(?:struct|enum) (\w+)", re.M)
 
 # A function by its lines, counted from 0: its comments and attributes, its head, the brace that opens its body, and its last.
 Function = collections.namedtuple("Function", "name indent first head opens last")
 # A copy: its edit, the file that it stands in, the original, its own name, and its lines.
 Copy = collections.namedtuple("Copy", "edit path function name lines")
+# A function that an edit turns where it stands.
+Turned = collections.namedtuple("Turned", "edit path function")
+# Where a copy or a turned function stands: its place in the crate, as the folder of its proof files; its lines, counted from 1; and for a
+# turned one the name of its cycle of calls, which is its own where it is in none, and the places of all functions in that; and the goals
+# that its proof file answers by a plain search, which the prover makes anyway, and those that it answers by hand.
+Spot = collections.namedtuple("Spot", "place lines cycle members searched by_hand", defaults=[frozenset(), frozenset()])
+# An answer in a proof file, and one that is a plain search.
+ANSWERED = re.compile(r"^pub (\S+) : goal\.\1$", re.M)
+SEARCHED = re.compile(r"^pub (\S+) : goal\.\1\n\1(?: \w+)* = search rules$", re.M)
 
 
 class Left(Exception):
-    """An edit that can't be tried on copies of functions: it is left to `rt must-fail`."""
+    """An edit that turns more than bodies of functions: it is left to `rt must-fail`."""
 
 
 class Bad(Exception):
@@ -94,13 +108,21 @@ def calls_itself(name, lines):
     return re.search(called, "\n".join(lines)) is not None
 
 
+def cycle_named(lines, function):
+    """Returns the name of the cycle that the function is said to be in, or nothing."""
+    named = filter(None, map(CYCLE.match, lines[function.first : function.head]))
+    return next((it[1] for it in named), "")
+
+
+def can_be_copied(text, function):
+    """Returns whether the function calls neither itself nor others that call it."""
+    lines = text.split("\n")
+    return not cycle_named(lines, function) and not calls_itself(function.name, lines[function.opens + 1 : function.last])
+
+
 def copy_of(text, path, function, edit):
     """Returns a copy of this function as this text has it, for this edit."""
     lines = text.split("\n")
-    if any("#[cycle(" in it for it in lines[function.first : function.head]):
-        raise Left("its function is proved together with others")
-    if calls_itself(function.name, lines[function.opens + 1 : function.last]):
-        raise Left("its function calls itself, and a copy would call the original")
     name = f"{function.name}_as_{edit}"
     own = lines[function.first : function.last + 1]
     head = function.head - function.first
@@ -108,48 +130,101 @@ def copy_of(text, path, function, edit):
     return Copy(edit, path, function, name, tuple(own))
 
 
-def copies_for(texts, folder, edit):
-    """Returns the wrong copies of the edit that makes these texts of the crate's files: one of each function that it turns."""
+def text_of(path):
+    with open(path, encoding="utf-8") as file:
+        return file.read()
+
+
+def functions_of(texts, folder, edit):
+    """Returns the functions that the edit turns which makes these texts of the crate's files, each with its file."""
     if not re.fullmatch(r"\w+", edit) or edit == CONTROL:
         raise Bad("its name is none for a function")
     found = []
     for path, text in texts.items():
         if not path.startswith("src/"):
             raise Left("it turns a file of specs or proofs")
-        with open(f"{folder}/{path}", encoding="utf-8") as file:
-            old = file.read()
+        old = text_of(f"{folder}/{path}")
         for function in turned(old, text):
             owner_of(old.split("\n"), function)
-            found.append(copy_of(text, path, function, edit))
+            found.append((path, function))
     return found
+
+
+def copies_for(texts, folder, edit):
+    """Returns the wrong copies of the edit that makes these texts of the crate's files: one of each function that it turns, or none where one of
+    these has no copy."""
+    found = functions_of(texts, folder, edit)
+    if not all(can_be_copied(text, it) for path, it in found for text in (text_of(f"{folder}/{path}"), texts[path])):
+        return []
+    return [copy_of(texts[path], path, it, edit) for path, it in found]
 
 
 def controls(folder, copies):
     """Returns for each function that has a wrong copy one that is as it stands."""
-    found = {}
-    for it in copies:
-        with open(f"{folder}/{it.path}", encoding="utf-8") as file:
-            found[it.path, it.function] = copy_of(file.read(), it.path, it.function, CONTROL)
-    return [*found.values()]
+    found = {(it.path, it.function): text_of(f"{folder}/{it.path}") for it in copies}
+    return [copy_of(text, *at, CONTROL) for at, text in found.items()]
 
 
-def place_of(path, lines, function):
-    """Returns the function's place in the crate, as folder of its proof files: of `get` of `Parts` in src/a.rt it is a/Parts/get."""
-    module = "" if path == "src/lib.rt" else path.removeprefix("src/").removesuffix(".rt")
-    return "/".join(it for it in (module, owner_of(lines, function), function.name) if it)
+def files_below(folder, *parts):
+    walked = (found for part in parts for found in os.walk(f"{folder}/{part}"))
+    return sorted(f"{at}/{name}" for at, _, names in walked for name in names)
+
+
+def file_of_type(folder, path, name):
+    """Returns the file that declares the type whose methods stand in this one: this one, where it does."""
+    sources = [it for it in files_below(folder, "src") if it.endswith(".rt")]
+    found = [os.path.relpath(it, folder) for it in sources if name in TYPE.findall(text_of(it))]
+    if path not in found and len(found) != 1:
+        raise Left(f"it isn't known which file declares {name}")
+    return path if path in found else found[0]
+
+
+def place_of(folder, path, lines, function):
+    """Returns the function's place in the crate, as folder of its proof files: of `get` of `Parts`, which src/a.rt declares, it is a/Parts/get."""
+    owner = owner_of(lines, function)
+    path = file_of_type(folder, path, owner) if owner else path
+    module = "" if path in ("src/lib.rt", "src/main.rt") else path.removeprefix("src/").removesuffix(".rt")
+    return "/".join(it for it in (module, owner, function.name) if it)
+
+
+def answers_in(folder, *names):
+    """Returns the goals that the proof files in these folders of proofs answer by a plain search, and those that they answer by hand."""
+    texts = [text_of(it) for it in (f"{folder}/proofs/{it}/Answers.antt" for it in names) if os.path.isfile(it)]
+    searched = frozenset(goal for text in texts for goal in SEARCHED.findall(text))
+    return searched, frozenset(goal for text in texts for goal in ANSWERED.findall(text)) - searched
 
 
 def places(room, path, copies):
-    """Returns each copy's place in the crate, and its lines in the file of the room, by number from 1."""
-    with open(f"{room}/{path}", encoding="utf-8") as file:
-        text = file.read()
+    """Returns where each copy in this file of the room stands."""
+    text = text_of(f"{room}/{path}")
     lines, found = text.split("\n"), collections.defaultdict(list)
     for it in functions_in(text):
         found[it.name].append(it)
     if any(len(found[it.name]) != 1 for it in copies):
         raise Bad(f"a copy in {path} is not found, or its name is taken")
     made = {it: found[it.name][0] for it in copies}
-    return {it: (place_of(path, lines, at), range(at.first + 1, at.last + 2)) for it, at in made.items()}
+    return {it: Spot(place_of(room, path, lines, at), range(at.first + 1, at.last + 2), "", ()) for it, at in made.items()}
+
+
+def spots_of(texts, folder, edit):
+    """Returns where the functions stand that the edit turns which makes these texts of the crate's files: it changes no number of a line."""
+    found = {}
+    for path, function in functions_of(texts, folder, edit):
+        text = text_of(f"{folder}/{path}")
+        lines = text.split("\n")
+        cycle = cycle_named(lines, function)
+        together = [it for it in functions_in(text) if cycle_named(lines, it) == cycle] if cycle else [function]
+        members = tuple(place_of(folder, path, lines, it) for it in together)
+        own = range(function.first + 1, function.last + 2)
+        place = place_of(folder, path, lines, function)
+        beside = f"{place.rpartition('/')[0]}/+{cycle or function.name}".lstrip("/")
+        found[Turned(edit, path, function)] = Spot(place, own, cycle or function.name, members, *answers_in(folder, place, beside))
+    return found
+
+
+def controls_in_place(spots):
+    """Returns where these functions stand in a room that doesn't turn them: of all that is said there, none may be of them, so they have no lines."""
+    return {it._replace(edit=CONTROL): spot._replace(lines=range(0)) for it, spot in spots.items()}
 
 
 def copy_proof(room, crate, original, place):
@@ -177,17 +252,30 @@ def write_copies(room, path, copies):
         file.write("\n".join(lines))
 
 
-def make_room(room, crate, folder, copies):
-    """Writes the crate with its copies into the room. Returns each copy's place in the crate and its lines."""
+def copy_crate(room, folder):
     for part in PARTS:
         if os.path.isdir(f"{folder}/{part}"):
             shutil.copytree(f"{folder}/{part}", f"{room}/{part}")
+
+
+def make_room(room, crate, folder, copies):
+    """Writes the crate with its copies into the room. Returns where each copy stands."""
+    copy_crate(room, folder)
     found = {}
     for path in {it.path for it in copies}:
         inside = [it for it in copies if it.path == path]
         write_copies(room, path, inside)
         found.update(places(room, path, inside))
-    for it, (place, _) in found.items():
-        original = f"{place.rpartition('/')[0]}/{it.function.name}".lstrip("/")
-        copy_proof(room, crate, original, place)
+    for it, spot in found.items():
+        original = f"{spot.place.rpartition('/')[0]}/{it.function.name}".lstrip("/")
+        copy_proof(room, crate, original, spot.place)
+        found[it] = Spot(spot.place, spot.lines, spot.cycle, spot.members, *answers_in(room, spot.place))
     return found
+
+
+def make_edited_room(room, folder, texts):
+    """Writes the crate with these texts of its files into the room."""
+    copy_crate(room, folder)
+    for path, text in texts.items():
+        with open(f"{room}/{path}", "w", encoding="utf-8") as file:
+            file.write(text)

@@ -1,0 +1,49 @@
+#compdef protogate
+# Completions of protogate for zsh.
+
+# Files below the folder that an option names, by their paths from there. The option is the last word: others come from _arguments.
+_protogate_files() {
+    local folder=${(Q)${opt_args[$argv[-1]]:-.}}
+    folder=${folder/#\~/$HOME}
+    _files -W "${folder:a}"
+}
+
+_protogate() {
+    local -A opt_args
+    local state line context
+    local -a old_and_new=(
+        '--old-dir[the folder of the old file]:folder:_files -/'
+        '--new-dir[the folder of the new file]:folder:_files -/'
+        '--old[the old text, or a descriptor set]:file:_protogate_files --old-dir'
+        '--new[the new text, or a descriptor set]:file:_protogate_files --new-dir'
+    )
+    if ((CURRENT == 2)); then
+        local -a commands=(
+            'compile:write the descriptor set of texts'
+            'gate:find whether a changed message type may be released'
+            'verify:check a certificate'
+            'show:show what bytes are read as'
+        )
+        _describe command commands
+        _arguments '--help[print help]' '--version[print the version]'
+        return
+    fi
+    local command=$words[2]
+    shift words
+    ((CURRENT--))
+    case $command in
+        compile) _arguments '--help[print help]' '--dir[the folder of the files]:folder:_files -/' '*:file:_protogate_files --dir' ;;
+        gate)
+            _arguments '--help[print help]' $old_and_new '--type[the full name of the message type]:type: ' \
+                '--view[how enums are compared]:view:(numbers names)' '--both[ask for both directions]' '--cert[print the certificate]'
+            ;;
+        verify) _arguments '--help[print help]' $old_and_new ':certificate:_files' ;;
+        show)
+            _arguments '--help[print help]' '--dir[the folder of the file]:folder:_files -/' \
+                '--file[a text, or a descriptor set]:file:_protogate_files --dir' '--type[the full name of the message type]:type: ' \
+                ':bytes in hexadecimal digits: '
+            ;;
+    esac
+}
+
+_protogate "$@"

@@ -1,0 +1,357 @@
+#!/usr/bin/env python3
+"""Tests of examples/ci/gate.sh, on repositories of its own.
+
+usage: tools/test_ci.py [PROGRAM]    by default the program that was built; some tests are passed over where there is no protoc
+
+What is wanted of a change stands in examples/changes, or follows from the rules of the language.
+"""
+
+import json
+import os
+import shutil
+import subprocess
+import sys
+import tempfile
+import unittest
+
+sys.dont_write_bytecode = True
+TOP = os.path.dirname(os.path.dirname(os.path.realpath(__file__)))
+GATE = f"{TOP}/examples/ci/gate.sh"
+PROGRAM = f"{TOP}/crates/protogate/out/protogate"
+sys.path.insert(0, f"{TOP}/examples/ci")
+import gate  # noqa: E402
+
+HEAD = 'syntax = "proto3";\n'
+NO_PROTOC = unittest.skipUnless(shutil.which("protoc"), "there is no protoc")
+
+
+def read(path):
+    with open(f"{TOP}/{path}", encoding="utf-8") as file:
+        return file.read()
+
+
+class Repository(unittest.TestCase):
+    """A repository with one commit, `v1`, of the old texts, and the new ones in its work tree."""
+
+    def setUp(self):
+        self.room = tempfile.TemporaryDirectory()
+        self.top = f"{self.room.name}/a repository"
+        os.mkdir(self.top)
+        self.addCleanup(self.room.cleanup)
+        self.env = {**os.environ, "PROTOGATE": PROGRAM, "GIT_CONFIG_NOSYSTEM": "1", "GIT_CONFIG_GLOBAL": "/dev/null"}
+        self.env = {name: it for name, it in self.env.items() if not name.startswith(("GITHUB_", "CI_"))}
+
+    def write(self, texts, top=None):
+        for path, words in texts.items():
+            path = f"{top or self.top}/{path}"
+            os.makedirs(os.path.dirname(path), exist_ok=True)
+            with open(path, "wb") as file:
+                file.write(words if isinstance(words, bytes) else words.encode())
+
+    def git(self, *words, at=None):
+        who = ["-c", "user.name=nobody", "-c", "user.email=nobody@example.org", "-c", "init.defaultBranch=main"]
+        done = subprocess.run(["git", *who, *words], cwd=at or self.top, env=self.env, check=True, stdout=subprocess.PIPE)
+        return done.stdout.decode().strip()
+
+    def release(self, old, new, folder="proto"):
+        self.write({f"{folder}/{name}": words for name, words in old.items()})
+        self.git("init", "-q")
+        self.git("add", ".")
+        self.git("commit", "-q", "-m", "v1", "--allow-empty")
+        self.git("tag", "v1")
+        for name in old:
+            os.remove(f"{self.top}/{folder}/{name}")
+        self.write({f"{folder}/{name}": words for name, words in new.items()})
+
+    def call(self, *words, at=None, **more):
+        done = subprocess.run([GATE, *words], cwd=at or self.top, env={**self.env, **more}, stdin=subprocess.DEVNULL,
+                              stdout=subprocess.PIPE, stderr=subprocess.PIPE)
+        self.advice = done.stderr.decode("utf-8", "replace")
+        return done.returncode, done.stdout.decode("utf-8", "surrogateescape").splitlines()
+
+    def record(self, *words, **more):
+        self.call(*words, "--record", "run.json", **more)
+        with open(f"{self.top}/run.json", encoding="utf-8") as file:
+            return json.load(file)
+
+
+class Answers(Repository):
+    def release_orders(self, folder="proto"):
+        self.release({"order.proto": read("examples/old/order.proto")}, {"order.proto": read("examples/new/order.proto")}, folder)
+
+    breaks = "breaks Order 3 witness 220180 at Order.note order.proto:7:9 Order.note order.proto:7:10"
+
+    def test_all_types(self):
+        self.release_orders()
+        self.assertEqual(self.call("v1", "proto"), (1, [self.breaks, "compatible Customer"]))
+        self.assertEqual(self.advice, "")
+
+    def test_named_types(self):
+        self.release_orders()
+        self.assertEqual(self.call("v1", "proto", "Customer"), (0, ["compatible Customer"]))
+        self.assertEqual(self.call("v1", "./proto/", "Customer", "Order"), (1, ["compatible Customer", self.breaks]))
+
+    def test_a_type_that_is_skipped(self):
+        self.release_orders()
+        self.assertEqual(self.call("v1", "proto", "--skip", "Order"), (0, ["compatible Customer"]))
+        self.assertEqual(self.call("v1", "proto", "--skip", "order.proto"), (0, []))
+        self.assertEqual(self.advice, "")
+        self.assertEqual(self.call("v1", "proto", "--skip", "Custmer")[0], 1)
+        self.assertIn("--skip Custmer names nothing; did you mean Customer?", self.advice)
+
+    def test_the_changes_of_the_page(self):
+        names = sorted(os.listdir(f"{TOP}/examples/changes"))
+        sides = {it: [read(f"examples/changes/{it}/{side}.proto") for side in ("old", "new")] for it in names}
+        self.release({f"{it}/a.proto": old for it, (old, _) in sides.items()}, {f"{it}/a.proto": new for it, (_, new) in sides.items()})
+        for name in names:
+            said = read(f"examples/changes/{name}/says").splitlines()
+            answer = self.record("v1", f"proto/{name}", said[0].split()[1])["answers"]
+            self.assertEqual([answer[0]["verdict"]], [said[0].split()[0]])
+            witness = [it.partition(" ")[2] for it in said if it.startswith("witness ")]
+            self.assertEqual([answer[0]["witness"]] if witness else [], witness)
+            steps = [it.replace("old.proto", "a.proto").replace("new.proto", "a.proto") for it in said if it.startswith("step ")]
+            told = [" ".join(["step", *(it[key] for key in ("number", "old", "old_place", "new", "new_place"))]) for it in answer[0]["steps"]]
+            self.assertEqual(told, steps)
+
+    def test_blanks_and_a_shallow_clone(self):
+        self.release_orders("my protos/of a shop")
+        self.git("commit", "-q", "-a", "-m", "v2")
+        clone = f"{self.room.name}/a clone"
+        self.git("clone", "-q", "--depth", "1", f"file://{self.top}", clone)
+        self.assertEqual(self.call("v1", "my protos/of a shop", at=clone), (4, []))
+        self.git("fetch", "-q", "--depth", "1", "origin", "tag", "v1", at=clone)
+        self.assertEqual(self.call("v1", "my protos/of a shop", at=clone), (1, [self.breaks, "compatible Customer"]))
+        self.write({"my protos/of a shop/an order.proto": HEAD + "message A { int32 a = 1; }"})
+        self.git("add", ".")
+        self.git("commit", "-q", "-m", "v3")
+        self.write({"my protos/of a shop/an order.proto": HEAD + "message A { uint32 a = 1; }"})
+        status, said = self.call("HEAD", "my protos/of a shop", "A", "--github")
+        self.assertEqual(said[0], "breaks A 11 witness 08ffffffffffffffffff01 at A.a an order.proto:1:13 A.a an order.proto:1:14"
+                         .replace(":1:", ":2:").replace(":13", ":19").replace(":14", ":20"))
+        self.assertIn("::error file=my protos/of a shop/an order.proto,", said[1])
+
+    def test_from_a_folder_below(self):
+        self.release_orders("shop/proto")
+        below = f"{self.top}/shop/proto"
+        self.assertEqual(self.call("v1", ".", at=below)[0], 1)
+        status, said = self.call("v1", "proto", "--github", at=f"{self.top}/shop")
+        self.assertIn("::error file=shop/proto/order.proto,", said[2])
+        status, said = self.call("v1", ".", "--github", at=self.top)
+        self.assertIn("::error file=shop/proto/order.proto,", said[2])
+
+    def test_from_a_hook(self):
+        """Git gives its hooks an index of its own."""
+        self.release_orders()
+        self.git("add", ".")
+        index = f"{self.top}/.git/index"
+        self.git("update-index", "--refresh")
+        before = self.git("ls-files", "--stage")
+        self.assertEqual(self.call("v1", "proto", GIT_INDEX_FILE=index, GIT_DIR=".git")[0], 1)
+        self.assertEqual(self.git("ls-files", "--stage"), before)
+
+    def test_what_is_hidden_is_left_out(self):
+        self.release_orders("proto")
+        self.write({"proto/.cache/a.proto": "no text"})
+        self.assertEqual(self.call("v1", "proto"), (1, [self.breaks, "compatible Customer"]))
+
+    def test_types_that_came_and_went(self):
+        old = HEAD + "message A { message B { map<string, B> b = 1; } int32 a = 1; }\nmessage Draft { }"
+        new = HEAD + "message A { int32 a = 1; message C { } }\nmessage Drafts { }"
+        self.release({"a.proto": old}, {"a.proto": new})
+        said = ["compatible A", "removed A.B", "removed Draft", "added A.C", "added Drafts"]
+        self.assertEqual(self.call("v1", "proto"), (2, said))
+        self.assertIn("Draft was removed; was it renamed to Drafts?", self.advice)
+        self.assertEqual(self.call("v1", "proto", "--skip", "Draft", "--skip", "A.B")[0], 0)
+        self.assertEqual(self.call("v1", "proto", "Drafts"), (0, ["added Drafts"]))
+
+    def test_a_type_that_moved(self):
+        self.release({"a.proto": HEAD + "package p.q; message A { }"},
+                     {"a.proto": HEAD + 'import public "b.proto";', "b.proto": HEAD + "package p.q; message A { }"})
+        self.assertEqual(self.call("v1", "proto"), (0, ["compatible p.q.A"]))
+
+    def test_one_name_in_two_texts(self):
+        """Texts that nothing joins may declare one name."""
+        self.release({"a.proto": HEAD + "message A { int32 a = 1; }", "b.proto": HEAD + "message A { bytes a = 1; }"},
+                     {"a.proto": HEAD + "message A { int64 a = 1; }", "b.proto": HEAD + "message A { string a = 1; }"})
+        status, said = self.call("v1", "proto")
+        self.assertEqual((status, [it.partition(" witness")[0] for it in said]), (1, ["compatible A", "breaks A 3"]))
+
+    def test_both_directions(self):
+        self.release({"a.proto": HEAD + "message A { int32 a = 1; }"}, {"a.proto": HEAD + "message A {\n int64 a = 1;\n}"})
+        says = ["forward compatible A", "backward breaks A 6 witness 088080808008 at A.a a.proto:2:19 A.a a.proto:3:8"]
+        status, said = self.call("v1", "proto", "--both", "--github")
+        self.assertEqual((status, said[:2]), (1, says))
+        self.assertIn("file=proto/a.proto,title=protogate%3A breaks A,line=3,col=8::", said[2])
+
+    def test_names_of_enums(self):
+        if b"--view" not in subprocess.run([PROGRAM, "gate", "--help"], stdout=subprocess.PIPE).stdout:
+            self.skipTest("the program compares enums by numbers alone")
+        sides = [{"a.proto": read(f"examples/changes/number_reused/{side}.proto")} for side in ("old", "new")]
+        self.release(*sides)
+        self.assertEqual(self.call("v1", "proto"), (0, ["compatible Invoice"]))
+        self.assertEqual(self.call("v1", "proto", "--view", "names")[0], 1)
+
+    def test_annotations(self):
+        self.release_orders()
+        status, said = self.call("v1", "proto", "--github")
+        self.assertEqual((status, len(said)), (1, 3))
+        self.assertIn("::error file=proto/order.proto,title=protogate%3A breaks Order,line=7,col=10::", said[2])
+        self.assertIn("220180%0AThe old side reads:%0A4 note bytes 80%0A", said[2])
+        self.assertEqual(gate.annotation("a, b", "50%\n", "c:d.proto", "c:d.proto:1:2"),
+                         "::error file=c%3Ad.proto,title=a%2C b,line=1,col=2::50%25%0A")
+
+
+class Faults(Repository):
+    def test_mistyped_names(self):
+        self.release({"a.proto": HEAD + "package shop.v1; message Order { }"}, {"a.proto": HEAD + "package shop.v1; message Order { }"})
+        self.assertEqual(self.call("v1", "proto", "Order"), (2, ["refused E901 Order"]))
+        self.assertIn("did you mean shop.v1.Order?", self.advice)
+        self.call("v1", "proto", "shop.v1.Ordr")
+        self.assertIn("did you mean shop.v1.Order?", self.advice)
+        self.call("v1", "proto", "Something")
+        self.assertEqual(self.advice, "")
+        self.assertEqual(self.call("v11", "proto"), (4, []))
+        self.assertIn("git has no revision v11 here; did you mean v1?", self.advice)
+        self.assertEqual(self.call("v1", "protos"), (4, []))
+        self.assertIn("v1 has no folder protos; did you mean proto?", self.advice)
+
+    def test_a_mistyped_import(self):
+        self.release({"money.proto": HEAD}, {"money.proto": HEAD, "a.proto": HEAD + 'import "mony.proto"; message A { }'})
+        self.assertEqual(self.call("v1", "proto"), (2, ["refused new E301 a.proto:2:8"]))
+        self.assertIn("did you mean money.proto?", self.advice)
+        self.assertNotIn("protoc", self.advice)
+
+    def test_a_fault_is_told_once(self):
+        texts = {"a.proto": HEAD + 'import "b.proto"; message A { }', "b.proto": HEAD + "message B { }", "c.proto": HEAD + "message C { }"}
+        self.release(texts, {**texts, "b.proto": HEAD + "message B { int32 a = 0; }"})
+        self.assertEqual(self.call("v1", "proto"), (2, ["refused new E401 b.proto:2:19", "compatible C"]))
+        self.assertEqual(self.call("v1", "proto", "C"), (0, ["compatible C"]))
+        self.assertEqual(self.call("v1", "proto", "A"), (2, ["refused new E401 b.proto:2:19"]))
+        self.assertEqual(self.call("v1", "proto", "C", "A"), (2, ["refused new E401 b.proto:2:19", "compatible C"]))
+        status, said = self.call("v1", "proto", "--github")
+        self.assertIn("::error file=proto/b.proto,title=protogate%3A refused new E401 b.proto%3A2%3A19,line=2,col=19::", said[2])
+
+    def release_options(self):
+        sides = [{it: read(f"examples/sets/{side}/{it}") for it in ("shop.proto", "units.proto")} for side in ("old", "new")]
+        self.release(*sides)
+
+    def test_options_are_refused(self):
+        self.release_options()
+        said = [f"refused {side} {it}" for side in ("old", "new") for it in ("E205 shop.proto:8:21", "E204 units.proto:7:1")]
+        self.assertEqual(self.call("v1", "proto"), (2, said))
+        self.assertIn("use --with-protoc", self.advice)
+        # What is refused of the old side has no place in the work tree.
+        told = self.call("v1", "proto", "--github")[1][len(said):]
+        self.assertEqual([" file=proto/" in it or ",line=" in it for it in told], [False, False, True, True])
+
+    def test_a_text_that_was_refused_before(self):
+        """A type isn't new that the old side has in a text that is refused."""
+        self.release({"a.proto": HEAD + "option (x) = 1; message A { }"}, {"a.proto": HEAD + "message A { }"})
+        self.assertEqual(self.call("v1", "proto"), (2, ["refused old E205 a.proto:2:8"]))
+        self.assertEqual(self.call("v1", "proto", "A"), (2, ["refused old E205 a.proto:2:8"]))
+
+    @NO_PROTOC
+    def test_an_import_of_the_library(self):
+        text = HEAD + 'import "google/protobuf/timestamp.proto"; message A { google.protobuf.Timestamp a = 1; }'
+        self.release({"a.proto": text}, {"a.proto": text})
+        self.assertEqual(self.call("v1", "proto"), (2, ["refused old E301 a.proto:2:8", "refused new E301 a.proto:2:8"]))
+        self.assertIn("use --with-protoc", self.advice)
+        self.assertEqual(self.call("v1", "proto", "--with-protoc"), (0, ["compatible A"]))
+
+    @NO_PROTOC
+    def test_one_side_by_protoc(self):
+        self.release({"a.proto": HEAD + "message A { bytes a = 1 [ctype = CORD]; }"}, {"a.proto": HEAD + "message A { string a = 1; }"})
+        status, said = self.call("v1", "proto", "--with-protoc")
+        self.assertEqual((status, said), (1, ["breaks A 3 witness 0a0180 at A.a - A.a a.proto:2:20"]))
+
+    @NO_PROTOC
+    def test_a_set_that_is_refused(self):
+        proto2 = 'syntax = "proto2"; message B { }'
+        text = HEAD + 'option optimize_for = SPEED; import "google/protobuf/any.proto"; import "b.proto"; message A { B b = 1; }'
+        self.release({"a.proto": text, "b.proto": proto2}, {"a.proto": text, "b.proto": proto2})
+        status, said = self.call("v1", "proto", "--with-protoc", "--skip", "b.proto")
+        self.assertEqual((status, said), (2, ["refused old E702 A"]))
+
+    @NO_PROTOC
+    def test_options_by_protoc(self):
+        self.release_options()
+        said = ["breaks shop.Order 6 witness 088080808008 at shop.Order.weight - shop.Order.weight -"]
+        self.assertEqual(self.call("v1", "proto", "--with-protoc"), (1, said))
+        status, said = self.call("v1", "proto", "--with-protoc", "--github")
+        self.assertIn("::error file=proto/shop.proto,title=protogate%3A breaks shop.Order::", said[1])
+
+    @NO_PROTOC
+    def test_what_protoc_refuses_too(self):
+        self.release({}, {"a.proto": HEAD + "option (x) = 1;", "b.proto": HEAD + 'import "b2.proto";'})
+        self.assertEqual(self.call("v1", "proto", "--with-protoc"), (4, []))
+        self.write({"proto/keep.proto": HEAD})
+        self.git("add", ".")
+        self.git("commit", "-q", "-m", "v2")
+        said = ["refused old E205 a.proto:2:8", "refused old E301 b.proto:2:8"]
+        self.assertEqual(self.call("HEAD", "proto", "--with-protoc"), (2, said + [it.replace("old", "new") for it in said]))
+        self.assertIn("protoc refuses it on the old side, too: a.proto:2:", self.advice)
+        self.assertNotIn("use --with-protoc", self.advice)
+
+    def test_statuses(self):
+        text = {"a.proto": HEAD + "message A { }"}
+        self.release(text, text)
+        self.assertEqual(self.call("v1", "proto", PROTOGATE="/no/such/program")[0], 127)
+        self.assertIn("PROTOGATE", self.advice)
+        self.assertEqual(self.call("v1", "proto", "--record", "none/run.json")[0], 3)
+        self.write({"texts/README": "no text"})
+        self.assertEqual(self.call("v1")[0], 4)
+        self.git("add", ".")
+        self.git("commit", "-q", "-m", "v2")
+        self.assertEqual(self.call("HEAD", "texts")[0], 4)
+        self.assertEqual(self.call("v1", "proto", "--no-such-option")[0], 4)
+        self.assertEqual(self.call("--help")[0], 0)
+        self.assertEqual(self.call("v1", "proto", at=self.room.name)[0], 4)
+        self.assertEqual(self.call("v1", "proto", PATH=self.room.name)[0], 127)
+
+    def test_a_program_that_says_something_else(self):
+        """A status and lines that don't agree are no answer."""
+        text = {"a.proto": HEAD + "message A { }"}
+        self.release(text, text)
+        for says, status in (("compatible A", 1), ("breaks A 2\nwitness 0801\nstep 1 A.a - A.a -", 0), ("", 0), ("compatible A", 2), ("breaks A 2", 1)):
+            gates = f"#!/bin/sh\ncase $1 in gate) printf '{says}\\n'; exit {status} ;; esac\nexec '{PROGRAM}' \"$@\"\n"
+            self.write({"program": gates})
+            os.chmod(f"{self.top}/program", 0o755)
+            self.assertEqual(self.call("v1", "proto", PROTOGATE=f"{self.top}/program"), (3, []), says)
+
+    def test_a_program_that_fails(self):
+        text = {"a.proto": HEAD + "message A { }"}
+        self.release(text, text)
+        for does, status in (("kill -SEGV $$", 3), ("exit 4", 3), ("echo refused E001; exit 3", 3), ("echo refused E309 a.proto; exit 3", 3)):
+            self.write({"program": f"#!/bin/sh\n{does}\n"})
+            os.chmod(f"{self.top}/program", 0o755)
+            self.assertEqual(self.call("v1", "proto", PROTOGATE=f"{self.top}/program")[0], status)
+
+
+class Sets(unittest.TestCase):
+    """The reader of descriptor sets, on bytes by descriptor.proto."""
+
+    @staticmethod
+    def record(number, data):
+        return bytes([number << 3 | 2, len(data)]) + data
+
+    def test_names(self):
+        record = self.record
+        entry = record(1, b"FooEntry") + record(7, bytes([7 << 3, 1]))
+        inner = record(1, b"Inner") + record(7, bytes([3 << 3, 1]))
+        outer = record(1, b"Outer") + record(3, entry) + record(3, inner)
+        file = record(1, b"a.proto") + record(2, b"p.q") + record(4, outer) + record(4, record(1, b"Next")) + record(12, b"proto3")
+        other = record(1, b"b.proto") + record(4, record(1, b"Bare"))
+        made = record(1, other) + record(1, file)
+        self.assertEqual(gate.types_in(made, "a.proto"), ["p.q.Outer", "p.q.Outer.Inner", "p.q.Next"])
+        self.assertEqual(gate.types_in(made, "b.proto"), ["Bare"])
+        self.assertEqual(gate.types_in(made, "c.proto"), [])
+
+    def test_records(self):
+        data = bytes([0x08, 0x96, 0x01, 0x11]) + bytes(8) + bytes([0x1D]) + b"abcd" + bytes([0x22, 0])
+        self.assertEqual(list(gate.records(data)), [(1, 150), (2, bytes(8)), (3, b"abcd"), (4, b"")])
+
+
+if __name__ == "__main__":
+    if len(sys.argv) > 1 and not sys.argv[1].startswith("-"):
+        PROGRAM = os.path.realpath(sys.argv.pop(1))
+    unittest.main()

@@ -1,0 +1,261 @@
+#!/usr/bin/env python3
+"""Tests of tools/report.py, of the files in examples/ci that one copies, and of tools/completions and tools/release.sh.
+
+usage: tools/test_packages.py [PROGRAM]    by default the program that was built
+
+Some tests are passed over where a tool isn't there that they take: make, fish, or dpkg-deb with root's rights or `unshare`.
+"""
+
+import html.parser
+import os
+import re
+import shutil
+import subprocess
+import sys
+import unittest
+
+sys.dont_write_bytecode = True
+import report  # noqa: E402
+import test_ci  # noqa: E402
+from test_ci import GATE, HEAD, TOP, read  # noqa: E402
+
+
+class Page(html.parser.HTMLParser):
+    """What a page has: its words, where it leads to, and the elements that are open at its end."""
+
+    def __init__(self, page):
+        super().__init__()
+        self.words, self.targets, self.open, self.names = "", [], [], set()
+        self.feed(page)
+
+    def handle_starttag(self, tag, attrs):
+        self.names.add(tag)
+        self.targets += [value for name, value in attrs if name in ("href", "src")]
+        if tag not in ("meta",):
+            self.open.append(tag)
+
+    def handle_endtag(self, tag):
+        assert self.open.pop() == tag, tag
+
+    def handle_data(self, data):
+        self.words += data
+
+
+class Reports(test_ci.Repository):
+    def page(self, *words, **more):
+        self.record(*words)
+        done = subprocess.run([f"{TOP}/tools/report.py", "run.json"], cwd=self.top, env={**self.env, **more}, check=True, stdout=subprocess.PIPE)
+        page = Page(done.stdout.decode())
+        self.assertEqual(page.open, [])
+        self.assertFalse(page.names & {"script", "img", "link", "iframe"})
+        return page
+
+    def release_orders(self):
+        self.release({"order.proto": read("examples/old/order.proto")}, {"order.proto": read("examples/new/order.proto")})
+
+    def test_a_change_that_breaks(self):
+        self.release_orders()
+        page = self.page("v1", "proto")
+        for words in ("proto breaks old messages", "220180", "4 note bytes 80", "refused E604 at 0", "a text that isn't UTF-8",
+                      "bytes note = 4;", "string note = 4;", "proto/order.proto:7:10", "Customer"):
+            self.assertIn(words, page.words)
+        self.assertEqual(page.targets, [])
+
+    def test_links(self):
+        self.release_orders()
+        commit = self.git("rev-parse", "v1")
+        there = {"GITHUB_SERVER_URL": "https://github.com", "GITHUB_REPOSITORY": "o/r", "GITHUB_SHA": "abc"}
+        self.assertEqual(self.page("v1", "proto", **there).targets,
+                         [f"https://github.com/o/r/blob/{commit}/proto/order.proto#L7", "https://github.com/o/r/blob/abc/proto/order.proto#L7"])
+        there = {"CI_PROJECT_URL": "https://gitlab.com/o/r", "CI_COMMIT_SHA": "abc"}
+        self.assertEqual(self.page("v1", "proto", **there).targets[1], "https://gitlab.com/o/r/-/blob/abc/proto/order.proto#L7")
+
+    def test_what_is_released(self):
+        self.release_orders()
+        self.assertIn("proto may be released", self.page("v1", "proto", "Customer").words)
+
+    def test_what_is_refused(self):
+        self.release({"a.proto": HEAD + "message A { }"}, {"a.proto": HEAD + 'option (x) = "<&>";'})
+        page = self.page("v1", "proto")
+        for words in ("new E205", 'option (x) = "<&>";', "A custom option, in parentheses", "What to do:",
+                      "protoc -I proto --include_imports --descriptor_set_out=new.pb a.proto",
+                      "protogate gate --new new.pb --old-dir proto --old a.proto --type TYPE"):
+            self.assertIn(words, page.words)
+
+    def test_what_is_refused_on_both_sides(self):
+        self.release({"a b.proto": HEAD + "option (x) = 1;"}, {"a b.proto": HEAD + "option (x) = 1;"})
+        page = self.page("v1", "proto")
+        for words in ("protoc -I proto --include_imports --descriptor_set_out=old.pb 'a b.proto'", "in proto as it stood at v1",
+                      "protogate gate --old old.pb --new new.pb --type TYPE"):
+            self.assertIn(words, page.words)
+
+    def test_what_is_missing(self):
+        self.release({"a.proto": HEAD + "message Draft { }"}, {"a.proto": HEAD + "message Drafts { }"})
+        self.assertIn("Was it renamed to Drafts?", self.page("v1", "proto").words)
+        self.assertIn("Did you mean Draft?", self.page("v1", "proto", "Drat").words)
+
+    def test_both_directions(self):
+        self.release({"a.proto": HEAD + "message A { int32 a = 1; }"}, {"a.proto": HEAD + "message A { int64 a = 1; }"})
+        page = self.page("v1", "proto", "--both")
+        self.assertIn("The new side can write this message of 6 bytes", page.words)
+
+    def test_no_record(self):
+        self.write({"run.json": "no record"})
+        for name in ("none.json", "run.json"):
+            done = subprocess.run([f"{TOP}/tools/report.py", name], cwd=self.top, stderr=subprocess.PIPE, stdout=subprocess.PIPE)
+            self.assertEqual((done.returncode, done.stdout), (3, b""))
+            self.assertTrue(done.stderr.startswith(b"report: "), done.stderr)
+
+    def test_each_code_has_words(self):
+        """Each code that the page of refusals has is known, by a row of its own where it has one."""
+        page = read("docs/REFUSALS.md")
+        rules = report.rules_in(page)
+        listed = re.findall(r"^\| (E\d{3})", page, re.M)
+        self.assertEqual(set(listed) - set(rules), set())
+        self.assertIn("isn't UTF-8", rules["E604"][0])
+        self.assertEqual(rules["E703"][1], "protogate reads proto3 only.")
+
+    def test_items(self):
+        self.assertIn("&quot;Ann&quot;", report.readable("1 name text 416e6e"))
+        self.assertIn("1.0", report.readable("1 a f64 3ff0000000000000"))
+        self.assertIn("1.5", report.readable("1 a f32 3fc00000"))
+        self.assertEqual(report.readable("1 name text -"), "1 name text -")
+
+
+class Templates(test_ci.Repository):
+    """The files that one copies: what they run ends as it should, with commands of these names on the path."""
+
+    def setUp(self):
+        super().setUp()
+        self.release({"order.proto": read("examples/old/order.proto")}, {"order.proto": read("examples/new/order.proto")})
+        self.git("tag", "v1.4")
+        self.git("commit", "-q", "-a", "-m", "v2")
+        tools = f"{self.room.name}/tools"
+        for name, tool in (("protogate-ci", GATE), ("protogate-report", f"{TOP}/tools/report.py")):
+            self.write({name: f'#!/bin/sh\nexec "{tool}" "$@"\n'}, tools)
+            os.chmod(f"{tools}/{name}", 0o755)
+        self.env["PATH"] = f"{tools}:{os.environ['PATH']}"
+        self.clone = f"{self.room.name}/clone"
+        self.git("clone", "-q", "--depth", "1", f"file://{self.top}", self.clone)
+
+    def shell(self, script, **more):
+        done = subprocess.run(["bash", "-e", "-c", script], cwd=self.clone, env={**self.env, **more}, stdout=subprocess.PIPE,
+                              stderr=subprocess.DEVNULL)
+        return done.returncode, done.stdout.decode()
+
+    def blocks(self, path, key):
+        """The lines of each block or list of a key, by their indentation."""
+        found = re.findall(rf"^( *)(?:- )?{key}:(?: \|)?\n((?:\1 +.*\n)+)", read(path), re.M)
+        return [re.sub(r"^\s*(?:- )?", "", block, flags=re.M) for _, block in found]
+
+    def test_github(self):
+        gates, reports = self.blocks("examples/ci/github.yml", "run")
+        status, said = self.shell(gates, RELEASE="v1.4", FOLDER="proto")
+        self.assertEqual(status, 1)
+        self.assertIn("::error file=proto/order.proto,title=protogate%3A breaks Order,line=7,col=10::", said)
+        self.assertEqual(self.shell(reports)[0], 0)
+        with open(f"{self.clone}/protogate.html", encoding="utf-8") as page:
+            self.assertIn("proto breaks old messages", page.read())
+
+    def test_gitlab(self):
+        (script,), (after,) = (self.blocks("examples/ci/gitlab.yml", it) for it in ("script", "after_script"))
+        self.assertEqual(self.shell(script, RELEASE="v1.4", FOLDER="proto")[0], 1)
+        self.assertEqual(self.shell(after)[0], 0)
+        self.assertTrue(os.path.isfile(f"{self.clone}/protogate.html"))
+
+    def test_pre_commit(self):
+        entry = re.search(r"entry: (.*)", read("examples/ci/pre-commit.yaml"))[1]
+        self.git("fetch", "-q", "--depth", "1", "origin", "tag", "v1.4", at=self.clone)
+        self.assertEqual(self.shell(entry)[0], 1)
+        pattern = re.search(r"files: (.*)", read("examples/ci/pre-commit.yaml"))[1]
+        self.assertTrue(re.search(pattern, "proto/order.proto"))
+
+    @unittest.skipUnless(shutil.which("make"), "there is no make")
+    def test_make(self):
+        self.git("fetch", "-q", "--depth", "1", "origin", "tag", "v1.4", at=self.clone)
+        rule = f"make -s -f '{TOP}/examples/ci/protogate.mk' protogate"
+        self.assertEqual(self.shell(rule)[0], 2)
+        self.git("checkout", "-q", "v1.4", at=self.clone)
+        self.assertEqual(self.shell(rule), (0, "compatible Order\ncompatible Customer\n"))
+
+
+class Completions(unittest.TestCase):
+    """Each subcommand's options are those that the page for `man` has."""
+
+    def synopses(self):
+        page = read("docs/protogate.1").partition(".SH DESCRIPTION")[0].replace("\\-", "-")
+        parts = re.split(r"^\.B protogate ", page, flags=re.M)[1:]
+        return {it.split()[0]: {"--help", *re.findall(r"--[a-z-]+", it)} - {"--version"} for it in parts}
+
+    def test_bash(self):
+        for command, options in self.synopses().items():
+            script = f"source tools/completions/protogate.bash; COMP_WORDS=(protogate {command} --); COMP_CWORD=2; _protogate; echo ${{COMPREPLY[@]}}"
+            said = subprocess.run(["bash", "-c", script], cwd=TOP, stdout=subprocess.PIPE, check=True).stdout.decode()
+            self.assertEqual(set(said.split()), options, command)
+
+    def test_bash_files(self):
+        script = ("source tools/completions/protogate.bash; COMP_WORDS=(protogate gate --old-dir examples/old --old ''); COMP_CWORD=5; "
+                  "_protogate; echo ${COMPREPLY[@]}")
+        said = subprocess.run(["bash", "-c", script], cwd=TOP, stdout=subprocess.PIPE, stderr=subprocess.DEVNULL).stdout.decode()
+        self.assertEqual(said.split(), ["order.proto"])
+
+    @unittest.skipUnless(shutil.which("fish"), "there is no fish")
+    def test_fish(self):
+        for command, options in self.synopses().items():
+            script = f"source tools/completions/protogate.fish; complete -C 'protogate {command} --'"
+            said = subprocess.run(["fish", "--no-config", "-c", script], cwd=TOP, stdout=subprocess.PIPE, check=True).stdout.decode()
+            self.assertEqual({it.split()[0] for it in said.splitlines()}, options, command)
+
+    def test_zsh(self):
+        options = set().union(*self.synopses().values())
+        self.assertEqual(set(re.findall(r"'(--[a-z-]+)\[", read("tools/completions/protogate.zsh"))) - {"--version"}, options)
+
+
+class Packages(test_ci.Repository):
+    @unittest.skipUnless(shutil.which("dpkg-deb") and (os.getuid() == 0 or shutil.which("unshare")), "no packages can be made here")
+    def test_packages(self):
+        self.write({name: read(name) for name in ("protogate", "crates.txt")})
+        for name in ("tools", "docs", "examples"):
+            shutil.copytree(f"{TOP}/{name}", f"{self.top}/{name}")
+        self.write({".gitignore": "out/\n__pycache__/\n"})
+        for name in ("v1", "proto"):
+            self.write({f"{name}/a.proto": HEAD + "message A { }"})
+        self.git("init", "-q")
+        self.git("add", ".")
+        self.git("commit", "-q", "-m", "v1")
+        os.makedirs(f"{self.top}/crates/protogate/out")
+        shutil.copy(test_ci.PROGRAM, f"{self.top}/crates/protogate/out/protogate")
+        self.write({"crates/protogate/out/protogate.begun": ""})
+        os.chmod(f"{self.top}/protogate", 0o755)
+        made = []
+        for folder in ("one", "two"):
+            words = [f"{self.top}/tools/release.sh", f"{self.room.name}/{folder}", "1.2.3"]
+            done = subprocess.run(words, env=self.env, stdout=subprocess.PIPE, check=True)
+            names = ["protogate-1.2.3-linux-x86_64.tar.gz", "protogate_1.2.3_amd64.deb"]
+            self.assertEqual(done.stdout.decode(), "".join(f"tried {it}\n" for it in names))
+            made.append([open_bytes(f"{self.room.name}/{folder}/{it}") for it in names])
+        self.assertEqual(*made)
+        self.gate_by_tarball(f"{self.room.name}/one/{names[0]}")
+
+    def gate_by_tarball(self, tarball):
+        """The unpacked folder gates as it stands, also through a link, and writes a page."""
+        subprocess.run(["tar", "-xzf", tarball, "-C", self.room.name], check=True)
+        tool = f"{self.room.name}/protogate-1.2.3-linux-x86_64/bin/protogate"
+        os.symlink(f"{tool}-ci", f"{self.room.name}/gate-it")
+        env = {name: it for name, it in self.env.items() if name != "PROTOGATE"}
+        words = [f"{self.room.name}/gate-it", "HEAD", "proto", "--record", "run.json"]
+        done = subprocess.run(words, cwd=self.top, env=env, stdout=subprocess.PIPE, check=True)
+        self.assertEqual(done.stdout.decode(), "compatible A\n")
+        page = subprocess.run([f"{tool}-report", "run.json"], cwd=self.top, env=env, stdout=subprocess.PIPE, check=True)
+        self.assertIn("proto may be released", page.stdout.decode())
+
+
+def open_bytes(path):
+    with open(path, "rb") as file:
+        return file.read()
+
+
+if __name__ == "__main__":
+    if len(sys.argv) > 1 and not sys.argv[1].startswith("-"):
+        test_ci.PROGRAM = os.path.realpath(sys.argv.pop(1))
+    unittest.main()
