@@ -1,26 +1,8 @@
 #!/bin/sh
-# Gates message types against an earlier release: is what it wrote read whole by what would be released?
-# usage: gate.sh REVISION FOLDER FILE TYPE..
-# Runs at the top of the repository, FOLDER is below it and FILE below FOLDER. The status is the highest of the gate's, 3 too where
-# the release's files can't be put into a folder of their own, 4 too where git has no such revision or folder, and 127 where there
-# is no protogate.
-set -eu
-if [ $# -lt 4 ]; then
-    echo "usage: $0 REVISION FOLDER FILE TYPE.." >&2
-    exit 4
+# Gates the message types of a folder against a revision of git: `gate.sh --help` says how.
+# All it does is in gate.py, which stands beside it.
+if ! command -v python3 >/dev/null; then
+    echo "gate.sh: there is no python3" >&2
+    exit 127
 fi
-revision=$1
-folder=$2
-file=$3
-shift 3
-old=$(mktemp -d) || exit 3
-trap 'rm -rf -- "$old"' EXIT
-git archive --format=tar "$revision" -- "$folder" >"$old/old.tar" || exit 4
-tar -xf "$old/old.tar" -C "$old" || exit 3
-worst=0
-for type in "$@"; do
-    status=0
-    "${PROTOGATE:-protogate}" gate --old-dir "$old/$folder" --new-dir "$folder" --old "$file" --new "$file" --type "$type" || status=$?
-    [ "$status" -le "$worst" ] || worst=$status
-done
-exit "$worst"
+exec python3 "$(dirname -- "$0")/gate.py" "$@"

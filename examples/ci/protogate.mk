@@ -1,0 +1,8 @@
+# `make protogate` gates a folder against a release. Copy it beside your Makefile, write there `include protogate.mk`, and name your
+# folder and the release. It needs protogate-ci on the path.
+PROTO_FOLDER ?= proto
+PROTO_RELEASE ?= v1.4
+
+.PHONY: protogate
+protogate:
+	protogate-ci '$(PROTO_RELEASE)' '$(PROTO_FOLDER)'
