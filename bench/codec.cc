@@ -1,5 +1,7 @@
-// Times C++ DynamicMessage: decode and encode of files of bytes, the least of several turns.
-// usage: codec SET FILE..    SET is the descriptor set of codec.proto; a file is named TYPE.NAME.bin.
+// Times C++ DynamicMessage: decode, with and without an arena, and encode of files of bytes, the least of several turns.
+// usage: codec SET FILE..         SET is the descriptor set of codec.proto; a file is named TYPE.NAME.bin.
+//        codec SET read FILE      reads the file once.
+//        codec SET arena FILE     the same on an arena.
 #include <algorithm>
 #include <chrono>
 #include <cstdio>
@@ -8,10 +10,12 @@
 #include <memory>
 #include <string>
 
+#include <google/protobuf/arena.h>
 #include <google/protobuf/descriptor.h>
 #include <google/protobuf/descriptor.pb.h>
 #include <google/protobuf/dynamic_message.h>
 
+using google::protobuf::Arena;
 using google::protobuf::Message;
 
 namespace {
@@ -19,6 +23,19 @@ namespace {
 std::string content(const char* path) {
   std::ifstream file(path, std::ios::binary);
   return std::string((std::istreambuf_iterator<char>(file)), std::istreambuf_iterator<char>());
+}
+
+// The name of the file in a path.
+std::string file_name(const std::string& path) { return path.substr(path.rfind('/') + 1); }
+
+bool read_once(const Message* prototype, const std::string& bytes) {
+  std::unique_ptr<Message> message(prototype->New());
+  return message->ParseFromString(bytes);
+}
+
+bool read_on_arena(const Message* prototype, const std::string& bytes) {
+  Arena arena;
+  return prototype->New(&arena)->ParseFromString(bytes);
 }
 
 template <typename Work>
@@ -44,21 +61,30 @@ int main(int argc, char** argv) {
   const auto* proto = pool.BuildFile(set.file(0));
   if (proto == nullptr) return 2;
   google::protobuf::DynamicMessageFactory factory;
+  const auto prototype_of = [&](const std::string& name) {
+    return factory.GetPrototype(proto->FindMessageTypeByName(name.substr(0, name.find('.'))));
+  };
+  const std::string word(argv[2]);
+  if (word == "read" || word == "arena") {
+    if (argc < 4) return 4;
+    const Message* prototype = prototype_of(file_name(argv[3]));
+    const std::string bytes = content(argv[3]);
+    const bool is_read = word == "read" ? read_once(prototype, bytes) : read_on_arena(prototype, bytes);
+    return is_read ? 0 : 1;
+  }
   for (int at = 2; at < argc; ++at) {
     const std::string bytes = content(argv[at]);
-    const std::string path(argv[at]);
-    const std::string name = path.substr(path.rfind('/') + 1);
-    const Message* prototype = factory.GetPrototype(proto->FindMessageTypeByName(name.substr(0, name.find('.'))));
+    const std::string name = file_name(argv[at]);
+    const Message* prototype = prototype_of(name);
     std::unique_ptr<Message> message(prototype->New());
     if (!message->ParseFromString(bytes)) return 1;
     size_t total = 0;
-    const double decode = least_microseconds(bytes.size(), [&] {
-      std::unique_ptr<Message> other(prototype->New());
-      total += other->ParseFromString(bytes);
-    });
+    const double decode = least_microseconds(bytes.size(), [&] { total += read_once(prototype, bytes); });
+    const double on_arena = least_microseconds(bytes.size(), [&] { total += read_on_arena(prototype, bytes); });
     const double encode = least_microseconds(bytes.size(), [&] { total += message->SerializeAsString().size(); });
     if (total == 0) return 1;
-    std::printf("c++ dynamic message %s: %zu bytes, decode %.2f us, encode %.2f us\n", name.c_str(), bytes.size(), decode, encode);
+    std::printf("c++ dynamic message %s: %zu bytes, decode %.2f us, decode on an arena %.2f us, encode %.2f us\n", name.c_str(),
+                bytes.size(), decode, on_arena, encode);
   }
   return 0;
 }
