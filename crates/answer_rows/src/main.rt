@@ -12,13 +12,13 @@
 mod certificates;
 mod choices;
 mod drawn;
+mod enum_view;
 mod gaps;
 mod messages;
 mod returning;
 mod row;
 mod searches;
 mod shown;
-mod sight;
 mod spelled;
 
 use rows::cut;

@@ -2,7 +2,7 @@
 ghost use Rattle.std.specs.Prelude.{IfOk, IfSome};
 ghost use Rattle.pg_schema.specs.Parts.{shape_of};
 ghost use Rattle.pg_pairs.specs.Carried.{IsChoiceOf};
-ghost use Rattle.pg_pairs.specs.SightBy.{sight_by};
+ghost use Rattle.pg_pairs.specs.SeenBy.{seen_by};
 
 use crate::spelled::{choice_of, hex_bytes, number_at, pair_of, table_of};
 use pg_cert::Bounds;
@@ -84,7 +84,7 @@ fn chosen<V: View>(
     wanted: &Choice,
 ) -> Result<Option<Choice>, AllocError>
     ensures { IfOk result (λ found. IfSome found
-        (IsChoiceOf (sight_by V.View view.now old.now new.now)
+        (IsChoiceOf (seen_by V.View view.now old.now new.now)
         (shape_of old.now) (shape_of new.now) pair)) }
 {
     for choice in &options(alloc, view, old, new, pair, table)? {
@@ -105,7 +105,7 @@ fn carried<V: View>(
     choice: &Choice,
     child: Option<Message>,
 ) -> Result<Option<Message>, AllocError>
-    requires { IsChoiceOf (sight_by V.View view.now old.now new.now) (shape_of old.now)
+    requires { IsChoiceOf (seen_by V.View view.now old.now new.now) (shape_of old.now)
         (shape_of new.now) pair choice.now }
 {
     match (choice_child(old, new, pair, choice), child) {

@@ -1,5 +1,5 @@
 //! Which call a row is of.
-use crate::{certificates, choices, drawn, gaps, messages, returning, searches, sight};
+use crate::{certificates, choices, drawn, enum_view, gaps, messages, returning, searches};
 use pg_pairs::{Names, Numbers, View};
 use pg_schema::Schema;
 use rows::cut;
@@ -21,7 +21,7 @@ fn seen<V: View>(
         "message" => messages::message(alloc, view, old, new, words),
         "carry" => messages::carry_choice(alloc, view, old, new, words),
         "breaks" => messages::break_or_keep(alloc, view, old, new, words),
-        "sight" => sight::sight(alloc, view, old, new, words),
+        "enum_view" => enum_view::enum_view(alloc, view, old, new, words),
         "check" => certificates::check_parts(alloc, V::NAME, old, new, words),
         "search" => searches::search_by(alloc, view, old, new, words),
         _ => String::from_str(alloc, "no such call"),
@@ -41,7 +41,7 @@ fn between(
         "text" => certificates::text(alloc, old, new, words),
         "fronts" => certificates::fronts(alloc, old, new, words),
         "search" => searches::search_pair(alloc, old, new, words),
-        "way" => searches::way_down(alloc, old, new, words),
+        "path" => searches::path_down(alloc, old, new, words),
         "counts" => searches::counts(alloc, old, new, words),
         _ => match call.strip_prefix("names ") {
             Some(call) => seen(alloc, &Names, call, old, new, words),

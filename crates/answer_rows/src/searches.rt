@@ -6,7 +6,7 @@ use crate::shown::add;
 use crate::spelled::{pair_of, table_of};
 use pg_cert::Bounds;
 use pg_dyn::ViewName;
-use pg_least::{Found, Step, find, find_with, search, search_counted, search_with, way};
+use pg_least::{Found, Step, find, find_with, path, search, search_counted, search_with};
 use pg_pairs::laws::numbers_are_alike;
 use pg_pairs::{Pair, View};
 use pg_schema::Schema;
@@ -127,8 +127,8 @@ fn steps_of(alloc: Global, steps: &[Step]) -> Result<String, AllocError> {
     Ok(list)
 }
 
-/// `way | OLD | NEW | ROOT`: the steps of the way to the witness.
-pub(crate) fn way_down(
+/// `path | OLD | NEW | ROOT`: the steps of the path to the witness.
+pub(crate) fn path_down(
     alloc: Global,
     old: &Schema,
     new: &Schema,
@@ -144,7 +144,7 @@ pub(crate) fn way_down(
     if certificate.witness().is_none() {
         return String::from_str(alloc, "no witness");
     }
-    let steps = way(alloc, old, new, &certificate)?;
+    let steps = path(alloc, old, new, &certificate)?;
     steps_of(alloc, &steps)
 }
 

@@ -9,7 +9,7 @@ ghost use Rattle.pg_cert.specs.declared.bounds.BoundsError.TheVariants.{Invarian
 ghost use Rattle.pg_cert.specs.declared.error.CertError.TheVariants as errors;
 ghost use Rattle.pg_cert.specs.Bounds.{are_bounds, bound_in, is_bound, with_bound};
 ghost use Rattle.pg_cert.specs.Certificate.{AreBytes, Claim, Holds, is_witness, verdict_of};
-ghost use Rattle.pg_cert.specs.ClaimSight.{sight_in};
+ghost use Rattle.pg_cert.specs.ClaimView.{view_in};
 ghost use Rattle.pg_cert.specs.Codes.{code_of};
 ghost use Rattle.pg_cert.specs.Faults.{IsFirstFault};
 ghost use Rattle.pg_cert.specs.Laws.{Says};
@@ -28,16 +28,16 @@ pub fn check(
     new: &Schema,
     certificate: &Certificate,
 ) -> Result<Verdict, CertError>
-    ensures holds { OnOk result (Holds (sight_in old.now new.now certificate.now)
+    ensures holds { OnOk result (Holds (view_in old.now new.now certificate.now)
         (shape_of old.now) (shape_of new.now) certificate.now) }
     ensures verdict { IfOk result (λ verdict. verdict ≡ verdict_of certificate.now) }
-    ensures says { IfOk result (λ verdict. Says (sight_in old.now new.now certificate.now)
+    ensures says { IfOk result (λ verdict. Says (view_in old.now new.now certificate.now)
         (shape_of old.now) (shape_of new.now) certificate.now verdict) }
     ensures first_fault { IfErr result
-        (λ e. (e ≡ errors.Memory) ⊎ IsFirstFault (sight_in old.now new.now certificate.now)
+        (λ e. (e ≡ errors.Memory) ⊎ IsFirstFault (view_in old.now new.now certificate.now)
         (shape_of old.now) (shape_of new.now) certificate.now e) }
     ensures refused { IfErr result (λ e. (e ≡ errors.Memory)
-        ⊎ ¬ (Holds (sight_in old.now new.now certificate.now) (shape_of old.now)
+        ⊎ ¬ (Holds (view_in old.now new.now certificate.now) (shape_of old.now)
         (shape_of new.now) certificate.now)) }
 {
     pg_cert::check(alloc, old, new, certificate)

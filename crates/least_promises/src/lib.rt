@@ -6,11 +6,11 @@ ghost use Rattle.std.specs.Prelude.{◌≡◌, ◌<◌, true, is_some, length, I
 ghost use Rattle.pg_schema.specs.Parts.{shape_of};
 ghost use Rattle.pg_dyn.specs.declared.view_name.ViewName.TheVariants as views;
 ghost use Rattle.pg_pairs.specs.Edges.{edges};
-ghost use Rattle.pg_pairs.specs.Sight.{by_numbers};
-ghost use Rattle.pg_pairs.specs.SightBy.{sight_by};
+ghost use Rattle.pg_pairs.specs.EnumView.{by_numbers};
+ghost use Rattle.pg_pairs.specs.SeenBy.{seen_by};
 ghost use Rattle.pg_cert.specs.Bounds.{bound_in};
-ghost use Rattle.pg_cert.specs.ClaimSight.{sight_in};
-ghost use Rattle.pg_least.specs.Descent.{IsWay};
+ghost use Rattle.pg_cert.specs.ClaimView.{view_in};
+ghost use Rattle.pg_least.specs.Descent.{IsPath};
 ghost use Rattle.pg_least.specs.Exact.{IsBesideClaim, IsSearched};
 ghost use Rattle.pg_least.specs.Least.{IsCounted, IsSettled};
 
@@ -44,10 +44,10 @@ pub fn find_with<V: View>(
     requires old_type { root.old.index < length (shape_of old.now) }
     requires new_type { root.new.index < length (shape_of new.now) }
     ensures searched { IfOk result (λ found.
-        IsSearched (sight_by V.View view.now old.now new.now)
+        IsSearched (seen_by V.View view.now old.now new.now)
         (shape_of old.now) (shape_of new.now) root found.certificate) }
     ensures witness { IfOk result (λ found.
-        IsBesideClaim (sight_by V.View view.now old.now new.now)
+        IsBesideClaim (seen_by V.View view.now old.now new.now)
         (shape_of old.now) (shape_of new.now) found.certificate found.witness) }
     ensures named { IfOk result (λ found. found.certificate.view ≡ V.NAME) }
 {
@@ -65,7 +65,7 @@ pub fn search_with<V: View>(
     requires old_type { root.old.index < length (shape_of old.now) }
     requires new_type { root.new.index < length (shape_of new.now) }
     ensures searched { IfOk result (λ certificate.
-        IsSearched (sight_by V.View view.now old.now new.now)
+        IsSearched (seen_by V.View view.now old.now new.now)
         (shape_of old.now) (shape_of new.now) root certificate) }
     ensures named { IfOk result (λ certificate. certificate.view ≡ V.NAME) }
 {
@@ -107,21 +107,21 @@ pub fn search_counted(
     Ok((certificate, work))
 }
 
-/// What `way` answers.
-pub fn way(
+/// What `path` answers.
+pub fn path(
     alloc: Global,
     old: &Schema,
     new: &Schema,
     certificate: &Certificate,
 ) -> Result<Vec<Step>, AllocError>
-    requires searched { IsSearched (sight_in old.now new.now certificate.now) (shape_of old.now)
+    requires searched { IsSearched (view_in old.now new.now certificate.now) (shape_of old.now)
         (shape_of new.now) certificate.now.root certificate.now }
     requires breaks { is_some certificate.now.witness ≡ true }
-    ensures { IfOk result (λ steps. IsWay (sight_in old.now new.now certificate.now)
+    ensures { IfOk result (λ steps. IsPath (view_in old.now new.now certificate.now)
         (shape_of old.now) (shape_of new.now) (bound_in certificate.now.bounds) certificate.now.root
         steps.items) }
 {
-    pg_least::way(alloc, old, new, certificate)
+    pg_least::path(alloc, old, new, certificate)
 }
 
 /// What `settle` answers.

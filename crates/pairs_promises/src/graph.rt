@@ -6,7 +6,7 @@ ghost use Rattle.pg_pairs.specs.Among.{IsAmong};
 ghost use Rattle.pg_pairs.specs.Covering as covering;
 ghost use Rattle.pg_pairs.specs.Edges as prices;
 ghost use Rattle.pg_pairs.specs.LeastCosts.{least_cost};
-ghost use Rattle.pg_pairs.specs.SightBy.{sight_by};
+ghost use Rattle.pg_pairs.specs.SeenBy.{seen_by};
 ghost use Rattle.pg_pairs.specs.Works.{opened_more, relaxed_more};
 
 use pg_pairs::{Edge, Pair, Priced, Prices, View, Work};
@@ -69,7 +69,7 @@ pub fn base<V: View>(
         ≡ true }
     requires room { work.old.opened + 1 < 2 ^ 64 }
     ensures cost { IfOk result (λ cost. cost
-        ≡ least_cost (sight_by V.View graph.now.view.now graph.now.old.now graph.now.new.now)
+        ≡ least_cost (seen_by V.View graph.now.view.now graph.now.old.now graph.now.new.now)
         prices.no_bounds (shape_of graph.now.old.now) (shape_of graph.now.new.now) pair) }
     ensures counted { OnOk result (work.new ≡ opened_more work.old) }
     ensures unchanged { OnErr result (work.new ≡ work.old) }

@@ -20,7 +20,7 @@ ghost use Rattle.pg_pairs.specs.Choices.{Table, choices};
 ghost use Rattle.pg_pairs.specs.Covering as covering;
 ghost use Rattle.pg_pairs.specs.Gaps as gaps;
 ghost use Rattle.pg_pairs.specs.Laws.{ReachedBy};
-ghost use Rattle.pg_pairs.specs.SightBy.{sight_by};
+ghost use Rattle.pg_pairs.specs.SeenBy.{seen_by};
 
 pub use graph::{base, edge_cost, edges, knows, priced};
 pub use names::{alike_by_name, least_by_name};
@@ -42,7 +42,7 @@ pub fn breaks<V: View>(
     requires { Fits (shape_of old.now) message.now }
     ensures exact { IfOk result (λ b. IsTrue b
         ↔ ((type_of message.now ≡ pair.old)
-        × Breaks (sight_by V.View view.now old.now new.now).alike
+        × Breaks (seen_by V.View view.now old.now new.now).alike
         (shape_of old.now) (shape_of new.now) pair.old pair.new (message_of message.now))) }
     ensures encoded { OnOk result (length
         (enc (shape_of old.now) (type_of message.now) (message_of message.now)) ≤ cap) }
@@ -70,7 +70,7 @@ pub fn breaks_as_written<V: View>(
         (message_of message.now)) ≤ cap }
     ensures { IfOk result (λ b. IsTrue b
         ↔ ((type_of message.now ≡ pair.old)
-        × Breaks (sight_by V.View view.now old.now new.now).alike
+        × Breaks (seen_by V.View view.now old.now new.now).alike
         (shape_of old.now) (shape_of new.now) pair.old pair.new (message_of message.now))) }
 {
     pg_pairs::breaks_as_written(alloc, view, old, new, pair, message, bytes)
@@ -87,22 +87,22 @@ pub fn carry<V: View>(
     child: Option<Message>,
 ) -> Result<Message, AllocError>
     requires choice { carried.IsChoiceOf
-        (sight_by V.View view.now old.now new.now)
+        (seen_by V.View view.now old.now new.now)
         (shape_of old.now) (shape_of new.now) pair choice.now }
     requires child { carried.ChildGiven (shape_of old.now)
         (carried.choice_child (shape_of old.now) (shape_of new.now) pair choice.now) child }
     ensures fits { IfOk result (λ m. Fits (shape_of old.now) m) }
     ensures type_is { IfOk result (λ m. type_of m ≡ pair.old) }
     ensures made { IfOk result (λ m. message_of m
-        ≡ carried.carried (sight_by V.View view.now old.now new.now) (shape_of old.now)
+        ≡ carried.carried (seen_by V.View view.now old.now new.now) (shape_of old.now)
         (shape_of new.now) pair choice.now (option_map message_of child)) }
     ensures reached { IfOk result (λ m. (table : Table) →
-        IsAmong choice.now (choices (sight_by V.View view.now old.now new.now) table
+        IsAmong choice.now (choices (seen_by V.View view.now old.now new.now) table
         (shape_of old.now) (shape_of new.now) pair)
-        → carried.ChildReached (sight_by V.View view.now old.now new.now) (shape_of old.now)
+        → carried.ChildReached (seen_by V.View view.now old.now new.now) (shape_of old.now)
         (shape_of new.now) table (carried.choice_child (shape_of old.now) (shape_of new.now) pair choice.now)
         (option_map message_of child)
-        → ReachedBy (sight_by V.View view.now old.now new.now)
+        → ReachedBy (seen_by V.View view.now old.now new.now)
         (shape_of old.now) (shape_of new.now) pair (message_of m) choice.now.cost) }
 {
     pg_pairs::carry(alloc, view, old, new, pair, choice, child)
@@ -138,7 +138,7 @@ pub fn cheapest<V: View, T: Table>(
     table: &T,
 ) -> Result<Option<Choice>, AllocError>
     ensures { IfOk result (λ found. found
-        ≡ least.cheapest (choices (sight_by V.View view.now old.now new.now)
+        ≡ least.cheapest (choices (seen_by V.View view.now old.now new.now)
         (T.bounds table.now) (shape_of old.now) (shape_of new.now) pair)) }
 {
     pg_pairs::cheapest(alloc, view, old, new, pair, table)
@@ -154,7 +154,7 @@ pub fn options<V: View, T: Table>(
     table: &T,
 ) -> Result<Vec<Choice>, AllocError>
     ensures { IfOk result (λ cs. cs.items
-        ≡ choices (sight_by V.View view.now old.now new.now)
+        ≡ choices (seen_by V.View view.now old.now new.now)
         (T.bounds table.now) (shape_of old.now) (shape_of new.now) pair) }
 {
     pg_pairs::options(alloc, view, old, new, pair, table)

@@ -2,7 +2,7 @@
 use Rattle.std.proofs.Common.{◌≡◌, ℕ, ◌+◌, List, [], ◌∷◌, drop, Option, Some, None, slice_get, zero, suc, refl, ap, sym, ◌∙◌, add-one}
 use Rattle.std.specs.Option.{option_or}
 use Rattle.pg_schema.specs.Shape.{Shape}
-use Rattle.pg_pairs.specs.Sight.{Sight}
+use Rattle.pg_pairs.specs.EnumView.{EnumView}
 use Rattle.pg_pairs.specs.Choices.{Table}
 use Rattle.pg_cert.specs.declared.bounds.PairBound.{PairBound}
 use Rattle.pg_cert.specs.declared.error.CertError.{CertError}
@@ -25,16 +25,16 @@ next_from xs i x h = drop_here xs i x h ∙ ap (λ n. x ∷ drop n xs) (sym (add
 pub next_past : {X : Type 0} (xs : List X) (i : ℕ) → slice_get xs i ≡ None → drop i xs ≡ drop (i + 1) xs
 next_past xs i h = drop_past xs i h ∙ ap (λ n. drop n xs) (sym (add-one i))
 
-module _ (sight : Sight) (old new : Shape) (table : Table) (bounds : List PairBound) (at : ℕ) where
+module _ (enum_view : EnumView) (old new : Shape) (table : Table) (bounds : List PairBound) (at : ℕ) where
   -- the fault of the pair at the place, where it has one, is the first of those that are left
-  pub fault_here : (b : PairBound) (e : CertError) → slice_get bounds at ≡ Some b → pair_fault sight old new table b ≡ Some e → first_pair_fault sight old new table (drop at bounds) ≡ Some e
-  fault_here b e found fault = ap (first_pair_fault sight old new table) (next_from bounds at b found) ∙ ap (λ o. option_or o (first_pair_fault sight old new table (drop (at + 1) bounds))) fault
+  pub fault_here : (b : PairBound) (e : CertError) → slice_get bounds at ≡ Some b → pair_fault enum_view old new table b ≡ Some e → first_pair_fault enum_view old new table (drop at bounds) ≡ Some e
+  fault_here b e found fault = ap (first_pair_fault enum_view old new table) (next_from bounds at b found) ∙ ap (λ o. option_or o (first_pair_fault enum_view old new table (drop (at + 1) bounds))) fault
 
-  pub no_fault_here : (b : PairBound) → slice_get bounds at ≡ Some b → pair_fault sight old new table b ≡ None → first_pair_fault sight old new table (drop at bounds) ≡ first_pair_fault sight old new table (drop (at + 1) bounds)
-  no_fault_here b found fault = ap (first_pair_fault sight old new table) (next_from bounds at b found) ∙ ap (λ o. option_or o (first_pair_fault sight old new table (drop (at + 1) bounds))) fault
+  pub no_fault_here : (b : PairBound) → slice_get bounds at ≡ Some b → pair_fault enum_view old new table b ≡ None → first_pair_fault enum_view old new table (drop at bounds) ≡ first_pair_fault enum_view old new table (drop (at + 1) bounds)
+  no_fault_here b found fault = ap (first_pair_fault enum_view old new table) (next_from bounds at b found) ∙ ap (λ o. option_or o (first_pair_fault enum_view old new table (drop (at + 1) bounds))) fault
 
-  pub no_pair_here : slice_get bounds at ≡ None → first_pair_fault sight old new table (drop at bounds) ≡ first_pair_fault sight old new table (drop (at + 1) bounds)
-  no_pair_here found = ap (first_pair_fault sight old new table) (next_past bounds at found)
+  pub no_pair_here : slice_get bounds at ≡ None → first_pair_fault enum_view old new table (drop at bounds) ≡ first_pair_fault enum_view old new table (drop (at + 1) bounds)
+  no_pair_here found = ap (first_pair_fault enum_view old new table) (next_past bounds at found)
 
 pub none_is : {A : Type 0} (o : Option A) → ((x : A) → o ≡ Some x → ⊥) → o ≡ None
 none_is None h = refl

@@ -6,7 +6,7 @@ use Rattle.std.proofs.lemmas.Bool.{and_parts, leb-true, le-leb}
 use Rattle.pg_schema.specs.Shape.{Shape}
 use Rattle.pg_pairs.specs.declared.choice.Choice.{Choice}
 use Rattle.pg_pairs.specs.declared.choice.Pair.{Pair}
-use Rattle.pg_pairs.specs.Sight.{Sight}
+use Rattle.pg_pairs.specs.EnumView.{EnumView}
 use Rattle.pg_pairs.specs.Choices.{Table, choices}
 use Rattle.pg_pairs.specs.Cheapest.{cheapest, IsCheapest, CheapestIsLeast}
 use Rattle.pg_pairs.specs.Covering.{same_pair, children, IsThere, IsWithin, IsCovered}
@@ -62,45 +62,45 @@ not_below : (bound : Option ℕ) (cost : ℕ) → IsWithin bound cost → not (i
 not_below (Some b) cost h = false_from (nat_le b cost) (le-leb b cost h)
 not_below None cost h = absurd h
 
-module _ (sight : Sight) (old new : Shape) (table : Table) where
-  covered : (b : PairBound) → pair_fault sight old new table b ≡ None → IsCovered sight old new table b.pair b.bound
+module _ (enum_view : EnumView) (old new : Shape) (table : Table) where
+  covered : (b : PairBound) → pair_fault enum_view old new table b ≡ None → IsCovered enum_view old new table b.pair b.bound
   covered b h =
-      let parts = none_of_both (option_map (λ child. PairMissing child) (missing_child old new table b.pair)) (option_map (too_high b.pair) (cheaper_choice sight old new table b)) h in
+      let parts = none_of_both (option_map (λ child. PairMissing child) (missing_child old new table b.pair)) (option_map (too_high b.pair) (cheaper_choice enum_view old new table b)) h in
       record {
         children_there = each_so (λ child. not (is_some (table child)) ≡ false) (IsThere table) (λ child k. true_from (is_some (table child)) k) (children old new b.pair)
             (find_none (λ child. not (is_some (table child))) (children old new b.pair) (map_none (λ child. PairMissing child) (missing_child old new table b.pair) parts.0));
-        bound_below = each_so (λ (c : Choice). not (is_within b.bound c.cost) ≡ false) (λ (c : Choice). IsWithin b.bound c.cost) (λ c k. within b.bound c.cost k) (choices sight table old new b.pair)
-            (find_none (λ (c : Choice). not (is_within b.bound c.cost)) (choices sight table old new b.pair) (map_none (too_high b.pair) (cheaper_choice sight old new table b) parts.1));
+        bound_below = each_so (λ (c : Choice). not (is_within b.bound c.cost) ≡ false) (λ (c : Choice). IsWithin b.bound c.cost) (λ c k. within b.bound c.cost k) (choices enum_view table old new b.pair)
+            (find_none (λ (c : Choice). not (is_within b.bound c.cost)) (choices enum_view table old new b.pair) (map_none (too_high b.pair) (cheaper_choice enum_view old new table b) parts.1));
       }
 
-  faultless : (b : PairBound) → IsCovered sight old new table b.pair b.bound → pair_fault sight old new table b ≡ None
+  faultless : (b : PairBound) → IsCovered enum_view old new table b.pair b.bound → pair_fault enum_view old new table b ≡ None
   faultless b is =
-      both_none (option_map (λ child. PairMissing child) (missing_child old new table b.pair)) (option_map (too_high b.pair) (cheaper_choice sight old new table b))
+      both_none (option_map (λ child. PairMissing child) (missing_child old new table b.pair)) (option_map (too_high b.pair) (cheaper_choice enum_view old new table b))
       (ap (option_map (λ child. PairMissing child))
       (none_found (λ child. not (is_some (table child))) (children old new b.pair) (each_so (IsThere table) (λ child. not (is_some (table child)) ≡ false) (λ child k. false_from (is_some (table child)) k) (children old new b.pair) is.children_there)))
       (ap (option_map (too_high b.pair))
-      (none_found (λ (c : Choice). not (is_within b.bound c.cost)) (choices sight table old new b.pair)
-      (each_so (λ (c : Choice). IsWithin b.bound c.cost) (λ (c : Choice). not (is_within b.bound c.cost) ≡ false) (λ c k. not_below b.bound c.cost k) (choices sight table old new b.pair) is.bound_below)))
+      (none_found (λ (c : Choice). not (is_within b.bound c.cost)) (choices enum_view table old new b.pair)
+      (each_so (λ (c : Choice). IsWithin b.bound c.cost) (λ (c : Choice). not (is_within b.bound c.cost) ≡ false) (λ c k. not_below b.bound c.cost k) (choices enum_view table old new b.pair) is.bound_below)))
 
   -- the bounds of a list without a fault
-  each_covered : (bounds : List PairBound) → first_pair_fault sight old new table bounds ≡ None → (pair : Pair) (bound : Option ℕ) → bound_in bounds pair ≡ Some bound → IsCovered sight old new table pair bound
+  each_covered : (bounds : List PairBound) → first_pair_fault enum_view old new table bounds ≡ None → (pair : Pair) (bound : Option ℕ) → bound_in bounds pair ≡ Some bound → IsCovered enum_view old new table pair bound
   each_covered [] h pair bound found = absurd (cc)
   each_covered (b ∷ bounds) h pair bound found = of (same_pair pair b.pair) refl (λ k. each_covered bounds parts.1 pair bound k) found
     where
-      parts : (pair_fault sight old new table b ≡ None) × (first_pair_fault sight old new table bounds ≡ None)
-      parts = none_of_both (pair_fault sight old new table b) (first_pair_fault sight old new table bounds) h
+      parts : (pair_fault enum_view old new table b ≡ None) × (first_pair_fault enum_view old new table bounds ≡ None)
+      parts = none_of_both (pair_fault enum_view old new table b) (first_pair_fault enum_view old new table bounds) h
 
-      of : (t : Bool) → same_pair pair b.pair ≡ t → (bound_in bounds pair ≡ Some bound → IsCovered sight old new table pair bound) → option_map (λ (x : PairBound). x.bound) (cond t (Some b) (find (λ (x : PairBound). same_pair pair x.pair) bounds)) ≡ Some bound → IsCovered sight old new table pair bound
+      of : (t : Bool) → same_pair pair b.pair ≡ t → (bound_in bounds pair ≡ Some bound → IsCovered enum_view old new table pair bound) → option_map (λ (x : PairBound). x.bound) (cond t (Some b) (find (λ (x : PairBound). same_pair pair x.pair) bounds)) ≡ Some bound → IsCovered enum_view old new table pair bound
       of true e later found =
           let same : b.pair ≡ pair = sym (same_pair-true pair b.pair e) in
           let bound_is : b.bound ≡ bound = cc in
-          subst (λ x. IsCovered sight old new table pair x) bound_is (subst (λ p. IsCovered sight old new table p b.bound) same (covered b parts.0))
+          subst (λ x. IsCovered enum_view old new table pair x) bound_is (subst (λ p. IsCovered enum_view old new table p b.bound) same (covered b parts.0))
       of false e later found = later found
 
-  none_faulty : (bounds : List PairBound) → AllByRecursion (λ (b : PairBound). table b.pair ≡ Some b.bound) bounds → ((pair : Pair) (bound : Option ℕ) → table pair ≡ Some bound → IsCovered sight old new table pair bound) → first_pair_fault sight old new table bounds ≡ None
+  none_faulty : (bounds : List PairBound) → AllByRecursion (λ (b : PairBound). table b.pair ≡ Some b.bound) bounds → ((pair : Pair) (bound : Option ℕ) → table pair ≡ Some bound → IsCovered enum_view old new table pair bound) → first_pair_fault enum_view old new table bounds ≡ None
   none_faulty [] there each = refl
   none_faulty (b ∷ bounds) there each =
-      both_none (pair_fault sight old new table b) (first_pair_fault sight old new table bounds) (faultless b (each b.pair b.bound there.0)) (none_faulty bounds there.1 each)
+      both_none (pair_fault enum_view old new table b) (first_pair_fault enum_view old new table bounds) (faultless b (each b.pair b.bound there.0)) (none_faulty bounds there.1 each)
 
 -- Where each pair stands once, its bound is the one that stands beside it.
 no_bound : (bounds : List PairBound) (pair : Pair) → is_some (bound_in bounds pair) ≡ false → AllByRecursion (λ (b : PairBound). same_pair pair b.pair ≡ false) bounds
@@ -141,13 +141,13 @@ root_is_there table root h = of (is_some (table root)) h
     of false h = absurd (cc)
 
 pub covers_without_fault : CoversWithoutFault
-covers_without_fault sight old new bounds root distinct = (
+covers_without_fault enum_view old new bounds root distinct = (
   λ h.
-      let parts = none_of_both (root_fault (bound_in bounds) root) (first_pair_fault sight old new (bound_in bounds) bounds) h in
-      record { root_there = root_is_there (bound_in bounds) root parts.0; each = each_covered sight old new (bound_in bounds) bounds parts.1 },
+      let parts = none_of_both (root_fault (bound_in bounds) root) (first_pair_fault enum_view old new (bound_in bounds) bounds) h in
+      record { root_there = root_is_there (bound_in bounds) root parts.0; each = each_covered enum_view old new (bound_in bounds) bounds parts.1 },
   λ covers.
-      both_none (root_fault (bound_in bounds) root) (first_pair_fault sight old new (bound_in bounds) bounds) (rw covers.root_there refl)
-      (none_faulty sight old new (bound_in bounds) bounds (each_there bounds distinct) covers.each),
+      both_none (root_fault (bound_in bounds) root) (first_pair_fault enum_view old new (bound_in bounds) bounds) (rw covers.root_there refl)
+      (none_faulty enum_view old new (bound_in bounds) bounds (each_there bounds distinct) covers.each),
 )
 
 -- what is within the least cost is within each

@@ -10,7 +10,7 @@ use Rattle.pg_dyn.specs.Kept as kept
 use Rattle.pg_dyn.specs.Laws.{ReadsAgain}
 use Rattle.pg_dyn.specs.Message.{Message, IsPlain, ends, holds, nests}
 use Rattle.pg_pairs.specs.declared.choice.Pair.{Pair}
-use Rattle.pg_pairs.specs.Sight.{Sight}
+use Rattle.pg_pairs.specs.EnumView.{EnumView}
 use Rattle.pg_cert.specs.Certificate.{HasLength, IsWitnessed, IsWritten, is_witness}
 use Rattle.pg_cert.specs.Faults.{IsWriting}
 use Rattle.pg_dyn.proofs.PublicLaws.{plain_is_kept}
@@ -67,12 +67,12 @@ module _ (old : Shape) (root : Pair) (bytes : List ℕ) where
     pub own_within : length (enc old (type_of m) (message_of m)) ≤ cap
     own_within = subst (λ t. length (enc old t (message_of m)) ≤ cap) (sym writing.type_is) writing.has_encoding
 
-    module _ (sight : Sight) (new : Shape) (bound : Option (Option ℕ)) where
-      pub witnessed_of : HasLength bound bytes → Breaks sight.alike old new root.old root.new (message_of m) → IsWitnessed sight old new root bound bytes
+    module _ (enum_view : EnumView) (new : Shape) (bound : Option (Option ℕ)) where
+      pub witnessed_of : HasLength bound bytes → Breaks enum_view.alike old new root.old root.new (message_of m) → IsWitnessed enum_view old new root bound bytes
       witnessed_of long breaks = record { message = message_of m; breaks = breaks; written = writing.written; length_is = long }
 
-      pub keeps_of : ReadsAgain → IsShape old → (Breaks sight.alike old new root.old root.new (message_of m) → ⊥) → IsWitnessed sight old new root bound bytes → ⊥
+      pub keeps_of : ReadsAgain → IsShape old → (Breaks enum_view.alike old new root.old root.new (message_of m) → ⊥) → IsWitnessed enum_view old new root bound bytes → ⊥
       unfolding written_of
       keeps_of again is_shape kept_ is =
           let written : IsWritten old root bytes = record { message = is.message; is_message = is.breaks.is_message; is_plain = is.breaks.is_plain; has_encoding = is.breaks.has_encoding; written = is.written } in
-          kept_ (subst (Breaks sight.alike old new root.old root.new) (message_is again is_shape (message_of m) written (read_of again is_shape written_of)) is.breaks)
+          kept_ (subst (Breaks enum_view.alike old new root.old root.new) (message_is again is_shape (message_of m) written (read_of again is_shape written_of)) is.breaks)

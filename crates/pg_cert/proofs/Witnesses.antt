@@ -12,22 +12,22 @@ use Rattle.pg_dyn.specs.Decoding.{dec}
 use Rattle.pg_dyn.specs.Examples.{first, one, SameType}
 use Rattle.pg_dyn.specs.Laws.{ReadsAgain, SelfCompatible}
 use Rattle.pg_dyn.specs.Message.{Int}
-use Rattle.pg_pairs.specs.Sight.{by_numbers}
+use Rattle.pg_pairs.specs.EnumView.{by_numbers}
 use Rattle.pg_cert.specs.declared.error.CertError.TheVariants.{Memory, BadText, RootMissing, PairMissing, BoundTooHigh, WitnessNotWritten, WitnessLength, WitnessKeeps}
 use Rattle.pg_cert.specs.Certificate.{IsWritten, IsWitnessed}
 use Rattle.pg_cert.specs.Laws.{WitnessFaultsAreReal}
 use Rattle.pg_cert.specs.Worked as worked
 
 pub witness_faults_are_real : WitnessFaultsAreReal
-witness_faults_are_real sight old new root bound bytes WitnessNotWritten fault is =
+witness_faults_are_real enum_view old new root bound bytes WitnessNotWritten fault is =
     fault (record { message = is.message; is_message = is.breaks.is_message; is_plain = is.breaks.is_plain; has_encoding = is.breaks.has_encoding; written = is.written })
-witness_faults_are_real sight old new root bound bytes WitnessLength fault is = fault.1 is.length_is
-witness_faults_are_real sight old new root bound bytes WitnessKeeps fault is = fault.2 is
-witness_faults_are_real sight old new root bound bytes Memory fault is = fault
-witness_faults_are_real sight old new root bound bytes BadText fault is = fault
-witness_faults_are_real sight old new root bound bytes RootMissing fault is = fault
-witness_faults_are_real sight old new root bound bytes (PairMissing pair) fault is = fault
-witness_faults_are_real sight old new root bound bytes (BoundTooHigh pair number case) fault is = fault
+witness_faults_are_real enum_view old new root bound bytes WitnessLength fault is = fault.1 is.length_is
+witness_faults_are_real enum_view old new root bound bytes WitnessKeeps fault is = fault.2 is
+witness_faults_are_real enum_view old new root bound bytes Memory fault is = fault
+witness_faults_are_real enum_view old new root bound bytes BadText fault is = fault
+witness_faults_are_real enum_view old new root bound bytes RootMissing fault is = fault
+witness_faults_are_real enum_view old new root bound bytes (PairMissing pair) fault is = fault
+witness_faults_are_real enum_view old new root bound bytes (BoundTooHigh pair number case) fault is = fault
 
 zero_read : dec worked.signed first worked.after_zero ≡ Some (one (Int (negsuc 0)))
 unfolding is_utf8 chars exactly row varint_at varint signed unzigzag tag_parts record_at records_of tag written word_bytes word_in enc dec

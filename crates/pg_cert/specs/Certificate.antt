@@ -8,7 +8,7 @@ use Rattle.pg_dyn.specs.Message.{Message, IsPlain}
 use Rattle.pg_dyn.specs.Encoding.{enc, cap}
 use Rattle.pg_dyn.specs.Breaking.{Breaks}
 use Rattle.pg_pairs.specs.declared.choice.Pair.{Pair}
-use Rattle.pg_pairs.specs.Sight.{Sight}
+use Rattle.pg_pairs.specs.EnumView.{EnumView}
 use Rattle.pg_pairs.specs.Covering.{Covers}
 use Rattle.pg_cert.specs.declared.bounds.PairBound.{PairBound}
 use Rattle.pg_cert.specs.declared.verdict.Verdict.{Verdict}
@@ -46,20 +46,20 @@ HasLength bound bytes = bound ≡ Some (Some (length bytes))
 
 -- The bytes are those that the old writer writes of a message without unknown records; this message breaks, and the root's bound is
 -- its length.
-pub record IsWitnessed (sight : Sight) (old new : Shape) (root : Pair) (bound : Option (Option ℕ)) (bytes : List ℕ) : Type 0 where
+pub record IsWitnessed (enum_view : EnumView) (old new : Shape) (root : Pair) (bound : Option (Option ℕ)) (bytes : List ℕ) : Type 0 where
   pub message : Message
-  pub breaks : Breaks sight.alike old new root.old root.new message
+  pub breaks : Breaks enum_view.alike old new root.old root.new message
   pub written : enc old root.old message ≡ bytes
   pub length_is : HasLength bound bytes
 
-abbrev pub IsWitnessedIfThere : Sight → Shape → Shape → Pair → Option (Option ℕ) → Option (List ℕ) → Type 0
-IsWitnessedIfThere sight old new root bound (Some bytes) = IsWitnessed sight old new root bound bytes
-IsWitnessedIfThere sight old new root bound None = ⊤
+abbrev pub IsWitnessedIfThere : EnumView → Shape → Shape → Pair → Option (Option ℕ) → Option (List ℕ) → Type 0
+IsWitnessedIfThere enum_view old new root bound (Some bytes) = IsWitnessed enum_view old new root bound bytes
+IsWitnessedIfThere enum_view old new root bound None = ⊤
 
 -- the table covers the root, and the witness, where there is one, is as the root's bound says
-pub record Holds (sight : Sight) (old new : Shape) (claim : Claim) : Type 0 where
-  pub covers : Covers sight old new (bound_in claim.bounds) claim.root
-  pub witnessed : IsWitnessedIfThere sight old new claim.root (bound_in claim.bounds claim.root) claim.witness
+pub record Holds (enum_view : EnumView) (old new : Shape) (claim : Claim) : Type 0 where
+  pub covers : Covers enum_view old new (bound_in claim.bounds) claim.root
+  pub witnessed : IsWitnessedIfThere enum_view old new claim.root (bound_in claim.bounds claim.root) claim.witness
 
 -- what the root's bound says by itself
 abbrev pub bound_verdict : Option (Option ℕ) → Verdict

@@ -1,7 +1,7 @@
--- What the checker answers of a claim under a sight: whether it holds, and what that shows.
+-- What the checker answers of a claim under an enum view: whether it holds, and what that shows.
 use Rattle.std.specs.Prelude.{◌≡◌, ◌⊎◌, Result, IfErr, IfOk, OnOk}
 use Rattle.pg_schema.specs.Shape.{Shape}
-use Rattle.pg_pairs.specs.Sight.{Sight}
+use Rattle.pg_pairs.specs.EnumView.{EnumView}
 use Rattle.pg_cert.specs.declared.error.CertError.{CertError}
 use Rattle.pg_cert.specs.declared.error.CertError.TheVariants as errors
 use Rattle.pg_cert.specs.declared.verdict.Verdict.{Verdict}
@@ -9,9 +9,9 @@ use Rattle.pg_cert.specs.Certificate.{Claim, Holds, verdict_of}
 use Rattle.pg_cert.specs.Faults.{IsFirstFault}
 use Rattle.pg_cert.specs.Laws.{Says}
 
-pub record IsChecked (sight : Sight) (old new : Shape) (claim : Claim) (answer : Result Verdict CertError) : Type 0 where
-  pub holds : OnOk answer (Holds sight old new claim)
+pub record IsChecked (enum_view : EnumView) (old new : Shape) (claim : Claim) (answer : Result Verdict CertError) : Type 0 where
+  pub holds : OnOk answer (Holds enum_view old new claim)
   pub verdict : IfOk answer (λ verdict. verdict ≡ verdict_of claim)
-  pub says : IfOk answer (λ verdict. Says sight old new claim verdict)
-  pub first_fault : IfErr answer (λ e. (e ≡ errors.Memory) ⊎ IsFirstFault sight old new claim e)
-  pub refused : IfErr answer (λ e. (e ≡ errors.Memory) ⊎ ¬ (Holds sight old new claim))
+  pub says : IfOk answer (λ verdict. Says enum_view old new claim verdict)
+  pub first_fault : IfErr answer (λ e. (e ≡ errors.Memory) ⊎ IsFirstFault enum_view old new claim e)
+  pub refused : IfErr answer (λ e. (e ≡ errors.Memory) ⊎ ¬ (Holds enum_view old new claim))

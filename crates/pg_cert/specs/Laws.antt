@@ -7,7 +7,7 @@ use Rattle.pg_dyn.specs.Message.{Message}
 use Rattle.pg_dyn.specs.Encoding.{enc}
 use Rattle.pg_dyn.specs.Breaking.{Breaks, Compatible, Least}
 use Rattle.pg_pairs.specs.declared.choice.Pair.{Pair}
-use Rattle.pg_pairs.specs.Sight.{Sight, IsSight}
+use Rattle.pg_pairs.specs.EnumView.{EnumView, IsEnumView}
 use Rattle.pg_pairs.specs.Covering.{Covers}
 use Rattle.pg_cert.specs.declared.bounds.PairBound.{PairBound}
 use Rattle.pg_cert.specs.declared.error.CertError.{CertError}
@@ -21,32 +21,32 @@ use Rattle.pg_cert.specs.Text.{Certifies}
 -- A table of distinct pairs covers its root where it has no fault, and nowhere else.
 abbrev pub CoversWithoutFault : Type 0
 CoversWithoutFault =
-    (sight : Sight) (old new : Shape) (bounds : List PairBound) (root : Pair) → are_bounds bounds ≡ true →
-    (first_fault sight old new bounds root ≡ None) ↔ Covers sight old new (bound_in bounds) root
+    (enum_view : EnumView) (old new : Shape) (bounds : List PairBound) (root : Pair) → are_bounds bounds ≡ true →
+    (first_fault enum_view old new bounds root ≡ None) ↔ Covers enum_view old new (bound_in bounds) root
 
 -- the bytes are those of a message that breaks, and no message that breaks has fewer
-pub record IsShortestWitness (sight : Sight) (old new : Shape) (root : Pair) (bytes : List ℕ) : Type 0 where
+pub record IsShortestWitness (enum_view : EnumView) (old new : Shape) (root : Pair) (bytes : List ℕ) : Type 0 where
   pub message : Message
-  pub breaks : Breaks sight.alike old new root.old root.new message
+  pub breaks : Breaks enum_view.alike old new root.old root.new message
   pub written : enc old root.old message ≡ bytes
-  pub least : Least sight.alike old new root.old root.new (length bytes)
+  pub least : Least enum_view.alike old new root.old root.new (length bytes)
 
 -- A witness with a fault is none.
 abbrev pub WitnessFaultsAreReal : Type 0
 WitnessFaultsAreReal =
-    (sight : Sight) (old new : Shape) (root : Pair) (bound : Option (Option ℕ)) (bytes : List ℕ) (fault : CertError) →
-    WitnessFault sight old new root bound bytes fault → IsWitnessed sight old new root bound bytes → ⊥
+    (enum_view : EnumView) (old new : Shape) (root : Pair) (bound : Option (Option ℕ)) (bytes : List ℕ) (fault : CertError) →
+    WitnessFault enum_view old new root bound bytes fault → IsWitnessed enum_view old new root bound bytes → ⊥
 
 -- what a verdict says of the messages of the root's old type
-abbrev pub Says : Sight → Shape → Shape → Claim → Verdict → Type 0
-Says sight old new claim verdicts.Compatible = Compatible sight.alike old new claim.root.old claim.root.new
-Says sight old new claim (verdicts.AtLeast n) = (v : Message) → Breaks sight.alike old new claim.root.old claim.root.new v → n ≤ length (enc old claim.root.old v)
-Says sight old new claim verdicts.Breaks = (bytes : List ℕ) × (claim.witness ≡ Some bytes) × IsShortestWitness sight old new claim.root bytes
+abbrev pub Says : EnumView → Shape → Shape → Claim → Verdict → Type 0
+Says enum_view old new claim verdicts.Compatible = Compatible enum_view.alike old new claim.root.old claim.root.new
+Says enum_view old new claim (verdicts.AtLeast n) = (v : Message) → Breaks enum_view.alike old new claim.root.old claim.root.new v → n ≤ length (enc old claim.root.old v)
+Says enum_view old new claim verdicts.Breaks = (bytes : List ℕ) × (claim.witness ≡ Some bytes) × IsShortestWitness enum_view old new claim.root bytes
 
 -- The verdict of a claim that holds is true.
 abbrev pub VerdictsAreTrue : Type 0
 VerdictsAreTrue =
-    (sight : Sight) (old new : Shape) (claim : Claim) → IsSight sight → IsShape old → IsShape new → Holds sight old new claim → Says sight old new claim (verdict_of claim)
+    (enum_view : EnumView) (old new : Shape) (claim : Claim) → IsEnumView enum_view → IsShape old → IsShape new → Holds enum_view old new claim → Says enum_view old new claim (verdict_of claim)
 
 -- A text certifies one claim at most.
 abbrev pub OneSpelling : Type 0

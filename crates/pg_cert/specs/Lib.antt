@@ -1,7 +1,7 @@
 pub mod Bounds
 pub mod Entries
 pub mod Certificate
-pub mod ClaimSight
+pub mod ClaimView
 pub mod Faults
 pub mod Laws
 pub mod Checked

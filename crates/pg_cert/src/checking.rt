@@ -3,12 +3,12 @@
 ghost use Rattle.std.specs.Prelude.{◌≡◌, ◌⊎◌, None, Some, MatchResult, IfErr, IfOk, OnOk, true};
 ghost use Rattle.pg_schema.specs.Parts.{shape_of};
 ghost use Rattle.pg_pairs.specs.Choices.{choices};
-ghost use Rattle.pg_pairs.specs.NamedSight.{sight_named};
-ghost use Rattle.pg_pairs.specs.SightBy.{sight_by};
+ghost use Rattle.pg_pairs.specs.NamedView.{seen_under};
+ghost use Rattle.pg_pairs.specs.SeenBy.{seen_by};
 ghost use Rattle.pg_cert.specs.declared.error.CertError.TheVariants as errors;
 ghost use Rattle.pg_cert.specs.Bounds.{bound_in};
 ghost use Rattle.pg_cert.specs.Certificate.{Holds, bound_verdict, verdict_of};
-ghost use Rattle.pg_cert.specs.ClaimSight.{sight_in};
+ghost use Rattle.pg_cert.specs.ClaimView.{view_in};
 ghost use Rattle.pg_cert.specs.Checked.{IsChecked};
 ghost use Rattle.pg_cert.specs.Faults.{IsFirstFault, cheaper_choice, first_fault, first_pair_fault, is_within, missing_child, pair_fault};
 ghost use Rattle.pg_cert.specs.Laws.{Says};
@@ -65,7 +65,7 @@ fn choices<V: View>(
     pair: Pair,
 ) -> Result<Vec<Choice>, AllocError>
     ensures { IfOk result (λ found. found.items
-        ≡ choices (sight_by V.View view.now old.now new.now) (bound_in bounds.now)
+        ≡ choices (seen_by V.View view.now old.now new.now) (bound_in bounds.now)
         (shape_of old.now) (shape_of new.now) pair) }
 {
     options(alloc, view, old, new, pair, bounds)
@@ -81,7 +81,7 @@ fn is_cheapest_within<V: View>(
     line: PairBound,
 ) -> Result<bool, AllocError>
     ensures { IfOk result (λ within. within ≡ true
-        → cheaper_choice (sight_by V.View view.now old.now new.now) (shape_of old.now)
+        → cheaper_choice (seen_by V.View view.now old.now new.now) (shape_of old.now)
         (shape_of new.now) (bound_in bounds.now) line ≡ None) }
 {
     cheapest_is_least();
@@ -101,7 +101,7 @@ fn first_cheaper<V: View>(
     line: PairBound,
 ) -> Result<Option<Choice>, AllocError>
     ensures { IfOk result (λ found. found
-        ≡ cheaper_choice (sight_by V.View view.now old.now new.now) (shape_of old.now)
+        ≡ cheaper_choice (seen_by V.View view.now old.now new.now) (shape_of old.now)
         (shape_of new.now) (bound_in bounds.now) line) }
 {
     let choices = choices(alloc, view, old, new, bounds, line.pair)?;
@@ -124,7 +124,7 @@ fn cheaper_choice<V: View>(
     line: PairBound,
 ) -> Result<Option<Choice>, AllocError>
     ensures { IfOk result (λ found. found
-        ≡ cheaper_choice (sight_by V.View view.now old.now new.now) (shape_of old.now)
+        ≡ cheaper_choice (seen_by V.View view.now old.now new.now) (shape_of old.now)
         (shape_of new.now) (bound_in bounds.now) line) }
 {
     if is_cheapest_within(alloc, view, old, new, bounds, line)? {
@@ -143,9 +143,9 @@ fn check_pair<V: View>(
     line: PairBound,
 ) -> Result<(), CertError>
     ensures { MatchResult result
-        (λ _. pair_fault (sight_by V.View view.now old.now new.now) (shape_of old.now)
+        (λ _. pair_fault (seen_by V.View view.now old.now new.now) (shape_of old.now)
         (shape_of new.now) (bound_in bounds.now) line ≡ None)
-        (λ e. (e ≡ errors.Memory) ⊎ (pair_fault (sight_by V.View view.now old.now new.now)
+        (λ e. (e ≡ errors.Memory) ⊎ (pair_fault (seen_by V.View view.now old.now new.now)
         (shape_of old.now) (shape_of new.now) (bound_in bounds.now) line ≡ Some e)) }
 {
     if let Some(pair) = missing_child(alloc, old, new, bounds, line.pair)? {
@@ -170,9 +170,9 @@ fn check_pairs<V: View>(
     bounds: &Bounds,
 ) -> Result<(), CertError>
     ensures { MatchResult result
-        (λ _. first_pair_fault (sight_by V.View view.now old.now new.now) (shape_of old.now)
+        (λ _. first_pair_fault (seen_by V.View view.now old.now new.now) (shape_of old.now)
         (shape_of new.now) (bound_in bounds.now) bounds.now ≡ None)
-        (λ e. (e ≡ errors.Memory) ⊎ (first_pair_fault (sight_by V.View view.now old.now new.now)
+        (λ e. (e ≡ errors.Memory) ⊎ (first_pair_fault (seen_by V.View view.now old.now new.now)
         (shape_of old.now) (shape_of new.now) (bound_in bounds.now) bounds.now ≡ Some e)) }
 {
     for at in 0..bounds.len() {
@@ -193,9 +193,9 @@ fn check_table<V: View>(
     root: Pair,
 ) -> Result<(), CertError>
     ensures { MatchResult result
-        (λ _. first_fault (sight_by V.View view.now old.now new.now) (shape_of old.now)
+        (λ _. first_fault (seen_by V.View view.now old.now new.now) (shape_of old.now)
         (shape_of new.now) bounds.now root ≡ None)
-        (λ e. (e ≡ errors.Memory) ⊎ (first_fault (sight_by V.View view.now old.now new.now)
+        (λ e. (e ≡ errors.Memory) ⊎ (first_fault (seen_by V.View view.now old.now new.now)
         (shape_of old.now) (shape_of new.now) bounds.now root ≡ Some e)) }
 {
     if bounds.bound(root).is_none() {
@@ -222,16 +222,16 @@ fn check_with<V: View>(
     new: &Schema,
     certificate: &Certificate,
 ) -> Result<Verdict, CertError>
-    ensures holds { OnOk result (Holds (sight_by V.View view.now old.now new.now)
+    ensures holds { OnOk result (Holds (seen_by V.View view.now old.now new.now)
         (shape_of old.now) (shape_of new.now) certificate.now) }
     ensures verdict { IfOk result (λ verdict. verdict ≡ verdict_of certificate.now) }
-    ensures says { IfOk result (λ verdict. Says (sight_by V.View view.now old.now new.now)
+    ensures says { IfOk result (λ verdict. Says (seen_by V.View view.now old.now new.now)
         (shape_of old.now) (shape_of new.now) certificate.now verdict) }
     ensures first_fault { IfErr result
-        (λ e. (e ≡ errors.Memory) ⊎ IsFirstFault (sight_by V.View view.now old.now new.now)
+        (λ e. (e ≡ errors.Memory) ⊎ IsFirstFault (seen_by V.View view.now old.now new.now)
         (shape_of old.now) (shape_of new.now) certificate.now e) }
     ensures refused { IfErr result (λ e. (e ≡ errors.Memory)
-        ⊎ ¬ (Holds (sight_by V.View view.now old.now new.now) (shape_of old.now)
+        ⊎ ¬ (Holds (seen_by V.View view.now old.now new.now) (shape_of old.now)
         (shape_of new.now) certificate.now)) }
 {
     // What holds of every schema and every view, and what a table without fault shows.
@@ -262,7 +262,7 @@ fn check_by_name<V: View>(
     new: &Schema,
     certificate: &Certificate,
 ) -> Result<Verdict, CertError>
-    ensures { IsChecked (sight_named V.NAME old.now new.now) (shape_of old.now) (shape_of new.now)
+    ensures { IsChecked (seen_under V.NAME old.now new.now) (shape_of old.now) (shape_of new.now)
         certificate.now result }
 {
     sees_by_name(view, old, new);
@@ -277,7 +277,7 @@ fn check_under(
     certificate: &Certificate,
     view: ViewName,
 ) -> Result<Verdict, CertError>
-    ensures { IsChecked (sight_named view old.now new.now) (shape_of old.now) (shape_of new.now)
+    ensures { IsChecked (seen_under view old.now new.now) (shape_of old.now) (shape_of new.now)
         certificate.now result }
 {
     match view {
@@ -302,16 +302,16 @@ pub fn check(
     new: &Schema,
     certificate: &Certificate,
 ) -> Result<Verdict, CertError>
-    ensures holds { OnOk result (Holds (sight_in old.now new.now certificate.now)
+    ensures holds { OnOk result (Holds (view_in old.now new.now certificate.now)
         (shape_of old.now) (shape_of new.now) certificate.now) }
     ensures verdict { IfOk result (λ verdict. verdict ≡ verdict_of certificate.now) }
-    ensures says { IfOk result (λ verdict. Says (sight_in old.now new.now certificate.now)
+    ensures says { IfOk result (λ verdict. Says (view_in old.now new.now certificate.now)
         (shape_of old.now) (shape_of new.now) certificate.now verdict) }
     ensures first_fault { IfErr result
-        (λ e. (e ≡ errors.Memory) ⊎ IsFirstFault (sight_in old.now new.now certificate.now)
+        (λ e. (e ≡ errors.Memory) ⊎ IsFirstFault (view_in old.now new.now certificate.now)
         (shape_of old.now) (shape_of new.now) certificate.now e) }
     ensures refused { IfErr result (λ e. (e ≡ errors.Memory)
-        ⊎ ¬ (Holds (sight_in old.now new.now certificate.now) (shape_of old.now)
+        ⊎ ¬ (Holds (view_in old.now new.now certificate.now) (shape_of old.now)
         (shape_of new.now) certificate.now)) }
 {
     check_under(alloc, old, new, certificate, certificate.view())

@@ -5,7 +5,7 @@ ghost use Rattle.pg_schema.specs.Parts.{shape_of};
 ghost use Rattle.pg_dyn.specs.Encoding.{cap, enc};
 ghost use Rattle.pg_dyn.specs.Fits.{Fits};
 ghost use Rattle.pg_dyn.specs.Kept.{message_of, type_of};
-ghost use Rattle.pg_pairs.specs.SightBy.{sight_by};
+ghost use Rattle.pg_pairs.specs.SeenBy.{seen_by};
 ghost use Rattle.pg_cert.specs.declared.error.CertError.TheVariants as errors;
 ghost use Rattle.pg_cert.specs.Certificate.{HasLength, IsWitnessed, is_witness};
 ghost use Rattle.pg_cert.specs.Faults.{IsReadBack, WitnessFault};
@@ -99,9 +99,9 @@ pub(crate) fn check_witness<V: View>(
 ) -> Result<(), CertError>
     requires { is_witness (Some bytes.now) ≡ true }
     ensures { MatchResult result
-        (λ _. IsWitnessed (sight_by V.View view.now old.now new.now) (shape_of old.now)
+        (λ _. IsWitnessed (seen_by V.View view.now old.now new.now) (shape_of old.now)
         (shape_of new.now) root bound bytes.now)
-        (λ e. (e ≡ errors.Memory) ⊎ WitnessFault (sight_by V.View view.now old.now new.now)
+        (λ e. (e ≡ errors.Memory) ⊎ WitnessFault (seen_by V.View view.now old.now new.now)
         (shape_of old.now) (shape_of new.now) root bound bytes.now e) }
 {
     // What holds of every schema, and of what a type writes.

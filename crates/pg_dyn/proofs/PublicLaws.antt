@@ -9,10 +9,10 @@ use Rattle.pg_dyn.specs.Message.{Leaf, key_cmp, leaf_eq}
 use Rattle.pg_dyn.specs.Message as model
 use Rattle.pg_dyn.specs.Bodies.{BodiesReadAgain, EntryBodiesRead, PackedBodiesRead, SingleBodiesRead}
 use Rattle.pg_dyn.specs.Encoding.{enc, encoded_parts}
-use Rattle.pg_dyn.specs.OwnParts.{CellsAreWritten, ChildrenAreShorter, OneIsEmpty, OwnPartsFit, SiblingsMutual}
+use Rattle.pg_dyn.specs.OwnParts.{ComparandsAreWritten, ChildrenAreShorter, OneIsEmpty, OwnPartsFit, SiblingsMutual}
 use Rattle.pg_dyn.specs.FieldLaws.{ContentsAreSeen, EntriesRise, EqualLeaves, FieldsAreFound, LastItems, OwnContents, PackableWires, PartsKeepTypes, PlainIsKept, RecordsOfFields, RisingEntriesStay, UnknownIsKept}
 use Rattle.pg_dyn.specs.Laws.{DecodingIs, EncodingSpells, KeptByField, MessageSplits, WritingSplits}
-use Rattle.pg_dyn.specs.ByCells.{KeptByCells}
+use Rattle.pg_dyn.specs.ByComparands.{KeptByComparands}
 use Rattle.pg_dyn.proofs.Lists.{each_of_all, each_weaker}
 use Rattle.pg_dyn.proofs.Codings.{Reads-from_range}
 use Rattle.pg_dyn.proofs.Plain as Plain
@@ -26,7 +26,7 @@ use Rattle.pg_dyn.proofs.Again.{records_of-enc}
 use Rattle.pg_dyn.proofs.ReadSplits.{reading_of, field_split, no_field_split, unknown_split}
 use Rattle.pg_dyn.proofs.Depth.{dec_is}
 use Rattle.pg_dyn.proofs.ByField as ByField
-use Rattle.pg_dyn.proofs.ByCells as ByCells
+use Rattle.pg_dyn.proofs.ByComparands as ByComparands
 use Rattle.pg_dyn.proofs.RecordsRead.{content_none}
 use Rattle.pg_dyn.proofs.ItemLeaves.{item_is_key}
 use Rattle.pg_dyn.proofs.ReplacingLaws.{content_number, type_of-kept_onto, unknown-message_of, type_of-with_parts, type_of-without_siblings}
@@ -59,16 +59,16 @@ kept_by_field =
     let short : length (enc old a v) < 2 ^ 64 = omega arith in
     (ByField.kept_gives view old new a b v is_old is_new is_message plain short, λ h. ByField.kept_from view old new a b v is_old is_new is_message plain short h.0 h.1 h.2)
 
-pub kept_by_cells : KeptByCells
-kept_by_cells =
+pub kept_by_comparands : KeptByComparands
+kept_by_comparands =
     λ view old new a b v is_old is_new is_message plain fits apart.
     let short : length (enc old a v) < 2 ^ 64 = omega arith in
-    (ByCells.cells_kept view old new a b v is_old is_new is_message plain short apart, ByCells.kept_by_cells view old new a b v is_old is_new is_message plain short apart)
+    (ByComparands.comparands_kept view old new a b v is_old is_new is_message plain short apart, ByComparands.kept_by_comparands view old new a b v is_old is_new is_message plain short apart)
 
 -- ---- the parts of a message
 
-pub cells_are_written : CellsAreWritten
-cells_are_written = ByCells.cells_written
+pub comparands_are_written : ComparandsAreWritten
+comparands_are_written = ByComparands.comparands_written
 
 pub own_parts_fit : OwnPartsFit
 own_parts_fit = λ shape type m f is_shape is found.
@@ -117,7 +117,7 @@ pub records_of_fields : RecordsOfFields
 records_of_fields = (Splitting.field_records_number, Splitting.field_records_none, Splitting.takes_number)
 
 pub own_contents : OwnContents
-own_contents = (Splitting.records_in_none, content_none, ByCells.same_content-filter)
+own_contents = (Splitting.records_in_none, content_none, ByComparands.same_content-filter)
 
 above_from_below : (es : List (Leaf × Leaf)) → EntriesRise es → Fields.EntriesRise es
 above_from_below [] h = tt

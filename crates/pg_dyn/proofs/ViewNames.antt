@@ -14,7 +14,7 @@ use Rattle.pg_dyn.specs.declared.view_name.ViewName.TheVariants as names
 use Rattle.pg_dyn.specs.Message.{Leaf, Int, F32, F64, Bytes, Item, Plain, Msg, Message, ends, holds, nests, Part, is_zero}
 use Rattle.pg_dyn.specs.Encoding.{child_type, enc}
 use Rattle.pg_dyn.specs.Decoding.{dec}
-use Rattle.pg_dyn.specs.Comparison.{View, numbers, Sought, Alike, Kept, is_zero_sought, hides_zero, shown, alike_leaves, same_key, meets, same_message, unshared_bytes, sought, same}
+use Rattle.pg_dyn.specs.Comparison.{View, numbers, Expected, Alike, Kept, is_zero_expected, hides_zero, shown, alike_leaves, same_key, matches, same_message, unshared_bytes, expected, same}
 use Rattle.pg_dyn.specs.Breaking.{is_kept, Compatible}
 use Rattle.pg_dyn.specs.ViewNames.{alike_there, view_named, NumbersView, KeptByNumber, NamesAreStricter, NamedRows}
 
@@ -42,42 +42,42 @@ alike_by_number view (elements.Enum e) (elements.Enum g) (F64 bits) b h = h
 alike_by_number view (elements.Enum e) (elements.Enum g) (Bytes bytes) b h = h
 
 module _ (view : View) (f g : FieldShape) where
-  abbrev meet : View → Part Sought → Part Item → Bool
-  meet by p q = same_key p.key q.key && meets by f g p.item q.item
+  abbrev part_matches : View → Part Expected → Part Item → Bool
+  part_matches by p q = same_key p.key q.key && matches by f g p.item q.item
 
   leaf_met : (number : ℕ) (key : Option Leaf) (leaf : Leaf) (q : Part Item) →
-      meet view (record { number = number; key = key; item = Alike leaf }) q ≡ true → meet numbers (record { number = number; key = key; item = Alike leaf }) q ≡ true
+      part_matches view (record { number = number; key = key; item = Alike leaf }) q ≡ true → part_matches numbers (record { number = number; key = key; item = Alike leaf }) q ≡ true
   leaf_met number key leaf q h =
-      let both = and_parts (same_key key q.key) (meets view f g (Alike leaf) q.item) h in
-      and_from (same_key key q.key) (meets numbers f g (Alike leaf) q.item) both.0 (of q.item both.1)
+      let both = and_parts (same_key key q.key) (matches view f g (Alike leaf) q.item) h in
+      and_from (same_key key q.key) (matches numbers f g (Alike leaf) q.item) both.0 (of q.item both.1)
     where
-      of : (item : Item) → meets view f g (Alike leaf) item ≡ true → meets numbers f g (Alike leaf) item ≡ true
+      of : (item : Item) → matches view f g (Alike leaf) item ≡ true → matches numbers f g (Alike leaf) item ≡ true
       of (Plain b) h = alike_by_number view f.element g.element leaf b h
       of (Msg m) h = h
 
   child_met : (number : ℕ) (key : Option Leaf) (test other : Message → Bool) → ((m : Message) → test m ≡ true → other m ≡ true) → (q : Part Item) →
-      meet view (record { number = number; key = key; item = Kept test }) q ≡ true → meet numbers (record { number = number; key = key; item = Kept other }) q ≡ true
+      part_matches view (record { number = number; key = key; item = Kept test }) q ≡ true → part_matches numbers (record { number = number; key = key; item = Kept other }) q ≡ true
   child_met number key test other weaker q h =
-      let both = and_parts (same_key key q.key) (meets view f g (Kept test) q.item) h in
-      and_from (same_key key q.key) (meets numbers f g (Kept other) q.item) both.0 (of q.item both.1)
+      let both = and_parts (same_key key q.key) (matches view f g (Kept test) q.item) h in
+      and_from (same_key key q.key) (matches numbers f g (Kept other) q.item) both.0 (of q.item both.1)
     where
-      of : (item : Item) → meets view f g (Kept test) item ≡ true → meets numbers f g (Kept other) item ≡ true
+      of : (item : Item) → matches view f g (Kept test) item ≡ true → matches numbers f g (Kept other) item ≡ true
       of (Plain b) h = h
       of (Msg m) h = weaker m h
 
   -- one part more, on the old side
-  one_more : (p r : Part Sought) (ps rs : List (Part Sought)) (w : List (Part Item)) → ((q : Part Item) → meet view p q ≡ true → meet numbers r q ≡ true) →
-      ((w : List (Part Item)) → pointwise (meet view) ps w ≡ true → pointwise (meet numbers) rs w ≡ true) →
-      pointwise (meet view) (p ∷ ps) w ≡ true → pointwise (meet numbers) (r ∷ rs) w ≡ true
+  one_more : (p r : Part Expected) (ps rs : List (Part Expected)) (w : List (Part Item)) → ((q : Part Item) → part_matches view p q ≡ true → part_matches numbers r q ≡ true) →
+      ((w : List (Part Item)) → pointwise (part_matches view) ps w ≡ true → pointwise (part_matches numbers) rs w ≡ true) →
+      pointwise (part_matches view) (p ∷ ps) w ≡ true → pointwise (part_matches numbers) (r ∷ rs) w ≡ true
   one_more p r ps rs [] first later h = h
   one_more p r ps rs (q ∷ w) first later h =
-      let both = and_parts (meet view p q) (pointwise (meet view) ps w) h in
-      and_from (meet numbers r q) (pointwise (meet numbers) rs w) (first q both.0) (later w both.1)
+      let both = and_parts (part_matches view p q) (pointwise (part_matches view) ps w) h in
+      and_from (part_matches numbers r q) (pointwise (part_matches numbers) rs w) (first q both.0) (later w both.1)
 
 module _ (view : View) (old new : Shape) where
   -- the new type shows in w what the old one holds in v
   abbrev shows : View → TypeId → TypeId → Message → Message → Bool
-  shows by a b v w = same_message by (fields old a) (fields new b) (sought by old new a b v) (unshared_bytes old a (fields new b) v) w
+  shows by a b v w = same_message by (fields old a) (fields new b) (expected by old new a b v) (unshared_bytes old a (fields new b) v) w
 
   abbrev IsStricter : TypeId → TypeId → Message → Type 0
   IsStricter a b v = (w : Message) → shows view a b v w ≡ true → shows numbers a b v w ≡ true
@@ -90,25 +90,25 @@ module _ (view : View) (old new : Shape) where
 
   module _ (a b : TypeId) (f g : FieldShape) (hidden : Bool) (n : ℕ) where
     content_met : (v : Message) → ChildrenStricter a b v → (w : List (Part Item)) →
-        pointwise (meet view f g view) (shown is_zero_sought hidden n (sought view old new a b v)) w ≡ true →
-        pointwise (meet view f g numbers) (shown is_zero_sought hidden n (sought numbers old new a b v)) w ≡ true
+        pointwise (part_matches view f g view) (shown is_zero_expected hidden n (expected view old new a b v)) w ≡ true →
+        pointwise (part_matches view f g numbers) (shown is_zero_expected hidden n (expected numbers old new a b v)) w ≡ true
     content_met (ends unknown) children = λ w h. h
     content_met (holds number key leaf later) children = λ w.
-        let part : Part Sought = record { number = number; key = key; item = Alike leaf } in
-        let ps = shown is_zero_sought hidden n (sought view old new a b later) in
-        let rs = shown is_zero_sought hidden n (sought numbers old new a b later) in
-        elim (nat_eq number n && not (hidden && is_zero leaf)) as (λ t. pointwise (meet view f g view) (cond t (part ∷ ps) ps) w ≡ true → pointwise (meet view f g numbers) (cond t (part ∷ rs) rs) w ≡ true) [
+        let part : Part Expected = record { number = number; key = key; item = Alike leaf } in
+        let ps = shown is_zero_expected hidden n (expected view old new a b later) in
+        let rs = shown is_zero_expected hidden n (expected numbers old new a b later) in
+        elim (nat_eq number n && not (hidden && is_zero leaf)) as (λ t. pointwise (part_matches view f g view) (cond t (part ∷ ps) ps) w ≡ true → pointwise (part_matches view f g numbers) (cond t (part ∷ rs) rs) w ≡ true) [
           | true ↦ one_more view f g part part ps rs w (leaf_met view f g number key leaf) (content_met later children)
           | false ↦ content_met later children w
         ]
     content_met (nests number key child later) children = λ w.
         let test = shows view (child_type (fields old a) number) (child_type (fields new b) number) child in
         let other = shows numbers (child_type (fields old a) number) (child_type (fields new b) number) child in
-        let part : Part Sought = record { number = number; key = key; item = Kept test } in
-        let counterpart : Part Sought = record { number = number; key = key; item = Kept other } in
-        let ps = shown is_zero_sought hidden n (sought view old new a b later) in
-        let rs = shown is_zero_sought hidden n (sought numbers old new a b later) in
-        elim (nat_eq number n && not (hidden && false)) as (λ t. pointwise (meet view f g view) (cond t (part ∷ ps) ps) w ≡ true → pointwise (meet view f g numbers) (cond t (counterpart ∷ rs) rs) w ≡ true) [
+        let part : Part Expected = record { number = number; key = key; item = Kept test } in
+        let counterpart : Part Expected = record { number = number; key = key; item = Kept other } in
+        let ps = shown is_zero_expected hidden n (expected view old new a b later) in
+        let rs = shown is_zero_expected hidden n (expected numbers old new a b later) in
+        elim (nat_eq number n && not (hidden && false)) as (λ t. pointwise (part_matches view f g view) (cond t (part ∷ ps) ps) w ≡ true → pointwise (part_matches view f g numbers) (cond t (counterpart ∷ rs) rs) w ≡ true) [
           | true ↦ one_more view f g part counterpart ps rs w (child_met view f g number key test other children.0) (content_met later children.1)
           | false ↦ content_met later children.1 w
         ]

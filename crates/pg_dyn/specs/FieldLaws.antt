@@ -22,7 +22,7 @@ use Rattle.pg_dyn.specs.Content.{by_key, content, entry_in, last_item, same_wire
 use Rattle.pg_dyn.specs.Writing.{field_records, records_in}
 use Rattle.pg_dyn.specs.Encoding.{child_type}
 use Rattle.pg_dyn.specs.Belonging.{MayBeZero}
-use Rattle.pg_dyn.specs.Comparison.{Sought, View, same_content}
+use Rattle.pg_dyn.specs.Comparison.{Expected, View, same_content}
 use Rattle.pg_dyn.specs.Laws.{of_number}
 use Rattle.pg_dyn.specs.Kept.{Kept, KeptItem, message_of, type_of}
 use Rattle.pg_dyn.specs.Kept as kept
@@ -53,7 +53,7 @@ abbrev pub OwnContents : Type 0
 OwnContents =
     ((fs : List FieldShape) → records_in fs [] ≡ [])
     × ((f : FieldShape) → content f [] ≡ Some [])
-    × ((view : View) (f g : FieldShape) (old : List (Part Sought)) (new : List (Part Item)) →
+    × ((view : View) (f g : FieldShape) (old : List (Part Expected)) (new : List (Part Item)) →
     same_content view f g (filter (is_of f.number) old) (filter (is_of f.number) new) ≡ same_content view f g old new)
 
 -- A singular field keeps the one item that it may hold, and of none none.

@@ -13,7 +13,7 @@ use Rattle.pg_dyn.specs.Message.{Leaf, Message, Part, ends, holds, nests, is_of}
 use Rattle.pg_dyn.specs.Coding.{body, form}
 use Rattle.pg_dyn.specs.Bodies.{IsNestedLeaf, IsReadAs, entry_body, record_with}
 use Rattle.pg_dyn.specs.Belonging.{IsMessage, KeyFits, MayBeZero, MayFollow}
-use Rattle.pg_dyn.specs.Comparison.{View, cells, writes}
+use Rattle.pg_dyn.specs.Comparison.{View, comparands, writes}
 use Rattle.pg_dyn.specs.Content.{is_sibling, same_oneof}
 use Rattle.pg_dyn.specs.Writing.{key_of}
 use Rattle.pg_dyn.specs.Encoding.{cap, child_type, enc, encoded_parts}
@@ -104,6 +104,6 @@ ChildrenAreShorter =
     (shape : Shape) (type : TypeId) (m : Message) → IsShape shape → IsMessage shape type m → length (enc shape type m) ≤ cap →
     ChildrenShorter shape type (length (enc shape type m)) m
 
--- The cells of an old message, as they are written, are what the encoding is made of.
-abbrev pub CellsAreWritten : Type 0
-CellsAreWritten = (view : View) (old new : Shape) (a b : TypeId) (v : Message) → map writes (cells view old new a b v) ≡ encoded_parts old a v
+-- The comparands of an old message, as they are written, are what the encoding is made of.
+abbrev pub ComparandsAreWritten : Type 0
+ComparandsAreWritten = (view : View) (old new : Shape) (a b : TypeId) (v : Message) → map writes (comparands view old new a b v) ≡ encoded_parts old a v

@@ -15,11 +15,11 @@ use Rattle.pg_dyn.specs.Writing.{bytes_of}
 use Rattle.pg_pairs.specs.declared.choice.Pair.{Pair}
 use Rattle.pg_pairs.specs.Choices.{number_for}
 use Rattle.pg_dyn.specs.declared.view_name.ViewName.{ViewName}
-use Rattle.pg_pairs.specs.NamedSight.{sight_named}
-use Rattle.pg_pairs.specs.Sight.{Sight}
+use Rattle.pg_pairs.specs.NamedView.{seen_under}
+use Rattle.pg_pairs.specs.EnumView.{EnumView}
 use Rattle.pg_cert.specs.Bounds.{bound_in}
 use Rattle.pg_cert.specs.Certificate.{Claim, IsWitnessedIfThere}
-use Rattle.pg_cert.specs.ClaimSight.{sight_in}
+use Rattle.pg_cert.specs.ClaimView.{view_in}
 use Rattle.pg_cert.specs.Text.{IsClaimOf}
 use Rattle.pg_least.specs.Exact.{IsBesideClaim, IsSearched, IsWitnessMessage}
 use Rattle.pg_gate.specs.Answer.{AreRoots, IsAnswer, IsAnswerBy, IsBroken, IsCompatible, IsLost, IsRefusedRoot, Lacks, NewSees, OldWrites, certificate_of}
@@ -109,15 +109,15 @@ breaks_where_it_is_lost view old new pair v lost = of (is_kept view old new pair
     of true is = absurd (lost.not_seen (seen_whole view old new pair v is))
     of false is = record { is_message = lost.written.is_message; is_plain = lost.written.is_plain; has_encoding = lost.written.has_encoding; not_kept = is }
 
-module _ (sight : Sight) (old new : Parts) (root : Text) (claim : Claim) (roots : AreRoots old new root claim.root) (searched : IsSearched sight (shape_of old) (shape_of new) claim.root claim) where
-  compatible_without : claim.witness ≡ None → IsCompatible sight old new root claim
+module _ (enum_view : EnumView) (old new : Parts) (root : Text) (claim : Claim) (roots : AreRoots old new root claim.root) (searched : IsSearched enum_view (shape_of old) (shape_of new) claim.root claim) where
+  compatible_without : claim.witness ≡ None → IsCompatible enum_view old new root claim
   compatible_without none =
       let no_number : is_some (number_for (bound_in claim.bounds) claim.root) ≡ false = sym searched.witness_where_it_breaks ∙ ap is_some none in
       let bound = none_is_there (bound_in claim.bounds claim.root) searched.holds.covers.root_there no_number in
       let compatible = searched.says claim.root None bound in
       record {
         roots = roots;
-        each_is_seen = each_kept sight.alike (shape_of old) (shape_of new) claim.root compatible;
+        each_is_seen = each_kept enum_view.alike (shape_of old) (shape_of new) claim.root compatible;
         passes = searched.holds;
         searched = searched;
         bound_is_none = bound;
@@ -125,17 +125,17 @@ module _ (sight : Sight) (old new : Parts) (root : Text) (claim : Claim) (roots 
         compatible = compatible;
       }
 
-  broken_with : (kept : Kept) → IsWitnessMessage sight (shape_of old) (shape_of new) claim kept → IsBroken sight old new root kept claim
+  broken_with : (kept : Kept) → IsWitnessMessage enum_view (shape_of old) (shape_of new) claim kept → IsBroken enum_view old new root kept claim
   broken_with kept is =
       let bound = bound_in claim.bounds claim.root in
-      let witnessed = subst (λ o. IsWitnessedIfThere sight (shape_of old) (shape_of new) claim.root bound o) is.written searched.holds.witnessed in
+      let witnessed = subst (λ o. IsWitnessedIfThere enum_view (shape_of old) (shape_of new) claim.root bound o) is.written searched.holds.witnessed in
       let least = searched.says claim.root (Some (length (enc (shape_of old) claim.root.old (message_of kept)))) witnessed.length_is in
       record {
         roots = roots;
         fits = is.fits;
         type_is = is.type_is;
-        lost = lost_where_it_breaks sight.alike (shape_of old) (shape_of new) claim.root (message_of kept) is.breaks;
-        none_shorter = λ v lost. least.least v (breaks_where_it_is_lost sight.alike (shape_of old) (shape_of new) claim.root v lost);
+        lost = lost_where_it_breaks enum_view.alike (shape_of old) (shape_of new) claim.root (message_of kept) is.breaks;
+        none_shorter = λ v lost. least.least v (breaks_where_it_is_lost enum_view.alike (shape_of old) (shape_of new) claim.root v lost);
         passes = searched.holds;
         searched = searched;
         breaks = is.breaks;
@@ -144,38 +144,38 @@ module _ (sight : Sight) (old new : Parts) (root : Text) (claim : Claim) (roots 
       }
 
   -- what is found beside the claim makes its answer
-  answered_here : (witness : Option Kept) → IsBesideClaim sight (shape_of old) (shape_of new) claim witness → IsAnswerBy sight old new root (answer_with claim witness)
+  answered_here : (witness : Option Kept) → IsBesideClaim enum_view (shape_of old) (shape_of new) claim witness → IsAnswerBy enum_view old new root (answer_with claim witness)
   answered_here (Some kept) beside = broken_with kept beside
   answered_here None beside = compatible_without beside
 
 -- what a search of the roots finds is the gate's answer
-pub answered : (sight : Sight) (old new : Parts) (root : Text) (pair : Pair) (claim : Claim) (witness : Option Kept) → AreRoots old new root pair → IsSearched sight (shape_of old) (shape_of new) pair claim
-    → IsBesideClaim sight (shape_of old) (shape_of new) claim witness → IsAnswerBy sight old new root (answer_with claim witness)
-answered sight old new root pair claim witness roots searched beside =
+pub answered : (enum_view : EnumView) (old new : Parts) (root : Text) (pair : Pair) (claim : Claim) (witness : Option Kept) → AreRoots old new root pair → IsSearched enum_view (shape_of old) (shape_of new) pair claim
+    → IsBesideClaim enum_view (shape_of old) (shape_of new) claim witness → IsAnswerBy enum_view old new root (answer_with claim witness)
+answered enum_view old new root pair claim witness roots searched beside =
     let same = sym searched.root_is in
-    answered_here sight old new root claim (subst (λ (p : Pair). AreRoots old new root p) same roots)
-    (subst (λ (p : Pair). IsSearched sight (shape_of old) (shape_of new) p claim) same searched) witness beside
+    answered_here enum_view old new root claim (subst (λ (p : Pair). AreRoots old new root p) same roots)
+    (subst (λ (p : Pair). IsSearched enum_view (shape_of old) (shape_of new) p claim) same searched) witness beside
 
 -- the certificate of an answer is one of the schemas' types
 pub claim_of_answer : (view : ViewName) (old new : Parts) (root : Text) → IsShape (shape_of old) → IsShape (shape_of new) → (answer : Answer) → IsAnswerUnder view old new root answer → IsClaimOf old new (certificate_of answer)
 claim_of_answer view old new root is_old is_new (answers.Compatible certificate) is = of certificate is.1.roots is.1.searched
   where
-    of : (claim : Claim) → AreRoots old new root claim.root → IsSearched (sight_named view old new) (shape_of old) (shape_of new) claim.root claim → IsClaimOf old new claim
+    of : (claim : Claim) → AreRoots old new root claim.root → IsSearched (seen_under view old new) (shape_of old) (shape_of new) claim.root claim → IsClaimOf old new claim
     of claim roots searched =
-        searched_there (sight_named view old new) old new claim is_old is_new (named_there old root claim.root.old roots.old_named) (named_there new root claim.root.new roots.new_named) searched
+        searched_there (seen_under view old new) old new claim is_old is_new (named_there old root claim.root.old roots.old_named) (named_there new root claim.root.new roots.new_named) searched
 claim_of_answer view old new root is_old is_new (answers.Breaks witness certificate) is = of certificate is.1.roots is.1.searched
   where
-    of : (claim : Claim) → AreRoots old new root claim.root → IsSearched (sight_named view old new) (shape_of old) (shape_of new) claim.root claim → IsClaimOf old new claim
+    of : (claim : Claim) → AreRoots old new root claim.root → IsSearched (seen_under view old new) (shape_of old) (shape_of new) claim.root claim → IsClaimOf old new claim
     of claim roots searched =
-        searched_there (sight_named view old new) old new claim is_old is_new (named_there old root claim.root.old roots.old_named) (named_there new root claim.root.new roots.new_named) searched
+        searched_there (seen_under view old new) old new claim is_old is_new (named_there old root claim.root.old roots.old_named) (named_there new root claim.root.new roots.new_named) searched
 
 -- the certificate of an answer is that of a search under the view that it names
 pub searched_by : (view : ViewName) (old new : Parts) (root : Text) (answer : Answer) → IsAnswerUnder view old new root answer
-    → IsSearched (sight_in old new (certificate_of answer)) (shape_of old) (shape_of new) (certificate_of answer).root (certificate_of answer)
+    → IsSearched (view_in old new (certificate_of answer)) (shape_of old) (shape_of new) (certificate_of answer).root (certificate_of answer)
 searched_by view old new root (answers.Compatible certificate) is =
-    subst (λ (v : ViewName). IsSearched (sight_named v old new) (shape_of old) (shape_of new) certificate.root certificate) (sym is.0) is.1.searched
+    subst (λ (v : ViewName). IsSearched (seen_under v old new) (shape_of old) (shape_of new) certificate.root certificate) (sym is.0) is.1.searched
 searched_by view old new root (answers.Breaks witness certificate) is =
-    subst (λ (v : ViewName). IsSearched (sight_named v old new) (shape_of old) (shape_of new) certificate.root certificate) (sym is.0) is.1.searched
+    subst (λ (v : ViewName). IsSearched (seen_under v old new) (shape_of old) (shape_of new) certificate.root certificate) (sym is.0) is.1.searched
 
 -- ---- what is told of an answer
 

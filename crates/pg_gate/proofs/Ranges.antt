@@ -14,7 +14,7 @@ use Rattle.pg_schema.specs.Shape.{Shape, FieldShape, ElementFits, IsField, IsSha
 use Rattle.pg_pairs.specs.declared.choice.Pair.{Pair}
 use Rattle.pg_pairs.specs.Covering.{all_children, children, children_beside, distinct, field_children, message_pair, same_pair}
 use Rattle.pg_pairs.specs.Likeness.{like}
-use Rattle.pg_pairs.specs.Sight.{Sight}
+use Rattle.pg_pairs.specs.EnumView.{EnumView}
 use Rattle.pg_pairs.specs.Among.{IsAmong}
 use Rattle.pg_cert.specs.declared.bounds.PairBound.{PairBound}
 use Rattle.pg_cert.specs.Certificate.{Claim}
@@ -130,10 +130,10 @@ module _ (old new : Shape) (is_old : IsShape old) (is_new : IsShape new) where
 -- ---- certificates
 
 -- the pairs of a certificate that a search answers are pairs of the schemas' types, if the root is one
-pub searched_there : (sight : Sight) (old new : Parts) (claim : Claim) → IsShape (shape_of old) → IsShape (shape_of new)
+pub searched_there : (enum_view : EnumView) (old new : Parts) (claim : Claim) → IsShape (shape_of old) → IsShape (shape_of new)
     → claim.root.old.index < length (shape_of old) → claim.root.new.index < length (shape_of new)
-    → IsSearched sight (shape_of old) (shape_of new) claim.root claim → IsClaimOf old new claim
-searched_there sight old new claim is_old is_new old_there new_there searched = record {
+    → IsSearched enum_view (shape_of old) (shape_of new) claim.root claim → IsClaimOf old new claim
+searched_there enum_view old new claim is_old is_new old_there new_there searched = record {
   root = as_types claim.root (old_there, new_there);
   bounds = each_weaker (λ (b : PairBound). LeadsTo (children (shape_of old) (shape_of new)) claim.root b.pair) (λ (b : PairBound). IsPairOf old new b.pair)
       (λ b leads. as_types b.pair (led_to_there (shape_of old) (shape_of new) is_old is_new claim.root b.pair (old_there, new_there) leads)) claim.bounds

@@ -5,14 +5,14 @@ use Rattle.std.specs.Prelude.{IsTrue}
 use Rattle.clap.specs.Words.{Text}
 use Rattle.pg_cert.specs.Bounds.{bound_in}
 use Rattle.pg_cert.specs.Certificate.{Claim}
-use Rattle.pg_cert.specs.ClaimSight.{sight_in}
+use Rattle.pg_cert.specs.ClaimView.{view_in}
 use Rattle.pg_cert.specs.Faults.{IsFirstFault, WitnessFaultIfThere, cheaper_choice, first_fault, first_pair_fault, missing_child, root_fault, too_high}
 use Rattle.pg_cert.specs.Text.{Certifies, names_of}
 use Rattle.pg_cert.specs.declared.bounds.PairBound.{PairBound}
 use Rattle.pg_cert.specs.declared.error.CertError.{CertError}
 use Rattle.pg_cert.specs.declared.error.CertError.TheVariants as checks
 use Rattle.pg_pairs.specs.Choices.{Table}
-use Rattle.pg_pairs.specs.Sight.{Sight}
+use Rattle.pg_pairs.specs.EnumView.{EnumView}
 use Rattle.pg_pairs.specs.declared.choice.Choice.{Choice}
 use Rattle.pg_pairs.specs.declared.choice.Pair.{Pair}
 use Rattle.pg_schema.specs.Parts.{shape_of}
@@ -74,10 +74,10 @@ no_choice : (pair : Pair) (o : Option Choice) → has_bad_text (option_map (too_
 no_choice pair None = refl
 no_choice pair (Some choice) = refl
 
-no_pair : (sight : Sight) (old new : Shape) (table : Table) (bounds : List PairBound) → has_bad_text (first_pair_fault sight old new table bounds) ≡ false
-no_pair sight old new table [] = refl
-no_pair sight old new table (b ∷ bounds) =
-    neither _ _ (neither _ _ (no_child (missing_child old new table b.pair)) (no_choice b.pair (cheaper_choice sight old new table b))) (no_pair sight old new table bounds)
+no_pair : (enum_view : EnumView) (old new : Shape) (table : Table) (bounds : List PairBound) → has_bad_text (first_pair_fault enum_view old new table bounds) ≡ false
+no_pair enum_view old new table [] = refl
+no_pair enum_view old new table (b ∷ bounds) =
+    neither _ _ (neither _ _ (no_child (missing_child old new table b.pair)) (no_choice b.pair (cheaper_choice enum_view old new table b))) (no_pair enum_view old new table bounds)
 
 no_root : (table : Table) (root : Pair) → has_bad_text (root_fault table root) ≡ false
 no_root table root = of (is_some (table root)) refl
@@ -86,15 +86,15 @@ no_root table root = of (is_some (table root)) refl
     of true is = rw is refl
     of false is = rw is refl
 
-no_bad_text : (sight : Sight) (old new : Shape) (bounds : List PairBound) (root : Pair) → first_fault sight old new bounds root ≡ Some checks.BadText → ⊥
-no_bad_text sight old new bounds root is =
-    let no : has_bad_text (first_fault sight old new bounds root) ≡ false = neither _ _ (no_root (bound_in bounds) root) (no_pair sight old new (bound_in bounds) bounds) in
-    let yes : has_bad_text (first_fault sight old new bounds root) ≡ true = ap has_bad_text is in
+no_bad_text : (enum_view : EnumView) (old new : Shape) (bounds : List PairBound) (root : Pair) → first_fault enum_view old new bounds root ≡ Some checks.BadText → ⊥
+no_bad_text enum_view old new bounds root is =
+    let no : has_bad_text (first_fault enum_view old new bounds root) ≡ false = neither _ _ (no_root (bound_in bounds) root) (no_pair enum_view old new (bound_in bounds) bounds) in
+    let yes : has_bad_text (first_fault enum_view old new bounds root) ≡ true = ap has_bad_text is in
     cc
 
-no_bad_witness : (sight : Sight) (old new : Shape) (claim : Claim) (o : Option (List ℕ)) → WitnessFaultIfThere sight old new claim.root (bound_in claim.bounds claim.root) o checks.BadText → ⊥
-no_bad_witness sight old new claim (Some bytes) is = is
-no_bad_witness sight old new claim None is = is
+no_bad_witness : (enum_view : EnumView) (old new : Shape) (claim : Claim) (o : Option (List ℕ)) → WitnessFaultIfThere enum_view old new claim.root (bound_in claim.bounds claim.root) o checks.BadText → ⊥
+no_bad_witness enum_view old new claim (Some bytes) is = is
+no_bad_witness enum_view old new claim None is = is
 
 -- ---- why bytes are refused
 
@@ -114,7 +114,7 @@ module _ (old new : Parts) (bytes : Text) where
 
   module _ (claim : Claim) (certifies : Certifies old new bytes claim) where
     abbrev IsCheckFault : CertError → Type 0
-    IsCheckFault error = (error ≡ checks.Memory) ⊎ IsFirstFault (sight_in old new claim) (shape_of old) (shape_of new) claim error
+    IsCheckFault error = (error ≡ checks.Memory) ⊎ IsFirstFault (view_in old new claim) (shape_of old) (shape_of new) claim error
 
     has_first : (error : CertError) → (error ≡ checks.Memory → ⊥) → IsCheckFault error → HasFirstFault old new bytes error
     has_first error other (inl memory) = absurd (other memory)
@@ -122,8 +122,8 @@ module _ (old new : Parts) (bytes : Text) where
 
     no_bad_check : IsCheckFault checks.BadText → ⊥
     no_bad_check (inl memory) = cc
-    no_bad_check (inr (inl first)) = no_bad_text (sight_in old new claim) (shape_of old) (shape_of new) claim.bounds claim.root first
-    no_bad_check (inr (inr witness)) = no_bad_witness (sight_in old new claim) (shape_of old) (shape_of new) claim claim.witness witness.1
+    no_bad_check (inr (inl first)) = no_bad_text (view_in old new claim) (shape_of old) (shape_of new) claim.bounds claim.root first
+    no_bad_check (inr (inr witness)) = no_bad_witness (view_in old new claim) (shape_of old) (shape_of new) claim claim.witness witness.1
 
     -- the checker's error is the first fault
     pub check_fault : (error : CertError) → (error ≡ checks.Memory → ⊥) → IsCheckFault error → IsFaultOfClaim old new bytes error

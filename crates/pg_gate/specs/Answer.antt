@@ -1,5 +1,5 @@
 -- What the gate answers of the old and the new message type of one full name. What contracts see of a certificate is a claim. A view says
--- which numbers of two enums are the same item, and a sight also which of the others is least; `gate` compares enums by their numbers.
+-- which numbers of two enums are the same item, and an enum view also which of the others is least; `gate` compares enums by their numbers.
 use Rattle.std.specs.Prelude.{◌≡◌, ◌≢◌, ◌≤◌, length, true, Some, None}
 use Rattle.clap.specs.Words.{Text}
 use Rattle.pg_schema.specs.declared.field.TypeId.{TypeId}
@@ -17,7 +17,7 @@ use Rattle.pg_dyn.specs.Message.{IsPlain, Message, unknown_of}
 use Rattle.pg_dyn.specs.Writing.{bytes_of}
 use Rattle.pg_dyn.specs.declared.view_name.ViewName.TheVariants as views
 use Rattle.pg_pairs.specs.declared.choice.Pair.{Pair}
-use Rattle.pg_pairs.specs.Sight.{Sight, by_numbers}
+use Rattle.pg_pairs.specs.EnumView.{EnumView, by_numbers}
 use Rattle.pg_cert.specs.Bounds.{bound_in}
 use Rattle.pg_cert.specs.Certificate.{Claim, Holds}
 use Rattle.pg_least.specs.Exact.{IsSearched}
@@ -60,35 +60,35 @@ pub record IsLost (view : View) (old new : Shape) (pair : Pair) (message : Messa
 
 -- No message breaks: each message that the old writer encodes the new reader sees whole. The certificate is that of the root types, and
 -- it passes the checker; each bound in it is least. The root's bound in it is 'none', and there is no witness.
-pub record IsCompatible (sight : Sight) (old new : Parts) (root : Text) (certificate : Claim) : Type 0 where
+pub record IsCompatible (enum_view : EnumView) (old new : Parts) (root : Text) (certificate : Claim) : Type 0 where
   pub roots : AreRoots old new root certificate.root
-  pub each_is_seen : (message : Message) → OldWrites (shape_of old) certificate.root message → NewSees sight.alike (shape_of old) (shape_of new) certificate.root message
-  pub passes : Holds sight (shape_of old) (shape_of new) certificate
-  pub searched : IsSearched sight (shape_of old) (shape_of new) certificate.root certificate
+  pub each_is_seen : (message : Message) → OldWrites (shape_of old) certificate.root message → NewSees enum_view.alike (shape_of old) (shape_of new) certificate.root message
+  pub passes : Holds enum_view (shape_of old) (shape_of new) certificate
+  pub searched : IsSearched enum_view (shape_of old) (shape_of new) certificate.root certificate
   pub bound_is_none : bound_in certificate.bounds certificate.root ≡ Some None
   pub no_witness : certificate.witness ≡ None
-  pub compatible : Compatible sight.alike (shape_of old) (shape_of new) certificate.root.old certificate.root.new
+  pub compatible : Compatible enum_view.alike (shape_of old) (shape_of new) certificate.root.old certificate.root.new
 
 -- The witness is a message of the old root type, without unknown records, and it breaks: the new reader doesn't see it whole. No message
 -- that the old writer encodes and the new reader doesn't see whole has fewer bytes. The certificate is that of the root types, and it
 -- passes the checker; each bound in it is least. The witness's bytes stand in it.
-pub record IsBroken (sight : Sight) (old new : Parts) (root : Text) (witness : Kept) (certificate : Claim) : Type 0 where
+pub record IsBroken (enum_view : EnumView) (old new : Parts) (root : Text) (witness : Kept) (certificate : Claim) : Type 0 where
   pub roots : AreRoots old new root certificate.root
   pub fits : Fits (shape_of old) witness
   pub type_is : type_of witness ≡ certificate.root.old
-  pub lost : IsLost sight.alike (shape_of old) (shape_of new) certificate.root (message_of witness)
-  pub none_shorter : (message : Message) → IsLost sight.alike (shape_of old) (shape_of new) certificate.root message
+  pub lost : IsLost enum_view.alike (shape_of old) (shape_of new) certificate.root (message_of witness)
+  pub none_shorter : (message : Message) → IsLost enum_view.alike (shape_of old) (shape_of new) certificate.root message
       → length (enc (shape_of old) certificate.root.old (message_of witness)) ≤ length (enc (shape_of old) certificate.root.old message)
-  pub passes : Holds sight (shape_of old) (shape_of new) certificate
-  pub searched : IsSearched sight (shape_of old) (shape_of new) certificate.root certificate
-  pub breaks : Breaks sight.alike (shape_of old) (shape_of new) certificate.root.old certificate.root.new (message_of witness)
-  pub least : Least sight.alike (shape_of old) (shape_of new) certificate.root.old certificate.root.new (length (enc (shape_of old) certificate.root.old (message_of witness)))
+  pub passes : Holds enum_view (shape_of old) (shape_of new) certificate
+  pub searched : IsSearched enum_view (shape_of old) (shape_of new) certificate.root certificate
+  pub breaks : Breaks enum_view.alike (shape_of old) (shape_of new) certificate.root.old certificate.root.new (message_of witness)
+  pub least : Least enum_view.alike (shape_of old) (shape_of new) certificate.root.old certificate.root.new (length (enc (shape_of old) certificate.root.old (message_of witness)))
   pub bytes_are : certificate.witness ≡ Some (enc (shape_of old) certificate.root.old (message_of witness))
 
--- One of the two, under a sight.
-abbrev pub IsAnswerBy : Sight → Parts → Parts → Text → Answer → Type 0
-IsAnswerBy sight old new root (answers.Compatible certificate) = IsCompatible sight old new root certificate
-IsAnswerBy sight old new root (answers.Breaks witness certificate) = IsBroken sight old new root witness certificate
+-- One of the two, under an enum view.
+abbrev pub IsAnswerBy : EnumView → Parts → Parts → Text → Answer → Type 0
+IsAnswerBy enum_view old new root (answers.Compatible certificate) = IsCompatible enum_view old new root certificate
+IsAnswerBy enum_view old new root (answers.Breaks witness certificate) = IsBroken enum_view old new root witness certificate
 
 abbrev pub certificate_of : Answer → Claim
 certificate_of (answers.Compatible certificate) = certificate

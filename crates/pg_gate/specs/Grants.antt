@@ -5,7 +5,7 @@ use Rattle.pg_cert.specs.Certificate.{Claim}
 use Rattle.pg_cert.specs.Text.{Certifies, IsSecondText}
 use Rattle.pg_dyn.specs.declared.view_name.ViewName.{ViewName}
 use Rattle.pg_dyn.specs.Kept.{Kept}
-use Rattle.pg_pairs.specs.NamedSight.{sight_named}
+use Rattle.pg_pairs.specs.NamedView.{seen_under}
 use Rattle.pg_schema.specs.declared.parts.Parts.{Parts}
 use Rattle.pg_gate.specs.Call.{Request, compile, gate, show, verify}
 use Rattle.pg_link.specs.Walk.{World, world}
@@ -69,7 +69,7 @@ IsAnswerOfFiles root old new answer = Between old new (λ a b. IsAnswer a b root
 pub record IsShownCompatible (view : ViewName) (old new : Parts) (root : Text) : Type 0 where
   pub certificate : Claim
   pub named : certificate.view ≡ view
-  pub compatible : IsCompatible (sight_named view old new) old new root certificate
+  pub compatible : IsCompatible (seen_under view old new) old new root certificate
 
 -- The bytes are those of a message that breaks under the view, and no message that breaks has fewer, as some certificate shows. The steps
 -- are those of the certificate's witness.
@@ -77,7 +77,7 @@ pub record IsLeastWitness (view : ViewName) (old new : Parts) (root : Text) (byt
   pub message : Kept
   pub certificate : Claim
   pub named : certificate.view ≡ view
-  pub broken : IsBroken (sight_named view old new) old new root message certificate
+  pub broken : IsBroken (seen_under view old new) old new root message certificate
   pub bytes_are : certificate.witness ≡ Some bytes
   pub are_steps : AreSteps old new certificate steps
 

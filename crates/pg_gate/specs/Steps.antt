@@ -5,9 +5,9 @@ use Rattle.std.specs.Option.{option_map_or}
 use Rattle.clap.specs.Words.{Text}
 use Rattle.pg_cert.specs.Bounds.{bound_in}
 use Rattle.pg_cert.specs.Certificate.{Claim}
-use Rattle.pg_cert.specs.ClaimSight.{sight_in}
+use Rattle.pg_cert.specs.ClaimView.{view_in}
 use Rattle.pg_cert.specs.Text.{names_of}
-use Rattle.pg_least.specs.Descent.{IsWay}
+use Rattle.pg_least.specs.Descent.{IsPath}
 use Rattle.pg_least.specs.declared.witness.Step as stages
 use Rattle.pg_pairs.specs.declared.choice.Choice.{Choice}
 use Rattle.pg_pairs.specs.declared.choice.Pair.{Pair}
@@ -41,9 +41,9 @@ steps_by old new stage = map (named_at old new stage.pair) (numbers_of stage.cho
 abbrev pub named : Step → NamedStep
 named step = record { number = step.number; old = string_bytes step.old.name; new = string_bytes step.new.name }
 
--- The steps are the fields of the choices on the witness's way, root first: from the claim's root by the cheapest choice of each pair to
+-- The steps are the fields of the choices on the witness's path, root first: from the claim's root by the cheapest choice of each pair to
 -- the pair of the message that the choice holds. Enums are compared by the view that the claim names.
 pub record AreSteps (old new : Parts) (claim : Claim) (steps : List Step) : Type 0 where
-  pub way : List stages.Step
-  pub is_way : IsWay (sight_in old new claim) (shape_of old) (shape_of new) (bound_in claim.bounds) claim.root way
-  pub are : map named steps ≡ flat_map (steps_by old new) way
+  pub path : List stages.Step
+  pub is_path : IsPath (view_in old new claim) (shape_of old) (shape_of new) (bound_in claim.bounds) claim.root path
+  pub are : map named steps ≡ flat_map (steps_by old new) path

@@ -6,7 +6,7 @@ use Rattle.pg_dyn.specs.declared.view_name.ViewName.{ViewName}
 use Rattle.pg_dyn.specs.Encoding.{cap, enc}
 use Rattle.pg_dyn.specs.Kept.{Kept, message_of, type_of}
 use Rattle.pg_pairs.specs.declared.choice.Pair.{Pair}
-use Rattle.pg_pairs.specs.Sight.{Sight, IsSight}
+use Rattle.pg_pairs.specs.EnumView.{EnumView, IsEnumView}
 use Rattle.pg_pairs.specs.Choices.{number_for}
 use Rattle.pg_pairs.specs.Covering.{children, distinct, same_pair, Covers}
 use Rattle.pg_pairs.specs.Laws.{ExactIsLeast, NoneIsCompatible, ReachedBy}
@@ -48,21 +48,21 @@ pub never_empty : (bytes : List ℕ) → 1 ≤ length bytes → is_witness (Some
 never_empty [] some h = omega arith
 never_empty (byte ∷ bytes) some h = cc
 
-module _ (sight : Sight) (old new : Shape) (law : IsSight sight) (shape_old : IsShape old) (shape_new : IsShape new) (least : ExactIsLeast) (none : NoneIsCompatible) (view : ViewName) (root : Pair) (bounds : List PairBound) (table : IsTableOf sight old new root bounds) where
-  covers : Covers sight old new (bound_in bounds) root
+module _ (enum_view : EnumView) (old new : Shape) (law : IsEnumView enum_view) (shape_old : IsShape old) (shape_new : IsShape new) (least : ExactIsLeast) (none : NoneIsCompatible) (view : ViewName) (root : Pair) (bounds : List PairBound) (table : IsTableOf enum_view old new root bounds) where
+  covers : Covers enum_view old new (bound_in bounds) root
   covers = record {
     root_there = first_there bounds root (filter (λ q. not (same_pair root q)) (distinct (flat_map (children old new) (pairs_of bounds)))) table.reached.in_order;
     each = λ pair bound is. (table.exact pair bound is).covered;
   }
 
-  says : (pair : Pair) (bound : Option ℕ) → bound_in bounds pair ≡ Some bound → BoundSays sight old new pair bound
-  says pair (Some n) is = least sight old new (bound_in bounds) law shape_old shape_new table.exact pair n is
-  says pair None is = none sight old new (bound_in bounds) root law shape_old shape_new covers pair is
+  says : (pair : Pair) (bound : Option ℕ) → bound_in bounds pair ≡ Some bound → BoundSays enum_view old new pair bound
+  says pair (Some n) is = least enum_view old new (bound_in bounds) law shape_old shape_new table.exact pair n is
+  says pair None is = none enum_view old new (bound_in bounds) root law shape_old shape_new covers pair is
 
   abbrev pub claim : Option (List ℕ) → Claim
   claim witness = record { view = view; root = root; bounds = bounds; witness = witness }
 
-  searched : (witness : Option (List ℕ)) → IsWitnessedIfThere sight old new root (bound_in bounds root) witness → is_some witness ≡ is_some (number_for (bound_in bounds) root) → IsSearched sight old new root (claim witness)
+  searched : (witness : Option (List ℕ)) → IsWitnessedIfThere enum_view old new root (bound_in bounds root) witness → is_some witness ≡ is_some (number_for (bound_in bounds) root) → IsSearched enum_view old new root (claim witness)
   searched witness witnessed where_it_breaks = record {
     root_is = refl;
     holds = record { covers = covers; witnessed = witnessed };
@@ -72,18 +72,18 @@ module _ (sight : Sight) (old new : Shape) (law : IsSight sight) (shape_old : Is
     says = says;
   }
 
-  pub searched_none : is_some (number_for (bound_in bounds) root) ≡ false → IsSearched sight old new root (claim None)
+  pub searched_none : is_some (number_for (bound_in bounds) root) ≡ false → IsSearched enum_view old new root (claim None)
   searched_none no_number = searched None tt (sym no_number)
 
   -- with a message of as many bytes as the root's bound says
-  module _ (kept : Kept) (type_is : type_of kept ≡ root.old) (n : ℕ) (number : bound_in bounds root ≡ Some (Some n)) (reached : ReachedBy sight old new root (message_of kept) n) (bytes : List ℕ) (written : bytes ≡ enc old (type_of kept) (message_of kept)) where
+  module _ (kept : Kept) (type_is : type_of kept ≡ root.old) (n : ℕ) (number : bound_in bounds root ≡ Some (Some n)) (reached : ReachedBy enum_view old new root (message_of kept) n) (bytes : List ℕ) (written : bytes ≡ enc old (type_of kept) (message_of kept)) where
     of_root : bytes ≡ enc old root.old (message_of kept)
     of_root = written ∙ ap (λ t. enc old t (message_of kept)) type_is
 
     pub bytes_length : length bytes ≡ n
     bytes_length = ap length of_root ∙ reached.1
 
-    pub searched_some : IsSearched sight old new root (claim (Some bytes))
+    pub searched_some : IsSearched enum_view old new root (claim (Some bytes))
     searched_some =
         searched (Some bytes)
         (record {

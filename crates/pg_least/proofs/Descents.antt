@@ -1,4 +1,4 @@
--- The way down of a witness, by the cheapest choices.
+-- The path down of a witness, by the cheapest choices.
 use Rattle.std.proofs.Common.{◌≡◌, ℕ, ◌<◌, ◌≤◌, List, [], ◌∷◌, ◌++◌, length, true, is_some, option_and_then, Option, Some, None, ⊎_elim, refl, ap, sym, ◌∙◌, subst, arith}
 use Rattle.std.specs.List.{AllByRecursion}
 use Rattle.std.proofs.lemmas.Bool.{cases_lt}
@@ -9,7 +9,7 @@ use Rattle.pg_dyn.specs.Fits.{Fits}
 use Rattle.pg_dyn.specs.Kept.{Kept, message_of, type_of}
 use Rattle.pg_pairs.specs.declared.choice.Choice.{Choice}
 use Rattle.pg_pairs.specs.declared.choice.Pair.{Pair}
-use Rattle.pg_pairs.specs.Sight.{Sight}
+use Rattle.pg_pairs.specs.EnumView.{EnumView}
 use Rattle.pg_pairs.specs.Carried.{ChildReached, ChildThere, choice_child, IsChoiceRound, IsOfPair}
 use Rattle.pg_pairs.specs.Cheapest.{cheapest, IsCheapest, CheapestIsLeast}
 use Rattle.pg_pairs.specs.Choices.{Table, number_for, all_choices, affordable, choices}
@@ -17,7 +17,7 @@ use Rattle.pg_pairs.specs.Covering.{IsWithin}
 use Rattle.pg_pairs.specs.Laws.{ReachedBy}
 use Rattle.pg_pairs.specs.Among.{IsAmong}
 use Rattle.pg_least.specs.declared.witness.Step.{Step}
-use Rattle.pg_least.specs.Descent.{IsExactTable, IsStep, IsWay, IsWayDown, IsWholeWay, first_step}
+use Rattle.pg_least.specs.Descent.{IsExactTable, IsStep, IsPath, IsPathDown, IsWholePath, first_step}
 
 among_each : {A : Type 0} (P : A → Type 0) (x : A) (xs : List A) → IsAmong x xs → AllByRecursion P xs → P x
 among_each P x [] among h = absurd among
@@ -42,101 +42,101 @@ pub first_on : (steps : List Step) (last next : Step) → first_step (steps ++ l
 first_on [] last next = refl
 first_on (s ∷ steps) last next = refl
 
-module _ (sight : Sight) (old new : Shape) (table : Table) where
+module _ (enum_view : EnumView) (old new : Shape) (table : Table) where
   -- a type with a choice is there
-  pub type_there : (pair : Pair) (c : Choice) → IsAmong c (choices sight table old new pair) → pair.old.index < length old
+  pub type_there : (pair : Pair) (c : Choice) → IsAmong c (choices enum_view table old new pair) → pair.old.index < length old
   type_there pair c among =
       ⊎_elim (λ h. h) (λ past.
       let none : fields old pair.old ≡ [] = get_or_past old pair.old.index [] past in
-      absurd (subst (λ fs. IsAmong c (affordable (all_choices sight table (fields new pair.new) fs))) none among)) (cases_lt pair.old.index (length old))
+      absurd (subst (λ fs. IsAmong c (affordable (all_choices enum_view table (fields new pair.new) fs))) none among)) (cases_lt pair.old.index (length old))
 
-  module _ (exact : IsExactTable sight old new table) (least : CheapestIsLeast) (pair : Pair) (number : is_some (number_for table pair) ≡ true) where
-    is_cheapest : (o : Option Choice) → cheapest (choices sight table old new pair) ≡ o → IsCheapest o (choices sight table old new pair)
-    is_cheapest o is = subst (λ x. IsCheapest x (choices sight table old new pair)) is (least (choices sight table old new pair))
+  module _ (exact : IsExactTable enum_view old new table) (least : CheapestIsLeast) (pair : Pair) (number : is_some (number_for table pair) ≡ true) where
+    is_cheapest : (o : Option Choice) → cheapest (choices enum_view table old new pair) ≡ o → IsCheapest o (choices enum_view table old new pair)
+    is_cheapest o is = subst (λ x. IsCheapest x (choices enum_view table old new pair)) is (least (choices enum_view table old new pair))
 
     -- the cheapest choice costs what the bound says
-    pub cheapest_step : (c : Choice) → cheapest (choices sight table old new pair) ≡ Some c → IsStep sight old new table (record { pair = pair; choice = c })
+    pub cheapest_step : (c : Choice) → cheapest (choices enum_view table old new pair) ≡ Some c → IsStep enum_view old new table (record { pair = pair; choice = c })
     cheapest_step c is =
         let (n, there) = number_there table pair number in
         let (d, chosen, cost) = (exact pair (Some n) there).chosen n refl in
         let (among, all) = is_cheapest (Some c) is in
-        let above : c.cost ≤ d.cost = among_each (λ (x : Choice). c.cost ≤ x.cost) d (choices sight table old new pair) chosen all in
-        let below : n ≤ c.cost = among_each (λ (x : Choice). IsWithin (Some n) x.cost) c (choices sight table old new pair) among (exact pair (Some n) there).covered.bound_below in
+        let above : c.cost ≤ d.cost = among_each (λ (x : Choice). c.cost ≤ x.cost) d (choices enum_view table old new pair) chosen all in
+        let below : n ≤ c.cost = among_each (λ (x : Choice). IsWithin (Some n) x.cost) c (choices enum_view table old new pair) among (exact pair (Some n) there).covered.bound_below in
         let same : n ≡ c.cost = omega arith in
         record { is_first = is; among = among; costs = there ∙ ap (λ x. Some (Some x)) same }
 
-    pub never_none : cheapest (choices sight table old new pair) ≡ None → ⊥
+    pub never_none : cheapest (choices enum_view table old new pair) ≡ None → ⊥
     never_none is =
         let (n, there) = number_there table pair number in
         let (d, chosen, cost) = (exact pair (Some n) there).chosen n refl in
         subst (IsAmong d) (is_cheapest None is) chosen
 
   -- One step more at the end.
-  pub way_on : (steps : List Step) (last next : Step) → IsWayDown sight old new table steps last → choice_child old new last.pair last.choice ≡ Some next.pair → IsStep sight old new table next → IsWayDown sight old new table (steps ++ last ∷ []) next
-  way_on [] last next way child step = (way, child, step)
-  way_on (s ∷ steps) last next (here, down, later) child step =
-      (here, down ∙ ap (λ (x : Step). Some x.pair) (sym (first_on steps last next)), way_on steps last next later child step)
+  pub path_on : (steps : List Step) (last next : Step) → IsPathDown enum_view old new table steps last → choice_child old new last.pair last.choice ≡ Some next.pair → IsStep enum_view old new table next → IsPathDown enum_view old new table (steps ++ last ∷ []) next
+  path_on [] last next path child step = (path, child, step)
+  path_on (s ∷ steps) last next (here, down, later) child step =
+      (here, down ∙ ap (λ (x : Step). Some x.pair) (sym (first_on steps last next)), path_on steps last next later child step)
 
-  -- the last step of a way, and the way without it
-  pub last_step : (steps : List Step) (last : Step) → IsWayDown sight old new table steps last → IsStep sight old new table last
-  last_step [] last way = way
-  last_step (s ∷ steps) last way = last_step steps last way.2
+  -- the last step of a path, and the path without it
+  pub last_step : (steps : List Step) (last : Step) → IsPathDown enum_view old new table steps last → IsStep enum_view old new table last
+  last_step [] last path = path
+  last_step (s ∷ steps) last path = last_step steps last path.2
 
-  pub way_off : (steps : List Step) (s last : Step) → IsWayDown sight old new table (steps ++ s ∷ []) last → IsWayDown sight old new table steps s × (choice_child old new s.pair s.choice ≡ Some last.pair)
-  way_off [] s last (here, down, later) = (here, down)
-  way_off (x ∷ steps) s last (here, down, later) =
-      let (way, child) = way_off steps s last later in
-      ((here, down ∙ ap (λ (y : Step). Some y.pair) (first_on steps s last), way), child)
+  pub path_off : (steps : List Step) (s last : Step) → IsPathDown enum_view old new table (steps ++ s ∷ []) last → IsPathDown enum_view old new table steps s × (choice_child old new s.pair s.choice ≡ Some last.pair)
+  path_off [] s last (here, down, later) = (here, down)
+  path_off (x ∷ steps) s last (here, down, later) =
+      let (path, child) = path_off steps s last later in
+      ((here, down ∙ ap (λ (y : Step). Some y.pair) (first_on steps s last), path), child)
 
-  -- The steps to a last one without a child, and this one, are the way from the first one's pair.
-  pub whole_is_way : (steps : List Step) (last : Step) → IsWayDown sight old new table steps last → choice_child old new last.pair last.choice ≡ None
-      → IsWay sight old new table (first_step steps last).pair (steps ++ last ∷ [])
-  whole_is_way [] last step ends = (refl, step.is_first, ends)
-  whole_is_way (s ∷ []) last (here, down, later) ends = (refl, here.is_first, down, whole_is_way [] last later ends)
-  whole_is_way (s ∷ t ∷ steps) last (here, down, later) ends = (refl, here.is_first, down, whole_is_way (t ∷ steps) last later ends)
+  -- The steps to a last one without a child, and this one, are the path from the first one's pair.
+  pub whole_is_path : (steps : List Step) (last : Step) → IsPathDown enum_view old new table steps last → choice_child old new last.pair last.choice ≡ None
+      → IsPath enum_view old new table (first_step steps last).pair (steps ++ last ∷ [])
+  whole_is_path [] last step ends = (refl, step.is_first, ends)
+  whole_is_path (s ∷ []) last (here, down, later) ends = (refl, here.is_first, down, whole_is_path [] last later ends)
+  whole_is_path (s ∷ t ∷ steps) last (here, down, later) ends = (refl, here.is_first, down, whole_is_path (t ∷ steps) last later ends)
 
   -- The child of a step costs less than it.
   pub child_number : (child : Pair) (c : Choice) (o : Option Pair) → o ≡ Some child → ChildThere table o c.cost → (n : ℕ) × (table child ≡ Some (Some n)) × (n < c.cost)
   child_number child c o is there = subst (λ x. ChildThere table x c.cost) is there
 
-  pub costs_less : (child : Pair) (c : Choice) (o : Option Pair) (next : Step) → o ≡ Some child → ChildThere table o c.cost → next.pair ≡ child → IsStep sight old new table next → next.choice.cost < c.cost
+  pub costs_less : (child : Pair) (c : Choice) (o : Option Pair) (next : Step) → o ≡ Some child → ChildThere table o c.cost → next.pair ≡ child → IsStep enum_view old new table next → next.choice.cost < c.cost
   costs_less child c o next is there at step =
       let (n, bound, less) = child_number child c o is there in
       let same : next.choice.cost ≡ n = same_number (sym (ap table at) ∙ step.costs) bound in
       omega arith
 
   -- What is given to a step's message: nothing, or the message of its child.
-  pub no_child : (o : Option Pair) → o ≡ None → ChildReached sight old new table o None
-  no_child o is = subst (λ x. ChildReached sight old new table x None) (sym is) tt
+  pub no_child : (o : Option Pair) → o ≡ None → ChildReached enum_view old new table o None
+  no_child o is = subst (λ x. ChildReached enum_view old new table x None) (sym is) tt
 
-  pub child_given : (o : Option Pair) (last : Step) (m : Message) → o ≡ Some last.pair → IsStep sight old new table last → ReachedBy sight old new last.pair m last.choice.cost → ChildReached sight old new table o (Some m)
-  child_given o last m is step reached = subst (λ x. ChildReached sight old new table x (Some m)) (sym is) (last.choice.cost, step.costs, reached)
+  pub child_given : (o : Option Pair) (last : Step) (m : Message) → o ≡ Some last.pair → IsStep enum_view old new table last → ReachedBy enum_view old new last.pair m last.choice.cost → ChildReached enum_view old new table o (Some m)
+  child_given o last m is step reached = subst (λ x. ChildReached enum_view old new table x (Some m)) (sym is) (last.choice.cost, step.costs, reached)
 
--- The message of the last of these steps, on the way to which stands that first one.
-pub record IsInside (sight : Sight) (old new : Shape) (first : Step) (steps : List Step) (m : Kept) : Type 0 where
+-- The message of the last of these steps, on the path to which stands that first one.
+pub record IsInside (enum_view : EnumView) (old new : Shape) (first : Step) (steps : List Step) (m : Kept) : Type 0 where
   pub table : Table
   pub last : Step
-  pub way : IsWayDown sight old new table steps last
+  pub path : IsPathDown enum_view old new table steps last
   pub first_is : first_step steps last ≡ first
   pub fits : Fits old m
   pub type_is : type_of m ≡ last.pair.old
-  pub reached : ReachedBy sight old new last.pair (message_of m) last.choice.cost
+  pub reached : ReachedBy enum_view old new last.pair (message_of m) last.choice.cost
 
-module _ (sight : Sight) (old new : Shape) where
+module _ (enum_view : EnumView) (old new : Shape) where
   -- the last step's choice has no child
-  pub last_round : (table : Table) (steps : List Step) (last : Step) → IsWholeWay sight old new table steps last → IsChoiceRound sight old new last.pair last.choice None
+  pub last_round : (table : Table) (steps : List Step) (last : Step) → IsWholePath enum_view old new table steps last → IsChoiceRound enum_view old new last.pair last.choice None
   last_round table steps last whole = record {
     table = table;
-    among = (last_step sight old new table steps last whole.way).among;
-    reached = no_child sight old new table (choice_child old new last.pair last.choice) whole.ends;
+    among = (last_step enum_view old new table steps last whole.path).among;
+    reached = no_child enum_view old new table (choice_child old new last.pair last.choice) whole.ends;
     of_pair = subst (λ o. IsOfPair o None) (sym whole.ends) tt;
   }
 
-  pub innermost : (table : Table) (steps : List Step) (last : Step) (m : Kept) → IsWholeWay sight old new table steps last → Fits old m → type_of m ≡ last.pair.old → ReachedBy sight old new last.pair (message_of m) last.choice.cost → IsInside sight old new (first_step steps last) steps m
+  pub innermost : (table : Table) (steps : List Step) (last : Step) (m : Kept) → IsWholePath enum_view old new table steps last → Fits old m → type_of m ≡ last.pair.old → ReachedBy enum_view old new last.pair (message_of m) last.choice.cost → IsInside enum_view old new (first_step steps last) steps m
   innermost table steps last m whole fits type_is reached = record {
     table = table;
     last = last;
-    way = whole.way;
+    path = whole.path;
     first_is = refl;
     fits = fits;
     type_is = type_is;
@@ -144,26 +144,26 @@ module _ (sight : Sight) (old new : Shape) where
   }
 
   -- the message inside is that of the next step's child
-  pub next_round : (first step : Step) (steps all : List Step) (inner : Kept) → IsInside sight old new first all inner → all ≡ steps ++ step ∷ [] → IsChoiceRound sight old new step.pair step.choice (Some inner)
+  pub next_round : (first step : Step) (steps all : List Step) (inner : Kept) → IsInside enum_view old new first all inner → all ≡ steps ++ step ∷ [] → IsChoiceRound enum_view old new step.pair step.choice (Some inner)
   next_round first step steps all inner inside is =
-      let whole : IsWayDown sight old new inside.table (steps ++ step ∷ []) inside.last = subst (λ ss. IsWayDown sight old new inside.table ss inside.last) is inside.way in
-      let (way, child) = way_off sight old new inside.table steps step inside.last whole in
+      let whole : IsPathDown enum_view old new inside.table (steps ++ step ∷ []) inside.last = subst (λ ss. IsPathDown enum_view old new inside.table ss inside.last) is inside.path in
+      let (path, child) = path_off enum_view old new inside.table steps step inside.last whole in
       record {
         table = inside.table;
-        among = (last_step sight old new inside.table steps step way).among;
-        reached = child_given sight old new inside.table (choice_child old new step.pair step.choice) inside.last (message_of inner) child (last_step sight old new inside.table all inside.last inside.way) inside.reached;
+        among = (last_step enum_view old new inside.table steps step path).among;
+        reached = child_given enum_view old new inside.table (choice_child old new step.pair step.choice) inside.last (message_of inner) child (last_step enum_view old new inside.table all inside.last inside.path) inside.reached;
         of_pair = subst (λ o. IsOfPair o (Some inner)) (sym child) inside.type_is;
       }
 
   -- one step out
-  pub round : (first step : Step) (steps all : List Step) (inner m : Kept) → IsInside sight old new first all inner → all ≡ steps ++ step ∷ [] → Fits old m → type_of m ≡ step.pair.old → ReachedBy sight old new step.pair (message_of m) step.choice.cost → IsInside sight old new first steps m
+  pub round : (first step : Step) (steps all : List Step) (inner m : Kept) → IsInside enum_view old new first all inner → all ≡ steps ++ step ∷ [] → Fits old m → type_of m ≡ step.pair.old → ReachedBy enum_view old new step.pair (message_of m) step.choice.cost → IsInside enum_view old new first steps m
   round first step steps all inner m inside is fits type_is reached =
-      let whole : IsWayDown sight old new inside.table (steps ++ step ∷ []) inside.last = subst (λ ss. IsWayDown sight old new inside.table ss inside.last) is inside.way in
-      let (way, child) = way_off sight old new inside.table steps step inside.last whole in
+      let whole : IsPathDown enum_view old new inside.table (steps ++ step ∷ []) inside.last = subst (λ ss. IsPathDown enum_view old new inside.table ss inside.last) is inside.path in
+      let (path, child) = path_off enum_view old new inside.table steps step inside.last whole in
       record {
         table = inside.table;
         last = step;
-        way = way;
+        path = path;
         first_is = sym (first_on steps step inside.last) ∙ ap (λ ss. first_step ss inside.last) (sym is) ∙ inside.first_is;
         fits = fits;
         type_is = type_is;
@@ -171,7 +171,7 @@ module _ (sight : Sight) (old new : Shape) where
       }
 
   -- the type of a step that stands next is there
-  pub next_there : (first step : Step) (steps all : List Step) (inner : Kept) → IsInside sight old new first all inner → all ≡ steps ++ step ∷ [] → step.pair.old.index < length old
+  pub next_there : (first step : Step) (steps all : List Step) (inner : Kept) → IsInside enum_view old new first all inner → all ≡ steps ++ step ∷ [] → step.pair.old.index < length old
   next_there first step steps all inner inside is =
-      let whole : IsWayDown sight old new inside.table (steps ++ step ∷ []) inside.last = subst (λ ss. IsWayDown sight old new inside.table ss inside.last) is inside.way in
-      type_there sight old new inside.table step.pair step.choice (last_step sight old new inside.table steps step (way_off sight old new inside.table steps step inside.last whole).0).among
+      let whole : IsPathDown enum_view old new inside.table (steps ++ step ∷ []) inside.last = subst (λ ss. IsPathDown enum_view old new inside.table ss inside.last) is inside.path in
+      type_there enum_view old new inside.table step.pair step.choice (last_step enum_view old new inside.table steps step (path_off enum_view old new inside.table steps step inside.last whole).0).among

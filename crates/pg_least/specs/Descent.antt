@@ -2,7 +2,7 @@
 use Rattle.std.specs.Prelude.{◌≡◌, ℕ, List, [], ◌∷◌, Option, Some, None}
 use Rattle.pg_schema.specs.Shape.{Shape}
 use Rattle.pg_pairs.specs.declared.choice.Pair.{Pair}
-use Rattle.pg_pairs.specs.Sight.{Sight}
+use Rattle.pg_pairs.specs.EnumView.{EnumView}
 use Rattle.pg_pairs.specs.Carried.{choice_child}
 use Rattle.pg_pairs.specs.Cheapest.{cheapest}
 use Rattle.pg_pairs.specs.Choices.{Table, choices}
@@ -16,18 +16,18 @@ use Rattle.pg_pairs.specs.Reached.{IsReachedInOrder}
 use Rattle.pg_least.specs.declared.witness.Step.{Step}
 
 -- each bound of the table is the least cost of its pair's choices
-abbrev pub IsExactTable : Sight → Shape → Shape → Table → Type 0
-IsExactTable sight old new table = (pair : Pair) (bound : Option ℕ) → table pair ≡ Some bound → IsExact sight old new table pair bound
+abbrev pub IsExactTable : EnumView → Shape → Shape → Table → Type 0
+IsExactTable enum_view old new table = (pair : Pair) (bound : Option ℕ) → table pair ≡ Some bound → IsExact enum_view old new table pair bound
 
 -- Just the pairs that the root leads to, in order, each with the least cost of its choices.
-pub record IsTableOf (sight : Sight) (old new : Shape) (root : Pair) (bounds : List PairBound) : Type 0 where
+pub record IsTableOf (enum_view : EnumView) (old new : Shape) (root : Pair) (bounds : List PairBound) : Type 0 where
   pub reached : IsReachedInOrder (children old new) root (pairs_of bounds)
-  pub exact : IsExactTable sight old new (bound_in bounds)
+  pub exact : IsExactTable enum_view old new (bound_in bounds)
 
 -- the cheapest choice of the pair, which costs what the table says
-pub record IsStep (sight : Sight) (old new : Shape) (table : Table) (step : Step) : Type 0 where
-  pub is_first : cheapest (choices sight table old new step.pair) ≡ Some step.choice
-  pub among : IsAmong step.choice (choices sight table old new step.pair)
+pub record IsStep (enum_view : EnumView) (old new : Shape) (table : Table) (step : Step) : Type 0 where
+  pub is_first : cheapest (choices enum_view table old new step.pair) ≡ Some step.choice
+  pub among : IsAmong step.choice (choices enum_view table old new step.pair)
   pub costs : table step.pair ≡ Some (Some step.choice.cost)
 
 abbrev pub first_step : List Step → Step → Step
@@ -35,22 +35,22 @@ first_step [] last = last
 first_step (s ∷ ss) last = s
 
 -- Steps to a last one, each with the pair of the next for its child.
-abbrev pub IsWayDown : Sight → Shape → Shape → Table → List Step → Step → Type 0
-IsWayDown sight old new table [] last = IsStep sight old new table last
-IsWayDown sight old new table (s ∷ ss) last =
-    IsStep sight old new table s × (choice_child old new s.pair s.choice ≡ Some (first_step ss last).pair) × IsWayDown sight old new table ss last
+abbrev pub IsPathDown : EnumView → Shape → Shape → Table → List Step → Step → Type 0
+IsPathDown enum_view old new table [] last = IsStep enum_view old new table last
+IsPathDown enum_view old new table (s ∷ ss) last =
+    IsStep enum_view old new table s × (choice_child old new s.pair s.choice ≡ Some (first_step ss last).pair) × IsPathDown enum_view old new table ss last
 
 -- the last of them has no child
-pub record IsWholeWay (sight : Sight) (old new : Shape) (table : Table) (steps : List Step) (last : Step) : Type 0 where
-  pub way : IsWayDown sight old new table steps last
+pub record IsWholePath (enum_view : EnumView) (old new : Shape) (table : Table) (steps : List Step) (last : Step) : Type 0 where
+  pub path : IsPathDown enum_view old new table steps last
   pub ends : choice_child old new last.pair last.choice ≡ None
 
--- The way of a witness: from the pair by its cheapest choice, of several the first, to the choice's child, and so on from there, as long
--- as there is a child. A table has one way from a pair.
-abbrev pub IsWay : Sight → Shape → Shape → Table → Pair → List Step → Type 0
-IsWay sight old new table pair [] = ⊥
-IsWay sight old new table pair (s ∷ []) =
-    (s.pair ≡ pair) × (cheapest (choices sight table old new pair) ≡ Some s.choice) × (choice_child old new pair s.choice ≡ None)
-IsWay sight old new table pair (s ∷ t ∷ steps) =
-    (s.pair ≡ pair) × (cheapest (choices sight table old new pair) ≡ Some s.choice) × (choice_child old new pair s.choice ≡ Some t.pair)
-    × IsWay sight old new table t.pair (t ∷ steps)
+-- The path of a witness: from the pair by its cheapest choice, of several the first, to the choice's child, and so on from there, as long
+-- as there is a child. A table has one path from a pair.
+abbrev pub IsPath : EnumView → Shape → Shape → Table → Pair → List Step → Type 0
+IsPath enum_view old new table pair [] = ⊥
+IsPath enum_view old new table pair (s ∷ []) =
+    (s.pair ≡ pair) × (cheapest (choices enum_view table old new pair) ≡ Some s.choice) × (choice_child old new pair s.choice ≡ None)
+IsPath enum_view old new table pair (s ∷ t ∷ steps) =
+    (s.pair ≡ pair) × (cheapest (choices enum_view table old new pair) ≡ Some s.choice) × (choice_child old new pair s.choice ≡ Some t.pair)
+    × IsPath enum_view old new table t.pair (t ∷ steps)

@@ -13,4 +13,4 @@ mod witness;
 
 pub use least_bounds::settle;
 pub use searching::{Found, find, find_with, search, search_counted, search_with};
-pub use witness::{Step, way};
+pub use witness::{Step, path};

@@ -8,8 +8,8 @@ ghost use Rattle.pg_dyn.specs.Kept.{message_of, type_of};
 ghost use Rattle.pg_dyn.specs.declared.view_name.ViewName.TheVariants as views;
 ghost use Rattle.pg_pairs.specs.Choices.{number_for};
 ghost use Rattle.pg_pairs.specs.Edges.{edges};
-ghost use Rattle.pg_pairs.specs.Sight.{by_numbers};
-ghost use Rattle.pg_pairs.specs.SightBy.{sight_by};
+ghost use Rattle.pg_pairs.specs.EnumView.{by_numbers};
+ghost use Rattle.pg_pairs.specs.SeenBy.{seen_by};
 ghost use Rattle.pg_cert.specs.Bounds.{bound_in};
 ghost use Rattle.pg_least.specs.Descent.{IsTableOf};
 ghost use Rattle.pg_least.specs.Exact.{IsBesideClaim, IsSearched};
@@ -59,14 +59,14 @@ fn broken<V: View>(
     root: Pair,
     bounds: Bounds,
 ) -> Result<Found, AllocError>
-    requires table { IsTableOf (sight_by V.View view.now old.now new.now) (shape_of old.now)
+    requires table { IsTableOf (seen_by V.View view.now old.now new.now) (shape_of old.now)
         (shape_of new.now) root bounds }
     requires number { is_some (number_for (bound_in bounds) root) ≡ true }
     ensures searched { IfOk result (λ found.
-        IsSearched (sight_by V.View view.now old.now new.now)
+        IsSearched (seen_by V.View view.now old.now new.now)
         (shape_of old.now) (shape_of new.now) root found.certificate) }
     ensures witness { IfOk result (λ found.
-        IsBesideClaim (sight_by V.View view.now old.now new.now)
+        IsBesideClaim (seen_by V.View view.now old.now new.now)
         (shape_of old.now) (shape_of new.now) found.certificate found.witness) }
     ensures bounds { IfOk result (λ found. found.certificate.bounds ≡ bounds) }
     ensures named { IfOk result (λ found. found.certificate.view ≡ V.NAME) }
@@ -92,12 +92,12 @@ fn broken<V: View>(
 
 // The certificate of a root that no message breaks.
 fn unbroken<V: View>(view: &V, old: &Schema, new: &Schema, root: Pair, bounds: Bounds) -> Found
-    requires table { IsTableOf (sight_by V.View view.now old.now new.now) (shape_of old.now)
+    requires table { IsTableOf (seen_by V.View view.now old.now new.now) (shape_of old.now)
         (shape_of new.now) root bounds }
     requires none { is_some (number_for (bound_in bounds) root) ≡ false }
-    ensures searched { IsSearched (sight_by V.View view.now old.now new.now) (shape_of old.now)
+    ensures searched { IsSearched (seen_by V.View view.now old.now new.now) (shape_of old.now)
         (shape_of new.now) root result.certificate }
-    ensures witness { IsBesideClaim (sight_by V.View view.now old.now new.now) (shape_of old.now)
+    ensures witness { IsBesideClaim (seen_by V.View view.now old.now new.now) (shape_of old.now)
         (shape_of new.now) result.certificate result.witness }
     ensures bounds { result.certificate.bounds ≡ bounds }
     ensures named { result.certificate.view ≡ V.NAME }
@@ -127,13 +127,13 @@ fn certified<V: View>(
     root: Pair,
     bounds: Bounds,
 ) -> Result<Found, AllocError>
-    requires { IsTableOf (sight_by V.View view.now old.now new.now) (shape_of old.now)
+    requires { IsTableOf (seen_by V.View view.now old.now new.now) (shape_of old.now)
         (shape_of new.now) root bounds }
     ensures searched { IfOk result (λ found.
-        IsSearched (sight_by V.View view.now old.now new.now)
+        IsSearched (seen_by V.View view.now old.now new.now)
         (shape_of old.now) (shape_of new.now) root found.certificate) }
     ensures witness { IfOk result (λ found.
-        IsBesideClaim (sight_by V.View view.now old.now new.now)
+        IsBesideClaim (seen_by V.View view.now old.now new.now)
         (shape_of old.now) (shape_of new.now) found.certificate found.witness) }
     ensures bounds { IfOk result (λ found. found.certificate.bounds ≡ bounds) }
     ensures named { IfOk result (λ found. found.certificate.view ≡ V.NAME) }
@@ -155,7 +155,7 @@ fn settled<V: View>(
     requires old_type { root.old.index < length (shape_of old.now) }
     requires new_type { root.new.index < length (shape_of new.now) }
     ensures table { IfOk result (λ found.
-        IsTableOf (sight_by V.View view.now old.now new.now)
+        IsTableOf (seen_by V.View view.now old.now new.now)
         (shape_of old.now) (shape_of new.now) root found.0) }
     ensures counted { IfOk result (λ found.
         IsCounted (edges (shape_of old.now) (shape_of new.now)) found.0 found.1) }
@@ -179,10 +179,10 @@ fn found_counted<V: View>(
     requires old_type { root.old.index < length (shape_of old.now) }
     requires new_type { root.new.index < length (shape_of new.now) }
     ensures searched { IfOk result (λ found.
-        IsSearched (sight_by V.View view.now old.now new.now)
+        IsSearched (seen_by V.View view.now old.now new.now)
         (shape_of old.now) (shape_of new.now) root found.0.certificate) }
     ensures witness { IfOk result (λ found.
-        IsBesideClaim (sight_by V.View view.now old.now new.now)
+        IsBesideClaim (seen_by V.View view.now old.now new.now)
         (shape_of old.now) (shape_of new.now) found.0.certificate found.0.witness) }
     ensures named { IfOk result (λ found. found.0.certificate.view ≡ V.NAME) }
     ensures counted { IfOk result (λ found.
@@ -210,10 +210,10 @@ pub fn find_with<V: View>(
     requires old_type { root.old.index < length (shape_of old.now) }
     requires new_type { root.new.index < length (shape_of new.now) }
     ensures searched { IfOk result (λ found.
-        IsSearched (sight_by V.View view.now old.now new.now)
+        IsSearched (seen_by V.View view.now old.now new.now)
         (shape_of old.now) (shape_of new.now) root found.certificate) }
     ensures witness { IfOk result (λ found.
-        IsBesideClaim (sight_by V.View view.now old.now new.now)
+        IsBesideClaim (seen_by V.View view.now old.now new.now)
         (shape_of old.now) (shape_of new.now) found.certificate found.witness) }
     ensures named { IfOk result (λ found. found.certificate.view ≡ V.NAME) }
 {
@@ -254,7 +254,7 @@ pub fn search_with<V: View>(
     requires old_type { root.old.index < length (shape_of old.now) }
     requires new_type { root.new.index < length (shape_of new.now) }
     ensures searched { IfOk result (λ certificate.
-        IsSearched (sight_by V.View view.now old.now new.now)
+        IsSearched (seen_by V.View view.now old.now new.now)
         (shape_of old.now) (shape_of new.now) root certificate) }
     ensures named { IfOk result (λ certificate. certificate.view ≡ V.NAME) }
 {

@@ -7,11 +7,11 @@ ghost use Rattle.pg_dyn.specs.Kept.{message_of, type_of};
 ghost use Rattle.pg_pairs.specs.Carried.{IsChoiceRound};
 ghost use Rattle.pg_pairs.specs.Choices.{Table, number_for};
 ghost use Rattle.pg_pairs.specs.Laws.{ReachedBy};
-ghost use Rattle.pg_pairs.specs.NamedSight.{sight_named};
-ghost use Rattle.pg_pairs.specs.SightBy.{sight_by};
+ghost use Rattle.pg_pairs.specs.NamedView.{seen_under};
+ghost use Rattle.pg_pairs.specs.SeenBy.{seen_by};
 ghost use Rattle.pg_cert.specs.Bounds.{bound_in};
-ghost use Rattle.pg_cert.specs.ClaimSight.{sight_in};
-ghost use Rattle.pg_least.specs.Descent.{IsExactTable, IsStep, IsWay, IsWholeWay, first_step};
+ghost use Rattle.pg_cert.specs.ClaimView.{view_in};
+ghost use Rattle.pg_least.specs.Descent.{IsExactTable, IsStep, IsPath, IsWholePath, first_step};
 ghost use Rattle.pg_least.specs.Exact.{IsSearched};
 
 use pg_cert::{Bounds, Certificate};
@@ -37,12 +37,12 @@ fn step_at<V: View>(
     bounds: &Bounds,
     pair: Pair,
 ) -> Result<Step, AllocError>
-    requires exact { IsExactTable (sight_by V.View view.now old.now new.now) (shape_of old.now)
+    requires exact { IsExactTable (seen_by V.View view.now old.now new.now) (shape_of old.now)
         (shape_of new.now) (bound_in bounds.now) }
     requires number { is_some (number_for (bound_in bounds.now) pair) ≡ true }
     ensures pair { IfOk result (λ step. step.pair ≡ pair) }
     ensures step { IfOk result (λ step.
-        IsStep (sight_by V.View view.now old.now new.now)
+        IsStep (seen_by V.View view.now old.now new.now)
         (shape_of old.now) (shape_of new.now) (bound_in bounds.now) step) }
 {
     // The cheapest choice costs what an exact bound says.
@@ -62,12 +62,12 @@ fn steps_down<V: View>(
     bounds: &Bounds,
     pair: Pair,
 ) -> Result<(Vec<Step>, Step), AllocError>
-    requires exact { IsExactTable (sight_by V.View view.now old.now new.now) (shape_of old.now)
+    requires exact { IsExactTable (seen_by V.View view.now old.now new.now) (shape_of old.now)
         (shape_of new.now) (bound_in bounds.now) }
     requires number { is_some (number_for (bound_in bounds.now) pair) ≡ true }
     ensures first { IfOk result (λ steps. (first_step steps.0.items steps.1).pair ≡ pair) }
     ensures whole { IfOk result (λ steps.
-        IsWholeWay (sight_by V.View view.now old.now new.now)
+        IsWholePath (seen_by V.View view.now old.now new.now)
         (shape_of old.now) (shape_of new.now) (bound_in bounds.now) steps.0.items steps.1) }
 {
     // What holds of every schema and every view, so that the costs fall.
@@ -94,12 +94,12 @@ fn carried<V: View>(
     child: Option<Message>,
 ) -> Result<Message, AllocError>
     requires child { IfSome child (Fits (shape_of old.now)) }
-    requires round { IsChoiceRound (sight_by V.View view.now old.now new.now) (shape_of old.now)
+    requires round { IsChoiceRound (seen_by V.View view.now old.now new.now) (shape_of old.now)
         (shape_of new.now) step.pair step.choice child }
     ensures fits { IfOk result (λ m. Fits (shape_of old.now) m) }
     ensures type_is { IfOk result (λ m. type_of m ≡ step.pair.old) }
     ensures reached { IfOk result (λ m.
-        ReachedBy (sight_by V.View view.now old.now new.now)
+        ReachedBy (seen_by V.View view.now old.now new.now)
         (shape_of old.now) (shape_of new.now) step.pair (message_of m) step.choice.cost) }
 {
     carry(alloc, view, old, new, step.pair, &step.choice, child)
@@ -114,13 +114,13 @@ fn built<V: View>(
     mut steps: Vec<Step>,
     last: Step,
 ) -> Result<Message, AllocError>
-    requires { (table : Table) × IsWholeWay
-        (sight_by V.View view.now old.now new.now)
+    requires { (table : Table) × IsWholePath
+        (seen_by V.View view.now old.now new.now)
         (shape_of old.now) (shape_of new.now) table steps.items last }
     ensures fits { IfOk result (λ m. Fits (shape_of old.now) m) }
     ensures type_is { IfOk result (λ m. type_of m ≡ (first_step steps.items last).pair.old) }
     ensures reached { IfOk result (λ m.
-        ReachedBy (sight_by V.View view.now old.now new.now)
+        ReachedBy (seen_by V.View view.now old.now new.now)
         (shape_of old.now) (shape_of new.now) (first_step steps.items last).pair (message_of m)
         (first_step steps.items last).choice.cost) }
 {
@@ -143,32 +143,32 @@ pub(crate) fn witness<V: View>(
     bounds: &Bounds,
     pair: Pair,
 ) -> Result<Message, AllocError>
-    requires exact { IsExactTable (sight_by V.View view.now old.now new.now) (shape_of old.now)
+    requires exact { IsExactTable (seen_by V.View view.now old.now new.now) (shape_of old.now)
         (shape_of new.now) (bound_in bounds.now) }
     requires number { is_some (number_for (bound_in bounds.now) pair) ≡ true }
     ensures fits { IfOk result (λ m. Fits (shape_of old.now) m) }
     ensures type_is { IfOk result (λ m. type_of m ≡ pair.old) }
     ensures reached { IfOk result (λ m. (bytes : ℕ) → bound_in bounds.now pair ≡ Some (Some bytes)
-        → ReachedBy (sight_by V.View view.now old.now new.now)
+        → ReachedBy (seen_by V.View view.now old.now new.now)
         (shape_of old.now) (shape_of new.now) pair (message_of m) bytes) }
 {
     let (steps, last) = steps_down(alloc, view, old, new, bounds, pair)?;
     built(alloc, view, old, new, steps, last)
 }
 
-// The way of the witness of a certificate that a search under the view answers.
-fn way_with<V: View>(
+// The path of the witness of a certificate that a search under the view answers.
+fn path_with<V: View>(
     alloc: Global,
     view: &V,
     old: &Schema,
     new: &Schema,
     certificate: &Certificate,
 ) -> Result<Vec<Step>, AllocError>
-    requires searched { IsSearched (sight_by V.View view.now old.now new.now) (shape_of old.now)
+    requires searched { IsSearched (seen_by V.View view.now old.now new.now) (shape_of old.now)
         (shape_of new.now) certificate.now.root certificate.now }
     requires breaks { is_some certificate.now.witness ≡ true }
-    ensures { IfOk result (λ steps. IsWay
-        (sight_by V.View view.now old.now new.now)
+    ensures { IfOk result (λ steps. IsPath
+        (seen_by V.View view.now old.now new.now)
         (shape_of old.now) (shape_of new.now) (bound_in certificate.now.bounds) certificate.now.root
         steps.items) }
 {
@@ -179,63 +179,63 @@ fn way_with<V: View>(
 }
 
 // The same by the name of the view.
-fn way_by_name<V: View>(
+fn path_by_name<V: View>(
     alloc: Global,
     view: &V,
     old: &Schema,
     new: &Schema,
     certificate: &Certificate,
 ) -> Result<Vec<Step>, AllocError>
-    requires searched { IsSearched (sight_named V.NAME old.now new.now) (shape_of old.now)
+    requires searched { IsSearched (seen_under V.NAME old.now new.now) (shape_of old.now)
         (shape_of new.now) certificate.now.root certificate.now }
     requires breaks { is_some certificate.now.witness ≡ true }
-    ensures { IfOk result (λ steps. IsWay (sight_named V.NAME old.now new.now)
+    ensures { IfOk result (λ steps. IsPath (seen_under V.NAME old.now new.now)
         (shape_of old.now) (shape_of new.now) (bound_in certificate.now.bounds) certificate.now.root
         steps.items) }
 {
     sees_by_name(view, old, new);
-    way_with(alloc, view, old, new, certificate)
+    path_with(alloc, view, old, new, certificate)
 }
 
-// The way of the witness of a certificate that a search under the view of that name answers.
-fn way_under(
+// The path of the witness of a certificate that a search under the view of that name answers.
+fn path_under(
     alloc: Global,
     old: &Schema,
     new: &Schema,
     certificate: &Certificate,
     view: ViewName,
 ) -> Result<Vec<Step>, AllocError>
-    requires searched { IsSearched (sight_named view old.now new.now) (shape_of old.now)
+    requires searched { IsSearched (seen_under view old.now new.now) (shape_of old.now)
         (shape_of new.now) certificate.now.root certificate.now }
     requires breaks { is_some certificate.now.witness ≡ true }
-    ensures { IfOk result (λ steps. IsWay (sight_named view old.now new.now)
+    ensures { IfOk result (λ steps. IsPath (seen_under view old.now new.now)
         (shape_of old.now) (shape_of new.now) (bound_in certificate.now.bounds) certificate.now.root
         steps.items) }
 {
     match view {
-        ViewName::Numbers => way_by_name(alloc, &Numbers, old, new, certificate),
-        ViewName::Names => way_by_name(alloc, &Names, old, new, certificate),
+        ViewName::Numbers => path_by_name(alloc, &Numbers, old, new, certificate),
+        ViewName::Names => path_by_name(alloc, &Names, old, new, certificate),
     }
 }
 
-/// The way of the witness of a certificate that a search answers: from the root by the cheapest
+/// The path of the witness of a certificate that a search answers: from the root by the cheapest
 /// choice of each pair to the pair of the message that the choice holds, as long as it holds one.
 /// The certificate has to be one that a search under the view that it names answered for these two
 /// schemas, with a witness.
 ///
 /// Refused only where memory is.
-pub fn way(
+pub fn path(
     alloc: Global,
     old: &Schema,
     new: &Schema,
     certificate: &Certificate,
 ) -> Result<Vec<Step>, AllocError>
-    requires searched { IsSearched (sight_in old.now new.now certificate.now) (shape_of old.now)
+    requires searched { IsSearched (view_in old.now new.now certificate.now) (shape_of old.now)
         (shape_of new.now) certificate.now.root certificate.now }
     requires breaks { is_some certificate.now.witness ≡ true }
-    ensures { IfOk result (λ steps. IsWay (sight_in old.now new.now certificate.now)
+    ensures { IfOk result (λ steps. IsPath (view_in old.now new.now certificate.now)
         (shape_of old.now) (shape_of new.now) (bound_in certificate.now.bounds) certificate.now.root
         steps.items) }
 {
-    way_under(alloc, old, new, certificate, certificate.view())
+    path_under(alloc, old, new, certificate, certificate.view())
 }

@@ -13,8 +13,8 @@ pub mod PlacedLaws
 pub mod ReadLaws
 pub mod ResolvesLaws
 pub mod SeesLaws
-pub mod SightLaws
-pub mod SightsLaws
+pub mod VisibleLaws
+pub mod VisibleFilesLaws
 pub mod SmallFiles
 pub mod StandingLaws
 pub mod TargetLaws

@@ -17,7 +17,7 @@ use Rattle.pg_link.specs.Names.{Text}
 use Rattle.pg_link.specs.VisibleFiles.{Marks, IsMask, AreHanded, taken}
 use Rattle.pg_link.specs.Walk.{Entry, outline, outlines, path_of}
 use Rattle.pg_link.proofs.PathLaws.{among_entries, any-reverse}
-use Rattle.pg_link.proofs.SightLaws.{same_text, text_same}
+use Rattle.pg_link.proofs.VisibleLaws.{same_text, text_same}
 
 pub none_some : {X : Type 0} (x : X) → None ≡ Some x → ⊥
 none_some x is = true≢false (sym (ap is_some is))

@@ -21,7 +21,7 @@ use Rattle.pg_link.specs.Targets.{enum_names, is_enum, is_message, message_names
 use Rattle.pg_link.proofs.BridgeLaws.{among_filter, both_true, filter_among, none_bears, package_is}
 use Rattle.pg_link.proofs.MaskLaws.{none_some, step_false, step_true}
 use Rattle.pg_link.proofs.SeesLaws.{among_map}
-use Rattle.pg_link.proofs.SightLaws.{any_found, same_text, text_same}
+use Rattle.pg_link.proofs.VisibleLaws.{any_found, same_text, text_same}
 
 -- ---- places
 

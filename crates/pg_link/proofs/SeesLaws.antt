@@ -4,7 +4,7 @@ use Rattle.std.specs.List.{list_any, IsAmong}
 use Rattle.std.specs.Str.{bytes_eq}
 use Rattle.pg_link.specs.Files.{File, Import, Imports, HandsOn, Itself, Onwards, Sees, InOrder, Differ, is_path_of, paths_of, import_paths, public_paths, handed_on, seen_paths, SeenPathsAreSeen}
 use Rattle.pg_link.specs.Names.{Text}
-use Rattle.pg_link.proofs.SightLaws.{each_at, first_among, later_among, any_found, any_at, any_flat, same_text, text_same, imports_there, handed_on_is, seen_paths_is}
+use Rattle.pg_link.proofs.VisibleLaws.{each_at, first_among, later_among, any_found, any_at, any_flat, same_text, text_same, imports_there, handed_on_is, seen_paths_is}
 
 or_right : (a b : Bool) → b ≡ true → (a || b) ≡ true
 or_right true b is = refl

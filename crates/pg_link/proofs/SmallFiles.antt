@@ -10,7 +10,7 @@ use Rattle.pg_link.specs.declared.names.Kind.TheVariants.{Message, Package}
 use Rattle.pg_link.specs.Walk.{outlines}
 use Rattle.pg_link.proofs.OnceLaws.{none_twice_is_once}
 use Rattle.pg_link.proofs.SeesLaws.{among_map}
-use Rattle.pg_link.proofs.SightLaws.{first_among}
+use Rattle.pg_link.proofs.VisibleLaws.{first_among}
 
 -- a file that is there imports the first of its paths
 imports_it : (files : List File) (path other : Text) (others : List Text) (f : File) → IsAmong files f → IsImporting path (other ∷ others) f → Imports files path other

@@ -38,8 +38,8 @@ pub record IsRead (files : List Entry) : Type 0 where
 pub record IsSettled (files : List Entry) (index : indexes.Index) (visible_files : List (List Bool)) (targets : List (List Target)) : Type 0 where
   pub linked : IsLinkedUp (record { files = files; targets = targets })
   pub lists : Lists index (all_standings files)
-  pub sight_length : length visible_files ≡ length files
-  pub are_sights : AreVisibleFiles files visible_files
+  pub visible_length : length visible_files ≡ length files
+  pub are_visible : AreVisibleFiles files visible_files
 
 -- the full name, here without its dot, is declared in one of the files, at this line and column
 pub record IsDeclaredAt (files : List Entry) (full path : Text) (at_line at_column : ℕ) : Type 0 where

@@ -17,7 +17,7 @@ use Rattle.pg_dyn.specs.Belonging.{KeyFits}
 use Rattle.pg_dyn.proofs.Lists.{each-append, option_map_some}
 use Rattle.pg_pairs.specs.declared.choice.Choice.{Choice}
 use Rattle.pg_pairs.specs.declared.choice.Pair.{Pair}
-use Rattle.pg_pairs.specs.Sight.{Sight, IsSight}
+use Rattle.pg_pairs.specs.EnumView.{EnumView, IsEnumView}
 use Rattle.pg_pairs.specs.Likeness.{like}
 use Rattle.pg_pairs.specs.Gaps.{body_length, gap_item}
 use Rattle.pg_pairs.specs.Costs.{with_length, least_body, nonzero_body, entry_cost, one_item, least_content}
@@ -27,7 +27,7 @@ use Rattle.pg_pairs.specs.Carried.{nonzero_leaf, far_leaf, apart_leaf, apart_ite
 use Rattle.pg_pairs.proofs.GapItems.{IsLeafy, implicit_leafy, leafy_like}
 use Rattle.pg_pairs.proofs.Likeness.{like_wire}
 use Rattle.pg_pairs.proofs.AcrossPlain.{IsNoMap, IsUnpacked}
-use Rattle.pg_pairs.proofs.Cells.{unpacked_implicit, unpacked_explicit, unpacked_repeated}
+use Rattle.pg_pairs.proofs.Comparands.{unpacked_implicit, unpacked_explicit, unpacked_repeated}
 use Rattle.pg_pairs.proofs.CarriedItems.{leaf_or_message, like_message, leafy_childless, leaf_part, implicit_least, Gapped, gapped, nested, same_bound, longer, same_cost}
 use Rattle.pg_pairs.proofs.CarryAlone.{reach_gap, reach_child}
 use Rattle.pg_pairs.proofs.CarryTwo.{reach_two_children}
@@ -37,15 +37,15 @@ use Rattle.pg_pairs.proofs.CarryMaps.{reach_key_gap, reach_value_gap}
 use Rattle.pg_pairs.proofs.CarryMapChild.{reach_map_child, reach_key_gap_child}
 use Rattle.pg_pairs.proofs.CarryUnlikeMaps.{far_in_range, far_length, reach_far_leaves, reach_far_child}
 
-module _ (sight : Sight) (law : IsSight sight) (old new : Shape) (shape_old : IsShape old) (shape_new : IsShape new) (table : Table) (pair : Pair) where
+module _ (enum_view : EnumView) (law : IsEnumView enum_view) (old new : Shape) (shape_old : IsShape old) (shape_new : IsShape new) (table : Table) (pair : Pair) where
   -- A choice of that cost whose messages are made so is reached by them.
   abbrev pub IsCarried : Option Pair → (Option Message → Message) → ℕ → Type 0
-  IsCarried wanted made cost = cost ≤ cap → ChildThere table wanted cost × ((child : Option Message) → ChildReached sight old new table wanted child → ReachedBy sight old new pair (made child) cost)
+  IsCarried wanted made cost = cost ≤ cap → ChildThere table wanted cost × ((child : Option Message) → ChildReached enum_view old new table wanted child → ReachedBy enum_view old new pair (made child) cost)
 
   abbrev pub CarriesField : FieldShape → FieldShape → Choice → Type 0
-  CarriesField f g c = IsCarried (field_child f g c.case c.part) (carried_field sight f g c.case c.part) c.cost
+  CarriesField f g c = IsCarried (field_child f g c.case c.part) (carried_field enum_view f g c.case c.part) c.cost
 
-  childless : (v : Message) (cost : ℕ) → (cost ≤ cap → ReachedBy sight old new pair v cost) → IsCarried None (λ child. v) cost
+  childless : (v : Message) (cost : ℕ) → (cost ≤ cap → ReachedBy enum_view old new pair v cost) → IsCarried None (λ child. v) cost
   childless v cost h small = (tt, λ child none. h small)
 
   -- a choice of the field alone
@@ -64,11 +64,11 @@ module _ (sight : Sight) (law : IsSight sight) (old new : Shape) (shape_old : Is
     abbrev child_new : FieldShape
     child_new = record { number = number; presence = q; element = elements.Message t; oneof = r }
 
-    child_made : KeyFits p None → IsNoMap q → IsUnpacked child_old → ((b : ℕ) → one_item child_old b ≡ length (tag number (form_wire (form (elements.Message s)))) + b) → field_at (fields old pair.old) number ≡ Some child_old → field_at (fields new pair.new) number ≡ Some child_new → (x : ℕ) → table (record { old = s; new = t }) ≡ Some (Some x) → one_item child_old (with_length x) ≤ cap → (child : Option Message) → ChildReached sight old new table (Some (record { old = s; new = t })) child → ReachedBy sight old new pair (child_alone number None child) (one_item child_old (with_length x))
+    child_made : KeyFits p None → IsNoMap q → IsUnpacked child_old → ((b : ℕ) → one_item child_old b ≡ length (tag number (form_wire (form (elements.Message s)))) + b) → field_at (fields old pair.old) number ≡ Some child_old → field_at (fields new pair.new) number ≡ Some child_new → (x : ℕ) → table (record { old = s; new = t }) ≡ Some (Some x) → one_item child_old (with_length x) ≤ cap → (child : Option Message) → ChildReached enum_view old new table (Some (record { old = s; new = t })) child → ReachedBy enum_view old new pair (child_alone number None child) (one_item child_old (with_length x))
     child_made no_key no_map unpacked cost_is found at x there small None h = absurd h
     child_made no_key no_map unpacked cost_is found at x there small (Some m) (y, there_y, reached) =
         let same = same_bound (table (record { old = s; new = t })) y x there_y there in
-        reach_child sight old new shape_old shape_new pair number p q s t o r found at no_key no_map unpacked cost_is m x (subst (ReachedBy sight old new (record { old = s; new = t }) m) same reached) small
+        reach_child enum_view old new shape_old shape_new pair number p q s t o r found at no_key no_map unpacked cost_is m x (subst (ReachedBy enum_view old new (record { old = s; new = t }) m) same reached) small
 
   child_carried : (number : ℕ) (o r : Option ℕ) (e d : Element) (p q : Presence) → KeyFits p None → IsNoMap q → ((x : Element) → IsUnpacked (record { number = number; presence = p; element = x; oneof = o })) → ((x : Element) (b : ℕ) → one_item (record { number = number; presence = p; element = x; oneof = o }) b ≡ length (tag number (form_wire (form x))) + b) → field_at (fields old pair.old) number ≡ Some (record { number = number; presence = p; element = e; oneof = o }) → field_at (fields new pair.new) number ≡ Some (record { number = number; presence = q; element = d; oneof = r }) → (cost : ℕ) → option_map (one_item (record { number = number; presence = p; element = e; oneof = o })) (child_body table e d) ≡ Some cost → CarriesField (record { number = number; presence = p; element = e; oneof = o }) (record { number = number; presence = q; element = d; oneof = r }) (choice number 3 0 cost)
   child_carried number o r (elements.Message s) (elements.Message t) p q no_key no_map unpacked cost_is found at cost h small =
@@ -79,7 +79,7 @@ module _ (sight : Sight) (law : IsSight sight) (old new : Shape) (shape_old : Is
       let less : x < cost = (let long = longer x in let is_cost = cost_is (elements.Message s) (with_length x) in omega (arith, is)) in (
         (x, at_x, less),
         λ child reached.
-            subst (ReachedBy sight old new pair (child_alone number None child)) is
+            subst (ReachedBy enum_view old new pair (child_alone number None child)) is
             (child_made number o r s t p q no_key no_map (unpacked (elements.Message s)) (cost_is (elements.Message s)) found at x at_x (subst (λ n. n ≤ cap) (sym is) small) child reached),
       )
   child_carried number o r (elements.Message s) (elements.Scalar t) p q no_key no_map unpacked cost_is found at cost h small = absurd (cc)
@@ -91,11 +91,11 @@ module _ (sight : Sight) (law : IsSight sight) (old new : Shape) (shape_old : Is
   abbrev map_field : ℕ → Option ℕ → Element → Scalar → FieldShape
   map_field number o e k = record { number = number; presence = presences.Map k; element = e; oneof = o }
 
-  map_child_made : (number : ℕ) (o r : Option ℕ) (s t : TypeId) (k l : Scalar) (gap : Option Leaf) → field_at (fields old pair.old) number ≡ Some (map_field number o (elements.Message s) k) → field_at (fields new pair.new) number ≡ Some (map_field number r (elements.Message t) l) → (x : ℕ) → table (record { old = s; new = t }) ≡ Some (Some x) → one_item (map_field number o (elements.Message s) k) (with_length x) ≤ cap → (child : Option Message) → ChildReached sight old new table (Some (record { old = s; new = t })) child → ReachedBy sight old new pair (value_alone number (zero_leaf (form (elements.Scalar k))) child gap) (one_item (map_field number o (elements.Message s) k) (with_length x))
+  map_child_made : (number : ℕ) (o r : Option ℕ) (s t : TypeId) (k l : Scalar) (gap : Option Leaf) → field_at (fields old pair.old) number ≡ Some (map_field number o (elements.Message s) k) → field_at (fields new pair.new) number ≡ Some (map_field number r (elements.Message t) l) → (x : ℕ) → table (record { old = s; new = t }) ≡ Some (Some x) → one_item (map_field number o (elements.Message s) k) (with_length x) ≤ cap → (child : Option Message) → ChildReached enum_view old new table (Some (record { old = s; new = t })) child → ReachedBy enum_view old new pair (value_alone number (zero_leaf (form (elements.Scalar k))) child gap) (one_item (map_field number o (elements.Message s) k) (with_length x))
   map_child_made number o r s t k l gap found at x there small None h = absurd h
   map_child_made number o r s t k l gap found at x there small (Some m) (y, there_y, reached) =
       let same = same_bound (table (record { old = s; new = t })) y x there_y there in
-      reach_map_child sight old new shape_old shape_new pair number s t o r k l found at m x (subst (ReachedBy sight old new (record { old = s; new = t }) m) same reached) small
+      reach_map_child enum_view old new shape_old shape_new pair number s t o r k l found at m x (subst (ReachedBy enum_view old new (record { old = s; new = t }) m) same reached) small
 
   map_child_carried : (number : ℕ) (o r : Option ℕ) (e d : Element) (k l : Scalar) → field_at (fields old pair.old) number ≡ Some (map_field number o e k) → field_at (fields new pair.new) number ≡ Some (map_field number r d l) → (cost : ℕ) → option_map (one_item (map_field number o e k)) (child_body table e d) ≡ Some cost → CarriesField (map_field number o e k) (map_field number r d l) (choice number 5 2 cost)
   map_child_carried number o r (elements.Message s) (elements.Message t) k l found at cost h small =
@@ -105,8 +105,8 @@ module _ (sight : Sight) (law : IsSight sight) (old new : Shape) (shape_old : Is
       let less : x < cost = (let long = longer x in omega (arith, is)) in (
         (x, at_x, less),
         λ child reached.
-            subst (ReachedBy sight old new pair (value_alone number (zero_leaf (form (elements.Scalar k))) child (gap_item sight true (elements.Message s) (elements.Message t)))) is
-            (map_child_made number o r s t k l (gap_item sight true (elements.Message s) (elements.Message t)) found at x at_x (subst (λ n. n ≤ cap) (sym is) small) child reached),
+            subst (ReachedBy enum_view old new pair (value_alone number (zero_leaf (form (elements.Scalar k))) child (gap_item enum_view true (elements.Message s) (elements.Message t)))) is
+            (map_child_made number o r s t k l (gap_item enum_view true (elements.Message s) (elements.Message t)) found at x at_x (subst (λ n. n ≤ cap) (sym is) small) child reached),
       )
   map_child_carried number o r (elements.Message s) (elements.Scalar t) k l found at cost h small = absurd (cc)
   map_child_carried number o r (elements.Message s) (elements.Enum t) k l found at cost h small = absurd (cc)
@@ -124,29 +124,29 @@ module _ (sight : Sight) (law : IsSight sight) (old new : Shape) (shape_old : Is
     Carries p q case part cost = CarriesField (at_old p) (at_new q) (choice number case part cost)
 
     -- A gap: the message of its item.
-    gap_carried_by : (p q : Presence) (body : ℕ) → (gap : Gapped sight (zero_counts (at_old p) (at_new q)) e d body) → (one_item (at_old p) (body_length (form e) gap.item) ≤ cap → ReachedBy sight old new pair (holds number None gap.item (ends [])) (one_item (at_old p) (body_length (form e) gap.item))) → Carries p q 2 0 (one_item (at_old p) body)
+    gap_carried_by : (p q : Presence) (body : ℕ) → (gap : Gapped enum_view (zero_counts (at_old p) (at_new q)) e d body) → (one_item (at_old p) (body_length (form e) gap.item) ≤ cap → ReachedBy enum_view old new pair (holds number None gap.item (ends [])) (one_item (at_old p) (body_length (form e) gap.item))) → Carries p q 2 0 (one_item (at_old p) body)
     gap_carried_by p q body gap h =
-        childless (leaf_alone number None (gap_item sight (zero_counts (at_old p) (at_new q)) e d)) (one_item (at_old p) body)
+        childless (leaf_alone number None (gap_item enum_view (zero_counts (at_old p) (at_new q)) e d)) (one_item (at_old p) body)
         (λ small.
-        subst (λ x. ReachedBy sight old new pair (leaf_alone number None x) (one_item (at_old p) body)) (sym gap.item_is)
-        (subst (λ b. ReachedBy sight old new pair (holds number None gap.item (ends [])) (one_item (at_old p) b)) gap.body_is
+        subst (λ x. ReachedBy enum_view old new pair (leaf_alone number None x) (one_item (at_old p) body)) (sym gap.item_is)
+        (subst (λ b. ReachedBy enum_view old new pair (holds number None gap.item (ends [])) (one_item (at_old p) b)) gap.body_is
         (h (subst (λ b. one_item (at_old p) b ≤ cap) (sym gap.body_is) small))))
 
-    unpacked_gap : (p q : Presence) → KeyFits p None → IsNoMap q → IsUnpacked (at_old p) → ((b : ℕ) → one_item (at_old p) b ≡ length (tag number (form_wire (form e))) + b) → like e d ≡ true → field_at (fields old pair.old) number ≡ Some (at_old p) → field_at (fields new pair.new) number ≡ Some (at_new q) → (body : ℕ) → Gapped sight (zero_counts (at_old p) (at_new q)) e d body → Carries p q 2 0 (one_item (at_old p) body)
+    unpacked_gap : (p q : Presence) → KeyFits p None → IsNoMap q → IsUnpacked (at_old p) → ((b : ℕ) → one_item (at_old p) b ≡ length (tag number (form_wire (form e))) + b) → like e d ≡ true → field_at (fields old pair.old) number ≡ Some (at_old p) → field_at (fields new pair.new) number ≡ Some (at_new q) → (body : ℕ) → Gapped enum_view (zero_counts (at_old p) (at_new q)) e d body → Carries p q 2 0 (one_item (at_old p) body)
     unpacked_gap p q no_key no_map unpacked cost_is is_like found at body gap =
         gap_carried_by p q body gap
-        (reach_gap sight old new shape_old shape_new pair (at_old p) (at_new q) found at refl no_key no_map unpacked cost_is gap.old_leafy gap.new_leafy (like_wire e d is_like) gap.item gap.least)
+        (reach_gap enum_view old new shape_old shape_new pair (at_old p) (at_new q) found at refl no_key no_map unpacked cost_is gap.old_leafy gap.new_leafy (like_wire e d is_like) gap.item gap.least)
 
-    packed_gap : (q : Presence) → IsNoMap q → like e d ≡ true → is_packable e ≡ true → field_at (fields old pair.old) number ≡ Some (at_old (presences.Repeated true)) → field_at (fields new pair.new) number ≡ Some (at_new q) → (body : ℕ) → Gapped sight (zero_counts (at_old (presences.Repeated true)) (at_new q)) e d body → Carries (presences.Repeated true) q 2 0 (one_item (at_old (presences.Repeated true)) body)
+    packed_gap : (q : Presence) → IsNoMap q → like e d ≡ true → is_packable e ≡ true → field_at (fields old pair.old) number ≡ Some (at_old (presences.Repeated true)) → field_at (fields new pair.new) number ≡ Some (at_new q) → (body : ℕ) → Gapped enum_view (zero_counts (at_old (presences.Repeated true)) (at_new q)) e d body → Carries (presences.Repeated true) q 2 0 (one_item (at_old (presences.Repeated true)) body)
     packed_gap q no_map is_like packable found at body gap = gap_carried_by (presences.Repeated true) q body gap (of q no_map at)
       where
-        of : (x : Presence) → IsNoMap x → field_at (fields new pair.new) number ≡ Some (at_new x) → one_item (at_old (presences.Repeated true)) (body_length (form e) gap.item) ≤ cap → ReachedBy sight old new pair (holds number None gap.item (ends [])) (one_item (at_old (presences.Repeated true)) (body_length (form e) gap.item))
-        of presences.Implicit h there few = reach_packed sight old new shape_old shape_new pair number e d o r is_like presences.Implicit refl found there packable gap.item gap.least.unseen.in_range few
-        of presences.Explicit h there few = reach_packed sight old new shape_old shape_new pair number e d o r is_like presences.Explicit refl found there packable gap.item gap.least.unseen.in_range few
-        of (presences.Repeated w) h there few = reach_packed_gap sight old new shape_old shape_new pair number e d o r is_like w found there packable gap.item gap.least.unseen.in_range gap.least.unseen.not_seen few
+        of : (x : Presence) → IsNoMap x → field_at (fields new pair.new) number ≡ Some (at_new x) → one_item (at_old (presences.Repeated true)) (body_length (form e) gap.item) ≤ cap → ReachedBy enum_view old new pair (holds number None gap.item (ends [])) (one_item (at_old (presences.Repeated true)) (body_length (form e) gap.item))
+        of presences.Implicit h there few = reach_packed enum_view old new shape_old shape_new pair number e d o r is_like presences.Implicit refl found there packable gap.item gap.least.unseen.in_range few
+        of presences.Explicit h there few = reach_packed enum_view old new shape_old shape_new pair number e d o r is_like presences.Explicit refl found there packable gap.item gap.least.unseen.in_range few
+        of (presences.Repeated w) h there few = reach_packed_gap enum_view old new shape_old shape_new pair number e d o r is_like w found there packable gap.item gap.least.unseen.in_range gap.least.unseen.not_seen few
         of (presences.Map k) h there few = absurd h
 
-    gap_carried : (p q : Presence) → IsNoMap p → IsNoMap q → like e d ≡ true → field_at (fields old pair.old) number ≡ Some (at_old p) → field_at (fields new pair.new) number ≡ Some (at_new q) → PresenceFits p e o → (body : ℕ) → Gapped sight (zero_counts (at_old p) (at_new q)) e d body → Carries p q 2 0 (one_item (at_old p) body)
+    gap_carried : (p q : Presence) → IsNoMap p → IsNoMap q → like e d ≡ true → field_at (fields old pair.old) number ≡ Some (at_old p) → field_at (fields new pair.new) number ≡ Some (at_new q) → PresenceFits p e o → (body : ℕ) → Gapped enum_view (zero_counts (at_old p) (at_new q)) e d body → Carries p q 2 0 (one_item (at_old p) body)
     gap_carried presences.Implicit q no_map_old no_map is_like found at fits body gap = unpacked_gap presences.Implicit q refl no_map (unpacked_implicit number e o) (λ b. refl) is_like found at body gap
     gap_carried presences.Explicit q no_map_old no_map is_like found at fits body gap = unpacked_gap presences.Explicit q refl no_map (unpacked_explicit number e o) (λ b. refl) is_like found at body gap
     gap_carried (presences.Repeated false) q no_map_old no_map is_like found at fits body gap = unpacked_gap (presences.Repeated false) q refl no_map (unpacked_repeated number e o) (λ b. refl) is_like found at body gap
@@ -172,9 +172,9 @@ module _ (sight : Sight) (law : IsSight sight) (old new : Shape) (shape_old : Is
         let least = ap (one_item (at_old (presences.Repeated true))) (zero_length e leafy) ∙ same_cost (least_content (at_old (presences.Repeated true))) cost h in
         childless (lost_onto number (presences.Repeated true) q (item_by (λ x. zero_leaf x) e)) cost
         (λ small.
-        subst (λ v. ReachedBy sight old new pair v cost) (sym (leaf_part (λ x. zero_leaf x) e leafy number None (ends [])))
-        (subst (ReachedBy sight old new pair (holds number None (zero_leaf (form e)) (ends []))) least
-        (reach_packed sight old new shape_old shape_new pair number e d o r is_like q singular found at packable (zero_leaf (form e)) (zero_in_range e leafy) (subst (λ n. n ≤ cap) (sym least) small))))
+        subst (λ v. ReachedBy enum_view old new pair v cost) (sym (leaf_part (λ x. zero_leaf x) e leafy number None (ends [])))
+        (subst (ReachedBy enum_view old new pair (holds number None (zero_leaf (form e)) (ends []))) least
+        (reach_packed enum_view old new shape_old shape_new pair number e d o r is_like q singular found at packable (zero_leaf (form e)) (zero_in_range e leafy) (subst (λ n. n ≤ cap) (sym least) small))))
 
     -- one zero, which an implicit field doesn't show
     one_zero : like e d ≡ true → field_at (fields old pair.old) number ≡ Some (at_old (presences.Repeated false)) → field_at (fields new pair.new) number ≡ Some (at_new presences.Implicit) → PresenceFits presences.Implicit d r → (cost : ℕ) → Some (least_content (at_old (presences.Repeated false))) ≡ Some cost → Carries (presences.Repeated false) presences.Implicit 4 0 cost
@@ -184,15 +184,15 @@ module _ (sight : Sight) (law : IsSight sight) (old new : Shape) (shape_old : Is
         let least = same_cost (least_content (at_old (presences.Repeated false))) cost h in
         childless (alone number None (item_by (λ x. zero_leaf x) e)) cost
         (λ small.
-        subst (λ v. ReachedBy sight old new pair v cost) (sym (leaf_part (λ x. zero_leaf x) e leafy number None (ends [])))
-        (subst (ReachedBy sight old new pair (holds number None (zero_leaf (form e)) (ends []))) least
-        (reach_zero sight old new shape_old shape_new pair number e d o r is_like leafy new_leafy found at (subst (λ n. n ≤ cap) (sym least) small))))
+        subst (λ v. ReachedBy enum_view old new pair v cost) (sym (leaf_part (λ x. zero_leaf x) e leafy number None (ends [])))
+        (subst (ReachedBy enum_view old new pair (holds number None (zero_leaf (form e)) (ends []))) least
+        (reach_zero enum_view old new shape_old shape_new pair number e d o r is_like leafy new_leafy found at (subst (λ n. n ≤ cap) (sym least) small))))
 
     -- two items, of which one is read
     two_items : like e d ≡ true → field_at (fields old pair.old) number ≡ Some (at_old (presences.Repeated false)) → field_at (fields new pair.new) number ≡ Some (at_new presences.Explicit) → (cost : ℕ) → Some (2 * least_content (at_old (presences.Repeated false))) ≡ Some cost → Carries (presences.Repeated false) presences.Explicit 4 0 cost
     two_items is_like found at cost h =
         childless (with_part number None (item_by (λ x. zero_leaf x) e) (alone number None (item_by (λ x. zero_leaf x) e))) cost
-        (λ small. subst (ReachedBy sight old new pair (with_part number None (item_by (λ x. zero_leaf x) e) (alone number None (item_by (λ x. zero_leaf x) e)))) least (of (leaf_or_message e) (subst (λ n. n ≤ cap) (sym least) small)))
+        (λ small. subst (ReachedBy enum_view old new pair (with_part number None (item_by (λ x. zero_leaf x) e) (alone number None (item_by (λ x. zero_leaf x) e)))) least (of (leaf_or_message e) (subst (λ n. n ≤ cap) (sym least) small)))
       where
         least : 2 * least_content (at_old (presences.Repeated false)) ≡ cost
         least = same_cost (2 * least_content (at_old (presences.Repeated false))) cost h
@@ -200,15 +200,15 @@ module _ (sight : Sight) (law : IsSight sight) (old new : Shape) (shape_old : Is
         two : Element → Message
         two x = with_part number None (item_by (λ y. zero_leaf y) x) (alone number None (item_by (λ y. zero_leaf y) x))
 
-        of : IsLeafy e ⊎ ((s : TypeId) × (e ≡ elements.Message s)) → 2 * least_content (at_old (presences.Repeated false)) ≤ cap → ReachedBy sight old new pair (two e) (2 * least_content (at_old (presences.Repeated false)))
+        of : IsLeafy e ⊎ ((s : TypeId) × (e ≡ elements.Message s)) → 2 * least_content (at_old (presences.Repeated false)) ≤ cap → ReachedBy enum_view old new pair (two e) (2 * least_content (at_old (presences.Repeated false)))
         of (inl leafy) few =
-            subst (λ v. ReachedBy sight old new pair v (2 * least_content (at_old (presences.Repeated false))))
+            subst (λ v. ReachedBy enum_view old new pair v (2 * least_content (at_old (presences.Repeated false))))
             (sym (leaf_part (λ x. zero_leaf x) e leafy number None (alone number None (item_by (λ x. zero_leaf x) e)) ∙ ap (holds number None (zero_leaf (form e))) (leaf_part (λ x. zero_leaf x) e leafy number None (ends []))))
-            (reach_two_zeros sight old new shape_old shape_new pair number e d o r is_like leafy found at few)
+            (reach_two_zeros enum_view old new shape_old shape_new pair number e d o r is_like leafy found at few)
         of (inr (s, is)) few =
             let (t, new_is) = like_message s d (subst (λ x. like x d ≡ true) is is_like) in
-            subst (λ x. ReachedBy sight old new pair (two x) (2 * one_item (record { number = number; presence = presences.Repeated false; element = x; oneof = o }) (least_body x))) (sym is)
-            (reach_two_children sight old new shape_old shape_new pair number s t o r
+            subst (λ x. ReachedBy enum_view old new pair (two x) (2 * one_item (record { number = number; presence = presences.Repeated false; element = x; oneof = o }) (least_body x))) (sym is)
+            (reach_two_children enum_view old new shape_old shape_new pair number s t o r
             (subst (λ x. field_at (fields old pair.old) number ≡ Some (record { number = number; presence = presences.Repeated false; element = x; oneof = o })) is found)
             (subst (λ x. field_at (fields new pair.new) number ≡ Some (record { number = number; presence = presences.Explicit; element = x; oneof = r })) new_is at)
             (subst (λ x. 2 * one_item (record { number = number; presence = presences.Repeated false; element = x; oneof = o }) (least_body x) ≤ cap) is few))
@@ -232,45 +232,45 @@ module _ (sight : Sight) (law : IsSight sight) (old new : Shape) (shape_old : Is
     unlike_carried : (p q : Presence) → IsNoMap p → IsNoMap q → like e d ≡ false → field_at (fields old pair.old) number ≡ Some (at_old p) → field_at (fields new pair.new) number ≡ Some (at_new q) → PresenceFits p e o → Carries p q 1 0 (unlike_cost (at_old p) (at_new q))
     unlike_carried presences.Implicit q no_map_old no_map unlike found at fits =
         childless (alone number None (item_by (λ x. nonzero_leaf x) e)) (one_item (at_old presences.Implicit) (nonzero_body e))
-        (λ small. subst (λ v. ReachedBy sight old new pair v (one_item (at_old presences.Implicit) (nonzero_body e))) (implicit_least number e (ends [])) (reach_unlike_implicit sight old new shape_old shape_new pair number o r e d q no_map unlike found at small))
+        (λ small. subst (λ v. ReachedBy enum_view old new pair v (one_item (at_old presences.Implicit) (nonzero_body e))) (implicit_least number e (ends [])) (reach_unlike_implicit enum_view old new shape_old shape_new pair number o r e d q no_map unlike found at small))
     unlike_carried presences.Explicit presences.Implicit no_map_old no_map unlike found at fits =
         childless (alone number None (item_by (λ x. nonzero_leaf x) e)) (one_item (at_old presences.Explicit) (nonzero_body e))
         (λ small.
         ⊎_elim
         (λ leafy.
-        subst (λ v. ReachedBy sight old new pair v (one_item (at_old presences.Explicit) (nonzero_body e))) (sym (leaf_part (λ x. nonzero_leaf x) e leafy number None (ends [])))
-        (reach_unlike_nonzero sight old new shape_old shape_new pair number o r e d leafy unlike found at small))
+        subst (λ v. ReachedBy enum_view old new pair v (one_item (at_old presences.Explicit) (nonzero_body e))) (sym (leaf_part (λ x. nonzero_leaf x) e leafy number None (ends [])))
+        (reach_unlike_nonzero enum_view old new shape_old shape_new pair number o r e d leafy unlike found at small))
         (λ (s, is).
         let same : nonzero_body e ≡ least_body e = subst (λ x. nonzero_body x ≡ least_body x) (sym is) refl in
-        subst (λ v. ReachedBy sight old new pair v (one_item (at_old presences.Explicit) (nonzero_body e))) (nonzero_child s is)
-        (subst (λ b. ReachedBy sight old new pair (least_part (at_old presences.Explicit) (ends [])) (one_item (at_old presences.Explicit) b)) (sym same)
-        (reach_unlike_child sight old new shape_old shape_new pair number o r e d s is unlike found at (subst (λ b. one_item (at_old presences.Explicit) b ≤ cap) same small))))
+        subst (λ v. ReachedBy enum_view old new pair v (one_item (at_old presences.Explicit) (nonzero_body e))) (nonzero_child s is)
+        (subst (λ b. ReachedBy enum_view old new pair (least_part (at_old presences.Explicit) (ends [])) (one_item (at_old presences.Explicit) b)) (sym same)
+        (reach_unlike_child enum_view old new shape_old shape_new pair number o r e d s is unlike found at (subst (λ b. one_item (at_old presences.Explicit) b ≤ cap) same small))))
         (leaf_or_message e))
     unlike_carried presences.Explicit presences.Explicit no_map_old no_map unlike found at fits =
-        childless (least_part (at_old presences.Explicit) (ends [])) (least_content (at_old presences.Explicit)) (reach_unlike_explicit sight old new shape_old shape_new pair number o r e d presences.Explicit no_map unlike refl found at)
+        childless (least_part (at_old presences.Explicit) (ends [])) (least_content (at_old presences.Explicit)) (reach_unlike_explicit enum_view old new shape_old shape_new pair number o r e d presences.Explicit no_map unlike refl found at)
     unlike_carried presences.Explicit (presences.Repeated w) no_map_old no_map unlike found at fits =
-        childless (least_part (at_old presences.Explicit) (ends [])) (least_content (at_old presences.Explicit)) (reach_unlike_explicit sight old new shape_old shape_new pair number o r e d (presences.Repeated w) no_map unlike refl found at)
+        childless (least_part (at_old presences.Explicit) (ends [])) (least_content (at_old presences.Explicit)) (reach_unlike_explicit enum_view old new shape_old shape_new pair number o r e d (presences.Repeated w) no_map unlike refl found at)
     unlike_carried presences.Explicit (presences.Map l) no_map_old no_map unlike found at fits = absurd no_map
     unlike_carried (presences.Repeated false) q no_map_old no_map unlike found at fits =
-        childless (least_part (at_old (presences.Repeated false)) (ends [])) (least_content (at_old (presences.Repeated false))) (reach_unlike_list sight old new shape_old shape_new pair number o r e d q no_map unlike found at)
+        childless (least_part (at_old (presences.Repeated false)) (ends [])) (least_content (at_old (presences.Repeated false))) (reach_unlike_list enum_view old new shape_old shape_new pair number o r e d q no_map unlike found at)
     unlike_carried (presences.Repeated true) q no_map_old no_map unlike found at fits =
-        childless (least_part (at_old (presences.Repeated true)) (ends [])) (least_content (at_old (presences.Repeated true))) (reach_unlike_packed sight old new shape_old shape_new pair number o r e d q no_map unlike (fits.1 refl) found at)
+        childless (least_part (at_old (presences.Repeated true)) (ends [])) (least_content (at_old (presences.Repeated true))) (reach_unlike_packed enum_view old new shape_old shape_new pair number o r e d q no_map unlike (fits.1 refl) found at)
     unlike_carried (presences.Map k) q no_map_old no_map unlike found at fits = absurd no_map_old
 
-    plain_carried : (p q : Presence) → IsNoMap p → IsNoMap q → field_at (fields old pair.old) number ≡ Some (at_old p) → field_at (fields new pair.new) number ≡ Some (at_new q) → PresenceFits p e o → PresenceFits q d r → AllByRecursion (CarriesOwn (at_old p) (at_new q)) (plain_choices sight table (at_old p) (at_new q))
+    plain_carried : (p q : Presence) → IsNoMap p → IsNoMap q → field_at (fields old pair.old) number ≡ Some (at_old p) → field_at (fields new pair.new) number ≡ Some (at_new q) → PresenceFits p e o → PresenceFits q d r → AllByRecursion (CarriesOwn (at_old p) (at_new q)) (plain_choices enum_view table (at_old p) (at_new q))
     plain_carried p q no_map_old no_map found at fits fits_new =
-        elim (like e d) as (λ b. like e d ≡ b → AllByRecursion (CarriesOwn (at_old p) (at_new q)) (if b then choice_of number 2 0 (option_map (one_item (at_old p)) (gap_body sight (zero_counts (at_old p) (at_new q)) e d)) ++ choice_of number 3 0 (option_map (one_item (at_old p)) (child_body table e d)) ++ choice_of number 4 0 (singular_cost (at_old p) (at_new q)) else choice number 1 0 (unlike_cost (at_old p) (at_new q)) ∷ [])) [
+        elim (like e d) as (λ b. like e d ≡ b → AllByRecursion (CarriesOwn (at_old p) (at_new q)) (if b then choice_of number 2 0 (option_map (one_item (at_old p)) (gap_body enum_view (zero_counts (at_old p) (at_new q)) e d)) ++ choice_of number 3 0 (option_map (one_item (at_old p)) (child_body table e d)) ++ choice_of number 4 0 (singular_cost (at_old p) (at_new q)) else choice number 1 0 (unlike_cost (at_old p) (at_new q)) ∷ [])) [
           | true ↦ λ is_like.
               each-append (CarriesOwn (at_old p) (at_new q))
-              (choice_of number 2 0 (option_map (one_item (at_old p)) (gap_body sight (zero_counts (at_old p) (at_new q)) e d)) ++ choice_of number 3 0 (option_map (one_item (at_old p)) (child_body table e d)))
+              (choice_of number 2 0 (option_map (one_item (at_old p)) (gap_body enum_view (zero_counts (at_old p) (at_new q)) e d)) ++ choice_of number 3 0 (option_map (one_item (at_old p)) (child_body table e d)))
               (choice_of number 4 0 (singular_cost (at_old p) (at_new q)))
               (each-append (CarriesOwn (at_old p) (at_new q))
-              (choice_of number 2 0 (option_map (one_item (at_old p)) (gap_body sight (zero_counts (at_old p) (at_new q)) e d)))
+              (choice_of number 2 0 (option_map (one_item (at_old p)) (gap_body enum_view (zero_counts (at_old p) (at_new q)) e d)))
               (choice_of number 3 0 (option_map (one_item (at_old p)) (child_body table e d)))
               (offered (at_old p) (at_new q) 2 0 _ refl
               (λ cost h.
-              let (body, there, made) = option_map_some (one_item (at_old p)) (gap_body sight (zero_counts (at_old p) (at_new q)) e d) cost h in
-              subst (Carries p q 2 0) made (gap_carried p q no_map_old no_map is_like found at fits body (gapped sight law (zero_counts (at_old p) (at_new q)) e d is_like body there))))
+              let (body, there, made) = option_map_some (one_item (at_old p)) (gap_body enum_view (zero_counts (at_old p) (at_new q)) e d) cost h in
+              subst (Carries p q 2 0) made (gap_carried p q no_map_old no_map is_like found at fits body (gapped enum_view law (zero_counts (at_old p) (at_new q)) e d is_like body there))))
               (offered (at_old p) (at_new q) 3 0 _ refl (child_reached p q no_map_old no_map found at fits)))
               (offered (at_old p) (at_new q) 4 0 _ refl (singular_carried p q is_like found at fits fits_new))
           | false ↦ λ unlike. ((refl, refl, unlike_carried p q no_map_old no_map unlike found at fits), tt)
@@ -288,42 +288,42 @@ module _ (sight : Sight) (law : IsSight sight) (old new : Shape) (shape_old : Is
       empty_entry : (s : TypeId) → e ≡ elements.Message s → (leaf : Leaf) → nests number (Some leaf) (ends []) (ends []) ≡ alone number (Some leaf) (item_by (λ x. zero_leaf x) e)
       empty_entry s is leaf = subst (λ x. nests number (Some leaf) (ends []) (ends []) ≡ alone number (Some leaf) (item_by (λ y. zero_leaf y) x)) (sym is) refl
 
-      key_gap_made : like (elements.Scalar k) (elements.Scalar l) ≡ true → like e d ≡ true → field_at (fields old pair.old) number ≡ Some old_map → field_at (fields new pair.new) number ≡ Some new_map → (body : ℕ) → (gap : Gapped sight true (elements.Scalar k) (elements.Scalar l) body) → entry_cost number (body_length (form (elements.Scalar k)) gap.item) (least_body e) ≤ cap → ReachedBy sight old new pair (alone number (Some gap.item) (item_by (λ x. zero_leaf x) e)) (entry_cost number (body_length (form (elements.Scalar k)) gap.item) (least_body e))
+      key_gap_made : like (elements.Scalar k) (elements.Scalar l) ≡ true → like e d ≡ true → field_at (fields old pair.old) number ≡ Some old_map → field_at (fields new pair.new) number ≡ Some new_map → (body : ℕ) → (gap : Gapped enum_view true (elements.Scalar k) (elements.Scalar l) body) → entry_cost number (body_length (form (elements.Scalar k)) gap.item) (least_body e) ≤ cap → ReachedBy enum_view old new pair (alone number (Some gap.item) (item_by (λ x. zero_leaf x) e)) (entry_cost number (body_length (form (elements.Scalar k)) gap.item) (least_body e))
       key_gap_made like_keys like_values found at body gap few =
           ⊎_elim
           (λ leafy.
-          subst (λ v. ReachedBy sight old new pair v (entry_cost number (body_length (form (elements.Scalar k)) gap.item) (least_body e))) (sym (leaf_part (λ x. zero_leaf x) e leafy number (Some gap.item) (ends [])))
-          (reach_key_gap sight old new shape_old shape_new pair number e d o r k l leafy like_keys found at gap.item gap.least.unseen.in_range gap.least.unseen.not_seen few))
+          subst (λ v. ReachedBy enum_view old new pair v (entry_cost number (body_length (form (elements.Scalar k)) gap.item) (least_body e))) (sym (leaf_part (λ x. zero_leaf x) e leafy number (Some gap.item) (ends [])))
+          (reach_key_gap enum_view old new shape_old shape_new pair number e d o r k l leafy like_keys found at gap.item gap.least.unseen.in_range gap.least.unseen.not_seen few))
           (λ (s, is).
           let (t, new_is) = like_message s d (subst (λ x. like x d ≡ true) is like_values) in
-          subst (λ v. ReachedBy sight old new pair v (entry_cost number (body_length (form (elements.Scalar k)) gap.item) (least_body e))) (empty_entry s is gap.item)
-          (subst (λ x. ReachedBy sight old new pair (nests number (Some gap.item) (ends []) (ends [])) (entry_cost number (body_length (form (elements.Scalar k)) gap.item) (least_body x))) (sym is)
-          (reach_key_gap_child sight old new shape_old shape_new pair number s t o r k l like_keys
+          subst (λ v. ReachedBy enum_view old new pair v (entry_cost number (body_length (form (elements.Scalar k)) gap.item) (least_body e))) (empty_entry s is gap.item)
+          (subst (λ x. ReachedBy enum_view old new pair (nests number (Some gap.item) (ends []) (ends [])) (entry_cost number (body_length (form (elements.Scalar k)) gap.item) (least_body x))) (sym is)
+          (reach_key_gap_child enum_view old new shape_old shape_new pair number s t o r k l like_keys
           (subst (λ x. field_at (fields old pair.old) number ≡ Some (record { number = number; presence = presences.Map k; element = x; oneof = o })) is found)
           (subst (λ x. field_at (fields new pair.new) number ≡ Some (record { number = number; presence = presences.Map l; element = x; oneof = r })) new_is at)
           gap.item gap.least.unseen.in_range gap.least.unseen.not_seen
           (subst (λ x. entry_cost number (body_length (form (elements.Scalar k)) gap.item) (least_body x) ≤ cap) is few))))
           (leaf_or_message e)
 
-      key_gap_carried : like (elements.Scalar k) (elements.Scalar l) ≡ true → like e d ≡ true → field_at (fields old pair.old) number ≡ Some old_map → field_at (fields new pair.new) number ≡ Some new_map → (body : ℕ) → Gapped sight true (elements.Scalar k) (elements.Scalar l) body → Carries (presences.Map k) (presences.Map l) 5 1 (entry_cost number body (least_body e))
+      key_gap_carried : like (elements.Scalar k) (elements.Scalar l) ≡ true → like e d ≡ true → field_at (fields old pair.old) number ≡ Some old_map → field_at (fields new pair.new) number ≡ Some new_map → (body : ℕ) → Gapped enum_view true (elements.Scalar k) (elements.Scalar l) body → Carries (presences.Map k) (presences.Map l) 5 1 (entry_cost number body (least_body e))
       key_gap_carried like_keys like_values found at body gap =
-          childless (key_alone number e (gap_item sight true (elements.Scalar k) (elements.Scalar l))) (entry_cost number body (least_body e))
+          childless (key_alone number e (gap_item enum_view true (elements.Scalar k) (elements.Scalar l))) (entry_cost number body (least_body e))
           (λ small.
-          subst (λ x. ReachedBy sight old new pair (key_alone number e x) (entry_cost number body (least_body e))) (sym gap.item_is)
-          (subst (λ b. ReachedBy sight old new pair (alone number (Some gap.item) (item_by (λ x. zero_leaf x) e)) (entry_cost number b (least_body e))) gap.body_is
+          subst (λ x. ReachedBy enum_view old new pair (key_alone number e x) (entry_cost number body (least_body e))) (sym gap.item_is)
+          (subst (λ b. ReachedBy enum_view old new pair (alone number (Some gap.item) (item_by (λ x. zero_leaf x) e)) (entry_cost number b (least_body e))) gap.body_is
           (key_gap_made like_keys like_values found at body gap (subst (λ b. entry_cost number b (least_body e) ≤ cap) (sym gap.body_is) small))))
 
-      value_gap_carried : like e d ≡ true → field_at (fields old pair.old) number ≡ Some old_map → field_at (fields new pair.new) number ≡ Some new_map → (body : ℕ) → Gapped sight true e d body → Carries (presences.Map k) (presences.Map l) 5 2 (one_item old_map body)
+      value_gap_carried : like e d ≡ true → field_at (fields old pair.old) number ≡ Some old_map → field_at (fields new pair.new) number ≡ Some new_map → (body : ℕ) → Gapped enum_view true e d body → Carries (presences.Map k) (presences.Map l) 5 2 (one_item old_map body)
       value_gap_carried like_values found at body gap =
-          subst (λ w. IsCarried w (λ child. value_alone number (zero_leaf (form (elements.Scalar k))) child (gap_item sight true e d)) (one_item old_map body)) (sym (leafy_childless e d gap.old_leafy))
+          subst (λ w. IsCarried w (λ child. value_alone number (zero_leaf (form (elements.Scalar k))) child (gap_item enum_view true e d)) (one_item old_map body)) (sym (leafy_childless e d gap.old_leafy))
           (λ small. (tt, of small))
         where
-          of : one_item old_map body ≤ cap → (child : Option Message) → ChildReached sight old new table None child → ReachedBy sight old new pair (value_alone number (zero_leaf (form (elements.Scalar k))) child (gap_item sight true e d)) (one_item old_map body)
+          of : one_item old_map body ≤ cap → (child : Option Message) → ChildReached enum_view old new table None child → ReachedBy enum_view old new pair (value_alone number (zero_leaf (form (elements.Scalar k))) child (gap_item enum_view true e d)) (one_item old_map body)
           of small (Some m) h = absurd h
           of small None h =
-              subst (λ x. ReachedBy sight old new pair (leaf_alone number (Some (zero_leaf (form (elements.Scalar k)))) x) (one_item old_map body)) (sym gap.item_is)
-              (subst (λ b. ReachedBy sight old new pair (holds number (Some (zero_leaf (form (elements.Scalar k)))) gap.item (ends [])) (one_item old_map b)) gap.body_is
-              (reach_value_gap sight old new shape_old shape_new pair number e d o r k l gap.old_leafy gap.new_leafy like_values found at gap.item gap.least.unseen.in_range gap.least.unseen.not_seen
+              subst (λ x. ReachedBy enum_view old new pair (leaf_alone number (Some (zero_leaf (form (elements.Scalar k)))) x) (one_item old_map body)) (sym gap.item_is)
+              (subst (λ b. ReachedBy enum_view old new pair (holds number (Some (zero_leaf (form (elements.Scalar k)))) gap.item (ends [])) (one_item old_map b)) gap.body_is
+              (reach_value_gap enum_view old new shape_old shape_new pair number e d o r k l gap.old_leafy gap.new_leafy like_values found at gap.item gap.least.unseen.in_range gap.least.unseen.not_seen
               (subst (λ b. one_item old_map b ≤ cap) (sym gap.body_is) small)))
 
       -- unlike keys or values: the entry of a least key and value, where an unlike integer is 1
@@ -358,7 +358,7 @@ module _ (sight : Sight) (law : IsSight sight) (old new : Shape) (shape_old : Is
           of true = refl
           of false = refl
 
-      unlike_maps_made : (like (elements.Scalar k) (elements.Scalar l) && like e d) ≡ false → field_at (fields old pair.old) number ≡ Some old_map → field_at (fields new pair.new) number ≡ Some new_map → least_content old_map ≤ cap → ReachedBy sight old new pair (alone number (Some (apart_leaf (elements.Scalar k) (elements.Scalar l))) (apart_item e d)) (least_content old_map)
+      unlike_maps_made : (like (elements.Scalar k) (elements.Scalar l) && like e d) ≡ false → field_at (fields old pair.old) number ≡ Some old_map → field_at (fields new pair.new) number ≡ Some new_map → least_content old_map ≤ cap → ReachedBy enum_view old new pair (alone number (Some (apart_leaf (elements.Scalar k) (elements.Scalar l))) (apart_item e d)) (least_content old_map)
       unlike_maps_made unlike found at small = ⊎_elim leaves child (leaf_or_message e)
         where
           key_least : body_length (form (elements.Scalar k)) (apart_leaf (elements.Scalar k) (elements.Scalar l)) ≡ least_body (elements.Scalar k)
@@ -371,45 +371,45 @@ module _ (sight : Sight) (law : IsSight sight) (old new : Shape) (shape_old : Is
               of false h = inl h
               of true h = inr (rw h at unlike)
 
-          leaves : IsLeafy e → ReachedBy sight old new pair (alone number (Some (apart_leaf (elements.Scalar k) (elements.Scalar l))) (apart_item e d)) (least_content old_map)
+          leaves : IsLeafy e → ReachedBy enum_view old new pair (alone number (Some (apart_leaf (elements.Scalar k) (elements.Scalar l))) (apart_item e d)) (least_content old_map)
           leaves leafy =
               let cost : entry_cost number (body_length (form (elements.Scalar k)) (apart_leaf (elements.Scalar k) (elements.Scalar l))) (body_length (form e) (apart_leaf e d)) ≡ least_content old_map =
               ap₂ (entry_cost number) key_least (apart_length e d leafy) in
-              subst (λ v. ReachedBy sight old new pair v (least_content old_map)) (sym (apart_part leafy (Some (apart_leaf (elements.Scalar k) (elements.Scalar l)))))
-              (subst (ReachedBy sight old new pair (holds number (Some (apart_leaf (elements.Scalar k) (elements.Scalar l))) (apart_leaf e d) (ends []))) cost
-              (reach_far_leaves sight old new shape_old shape_new pair number d o r k l e leafy found at (apart_leaf (elements.Scalar k) (elements.Scalar l)) (apart_leaf e d) (apart_range (elements.Scalar k) (elements.Scalar l) tt) (apart_range e d leafy)
+              subst (λ v. ReachedBy enum_view old new pair v (least_content old_map)) (sym (apart_part leafy (Some (apart_leaf (elements.Scalar k) (elements.Scalar l)))))
+              (subst (ReachedBy enum_view old new pair (holds number (Some (apart_leaf (elements.Scalar k) (elements.Scalar l))) (apart_leaf e d) (ends []))) cost
+              (reach_far_leaves enum_view old new shape_old shape_new pair number d o r k l e leafy found at (apart_leaf (elements.Scalar k) (elements.Scalar l)) (apart_leaf e d) (apart_range (elements.Scalar k) (elements.Scalar l) tt) (apart_range e d leafy)
               (⊎_elim (λ keys. inl (keys, apart_far (elements.Scalar k) (elements.Scalar l) keys)) (λ values. inr (values, apart_far e d values)) either) (subst (λ n. n ≤ cap) (sym cost) small)))
 
-          child : (s : TypeId) × (e ≡ elements.Message s) → ReachedBy sight old new pair (alone number (Some (apart_leaf (elements.Scalar k) (elements.Scalar l))) (apart_item e d)) (least_content old_map)
+          child : (s : TypeId) × (e ≡ elements.Message s) → ReachedBy enum_view old new pair (alone number (Some (apart_leaf (elements.Scalar k) (elements.Scalar l))) (apart_item e d)) (least_content old_map)
           child (s, is) =
               let cost : entry_cost number (body_length (form (elements.Scalar k)) (apart_leaf (elements.Scalar k) (elements.Scalar l))) (least_body (elements.Message s)) ≡ least_content old_map =
               ap₂ (entry_cost number) key_least (ap least_body (sym is)) in
-              subst (λ v. ReachedBy sight old new pair v (least_content old_map)) (apart_child s is (Some (apart_leaf (elements.Scalar k) (elements.Scalar l))))
-              (subst (ReachedBy sight old new pair (nests number (Some (apart_leaf (elements.Scalar k) (elements.Scalar l))) (ends []) (ends []))) cost
-              (reach_far_child sight old new shape_old shape_new pair number d o r k l s
+              subst (λ v. ReachedBy enum_view old new pair v (least_content old_map)) (apart_child s is (Some (apart_leaf (elements.Scalar k) (elements.Scalar l))))
+              (subst (ReachedBy enum_view old new pair (nests number (Some (apart_leaf (elements.Scalar k) (elements.Scalar l))) (ends []) (ends []))) cost
+              (reach_far_child enum_view old new shape_old shape_new pair number d o r k l s
               (subst (λ x. field_at (fields old pair.old) number ≡ Some (record { number = number; presence = presences.Map k; element = x; oneof = o })) is found) at
               (apart_leaf (elements.Scalar k) (elements.Scalar l)) (apart_range (elements.Scalar k) (elements.Scalar l) tt)
               (⊎_elim (λ keys. inl (keys, apart_far (elements.Scalar k) (elements.Scalar l) keys)) (λ values. inr (subst (λ x. like x d ≡ false) is values)) either) (subst (λ n. n ≤ cap) (sym cost) small)))
 
-      maps_carried : field_at (fields old pair.old) number ≡ Some old_map → field_at (fields new pair.new) number ≡ Some new_map → AllByRecursion (CarriesOwn old_map new_map) (map_choices sight table old_map new_map k l)
+      maps_carried : field_at (fields old pair.old) number ≡ Some old_map → field_at (fields new pair.new) number ≡ Some new_map → AllByRecursion (CarriesOwn old_map new_map) (map_choices enum_view table old_map new_map k l)
       maps_carried found at =
-          elim (like (elements.Scalar k) (elements.Scalar l) && like e d) as (λ b. (like (elements.Scalar k) (elements.Scalar l) && like e d) ≡ b → AllByRecursion (CarriesOwn old_map new_map) (if b then choice_of number 5 1 (option_map (λ body. entry_cost number body (least_body e)) (gap_body sight true (elements.Scalar k) (elements.Scalar l))) ++ choice_of number 5 2 (option_map (one_item old_map) (gap_body sight true e d)) ++ choice_of number 5 2 (option_map (one_item old_map) (child_body table e d)) else choice number 5 0 (least_content old_map) ∷ [])) [
+          elim (like (elements.Scalar k) (elements.Scalar l) && like e d) as (λ b. (like (elements.Scalar k) (elements.Scalar l) && like e d) ≡ b → AllByRecursion (CarriesOwn old_map new_map) (if b then choice_of number 5 1 (option_map (λ body. entry_cost number body (least_body e)) (gap_body enum_view true (elements.Scalar k) (elements.Scalar l))) ++ choice_of number 5 2 (option_map (one_item old_map) (gap_body enum_view true e d)) ++ choice_of number 5 2 (option_map (one_item old_map) (child_body table e d)) else choice number 5 0 (least_content old_map) ∷ [])) [
             | true ↦ λ both.
                 let (like_keys, like_values) = and_parts (like (elements.Scalar k) (elements.Scalar l)) (like e d) both in
                 each-append (CarriesOwn old_map new_map)
-                (choice_of number 5 1 (option_map (λ body. entry_cost number body (least_body e)) (gap_body sight true (elements.Scalar k) (elements.Scalar l))) ++ choice_of number 5 2 (option_map (one_item old_map) (gap_body sight true e d)))
+                (choice_of number 5 1 (option_map (λ body. entry_cost number body (least_body e)) (gap_body enum_view true (elements.Scalar k) (elements.Scalar l))) ++ choice_of number 5 2 (option_map (one_item old_map) (gap_body enum_view true e d)))
                 (choice_of number 5 2 (option_map (one_item old_map) (child_body table e d)))
                 (each-append (CarriesOwn old_map new_map)
-                (choice_of number 5 1 (option_map (λ body. entry_cost number body (least_body e)) (gap_body sight true (elements.Scalar k) (elements.Scalar l))))
-                (choice_of number 5 2 (option_map (one_item old_map) (gap_body sight true e d)))
+                (choice_of number 5 1 (option_map (λ body. entry_cost number body (least_body e)) (gap_body enum_view true (elements.Scalar k) (elements.Scalar l))))
+                (choice_of number 5 2 (option_map (one_item old_map) (gap_body enum_view true e d)))
                 (offered old_map new_map 5 1 _ refl
                 (λ cost h.
-                let (body, there, made) = option_map_some (λ body. entry_cost number body (least_body e)) (gap_body sight true (elements.Scalar k) (elements.Scalar l)) cost h in
-                subst (Carries (presences.Map k) (presences.Map l) 5 1) made (key_gap_carried like_keys like_values found at body (gapped sight law true (elements.Scalar k) (elements.Scalar l) like_keys body there))))
+                let (body, there, made) = option_map_some (λ body. entry_cost number body (least_body e)) (gap_body enum_view true (elements.Scalar k) (elements.Scalar l)) cost h in
+                subst (Carries (presences.Map k) (presences.Map l) 5 1) made (key_gap_carried like_keys like_values found at body (gapped enum_view law true (elements.Scalar k) (elements.Scalar l) like_keys body there))))
                 (offered old_map new_map 5 2 _ refl
                 (λ cost h.
-                let (body, there, made) = option_map_some (one_item old_map) (gap_body sight true e d) cost h in
-                subst (Carries (presences.Map k) (presences.Map l) 5 2) made (value_gap_carried like_values found at body (gapped sight law true e d like_values body there)))))
+                let (body, there, made) = option_map_some (one_item old_map) (gap_body enum_view true e d) cost h in
+                subst (Carries (presences.Map k) (presences.Map l) 5 2) made (value_gap_carried like_values found at body (gapped enum_view law true e d like_values body there)))))
                 (offered old_map new_map 5 2 _ refl (map_child_carried number o r e d k l found at))
             | false ↦ λ unlike. ((refl, refl, childless (alone number (Some (apart_leaf (elements.Scalar k) (elements.Scalar l))) (apart_item e d)) (least_content old_map) (unlike_maps_made unlike found at)), tt)
           ] refl
@@ -417,20 +417,20 @@ module _ (sight : Sight) (law : IsSight sight) (old new : Shape) (shape_old : Is
     -- a map beside a field that is none, and the other way round
     map_beside_carried : (k : Scalar) (q : Presence) → IsNoMap q → field_at (fields old pair.old) number ≡ Some (at_old (presences.Map k)) → field_at (fields new pair.new) number ≡ Some (at_new q) → Carries (presences.Map k) q 1 0 (unlike_cost (at_old (presences.Map k)) (at_new q))
     map_beside_carried k q no_map found at =
-        childless (least_part (at_old (presences.Map k)) (ends [])) (least_content (at_old (presences.Map k))) (reach_map sight old new shape_old shape_new pair number o r e d k q no_map found at)
+        childless (least_part (at_old (presences.Map k)) (ends [])) (least_content (at_old (presences.Map k))) (reach_map enum_view old new shape_old shape_new pair number o r e d k q no_map found at)
 
     beside_map_carried : (p : Presence) → IsNoMap p → (l : Scalar) → field_at (fields old pair.old) number ≡ Some (at_old p) → field_at (fields new pair.new) number ≡ Some (at_new (presences.Map l)) → Carries p (presences.Map l) 1 0 (unlike_cost (at_old p) (at_new (presences.Map l)))
     beside_map_carried presences.Implicit no_map l found at =
         childless (alone number None (item_by (λ x. nonzero_leaf x) e)) (one_item (at_old presences.Implicit) (nonzero_body e))
-        (λ small. subst (λ v. ReachedBy sight old new pair v (one_item (at_old presences.Implicit) (nonzero_body e))) (implicit_least number e (ends [])) (reach_beside_map sight old new shape_old shape_new pair number o r e d presences.Implicit tt l found at small))
+        (λ small. subst (λ v. ReachedBy enum_view old new pair v (one_item (at_old presences.Implicit) (nonzero_body e))) (implicit_least number e (ends [])) (reach_beside_map enum_view old new shape_old shape_new pair number o r e d presences.Implicit tt l found at small))
     beside_map_carried presences.Explicit no_map l found at =
-        childless (least_part (at_old presences.Explicit) (ends [])) (least_content (at_old presences.Explicit)) (reach_beside_map sight old new shape_old shape_new pair number o r e d presences.Explicit tt l found at)
+        childless (least_part (at_old presences.Explicit) (ends [])) (least_content (at_old presences.Explicit)) (reach_beside_map enum_view old new shape_old shape_new pair number o r e d presences.Explicit tt l found at)
     beside_map_carried (presences.Repeated w) no_map l found at =
-        childless (least_part (at_old (presences.Repeated w)) (ends [])) (least_content (at_old (presences.Repeated w))) (reach_beside_map sight old new shape_old shape_new pair number o r e d (presences.Repeated w) tt l found at)
+        childless (least_part (at_old (presences.Repeated w)) (ends [])) (least_content (at_old (presences.Repeated w))) (reach_beside_map enum_view old new shape_old shape_new pair number o r e d (presences.Repeated w) tt l found at)
     beside_map_carried (presences.Map k) no_map l found at = absurd no_map
 
     -- The choices of one field.
-    pub presences_carried : (p q : Presence) → field_at (fields old pair.old) number ≡ Some (at_old p) → field_at (fields new pair.new) number ≡ Some (at_new q) → PresenceFits p e o → PresenceFits q d r → AllByRecursion (CarriesOwn (at_old p) (at_new q)) (field_choices sight table (at_old p) (at_new q))
+    pub presences_carried : (p q : Presence) → field_at (fields old pair.old) number ≡ Some (at_old p) → field_at (fields new pair.new) number ≡ Some (at_new q) → PresenceFits p e o → PresenceFits q d r → AllByRecursion (CarriesOwn (at_old p) (at_new q)) (field_choices enum_view table (at_old p) (at_new q))
     presences_carried (presences.Map k) (presences.Map l) found at fits fits_new = maps_carried k l found at
     presences_carried (presences.Map k) presences.Implicit found at fits fits_new = ((refl, refl, map_beside_carried k presences.Implicit tt found at), tt)
     presences_carried (presences.Map k) presences.Explicit found at fits fits_new = ((refl, refl, map_beside_carried k presences.Explicit tt found at), tt)

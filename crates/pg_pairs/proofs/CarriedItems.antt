@@ -6,7 +6,7 @@ use Rattle.pg_schema.specs.declared.field.Element.TheVariants as elements
 use Rattle.pg_schema.specs.declared.field.Presence.TheVariants as presences
 use Rattle.pg_dyn.specs.Message.{Leaf, Message, holds, with_part}
 use Rattle.pg_dyn.specs.Coding.{Form, form}
-use Rattle.pg_pairs.specs.Sight.{Sight, IsSight}
+use Rattle.pg_pairs.specs.EnumView.{EnumView, IsEnumView}
 use Rattle.pg_pairs.specs.Likeness.{like}
 use Rattle.pg_pairs.specs.Gaps.{body_length, IsLeastUnseen, IsGapItem, gap_item}
 use Rattle.pg_pairs.specs.Costs.{with_length}
@@ -37,10 +37,10 @@ like_message s (elements.Scalar t) h = absurd (cc)
 like_message s (elements.Enum t) h = absurd (cc)
 
 -- only leaves have gaps, and only messages have children
-gap_leafy : (sight : Sight) (zero : Bool) (e d : Element) (item : Leaf) → gap_item sight zero e d ≡ Some item → IsLeafy e
-gap_leafy sight zero (elements.Message s) d item h = absurd (cc)
-gap_leafy sight zero (elements.Scalar s) d item h = tt
-gap_leafy sight zero (elements.Enum s) d item h = tt
+gap_leafy : (enum_view : EnumView) (zero : Bool) (e d : Element) (item : Leaf) → gap_item enum_view zero e d ≡ Some item → IsLeafy e
+gap_leafy enum_view zero (elements.Message s) d item h = absurd (cc)
+gap_leafy enum_view zero (elements.Scalar s) d item h = tt
+gap_leafy enum_view zero (elements.Enum s) d item h = tt
 
 pub leafy_childless : (e d : Element) → IsLeafy e → child_pair e d ≡ None
 leafy_childless (elements.Message s) d leafy = absurd leafy
@@ -59,25 +59,25 @@ implicit_least number (elements.Message s) later = refl
 implicit_least number (elements.Scalar s) later = refl
 implicit_least number (elements.Enum s) later = refl
 
-pub record Gapped (sight : Sight) (zero : Bool) (e d : Element) (body : ℕ) : Type 0 where
+pub record Gapped (enum_view : EnumView) (zero : Bool) (e d : Element) (body : ℕ) : Type 0 where
   pub item : Leaf
-  pub item_is : gap_item sight zero e d ≡ Some item
+  pub item_is : gap_item enum_view zero e d ≡ Some item
   pub old_leafy : IsLeafy e
   pub new_leafy : IsLeafy d
-  pub least : IsLeastUnseen sight.alike zero e d item
+  pub least : IsLeastUnseen enum_view.alike zero e d item
   pub body_is : body_length (form e) item ≡ body
 
 -- the item of a gap
-pub gapped : (sight : Sight) → IsSight sight → (zero : Bool) (e d : Element) → like e d ≡ true → (body : ℕ) → gap_body sight zero e d ≡ Some body → Gapped sight zero e d body
-gapped sight law zero e d is_like body h =
-    let (item, item_is, made) = option_map_some (body_length (form e)) (gap_item sight zero e d) body h in
-    let leafy = gap_leafy sight zero e d item item_is in
+pub gapped : (enum_view : EnumView) → IsEnumView enum_view → (zero : Bool) (e d : Element) → like e d ≡ true → (body : ℕ) → gap_body enum_view zero e d ≡ Some body → Gapped enum_view zero e d body
+gapped enum_view law zero e d is_like body h =
+    let (item, item_is, made) = option_map_some (body_length (form e)) (gap_item enum_view zero e d) body h in
+    let leafy = gap_leafy enum_view zero e d item item_is in
     record {
       item = item;
       item_is = item_is;
       old_leafy = leafy;
       new_leafy = like_leafy e d is_like leafy;
-      least = subst (IsGapItem sight.alike zero e d) item_is (gap_item_is sight law zero e d leafy is_like);
+      least = subst (IsGapItem enum_view.alike zero e d) item_is (gap_item_is enum_view law zero e d leafy is_like);
       body_is = made;
     }
 

@@ -16,7 +16,7 @@ use Rattle.pg_dyn.specs.Fits.{Fits}
 use Rattle.pg_dyn.specs.Kept.{Kept, message_of, type_of}
 use Rattle.pg_pairs.specs.declared.choice.Choice.{Choice}
 use Rattle.pg_pairs.specs.declared.choice.Pair.{Pair}
-use Rattle.pg_pairs.specs.Sight.{Sight, IsSight}
+use Rattle.pg_pairs.specs.EnumView.{EnumView, IsEnumView}
 use Rattle.pg_pairs.specs.Gaps.{gap_item}
 use Rattle.pg_pairs.specs.Choices.{Table, zero_counts, choices}
 use Rattle.pg_pairs.specs.Laws.{ReachedBy}
@@ -42,9 +42,9 @@ with_key presences.Explicit key h = absurd (cc)
 with_key (presences.Repeated packed) key h = absurd (cc)
 with_key (presences.Map k) key h = refl
 
-module _ (sight : Sight) (old new : Shape) (pair : Pair) (cost : ℕ) (some : 1 ≤ cost) where
+module _ (enum_view : EnumView) (old new : Shape) (pair : Pair) (cost : ℕ) (some : 1 ≤ cost) where
   abbrev Reaches : Message → Type 0
-  Reaches v = ReachedBy sight old new pair v cost
+  Reaches v = ReachedBy enum_view old new pair v cost
 
   -- the empty message has no bytes
   pub empty_reaches : Reaches (ends []) → ⊥
@@ -105,25 +105,25 @@ module _ (sight : Sight) (old new : Shape) (pair : Pair) (cost : ℕ) (some : 1 
       both_there m true v w s t h k = h
       both_there m false v w s t h k = k
 
-      entry_there : (k l : Scalar) (part : ℕ) → Reaches (entry_message sight f.number k l f.element g.element part (option_map message_of child)) → (is_map f.presence && has_entry sight f k l g.element part child) ≡ true
+      entry_there : (k l : Scalar) (part : ℕ) → Reaches (entry_message enum_view f.number k l f.element g.element part (option_map message_of child)) → (is_map f.presence && has_entry enum_view f k l g.element part child) ≡ true
       entry_there k l part =
           both_there (is_map f.presence) (nat_eq part 1)
-          (key_alone f.number f.element (gap_item sight true (elements.Scalar k) (elements.Scalar l)))
-          (if nat_eq part 2 then value_alone f.number (zero_leaf (form (elements.Scalar k))) (option_map message_of child) (gap_item sight true f.element g.element) else alone f.number (Some (apart_leaf (elements.Scalar k) (elements.Scalar l))) (apart_item f.element g.element))
-          (is_some (gap_item sight true (elements.Scalar k) (elements.Scalar l)))
-          (if nat_eq part 2 then has_value f.element child (gap_item sight true f.element g.element) else true)
-          (gap_key_there (gap_item sight true (elements.Scalar k) (elements.Scalar l)))
+          (key_alone f.number f.element (gap_item enum_view true (elements.Scalar k) (elements.Scalar l)))
+          (if nat_eq part 2 then value_alone f.number (zero_leaf (form (elements.Scalar k))) (option_map message_of child) (gap_item enum_view true f.element g.element) else alone f.number (Some (apart_leaf (elements.Scalar k) (elements.Scalar l))) (apart_item f.element g.element))
+          (is_some (gap_item enum_view true (elements.Scalar k) (elements.Scalar l)))
+          (if nat_eq part 2 then has_value f.element child (gap_item enum_view true f.element g.element) else true)
+          (gap_key_there (gap_item enum_view true (elements.Scalar k) (elements.Scalar l)))
           (both_there (is_map f.presence) (nat_eq part 2)
-          (value_alone f.number (zero_leaf (form (elements.Scalar k))) (option_map message_of child) (gap_item sight true f.element g.element))
+          (value_alone f.number (zero_leaf (form (elements.Scalar k))) (option_map message_of child) (gap_item enum_view true f.element g.element))
           (alone f.number (Some (apart_leaf (elements.Scalar k) (elements.Scalar l))) (apart_item f.element g.element))
-          (has_value f.element child (gap_item sight true f.element g.element)) true
-          (value_there (zero_leaf (form (elements.Scalar k))) child (gap_item sight true f.element g.element) refl)
+          (has_value f.element child (gap_item enum_view true f.element g.element)) true
+          (value_there (zero_leaf (form (elements.Scalar k))) child (gap_item enum_view true f.element g.element) refl)
           (λ by. rw (mapped (apart_leaf (elements.Scalar k) (elements.Scalar l)) (apart_item f.element g.element) by) refl))
 
-      pub content_there : (case part : ℕ) → Reaches (carried_field sight f g case part (option_map message_of child)) → has_content sight f g case part child ≡ true
+      pub content_there : (case part : ℕ) → Reaches (carried_field enum_view f g case part (option_map message_of child)) → has_content enum_view f g case part child ≡ true
       content_there case part =
           either_there (nat_eq case 1) _ _ _ _ (λ by. refl)
-          (either_there (nat_eq case 2) _ _ _ _ (leaf_there (gap_item sight (zero_counts f g) f.element g.element))
+          (either_there (nat_eq case 2) _ _ _ _ (leaf_there (gap_item enum_view (zero_counts f g) f.element g.element))
           (either_there (nat_eq case 3) _ _ _ _ (child_there child refl)
           (either_there (nat_eq case 4) _ _ _ _ (lost_there (item_by (λ x. zero_leaf x) f.element))
           (entry_there (key_of f.presence) (key_of g.presence) part))))
@@ -158,42 +158,42 @@ child_there_is f g case part p =
     element (elements.Scalar s) d h = absurd (cc)
     element (elements.Enum s) d h = absurd (cc)
 
-child_content : (sight : Sight) (f g : FieldShape) (case part : ℕ) (type : TypeId) (m : Kept) → has_child case part ≡ true → f.element ≡ elements.Message type → type_of m ≡ type → (nat_eq case 3 ≡ true → is_map f.presence ≡ false) → (nat_eq case 5 ≡ true → is_map f.presence ≡ true) → has_content sight f g case part (Some m) ≡ true
-child_content sight f g case part type m is_child element of_type unmapped mapped =
-    ⊎_elim (λ three. subst (λ n. has_content sight f g n part (Some m) ≡ true) (sym (eqb-true case 3 three)) (rw (unmapped three) typed))
+child_content : (enum_view : EnumView) (f g : FieldShape) (case part : ℕ) (type : TypeId) (m : Kept) → has_child case part ≡ true → f.element ≡ elements.Message type → type_of m ≡ type → (nat_eq case 3 ≡ true → is_map f.presence ≡ false) → (nat_eq case 5 ≡ true → is_map f.presence ≡ true) → has_content enum_view f g case part (Some m) ≡ true
+child_content enum_view f g case part type m is_child element of_type unmapped mapped =
+    ⊎_elim (λ three. subst (λ n. has_content enum_view f g n part (Some m) ≡ true) (sym (eqb-true case 3 three)) (rw (unmapped three) typed))
     (λ five.
-    subst (λ n. has_content sight f g n part (Some m) ≡ true) (sym (eqb-true case 5 five.0))
-    (subst (λ n. has_content sight f g 5 n (Some m) ≡ true) (sym (eqb-true part 2 five.1)) (rw (mapped five.0) typed)))
+    subst (λ n. has_content enum_view f g n part (Some m) ≡ true) (sym (eqb-true case 5 five.0))
+    (subst (λ n. has_content enum_view f g 5 n (Some m) ≡ true) (sym (eqb-true part 2 five.1)) (rw (mapped five.0) typed)))
     (has_child_case case part is_child)
   where
     typed : is_child_of f.element (Some m) ≡ true
     typed = subst (λ e. is_child_of e (Some m) ≡ true) (sym element) (eq-eqb (type_of m).index type.index (ap (λ x. x.index) of_type))
 
 -- A field takes the content of each of its choices, round its child.
-pub choice_content : (sight : Sight) (old new : Shape) (table : Table) → IsSight sight → IsShape old → IsShape new → (pair : Pair) (c : Choice) → IsAmong c (choices sight table old new pair) → (child : Option Kept) → ChildGiven old (choice_child old new pair c) child → nat_eq c.case 6 ≡ false → (f g : FieldShape) → field_at (fields old pair.old) c.number ≡ Some f → field_at (fields new pair.new) c.number ≡ Some g → f.number ≡ c.number → has_content sight f g c.case c.part child ≡ true
-choice_content sight old new table law shape_old shape_new pair c among child given single f g found at own =
+pub choice_content : (enum_view : EnumView) (old new : Shape) (table : Table) → IsEnumView enum_view → IsShape old → IsShape new → (pair : Pair) (c : Choice) → IsAmong c (choices enum_view table old new pair) → (child : Option Kept) → ChildGiven old (choice_child old new pair c) child → nat_eq c.case 6 ≡ false → (f g : FieldShape) → field_at (fields old pair.old) c.number ≡ Some f → field_at (fields new pair.new) c.number ≡ Some g → f.number ≡ c.number → has_content enum_view f g c.case c.part child ≡ true
+choice_content enum_view old new table law shape_old shape_new pair c among child given single f g found at own =
     of (field_child f g c.case c.part) child refl (subst (λ o. ChildGiven old o child) child_is given)
   where
     child_is : choice_child old new pair c ≡ field_child f g c.case c.part
     child_is = ap₂ (λ x y. child_of x y c) found at
 
-    carried_is : carried sight old new pair c None ≡ carried_field sight f g c.case c.part None
+    carried_is : carried enum_view old new pair c None ≡ carried_field enum_view f g c.case c.part None
     carried_is =
-        ap₂ (λ x y. carried_of sight x y (field_at (fields old pair.old) c.part) c None) found at
-        ∙ ap (λ (b : Bool). if b then carried_two f (field_at (fields old pair.old) c.part) else carried_field sight f g c.case c.part None) single
+        ap₂ (λ x y. carried_of enum_view x y (field_at (fields old pair.old) c.part) c None) found at
+        ∙ ap (λ (b : Bool). if b then carried_two f (field_at (fields old pair.old) c.part) else carried_field enum_view f g c.case c.part None) single
 
     is_placed : IsPlaced f.presence c
     is_placed =
-        let stands = (choice_known sight law old new shape_old shape_new table pair c among).1 in
+        let stands = (choice_known enum_view law old new shape_old shape_new table pair c among).1 in
         subst (λ (x : FieldShape). IsPlaced x.presence c) (one_found (fields old pair.old) c.number stands.field f stands.found found) (stands.placed single)
 
-    of : (wanted : Option Pair) (o : Option Kept) → field_child f g c.case c.part ≡ wanted → ChildGiven old wanted o → has_content sight f g c.case c.part o ≡ true
+    of : (wanted : Option Pair) (o : Option Kept) → field_child f g c.case c.part ≡ wanted → ChildGiven old wanted o → has_content enum_view f g c.case c.part o ≡ true
     of None None is given =
-        content_there sight old new pair c.cost (choice_some sight old new table pair c among) f g (ap (field_at (fields old pair.old)) own ∙ found) None (λ m no. absurd (cc)) c.case c.part
-        (subst (λ v. ReachedBy sight old new pair v c.cost) carried_is
-        (choices_carried sight old new table law shape_old shape_new pair c among None (subst (λ o. ChildReached sight old new table o None) (sym (child_is ∙ is)) tt)))
+        content_there enum_view old new pair c.cost (choice_some enum_view old new table pair c among) f g (ap (field_at (fields old pair.old)) own ∙ found) None (λ m no. absurd (cc)) c.case c.part
+        (subst (λ v. ReachedBy enum_view old new pair v c.cost) carried_is
+        (choices_carried enum_view old new table law shape_old shape_new pair c among None (subst (λ o. ChildReached enum_view old new table o None) (sym (child_is ∙ is)) tt)))
     of None (Some m) is given = absurd given
     of (Some p) None is given = absurd given
     of (Some p) (Some m) is given =
         let (is_child, element) = child_there_is f g c.case c.part p is in
-        child_content sight f g c.case c.part p.old m is_child element given.1 is_placed.0 is_placed.1
+        child_content enum_view f g c.case c.part p.old m is_child element given.1 is_placed.0 is_placed.1

@@ -24,7 +24,7 @@ use Rattle.pg_dyn.specs.Setting.{normalized, normalized_by, IsSetTo}
 use Rattle.pg_dyn.proofs.Lists.{each_at, each_weaker, list_any_none}
 use Rattle.pg_pairs.specs.declared.choice.Choice.{Choice}
 use Rattle.pg_pairs.specs.declared.choice.Pair.{Pair}
-use Rattle.pg_pairs.specs.Sight.{Sight, IsSight}
+use Rattle.pg_pairs.specs.EnumView.{EnumView, IsEnumView}
 use Rattle.pg_pairs.specs.Gaps.{gap_item}
 use Rattle.pg_pairs.specs.Choices.{Table, zero_counts, choices}
 use Rattle.pg_pairs.specs.Among.{IsAmong}
@@ -115,15 +115,15 @@ lost_normalized number presences.Explicit q zero = inr (alone_short number None 
 lost_normalized number (presences.Map k) q zero = inr (alone_short number None zero)
 lost_normalized number (presences.Repeated w) q zero = inl refl
 
-carried_normalized : (sight : Sight) (f g : FieldShape) (case part : ℕ) (child : Option Message) → IsSettled f.presence (carried_field sight f g case part child)
-carried_normalized sight f g case part child =
+carried_normalized : (enum_view : EnumView) (f g : FieldShape) (case part : ℕ) (child : Option Message) → IsSettled f.presence (carried_field enum_view f g case part child)
+carried_normalized enum_view f g case part child =
     either f.presence (nat_eq case 1) _ _
     (either f.presence (zero_counts f g) _ _ (inr (least_short f.number f.presence f.element)) (inr (alone_short f.number (least_key f.presence) (item_by (λ x. nonzero_leaf x) f.element))))
-    (either f.presence (nat_eq case 2) _ _ (inr (leaf_short f.number None (gap_item sight (zero_counts f g) f.element g.element)))
+    (either f.presence (nat_eq case 2) _ _ (inr (leaf_short f.number None (gap_item enum_view (zero_counts f g) f.element g.element)))
     (either f.presence (nat_eq case 3) _ _ (inr (child_short f.number None child))
     (either f.presence (nat_eq case 4) _ _ (lost_normalized f.number f.presence g.presence (item_by (λ x. zero_leaf x) f.element))
-    (either f.presence (nat_eq part 1) _ _ (inr (key_short f.number f.element (gap_item sight true (elements.Scalar (key_of f.presence)) (elements.Scalar (key_of g.presence)))))
-    (either f.presence (nat_eq part 2) _ _ (inr (value_short f.number (zero_leaf (form (elements.Scalar (key_of f.presence)))) child (gap_item sight true f.element g.element)))
+    (either f.presence (nat_eq part 1) _ _ (inr (key_short f.number f.element (gap_item enum_view true (elements.Scalar (key_of f.presence)) (elements.Scalar (key_of g.presence)))))
+    (either f.presence (nat_eq part 2) _ _ (inr (value_short f.number (zero_leaf (form (elements.Scalar (key_of f.presence)))) child (gap_item enum_view true f.element g.element)))
     (inr (alone_short f.number (Some (apart_leaf (elements.Scalar (key_of f.presence)) (elements.Scalar (key_of g.presence)))) (apart_item f.element g.element))))))))
 
 -- whether the first part is a zero
@@ -190,13 +190,13 @@ module _ (shape : Shape) (type : TypeId) where
   with_content_empty : (fs : List FieldShape) (f : FieldShape) (qs : List (Part KeptItem)) → with_content fs f qs (ends type []) ≡ kept_from type qs []
   with_content_empty fs f qs = ap (λ x. kept_from type x []) (append-nil qs)
 
-module _ (sight : Sight) (old new : Shape) (table : Table) (law : IsSight sight) (shape_old : IsShape old) (shape_new : IsShape new) (pair : Pair) (c : Choice) (among : IsAmong c (choices sight table old new pair)) where
+module _ (enum_view : EnumView) (old new : Shape) (table : Table) (law : IsEnumView enum_view) (shape_old : IsShape old) (shape_new : IsShape new) (pair : Pair) (c : Choice) (among : IsAmong c (choices enum_view table old new pair)) where
   -- A choice of one field: its content stays as it is where it is set, and makes the choice's message.
   module _ (single : nat_eq c.case 6 ≡ false) (f g : FieldShape) (found : field_at (fields old pair.old) c.number ≡ Some f) (at : field_at (fields new pair.new) c.number ≡ Some g) (own : f.number ≡ c.number) where
-    carried_is : (child : Option Message) → carried sight old new pair c child ≡ carried_field sight f g c.case c.part child
+    carried_is : (child : Option Message) → carried enum_view old new pair c child ≡ carried_field enum_view f g c.case c.part child
     carried_is child =
-        ap₂ (λ x y. carried_of sight x y (field_at (fields old pair.old) c.part) c child) found at
-        ∙ ap (λ (b : Bool). if b then carried_two f (field_at (fields old pair.old) c.part) else carried_field sight f g c.case c.part child) single
+        ap₂ (λ x y. carried_of enum_view x y (field_at (fields old pair.old) c.part) c child) found at
+        ∙ ap (λ (b : Bool). if b then carried_two f (field_at (fields old pair.old) c.part) else carried_field enum_view f g c.case c.part child) single
 
     child_is : choice_child old new pair c ≡ field_child f g c.case c.part
     child_is = ap₂ (λ x y. child_of x y c) found at
@@ -208,26 +208,26 @@ module _ (sight : Sight) (old new : Shape) (table : Table) (law : IsSight sight)
         subst₂ (λ p e. PresenceFits p e f.oneof) implicit element fits
 
     -- the content of an implicit field isn't zero
-    nonzero : (content : Content) (child : Option Kept) → made old pair.old (content_seen c.number content) ≡ carried_field sight f g c.case c.part (option_map message_of child) → ChildGiven old (choice_child old new pair c) child → f.presence ≡ presences.Implicit → first_is_zero (made old pair.old (content_seen c.number content)) ≡ false
+    nonzero : (content : Content) (child : Option Kept) → made old pair.old (content_seen c.number content) ≡ carried_field enum_view f g c.case c.part (option_map message_of child) → ChildGiven old (choice_child old new pair c) child → f.presence ≡ presences.Implicit → first_is_zero (made old pair.old (content_seen c.number content)) ≡ false
     nonzero content child is given implicit = of (field_child f g c.case c.part) child refl is (subst (λ o. ChildGiven old o child) child_is given)
       where
-        of : (wanted : Option Pair) (o : Option Kept) → field_child f g c.case c.part ≡ wanted → made old pair.old (content_seen c.number content) ≡ carried_field sight f g c.case c.part (option_map message_of o) → ChildGiven old wanted o → first_is_zero (made old pair.old (content_seen c.number content)) ≡ false
+        of : (wanted : Option Pair) (o : Option Kept) → field_child f g c.case c.part ≡ wanted → made old pair.old (content_seen c.number content) ≡ carried_field enum_view f g c.case c.part (option_map message_of o) → ChildGiven old wanted o → first_is_zero (made old pair.old (content_seen c.number content)) ≡ false
         of None None none is given =
             message_nonzero old pair.old f (content_seen c.number content) (ap (field_at (fields old pair.old)) own ∙ found)
             (subst (λ n. AllByRecursion (λ (p : Part KeptItem). p.number ≡ n) (content_seen c.number content)) (sym own) (contents_are_seen.0 c.number content))
-            (subst (λ v. ReachedBy sight old new pair v c.cost) (carried_is None ∙ sym is)
-            (choices_carried sight old new table law shape_old shape_new pair c among None (subst (λ o. ChildReached sight old new table o None) (sym (child_is ∙ none)) tt))).0.is_message implicit
+            (subst (λ v. ReachedBy enum_view old new pair v c.cost) (carried_is None ∙ sym is)
+            (choices_carried enum_view old new table law shape_old shape_new pair c among None (subst (λ o. ChildReached enum_view old new table o None) (sym (child_is ∙ none)) tt))).0.is_message implicit
         of None (Some m) none is given = absurd given
         of (Some p) None some is given = absurd given
         of (Some p) (Some m) some is given = absurd (not_implicit p.old (child_there_is f g c.case c.part p some).1 implicit)
 
-    pub carried_single : (content : Content) (child : Option Kept) → content_alone c.number content ≡ carried_field sight f g c.case c.part (option_map message_of child) → (m : Kept) → IsSetTo old c.number content (ends pair.old []) m → ChildGiven old (choice_child old new pair c) child → message_of m ≡ carried sight old new pair c (option_map message_of child)
+    pub carried_single : (content : Content) (child : Option Kept) → content_alone c.number content ≡ carried_field enum_view f g c.case c.part (option_map message_of child) → (m : Kept) → IsSetTo old c.number content (ends pair.old []) m → ChildGiven old (choice_child old new pair c) child → message_of m ≡ carried enum_view old new pair c (option_map message_of child)
     carried_single content child is m (f', found', m_is) given =
         let ps = content_seen c.number content in
         let field_is : f' ≡ f = one_found (fields old pair.old) c.number f' f found' found in
-        let made_is : made old pair.old ps ≡ carried_field sight f g c.case c.part (option_map message_of child) = content_made c.number content (ends pair.old []) ∙ is in
+        let made_is : made old pair.old ps ≡ carried_field enum_view f g c.case c.part (option_map message_of child) = content_made c.number content (ends pair.old []) ∙ is in
         let stays : normalized f ps ≡ ps =
-        normalized_same old pair.old f.presence ps (subst (IsSettled f.presence) (sym made_is) (carried_normalized sight f g c.case c.part (option_map message_of child))) (nonzero content child made_is given) in
+        normalized_same old pair.old f.presence ps (subst (IsSettled f.presence) (sym made_is) (carried_normalized enum_view f g c.case c.part (option_map message_of child))) (nonzero content child made_is given) in
         let m_made : m ≡ kept_from pair.old ps [] =
         m_is ∙ ap (λ x. with_content (fields old pair.old) x (normalized x ps) (ends pair.old [])) field_is
         ∙ ap (λ qs. with_content (fields old pair.old) f qs (ends pair.old [])) stays ∙ with_content_empty old pair.old (fields old pair.old) f ps in
@@ -270,20 +270,20 @@ module _ (type : TypeId) where
       with_content_behind fs e p.number p.key p.item qs (subst (λ n. is_sibling_number fs e n ≡ false) (sym own.0) sibling) (subst (λ n. nat_lt n e.number ≡ true) (sym own.0) below) (subst (λ n. nat_lt e.number n ≡ false) (sym own.0) above)
   behind_short fs e number (p ∷ q ∷ ps) qs short own sibling below above = absurd short
 
-module _ (sight : Sight) (old new : Shape) (table : Table) (law : IsSight sight) (shape_old : IsShape old) (shape_new : IsShape new) (pair : Pair) (c : Choice) (among : IsAmong c (choices sight table old new pair)) where
+module _ (enum_view : EnumView) (old new : Shape) (table : Table) (law : IsEnumView enum_view) (shape_old : IsShape old) (shape_new : IsShape new) (pair : Pair) (c : Choice) (among : IsAmong c (choices enum_view table old new pair)) where
   -- the least content of a field stays as it is where it is set
   least_stays : (f : FieldShape) (ps : List (Part KeptItem)) → made old pair.old ps ≡ least_part f (model.ends []) → normalized f ps ≡ ps
   least_stays f ps is =
       normalized_same old pair.old f.presence ps (inr (subst (λ v. IsShort (places v)) (sym is) (least_short f.number f.presence f.element)))
       (λ implicit. ap first_is_zero is ∙ least_nonzero f.number f.presence f.element implicit)
 
-  pub carried_double : nat_eq c.case 6 ≡ true → (f e g : FieldShape) → field_at (fields old pair.old) c.number ≡ Some f → field_at (fields old pair.old) c.part ≡ Some e → field_at (fields new pair.new) c.number ≡ Some g → f.number ≡ c.number → e.number ≡ c.part → (first second : Content) (child : Option Message) → Puts c.number first (least_part f) → Puts c.part second (least_part e) → (m n : Kept) → IsSetTo old c.number first (ends pair.old []) m → IsSetTo old c.part second m n → message_of n ≡ carried sight old new pair c child
+  pub carried_double : nat_eq c.case 6 ≡ true → (f e g : FieldShape) → field_at (fields old pair.old) c.number ≡ Some f → field_at (fields old pair.old) c.part ≡ Some e → field_at (fields new pair.new) c.number ≡ Some g → f.number ≡ c.number → e.number ≡ c.part → (first second : Content) (child : Option Message) → Puts c.number first (least_part f) → Puts c.part second (least_part e) → (m n : Kept) → IsSetTo old c.number first (ends pair.old []) m → IsSetTo old c.part second m n → message_of n ≡ carried enum_view old new pair c child
   carried_double six f e g found found_e at own own_e first second child puts puts_e m n (f', found', m_is) (e', found_e', n_is) =
       let ps = content_seen c.number first in
       let qs = content_seen c.part second in
       let made_ps : made old pair.old ps ≡ least_part f (model.ends []) = content_made c.number first (ends pair.old []) ∙ puts (model.ends []) in
       let made_qs : made old pair.old qs ≡ least_part e (model.ends []) = content_made c.part second (ends pair.old []) ∙ puts_e (model.ends []) in
-      let (below, apart) = (choice_known sight law old new shape_old shape_new table pair c among).0 six in
+      let (below, apart) = (choice_known enum_view law old new shape_old shape_new table pair c among).0 six in
       let rising = (fields_are_found.0 old pair.old shape_old).rising in
       let first_is : f' ≡ f = one_found (fields old pair.old) c.number f' f found' found in
       let m_made : m ≡ kept_from pair.old ps [] =
@@ -299,8 +299,8 @@ module _ (sight : Sight) (old new : Shape) (table : Table) (law : IsSight sight)
       n_is ∙ ap (λ t. with_content (fields old t) e' (normalized e' qs) m) type_is
       ∙ ap (λ x. with_content (fields old pair.old) x (normalized x qs) m) second_is
       ∙ ap₂ (λ xs x. with_content (fields old pair.old) e xs x) (least_stays e qs made_qs) m_made ∙ behind in
-      let carried_is : carried sight old new pair c child ≡ least_part f (least_part e (model.ends [])) =
-      ap₂ (λ x y. carried_of sight x y (field_at (fields old pair.old) c.part) c child) found at
-      ∙ ap (λ (b : Bool). if b then carried_two f (field_at (fields old pair.old) c.part) else carried_field sight f g c.case c.part child) six
+      let carried_is : carried enum_view old new pair c child ≡ least_part f (least_part e (model.ends [])) =
+      ap₂ (λ x y. carried_of enum_view x y (field_at (fields old pair.old) c.part) c child) found at
+      ∙ ap (λ (b : Bool). if b then carried_two f (field_at (fields old pair.old) c.part) else carried_field enum_view f g c.case c.part child) six
       ∙ ap (carried_two f) found_e in
       ap message_of n_made ∙ content_made c.number first (kept_from pair.old qs []) ∙ puts (made old pair.old qs) ∙ ap (least_part f) made_qs ∙ sym carried_is

@@ -20,24 +20,24 @@ use Rattle.pg_dyn.specs.Writing.{item_record, entry_bytes, records_in, bytes_of}
 use Rattle.pg_dyn.specs.Encoding.{child_type, enc, cap}
 use Rattle.pg_dyn.specs.Decoding.{read_item, dec}
 use Rattle.pg_dyn.specs.Belonging.{IsMessage}
-use Rattle.pg_dyn.specs.Comparison.{View, Alike, meets, alike_leaves, same_message, unshared_bytes, Kept}
+use Rattle.pg_dyn.specs.Comparison.{View, Alike, matches, alike_leaves, same_message, unshared_bytes, Kept}
 use Rattle.pg_dyn.proofs.Lists.{filter_none, option_map_some}
 use Rattle.pg_pairs.proofs.Packed.{Reads}
 use Rattle.pg_dyn.specs.Bodies.{IsNestedLeaf}
 use Rattle.pg_pairs.proofs.EntryRecords.{two_records}
 use Rattle.pg_pairs.specs.declared.choice.Pair.{Pair}
-use Rattle.pg_pairs.specs.Sight.{Sight}
+use Rattle.pg_pairs.specs.EnumView.{EnumView}
 use Rattle.pg_pairs.specs.Likeness.{like}
 use Rattle.pg_pairs.specs.Gaps.{body_length}
 use Rattle.pg_pairs.specs.Costs.{with_length, least_body, entry_cost}
-use Rattle.pg_dyn.specs.Comparison.{Cell}
-use Rattle.pg_dyn.specs.ByCells.{is_field_kept}
+use Rattle.pg_dyn.specs.Comparison.{Comparand}
+use Rattle.pg_dyn.specs.ByComparands.{is_field_kept}
 use Rattle.pg_pairs.specs.Laws.{ReachedBy}
 use Rattle.pg_pairs.specs.Carried.{far_leaf}
 use Rattle.pg_pairs.proofs.Leaves.{alike_equal}
 use Rattle.pg_pairs.proofs.GapItems.{IsLeafy}
 use Rattle.pg_pairs.proofs.Costs.{length-len_record}
-use Rattle.pg_pairs.proofs.Cells.{leafy_reader, length-entry_bytes}
+use Rattle.pg_pairs.proofs.Comparands.{leafy_reader, length-entry_bytes}
 use Rattle.pg_pairs.proofs.Single.{single_length, single_broken}
 use Rattle.pg_pairs.proofs.KindsRead.{kind, form_kind, IsOfForm, content_kind}
 use Rattle.pg_pairs.proofs.CarryWires.{unlike_leaves}
@@ -152,15 +152,15 @@ module _ (k l : Scalar) (e d : Element) (key value : Leaf) (key_reads : Reads (f
       (λ wires. (untaken_other 1 2 (elements.Scalar k) d key refl, (untaken_own 2 2 e d value wires, tt))) y h (sym far ∙ same)
 
 -- what a child, or a leaf beside a child, is read as isn't met
-leaf_unmet : (view : View) (f g : FieldShape) (d : Element) (leaf y : Leaf) → (leaf ≡ y → ⊥) → (read : (x : Leaf) → Option Item) → IsLeafy d → ((x : Leaf) → read x ≡ Some (Plain x)) → (item : Item) → read y ≡ Some item → meets view f g (Alike leaf) item ≡ false
+leaf_unmet : (view : View) (f g : FieldShape) (d : Element) (leaf y : Leaf) → (leaf ≡ y → ⊥) → (read : (x : Leaf) → Option Item) → IsLeafy d → ((x : Leaf) → read x ≡ Some (Plain x)) → (item : Item) → read y ≡ Some item → matches view f g (Alike leaf) item ≡ false
 leaf_unmet view f g d leaf y apart read leafy plain item h =
     let equal : ◌≡◌ {A = Option Item} (Some (Plain y)) (Some item) = sym (plain y) ∙ h in
     let same : Plain y ≡ item = cc in
-    subst (λ i. meets view f g (Alike leaf) i ≡ false) same
+    subst (λ i. matches view f g (Alike leaf) i ≡ false) same
     (⊎_elim (λ alike. absurd (apart (alike_equal view f.element g.element leaf y alike))) (λ no. no) (cases_Bool (alike_leaves view f.element g.element leaf y)))
 
 -- Two maps whose keys or whose values are unlike; the key and the value of the entry are least, and 1 where they are unlike integers.
-module _ (sight : Sight) (old new : Shape) (shape_old : IsShape old) (shape_new : IsShape new) (pair : Pair) (number : ℕ) (d : Element) (o r : Option ℕ) (k l : Scalar) where
+module _ (enum_view : EnumView) (old new : Shape) (shape_old : IsShape old) (shape_new : IsShape new) (pair : Pair) (number : ℕ) (d : Element) (o r : Option ℕ) (k l : Scalar) where
   abbrev map_of : Element → FieldShape
   map_of e = record { number = number; presence = presences.Map k; element = e; oneof = o }
 
@@ -172,45 +172,45 @@ module _ (sight : Sight) (old new : Shape) (shape_old : IsShape old) (shape_new 
       ((like (elements.Scalar k) (elements.Scalar l) ≡ false) × (key ≡ far_leaf (form (elements.Scalar k))))
       ⊎ ((like e d ≡ false) × (value ≡ far_leaf (form e)))
 
-  leaf_value_unmet : (e : Element) → IsLeafy e → like e d ≡ false → (value y : Leaf) → (IsLeafy d → value ≡ y → ⊥) → (item : Item) → read_item (dec new) d y ≡ Some item → meets sight.alike (map_of e) beside (Alike value) item ≡ false
+  leaf_value_unmet : (e : Element) → IsLeafy e → like e d ≡ false → (value y : Leaf) → (IsLeafy d → value ≡ y → ⊥) → (item : Item) → read_item (dec new) d y ≡ Some item → matches enum_view.alike (map_of e) beside (Alike value) item ≡ false
   leaf_value_unmet e leafy unlike value y apart item h = of d refl
     where
-      of : (x : Element) → d ≡ x → meets sight.alike (map_of e) beside (Alike value) item ≡ false
+      of : (x : Element) → d ≡ x → matches enum_view.alike (map_of e) beside (Alike value) item ≡ false
       of (elements.Message t) is =
           let (m, read, made) = option_map_some Msg (dec new t (leaf_bytes y)) item (subst (λ z. read_item (dec new) z y ≡ Some item) is h) in
-          subst (λ i. meets sight.alike (map_of e) beside (Alike value) i ≡ false) made refl
+          subst (λ i. matches enum_view.alike (map_of e) beside (Alike value) i ≡ false) made refl
       of (elements.Scalar s) is =
           let leafy_new : IsLeafy d = subst IsLeafy (sym is) tt in
-          leaf_unmet sight.alike (map_of e) beside d value y (apart leafy_new) (read_item (dec new) d) leafy_new (leafy_reader (dec new) d leafy_new).read_is item h
+          leaf_unmet enum_view.alike (map_of e) beside d value y (apart leafy_new) (read_item (dec new) d) leafy_new (leafy_reader (dec new) d leafy_new).read_is item h
       of (elements.Enum s) is =
           let leafy_new : IsLeafy d = subst IsLeafy (sym is) tt in
-          leaf_unmet sight.alike (map_of e) beside d value y (apart leafy_new) (read_item (dec new) d) leafy_new (leafy_reader (dec new) d leafy_new).read_is item h
+          leaf_unmet enum_view.alike (map_of e) beside d value y (apart leafy_new) (read_item (dec new) d) leafy_new (leafy_reader (dec new) d leafy_new).read_is item h
 
   -- a map of leaves
-  pub reach_far_leaves : (e : Element) (leafy : IsLeafy e) → field_at (fields old pair.old) number ≡ Some (map_of e) → field_at (fields new pair.new) number ≡ Some beside → (key value : Leaf) → InRange (form (elements.Scalar k)) key → InRange (form e) value → IsFar e key value → entry_cost number (body_length (form (elements.Scalar k)) key) (body_length (form e) value) ≤ cap → ReachedBy sight old new pair (holds number (Some key) value (ends [])) (entry_cost number (body_length (form (elements.Scalar k)) key) (body_length (form e) value))
+  pub reach_far_leaves : (e : Element) (leafy : IsLeafy e) → field_at (fields old pair.old) number ≡ Some (map_of e) → field_at (fields new pair.new) number ≡ Some beside → (key value : Leaf) → InRange (form (elements.Scalar k)) key → InRange (form e) value → IsFar e key value → entry_cost number (body_length (form (elements.Scalar k)) key) (body_length (form e) value) ≤ cap → ReachedBy enum_view old new pair (holds number (Some key) value (ends [])) (entry_cost number (body_length (form (elements.Scalar k)) key) (body_length (form e) value))
   reach_far_leaves e leafy found at key value key_range range far small =
       let key_reads = bodies_read_again (elements.Scalar k) key key_range in
       let value_reads = bodies_read_again e value range in
-      let is_nested = nested sight old new shape_old shape_new pair number e d o r k l leafy e leafy value in
+      let is_nested = nested enum_view old new shape_old shape_new pair number e d o r k l leafy e leafy value in
       let short : length (entry_bytes k e key value) < 2 ^ 64 = omega (arith, length-entry_bytes k e key value) in
-      reach_entry sight old new shape_old shape_new pair number e d o r k l leafy key value key_range range found at small
-      (entry_broken sight.alike (dec new) (map_of e) beside k l refl refl (record { number = number; key = Some key; written = value; sought = Alike value }) key refl refl refl
+      reach_entry enum_view old new shape_old shape_new pair number e d o r k l leafy key value key_range range found at small
+      (entry_broken enum_view.alike (dec new) (map_of e) beside k l refl refl (record { number = number; key = Some key; written = value; expected = Alike value }) key refl refl refl
       (λ x y h.
-      let parts = entry_parts k l e d key value (bodies_read_again (elements.Scalar k) key key_range) (bodies_read_again e value range) (nested sight old new shape_old shape_new pair number e d o r k l leafy e leafy value) number short x y h in
+      let parts = entry_parts k l e d key value (bodies_read_again (elements.Scalar k) key key_range) (bodies_read_again e value range) (nested enum_view old new shape_old shape_new pair number e d o r k l leafy e leafy value) number short x y h in
       ⊎_elim
-      (λ (unlike, far_key). inl (unlike_key k l e d key value (bodies_read_again (elements.Scalar k) key key_range) (bodies_read_again e value range) (nested sight old new shape_old shape_new pair number e d o r k l leafy e leafy value) unlike far_key x parts.0))
+      (λ (unlike, far_key). inl (unlike_key k l e d key value (bodies_read_again (elements.Scalar k) key key_range) (bodies_read_again e value range) (nested enum_view old new shape_old shape_new pair number e d o r k l leafy e leafy value) unlike far_key x parts.0))
       (λ (unlike, far_value). inr (leaf_value_unmet e leafy unlike value y
-      (λ leafy_new. unlike_value k l e d key value (bodies_read_again (elements.Scalar k) key key_range) (bodies_read_again e value range) (nested sight old new shape_old shape_new pair number e d o r k l leafy e leafy value) leafy leafy_new unlike far_value y parts.1)))
+      (λ leafy_new. unlike_value k l e d key value (bodies_read_again (elements.Scalar k) key key_range) (bodies_read_again e value range) (nested enum_view old new shape_old shape_new pair number e d o r k l leafy e leafy value) leafy leafy_new unlike far_value y parts.1)))
       far))
 
   -- a map of messages, with an empty one
-  pub reach_far_child : (s : TypeId) → field_at (fields old pair.old) number ≡ Some (map_of (elements.Message s)) → field_at (fields new pair.new) number ≡ Some beside → (key : Leaf) → InRange (form (elements.Scalar k)) key → ((like (elements.Scalar k) (elements.Scalar l) ≡ false) × (key ≡ far_leaf (form (elements.Scalar k)))) ⊎ (like (elements.Message s) d ≡ false) → entry_cost number (body_length (form (elements.Scalar k)) key) (least_body (elements.Message s)) ≤ cap → ReachedBy sight old new pair (nests number (Some key) (ends []) (ends [])) (entry_cost number (body_length (form (elements.Scalar k)) key) (least_body (elements.Message s)))
+  pub reach_far_child : (s : TypeId) → field_at (fields old pair.old) number ≡ Some (map_of (elements.Message s)) → field_at (fields new pair.new) number ≡ Some beside → (key : Leaf) → InRange (form (elements.Scalar k)) key → ((like (elements.Scalar k) (elements.Scalar l) ≡ false) × (key ≡ far_leaf (form (elements.Scalar k)))) ⊎ (like (elements.Message s) d ≡ false) → entry_cost number (body_length (form (elements.Scalar k)) key) (least_body (elements.Message s)) ≤ cap → ReachedBy enum_view old new pair (nests number (Some key) (ends []) (ends [])) (entry_cost number (body_length (form (elements.Scalar k)) key) (least_body (elements.Message s)))
   reach_far_child s found at key range far small = (
     record {
       is_message = is;
       is_plain = (tt, tt);
       has_encoding = short;
-      not_kept = single_broken sight.alike old new shape_old shape_new pair.old pair.new v is (tt, tt) short f beside found at (refl, tt) broken;
+      not_kept = single_broken enum_view.alike old new shape_old shape_new pair.old pair.new v is (tt, tt) short f beside found at (refl, tt) broken;
     },
     whole,
   )
@@ -225,13 +225,13 @@ module _ (sight : Sight) (old new : Shape) (shape_old : IsShape old) (shape_new 
       is = (record { field = f; found = found; key_fits = range; before = tt; alone = tt }, s, refl, tt, tt)
 
       test : Message → Bool
-      test = same_message sight.alike (fields old (child_type (fields old pair.old) number)) (fields new (child_type (fields new pair.new) number)) [] (unshared_bytes old (child_type (fields old pair.old) number) (fields new (child_type (fields new pair.new) number)) (ends []))
+      test = same_message enum_view.alike (fields old (child_type (fields old pair.old) number)) (fields new (child_type (fields new pair.new) number)) [] (unshared_bytes old (child_type (fields old pair.old) number) (fields new (child_type (fields new pair.new) number)) (ends []))
 
-      c : Cell
-      c = record { number = number; key = Some key; written = Bytes (bytes_of (records_in (fields old (child_type (fields old pair.old) number)) []) ++ []); sought = Kept test }
+      c : Comparand
+      c = record { number = number; key = Some key; written = Bytes (bytes_of (records_in (fields old (child_type (fields old pair.old) number)) []) ++ []); expected = Kept test }
 
-      literal : Cell
-      literal = record { number = number; key = Some key; written = Bytes []; sought = Kept test }
+      literal : Comparand
+      literal = record { number = number; key = Some key; written = Bytes []; expected = Kept test }
 
       written_is : c.written ≡ Bytes []
       written_is = ap (λ rs. Bytes (bytes_of rs ++ [])) (own_contents.0 (fields old (child_type (fields old pair.old) number)))
@@ -241,7 +241,7 @@ module _ (sight : Sight) (old new : Shape) (shape_old : IsShape old) (shape_new 
 
       whole : length (enc old pair.old v) ≡ entry_cost number (body_length (form (elements.Scalar k)) key) (least_body (elements.Message s))
       whole =
-          single_length sight.alike old new shape_old pair.old pair.new v f refl found (refl, tt)
+          single_length enum_view.alike old new shape_old pair.old pair.new v f refl found (refl, tt)
           ∙ ap length (append-nil (written number Len (entry_bytes k (elements.Message s) key c.written)).bytes)
           ∙ length-len_record number (entry_bytes k (elements.Message s) key c.written)
           ∙ ap (λ w. length (tag number Len) + with_length (length (entry_bytes k (elements.Message s) key w))) written_is
@@ -254,24 +254,24 @@ module _ (sight : Sight) (old new : Shape) (shape_old : IsShape old) (shape_new 
       fits = omega (arith, entry_length)
 
       -- a leaf that is read in place of a child
-      unmet : like (elements.Message s) d ≡ false → (y : Leaf) (item : Item) → read_item (dec new) d y ≡ Some item → meets sight.alike f beside (Kept test) item ≡ false
+      unmet : like (elements.Message s) d ≡ false → (y : Leaf) (item : Item) → read_item (dec new) d y ≡ Some item → matches enum_view.alike f beside (Kept test) item ≡ false
       unmet unlike y item h = of d refl
         where
-          plainly : IsLeafy d → meets sight.alike f beside (Kept test) item ≡ false
+          plainly : IsLeafy d → matches enum_view.alike f beside (Kept test) item ≡ false
           plainly leafy =
               let equal : ◌≡◌ {A = Option Item} (Some (Plain y)) (Some item) = sym ((leafy_reader (dec new) d leafy).read_is y) ∙ h in
               let same : Plain y ≡ item = cc in
-              subst (λ i. meets sight.alike f beside (Kept test) i ≡ false) same refl
+              subst (λ i. matches enum_view.alike f beside (Kept test) i ≡ false) same refl
 
-          of : (x : Element) → d ≡ x → meets sight.alike f beside (Kept test) item ≡ false
+          of : (x : Element) → d ≡ x → matches enum_view.alike f beside (Kept test) item ≡ false
           of (elements.Message t) same = absurd (let no : like (elements.Message s) (elements.Message t) ≡ false = subst (λ x. like (elements.Message s) x ≡ false) same unlike in cc)
           of (elements.Scalar t) same = plainly (subst IsLeafy (sym same) tt)
           of (elements.Enum t) same = plainly (subst IsLeafy (sym same) tt)
 
-      broken : is_field_kept sight.alike (dec new) f beside (c ∷ []) ≡ false
+      broken : is_field_kept enum_view.alike (dec new) f beside (c ∷ []) ≡ false
       broken =
-          subst (λ w. is_field_kept sight.alike (dec new) f beside (record { number = number; key = Some key; written = w; sought = Kept test } ∷ []) ≡ false) (sym written_is)
-          (entry_broken sight.alike (dec new) f beside k l refl refl literal key refl refl refl
+          subst (λ w. is_field_kept enum_view.alike (dec new) f beside (record { number = number; key = Some key; written = w; expected = Kept test } ∷ []) ≡ false) (sym written_is)
+          (entry_broken enum_view.alike (dec new) f beside k l refl refl literal key refl refl refl
           (λ x y h.
           let parts = entry_parts k l (elements.Message s) d key (Bytes []) (bodies_read_again (elements.Scalar k) key range) (record { read = refl; shape = tt }) refl number fits x y h in
           ⊎_elim

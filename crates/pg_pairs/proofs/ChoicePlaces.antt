@@ -9,7 +9,7 @@ use Rattle.pg_schema.specs.declared.field.Scalar.{Scalar}
 use Rattle.pg_schema.specs.Shape.{FieldShape, is_map}
 use Rattle.pg_dyn.proofs.Lists.{each-append}
 use Rattle.pg_pairs.specs.declared.choice.Choice.{Choice}
-use Rattle.pg_pairs.specs.Sight.{Sight}
+use Rattle.pg_pairs.specs.EnumView.{EnumView}
 use Rattle.pg_pairs.specs.Likeness.{like}
 use Rattle.pg_pairs.specs.Costs.{least_body, entry_cost, one_item, least_content}
 use Rattle.pg_pairs.specs.Choices.{Table, choice, choice_of, zero_counts, unlike_cost, gap_body, child_body, singular_cost, plain_choices, map_choices, field_choices}
@@ -31,10 +31,10 @@ each_offered : (P : Choice → Type 0) (number case part : ℕ) (o : Option ℕ)
 each_offered P number case part None h = tt
 each_offered P number case part (Some cost) h = (h cost, tt)
 
-module _ (sight : Sight) (table : Table) where
+module _ (enum_view : EnumView) (table : Table) where
   module _ (f g : FieldShape) where
     abbrev gap_choice : List Choice
-    gap_choice = choice_of f.number 2 0 (option_map (one_item f) (gap_body sight (zero_counts f g) f.element g.element))
+    gap_choice = choice_of f.number 2 0 (option_map (one_item f) (gap_body enum_view (zero_counts f g) f.element g.element))
 
     abbrev child_choice : List Choice
     child_choice = choice_of f.number 3 0 (option_map (one_item f) (child_body table f.element g.element))
@@ -42,7 +42,7 @@ module _ (sight : Sight) (table : Table) where
     abbrev list_choice : List Choice
     list_choice = choice_of f.number 4 0 (singular_cost f g)
 
-    plain_placed : is_map f.presence ≡ false → AllByRecursion (IsPlaced f.presence) (plain_choices sight table f g)
+    plain_placed : is_map f.presence ≡ false → AllByRecursion (IsPlaced f.presence) (plain_choices enum_view table f g)
     plain_placed unmapped =
         elim (like f.element g.element) as (λ b. AllByRecursion (IsPlaced f.presence) (if b then gap_choice ++ child_choice ++ list_choice else choice f.number 1 0 (unlike_cost f g) ∷ [])) [
           | true ↦
@@ -55,15 +55,15 @@ module _ (sight : Sight) (table : Table) where
         ]
 
     abbrev key_entry : Scalar → Scalar → List Choice
-    key_entry k l = choice_of f.number 5 1 (option_map (λ body. entry_cost f.number body (least_body f.element)) (gap_body sight true (elements.Scalar k) (elements.Scalar l)))
+    key_entry k l = choice_of f.number 5 1 (option_map (λ body. entry_cost f.number body (least_body f.element)) (gap_body enum_view true (elements.Scalar k) (elements.Scalar l)))
 
     abbrev gap_entry : List Choice
-    gap_entry = choice_of f.number 5 2 (option_map (one_item f) (gap_body sight true f.element g.element))
+    gap_entry = choice_of f.number 5 2 (option_map (one_item f) (gap_body enum_view true f.element g.element))
 
     abbrev child_entry : List Choice
     child_entry = choice_of f.number 5 2 (option_map (one_item f) (child_body table f.element g.element))
 
-    map_placed : (k l : Scalar) → is_map f.presence ≡ true → AllByRecursion (IsPlaced f.presence) (map_choices sight table f g k l)
+    map_placed : (k l : Scalar) → is_map f.presence ≡ true → AllByRecursion (IsPlaced f.presence) (map_choices enum_view table f g k l)
     map_placed k l mapped =
         elim (like (elements.Scalar k) (elements.Scalar l) && like f.element g.element) as (λ b. AllByRecursion (IsPlaced f.presence) (if b then key_entry k l ++ gap_entry ++ child_entry else choice f.number 5 0 (least_content f) ∷ [])) [
           | true ↦
@@ -75,7 +75,7 @@ module _ (sight : Sight) (table : Table) where
           | false ↦ (entry_placed f.presence (choice f.number 5 0 (least_content f)) refl mapped, tt)
         ]
 
-  pub placed : (n m : ℕ) (e d : Element) (o r : Option ℕ) (p q : Presence) → AllByRecursion (IsPlaced p) (field_choices sight table (record { number = n; presence = p; element = e; oneof = o }) (record { number = m; presence = q; element = d; oneof = r }))
+  pub placed : (n m : ℕ) (e d : Element) (o r : Option ℕ) (p q : Presence) → AllByRecursion (IsPlaced p) (field_choices enum_view table (record { number = n; presence = p; element = e; oneof = o }) (record { number = m; presence = q; element = d; oneof = r }))
   placed n m e d o r (presences.Map k) (presences.Map l) = map_placed (record { number = n; presence = presences.Map k; element = e; oneof = o }) (record { number = m; presence = presences.Map l; element = d; oneof = r }) k l refl
   placed n m e d o r (presences.Map k) presences.Implicit = (neither_placed (presences.Map k) (choice n 1 0 (unlike_cost (record { number = n; presence = presences.Map k; element = e; oneof = o }) (record { number = m; presence = presences.Implicit; element = d; oneof = r }))) refl refl, tt)
   placed n m e d o r (presences.Map k) presences.Explicit = (neither_placed (presences.Map k) (choice n 1 0 (unlike_cost (record { number = n; presence = presences.Map k; element = e; oneof = o }) (record { number = m; presence = presences.Explicit; element = d; oneof = r }))) refl refl, tt)

@@ -15,7 +15,7 @@ use Rattle.pg_dyn.proofs.PublicLaws.{fields_are_found}
 use Rattle.pg_pairs.specs.declared.choice.Choice.{Choice}
 use Rattle.pg_pairs.specs.declared.choice.Pair.{Pair}
 use Rattle.pg_pairs.specs.declared.edge.Edge.{Edge}
-use Rattle.pg_pairs.specs.Sight.{Sight}
+use Rattle.pg_pairs.specs.EnumView.{EnumView}
 use Rattle.pg_pairs.specs.Among.{IsAmong}
 use Rattle.pg_pairs.specs.Likeness.{like}
 use Rattle.pg_pairs.specs.Costs.{with_length, one_item, least_content}
@@ -98,7 +98,7 @@ message_pair_unlike (elements.Message s) (elements.Enum t) h = refl
 message_pair_unlike (elements.Scalar s) d h = refl
 message_pair_unlike (elements.Enum s) d h = refl
 
-module _ (sight : Sight) (table : Table) where
+module _ (enum_view : EnumView) (table : Table) where
   -- a field's choice of that case and part by a child, at its bound
   abbrev by_child : FieldShape → ℕ → ℕ → Pair → List Choice
   by_child f case part p = choice_of f.number case part (option_map (one_item f) (option_map with_length (number_for table p)))
@@ -128,9 +128,9 @@ module _ (sight : Sight) (table : Table) where
   child_last : (others child none by : List Choice) → child ≡ by → none ≡ [] → Same (others ++ child) (others ++ none ++ by)
   child_last others child none by is empty = rw (is, empty, append-nil others) (same_list (others ++ by))
 
-  like_split : (f g : FieldShape) → Splits f 3 0 (like_choices sight table f g) (like_choices sight no_bounds f g) (message_pair f.element g.element)
+  like_split : (f g : FieldShape) → Splits f 3 0 (like_choices enum_view table f g) (like_choices enum_view no_bounds f g) (message_pair f.element g.element)
   like_split f g =
-      let gap = gap_choice sight f g in
+      let gap = gap_choice enum_view f g in
       let list = list_choice f g in
       let none = child_choice no_bounds f g in
       let by = flat_map (by_child f 3 0) (message_pair f.element g.element) in
@@ -138,15 +138,15 @@ module _ (sight : Sight) (table : Table) where
       (same_both (gap ++ child_choice table f g) (gap ++ none ++ by) list list (child_last gap (child_choice table f g) none by (child_under f 3 0 f.element g.element) (child_without f 3 0 f.element g.element)) (same_list list))
       (same_turned (gap ++ none) by list)
 
-  like_maps_split : (f g : FieldShape) (k l : Scalar) → Splits f 5 2 (like_map_choices sight table f g k l) (like_map_choices sight no_bounds f g k l) (message_pair f.element g.element)
+  like_maps_split : (f g : FieldShape) (k l : Scalar) → Splits f 5 2 (like_map_choices enum_view table f g k l) (like_map_choices enum_view no_bounds f g k l) (message_pair f.element g.element)
   like_maps_split f g k l =
-      child_last (key_choice sight f k l ++ value_choice sight f g) (map_child_choice table f g) (map_child_choice no_bounds f g) (flat_map (by_child f 5 2) (message_pair f.element g.element))
+      child_last (key_choice enum_view f k l ++ value_choice enum_view f g) (map_child_choice table f g) (map_child_choice no_bounds f g) (flat_map (by_child f 5 2) (message_pair f.element g.element))
       (child_under f 5 2 f.element g.element) (child_without f 5 2 f.element g.element)
 
-  plain_split : (f g : FieldShape) → Splits f 3 0 (plain_choices sight table f g) (plain_choices sight no_bounds f g) (message_pair f.element g.element)
+  plain_split : (f g : FieldShape) → Splits f 3 0 (plain_choices enum_view table f g) (plain_choices enum_view no_bounds f g) (message_pair f.element g.element)
   plain_split f g = of (like f.element g.element) refl
     where
-      of : (b : Bool) → like f.element g.element ≡ b → Splits f 3 0 (if b then like_choices sight table f g else choice f.number 1 0 (unlike_cost f g) ∷ []) (if b then like_choices sight no_bounds f g else choice f.number 1 0 (unlike_cost f g) ∷ []) (message_pair f.element g.element)
+      of : (b : Bool) → like f.element g.element ≡ b → Splits f 3 0 (if b then like_choices enum_view table f g else choice f.number 1 0 (unlike_cost f g) ∷ []) (if b then like_choices enum_view no_bounds f g else choice f.number 1 0 (unlike_cost f g) ∷ []) (message_pair f.element g.element)
       of true is = like_split f g
       of false is = rw (message_pair_unlike f.element g.element is) (with_none f 3 0 (choice f.number 1 0 (unlike_cost f g) ∷ []))
 
@@ -157,17 +157,17 @@ module _ (sight : Sight) (table : Table) where
     abbrev at_new : Presence → ℕ → FieldShape
     at_new q n = record { number = n; presence = q; element = d; oneof = r }
 
-    maps_split : (k l : Scalar) (n : ℕ) → Splits (at_old (presences.Map k)) 5 2 (map_choices sight table (at_old (presences.Map k)) (at_new (presences.Map l) n) k l) (map_choices sight no_bounds (at_old (presences.Map k)) (at_new (presences.Map l) n) k l)
+    maps_split : (k l : Scalar) (n : ℕ) → Splits (at_old (presences.Map k)) 5 2 (map_choices enum_view table (at_old (presences.Map k)) (at_new (presences.Map l) n) k l) (map_choices enum_view no_bounds (at_old (presences.Map k)) (at_new (presences.Map l) n) k l)
         (field_children (at_old (presences.Map k)) (at_new (presences.Map l) n))
     maps_split k l n = of (like (elements.Scalar k) (elements.Scalar l)) (like e d) refl refl
       where
-        of : (a b : Bool) → like (elements.Scalar k) (elements.Scalar l) ≡ a → like e d ≡ b → Splits (at_old (presences.Map k)) 5 2 (map_choices sight table (at_old (presences.Map k)) (at_new (presences.Map l) n) k l) (map_choices sight no_bounds (at_old (presences.Map k)) (at_new (presences.Map l) n) k l)
+        of : (a b : Bool) → like (elements.Scalar k) (elements.Scalar l) ≡ a → like e d ≡ b → Splits (at_old (presences.Map k)) 5 2 (map_choices enum_view table (at_old (presences.Map k)) (at_new (presences.Map l) n) k l) (map_choices enum_view no_bounds (at_old (presences.Map k)) (at_new (presences.Map l) n) k l)
             (field_children (at_old (presences.Map k)) (at_new (presences.Map l) n))
         of false b keys values = rw keys (with_none (at_old (presences.Map k)) 5 2 (choice number 5 0 (least_content (at_old (presences.Map k))) ∷ []))
         of true false keys values = rw (keys, values, message_pair_unlike e d values) (with_none (at_old (presences.Map k)) 5 2 (choice number 5 0 (least_content (at_old (presences.Map k))) ∷ []))
         of true true keys values = rw (keys, values) (like_maps_split (at_old (presences.Map k)) (at_new (presences.Map l) n) k l)
 
-    presences_split : (p q : Presence) (n : ℕ) → Splits (at_old p) (child_case (part_of p)) (child_part (part_of p)) (field_choices sight table (at_old p) (at_new q n)) (field_choices sight no_bounds (at_old p) (at_new q n)) (field_children (at_old p) (at_new q n))
+    presences_split : (p q : Presence) (n : ℕ) → Splits (at_old p) (child_case (part_of p)) (child_part (part_of p)) (field_choices enum_view table (at_old p) (at_new q n)) (field_choices enum_view no_bounds (at_old p) (at_new q n)) (field_children (at_old p) (at_new q n))
     presences_split (presences.Map k) (presences.Map l) n = maps_split k l n
     presences_split (presences.Map k) presences.Implicit n = with_none (at_old (presences.Map k)) 5 2 (choice number 1 0 (unlike_cost (at_old (presences.Map k)) (at_new presences.Implicit n)) ∷ [])
     presences_split (presences.Map k) presences.Explicit n = with_none (at_old (presences.Map k)) 5 2 (choice number 1 0 (unlike_cost (at_old (presences.Map k)) (at_new presences.Explicit n)) ∷ [])
@@ -189,25 +189,25 @@ module _ (sight : Sight) (table : Table) where
   abbrev by_own : FieldShape → Pair → List Choice
   by_own f = by_child f (child_case (part_of f.presence)) (child_part (part_of f.presence))
 
-  beside_split : (f : FieldShape) (o : Option FieldShape) → Splits f (child_case (part_of f.presence)) (child_part (part_of f.presence)) (choices_beside sight table f o) (choices_beside sight no_bounds f o) (children_beside f o)
+  beside_split : (f : FieldShape) (o : Option FieldShape) → Splits f (child_case (part_of f.presence)) (child_part (part_of f.presence)) (choices_beside enum_view table f o) (choices_beside enum_view no_bounds f o) (children_beside f o)
   beside_split f None = same_list []
   beside_split f (Some g) = presences_split f.number f.element g.element f.oneof g.oneof f.presence g.presence g.number
 
   abbrev by_fields : List FieldShape → List FieldShape → List Choice
   by_fields gs fs = flat_map (λ (f : FieldShape). flat_map (by_own f) (children_beside f (field_at gs f.number))) fs
 
-  all_split : (gs fs : List FieldShape) → Same (all_choices sight table gs fs) (all_choices sight no_bounds gs fs ++ by_fields gs fs)
+  all_split : (gs fs : List FieldShape) → Same (all_choices enum_view table gs fs) (all_choices enum_view no_bounds gs fs ++ by_fields gs fs)
   all_split gs [] = same_list []
   all_split gs (f ∷ later) =
       let here = field_at gs f.number in
-      let under = choices_beside sight table f here in
-      let own = choices_beside sight no_bounds f here in
+      let under = choices_beside enum_view table f here in
+      let own = choices_beside enum_view no_bounds f here in
       let by = flat_map (by_own f) (children_beside f here) in
       let joins = joined_choices gs f later in
-      let rest = all_choices sight no_bounds gs later in
+      let rest = all_choices enum_view no_bounds gs later in
       let by_rest = by_fields gs later in
-      same_through (under ++ joins ++ all_choices sight table gs later) ((own ++ joins ++ by) ++ (rest ++ by_rest)) ((own ++ joins ++ rest) ++ (by ++ by_rest))
-      (same_both (under ++ joins) (own ++ joins ++ by) (all_choices sight table gs later) (rest ++ by_rest)
+      same_through (under ++ joins ++ all_choices enum_view table gs later) ((own ++ joins ++ by) ++ (rest ++ by_rest)) ((own ++ joins ++ rest) ++ (by ++ by_rest))
+      (same_both (under ++ joins) (own ++ joins ++ by) (all_choices enum_view table gs later) (rest ++ by_rest)
       (same_through (under ++ joins) (own ++ by ++ joins) (own ++ joins ++ by) (same_both under (own ++ by) joins joins (beside_split f here) (same_list joins)) (same_turned own by joins))
       (all_split gs later))
       (same_apart (own ++ joins) by rest by_rest)
@@ -273,32 +273,32 @@ module _ (table : Table) (old new : Shape) (pair : Pair) where
 
 -- The laws.
 
-same_choices : (sight : Sight) (old new : Shape) (table : Table) (pair : Pair) → AllByRecursion (λ (f : FieldShape). field_at (fields old pair.old) f.number ≡ Some f) (fields old pair.old)
-    → Same (choices sight table old new pair) (choices sight no_bounds old new pair ++ flat_map (of_edge table old new pair) (edges old new pair))
-same_choices sight old new table pair found =
+same_choices : (enum_view : EnumView) (old new : Shape) (table : Table) (pair : Pair) → AllByRecursion (λ (f : FieldShape). field_at (fields old pair.old) f.number ≡ Some f) (fields old pair.old)
+    → Same (choices enum_view table old new pair) (choices enum_view no_bounds old new pair ++ flat_map (of_edge table old new pair) (edges old new pair))
+same_choices enum_view old new table pair found =
     let gs = fields new pair.new in
     let fs = fields old pair.old in
-    let without = all_choices sight no_bounds gs fs in
-    let by = by_fields sight table gs fs in
-    let is : affordable (without ++ by) ≡ choices sight no_bounds old new pair ++ flat_map (of_edge table old new pair) (edges old new pair) =
+    let without = all_choices enum_view no_bounds gs fs in
+    let by = by_fields enum_view table gs fs in
+    let is : affordable (without ++ by) ≡ choices enum_view no_bounds old new pair ++ flat_map (of_edge table old new pair) (edges old new pair) =
     filter-append' (λ (c : Choice). nat_le c.cost cap) without by ∙ ap (λ cs. affordable without ++ cs) (all_of_edges table old new pair fs found) in
-    subst (λ cs. Same (choices sight table old new pair) cs) is (same_affordable (all_choices sight table gs fs) (without ++ by) (all_split sight table gs fs))
+    subst (λ cs. Same (choices enum_view table old new pair) cs) is (same_affordable (all_choices enum_view table gs fs) (without ++ by) (all_split enum_view table gs fs))
 
 pub choices_by_edges : ChoicesByEdges
-choices_by_edges sight old new table shape pair c = (to, from)
+choices_by_edges enum_view old new table shape pair c = (to, from)
   where
-    same : Same (choices sight table old new pair) (choices sight no_bounds old new pair ++ flat_map (of_edge table old new pair) (edges old new pair))
-    same = same_choices sight old new table pair (fields_are_found.2 (fields old pair.old) (fields_are_found.0 old pair.old shape).rising)
+    same : Same (choices enum_view table old new pair) (choices enum_view no_bounds old new pair ++ flat_map (of_edge table old new pair) (edges old new pair))
+    same = same_choices enum_view old new table pair (fields_are_found.2 (fields old pair.old) (fields_are_found.0 old pair.old shape).rising)
 
-    to : IsAmong c (choices sight table old new pair) → IsByEdges sight old new table pair c
+    to : IsAmong c (choices enum_view table old new pair) → IsByEdges enum_view old new table pair c
     to h =
         ⊎_elim (λ own. inl own) (λ edge. inr (to_edge table old new pair c (edges old new pair) edge))
-        (among_append c (choices sight no_bounds old new pair) (flat_map (of_edge table old new pair) (edges old new pair)) ((same c).0 h))
+        (among_append c (choices enum_view no_bounds old new pair) (flat_map (of_edge table old new pair) (edges old new pair)) ((same c).0 h))
 
-    from : IsByEdges sight old new table pair c → IsAmong c (choices sight table old new pair)
+    from : IsByEdges enum_view old new table pair c → IsAmong c (choices enum_view table old new pair)
     from h =
-        (same c).1 (⊎_elim (λ own. append_left c (choices sight no_bounds old new pair) (flat_map (of_edge table old new pair) (edges old new pair)) own)
-        (λ edge. append_right c (choices sight no_bounds old new pair) (flat_map (of_edge table old new pair) (edges old new pair)) (from_edge table old new pair c (edges old new pair) edge.0 edge.1 edge.2)) h)
+        (same c).1 (⊎_elim (λ own. append_left c (choices enum_view no_bounds old new pair) (flat_map (of_edge table old new pair) (edges old new pair)) own)
+        (λ edge. append_right c (choices enum_view no_bounds old new pair) (flat_map (of_edge table old new pair) (edges old new pair)) (from_edge table old new pair c (edges old new pair) edge.0 edge.1 edge.2)) h)
 
 -- Least costs.
 
@@ -336,8 +336,8 @@ least_of_edges table old new pair (e ∷ es) =
     one (Some cost) = refl
 
 pub least_costs_by_edges : LeastCostsByEdges
-least_costs_by_edges sight old new table shape pair =
-    let without = choices sight no_bounds old new pair in
+least_costs_by_edges enum_view old new table shape pair =
+    let without = choices enum_view no_bounds old new pair in
     let by = flat_map (of_edge table old new pair) (edges old new pair) in
-    same_least (choices sight table old new pair) (without ++ by) (same_choices sight old new table pair (fields_are_found.2 (fields old pair.old) (fields_are_found.0 old pair.old shape).rising))
+    same_least (choices enum_view table old new pair) (without ++ by) (same_choices enum_view old new table pair (fields_are_found.2 (fields old pair.old) (fields_are_found.0 old pair.old shape).rising))
     ∙ in_both without by ∙ ap (lesser_cost (cost_of (cheapest without))) (least_of_edges table old new pair (edges old new pair))

@@ -232,6 +232,6 @@ are_priced old new is_old is_new = record {
   pairs_few = few_pairs old new is_old.few is_new.few;
   children_there = child_there old new is_old is_new;
   edges_few = few_edges old new is_old;
-  bases_are_lengths = λ sight pair. least_costs_are_lengths sight old new no_bounds pair;
+  bases_are_lengths = λ enum_view pair. least_costs_are_lengths enum_view old new no_bounds pair;
   costs_more = edge_costs_more old;
 }

@@ -20,7 +20,7 @@ leafy (elements.Scalar s) h = tt
 leafy (elements.Enum e) h = tt
 
 pub element_gaps : ElementGaps
-element_gaps sight law zero old new no_message is_like = gap_item_is sight law zero old new (leafy old no_message) is_like
+element_gaps enum_view law zero old new no_message is_like = gap_item_is enum_view law zero old new (leafy old no_message) is_like
 
 like_zeros : (a b : Form) → like_forms a b ≡ true → zero_leaf a ≡ zero_leaf b
 like_zeros (Integer a) (Integer b) h = refl

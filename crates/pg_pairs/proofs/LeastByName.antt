@@ -7,7 +7,7 @@ use mir.Syntax.{w32}
 use mir.Val.{SFits}
 use Rattle.pg_dyn.specs.ViewNames.{NamedNumber, declares, has_name, names_within, same_names}
 use Rattle.pg_pairs.specs.Among.{IsAmong}
-use Rattle.pg_pairs.specs.Sight.{Differs}
+use Rattle.pg_pairs.specs.EnumView.{Differs}
 use Rattle.pg_pairs.specs.LeastNumbers.{least_number, lesser, lesser_of, has_32_bits, number_counts}
 use Rattle.pg_pairs.specs.LeastNumberLaws.{least_of_those, one_least, least_of_both, lesser_of-some}
 use Rattle.pg_pairs.specs.LeastByName.{differing}

@@ -16,7 +16,7 @@ use Rattle.pg_dyn.specs.Encoding.{cap}
 use Rattle.pg_dyn.proofs.Lists.{each-append, each_weaker}
 use Rattle.pg_pairs.specs.declared.choice.Choice.{Choice}
 use Rattle.pg_pairs.specs.declared.choice.Pair.{Pair}
-use Rattle.pg_pairs.specs.Sight.{Sight}
+use Rattle.pg_pairs.specs.EnumView.{EnumView}
 use Rattle.pg_pairs.specs.Likeness.{like}
 use Rattle.pg_pairs.specs.Costs.{least_body, nonzero_body, entry_cost, one_item, least_content}
 use Rattle.pg_pairs.specs.Choices.{Table, choice, choice_of, zero_counts, unlike_cost, gap_body, child_body, singular_cost, plain_choices, map_choices, field_choices, joins, joined_choices, choices_beside, all_choices, affordable, choices}
@@ -98,8 +98,8 @@ some-offered number case part (Some n) some = (some, tt)
 
 -- The parts of a field's choices.
 
-abbrev pub gap_choice : Sight → FieldShape → FieldShape → List Choice
-gap_choice sight f g = choice_of f.number 2 0 (option_map (one_item f) (gap_body sight (zero_counts f g) f.element g.element))
+abbrev pub gap_choice : EnumView → FieldShape → FieldShape → List Choice
+gap_choice enum_view f g = choice_of f.number 2 0 (option_map (one_item f) (gap_body enum_view (zero_counts f g) f.element g.element))
 
 abbrev pub child_choice : Table → FieldShape → FieldShape → List Choice
 child_choice table f g = choice_of f.number 3 0 (option_map (one_item f) (child_body table f.element g.element))
@@ -107,56 +107,56 @@ child_choice table f g = choice_of f.number 3 0 (option_map (one_item f) (child_
 abbrev pub list_choice : FieldShape → FieldShape → List Choice
 list_choice f g = choice_of f.number 4 0 (singular_cost f g)
 
-abbrev pub like_choices : Sight → Table → FieldShape → FieldShape → List Choice
-like_choices sight table f g = gap_choice sight f g ++ child_choice table f g ++ list_choice f g
+abbrev pub like_choices : EnumView → Table → FieldShape → FieldShape → List Choice
+like_choices enum_view table f g = gap_choice enum_view f g ++ child_choice table f g ++ list_choice f g
 
-abbrev pub key_choice : Sight → FieldShape → Scalar → Scalar → List Choice
-key_choice sight f k l = choice_of f.number 5 1 (option_map (λ body. entry_cost f.number body (least_body f.element)) (gap_body sight true (elements.Scalar k) (elements.Scalar l)))
+abbrev pub key_choice : EnumView → FieldShape → Scalar → Scalar → List Choice
+key_choice enum_view f k l = choice_of f.number 5 1 (option_map (λ body. entry_cost f.number body (least_body f.element)) (gap_body enum_view true (elements.Scalar k) (elements.Scalar l)))
 
-abbrev pub value_choice : Sight → FieldShape → FieldShape → List Choice
-value_choice sight f g = choice_of f.number 5 2 (option_map (one_item f) (gap_body sight true f.element g.element))
+abbrev pub value_choice : EnumView → FieldShape → FieldShape → List Choice
+value_choice enum_view f g = choice_of f.number 5 2 (option_map (one_item f) (gap_body enum_view true f.element g.element))
 
 abbrev pub map_child_choice : Table → FieldShape → FieldShape → List Choice
 map_child_choice table f g = choice_of f.number 5 2 (option_map (one_item f) (child_body table f.element g.element))
 
-abbrev pub like_map_choices : Sight → Table → FieldShape → FieldShape → Scalar → Scalar → List Choice
-like_map_choices sight table f g k l = key_choice sight f k l ++ value_choice sight f g ++ map_child_choice table f g
+abbrev pub like_map_choices : EnumView → Table → FieldShape → FieldShape → Scalar → Scalar → List Choice
+like_map_choices enum_view table f g k l = key_choice enum_view f k l ++ value_choice enum_view f g ++ map_child_choice table f g
 
 -- The choices of a pair under a table.
-module _ (sight : Sight) (table : Table) where
+module _ (enum_view : EnumView) (table : Table) where
   some-child : (f g : FieldShape) (case part : ℕ) → AreSome (choice_of f.number case part (option_map (one_item f) (child_body table f.element g.element)))
   some-child f g case part =
       some-offered f.number case part (option_map (one_item f) (child_body table f.element g.element)) (mapped_some (one_item f) (one_item_some f) (child_body table f.element g.element))
 
-  some-gap : (f g : FieldShape) (zero : Bool) (case part : ℕ) → AreSome (choice_of f.number case part (option_map (one_item f) (gap_body sight zero f.element g.element)))
+  some-gap : (f g : FieldShape) (zero : Bool) (case part : ℕ) → AreSome (choice_of f.number case part (option_map (one_item f) (gap_body enum_view zero f.element g.element)))
   some-gap f g zero case part =
-      some-offered f.number case part (option_map (one_item f) (gap_body sight zero f.element g.element)) (mapped_some (one_item f) (one_item_some f) (gap_body sight zero f.element g.element))
+      some-offered f.number case part (option_map (one_item f) (gap_body enum_view zero f.element g.element)) (mapped_some (one_item f) (one_item_some f) (gap_body enum_view zero f.element g.element))
 
   some-unlike : (f g : FieldShape) → AreSome (choice f.number 1 0 (unlike_cost f g) ∷ [])
   some-unlike f g = (unlike_some f g, tt)
 
-  some-like : (f g : FieldShape) → AreSome (like_choices sight table f g)
+  some-like : (f g : FieldShape) → AreSome (like_choices enum_view table f g)
   some-like f g =
-      some-append (gap_choice sight f g ++ child_choice table f g) (list_choice f g)
-      (some-append (gap_choice sight f g) (child_choice table f g) (some-gap f g (zero_counts f g) 2 0) (some-child f g 3 0))
+      some-append (gap_choice enum_view f g ++ child_choice table f g) (list_choice f g)
+      (some-append (gap_choice enum_view f g) (child_choice table f g) (some-gap f g (zero_counts f g) 2 0) (some-child f g 3 0))
       (some-offered f.number 4 0 (singular_cost f g) (singular_some f.number f.presence g.presence f.element g.element f.oneof g.oneof))
 
-  some-plain : (f g : FieldShape) → AreSome (plain_choices sight table f g)
+  some-plain : (f g : FieldShape) → AreSome (plain_choices enum_view table f g)
   some-plain f g =
-      elim (like f.element g.element) as (λ b. AreSome (if b then like_choices sight table f g else choice f.number 1 0 (unlike_cost f g) ∷ [])) [ true ↦ some-like f g | false ↦ some-unlike f g ]
+      elim (like f.element g.element) as (λ b. AreSome (if b then like_choices enum_view table f g else choice f.number 1 0 (unlike_cost f g) ∷ [])) [ true ↦ some-like f g | false ↦ some-unlike f g ]
 
-  some-like_maps : (f g : FieldShape) (k l : Scalar) → AreSome (like_map_choices sight table f g k l)
+  some-like_maps : (f g : FieldShape) (k l : Scalar) → AreSome (like_map_choices enum_view table f g k l)
   some-like_maps f g k l =
-      some-append (key_choice sight f k l ++ value_choice sight f g) (map_child_choice table f g)
-      (some-append (key_choice sight f k l) (value_choice sight f g)
-      (some-offered f.number 5 1 (option_map (λ body. entry_cost f.number body (least_body f.element)) (gap_body sight true (elements.Scalar k) (elements.Scalar l)))
-      (mapped_some (λ body. entry_cost f.number body (least_body f.element)) (λ body. entry_some f.number body (least_body f.element)) (gap_body sight true (elements.Scalar k) (elements.Scalar l))))
+      some-append (key_choice enum_view f k l ++ value_choice enum_view f g) (map_child_choice table f g)
+      (some-append (key_choice enum_view f k l) (value_choice enum_view f g)
+      (some-offered f.number 5 1 (option_map (λ body. entry_cost f.number body (least_body f.element)) (gap_body enum_view true (elements.Scalar k) (elements.Scalar l)))
+      (mapped_some (λ body. entry_cost f.number body (least_body f.element)) (λ body. entry_some f.number body (least_body f.element)) (gap_body enum_view true (elements.Scalar k) (elements.Scalar l))))
       (some-gap f g true 5 2))
       (some-child f g 5 2)
 
-  some-maps : (f g : FieldShape) (k l : Scalar) → AreSome (map_choices sight table f g k l)
+  some-maps : (f g : FieldShape) (k l : Scalar) → AreSome (map_choices enum_view table f g k l)
   some-maps f g k l =
-      elim (like (elements.Scalar k) (elements.Scalar l) && like f.element g.element) as (λ b. AreSome (if b then like_map_choices sight table f g k l else choice f.number 5 0 (least_content f) ∷ []))
+      elim (like (elements.Scalar k) (elements.Scalar l) && like f.element g.element) as (λ b. AreSome (if b then like_map_choices enum_view table f g k l else choice f.number 5 0 (least_content f) ∷ []))
       [ true ↦ some-like_maps f g k l | false ↦ (least_content_some f, tt) ]
 
   module _ (number : ℕ) (e d : Element) (o r : Option ℕ) where
@@ -166,7 +166,7 @@ module _ (sight : Sight) (table : Table) where
     abbrev at_new : Presence → ℕ → FieldShape
     at_new q n = record { number = n; presence = q; element = d; oneof = r }
 
-    some-presences : (p q : Presence) (n : ℕ) → AreSome (field_choices sight table (at_old p) (at_new q n))
+    some-presences : (p q : Presence) (n : ℕ) → AreSome (field_choices enum_view table (at_old p) (at_new q n))
     some-presences (presences.Map k) (presences.Map l) n = some-maps (at_old (presences.Map k)) (at_new (presences.Map l) n) k l
     some-presences (presences.Map k) presences.Implicit n = some-unlike (at_old (presences.Map k)) (at_new presences.Implicit n)
     some-presences (presences.Map k) presences.Explicit n = some-unlike (at_old (presences.Map k)) (at_new presences.Explicit n)
@@ -184,7 +184,7 @@ module _ (sight : Sight) (table : Table) where
     some-presences (presences.Repeated v) presences.Explicit n = some-plain (at_old (presences.Repeated v)) (at_new presences.Explicit n)
     some-presences (presences.Repeated v) (presences.Repeated w) n = some-plain (at_old (presences.Repeated v)) (at_new (presences.Repeated w) n)
 
-  some-beside : (f : FieldShape) (o : Option FieldShape) → AreSome (choices_beside sight table f o)
+  some-beside : (f : FieldShape) (o : Option FieldShape) → AreSome (choices_beside enum_view table f o)
   some-beside f None = tt
   some-beside f (Some g) = some-presences f.number f.element g.element f.oneof g.oneof f.presence g.presence g.number
 
@@ -196,11 +196,11 @@ module _ (sight : Sight) (table : Table) where
       (elim (joins gs a b) as (λ c. AreSome (if c then choice a.number 6 b.number (least_content a + least_content b) ∷ [] else [])) [ true ↦ (omega arith, tt) | false ↦ tt ])
       (some-joined gs a later)
 
-  some-all : (gs fs : List FieldShape) → AreSome (all_choices sight table gs fs)
+  some-all : (gs fs : List FieldShape) → AreSome (all_choices enum_view table gs fs)
   some-all gs [] = tt
   some-all gs (f ∷ later) =
-      some-append (choices_beside sight table f (field_at gs f.number) ++ joined_choices gs f later) (all_choices sight table gs later)
-      (some-append (choices_beside sight table f (field_at gs f.number)) (joined_choices gs f later) (some-beside f (field_at gs f.number)) (some-joined gs f later))
+      some-append (choices_beside enum_view table f (field_at gs f.number) ++ joined_choices gs f later) (all_choices enum_view table gs later)
+      (some-append (choices_beside enum_view table f (field_at gs f.number)) (joined_choices gs f later) (some-beside f (field_at gs f.number)) (some-joined gs f later))
       (some-all gs later)
 
 -- of what an encoding may have too each costs at least 1, and none more than that
@@ -254,23 +254,23 @@ met_no_more ds cs h = of (cheapest cs) refl
 
 -- The laws.
 
-each_length : (sight : Sight) (old new : Shape) (table : Table) (pair : Pair) → AllByRecursion (λ (c : Choice). (1 ≤ c.cost) × (c.cost ≤ cap)) (choices sight table old new pair)
-each_length sight old new table pair = some-affordable (all_choices sight table (fields new pair.new) (fields old pair.old)) (some-all sight table (fields new pair.new) (fields old pair.old))
+each_length : (enum_view : EnumView) (old new : Shape) (table : Table) (pair : Pair) → AllByRecursion (λ (c : Choice). (1 ≤ c.cost) × (c.cost ≤ cap)) (choices enum_view table old new pair)
+each_length enum_view old new table pair = some-affordable (all_choices enum_view table (fields new pair.new) (fields old pair.old)) (some-all enum_view table (fields new pair.new) (fields old pair.old))
 
 pub least_costs_are_lengths : LeastCostsAreLengths
-least_costs_are_lengths sight old new table pair = of (cheapest (choices sight table old new pair)) refl
+least_costs_are_lengths enum_view old new table pair = of (cheapest (choices enum_view table old new pair)) refl
   where
-    of : (o : Option Choice) → cheapest (choices sight table old new pair) ≡ o → IfSome (cost_of o) (λ n. (1 ≤ n) × (n ≤ cap))
+    of : (o : Option Choice) → cheapest (choices enum_view table old new pair) ≡ o → IfSome (cost_of o) (λ n. (1 ≤ n) × (n ≤ cap))
     of None e = tt
-    of (Some c) e = among_each (λ (c : Choice). (1 ≤ c.cost) × (c.cost ≤ cap)) c (choices sight table old new pair) (cheapest_among (choices sight table old new pair) c e) (each_length sight old new table pair)
+    of (Some c) e = among_each (λ (c : Choice). (1 ≤ c.cost) × (c.cost ≤ cap)) c (choices enum_view table old new pair) (cheapest_among (choices enum_view table old new pair) c e) (each_length enum_view old new table pair)
 
 -- A choice costs at least one byte.
-pub choice_some : (sight : Sight) (old new : Shape) (table : Table) (pair : Pair) (c : Choice) → IsAmong c (choices sight table old new pair) → 1 ≤ c.cost
-choice_some sight old new table pair c among = (among_each (λ (x : Choice). (1 ≤ x.cost) × (x.cost ≤ cap)) c (choices sight table old new pair) among (each_length sight old new table pair)).0
+pub choice_some : (enum_view : EnumView) (old new : Shape) (table : Table) (pair : Pair) (c : Choice) → IsAmong c (choices enum_view table old new pair) → 1 ≤ c.cost
+choice_some enum_view old new table pair c among = (among_each (λ (x : Choice). (1 ≤ x.cost) × (x.cost ≤ cap)) c (choices enum_view table old new pair) among (each_length enum_view old new table pair)).0
 
 pub least_costs_are_exact : LeastCostsAreExact
-least_costs_are_exact sight old new table pair there =
-    let cs = choices sight table old new pair in
+least_costs_are_exact enum_view old new table pair there =
+    let cs = choices enum_view table old new pair in
     record {
       covered = record {
         children_there = there;
@@ -279,6 +279,6 @@ least_costs_are_exact sight old new table pair there =
       chosen = λ x is. chosen_of (cheapest cs) x refl is;
     }
   where
-    chosen_of : (o : Option Choice) (x : ℕ) → cheapest (choices sight table old new pair) ≡ o → cost_of o ≡ Some x → (c : Choice) × IsAmong c (choices sight table old new pair) × (c.cost ≡ x)
+    chosen_of : (o : Option Choice) (x : ℕ) → cheapest (choices enum_view table old new pair) ≡ o → cost_of o ≡ Some x → (c : Choice) × IsAmong c (choices enum_view table old new pair) × (c.cost ≡ x)
     chosen_of None x e is = absurd (cc)
-    chosen_of (Some c) x e is = (c, cheapest_among (choices sight table old new pair) c e, let same : c.cost ≡ x = cc in same)
+    chosen_of (Some c) x e is = (c, cheapest_among (choices enum_view table old new pair) c e, let same : c.cost ≡ x = cc in same)

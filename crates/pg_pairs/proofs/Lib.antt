@@ -12,7 +12,7 @@ pub mod AcrossPlain
 pub mod AcrossMap
 pub mod Costs
 pub mod Zeros
-pub mod Cells
+pub mod Comparands
 pub mod Decisions
 pub mod OneField
 pub mod Messages
@@ -40,7 +40,7 @@ pub mod CarryMapChild
 pub mod CarryTwo
 pub mod Reached
 pub mod CarrySteps
-pub mod ViewSights
+pub mod EnumViews
 pub mod FirstSeen
 pub mod ChildSteps
 pub mod Linking
@@ -63,7 +63,7 @@ pub mod EdgeLaws
 pub mod ChoicePlaces
 pub mod SameLengths
 pub mod LeastByName
-pub mod NamedSights
+pub mod NamedViews
 pub mod Grown
 pub mod Reaching
 pub mod ReturnSteps

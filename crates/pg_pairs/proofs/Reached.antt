@@ -9,7 +9,7 @@ use Rattle.pg_dyn.specs.Encoding.{cap}
 use Rattle.pg_dyn.proofs.Lists.{each-append, each_both, each_weaker, each_at}
 use Rattle.pg_pairs.specs.declared.choice.Choice.{Choice}
 use Rattle.pg_pairs.specs.declared.choice.Pair.{Pair}
-use Rattle.pg_pairs.specs.Sight.{Sight, IsSight}
+use Rattle.pg_pairs.specs.EnumView.{EnumView, IsEnumView}
 use Rattle.pg_pairs.specs.Costs.{least_content}
 use Rattle.pg_pairs.specs.Choices.{Table, choice, field_choices, in_one_oneof, joins, joined_choices, choices_beside, all_choices, choices}
 use Rattle.pg_pairs.specs.Among.{IsAmong}
@@ -22,7 +22,7 @@ use Rattle.pg_pairs.proofs.Messages.{one_found}
 use Rattle.pg_pairs.proofs.Meeting.{reach_meeting}
 use Rattle.pg_dyn.proofs.PublicLaws.{fields_are_found}
 
-module _ (sight : Sight) (law : IsSight sight) (old new : Shape) (shape_old : IsShape old) (shape_new : IsShape new) (table : Table) (pair : Pair) where
+module _ (enum_view : EnumView) (law : IsEnumView enum_view) (old new : Shape) (shape_old : IsShape old) (shape_new : IsShape new) (table : Table) (pair : Pair) where
   -- two fields that meet stand in order, and not in one old oneof
   abbrev pub AreApart : Choice → Type 0
   AreApart c = nat_eq c.case 6 ≡ true → (c.number < c.part) × ((f e : FieldShape) → field_at (fields old pair.old) c.number ≡ Some f → field_at (fields old pair.old) c.part ≡ Some e → same_oneof f.oneof e.oneof ≡ false)
@@ -37,7 +37,7 @@ module _ (sight : Sight) (law : IsSight sight) (old new : Shape) (shape_old : Is
     pub second : nat_eq c.case 6 ≡ true → (e : FieldShape) × (field_at (fields old pair.old) c.part ≡ Some e)
 
   abbrev CarriesChoice : Choice → Type 0
-  CarriesChoice c = AreApart c × Stands c × IsCarried sight law old new shape_old shape_new table pair (choice_child old new pair c) (carried sight old new pair c) c.cost
+  CarriesChoice c = AreApart c × Stands c × IsCarried enum_view law old new shape_old shape_new table pair (choice_child old new pair c) (carried enum_view old new pair c) c.cost
 
   fits_old : (n : ℕ) (x : FieldShape) → field_at (fields old pair.old) n ≡ Some x → PresenceFits x.presence x.element x.oneof
   fits_old n x found = (each_at (IsField (length old)) (fields old pair.old) n x found (fields_are_found.0 old pair.old shape_old).each).presence_fits
@@ -45,22 +45,22 @@ module _ (sight : Sight) (law : IsSight sight) (old new : Shape) (shape_old : Is
   fits_new : (n : ℕ) (x : FieldShape) → field_at (fields new pair.new) n ≡ Some x → PresenceFits x.presence x.element x.oneof
   fits_new n x found = (each_at (IsField (length new)) (fields new pair.new) n x found (fields_are_found.0 new pair.new shape_new).each).presence_fits
 
-  field_carried : (f g : FieldShape) → field_at (fields old pair.old) f.number ≡ Some f → field_at (fields new pair.new) f.number ≡ Some g → AllByRecursion (CarriesOwn sight law old new shape_old shape_new table pair f g) (field_choices sight table f g)
+  field_carried : (f g : FieldShape) → field_at (fields old pair.old) f.number ≡ Some f → field_at (fields new pair.new) f.number ≡ Some g → AllByRecursion (CarriesOwn enum_view law old new shape_old shape_new table pair f g) (field_choices enum_view table f g)
   field_carried f g found at =
       let number : g.number ≡ f.number = fields_are_found.1 (fields new pair.new) f.number g at in
       let same : g ≡ record { number = f.number; presence = g.presence; element = g.element; oneof = g.oneof } = λ i. record { number = number i; presence = g.presence; element = g.element; oneof = g.oneof } in
-      subst (λ x. AllByRecursion (CarriesOwn sight law old new shape_old shape_new table pair f x) (field_choices sight table f x)) (sym same)
-      (presences_carried sight law old new shape_old shape_new table pair f.number f.element g.element f.oneof g.oneof f.presence g.presence found (at ∙ ap Some same) (fits_old f.number f found) (fits_new f.number g at))
+      subst (λ x. AllByRecursion (CarriesOwn enum_view law old new shape_old shape_new table pair f x) (field_choices enum_view table f x)) (sym same)
+      (presences_carried enum_view law old new shape_old shape_new table pair f.number f.element g.element f.oneof g.oneof f.presence g.presence found (at ∙ ap Some same) (fits_old f.number f found) (fits_new f.number g at))
 
-  own_made : (f g : FieldShape) → field_at (fields old pair.old) f.number ≡ Some f → field_at (fields new pair.new) f.number ≡ Some g → (c : Choice) → c.number ≡ f.number → nat_eq c.case 6 ≡ false → IsCarried sight law old new shape_old shape_new table pair (field_child f g c.case c.part) (carried_field sight f g c.case c.part) c.cost → IsCarried sight law old new shape_old shape_new table pair (choice_child old new pair c) (carried sight old new pair c) c.cost
+  own_made : (f g : FieldShape) → field_at (fields old pair.old) f.number ≡ Some f → field_at (fields new pair.new) f.number ≡ Some g → (c : Choice) → c.number ≡ f.number → nat_eq c.case 6 ≡ false → IsCarried enum_view law old new shape_old shape_new table pair (field_child f g c.case c.part) (carried_field enum_view f g c.case c.part) c.cost → IsCarried enum_view law old new shape_old shape_new table pair (choice_child old new pair c) (carried enum_view old new pair c) c.cost
   own_made f g found at c number single h =
       let old_is : field_at (fields old pair.old) c.number ≡ Some f = ap (field_at (fields old pair.old)) number ∙ found in
       let new_is : field_at (fields new pair.new) c.number ≡ Some g = ap (field_at (fields new pair.new)) number ∙ at in
-      subst₂ (λ x y. IsCarried sight law old new shape_old shape_new table pair (child_of x y c) (carried_of sight x y (field_at (fields old pair.old) c.part) c) c.cost) (sym old_is) (sym new_is)
-      (subst (λ (b : Bool). IsCarried sight law old new shape_old shape_new table pair (field_child f g c.case c.part) (λ child. if b then carried_two f (field_at (fields old pair.old) c.part) else carried_field sight f g c.case c.part child) c.cost) (sym single) h)
+      subst₂ (λ x y. IsCarried enum_view law old new shape_old shape_new table pair (child_of x y c) (carried_of enum_view x y (field_at (fields old pair.old) c.part) c) c.cost) (sym old_is) (sym new_is)
+      (subst (λ (b : Bool). IsCarried enum_view law old new shape_old shape_new table pair (field_child f g c.case c.part) (λ child. if b then carried_two f (field_at (fields old pair.old) c.part) else carried_field enum_view f g c.case c.part child) c.cost) (sym single) h)
 
   abbrev IsOwn : FieldShape → FieldShape → Choice → Type 0
-  IsOwn f g c = CarriesOwn sight law old new shape_old shape_new table pair f g c × IsPlaced f.presence c
+  IsOwn f g c = CarriesOwn enum_view law old new shape_old shape_new table pair f g c × IsPlaced f.presence c
 
   own_carried : (f g : FieldShape) → field_at (fields old pair.old) f.number ≡ Some f → field_at (fields new pair.new) f.number ≡ Some g → (c : Choice) → IsOwn f g c → CarriesChoice c
   own_carried f g found at c ((number, single, h), is_placed) =
@@ -77,16 +77,16 @@ module _ (sight : Sight) (law : IsSight sight) (old new : Shape) (shape_old : Is
         second = λ six. absurd (not_two six);
       }
 
-  own_each : (f g : FieldShape) → field_at (fields old pair.old) f.number ≡ Some f → field_at (fields new pair.new) f.number ≡ Some g → AllByRecursion (IsOwn f g) (field_choices sight table f g)
+  own_each : (f g : FieldShape) → field_at (fields old pair.old) f.number ≡ Some f → field_at (fields new pair.new) f.number ≡ Some g → AllByRecursion (IsOwn f g) (field_choices enum_view table f g)
   own_each f g found at =
-      each_both (CarriesOwn sight law old new shape_old shape_new table pair f g) (IsPlaced f.presence) (field_choices sight table f g) (field_carried f g found at)
-      (placed sight table f.number g.number f.element g.element f.oneof g.oneof f.presence g.presence)
+      each_both (CarriesOwn enum_view law old new shape_old shape_new table pair f g) (IsPlaced f.presence) (field_choices enum_view table f g) (field_carried f g found at)
+      (placed enum_view table f.number g.number f.element g.element f.oneof g.oneof f.presence g.presence)
 
-  beside_carried : (f : FieldShape) → field_at (fields old pair.old) f.number ≡ Some f → AllByRecursion CarriesChoice (choices_beside sight table f (field_at (fields new pair.new) f.number))
+  beside_carried : (f : FieldShape) → field_at (fields old pair.old) f.number ≡ Some f → AllByRecursion CarriesChoice (choices_beside enum_view table f (field_at (fields new pair.new) f.number))
   beside_carried f found = of (field_at (fields new pair.new) f.number) refl
     where
-      of : (o : Option FieldShape) → field_at (fields new pair.new) f.number ≡ o → AllByRecursion CarriesChoice (choices_beside sight table f o)
-      of (Some g) at = each_weaker (IsOwn f g) CarriesChoice (own_carried f g found at) (field_choices sight table f g) (own_each f g found at)
+      of : (o : Option FieldShape) → field_at (fields new pair.new) f.number ≡ o → AllByRecursion CarriesChoice (choices_beside enum_view table f o)
+      of (Some g) at = each_weaker (IsOwn f g) CarriesChoice (own_carried f g found at) (field_choices enum_view table f g) (own_each f g found at)
       of None at = tt
 
   -- two fields in one new oneof
@@ -134,13 +134,13 @@ module _ (sight : Sight) (law : IsSight sight) (old new : Shape) (shape_old : Is
         second = λ six. (b, found_b);
       }
 
-      made : IsCarried sight law old new shape_old shape_new table pair (choice_child old new pair c) (carried sight old new pair c) c.cost
+      made : IsCarried enum_view law old new shape_old shape_new table pair (choice_child old new pair c) (carried enum_view old new pair c) c.cost
       made small =
-          subst₂ (λ x y. ChildThere table (child_of x y c) c.cost × ((child : Option Message) → ChildReached sight old new table (child_of x y c) child → ReachedBy sight old new pair (carried_of sight x y (field_at (fields old pair.old) b.number) c child) c.cost)) (sym found_a) (sym m.at_first) (
+          subst₂ (λ x y. ChildThere table (child_of x y c) c.cost × ((child : Option Message) → ChildReached enum_view old new table (child_of x y c) child → ReachedBy enum_view old new pair (carried_of enum_view x y (field_at (fields old pair.old) b.number) c child) c.cost)) (sym found_a) (sym m.at_first) (
             tt,
             λ child none.
-                subst (λ z. ReachedBy sight old new pair (carried_two a z) (least_content a + least_content b)) (sym found_b)
-                (reach_meeting sight old new shape_old shape_new pair a b m.first m.second found_a found_b m.at_first m.at_second m.one m.not_old below small),
+                subst (λ z. ReachedBy enum_view old new pair (carried_two a z) (least_content a + least_content b)) (sym found_b)
+                (reach_meeting enum_view old new shape_old shape_new pair a b m.first m.second found_a found_b m.at_first m.at_second m.one m.not_old below small),
           )
 
   joined_carried : (a : FieldShape) → field_at (fields old pair.old) a.number ≡ Some a → (later : List FieldShape) → AllByRecursion (λ x. field_at (fields old pair.old) x.number ≡ Some x) later → AllByRecursion (λ x. a.number < x.number) later → AllByRecursion CarriesChoice (joined_choices (fields new pair.new) a later)
@@ -153,17 +153,17 @@ module _ (sight : Sight) (law : IsSight sight) (old new : Shape) (shape_old : Is
       ] refl)
       (joined_carried a found later each.1 below.1)
 
-  all_carried : (later : List FieldShape) → AllByRecursion (λ x. field_at (fields old pair.old) x.number ≡ Some x) later → Rising later → AllByRecursion CarriesChoice (all_choices sight table (fields new pair.new) later)
+  all_carried : (later : List FieldShape) → AllByRecursion (λ x. field_at (fields old pair.old) x.number ≡ Some x) later → Rising later → AllByRecursion CarriesChoice (all_choices enum_view table (fields new pair.new) later)
   all_carried [] each rising = tt
   all_carried (f ∷ later) each rising =
-      each-append CarriesChoice (choices_beside sight table f (field_at (fields new pair.new) f.number) ++ joined_choices (fields new pair.new) f later) (all_choices sight table (fields new pair.new) later)
-      (each-append CarriesChoice (choices_beside sight table f (field_at (fields new pair.new) f.number)) (joined_choices (fields new pair.new) f later)
+      each-append CarriesChoice (choices_beside enum_view table f (field_at (fields new pair.new) f.number) ++ joined_choices (fields new pair.new) f later) (all_choices enum_view table (fields new pair.new) later)
+      (each-append CarriesChoice (choices_beside enum_view table f (field_at (fields new pair.new) f.number)) (joined_choices (fields new pair.new) f later)
       (beside_carried f each.0) (joined_carried f each.0 later each.1 rising.0))
       (all_carried later each.1 rising.1)
 
   -- what is known of a choice that an encoding may have
   abbrev Known : Choice → Type 0
-  Known c = AreApart c × Stands c × ChildThere table (choice_child old new pair c) c.cost × ((child : Option Message) → ChildReached sight old new table (choice_child old new pair c) child → ReachedBy sight old new pair (carried sight old new pair c child) c.cost)
+  Known c = AreApart c × Stands c × ChildThere table (choice_child old new pair c) c.cost × ((child : Option Message) → ChildReached enum_view old new table (choice_child old new pair c) child → ReachedBy enum_view old new pair (carried enum_view old new pair c child) c.cost)
 
   kept_each : (cs : List Choice) → AllByRecursion CarriesChoice cs → AllByRecursion Known (filter (λ (c : Choice). nat_le c.cost cap) cs)
   kept_each [] h = tt
@@ -171,28 +171,28 @@ module _ (sight : Sight) (law : IsSight sight) (old new : Shape) (shape_old : Is
       elim (nat_le c.cost cap) as (λ b. nat_le c.cost cap ≡ b → AllByRecursion Known (cond b (c ∷ filter (λ (c : Choice). nat_le c.cost cap) cs) (filter (λ (c : Choice). nat_le c.cost cap) cs)))
       [ true ↦ λ e. (let (there, made) = h.0.2 (leb-true c.cost cap e) in (h.0.0, h.0.1, there, made), kept_each cs h.1) | false ↦ λ e. kept_each cs h.1 ] refl
 
-  pub choice_known : (c : Choice) → IsAmong c (choices sight table old new pair) → Known c
+  pub choice_known : (c : Choice) → IsAmong c (choices enum_view table old new pair) → Known c
   choice_known c among =
-      among_each Known c (choices sight table old new pair) among
-      (kept_each (all_choices sight table (fields new pair.new) (fields old pair.old))
+      among_each Known c (choices enum_view table old new pair) among
+      (kept_each (all_choices enum_view table (fields new pair.new) (fields old pair.old))
       (all_carried (fields old pair.old) (fields_are_found.2 (fields old pair.old) (fields_are_found.0 old pair.old shape_old).rising) (fields_are_found.0 old pair.old shape_old).rising))
 
   -- the child that a smaller bound in the table gives
-  child_given : (wanted : Option Pair) (cost : ℕ) → ChildThere table wanted cost → ((p : Pair) (x : ℕ) → table p ≡ Some (Some x) → x < cost → IsReached sight old new p x) → (child : Option Message) × ChildReached sight old new table wanted child
+  child_given : (wanted : Option Pair) (cost : ℕ) → ChildThere table wanted cost → ((p : Pair) (x : ℕ) → table p ≡ Some (Some x) → x < cost → IsReached enum_view old new p x) → (child : Option Message) × ChildReached enum_view old new table wanted child
   child_given None cost there smaller = (None, tt)
   child_given (Some p) cost (x, at, less) smaller = let (m, reached) = smaller p x at less in (Some m, (x, at, reached))
 
-  pub choice_reached : (c : Choice) → IsAmong c (choices sight table old new pair) → ((p : Pair) (x : ℕ) → table p ≡ Some (Some x) → x < c.cost → IsReached sight old new p x) → IsReached sight old new pair c.cost
+  pub choice_reached : (c : Choice) → IsAmong c (choices enum_view table old new pair) → ((p : Pair) (x : ℕ) → table p ≡ Some (Some x) → x < c.cost → IsReached enum_view old new p x) → IsReached enum_view old new pair c.cost
   choice_reached c among smaller =
       let (apart, stands, there, made) = choice_known c among in
       let (child, reached) = child_given (choice_child old new pair c) c.cost there smaller in
-      (carried sight old new pair c child, made child reached)
+      (carried enum_view old new pair c child, made child reached)
 
-pub choices_reached : (sight : Sight) (old new : Shape) (table : Table) → IsSight sight → IsShape old → IsShape new → ChoicesReached sight old new table
-choices_reached sight old new table law shape_old shape_new pair c among = choice_reached sight law old new shape_old shape_new table pair c among
+pub choices_reached : (enum_view : EnumView) (old new : Shape) (table : Table) → IsEnumView enum_view → IsShape old → IsShape new → ChoicesReached enum_view old new table
+choices_reached enum_view old new table law shape_old shape_new pair c among = choice_reached enum_view law old new shape_old shape_new table pair c among
 
 pub choices_carried : EachChoiceIsCarried
-choices_carried sight old new table law shape_old shape_new pair c among = (choice_known sight law old new shape_old shape_new table pair c among).3
+choices_carried enum_view old new table law shape_old shape_new pair c among = (choice_known enum_view law old new shape_old shape_new table pair c among).3
 
 pub child_costs_less : EachChildCostsLess
-child_costs_less sight old new table law shape_old shape_new pair c among = (choice_known sight law old new shape_old shape_new table pair c among).2
+child_costs_less enum_view old new table law shape_old shape_new pair c among = (choice_known enum_view law old new shape_old shape_new table pair c among).2

@@ -29,9 +29,9 @@ use Rattle.pg_dyn.specs.PartsFit.{HoldsItem, HoldsPart, IsElementItem}
 use Rattle.pg_dyn.specs.Setting.{is_zero_kept}
 use Rattle.pg_dyn.specs.Encoding.{child_type, element_type}
 use Rattle.pg_dyn.specs.Fits.{Fits}
-use Rattle.pg_dyn.specs.Comparison.{View, Sought, Alike, is_zero_sought, is_zero_item, hides_zero, shown, same_key, meets, sought, same}
+use Rattle.pg_dyn.specs.Comparison.{View, Expected, Alike, is_zero_expected, is_zero_item, hides_zero, shown, same_key, matches, expected, same}
 use Rattle.pg_dyn.specs.Comparison as comparison
-use Rattle.pg_pairs.specs.Comparing.{view_by, HeldFits, IsKeyIf, Keyed, keyed, keyed_if, keyed_shown, IsSingle, value_sought, item_lent, all_meet, is_same_beside}
+use Rattle.pg_pairs.specs.Comparing.{view_by, HeldFits, IsKeyIf, Keyed, keyed, keyed_if, keyed_shown, IsSingle, value_expected, item_lent, all_match, is_same_beside}
 use Rattle.pg_pairs.proofs.SameSteps.{list_if, part_with, seen_keyed, of_number_seen, pointwise-map, copied_fact}
 
 -- ---- contents that fit
@@ -245,32 +245,32 @@ parts_shown hidden n (kept.nests number key listed child later) =
     ]
 
 module _ (view : View) (old new : Shape) (a b : TypeId) where
-  abbrev item_sought : ℕ → KeptItem → Sought
-  item_sought n (kept.Plain listed leaf) = Alike leaf
-  item_sought n (kept.Msg listed m) = comparison.Kept (same view old new (child_type (fields old a) n) (child_type (fields new b) n) (message_of m))
+  abbrev item_expected : ℕ → KeptItem → Expected
+  item_expected n (kept.Plain listed leaf) = Alike leaf
+  item_expected n (kept.Msg listed m) = comparison.Kept (same view old new (child_type (fields old a) n) (child_type (fields new b) n) (message_of m))
 
-  sought_shown : (hidden : Bool) (n : ℕ) (m : Kept) → shown is_zero_sought hidden n (sought view old new a b (message_of m)) ≡ map (put_in item_sought) (filter (is_shown_part hidden) (of_number n m))
+  expected_shown : (hidden : Bool) (n : ℕ) (m : Kept) → shown is_zero_expected hidden n (expected view old new a b (message_of m)) ≡ map (put_in item_expected) (filter (is_shown_part hidden) (of_number n m))
   unfolding same
-  sought_shown hidden n (kept.ends type unknown) = refl
-  sought_shown hidden n (kept.holds number key listed leaf later) =
-      let rest = sought_shown hidden n later in
-      elim (nat_eq number n) as (λ t. cond (t && not (hidden && is_zero leaf)) (record { number = number; key = key; item = Alike leaf } ∷ shown is_zero_sought hidden n (sought view old new a b (message_of later))) (shown is_zero_sought hidden n (sought view old new a b (message_of later)))
-      ≡ map (put_in item_sought) (filter (is_shown_part hidden) (cond t (record { number = number; key = key; item = kept.Plain listed leaf } ∷ of_number n later) (of_number n later)))) [
-        | true ↦ elim (not (hidden && is_zero leaf)) as (λ u. cond u (record { number = number; key = key; item = Alike leaf } ∷ shown is_zero_sought hidden n (sought view old new a b (message_of later))) (shown is_zero_sought hidden n (sought view old new a b (message_of later)))
-            ≡ map (put_in item_sought) (cond u (record { number = number; key = key; item = kept.Plain listed leaf } ∷ filter (is_shown_part hidden) (of_number n later)) (filter (is_shown_part hidden) (of_number n later)))) [
-              | true ↦ ap (λ (ps : List (Part Sought)). record { number = number; key = key; item = Alike leaf } ∷ ps) rest
+  expected_shown hidden n (kept.ends type unknown) = refl
+  expected_shown hidden n (kept.holds number key listed leaf later) =
+      let rest = expected_shown hidden n later in
+      elim (nat_eq number n) as (λ t. cond (t && not (hidden && is_zero leaf)) (record { number = number; key = key; item = Alike leaf } ∷ shown is_zero_expected hidden n (expected view old new a b (message_of later))) (shown is_zero_expected hidden n (expected view old new a b (message_of later)))
+      ≡ map (put_in item_expected) (filter (is_shown_part hidden) (cond t (record { number = number; key = key; item = kept.Plain listed leaf } ∷ of_number n later) (of_number n later)))) [
+        | true ↦ elim (not (hidden && is_zero leaf)) as (λ u. cond u (record { number = number; key = key; item = Alike leaf } ∷ shown is_zero_expected hidden n (expected view old new a b (message_of later))) (shown is_zero_expected hidden n (expected view old new a b (message_of later)))
+            ≡ map (put_in item_expected) (cond u (record { number = number; key = key; item = kept.Plain listed leaf } ∷ filter (is_shown_part hidden) (of_number n later)) (filter (is_shown_part hidden) (of_number n later)))) [
+              | true ↦ ap (λ (ps : List (Part Expected)). record { number = number; key = key; item = Alike leaf } ∷ ps) rest
               | false ↦ rest
             ]
         | false ↦ rest
       ]
-  sought_shown hidden n (kept.nests number key listed child later) =
-      let rest = sought_shown hidden n later in
+  expected_shown hidden n (kept.nests number key listed child later) =
+      let rest = expected_shown hidden n later in
       let test = comparison.Kept (same view old new (child_type (fields old a) number) (child_type (fields new b) number) (message_of child)) in
-      elim (nat_eq number n) as (λ t. cond (t && not (hidden && false)) (record { number = number; key = key; item = test } ∷ shown is_zero_sought hidden n (sought view old new a b (message_of later))) (shown is_zero_sought hidden n (sought view old new a b (message_of later)))
-      ≡ map (put_in item_sought) (filter (is_shown_part hidden) (cond t (record { number = number; key = key; item = kept.Msg listed child } ∷ of_number n later) (of_number n later)))) [
-        | true ↦ elim (not (hidden && false)) as (λ u. cond u (record { number = number; key = key; item = test } ∷ shown is_zero_sought hidden n (sought view old new a b (message_of later))) (shown is_zero_sought hidden n (sought view old new a b (message_of later)))
-            ≡ map (put_in item_sought) (cond u (record { number = number; key = key; item = kept.Msg listed child } ∷ filter (is_shown_part hidden) (of_number n later)) (filter (is_shown_part hidden) (of_number n later)))) [
-              | true ↦ ap (λ (ps : List (Part Sought)). record { number = number; key = key; item = test } ∷ ps) rest
+      elim (nat_eq number n) as (λ t. cond (t && not (hidden && false)) (record { number = number; key = key; item = test } ∷ shown is_zero_expected hidden n (expected view old new a b (message_of later))) (shown is_zero_expected hidden n (expected view old new a b (message_of later)))
+      ≡ map (put_in item_expected) (filter (is_shown_part hidden) (cond t (record { number = number; key = key; item = kept.Msg listed child } ∷ of_number n later) (of_number n later)))) [
+        | true ↦ elim (not (hidden && false)) as (λ u. cond u (record { number = number; key = key; item = test } ∷ shown is_zero_expected hidden n (expected view old new a b (message_of later))) (shown is_zero_expected hidden n (expected view old new a b (message_of later)))
+            ≡ map (put_in item_expected) (cond u (record { number = number; key = key; item = kept.Msg listed child } ∷ filter (is_shown_part hidden) (of_number n later)) (filter (is_shown_part hidden) (of_number n later)))) [
+              | true ↦ ap (λ (ps : List (Part Expected)). record { number = number; key = key; item = test } ∷ ps) rest
               | false ↦ rest
             ]
         | false ↦ rest
@@ -289,12 +289,12 @@ read_as alike old new n listed (x ∷ xs) = (of x.1, read_as alike old new n lis
     of (values.Msg m) = refl
 
 module _ (alike : EnumType → EnumType → ℤ → Bool) (old new : Parts) (f g : FieldShape) (v w : Kept) where
-  sought_as : (listed : Bool) → child_type (fields (shape_of old) (type_of v)) f.number ≡ element_type f.element → child_type (fields (shape_of new) (type_of w)) f.number ≡ element_type g.element → (xs : List Keyed) → AllByRecursion (HeldFits (shape_of old) f.element) xs →
-      AllByRecursion (λ (x : Keyed). item_sought (view_by alike old new) (shape_of old) (shape_of new) (type_of v) (type_of w) f.number (item_seen listed x.1) ≡ value_sought alike old new (element_type g.element) x.1) xs
-  sought_as listed of_old of_new [] h = tt
-  sought_as listed of_old of_new (x ∷ xs) h = (one x.1 (item_type (shape_of old) f.element x.1 h.0.1), sought_as listed of_old of_new xs h.1)
+  expected_as : (listed : Bool) → child_type (fields (shape_of old) (type_of v)) f.number ≡ element_type f.element → child_type (fields (shape_of new) (type_of w)) f.number ≡ element_type g.element → (xs : List Keyed) → AllByRecursion (HeldFits (shape_of old) f.element) xs →
+      AllByRecursion (λ (x : Keyed). item_expected (view_by alike old new) (shape_of old) (shape_of new) (type_of v) (type_of w) f.number (item_seen listed x.1) ≡ value_expected alike old new (element_type g.element) x.1) xs
+  expected_as listed of_old of_new [] h = tt
+  expected_as listed of_old of_new (x ∷ xs) h = (one x.1 (item_type (shape_of old) f.element x.1 h.0.1), expected_as listed of_old of_new xs h.1)
     where
-      one : (value : ValueRef) → IsOfType (element_type f.element) value → item_sought (view_by alike old new) (shape_of old) (shape_of new) (type_of v) (type_of w) f.number (item_seen listed value) ≡ value_sought alike old new (element_type g.element) value
+      one : (value : ValueRef) → IsOfType (element_type f.element) value → item_expected (view_by alike old new) (shape_of old) (shape_of new) (type_of v) (type_of w) f.number (item_seen listed value) ≡ value_expected alike old new (element_type g.element) value
       one (values.Int m) k = refl
       one (values.F32 m) k = refl
       one (values.F64 m) k = refl
@@ -307,32 +307,32 @@ module _ (alike : EnumType → EnumType → ℤ → Bool) (old new : Parts) (f g
     pub beside_is : (got other shown_got shown_other : Option (Bor ContentRef))
         → MatchOption got (of_number f.number v ≡ []) (λ c. of_number f.number v ≡ content_seen f.number c.now) → MatchOption other (of_number f.number w ≡ []) (λ c. of_number f.number w ≡ content_seen f.number c.now)
         → IfSome got (λ c. HasKeys c.now) → IfSome got (λ c. FitsWhereFound v f.number c.now) → keyed_if (option_copied shown_got) ≡ keyed_shown (hides_zero f g) (option_copied got) → keyed_if (option_copied shown_other) ≡ keyed_shown (hides_zero f g) (option_copied other)
-        → all_meet alike old new f g (keyed_if (option_copied shown_got)) (keyed_if (option_copied shown_other)) ≡ is_same_beside alike old new v w f (field_at (fields (shape_of new) (type_of w)) f.number)
+        → all_match alike old new f g (keyed_if (option_copied shown_got)) (keyed_if (option_copied shown_other)) ≡ is_same_beside alike old new v w f (field_at (fields (shape_of new) (type_of w)) f.number)
     beside_is got other shown_got shown_other seen seen_other keys held is is_other =
         let n = f.number in
         let hidden = hides_zero f g in
         let of_old : child_type (fields (shape_of old) (type_of v)) f.number ≡ element_type f.element = rw found refl in
         let of_new : child_type (fields (shape_of new) (type_of w)) f.number ≡ element_type g.element = rw beside refl in
-        let first = sought_shown (view_by alike old new) (shape_of old) (shape_of new) (type_of v) (type_of w) (hides_zero f g) f.number v
-        ∙ ap (λ ps. map (put_in (item_sought (view_by alike old new) (shape_of old) (shape_of new) (type_of v) (type_of w))) (filter (is_shown_part (hides_zero f g)) ps)) (of_number_seen f.number v got seen ∙ seen_keyed f.number (option_copied got))
-        ∙ held_as f.number (hides_zero f g) (list_if (option_copied got)) (item_sought (view_by alike old new) (shape_of old) (shape_of new) (type_of v) (type_of w)) (value_sought alike old new (element_type g.element)) (keyed_if (option_copied got))
-        (sought_as (list_if (option_copied got)) of_old of_new (keyed_if (option_copied got)) (keyed_found (shape_of old) v f.number f is_old fits found got keys held))
-        ∙ ap (map (put_held f.number (value_sought alike old new (element_type g.element)))) (sym is) in
+        let first = expected_shown (view_by alike old new) (shape_of old) (shape_of new) (type_of v) (type_of w) (hides_zero f g) f.number v
+        ∙ ap (λ ps. map (put_in (item_expected (view_by alike old new) (shape_of old) (shape_of new) (type_of v) (type_of w))) (filter (is_shown_part (hides_zero f g)) ps)) (of_number_seen f.number v got seen ∙ seen_keyed f.number (option_copied got))
+        ∙ held_as f.number (hides_zero f g) (list_if (option_copied got)) (item_expected (view_by alike old new) (shape_of old) (shape_of new) (type_of v) (type_of w)) (value_expected alike old new (element_type g.element)) (keyed_if (option_copied got))
+        (expected_as (list_if (option_copied got)) of_old of_new (keyed_if (option_copied got)) (keyed_found (shape_of old) v f.number f is_old fits found got keys held))
+        ∙ ap (map (put_held f.number (value_expected alike old new (element_type g.element)))) (sym is) in
         let second = parts_shown (hides_zero f g) f.number w
         ∙ ap (λ ps. map (put_in item_read) (filter (is_shown_part (hides_zero f g)) ps)) (of_number_seen f.number w other seen_other ∙ seen_keyed f.number (option_copied other))
         ∙ held_as f.number (hides_zero f g) (list_if (option_copied other)) item_read item_lent (keyed_if (option_copied other)) (read_as alike old new f.number (list_if (option_copied other)) (keyed_if (option_copied other)))
         ∙ ap (map (put_held f.number item_lent)) (sym is_other) in
         sym (ap (λ o. is_same_beside alike old new v w f o) beside
-        ∙ ap₂ (pointwise (λ (p : Part Sought) (q : Part Item). same_key p.key q.key && meets (view_by alike old new) f g p.item q.item)) first second
-        ∙ pointwise-map (λ (p : Part Sought) (q : Part Item). same_key p.key q.key && meets (view_by alike old new) f g p.item q.item) (put_held f.number (value_sought alike old new (element_type g.element))) (put_held f.number item_lent) (keyed_if (option_copied shown_got)) (keyed_if (option_copied shown_other)))
+        ∙ ap₂ (pointwise (λ (p : Part Expected) (q : Part Item). same_key p.key q.key && matches (view_by alike old new) f g p.item q.item)) first second
+        ∙ pointwise-map (λ (p : Part Expected) (q : Part Item). same_key p.key q.key && matches (view_by alike old new) f g p.item q.item) (put_held f.number (value_expected alike old new (element_type g.element))) (put_held f.number item_lent) (keyed_if (option_copied shown_got)) (keyed_if (option_copied shown_other)))
 
     pub beside_with : (got other shown_got shown_other x y : Option (Bor ContentRef))
         → MatchOption got (of_number f.number v ≡ []) (λ c. of_number f.number v ≡ content_seen f.number c.now) → MatchOption other (of_number f.number w ≡ []) (λ c. of_number f.number w ≡ content_seen f.number c.now)
         → IfSome got (λ c. HasKeys c.now) → IfSome got (λ c. FitsWhereFound v f.number c.now) → keyed_if (option_copied shown_got) ≡ keyed_shown (hides_zero f g) (option_copied got) → keyed_if (option_copied shown_other) ≡ keyed_shown (hides_zero f g) (option_copied other)
         → shown_got ≡ x → shown_other ≡ y
-        → all_meet alike old new f g (keyed_if (option_copied x)) (keyed_if (option_copied y)) ≡ is_same_beside alike old new v w f (field_at (fields (shape_of new) (type_of w)) f.number)
+        → all_match alike old new f g (keyed_if (option_copied x)) (keyed_if (option_copied y)) ≡ is_same_beside alike old new v w f (field_at (fields (shape_of new) (type_of w)) f.number)
     beside_with got other shown_got shown_other x y seen seen_other keys held is is_other is_x is_y =
-        ap₂ (λ s t. all_meet alike old new f g (keyed_if (option_copied s)) (keyed_if (option_copied t))) (sym is_x) (sym is_y)
+        ap₂ (λ s t. all_match alike old new f g (keyed_if (option_copied s)) (keyed_if (option_copied t))) (sym is_x) (sym is_y)
         ∙ beside_is got other shown_got shown_other seen seen_other keys held is is_other
 
 -- ---- a content beside none

@@ -13,7 +13,7 @@ use Rattle.pg_dyn.specs.Fits.{Fits}
 use Rattle.pg_dyn.specs.Kept.{Kept, message_of, type_of}
 use Rattle.pg_pairs.specs.declared.choice.Choice.{Choice}
 use Rattle.pg_pairs.specs.declared.choice.Pair.{Pair}
-use Rattle.pg_pairs.specs.Sight.{Sight, IsSight}
+use Rattle.pg_pairs.specs.EnumView.{EnumView, IsEnumView}
 use Rattle.pg_pairs.specs.Likeness.{like}
 use Rattle.pg_pairs.specs.Gaps.{gap_item}
 use Rattle.pg_pairs.specs.Choices.{Table, zero_counts, choices}
@@ -109,35 +109,35 @@ abbrev pub value_alone : ℕ → Leaf → Option Message → Option Leaf → Mes
 value_alone number key (Some child) leaf = nests number (Some key) child (ends [])
 value_alone number key None leaf = leaf_alone number (Some key) leaf
 
-abbrev pub entry_message : Sight → ℕ → Scalar → Scalar → Element → Element → ℕ → Option Message → Message
-entry_message sight number k l e d part child =
-    if nat_eq part 1 then key_alone number e (gap_item sight true (elements.Scalar k) (elements.Scalar l))
-    else if nat_eq part 2 then value_alone number (zero_leaf (form (elements.Scalar k))) child (gap_item sight true e d)
+abbrev pub entry_message : EnumView → ℕ → Scalar → Scalar → Element → Element → ℕ → Option Message → Message
+entry_message enum_view number k l e d part child =
+    if nat_eq part 1 then key_alone number e (gap_item enum_view true (elements.Scalar k) (elements.Scalar l))
+    else if nat_eq part 2 then value_alone number (zero_leaf (form (elements.Scalar k))) child (gap_item enum_view true e d)
     else alone number (Some (apart_leaf (elements.Scalar k) (elements.Scalar l))) (apart_item e d)
 
 -- the message of a field's choice, of that case and part, round that child
-abbrev pub carried_field : Sight → FieldShape → FieldShape → ℕ → ℕ → Option Message → Message
-carried_field sight f g case part child =
+abbrev pub carried_field : EnumView → FieldShape → FieldShape → ℕ → ℕ → Option Message → Message
+carried_field enum_view f g case part child =
     if nat_eq case 1 then unlike_message f g
-    else if nat_eq case 2 then leaf_alone f.number None (gap_item sight (zero_counts f g) f.element g.element)
+    else if nat_eq case 2 then leaf_alone f.number None (gap_item enum_view (zero_counts f g) f.element g.element)
     else if nat_eq case 3 then child_alone f.number None child
     else if nat_eq case 4 then lost_onto f.number f.presence g.presence (item_by zero_leaf f.element)
-    else entry_message sight f.number (key_of f.presence) (key_of g.presence) f.element g.element part child
+    else entry_message enum_view f.number (key_of f.presence) (key_of g.presence) f.element g.element part child
 
 -- two fields that meet: the least contents of both
 abbrev pub carried_two : FieldShape → Option FieldShape → Message
 carried_two f (Some e) = least_part f (least_part e (ends []))
 carried_two f None = ends []
 
-abbrev pub carried_of : Sight → Option FieldShape → Option FieldShape → Option FieldShape → Choice → Option Message → Message
-carried_of sight (Some f) (Some g) e c child = if nat_eq c.case 6 then carried_two f e else carried_field sight f g c.case c.part child
-carried_of sight (Some f) None e c child = ends []
-carried_of sight None g e c child = ends []
+abbrev pub carried_of : EnumView → Option FieldShape → Option FieldShape → Option FieldShape → Choice → Option Message → Message
+carried_of enum_view (Some f) (Some g) e c child = if nat_eq c.case 6 then carried_two f e else carried_field enum_view f g c.case c.part child
+carried_of enum_view (Some f) None e c child = ends []
+carried_of enum_view None g e c child = ends []
 
 -- the message of a choice
-abbrev pub carried : Sight → Shape → Shape → Pair → Choice → Option Message → Message
-carried sight old new pair c child =
-    carried_of sight (field_at (fields old pair.old) c.number) (field_at (fields new pair.new) c.number) (field_at (fields old pair.old) c.part) c child
+abbrev pub carried : EnumView → Shape → Shape → Pair → Choice → Option Message → Message
+carried enum_view old new pair c child =
+    carried_of enum_view (field_at (fields old pair.old) c.number) (field_at (fields new pair.new) c.number) (field_at (fields old pair.old) c.part) c child
 
 -- Which choices have a child, and of which pair.
 
@@ -164,8 +164,8 @@ abbrev pub choice_child : Shape → Shape → Pair → Choice → Option Pair
 choice_child old new pair c = child_of (field_at (fields old pair.old) c.number) (field_at (fields new pair.new) c.number) c
 
 -- the choice is one of the pair's, under some table of bounds
-abbrev pub IsChoiceOf : Sight → Shape → Shape → Pair → Choice → Type 0
-IsChoiceOf sight old new pair c = (table : Table) × IsAmong c (choices sight table old new pair)
+abbrev pub IsChoiceOf : EnumView → Shape → Shape → Pair → Choice → Type 0
+IsChoiceOf enum_view old new pair c = (table : Table) × IsAmong c (choices enum_view table old new pair)
 
 -- A child is given just where the choice has one, and is a message of that pair's old type.
 abbrev pub ChildGiven : Shape → Option Pair → Option Kept → Type 0
@@ -175,11 +175,11 @@ ChildGiven old (Some p) None = ⊥
 ChildGiven old (Some p) (Some m) = Fits old m × (type_of m ≡ p.old)
 
 -- The child comes just where there is one, and has the length of its pair's bound.
-abbrev pub ChildReached : Sight → Shape → Shape → Table → Option Pair → Option Message → Type 0
-ChildReached sight old new table None None = ⊤
-ChildReached sight old new table None (Some m) = ⊥
-ChildReached sight old new table (Some p) None = ⊥
-ChildReached sight old new table (Some p) (Some m) = (x : ℕ) × (table p ≡ Some (Some x)) × ReachedBy sight old new p m x
+abbrev pub ChildReached : EnumView → Shape → Shape → Table → Option Pair → Option Message → Type 0
+ChildReached enum_view old new table None None = ⊤
+ChildReached enum_view old new table None (Some m) = ⊥
+ChildReached enum_view old new table (Some p) None = ⊥
+ChildReached enum_view old new table (Some p) (Some m) = (x : ℕ) × (table p ≡ Some (Some x)) × ReachedBy enum_view old new p m x
 
 -- The child, where a choice has one, is of that pair's old type.
 abbrev pub IsOfPair : Option Pair → Option Kept → Type 0
@@ -189,10 +189,10 @@ IsOfPair None child = ⊤
 
 -- The choice is one of the pair's under some table of bounds, and its child, where it has one, is a message of the child's old type that
 -- breaks and has the length of its bound.
-pub record IsChoiceRound (sight : Sight) (old new : Shape) (pair : Pair) (choice : Choice) (child : Option Kept) : Type 0 where
+pub record IsChoiceRound (enum_view : EnumView) (old new : Shape) (pair : Pair) (choice : Choice) (child : Option Kept) : Type 0 where
   pub table : Table
-  pub among : IsAmong choice (choices sight table old new pair)
-  pub reached : ChildReached sight old new table (choice_child old new pair choice) (option_map message_of child)
+  pub among : IsAmong choice (choices enum_view table old new pair)
+  pub reached : ChildReached enum_view old new table (choice_child old new pair choice) (option_map message_of child)
   pub of_pair : IsOfPair (choice_child old new pair choice) child
 
 -- What a table has for the child of a choice of that cost, where the choice has one: a smaller number.
@@ -203,12 +203,12 @@ ChildThere table (Some p) cost = (x : ℕ) × (table p ≡ Some (Some x)) × (x 
 -- Each choice through a child costs more than the child's bound.
 abbrev pub EachChildCostsLess : Type 0
 EachChildCostsLess =
-    (sight : Sight) (old new : Shape) (table : Table) → IsSight sight → IsShape old → IsShape new →
-    (pair : Pair) (c : Choice) → IsAmong c (choices sight table old new pair) → ChildThere table (choice_child old new pair c) c.cost
+    (enum_view : EnumView) (old new : Shape) (table : Table) → IsEnumView enum_view → IsShape old → IsShape new →
+    (pair : Pair) (c : Choice) → IsAmong c (choices enum_view table old new pair) → ChildThere table (choice_child old new pair c) c.cost
 
 -- The message of each choice breaks and has the choice's cost.
 abbrev pub EachChoiceIsCarried : Type 0
 EachChoiceIsCarried =
-    (sight : Sight) (old new : Shape) (table : Table) → IsSight sight → IsShape old → IsShape new →
-    (pair : Pair) (c : Choice) → IsAmong c (choices sight table old new pair) →
-    (child : Option Message) → ChildReached sight old new table (choice_child old new pair c) child → ReachedBy sight old new pair (carried sight old new pair c child) c.cost
+    (enum_view : EnumView) (old new : Shape) (table : Table) → IsEnumView enum_view → IsShape old → IsShape new →
+    (pair : Pair) (c : Choice) → IsAmong c (choices enum_view table old new pair) →
+    (child : Option Message) → ChildReached enum_view old new table (choice_child old new pair c) child → ReachedBy enum_view old new pair (carried enum_view old new pair c child) c.cost

@@ -17,7 +17,7 @@ use Rattle.pg_dyn.specs.Kept.{Kept, message_of, type_of}
 use Rattle.pg_dyn.specs.Seen.{leaf_of}
 use Rattle.pg_pairs.specs.declared.item.Small.{Small}
 use Rattle.pg_pairs.specs.declared.item.Small.TheVariants.{Zero, NotZero, Far}
-use Rattle.pg_pairs.specs.Sight.{Sight}
+use Rattle.pg_pairs.specs.EnumView.{EnumView}
 use Rattle.pg_pairs.specs.Likeness.{like}
 use Rattle.pg_pairs.specs.Gaps.{gap_item}
 use Rattle.pg_pairs.specs.Choices.{zero_counts}
@@ -76,17 +76,17 @@ abbrev pub has_value : Element → Option Kept → Option Leaf → Bool
 has_value e (Some child) item = is_child_of e (Some child)
 has_value e None item = is_some item
 
-abbrev pub has_entry : Sight → FieldShape → Scalar → Scalar → Element → ℕ → Option Kept → Bool
-has_entry sight f k l d part child =
-    if nat_eq part 1 then is_some (gap_item sight true (elements.Scalar k) (elements.Scalar l))
-    else if nat_eq part 2 then has_value f.element child (gap_item sight true f.element d)
+abbrev pub has_entry : EnumView → FieldShape → Scalar → Scalar → Element → ℕ → Option Kept → Bool
+has_entry enum_view f k l d part child =
+    if nat_eq part 1 then is_some (gap_item enum_view true (elements.Scalar k) (elements.Scalar l))
+    else if nat_eq part 2 then has_value f.element child (gap_item enum_view true f.element d)
     else true
 
 -- Whether a field takes a content of that case and part round that child: in a map it is an entry, and of no map an item or a list.
-abbrev pub has_content : Sight → FieldShape → FieldShape → ℕ → ℕ → Option Kept → Bool
-has_content sight f g case part child =
+abbrev pub has_content : EnumView → FieldShape → FieldShape → ℕ → ℕ → Option Kept → Bool
+has_content enum_view f g case part child =
     if nat_eq case 1 then true
-    else if nat_eq case 2 then not (is_map f.presence) && is_some (gap_item sight (zero_counts f g) f.element g.element)
+    else if nat_eq case 2 then not (is_map f.presence) && is_some (gap_item enum_view (zero_counts f g) f.element g.element)
     else if nat_eq case 3 then not (is_map f.presence) && is_child_of f.element child
     else if nat_eq case 4 then not (is_map f.presence)
-    else is_map f.presence && has_entry sight f (key_of f.presence) (key_of g.presence) g.element part child
+    else is_map f.presence && has_entry enum_view f (key_of f.presence) (key_of g.presence) g.element part child

@@ -19,7 +19,7 @@ use Rattle.pg_dyn.specs.BorrowedItems.{ItemFits, is_zero_value}
 use Rattle.pg_dyn.specs.Message.{Leaf, Int, Item, Plain, Msg, parts}
 use Rattle.pg_dyn.specs.Kept.{Kept, type_of, message_of}
 use Rattle.pg_dyn.specs.Encoding.{cap, element_type, enc}
-use Rattle.pg_dyn.specs.Comparison.{View, Sought, Alike, same_content, same_key, meets, sought, same}
+use Rattle.pg_dyn.specs.Comparison.{View, Expected, Alike, same_content, same_key, matches, expected, same}
 use Rattle.pg_dyn.specs.Comparison as comparison
 use Rattle.pg_pairs.specs.Views.{alike_at}
 
@@ -39,21 +39,21 @@ module _ (alike : EnumType → EnumType → ℤ → Bool) (old new : Parts) wher
 
   -- it does so in one field of the old type, beside the new type's field of its number
   abbrev pub is_same_beside : Kept → Kept → FieldShape → Option FieldShape → Bool
-  is_same_beside v w f (Some g) = same_content (view_by alike old new) f g (sought (view_by alike old new) (shape_of old) (shape_of new) (type_of v) (type_of w) (message_of v)) (parts (message_of w))
+  is_same_beside v w f (Some g) = same_content (view_by alike old new) f g (expected (view_by alike old new) (shape_of old) (shape_of new) (type_of v) (type_of w) (message_of v)) (parts (message_of w))
   is_same_beside v w f None = true
 
   -- what an item of a field whose messages are read as that type has to be met by
-  abbrev pub value_sought : TypeId → ValueRef → Sought
-  value_sought b (values.Msg child) = comparison.Kept (same (view_by alike old new) (shape_of old) (shape_of new) (type_of child.value) b (message_of child.value))
-  value_sought b value = Alike (leaf_of value)
+  abbrev pub value_expected : TypeId → ValueRef → Expected
+  value_expected b (values.Msg child) = comparison.Kept (same (view_by alike old new) (shape_of old) (shape_of new) (type_of child.value) b (message_of child.value))
+  value_expected b value = Alike (leaf_of value)
 
   -- a leaf of an enum is alike by the view, any other by itself
   abbrev pub is_alike_leaf : Element → Element → Leaf → Bool
   is_alike_leaf (elements.Enum e) (elements.Enum g) (Int n) = view_by alike old new e g n
   is_alike_leaf e g leaf = true
 
-  abbrev pub items_meet : FieldShape → FieldShape → ValueRef → ValueRef → Bool
-  items_meet f g a b = meets (view_by alike old new) f g (value_sought (element_type g.element) a) (item_lent b)
+  abbrev pub items_match : FieldShape → FieldShape → ValueRef → ValueRef → Bool
+  items_match f g a b = matches (view_by alike old new) f g (value_expected (element_type g.element) a) (item_lent b)
 
 -- a message's encoding isn't too long
 abbrev pub HasEncoding : Shape → Kept → Type 0
@@ -98,12 +98,12 @@ IsSingle (Some (contents.Map es)) = ⊥
 IsSingle None = ⊤
 
 module _ (alike : EnumType → EnumType → ℤ → Bool) (old new : Parts) where
-  abbrev pub keyed_meet : FieldShape → FieldShape → Keyed → Keyed → Bool
-  keyed_meet f g x y = same_key (option_map leaf_of x.0) (option_map leaf_of y.0) && items_meet alike old new f g x.1 y.1
+  abbrev pub keyed_match : FieldShape → FieldShape → Keyed → Keyed → Bool
+  keyed_match f g x y = same_key (option_map leaf_of x.0) (option_map leaf_of y.0) && items_match alike old new f g x.1 y.1
 
   -- as many items on both sides, with equal keys, and each is met
-  abbrev pub all_meet : FieldShape → FieldShape → List Keyed → List Keyed → Bool
-  all_meet f g xs ys = pointwise (keyed_meet f g) xs ys
+  abbrev pub all_match : FieldShape → FieldShape → List Keyed → List Keyed → Bool
+  all_match f g xs ys = pointwise (keyed_match f g) xs ys
 
 -- the bytes of a record whose number the type hasn't
 abbrev pub outside_record : List FieldShape → Record → List ℕ

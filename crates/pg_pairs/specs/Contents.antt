@@ -17,42 +17,42 @@ use Rattle.pg_dyn.specs.Decoding.{Reader}
 use Rattle.pg_dyn.specs.Belonging.{KeyFits, MayBeZero}
 use Rattle.pg_dyn.specs.Comparison.{Alike, Kept}
 use Rattle.pg_pairs.specs.declared.choice.Choice.{Choice}
-use Rattle.pg_pairs.specs.Sight.{Sight, IsSight}
+use Rattle.pg_pairs.specs.EnumView.{EnumView, IsEnumView}
 use Rattle.pg_pairs.specs.Likeness.{like}
 use Rattle.pg_pairs.specs.Choices.{Table, number_for, field_choices}
-use Rattle.pg_dyn.specs.Comparison.{Cell, writes}
-use Rattle.pg_dyn.specs.ByCells.{is_field_kept}
+use Rattle.pg_dyn.specs.Comparison.{Comparand, writes}
+use Rattle.pg_dyn.specs.ByComparands.{is_field_kept}
 use Rattle.pg_pairs.specs.Among.{IsAmong}
 
 -- the bytes of the content's records
-abbrev pub total : FieldShape → List Cell → ℕ
+abbrev pub total : FieldShape → List Comparand → ℕ
 total f cs = length (bytes_of (field_records f (map writes cs)))
 
--- a child's bytes and the test of what it is read as; or a leaf in range, sought as it is written
-abbrev pub HoldsItem : Element → Cell → Type 0
-HoldsItem (elements.Message t) c = (bytes : List ℕ) × (test : Message → Bool) × (c.written ≡ Bytes bytes) × (c.sought ≡ Kept test)
-HoldsItem (elements.Scalar s) c = InRange (form (elements.Scalar s)) c.written × (c.sought ≡ Alike c.written)
-HoldsItem (elements.Enum s) c = InRange (form (elements.Enum s)) c.written × (c.sought ≡ Alike c.written)
+-- a child's bytes and the test of what it is read as; or a leaf in range, expected as it is written
+abbrev pub HoldsItem : Element → Comparand → Type 0
+HoldsItem (elements.Message t) c = (bytes : List ℕ) × (test : Message → Bool) × (c.written ≡ Bytes bytes) × (c.expected ≡ Kept test)
+HoldsItem (elements.Scalar s) c = InRange (form (elements.Scalar s)) c.written × (c.expected ≡ Alike c.written)
+HoldsItem (elements.Enum s) c = InRange (form (elements.Enum s)) c.written × (c.expected ≡ Alike c.written)
 
 -- a part of that field's content
-pub record Holds (f : FieldShape) (c : Cell) : Type 0 where
+pub record Holds (f : FieldShape) (c : Comparand) : Type 0 where
   pub number_is : c.number ≡ f.number
   pub key_fits : KeyFits f.presence c.key
   pub may_be_zero : MayBeZero f.presence c.written
   pub item : HoldsItem f.element c
 
-abbrev pub IsAtMostOne : List Cell → Type 0
+abbrev pub IsAtMostOne : List Comparand → Type 0
 IsAtMostOne [] = ⊤
 IsAtMostOne (c ∷ []) = ⊤
 IsAtMostOne (c ∷ d ∷ cs) = ⊥
 
 -- entries by rising key
-abbrev pub RisingKeys : Scalar → List Cell → Type 0
+abbrev pub RisingKeys : Scalar → List Comparand → Type 0
 RisingKeys k [] = ⊤
 RisingKeys k (c ∷ cs) = AllByRecursion (λ d. key_cmp (key_of k (writes c)) (key_of k (writes d)) ≡ Less) cs × RisingKeys k cs
 
 -- a singular field has one part at most, a map's keys rise
-abbrev pub IsInOrder : Presence → List Cell → Type 0
+abbrev pub IsInOrder : Presence → List Comparand → Type 0
 IsInOrder presences.Implicit cs = IsAtMostOne cs
 IsInOrder presences.Explicit cs = IsAtMostOne cs
 IsInOrder (presences.Repeated packed) cs = ⊤
@@ -86,9 +86,9 @@ abbrev pub is_child_kept : Reader → TypeId → (Message → Bool) → List ℕ
 is_child_kept child t test bytes = passes test (child t bytes)
 
 -- a child that isn't kept has at least as many bytes as the bound of its pair
-abbrev pub ChildBound : Table → Reader → Element → Element → Cell → Type 0
+abbrev pub ChildBound : Table → Reader → Element → Element → Comparand → Type 0
 ChildBound table child (elements.Message s) (elements.Message t) c =
-    (bytes : List ℕ) (test : Message → Bool) → c.written ≡ Bytes bytes → c.sought ≡ Kept test → is_child_kept child t test bytes ≡ false →
+    (bytes : List ℕ) (test : Message → Bool) → c.written ≡ Bytes bytes → c.expected ≡ Kept test → is_child_kept child t test bytes ≡ false →
     (x : ℕ) × (number_for table (record { old = s; new = t }) ≡ Some x) × (x ≤ length bytes)
 ChildBound table child (elements.Message s) (elements.Scalar t) c = ⊤
 ChildBound table child (elements.Message s) (elements.Enum t) c = ⊤
@@ -97,7 +97,7 @@ ChildBound table child (elements.Enum s) d c = ⊤
 
 -- what is known of the content of an old field beside the new one of its number: both fields keep to the rules of presence,
 -- the parts are of the old field and in order, and children that break are no shorter than the table says
-pub record IsContent (table : Table) (child : Reader) (f g : FieldShape) (cs : List Cell) : Type 0 where
+pub record IsContent (table : Table) (child : Reader) (f g : FieldShape) (cs : List Comparand) : Type 0 where
   pub numbers : g.number ≡ f.number
   pub fits_old : PresenceFits f.presence f.element f.oneof
   pub fits_new : PresenceFits g.presence g.element g.oneof
@@ -109,5 +109,5 @@ pub record IsContent (table : Table) (child : Reader) (f g : FieldShape) (cs : L
 -- A content that breaks alone has at least the bytes of one of its field's choices.
 abbrev pub ContentsCost : Type 0
 ContentsCost =
-    (sight : Sight) → IsSight sight → (table : Table) (child : Reader) (f g : FieldShape) (cs : List Cell) → IsContent table child f g cs →
-    is_field_kept sight.alike child f g cs ≡ false → (c : Choice) × IsAmong c (field_choices sight table f g) × (c.cost ≤ total f cs)
+    (enum_view : EnumView) → IsEnumView enum_view → (table : Table) (child : Reader) (f g : FieldShape) (cs : List Comparand) → IsContent table child f g cs →
+    is_field_kept enum_view.alike child f g cs ≡ false → (c : Choice) × IsAmong c (field_choices enum_view table f g) × (c.cost ≤ total f cs)

@@ -11,7 +11,7 @@ use Rattle.pg_pairs.specs.declared.choice.Pair.{Pair}
 use Rattle.pg_pairs.specs.declared.edge.Edge.{Edge}
 use Rattle.pg_pairs.specs.declared.edge.Part.{Part}
 use Rattle.pg_pairs.specs.declared.edge.Part.TheVariants.{Whole, Value}
-use Rattle.pg_pairs.specs.Sight.{Sight}
+use Rattle.pg_pairs.specs.EnumView.{EnumView}
 use Rattle.pg_pairs.specs.Among.{IsAmong}
 use Rattle.pg_pairs.specs.Costs.{one_item, with_length}
 use Rattle.pg_pairs.specs.Choices.{Table, choice, choices}
@@ -58,7 +58,7 @@ pub record ArePriced (old new : Shape) : Type 0 where
   pub pairs_few : (pairs : List Pair) → distinct pairs ≡ pairs → AllByRecursion (λ p. is_pair old new p ≡ true) pairs → length pairs ≤ 2 ^ 24
   pub children_there : (pair child : Pair) → IsAmong child (children old new pair) → is_pair old new child ≡ true
   pub edges_few : (pair : Pair) → length (edges old new pair) ≤ 2 ^ 30
-  pub bases_are_lengths : (sight : Sight) (pair : Pair) → IfSome (least_cost sight no_bounds old new pair) (λ cost. (1 ≤ cost) × (cost ≤ cap))
+  pub bases_are_lengths : (enum_view : EnumView) (pair : Pair) → IfSome (least_cost enum_view no_bounds old new pair) (λ cost. (1 ≤ cost) × (cost ≤ cap))
   pub costs_more : (edge : Edge) (bound : ℕ) → IfSome (edge_price old edge bound) (λ cost. (bound < cost) × (cost ≤ cap))
 
 -- the case of a child's choice: 3 where an item is the message, 5 where a map's value is
@@ -80,17 +80,17 @@ abbrev pub IsOfEdge : Shape → Shape → Table → Pair → Choice → Type 0
 IsOfEdge old new table pair c = (edge : Edge) × IsAmong edge (edges old new pair) × (edge_choice old table edge ≡ Some c)
 
 -- the choice is one without bounds, or that of an edge at its child's bound
-abbrev pub IsByEdges : Sight → Shape → Shape → Table → Pair → Choice → Type 0
-IsByEdges sight old new table pair c = IsAmong c (choices sight no_bounds old new pair) ⊎ IsOfEdge old new table pair c
+abbrev pub IsByEdges : EnumView → Shape → Shape → Table → Pair → Choice → Type 0
+IsByEdges enum_view old new table pair c = IsAmong c (choices enum_view no_bounds old new pair) ⊎ IsOfEdge old new table pair c
 
 -- A pair's choices under a table are those without bounds and those of its edges at their children's bounds, no others and all of them.
 abbrev pub ChoicesByEdges : Type 0
 ChoicesByEdges =
-    (sight : Sight) (old new : Shape) (table : Table) → IsShape old → (pair : Pair) (c : Choice) →
-    (IsAmong c (choices sight table old new pair) → IsByEdges sight old new table pair c) × (IsByEdges sight old new table pair c → IsAmong c (choices sight table old new pair))
+    (enum_view : EnumView) (old new : Shape) (table : Table) → IsShape old → (pair : Pair) (c : Choice) →
+    (IsAmong c (choices enum_view table old new pair) → IsByEdges enum_view old new table pair c) × (IsByEdges enum_view old new table pair c → IsAmong c (choices enum_view table old new pair))
 
 -- So a pair's least cost under a table is the least of its least cost without bounds and of what its edges cost under the table.
 abbrev pub LeastCostsByEdges : Type 0
 LeastCostsByEdges =
-    (sight : Sight) (old new : Shape) (table : Table) → IsShape old → (pair : Pair) →
-    least_cost sight table old new pair ≡ least_of (least_cost sight no_bounds old new pair ∷ map (cost_under (edge_price old) table) (edges old new pair))
+    (enum_view : EnumView) (old new : Shape) (table : Table) → IsShape old → (pair : Pair) →
+    least_cost enum_view table old new pair ≡ least_of (least_cost enum_view no_bounds old new pair ∷ map (cost_under (edge_price old) table) (edges old new pair))

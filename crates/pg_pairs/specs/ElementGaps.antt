@@ -5,7 +5,7 @@ use Rattle.pg_schema.specs.declared.field.Element.TheVariants as elements
 use Rattle.pg_dyn.specs.Message.{Leaf, is_zero}
 use Rattle.pg_dyn.specs.Coding.{form, InRange}
 use Rattle.pg_dyn.specs.Comparison.{numbers}
-use Rattle.pg_pairs.specs.Sight.{Sight, IsSight}
+use Rattle.pg_pairs.specs.EnumView.{EnumView, IsEnumView}
 use Rattle.pg_pairs.specs.Likeness.{like}
 use Rattle.pg_pairs.specs.Gaps.{is_seen, IsGapItem, gap_item}
 
@@ -18,8 +18,8 @@ IsNoMessage (elements.Enum e) = ⊤
 -- item is a least one of all that count and aren't seen, and where there is none each that counts is seen.
 abbrev pub ElementGaps : Type 0
 ElementGaps =
-    (sight : Sight) → IsSight sight → (zero : Bool) (old new : Element) → IsNoMessage old → like old new ≡ true →
-    IsGapItem sight.alike zero old new (gap_item sight zero old new)
+    (enum_view : EnumView) → IsEnumView enum_view → (zero : Bool) (old new : Element) → IsNoMessage old → like old new ≡ true →
+    IsGapItem enum_view.alike zero old new (gap_item enum_view zero old new)
 
 -- By number, zero is seen between any two like elements: an item that isn't seen isn't zero.
 abbrev pub UnseenAreNotZero : Type 0

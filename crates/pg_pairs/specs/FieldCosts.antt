@@ -7,7 +7,7 @@ use Rattle.pg_dyn.specs.Encoding.{enc}
 use Rattle.pg_dyn.specs.Breaking.{Breaks}
 use Rattle.pg_pairs.specs.declared.choice.Choice.{Choice}
 use Rattle.pg_pairs.specs.declared.choice.Pair.{Pair}
-use Rattle.pg_pairs.specs.Sight.{Sight, IsSight}
+use Rattle.pg_pairs.specs.EnumView.{EnumView, IsEnumView}
 use Rattle.pg_pairs.specs.Choices.{Table, field_choices}
 use Rattle.pg_pairs.specs.Covering.{Covers}
 use Rattle.pg_pairs.specs.Cheapest.{cheapest}
@@ -28,35 +28,35 @@ pub record IsShared (old new : Shape) (pair : Pair) (f g : FieldShape) : Type 0 
   pub new_field : field_at (fields new pair.new) f.number ≡ Some g
 
 -- if the message breaks, the field has choices, and the cheapest costs no more than the message has bytes
-abbrev pub CostsCheapest : Sight → Shape → Shape → Table → Pair → FieldShape → FieldShape → Message → Type 0
-CostsCheapest sight old new table pair f g v =
-    Breaks sight.alike old new pair.old pair.new v →
-    (c : Choice) × (cheapest (field_choices sight table f g) ≡ Some c) × (c.cost ≤ length (enc old pair.old v))
+abbrev pub CostsCheapest : EnumView → Shape → Shape → Table → Pair → FieldShape → FieldShape → Message → Type 0
+CostsCheapest enum_view old new table pair f g v =
+    Breaks enum_view.alike old new pair.old pair.new v →
+    (c : Choice) × (cheapest (field_choices enum_view table f g) ≡ Some c) × (c.cost ≤ length (enc old pair.old v))
 
 -- One scalar or enum in a singular field, under whatever table: the bounds of children say nothing of it.
 abbrev pub SingleScalarsCost : Type 0
 SingleScalarsCost =
-    (sight : Sight) (old new : Shape) (table : Table) → IsSight sight → IsShape old → IsShape new →
+    (enum_view : EnumView) (old new : Shape) (table : Table) → IsEnumView enum_view → IsShape old → IsShape new →
     (pair : Pair) (f g : FieldShape) → IsShared old new pair f g → is_singular f.presence ≡ true →
-    (item : Leaf) → CostsCheapest sight old new table pair f g (alone f.number None (Plain item))
+    (item : Leaf) → CostsCheapest enum_view old new table pair f g (alone f.number None (Plain item))
 
 -- The items of a list, scalars or children, under a table that covers the pair.
 abbrev pub ListsCost : Type 0
 ListsCost =
-    (sight : Sight) (old new : Shape) (table : Table) (root : Pair) → IsSight sight → IsShape old → IsShape new → Covers sight old new table root →
+    (enum_view : EnumView) (old new : Shape) (table : Table) (root : Pair) → IsEnumView enum_view → IsShape old → IsShape new → Covers enum_view old new table root →
     (pair : Pair) (bound : Option ℕ) → table pair ≡ Some bound → (f g : FieldShape) → IsShared old new pair f g → is_repeated f.presence ≡ true →
-    (items : List Item) → CostsCheapest sight old new table pair f g (list_alone f.number items)
+    (items : List Item) → CostsCheapest enum_view old new table pair f g (list_alone f.number items)
 
 -- The entries of a map, likewise.
 abbrev pub MapsCost : Type 0
 MapsCost =
-    (sight : Sight) (old new : Shape) (table : Table) (root : Pair) → IsSight sight → IsShape old → IsShape new → Covers sight old new table root →
+    (enum_view : EnumView) (old new : Shape) (table : Table) (root : Pair) → IsEnumView enum_view → IsShape old → IsShape new → Covers enum_view old new table root →
     (pair : Pair) (bound : Option ℕ) → table pair ≡ Some bound → (f g : FieldShape) → IsShared old new pair f g → is_map f.presence ≡ true →
-    (entries : List (Leaf × Item)) → CostsCheapest sight old new table pair f g (map_alone f.number entries)
+    (entries : List (Leaf × Item)) → CostsCheapest enum_view old new table pair f g (map_alone f.number entries)
 
 -- One child in a singular field, likewise.
 abbrev pub ChildrenCost : Type 0
 ChildrenCost =
-    (sight : Sight) (old new : Shape) (table : Table) (root : Pair) → IsSight sight → IsShape old → IsShape new → Covers sight old new table root →
+    (enum_view : EnumView) (old new : Shape) (table : Table) (root : Pair) → IsEnumView enum_view → IsShape old → IsShape new → Covers enum_view old new table root →
     (pair : Pair) (bound : Option ℕ) → table pair ≡ Some bound → (f g : FieldShape) → IsShared old new pair f g → is_singular f.presence ≡ true →
-    (child : Message) → CostsCheapest sight old new table pair f g (alone f.number None (Msg child))
+    (child : Message) → CostsCheapest enum_view old new table pair f g (alone f.number None (Msg child))

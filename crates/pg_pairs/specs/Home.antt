@@ -9,7 +9,7 @@ use Rattle.pg_dyn.specs.Message.{Item, Message, ends, holds, nests, Part, parts,
 use Rattle.pg_dyn.specs.Writing.{bytes_of}
 use Rattle.pg_dyn.specs.Encoding.{child_type, enc}
 use Rattle.pg_dyn.specs.Decoding.{dec}
-use Rattle.pg_dyn.specs.Comparison.{Sought, Alike, Kept, is_zero_sought, is_zero_item, shown, numbers, same_key, meets}
+use Rattle.pg_dyn.specs.Comparison.{Expected, Alike, Kept, is_zero_expected, is_zero_item, shown, numbers, same_key, matches}
 
 -- what a program with that type writes again of the bytes that it reads
 abbrev pub relayed : Shape → TypeId → List ℕ → Option (List ℕ)
@@ -28,18 +28,18 @@ drops_zero f (Some g) = is_singular f.presence && is_implicit g.presence
 drops_zero f None = false
 
 -- A field shows what it did, as between a type and itself.
-abbrev pub home_content : FieldShape → Option FieldShape → List (Part Sought) → List (Part Item) → Bool
+abbrev pub home_content : FieldShape → Option FieldShape → List (Part Expected) → List (Part Item) → Bool
 home_content f beside old come =
-    pointwise (λ (p : Part Sought) (q : Part Item). same_key p.key q.key && meets numbers f f p.item q.item)
-    (shown is_zero_sought (drops_zero f beside) f.number old) (shown is_zero_item (drops_zero f beside) f.number come)
+    pointwise (λ (p : Part Expected) (q : Part Item). same_key p.key q.key && matches numbers f f p.item q.item)
+    (shown is_zero_expected (drops_zero f beside) f.number old) (shown is_zero_item (drops_zero f beside) f.number come)
 
 -- each field of the old type does
-abbrev pub home_message : List FieldShape → List FieldShape → List (Part Sought) → Message → Bool
+abbrev pub home_message : List FieldShape → List FieldShape → List (Part Expected) → Message → Bool
 home_message fs gs old x = list_all (λ f. home_content f (field_at gs f.number) old (parts x)) fs
 
 -- The parts of an old message as they must come home: children by their pair's types where the new type has the field, and equal where
 -- it hasn't.
-abbrev pub homeward : Shape → Shape → TypeId → TypeId → Message → List (Part Sought)
+abbrev pub homeward : Shape → Shape → TypeId → TypeId → Message → List (Part Expected)
 homeward old new a b (ends unknown) = []
 homeward old new a b (holds number key leaf later) = record { number = number; key = key; item = Alike leaf } ∷ homeward old new a b later
 homeward old new a b (nests number key child later) =

@@ -5,15 +5,15 @@ use Rattle.pg_schema.specs.Shape.{Shape}
 use Rattle.pg_dyn.specs.Encoding.{cap}
 use Rattle.pg_pairs.specs.declared.choice.Choice.{Choice}
 use Rattle.pg_pairs.specs.declared.choice.Pair.{Pair}
-use Rattle.pg_pairs.specs.Sight.{Sight}
+use Rattle.pg_pairs.specs.EnumView.{EnumView}
 use Rattle.pg_pairs.specs.Choices.{Table, choices}
 use Rattle.pg_pairs.specs.Cheapest.{cheapest}
 use Rattle.pg_pairs.specs.Covering.{children, IsThere}
 use Rattle.pg_pairs.specs.Laws.{IsExact}
 
 -- what a cheapest choice of the pair costs; none where it has no choice
-abbrev pub least_cost : Sight → Table → Shape → Shape → Pair → Option ℕ
-least_cost sight table old new pair = option_map (λ (c : Choice). c.cost) (cheapest (choices sight table old new pair))
+abbrev pub least_cost : EnumView → Table → Shape → Shape → Pair → Option ℕ
+least_cost enum_view table old new pair = option_map (λ (c : Choice). c.cost) (cheapest (choices enum_view table old new pair))
 
 -- Of two bounds the former is no more. Every bound is no more than 'none', and 'none' is more than every number.
 abbrev pub IsNoMore : Option ℕ → Option ℕ → Type 0
@@ -24,10 +24,10 @@ IsNoMore (Some m) (Some n) = m ≤ n
 -- A least cost is a length that an encoding of a breaking message may have.
 abbrev pub LeastCostsAreLengths : Type 0
 LeastCostsAreLengths =
-    (sight : Sight) (old new : Shape) (table : Table) (pair : Pair) → IfSome (least_cost sight table old new pair) (λ n. (1 ≤ n) × (n ≤ cap))
+    (enum_view : EnumView) (old new : Shape) (table : Table) (pair : Pair) → IfSome (least_cost enum_view table old new pair) (λ n. (1 ≤ n) × (n ≤ cap))
 
 -- Where a pair's children are there, its least cost is exact as its bound.
 abbrev pub LeastCostsAreExact : Type 0
 LeastCostsAreExact =
-    (sight : Sight) (old new : Shape) (table : Table) (pair : Pair) → AllByRecursion (IsThere table) (children old new pair) →
-    IsExact sight old new table pair (least_cost sight table old new pair)
+    (enum_view : EnumView) (old new : Shape) (table : Table) (pair : Pair) → AllByRecursion (IsThere table) (children old new pair) →
+    IsExact enum_view old new table pair (least_cost enum_view table old new pair)

@@ -1,13 +1,13 @@
 pub mod Among
-pub mod Sight
+pub mod EnumView
 pub mod LeastNumbers
 pub mod LeastNumberLaws
 pub mod LeastByName
 pub mod MissingNames
 pub mod NameLaws
-pub mod NamedSight
+pub mod NamedView
 pub mod Views
-pub mod SightBy
+pub mod SeenBy
 pub mod Likeness
 pub mod Gaps
 pub mod Costs

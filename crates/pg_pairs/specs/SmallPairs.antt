@@ -10,7 +10,7 @@ use Rattle.pg_schema.specs.Shape.{FieldShape}
 use Rattle.pg_dyn.specs.Examples.{first, second, field, scalar, member, of_fields, linked}
 use Rattle.pg_pairs.specs.declared.choice.Choice.{Choice}
 use Rattle.pg_pairs.specs.declared.choice.Pair.{Pair}
-use Rattle.pg_pairs.specs.Sight.{by_numbers}
+use Rattle.pg_pairs.specs.EnumView.{by_numbers}
 use Rattle.pg_pairs.specs.Choices.{Table, choices, choice}
 use Rattle.pg_pairs.specs.Covering.{children}
 

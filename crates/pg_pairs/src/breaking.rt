@@ -7,7 +7,7 @@ ghost use Rattle.pg_dyn.specs.Breaking.{Breaks};
 ghost use Rattle.pg_dyn.specs.Encoding.{cap, enc};
 ghost use Rattle.pg_dyn.specs.Fits.{Fits};
 ghost use Rattle.pg_dyn.specs.Kept.{message_of, type_of};
-ghost use Rattle.pg_pairs.specs.SightBy.{sight_by};
+ghost use Rattle.pg_pairs.specs.SeenBy.{seen_by};
 
 use crate::choice::Pair;
 use crate::comparing::is_same_message;
@@ -40,7 +40,7 @@ pub fn breaks_as_written<V: View>(
         (message_of message.now)) ≤ cap }
     ensures { IfOk result (λ b. IsTrue b
         ↔ ((type_of message.now ≡ pair.old)
-        × Breaks (sight_by V.View view.now old.now new.now).alike (shape_of old.now)
+        × Breaks (seen_by V.View view.now old.now new.now).alike (shape_of old.now)
         (shape_of new.now) pair.old pair.new (message_of message.now))) }
 {
     // What holds of every schema.
@@ -78,7 +78,7 @@ pub fn breaks<V: View>(
     requires { Fits (shape_of old.now) message.now }
     ensures exact { IfOk result (λ b. IsTrue b
         ↔ ((type_of message.now ≡ pair.old)
-        × Breaks (sight_by V.View view.now old.now new.now).alike (shape_of old.now)
+        × Breaks (seen_by V.View view.now old.now new.now).alike (shape_of old.now)
         (shape_of new.now) pair.old pair.new (message_of message.now))) }
     ensures encoded { OnOk result (length
         (enc (shape_of old.now) (type_of message.now) (message_of message.now)) ≤ cap) }

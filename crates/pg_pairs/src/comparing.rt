@@ -13,12 +13,12 @@ ghost use Rattle.pg_dyn.specs.Comparison.{records_outside, unshared_bytes};
 ghost use Rattle.pg_dyn.specs.Fits.{Fits};
 ghost use Rattle.pg_dyn.specs.Kept.{message_of, type_of, unknown_of};
 ghost use Rattle.pg_dyn.specs.Writing.{bytes_of};
-ghost use Rattle.pg_pairs.specs.Comparing.{all_meet, HasEncoding, HeldFits, is_alike_leaf, is_same, is_same_beside, ItemHasEncoding, items_meet, keyed, keyed_if, outside_record};
+ghost use Rattle.pg_pairs.specs.Comparing.{all_match, HasEncoding, HeldFits, is_alike_leaf, is_same, is_same_beside, ItemHasEncoding, items_match, keyed, keyed_if, outside_record};
 
-use crate::carried::Beside;
 use crate::item::Sides;
 use crate::shown::{count, held_at, is_same_key, is_same_leaf, shown};
 use crate::view::View;
+use crate::witness_content::Beside;
 use pg_dyn::{ContentRef, DynError, MessageRef, ValueRef, encode_unshared_ref};
 use pg_schema::{Element, Field, Schema, TypeId};
 use pg_wire::Record;
@@ -117,7 +117,7 @@ fn is_same_item<V: View>(
     requires fits { ItemFits (shape_of sides.now.old.now) fields.now.old.now.element value.now }
     requires encoded { ItemHasEncoding (shape_of sides.now.old.now) value.now }
     requires read_fits { ItemFits (shape_of sides.now.new.now) fields.now.new.now.element read.now }
-    ensures { IfOk result (λ is. is ≡ items_meet
+    ensures { IfOk result (λ is. is ≡ items_match
         (V.is_alike sides.now.view.now) sides.now.old.now sides.now.new.now
         (field_shape fields.now.old.now) (field_shape fields.now.new.now) value.now read.now) }
 {
@@ -145,7 +145,7 @@ fn is_same_content<V: View>(
         (keyed content.now) }
     requires read_fits { AllByRecursion (HeldFits (shape_of sides.now.new.now)
         fields.now.new.now.element) (keyed read.now) }
-    ensures { IfOk result (λ is. is ≡ all_meet
+    ensures { IfOk result (λ is. is ≡ all_match
         (V.is_alike sides.now.view.now) sides.now.old.now sides.now.new.now
         (field_shape fields.now.old.now) (field_shape fields.now.new.now) (keyed content.now)
         (keyed read.now)) }

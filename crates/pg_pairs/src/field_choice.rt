@@ -5,7 +5,7 @@ ghost use Rattle.pg_schema.specs.Parts.{field_shape, shape_of};
 ghost use Rattle.pg_schema.specs.Shape.{field_at, fields};
 ghost use Rattle.pg_pairs.specs.Choices.{affordable, choice_of, choices_beside, field_choices, map_choices, plain_choices, singular_cost, unlike_cost, zero_counts};
 ghost use Rattle.pg_pairs.specs.Costs.{entry_cost, least_body, one_item};
-ghost use Rattle.pg_pairs.specs.SightBy.{sight_by};
+ghost use Rattle.pg_pairs.specs.SeenBy.{seen_by};
 
 use crate::choice::Choice;
 use crate::cost::{entry_cost, least_body, least_content, nonzero_body, one_item};
@@ -121,7 +121,7 @@ fn offer_plain<V: View, T: Table>(
     requires { old.now.number < 2 ^ 29 }
     ensures { OnOk result (choices.new.items
         ≡ choices.old.items ++ affordable
-        (plain_choices (sight_by V.View between.now.view.now between.now.old.now
+        (plain_choices (seen_by V.View between.now.view.now between.now.old.now
         between.now.new.now) (T.bounds between.now.table.now) (field_shape old.now)
         (field_shape new.now))) }
 {
@@ -149,7 +149,7 @@ fn offer_map<V: View, T: Table>(
     requires { old.now.number < 2 ^ 29 }
     ensures { OnOk result (choices.new.items
         ≡ choices.old.items ++ affordable
-        (map_choices (sight_by V.View between.now.view.now between.now.old.now between.now.new.now)
+        (map_choices (seen_by V.View between.now.view.now between.now.old.now between.now.new.now)
         (T.bounds between.now.table.now) (field_shape old.now)
         (field_shape new.now) keys.0 keys.1)) }
 {
@@ -177,7 +177,7 @@ pub(crate) fn offer_field<V: View, T: Table>(
     requires { old.now.number < 2 ^ 29 }
     ensures { OnOk result (choices.new.items
         ≡ choices.old.items ++ affordable
-        (field_choices (sight_by V.View between.now.view.now between.now.old.now
+        (field_choices (seen_by V.View between.now.view.now between.now.old.now
         between.now.new.now) (T.bounds between.now.table.now) (field_shape old.now)
         (field_shape new.now))) }
 {
@@ -202,7 +202,7 @@ pub(crate) fn offer_beside<V: View, T: Table>(
     requires { field.now.number < 2 ^ 29 }
     ensures { OnOk result (choices.new.items
         ≡ choices.old.items ++ affordable
-        (choices_beside (sight_by V.View between.now.view.now between.now.old.now
+        (choices_beside (seen_by V.View between.now.view.now between.now.old.now
         between.now.new.now) (T.bounds between.now.table.now) (field_shape field.now)
         (field_at (fields (shape_of between.now.new.now) type_id) field.now.number))) }
 {

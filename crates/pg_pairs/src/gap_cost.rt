@@ -7,7 +7,7 @@ ghost use Rattle.pg_schema.specs.declared.enum_type.EnumType.{EnumType};
 ghost use Rattle.pg_dyn.specs.Coding.{scalar_form};
 ghost use Rattle.pg_pairs.specs.Choices.{child_body, gap_body};
 ghost use Rattle.pg_pairs.specs.Gaps.{body_length, gap, item_of};
-ghost use Rattle.pg_pairs.specs.SightBy.{sight_by};
+ghost use Rattle.pg_pairs.specs.SeenBy.{seen_by};
 
 use crate::choice::Pair;
 use crate::cost::{varint_bytes, with_length};
@@ -47,7 +47,7 @@ fn enum_gap_body<V: View>(
     zero: bool,
     pair: (EnumId, EnumId),
 ) -> Option<u64>
-    ensures body { result ≡ gap_body (sight_by V.View view.now old.now new.now) zero
+    ensures body { result ≡ gap_body (seen_by V.View view.now old.now new.now) zero
         (Element.Enum pair.0) (Element.Enum pair.1) }
     ensures few { IfSome result (λ body. body < 2 ^ 33) }
 {
@@ -67,7 +67,7 @@ pub(crate) fn gap_body<V: View>(
     zero: bool,
     pair: (Element, Element),
 ) -> Option<u64>
-    ensures body { result ≡ gap_body (sight_by V.View view.now old.now new.now) zero pair.0 pair.1 }
+    ensures body { result ≡ gap_body (seen_by V.View view.now old.now new.now) zero pair.0 pair.1 }
     ensures few { IfSome result (λ body. body < 2 ^ 33) }
 {
     match pair {

@@ -8,7 +8,7 @@ ghost use Rattle.pg_dyn.specs.Seen.{leaf_of, IsKey};
 ghost use Rattle.pg_dyn.specs.Coding.{scalar_form, Raw};
 ghost use Rattle.pg_dyn.specs.Message.{Bytes, Msg};
 ghost use Rattle.pg_pairs.specs.Gaps.{gap, gap_item, item_of};
-ghost use Rattle.pg_pairs.specs.SightBy.{sight_by};
+ghost use Rattle.pg_pairs.specs.SeenBy.{seen_by};
 ghost use Rattle.pg_pairs.specs.Carried.{item_by};
 ghost use Rattle.pg_pairs.specs.CarriedItems.{is_child_of, leaf_by, value_item};
 ghost use Rattle.pg_dyn.specs.Fits.{Fits};
@@ -135,7 +135,7 @@ fn enum_gap_item<V: View>(
     pair: (EnumId, EnumId),
 ) -> Option<Value>
     ensures item { option_map leaf_of result
-        ≡ gap_item (sight_by V.View view.now old.now new.now) zero (Element.Enum pair.0)
+        ≡ gap_item (seen_by V.View view.now old.now new.now) zero (Element.Enum pair.0)
         (Element.Enum pair.1) }
     ensures key { IfSome result IsKey }
     ensures fits { IfSome result (IsItemOf Scalar.Int32) }
@@ -157,7 +157,7 @@ pub(crate) fn gap_item<V: View>(
     pair: (Element, Element),
 ) -> Result<Option<Value>, AllocError>
     ensures item { IfOk result (λ item. option_map leaf_of item
-        ≡ gap_item (sight_by V.View sides.now.view.now sides.now.old.now sides.now.new.now) zero
+        ≡ gap_item (seen_by V.View sides.now.view.now sides.now.old.now sides.now.new.now) zero
         pair.0 pair.1) }
     ensures key { IfOk result (λ item. IfSome item IsKey) }
     ensures fits { IfOk result (λ item. (shape : Shape) → IfSome item (ItemFits shape pair.0)) }

@@ -12,11 +12,11 @@ ghost use Rattle.pg_pairs.specs.Gaps.{GapTable};
 ghost use Rattle.pg_pairs.specs.HomeExamples.{HomeExamples};
 ghost use Rattle.pg_pairs.specs.Laws.{CoveringBounds, EachChoiceIsReached, ExactIsLeast, ExactTablesAgree, NoneIsCompatible};
 ghost use Rattle.pg_pairs.specs.LeastCosts.{LeastCostsAreExact, LeastCostsAreLengths};
-ghost use Rattle.pg_pairs.specs.NamedSight.{NamedSights, sight_named};
+ghost use Rattle.pg_pairs.specs.NamedView.{NamedViews, seen_under};
 ghost use Rattle.pg_pairs.specs.ReadBack.{SeenItemsHaveOneBody};
 ghost use Rattle.pg_pairs.specs.SmallPairs.{SmallPairs};
-ghost use Rattle.pg_pairs.specs.Sight.{IsSight};
-ghost use Rattle.pg_pairs.specs.SightBy.{sight_by};
+ghost use Rattle.pg_pairs.specs.EnumView.{IsEnumView};
+ghost use Rattle.pg_pairs.specs.SeenBy.{seen_by};
 ghost use Rattle.pg_pairs.specs.Views.{NumbersAreAlike};
 
 use crate::view::View;
@@ -63,18 +63,18 @@ pub fn numbers_are_alike()
 
 /// What a view sees between two schemas keeps the view's law, for enums that aren't there too.
 pub fn sees<V: View>(_view: &V, _old: &Schema, _new: &Schema)
-    ensures { IsSight (sight_by V.View _view.now _old.now _new.now) }
+    ensures { IsEnumView (seen_by V.View _view.now _old.now _new.now) }
 {}
 
 /// A view sees between two schemas what the view of its name does.
 pub fn sees_by_name<V: View>(_view: &V, _old: &Schema, _new: &Schema)
-    ensures { sight_by V.View _view.now _old.now _new.now ≡ sight_named V.NAME _old.now _new.now }
+    ensures { seen_by V.View _view.now _old.now _new.now ≡ seen_under V.NAME _old.now _new.now }
 {}
 
 /// What the view of a name sees keeps the law of views, and finds alike what the view of that name
 /// does.
-pub fn named_sights()
-    ensures { NamedSights }
+pub fn named_views()
+    ensures { NamedViews }
 {}
 
 /// A content that breaks alone has at least the bytes of one of its field's choices: of scalars,

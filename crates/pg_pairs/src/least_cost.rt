@@ -7,7 +7,7 @@ ghost use Rattle.pg_schema.specs.Parts.{field_shape, shape_of};
 ghost use Rattle.pg_schema.specs.Shape.{fields};
 ghost use Rattle.pg_pairs.specs.Cheapest.{cheapest, first_of};
 ghost use Rattle.pg_pairs.specs.Choices.{affordable, all_choices, choices};
-ghost use Rattle.pg_pairs.specs.SightBy.{sight_by};
+ghost use Rattle.pg_pairs.specs.SeenBy.{seen_by};
 
 use crate::choice::{Choice, Pair};
 use crate::field_choice::{Between, offer_beside};
@@ -57,7 +57,7 @@ fn cheapest_of<V: View, T: Table>(
     requires { AllByRecursion (λ (f : Field). f.number < 2 ^ 29) list.now }
     ensures { IfOk result (λ found. found
         ≡ cheapest (affordable (all_choices
-        (sight_by V.View between.now.view.now between.now.old.now between.now.new.now)
+        (seen_by V.View between.now.view.now between.now.old.now between.now.new.now)
         (T.bounds between.now.table.now) (fields (shape_of between.now.new.now) type_id)
         (map field_shape list.now)))) }
 {
@@ -94,7 +94,7 @@ pub fn cheapest<V: View, T: Table>(
     table: &T,
 ) -> Result<Option<Choice>, AllocError>
     ensures { IfOk result (λ found. found
-        ≡ cheapest (choices (sight_by V.View view.now old.now new.now) (T.bounds table.now)
+        ≡ cheapest (choices (seen_by V.View view.now old.now new.now) (T.bounds table.now)
         (shape_of old.now) (shape_of new.now) pair)) }
 {
     // What holds of every schema.

@@ -3,8 +3,6 @@
 #![tactic(auto)]
 
 mod breaking;
-mod carried;
-mod carrying;
 mod choice;
 mod comparing;
 mod cost;
@@ -30,10 +28,11 @@ mod shown;
 mod table;
 mod view;
 mod walking;
+mod witness_content;
+mod witness_message;
 mod work;
 
 pub use breaking::{breaks, breaks_as_written};
-pub use carrying::carry;
 pub use choice::{Choice, Pair};
 pub use descent::{children, choice_child};
 pub use edge::{Edge, Part};
@@ -47,4 +46,5 @@ pub use returning::returns;
 pub use scalar_gap::gap;
 pub use table::Table;
 pub use view::{Numbers, View};
+pub use witness_message::carry;
 pub use work::Work;

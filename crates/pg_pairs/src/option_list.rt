@@ -6,7 +6,7 @@ ghost use Rattle.pg_schema.specs.declared.field.Field.{Field};
 ghost use Rattle.pg_schema.specs.Parts.{field_shape, shape_of};
 ghost use Rattle.pg_schema.specs.Shape.{fields};
 ghost use Rattle.pg_pairs.specs.Choices.{affordable, all_choices, choices};
-ghost use Rattle.pg_pairs.specs.SightBy.{sight_by};
+ghost use Rattle.pg_pairs.specs.SeenBy.{seen_by};
 
 use crate::choice::{Choice, Pair};
 use crate::field_choice::{Between, offer_beside};
@@ -26,7 +26,7 @@ fn choices_of<V: View, T: Table>(
 ) -> Result<Vec<Choice>, AllocError>
     requires { AllByRecursion (λ (f : Field). f.number < 2 ^ 29) list.now }
     ensures { IfOk result (λ choices. choices.items
-        ≡ affordable (all_choices (sight_by V.View between.now.view.now between.now.old.now
+        ≡ affordable (all_choices (seen_by V.View between.now.view.now between.now.old.now
         between.now.new.now) (T.bounds between.now.table.now)
         (fields (shape_of between.now.new.now) type_id) (map field_shape list.now))) }
 {
@@ -55,7 +55,7 @@ pub fn options<V: View, T: Table>(
     table: &T,
 ) -> Result<Vec<Choice>, AllocError>
     ensures { IfOk result (λ cs. cs.items
-        ≡ choices (sight_by V.View view.now old.now new.now) (T.bounds table.now) (shape_of old.now)
+        ≡ choices (seen_by V.View view.now old.now new.now) (T.bounds table.now) (shape_of old.now)
         (shape_of new.now) pair) }
 {
     // What holds of every schema.

@@ -6,7 +6,7 @@ ghost use Rattle.pg_schema.specs.Shape.{field_at, fields};
 ghost use Rattle.pg_pairs.specs.Covering.{children, children_beside};
 ghost use Rattle.pg_pairs.specs.Edges.{ArePriced, edge_price, edge_to, edges, is_pair, no_bounds, part_of};
 ghost use Rattle.pg_pairs.specs.LeastCosts.{least_cost};
-ghost use Rattle.pg_pairs.specs.SightBy.{sight_by};
+ghost use Rattle.pg_pairs.specs.SeenBy.{seen_by};
 
 use crate::choice::{Choice, Pair};
 use crate::cost::{one_item, with_length};
@@ -115,7 +115,7 @@ impl<'a, V: View> Prices for Priced<'a, V> {
     ghost edges_of = { λ it pair. edges (shape_of it.old.now) (shape_of it.new.now) pair };
 
     ghost base_of = { λ it pair. least_cost
-        (sight_by V.View it.view.now it.old.now it.new.now)
+        (seen_by V.View it.view.now it.old.now it.new.now)
         no_bounds (shape_of it.old.now) (shape_of it.new.now) pair };
 
     ghost price_of = { λ it edge bound. edge_price (shape_of it.old.now) edge bound };
@@ -134,7 +134,7 @@ impl<'a, V: View> Prices for Priced<'a, V> {
 
     ghost bases_are_lengths = { λ it pair known. ∥∥₁_elim it.priced (Prim.hlevel props)
         (λ priced. priced.bases_are_lengths
-        (sight_by V.View it.view.now it.old.now it.new.now)
+        (seen_by V.View it.view.now it.old.now it.new.now)
         pair) };
 
     ghost edges_cost_more = { λ it pair edge bound some known among. ∥∥₁_elim it.priced

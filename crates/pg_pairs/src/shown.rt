@@ -12,7 +12,7 @@ ghost use Rattle.pg_dyn.specs.BorrowedItems.{is_zero_value};
 ghost use Rattle.pg_dyn.specs.Message.{leaf_eq};
 ghost use Rattle.pg_pairs.specs.Comparing.{IsSingle, keyed, keyed_if, keyed_shown};
 
-use crate::carried::Beside;
+use crate::witness_content::Beside;
 use pg_dyn::{ContentRef, ValueRef};
 use pg_schema::{Field, Presence};
 

@@ -4,7 +4,7 @@ ghost use Rattle.std.specs.Prelude.{◌≡◌, ℤ, Bool, true, Option, None};
 ghost use Rattle.pg_schema.specs.declared.enum_type.EnumType.{EnumType};
 ghost use Rattle.pg_dyn.specs.declared.view_name.ViewName.{ViewName};
 ghost use Rattle.pg_dyn.specs.ViewNames.{alike_under};
-ghost use Rattle.pg_pairs.specs.Sight.{IsLeastOf};
+ghost use Rattle.pg_pairs.specs.EnumView.{IsLeastOf};
 
 use pg_dyn::ViewName;
 use pg_schema::EnumType;
@@ -48,7 +48,7 @@ pub struct Numbers;
 impl View for Numbers {
     ghost use Rattle.std.specs.Prelude.{refl};
     ghost use Rattle.pg_dyn.specs.declared.view_name.ViewName.TheVariants as views;
-    ghost use Rattle.pg_pairs.specs.Sight.{none_differs};
+    ghost use Rattle.pg_pairs.specs.EnumView.{none_differs};
 
     const NAME: ViewName = ViewName::Numbers;
 

@@ -1,6 +1,6 @@
 //! Laws of the parts of a message of a type. Each is the contract of a function that does nothing.
 
-ghost use Rattle.pg_dyn.specs.OwnParts.{CellsAreWritten, ChildrenAreShorter, OneIsEmpty, OwnPartsFit, SiblingsMutual};
+ghost use Rattle.pg_dyn.specs.OwnParts.{ComparandsAreWritten, ChildrenAreShorter, OneIsEmpty, OwnPartsFit, SiblingsMutual};
 
 /// The parts of a field fit it, and stand in order.
 pub fn own_parts_fit()
@@ -23,6 +23,6 @@ pub fn children_are_shorter()
 {}
 
 /// The parts of an old message, as they are written, are what its encoding is made of.
-pub fn cells_are_written()
-    ensures { CellsAreWritten }
+pub fn comparands_are_written()
+    ensures { ComparandsAreWritten }
 {}

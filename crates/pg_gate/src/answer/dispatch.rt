@@ -1,6 +1,6 @@
 //! What a call is answered, from its sources.
 ghost use Rattle.std.specs.Prelude.{◌≡◌, ◌+◌, [], ◌∷◌, IfErr, IfOk, OnErr};
-ghost use Rattle.pg_cert.specs.ClaimSight.{sight_in};
+ghost use Rattle.pg_cert.specs.ClaimView.{view_in};
 ghost use Rattle.pg_cert.specs.Text.{IsClaimOf};
 ghost use Rattle.pg_least.specs.Exact.{IsSearched};
 ghost use Rattle.pg_schema.specs.Parts.{shape_of};
@@ -47,7 +47,7 @@ fn told(
     new: &Compiled,
     certificate: &Certificate,
 ) -> Result<Finding, AllocError>
-    requires { IsSearched (sight_in old.now.schema new.now.schema certificate.now)
+    requires { IsSearched (view_in old.now.schema new.now.schema certificate.now)
         (shape_of old.now.schema) (shape_of new.now.schema) certificate.now.root certificate.now }
     ensures { IfOk result (TellsAnswer old.now.schema new.now.schema certificate.now) }
 {
@@ -84,7 +84,7 @@ fn finding_of(
     certificate: &Certificate,
     certificate_only: bool,
 ) -> Result<Finding, AllocError>
-    requires searched { IsSearched (sight_in old.now.schema new.now.schema certificate.now)
+    requires searched { IsSearched (view_in old.now.schema new.now.schema certificate.now)
         (shape_of old.now.schema) (shape_of new.now.schema) certificate.now.root certificate.now }
     requires claim { IsClaimOf old.now.schema new.now.schema certificate.now }
     ensures { IfOk result (Tells old.now.schema new.now.schema certificate.now certificate_only) }

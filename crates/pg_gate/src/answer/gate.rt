@@ -1,7 +1,7 @@
 //! The gate: whether a reader of the new type sees all that a writer of the old one writes.
 ghost use Rattle.std.specs.Prelude.{◌≡◌, ◌+◌, ◌<◌, length, Err, codes, IfErr, IfOk};
 ghost use Rattle.pg_schema.specs.Parts.{shape_of};
-ghost use Rattle.pg_pairs.specs.NamedSight.{sight_named};
+ghost use Rattle.pg_pairs.specs.NamedView.{seen_under};
 ghost use Rattle.pg_least.specs.Exact.{IsBesideClaim, IsSearched};
 ghost use Rattle.pg_gate.specs.Answer.{AreRoots, IsAnswer, IsRefusedRoot, Lacks, certificate_of};
 ghost use Rattle.pg_gate.specs.Failures.{side_failures};
@@ -78,9 +78,9 @@ fn found_by<V: View>(
 ) -> Result<Found, AllocError>
     requires old_type { pair.old.index < length (shape_of old.now) }
     requires new_type { pair.new.index < length (shape_of new.now) }
-    ensures searched { IfOk result (λ found. IsSearched (sight_named V.NAME old.now new.now)
+    ensures searched { IfOk result (λ found. IsSearched (seen_under V.NAME old.now new.now)
         (shape_of old.now) (shape_of new.now) pair found.certificate) }
-    ensures witness { IfOk result (λ found. IsBesideClaim (sight_named V.NAME old.now new.now)
+    ensures witness { IfOk result (λ found. IsBesideClaim (seen_under V.NAME old.now new.now)
         (shape_of old.now) (shape_of new.now) found.certificate found.witness) }
     ensures named { IfOk result (λ found. found.certificate.view ≡ V.NAME) }
 {
@@ -98,9 +98,9 @@ fn found_under(
 ) -> Result<Found, AllocError>
     requires old_type { pair.old.index < length (shape_of old.now) }
     requires new_type { pair.new.index < length (shape_of new.now) }
-    ensures searched { IfOk result (λ found. IsSearched (sight_named view old.now new.now)
+    ensures searched { IfOk result (λ found. IsSearched (seen_under view old.now new.now)
         (shape_of old.now) (shape_of new.now) pair found.certificate) }
-    ensures witness { IfOk result (λ found. IsBesideClaim (sight_named view old.now new.now)
+    ensures witness { IfOk result (λ found. IsBesideClaim (seen_under view old.now new.now)
         (shape_of old.now) (shape_of new.now) found.certificate found.witness) }
     ensures named { IfOk result (λ found. found.certificate.view ≡ view) }
 {

@@ -1,7 +1,7 @@
 //! The steps of a witness: the fields on its path.
 ghost use Rattle.std.specs.Prelude.{◌≡◌, ◌++◌, IfOk, OnOk, true, is_some, map, string_bytes};
 ghost use Rattle.std.specs.List.{flat_map};
-ghost use Rattle.pg_cert.specs.ClaimSight.{sight_in};
+ghost use Rattle.pg_cert.specs.ClaimView.{view_in};
 ghost use Rattle.pg_cert.specs.Text.{names_of};
 ghost use Rattle.pg_least.specs.Exact.{IsSearched};
 ghost use Rattle.pg_schema.specs.Parts.{shape_of};
@@ -12,7 +12,7 @@ use crate::answer::places::{Places, places_of};
 use crate::answer::step::{NamedField, Step};
 use crate::answer::verifying::name_of;
 use pg_cert::Certificate;
-use pg_least::way;
+use pg_least::path;
 use pg_link::Place;
 use pg_pairs::Pair;
 use pg_schema::{Schema, TypeId};
@@ -107,32 +107,32 @@ fn add_steps(
     Ok(())
 }
 
-/// The steps of a way.
+/// The steps of a path.
 fn steps_by(
     alloc: Global,
     old: Side<'_>,
     new: Side<'_>,
-    way: &[pg_least::Step],
+    path: &[pg_least::Step],
 ) -> Result<Vec<Step>, AllocError>
     ensures { IfOk result (λ steps. map spec.named steps.items
-        ≡ flat_map (spec.steps_by old.entry.schema.now new.entry.schema.now) way.now) }
+        ≡ flat_map (spec.steps_by old.entry.schema.now new.entry.schema.now) path.now) }
 {
     let mut steps = Vec::new(alloc);
-    for stage in way {
+    for stage in path {
         add_steps(alloc, &mut steps, old, new, *stage)?;
     }
     Ok(steps)
 }
 
-/// Which types of the old schema, or of the new one, are on the way.
+/// Which types of the old schema, or of the new one, are on the path.
 fn types_on(
     alloc: Global,
     types: usize,
-    way: &[pg_least::Step],
+    path: &[pg_least::Step],
     of_old: bool,
 ) -> Result<Vec<bool>, AllocError> {
     let mut wanted = vec![in alloc; false; types]?;
-    for stage in way {
+    for stage in path {
         let id = if of_old {
             stage.pair.old
         } else {
@@ -164,15 +164,15 @@ pub(crate) fn steps(
     new: &Compiled,
     certificate: &Certificate,
 ) -> Result<Vec<Step>, AllocError>
-    requires searched { IsSearched (sight_in old.now.schema new.now.schema certificate.now)
+    requires searched { IsSearched (view_in old.now.schema new.now.schema certificate.now)
         (shape_of old.now.schema) (shape_of new.now.schema) certificate.now.root certificate.now }
     requires breaks { is_some certificate.now.witness ≡ true }
     ensures { IfOk result (λ steps. spec.AreSteps old.now.schema new.now.schema certificate.now
         steps.items) }
 {
-    let way = way(alloc, &old.schema, &new.schema, certificate)?;
-    let old_types = types_on(alloc, old.schema.parts().types.len(), &way, true)?;
-    let new_types = types_on(alloc, new.schema.parts().types.len(), &way, false)?;
+    let path = path(alloc, &old.schema, &new.schema, certificate)?;
+    let old_types = types_on(alloc, old.schema.parts().types.len(), &path, true)?;
+    let new_types = types_on(alloc, new.schema.parts().types.len(), &path, false)?;
     let old_places = places_in(alloc, old, &old_types)?;
     let new_places = places_in(alloc, new, &new_types)?;
     steps_by(
@@ -185,6 +185,6 @@ pub(crate) fn steps(
             schema: &new.schema,
             places: new_places.as_ref(),
         },
-        &way,
+        &path,
     )
 }

@@ -1,7 +1,7 @@
 //! What a certificate shows of two sides.
 ghost use Rattle.std.specs.Prelude.{◌≡◌, ◌+◌, List, ℕ, [], ◌∷◌, IfErr, IfOk, IsTrue, OnOk, string_bytes};
 ghost use Rattle.pg_cert.specs.Certificate.{Holds, verdict_of};
-ghost use Rattle.pg_cert.specs.ClaimSight.{sight_in};
+ghost use Rattle.pg_cert.specs.ClaimView.{view_in};
 ghost use Rattle.pg_cert.specs.Laws.{Says};
 ghost use Rattle.pg_cert.specs.Text.{Certifies, names_of};
 ghost use Rattle.pg_link.specs.Walk.{world};
@@ -139,10 +139,10 @@ fn checked(
     new: &Schema,
     certificate: &Certificate,
 ) -> Result<Verdict, CallError>
-    ensures holds { OnOk result (Holds (sight_in old.now new.now certificate.now)
+    ensures holds { OnOk result (Holds (view_in old.now new.now certificate.now)
         (shape_of old.now) (shape_of new.now) certificate.now) }
     ensures verdict { IfOk result (λ verdict. verdict ≡ verdict_of certificate.now) }
-    ensures says { IfOk result (Says (sight_in old.now new.now certificate.now)
+    ensures says { IfOk result (Says (view_in old.now new.now certificate.now)
         (shape_of old.now) (shape_of new.now) certificate.now) }
     ensures refused { IfErr result (λ error. (bytes : List ℕ)
         → Certifies old.now new.now bytes certificate.now

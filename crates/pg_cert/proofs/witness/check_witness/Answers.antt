@@ -1,7 +1,7 @@
 -- The three clauses, one after the other.
 use Rattle.std.proofs.Common.{◌∙◌, inr, subst, sym, true≢false}
 use Rattle.pg_schema.specs.Parts.{shape_of}
-use Rattle.pg_pairs.specs.SightBy.{sight_by}
+use Rattle.pg_pairs.specs.SeenBy.{seen_by}
 use Rattle.pg_cert.specs.Faults.{IsReadBack}
 use Rattle.pg_cert.proofs.WitnessSteps.{keeps_of, own_within, own_written, witnessed_of, written_of}
 use Rattle.pg_cert.proofs.witness.check_witness.Goals as goal
@@ -31,19 +31,19 @@ breaks_as_written-requires-clause-within g c =
 
 pub returns-then-not-branch : goal.returns-then-not-branch
 returns-then-not-branch g c =
-    let sight = sight_by g.V.View c.args.view.now c.args.old.now c.args.new.now in
+    let enum_view = seen_by g.V.View c.args.view.now c.args.old.now c.args.new.now in
     let writing = subst (IsReadBack (shape_of c.args.old.now) c.args.root c.args.bytes.now) c.in-Some.is c.in_ok-message.ensures in
     let exact = c.in_ok-breaks_as_written.ensures in
     inr (
       written_of (shape_of c.args.old.now) c.args.root c.args.bytes.now c.in-Some.message writing,
       c.has_length.ensures.0 c.if-not-has_length.false,
-      keeps_of (shape_of c.args.old.now) c.args.root c.args.bytes.now c.in-Some.message writing sight (shape_of c.args.new.now) c.args.bound c.reads_again.ensures c.parts.ensures.checked.shape
+      keeps_of (shape_of c.args.old.now) c.args.root c.args.bytes.now c.in-Some.message writing enum_view (shape_of c.args.new.now) c.args.bound c.reads_again.ensures c.parts.ensures.checked.shape
           (λ breaks. true≢false (sym (exact.1 (writing.type_is, breaks)) ∙ c.if-not-branch.true)),
     )
 
 pub returns : goal.returns
 returns g c =
-    let sight = sight_by g.V.View c.args.view.now c.args.old.now c.args.new.now in
+    let enum_view = seen_by g.V.View c.args.view.now c.args.old.now c.args.new.now in
     let writing = subst (IsReadBack (shape_of c.args.old.now) c.args.root c.args.bytes.now) c.in-Some.is c.in_ok-message.ensures in
     let exact = c.in_ok-breaks_as_written.ensures in
-    witnessed_of (shape_of c.args.old.now) c.args.root c.args.bytes.now c.in-Some.message writing sight (shape_of c.args.new.now) c.args.bound (c.has_length.ensures.0 c.if-not-has_length.false) (exact.0 c.if-not-branch.false).1
+    witnessed_of (shape_of c.args.old.now) c.args.root c.args.bytes.now c.in-Some.message writing enum_view (shape_of c.args.new.now) c.args.bound (c.has_length.ensures.0 c.if-not-has_length.false) (exact.0 c.if-not-branch.false).1

@@ -5,4 +5,4 @@ use Rattle.pg_least.proofs.searching.search_counted.Goals as goal
 
 pub returns-clause-searched : goal.returns-clause-searched
 returns-clause-searched c =
-    subst (λ sight. IsSearched sight (shape_of c.args.old.now) (shape_of c.args.new.now) c.args.root c.in_ok-found.found.certificate) (c.numbers_are_alike.ensures c.args.old.now c.args.new.now) c.in_ok-found.ensures.searched
+    subst (λ enum_view. IsSearched enum_view (shape_of c.args.old.now) (shape_of c.args.new.now) c.args.root c.in_ok-found.found.certificate) (c.numbers_are_alike.ensures c.args.old.now c.args.new.now) c.in_ok-found.ensures.searched

@@ -1,45 +1,45 @@
 use Rattle.std.proofs.Common.{◌≡◌, Some, ap, sym, ◌∙◌, subst}
 use Rattle.pg_schema.specs.Parts.{shape_of}
 use Rattle.pg_pairs.specs.Carried.{choice_child}
-use Rattle.pg_pairs.specs.Views.{sight_of}
+use Rattle.pg_pairs.specs.Views.{enum_view_of}
 use Rattle.pg_cert.specs.Bounds.{bound_in}
-use Rattle.pg_least.specs.Descent.{IsWayDown, first_step}
-use Rattle.pg_least.proofs.Descents.{child_number, costs_less, first_on, last_step, number_of, way_on}
+use Rattle.pg_least.specs.Descent.{IsPathDown, first_step}
+use Rattle.pg_least.proofs.Descents.{child_number, costs_less, first_on, last_step, number_of, path_on}
 use Rattle.pg_least.proofs.witness.steps_down.Goals as goal
 
 pub step_at-requires-in-Some-clause-number : goal.step_at-requires-in-Some-clause-number
 step_at-requires-in-Some-clause-number g c =
-    let sight = sight_of (g.V.View.is_alike c.args.view.now) (g.V.View.least_differing c.args.view.now) c.args.old.now c.args.new.now in
+    let enum_view = enum_view_of (g.V.View.is_alike c.args.view.now) (g.V.View.least_differing c.args.view.now) c.args.old.now c.args.new.now in
     let old = shape_of c.args.old.now in
     let new = shape_of c.args.new.now in
     let table = bound_in c.args.bounds.now in
     let last = c.loop-child.last in
-    let step = last_step sight old new table c.loop-child.steps.items last c.loop-child.invariant.0 in
-    let there = c.each_child_costs_less.ensures sight old new table c.sees.ensures c.parts.ensures.checked.shape c.parts-2.ensures.checked.shape last.pair last.choice step.among in
-    let (n, bound, less) = child_number sight old new table c.in-Some.child last.choice (choice_child old new last.pair last.choice) (sym c.in-Some.ensures) there in
+    let step = last_step enum_view old new table c.loop-child.steps.items last c.loop-child.invariant.0 in
+    let there = c.each_child_costs_less.ensures enum_view old new table c.sees.ensures c.parts.ensures.checked.shape c.parts-2.ensures.checked.shape last.pair last.choice step.among in
+    let (n, bound, less) = child_number enum_view old new table c.in-Some.child last.choice (choice_child old new last.pair last.choice) (sym c.in-Some.ensures) there in
     number_of table c.in-Some.child n bound
 
 pub loop-child-smaller : goal.loop-child-smaller
 loop-child-smaller g c =
-    let sight = sight_of (g.V.View.is_alike c.args.view.now) (g.V.View.least_differing c.args.view.now) c.args.old.now c.args.new.now in
+    let enum_view = enum_view_of (g.V.View.is_alike c.args.view.now) (g.V.View.least_differing c.args.view.now) c.args.old.now c.args.new.now in
     let old = shape_of c.args.old.now in
     let new = shape_of c.args.new.now in
     let table = bound_in c.args.bounds.now in
     let last = c.loop-child.last in
-    let step = last_step sight old new table c.loop-child.steps.items last c.loop-child.invariant.0 in
-    let there = c.each_child_costs_less.ensures sight old new table c.sees.ensures c.parts.ensures.checked.shape c.parts-2.ensures.checked.shape last.pair last.choice step.among in
-    costs_less sight old new table c.in-Some.child last.choice (choice_child old new last.pair last.choice) c.in_ok-last-2.last (sym c.in-Some.ensures) there c.in_ok-last-2.ensures.pair c.in_ok-last-2.ensures.step
+    let step = last_step enum_view old new table c.loop-child.steps.items last c.loop-child.invariant.0 in
+    let there = c.each_child_costs_less.ensures enum_view old new table c.sees.ensures c.parts.ensures.checked.shape c.parts-2.ensures.checked.shape last.pair last.choice step.among in
+    costs_less enum_view old new table c.in-Some.child last.choice (choice_child old new last.pair last.choice) c.in_ok-last-2.last (sym c.in-Some.ensures) there c.in_ok-last-2.ensures.pair c.in_ok-last-2.ensures.step
 
 pub loop-child-preserved : goal.loop-child-preserved
 loop-child-preserved g c =
-    let sight = sight_of (g.V.View.is_alike c.args.view.now) (g.V.View.least_differing c.args.view.now) c.args.old.now c.args.new.now in
+    let enum_view = enum_view_of (g.V.View.is_alike c.args.view.now) (g.V.View.least_differing c.args.view.now) c.args.old.now c.args.new.now in
     let old = shape_of c.args.old.now in
     let new = shape_of c.args.new.now in
     let table = bound_in c.args.bounds.now in
     let last = c.loop-child.last in
     let next = c.in_ok-last-2.last in
     let more = sym c.in_ok-push.ensures.items in (
-      subst (λ steps. IsWayDown sight old new table steps next) more
-          (way_on sight old new table c.loop-child.steps.items last next c.loop-child.invariant.0 (sym c.in-Some.ensures ∙ ap Some (sym c.in_ok-last-2.ensures.pair)) c.in_ok-last-2.ensures.step),
+      subst (λ steps. IsPathDown enum_view old new table steps next) more
+          (path_on enum_view old new table c.loop-child.steps.items last next c.loop-child.invariant.0 (sym c.in-Some.ensures ∙ ap Some (sym c.in_ok-last-2.ensures.pair)) c.in_ok-last-2.ensures.step),
       subst (λ steps. (first_step steps next).pair ≡ c.args.pair) more (ap (λ s. s.pair) (first_on c.loop-child.steps.items last next) ∙ c.loop-child.invariant.1),
     )

@@ -1,7 +1,7 @@
 use Rattle.std.proofs.Common.{◌≡◌, false, codes, refl, sym, ap}
 use Rattle.std.specs.Str.{bytes_eq}
 use Rattle.pg_link.specs.Uses.{is_scalar_word}
-use Rattle.pg_link.proofs.SightLaws.{other_text}
+use Rattle.pg_link.proofs.VisibleLaws.{other_text}
 use Rattle.pg_link.proofs.uses.is_scalar_word.Goals as goal
 
 pub returns-in-double : goal.returns-in-double

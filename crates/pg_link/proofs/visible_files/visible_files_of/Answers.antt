@@ -1,7 +1,7 @@
 use Rattle.std.proofs.Common.{◌≡◌, ◌∙◌, ◌+◌, ◌++◌, ◌∷◌, [], ℕ, List, Some, length, slice_get, ap, sym, arith}
 use Rattle.std.proofs.lemmas.List.{length-append}
 use Rattle.pg_link.specs.Walk.{Entry}
-use Rattle.pg_link.proofs.SightsLaws.{Mask, handed_more, sights_more, there_of}
+use Rattle.pg_link.proofs.VisibleFilesLaws.{Mask, handed_more, visible_more, there_of}
 use Rattle.pg_link.proofs.visible_files.visible_files_of.Goals as goal
 
 one_longer : (old new : List Mask) (v : Mask) (i : ℕ) → length old ≡ i → new ≡ old ++ v ∷ [] → length new ≡ i + 1
@@ -27,11 +27,11 @@ loop-number-preserved c =
     let at : slice_get es i ≡ Some e = sym c.in-Some.ensures.entry in
     let inv = c.loop-number.invariant in record {
       handed_length = one_longer c.loop-number.handed.items c.push-in-loop-number.new.self.items c.in_ok-onwards.onwards i inv.handed_length c.in_ok-push-2.ensures.items;
-      sights_length = one_longer c.loop-number.visible_files.items c.push.new.self.items c.in_ok-seen.seen i inv.sights_length c.in_ok-push.ensures.items;
+      visible_files_length = one_longer c.loop-number.visible_files.items c.push.new.self.items c.in_ok-seen.seen i inv.visible_files_length c.in_ok-push.ensures.items;
       handed = handed_more es c.loop-number.handed.items c.push-in-loop-number.new.self.items c.in_ok-onwards.onwards c.in_ok-lines.lines.items c.deref-in-loop-number-3.result.now
           (length c.deref-in-loop-number-2.result.now) i e c.requires.in_order c.requires.apart at c.in_ok-lines.ensures c.deref-in-loop-number-3.ensures.value
           (ap length c.deref-in-loop-number-2.ensures.value ∙ inv.handed_length) inv.handed_length c.in_ok-push-2.ensures.items inv.handed c.in_ok-onwards.ensures;
-      visible_files = sights_more es c.loop-number.visible_files.items c.push.new.self.items c.in_ok-seen.seen c.in_ok-lines.lines.items c.deref-in-loop-number.result.now
+      visible_files = visible_more es c.loop-number.visible_files.items c.push.new.self.items c.in_ok-seen.seen c.in_ok-lines.lines.items c.deref-in-loop-number.result.now
           (length c.deref.result.now) i e c.requires.in_order c.requires.apart at c.in_ok-lines.ensures c.deref-in-loop-number.ensures.value
-          (ap length c.deref.ensures.value ∙ inv.handed_length) inv.sights_length c.in_ok-push.ensures.items inv.visible_files c.in_ok-seen.ensures;
+          (ap length c.deref.ensures.value ∙ inv.handed_length) inv.visible_files_length c.in_ok-push.ensures.items inv.visible_files c.in_ok-seen.ensures;
     }

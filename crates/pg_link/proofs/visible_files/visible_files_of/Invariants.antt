@@ -6,7 +6,7 @@ use Rattle.pg_link.proofs.visible_files.visible_files_of.Given as goal
 abbrev pub invariant-loop-number : goal.invariant-loop-number
 invariant-loop-number l = record {
   handed_length : length l.handed.items ≡ l.number;
-  sights_length : length l.visible_files.items ≡ l.number;
+  visible_files_length : length l.visible_files.items ≡ l.number;
   handed : AreHanded l.files.entries (map (λ m. m.items) l.handed.items);
   visible_files : AreVisibleFiles l.files.entries (map (λ m. m.items) l.visible_files.items);
 }

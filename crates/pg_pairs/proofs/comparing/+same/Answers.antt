@@ -11,7 +11,7 @@ use Rattle.pg_dyn.specs.Kept as kept
 use Rattle.pg_dyn.specs.Borrowed.{item_seen}
 use Rattle.std.proofs.lemmas.Result.{IfOk-weaker}
 use Rattle.pg_dyn.proofs.Lists.{list_all_each, each_at_index, each_from_take}
-use Rattle.pg_pairs.specs.Comparing.{HeldFits, ItemHasEncoding, items_meet, Keyed, keyed, keyed_if, keyed_meet, keyed_shown}
+use Rattle.pg_pairs.specs.Comparing.{HeldFits, ItemHasEncoding, items_match, Keyed, keyed, keyed_if, keyed_match, keyed_shown}
 use Rattle.pg_pairs.proofs.SameSteps.{both_go_on, each_got, held_weight, of_number_seen, shown_weight, total, total_got, weight_is}
 use Rattle.pg_pairs.proofs.SameFields.{beside_with, first_alone, hides_first, hides_second, key_lent, message_fits, second_alone, shown_filled, shown_fits, single_found}
 use Rattle.pg_pairs.proofs.SameLengths.{child_encoded, shown_encoded}
@@ -42,12 +42,12 @@ is_same_content-is_same_key-requires-clause-second g t c =
 
 pub is_same_content-returns-then-not-is_same_key : goal.is_same_content-returns-then-not-is_same_key
 is_same_content-returns-then-not-is_same_key g t c =
-    let test = keyed_meet (g.V.View.is_alike c.args.sides.now.view.now) c.args.sides.now.old.now c.args.sides.now.new.now (field_shape c.args.fields.now.old.now) (field_shape c.args.fields.now.new.now) in
-    let meets = items_meet (g.V.View.is_alike c.args.sides.now.view.now) c.args.sides.now.old.now c.args.sides.now.new.now (field_shape c.args.fields.now.old.now) (field_shape c.args.fields.now.new.now) c.held_at-first.result.item.now c.held_at-second.result.item.now in
+    let test = keyed_match (g.V.View.is_alike c.args.sides.now.view.now) c.args.sides.now.old.now c.args.sides.now.new.now (field_shape c.args.fields.now.old.now) (field_shape c.args.fields.now.new.now) in
+    let matches = items_match (g.V.View.is_alike c.args.sides.now.view.now) c.args.sides.now.old.now c.args.sides.now.new.now (field_shape c.args.fields.now.old.now) (field_shape c.args.fields.now.new.now) c.held_at-first.result.item.now c.held_at-second.result.item.now in
     let rest = pointwise test (drop (c.loop-at.at + 1) (keyed c.args.content.now)) (drop (c.loop-at.at + 1) (keyed c.args.read.now)) in
     sym (sym c.loop-at.invariant
     ∙ both_go_on test (keyed c.args.content.now) (keyed c.args.read.now) c.loop-at.at (option_copied c.held_at-first.result.key, c.held_at-first.result.item.now) (option_copied c.held_at-second.result.key, c.held_at-second.result.item.now) c.held_at-first.ensures c.held_at-second.ensures
-    ∙ ap (λ b. (b && meets) && rest) (sym c.is_same_key.ensures ∙ c.if-not-is_same_key.true))
+    ∙ ap (λ b. (b && matches) && rest) (sym c.is_same_key.ensures ∙ c.if-not-is_same_key.true))
 
 pub is_same_content-is_same_item-requires : goal.is_same_content-is_same_item-requires
 is_same_content-is_same_item-requires g t c κs within =
@@ -63,7 +63,7 @@ is_same_content-is_same_item-requires g t c κs within =
 
 pub is_same_content-returns-then-not-branch : goal.is_same_content-returns-then-not-branch
 is_same_content-returns-then-not-branch g t c =
-    let test = keyed_meet (g.V.View.is_alike c.args.sides.now.view.now) c.args.sides.now.old.now c.args.sides.now.new.now (field_shape c.args.fields.now.old.now) (field_shape c.args.fields.now.new.now) in
+    let test = keyed_match (g.V.View.is_alike c.args.sides.now.view.now) c.args.sides.now.old.now c.args.sides.now.new.now (field_shape c.args.fields.now.old.now) (field_shape c.args.fields.now.new.now) in
     let rest = pointwise test (drop (c.loop-at.at + 1) (keyed c.args.content.now)) (drop (c.loop-at.at + 1) (keyed c.args.read.now)) in
     sym (sym c.loop-at.invariant
     ∙ both_go_on test (keyed c.args.content.now) (keyed c.args.read.now) c.loop-at.at (option_copied c.held_at-first.result.key, c.held_at-first.result.item.now) (option_copied c.held_at-second.result.key, c.held_at-second.result.item.now) c.held_at-first.ensures c.held_at-second.ensures
@@ -71,7 +71,7 @@ is_same_content-returns-then-not-branch g t c =
 
 pub is_same_content-loop-at-preserved : goal.is_same_content-loop-at-preserved
 is_same_content-loop-at-preserved g t c =
-    let test = keyed_meet (g.V.View.is_alike c.args.sides.now.view.now) c.args.sides.now.old.now c.args.sides.now.new.now (field_shape c.args.fields.now.old.now) (field_shape c.args.fields.now.new.now) in
+    let test = keyed_match (g.V.View.is_alike c.args.sides.now.view.now) c.args.sides.now.old.now c.args.sides.now.new.now (field_shape c.args.fields.now.old.now) (field_shape c.args.fields.now.new.now) in
     let rest = pointwise test (drop (c.loop-at.at + 1) (keyed c.args.content.now)) (drop (c.loop-at.at + 1) (keyed c.args.read.now)) in
     sym (both_go_on test (keyed c.args.content.now) (keyed c.args.read.now) c.loop-at.at (option_copied c.held_at-first.result.key, c.held_at-first.result.item.now) (option_copied c.held_at-second.result.key, c.held_at-second.result.item.now) c.held_at-first.ensures c.held_at-second.ensures
     ∙ ap₂ (λ a b. (a && b) && rest) (sym c.is_same_key.ensures ∙ c.if-not-is_same_key.false) (sym c.in_ok-is_same_item.ensures ∙ c.if-not-branch.false))
@@ -134,7 +134,7 @@ pub is_same_field-returns-in_default-2 : goal.is_same_field-returns-in_default-2
 is_same_field-returns-in_default-2 g t c =
     let found : field_at (fields (shape_of c.args.sides.now.new.now) (type_of c.args.read.now)) c.args.field.now.number ≡ Some (field_shape c.in-Some.beside.now) =
     ap (λ type. field_at (fields (shape_of c.args.sides.now.new.now) type) c.args.field.now.number) (sym c.type_id.ensures) ∙ sym c.in-Some.ensures.shape in
-    let test = keyed_meet (g.V.View.is_alike c.args.sides.now.view.now) c.args.sides.now.old.now c.args.sides.now.new.now (field_shape c.args.field.now) (field_shape c.in-Some.beside.now) in
+    let test = keyed_match (g.V.View.is_alike c.args.sides.now.view.now) c.args.sides.now.old.now c.args.sides.now.new.now (field_shape c.args.field.now) (field_shape c.in-Some.beside.now) in
     first_alone test (keyed c.in_default-2.field-0-0.now) (shown_filled c.get.result c.shown-content.result c.in_default-2.field-0-0 c.get.ensures.filled c.shown-content.ensures.same c.in_default-2.is-0)
     ∙ beside_with (g.V.View.is_alike c.args.sides.now.view.now) c.args.sides.now.old.now c.args.sides.now.new.now (field_shape c.args.field.now) (field_shape c.in-Some.beside.now) c.args.message.now c.args.read.now c.requires.old_schema.shape c.requires.fits c.requires.found found c.get.result c.get-2.result c.shown-content.result c.shown-other.result (Some c.in_default-2.field-0-0) None c.get.ensures.content c.get-2.ensures.content c.get.ensures.keys c.get.ensures.fits c.shown-content.ensures.items c.shown-other.ensures.items c.in_default-2.is-0 c.in_default-2.is-1
 
@@ -142,7 +142,7 @@ pub is_same_field-returns-in_default-2-2 : goal.is_same_field-returns-in_default
 is_same_field-returns-in_default-2-2 g t c =
     let found : field_at (fields (shape_of c.args.sides.now.new.now) (type_of c.args.read.now)) c.args.field.now.number ≡ Some (field_shape c.in-Some.beside.now) =
     ap (λ type. field_at (fields (shape_of c.args.sides.now.new.now) type) c.args.field.now.number) (sym c.type_id.ensures) ∙ sym c.in-Some.ensures.shape in
-    let test = keyed_meet (g.V.View.is_alike c.args.sides.now.view.now) c.args.sides.now.old.now c.args.sides.now.new.now (field_shape c.args.field.now) (field_shape c.in-Some.beside.now) in
+    let test = keyed_match (g.V.View.is_alike c.args.sides.now.view.now) c.args.sides.now.old.now c.args.sides.now.new.now (field_shape c.args.field.now) (field_shape c.in-Some.beside.now) in
     second_alone test (keyed c.in_default-2.field-0-1.now) (shown_filled c.get-2.result c.shown-other.result c.in_default-2.field-0-1 c.get-2.ensures.filled c.shown-other.ensures.same c.in_default-2.is-1)
     ∙ beside_with (g.V.View.is_alike c.args.sides.now.view.now) c.args.sides.now.old.now c.args.sides.now.new.now (field_shape c.args.field.now) (field_shape c.in-Some.beside.now) c.args.message.now c.args.read.now c.requires.old_schema.shape c.requires.fits c.requires.found found c.get.result c.get-2.result c.shown-content.result c.shown-other.result None (Some c.in_default-2.field-0-1) c.get.ensures.content c.get-2.ensures.content c.get.ensures.keys c.get.ensures.fits c.shown-content.ensures.items c.shown-other.ensures.items c.in_default-2.is-0 c.in_default-2.is-1
 

@@ -5,7 +5,7 @@ use Rattle.pg_schema.specs.Parts.{field_shape, shape_of}
 use Rattle.pg_schema.specs.Shape.{field_at, fields}
 use Rattle.pg_schema.specs.declared.field.Field.{Field}
 use Rattle.pg_dyn.specs.Kept.{type_of, weight}
-use Rattle.pg_pairs.specs.Comparing.{all_meet, is_same_beside, keyed}
+use Rattle.pg_pairs.specs.Comparing.{all_match, is_same_beside, keyed}
 use Rattle.pg_pairs.proofs.SameSteps.{held_weight, total}
 use Rattle.pg_pairs.proofs.comparing.+same.Given as goal
 
@@ -30,5 +30,5 @@ invariant-are_same_fields-loop-field g l =
 
 abbrev pub invariant-is_same_content-loop-at : goal.invariant-is_same_content-loop-at
 invariant-is_same_content-loop-at g l =
-    all_meet (g.V.View.is_alike l.sides.view.now) l.sides.old.now l.sides.new.now (field_shape l.fields.old.now) (field_shape l.fields.new.now) (drop l.at (keyed l.content)) (drop l.at (keyed l.read))
-    ≡ all_meet (g.V.View.is_alike l.sides.view.now) l.sides.old.now l.sides.new.now (field_shape l.fields.old.now) (field_shape l.fields.new.now) (keyed l.content) (keyed l.read)
+    all_match (g.V.View.is_alike l.sides.view.now) l.sides.old.now l.sides.new.now (field_shape l.fields.old.now) (field_shape l.fields.new.now) (drop l.at (keyed l.content)) (drop l.at (keyed l.read))
+    ≡ all_match (g.V.View.is_alike l.sides.view.now) l.sides.old.now l.sides.new.now (field_shape l.fields.old.now) (field_shape l.fields.new.now) (keyed l.content) (keyed l.read)

@@ -1,4 +1,4 @@
-use Rattle.pg_pairs.proofs.NamedSights.{seen_by_name}
+use Rattle.pg_pairs.proofs.NamedViews.{seen_by_name}
 use Rattle.pg_pairs.proofs.laws.sees_by_name.Goals as goal
 
 pub returns : goal.returns

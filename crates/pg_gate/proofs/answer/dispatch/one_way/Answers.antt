@@ -1,6 +1,6 @@
 use Rattle.std.proofs.Common.{subst, sym}
 use Rattle.pg_cert.specs.Certificate.{Claim}
-use Rattle.pg_cert.specs.ClaimSight.{sight_in}
+use Rattle.pg_cert.specs.ClaimView.{view_in}
 use Rattle.pg_cert.specs.Text.{IsClaimOf}
 use Rattle.pg_least.specs.Exact.{IsSearched}
 use Rattle.pg_schema.specs.Parts.{shape_of}
@@ -12,7 +12,7 @@ pub finding_of-requires-clause-searched : goal.finding_of-requires-clause-search
 finding_of-requires-clause-searched c =
     let old = c.args.old.now.schema in
     let new = c.args.new.now.schema in
-    subst (λ (claim : Claim). IsSearched (sight_in old new claim) (shape_of old) (shape_of new) claim.root claim) (sym c.certificate.ensures)
+    subst (λ (claim : Claim). IsSearched (view_in old new claim) (shape_of old) (shape_of new) claim.root claim) (sym c.certificate.ensures)
     (searched_by c.args.view old new c.args.root.now c.in_ok-answer.answer c.in_ok-answer.ensures.answer)
 
 pub finding_of-requires-clause-claim : goal.finding_of-requires-clause-claim

@@ -6,8 +6,8 @@ use Rattle.pg_gate.proofs.answer.gate.found_by.Goals as goal
 
 pub returns-clause-searched : goal.returns-clause-searched
 returns-clause-searched g c =
-    subst (λ sight. IfOk c.find_with.result (λ found. IsSearched sight (shape_of c.args.old.now) (shape_of c.args.new.now) c.args.pair found.certificate)) c.sees_by_name.ensures c.find_with.ensures.searched
+    subst (λ enum_view. IfOk c.find_with.result (λ found. IsSearched enum_view (shape_of c.args.old.now) (shape_of c.args.new.now) c.args.pair found.certificate)) c.sees_by_name.ensures c.find_with.ensures.searched
 
 pub returns-clause-witness : goal.returns-clause-witness
 returns-clause-witness g c =
-    subst (λ sight. IfOk c.find_with.result (λ found. IsBesideClaim sight (shape_of c.args.old.now) (shape_of c.args.new.now) found.certificate found.witness)) c.sees_by_name.ensures c.find_with.ensures.witness
+    subst (λ enum_view. IfOk c.find_with.result (λ found. IsBesideClaim enum_view (shape_of c.args.old.now) (shape_of c.args.new.now) found.certificate found.witness)) c.sees_by_name.ensures c.find_with.ensures.witness

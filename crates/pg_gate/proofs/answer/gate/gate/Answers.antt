@@ -1,4 +1,4 @@
--- The view by numbers has the sight by numbers.
+-- The view by numbers sees enums by their numbers.
 use Rattle.std.proofs.Common.{◌≡◌, IfOk, subst}
 use Rattle.pg_dyn.specs.declared.view_name.ViewName.TheVariants as views
 use Rattle.pg_gate.specs.Answer.{IsAnswerBy, certificate_of}
@@ -6,5 +6,5 @@ use Rattle.pg_gate.proofs.answer.gate.gate.Goals as goal
 
 pub returns-clause-answer : goal.returns-clause-answer
 returns-clause-answer c =
-    subst (λ sight. IfOk c.gate_with.result (λ answer. ((certificate_of answer).view ≡ views.Numbers) × IsAnswerBy sight c.args.old.now c.args.new.now c.args.root.now answer))
+    subst (λ enum_view. IfOk c.gate_with.result (λ answer. ((certificate_of answer).view ≡ views.Numbers) × IsAnswerBy enum_view c.args.old.now c.args.new.now c.args.root.now answer))
     (c.numbers_are_alike.ensures c.args.old.now c.args.new.now) c.gate_with.ensures.answer

@@ -22,8 +22,8 @@ its_names : (es now : List Entry) (index : indexes.Index) (visible_files : List 
     → names_seen index.names (Some visible) ≡ visible_names (outlines now) (path_of e)
 its_names es now index visible_files targets i e v visible settled same at is seen =
     let here : slice_get es i ≡ Some e = ap (λ (l : List Entry). slice_get l i) same ∙ at in
-    let within : i < length visible_files = omega (arith, slice_get_within es i e here, settled.sight_length, length-map visible_files (λ (m : Vec Bool Global). m.items)) in
-    visible_are index es e visible settled.lists settled.linked.once (its_marks es visible_files i e v visible settled.are_sights here within is seen)
+    let within : i < length visible_files = omega (arith, slice_get_within es i e here, settled.visible_length, length-map visible_files (λ (m : Vec Bool Global). m.items)) in
+    visible_are index es e visible settled.lists settled.linked.once (its_marks es visible_files i e v visible settled.are_visible here within is seen)
     ∙ ap (λ (l : List Entry). visible_names (outlines l) (path_of e)) same
 
 pub returns-clause-resolves : goal.returns-clause-resolves

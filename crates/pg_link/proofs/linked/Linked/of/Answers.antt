@@ -19,6 +19,6 @@ invariant_of-result c = record {
     resolved = c.in_ok-targets.ensures.resolved;
   };
   lists = (c.in_ok-index.ensures.holds, c.in_ok-index.ensures.numbered);
-  sight_length = length-map c.in_ok-visible_files.visible_files.items (λ (m : Vec Bool Global). m.items) ∙ c.in_ok-visible_files.ensures.same_length;
-  are_sights = c.in_ok-visible_files.ensures.visible_files;
+  visible_length = length-map c.in_ok-visible_files.visible_files.items (λ (m : Vec Bool Global). m.items) ∙ c.in_ok-visible_files.ensures.same_length;
+  are_visible = c.in_ok-visible_files.ensures.visible_files;
 }
