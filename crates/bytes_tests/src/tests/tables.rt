@@ -68,8 +68,7 @@ fn a_witness_has_bytes(rt: HostRuntime) -> Result<(), Fail> {
     let alloc = rt.alloc();
     let table_of_none = table(alloc, &[])?;
     let witness = Some(Vec::new(alloc));
-    let Err((table, witness)) =
-        Certificate::new(ViewName::Numbers, ROOT, table_of_none, witness)
+    let Err((table, witness)) = Certificate::new(ViewName::Numbers, ROOT, table_of_none, witness)
     else {
         return Err("a witness without bytes".into());
     };
