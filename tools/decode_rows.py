@@ -145,6 +145,24 @@ def pair_schema():
     return kind_of(file, "P")
 
 
+def map_schema():
+    """`message K`: a map of numbers."""
+    file = descriptor_pb2.FileDescriptorProto(name="k.proto", syntax="proto3")
+    message = file.message_type.add(name="K")
+    adding(message)("f1", 1, LABEL.TYPE_MESSAGE, LABEL.LABEL_REPEATED, ".K.F1Entry")
+    add_entry(message, "F1Entry", LABEL.TYPE_INT32, LABEL.TYPE_INT32)
+    return kind_of(file, "K")
+
+
+def many_fields_schema():
+    """`message L`: ten thousand numbers."""
+    file = descriptor_pb2.FileDescriptorProto(name="l.proto", syntax="proto3")
+    add = adding(file.message_type.add(name="L"))
+    for number in range(1, 10_001):
+        add("f%d" % number, number, LABEL.TYPE_UINT32)
+    return kind_of(file, "L")
+
+
 KEYS = [LABEL.TYPE_INT32, LABEL.TYPE_INT64, LABEL.TYPE_UINT32, LABEL.TYPE_UINT64, LABEL.TYPE_SINT32, LABEL.TYPE_SINT64]
 KEYS += [LABEL.TYPE_FIXED32, LABEL.TYPE_FIXED64, LABEL.TYPE_SFIXED32, LABEL.TYPE_SFIXED64, LABEL.TYPE_BOOL, LABEL.TYPE_STRING]
 VALUES = [LABEL.TYPE_DOUBLE, LABEL.TYPE_FLOAT] + KEYS + [LABEL.TYPE_BYTES, LABEL.TYPE_ENUM, LABEL.TYPE_MESSAGE]
@@ -410,6 +428,20 @@ class Lines:
             assert theirs != ours, data
             self.add(" takes it otherwise: " + why, "apart %s %s" % (spelled(theirs), spelled(data)), spelled(ours))
 
+    def add_many(self):
+        """Ten thousand entries by falling keys that are read, and that are set; and ten thousand fields that are set by falling numbers."""
+        kind, text = map_schema()
+        self.add_type("K", text)
+        entries = [record(1, 2, record(1, 0, varint(key)) + record(2, 0, varint(1 + key % 100))) for key in range(10_999, 999, -1)]
+        self.add(": ten thousand falling keys are read", "again " + spelled(b"".join(entries)), spelled(again(kind, b"".join(entries))))
+        message = kind(f1={key: 1 for key in range(10_000, 0, -1)})
+        held = " ".join("%d:%d" % it for it in sorted(message.f1.items()))
+        self.add(": ten thousand falling keys are set", "hold <<10000 0 # 1 >>=1:", "1={%s}" % held)
+        kind, _ = many_fields_schema()
+        self.add_type("L", "L: uint32 f1=1<<2 10001 , uint32 f#=#>>")
+        message = kind(**{"f%d" % number: 7 for number in range(10_000, 0, -1)})
+        self.add(": ten thousand falling fields are set", "whole 7 =10000<<9999 0  7 =#>>", spelled(message.SerializeToString()))
+
     def put_behind(self, folder):
         """Puts them behind the lines that are written by hand."""
         for name, lines in [("stdin", self.asked), ("stdout", self.answered)]:
@@ -564,6 +596,7 @@ def main():
     lines.add_rows("entries without a key or a value, in both orders, twice, and between others", kind, each_entry())
     lines.add_rows("a key twice, and keys that are one", kind, [bytes.fromhex(word) for word in ENTRIES])
     lines.add_rows("entries between other records", kind, made_rows(kind, entries_between, 30, 21, longest=120))
+    lines.add_many()
     lines.put_behind("crates/bytes_rows")
 
 

@@ -1,10 +1,10 @@
 #!/usr/bin/env python3
-"""Writes the long rows of crates/gate_rows: chains of messages, cut and forged sets, certificates and messages, deep nests, and what is
-wanted of them.
+"""Writes the long rows of crates/gate_rows and crates/answer_rows: chains of messages, cut and forged sets, certificates and messages, deep
+nests, and what is wanted of them.
 
     tools/gate_rows.py
 
-A row stands in crates/gate_rows/stdin, and what the program has to print of it in crates/gate_rows/stdout. This script makes the rows
+A row stands in crates/*_rows/stdin, and what the program has to print of it in crates/*_rows/stdout. This script makes the rows
 that are too long to write by hand. What is wanted is computed here by the rules of the language, of message bytes and of certificates
 (docs/MODEL.md, docs/CERTIFICATES.md, docs/REFUSALS.md), never by the program. All other rows stay as they stand, in front of these.
 """
@@ -20,7 +20,7 @@ SET = bytes.fromhex("0a240a076d2e70726f746f22110a014d120c0a016118012001280552016
 
 TEXTS = "--old m.proto --new m.proto"
 
-ROWS = {}
+ROWS, ANSWERS = {}, {}
 
 
 NAMES = {9: "\\t", 10: "\\n", 13: "\\r", 34: '\\"', 39: "\\'", 92: "\\\\"}
@@ -122,6 +122,20 @@ def chain_rows(last):
     row(what, "gate %s --type %s" % (TEXTS, root), *sides, 1, breaks + "witness %s\n" % witness.hex() + steps)
     row(what + ", its table", "gate %s --type %s --cert" % (TEXTS, root), *sides, 1, written)
     row(what + ", its table checked", "verify %s c" % TEXTS, files(("m.proto", old), ("c", written)), sides[1], 1, breaks)
+
+
+def deep_chain_rows():
+    """The same at the end of a chain of as many types as a schema may have: its witness is far deeper than most readers go."""
+    witness, bounds, last = bytes.fromhex("088080808008"), [6], 4095
+    for _ in range(last):
+        witness = inside(witness)
+        bounds.insert(0, len(witness))
+    sides = ["M: <<1 %d M# n=1; M#: >>%s a=1" % (last + 1, scalar) for scalar in ("uint32", "int32")]
+    table = ", ".join("%d %d %d" % (at, at, bound) for at, bound in enumerate(bounds))
+    claim = ["check", *sides, "0 0", table]
+    what = "a chain of %d types, its " % (last + 1)
+    for name, words, wanted in (("bounds alone", claim, "at least %d" % len(witness)), ("witness", [*claim, witness.hex()], "breaks")):
+        ANSWERS[what + name] = " | ".join([what + name, *words]), "%s%s | %s" % (what, name, wanted)
 
 
 def cut_set_rows():
@@ -303,6 +317,8 @@ def main():
     forged_rows_of_two_pairs()
     closing_rows()
     rewrite("gate_rows", ROWS)
+    deep_chain_rows()
+    rewrite("answer_rows", ANSWERS)
 
 
 if __name__ == "__main__":

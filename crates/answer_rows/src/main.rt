@@ -6,7 +6,7 @@
 //! bound by its pair and a number or `none`, with `, ` between bounds; a choice by its number,
 //! case, part and cost; bytes by hexadecimal digits, and the text of a certificate with escapes.
 //! Words that are left out are zeros, and `-` is no bounds. The words of each call stand at its
-//! function.
+//! function. `rows` says how a line spells a text many times.
 #![tactic(auto)]
 
 mod certificates;
@@ -21,12 +21,12 @@ mod searches;
 mod shown;
 mod spelled;
 
-use rows::cut;
+use rows::{cut, unrolled};
 use std::io;
 
 fn main(rt: HostRuntime) -> io::Result<()> {
     for line in rt.lines(rt.alloc()) {
-        let line = line?;
+        let line = unrolled(rt.alloc(), line?.as_str())?;
         let (shows, row) = cut(line.as_str());
         let text = row::answer(rt.alloc(), row)?;
         println!(rt; "{shows} | {text}")?;

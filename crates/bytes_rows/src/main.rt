@@ -5,6 +5,8 @@
 //! `type SCHEMA` and `other SCHEMA` make schemas, as `tiny_schemas` reads them. The first type of
 //! the one is that of the bytes and contents in the lines behind it, and that of the other is what
 //! `fits` and `outside` compare with.
+//!
+//! `rows` says how a line spells a text many times.
 #![tactic(auto)]
 
 mod contents;
@@ -15,6 +17,7 @@ mod row;
 mod setting;
 mod types;
 
+use rows::unrolled;
 use std::io;
 
 fn main(rt: HostRuntime) -> io::Result<()> {
@@ -22,7 +25,8 @@ fn main(rt: HostRuntime) -> io::Result<()> {
         return Ok(());
     };
     for row in rt.lines(rt.alloc()) {
-        let text = row::answer(rt.alloc(), &mut types, row?.as_str())?;
+        let row = unrolled(rt.alloc(), row?.as_str())?;
+        let text = row::answer(rt.alloc(), &mut types, row.as_str())?;
         println!(rt; "{text}")?;
     }
     Ok(())

@@ -1,4 +1,4 @@
-//! Sources that fail, at each read of each subcommand, and a source that gives too much.
+//! Sources that fail, at each read of each subcommand.
 use crate::FailingSource;
 use crate::runs::{FILES, buffer, run_over};
 use pg_link::Listed;
@@ -119,19 +119,5 @@ fn tells_a_source_that_fails(rt: HostRuntime) -> Result<(), Fail> {
     for (words, old, new, printed) in FAILING {
         tells(&rt, words, (old, new), printed)?;
     }
-    Ok(())
-}
-
-#[test]
-fn refuses_a_text_that_is_too_long(rt: HostRuntime) -> Result<(), Fail> {
-    let words = ["gate", "--old=m.proto", "--new=m.proto", "--type=M"];
-    let text = "// one of the lines that make the text too long\n".repeat(rt.alloc(), 90_000)?;
-    let files = [("m.proto", text.as_bytes())];
-    let mut old = Listed { files: &files };
-    let mut new = Listed { files: &[] };
-    let mut sink = buffer(rt.alloc())?;
-    let ended = run_over(rt.alloc(), &words, &mut old, &mut new, &mut sink)?;
-    assert_eq!(rt; ended, 2);
-    assert!(rt; sink.bytes.as_slice() == b"refused old E108 m.proto:1:1\n".as_slice());
     Ok(())
 }

@@ -17,14 +17,30 @@ fn put(alloc: Global, out: &mut String, text: &str, number: u32) -> Result<(), A
     Ok(())
 }
 
+// Appends the text once for each number from the one up or down to the other, without that.
+fn put_each(
+    alloc: Global,
+    out: &mut String,
+    text: &str,
+    from: u32,
+    to: u32,
+) -> Result<(), AllocError> {
+    for place in 0..from.max(to).saturating_sub(from.min(to)) {
+        let number = if from < to {
+            from.saturating_add(place)
+        } else {
+            from.saturating_sub(place)
+        };
+        put(alloc, out, text, number)?;
+    }
+    Ok(())
+}
+
 // Appends what `FROM TO TEXT` spells.
 fn put_repeat(alloc: Global, out: &mut String, spelled: &str) -> Result<(), AllocError> {
     let (from, rest) = spelled.split_once(' ').unwrap_or((spelled, ""));
     let (to, text) = rest.split_once(' ').unwrap_or((rest, ""));
-    for number in number_of(from)..number_of(to) {
-        put(alloc, out, text, number)?;
-    }
-    Ok(())
+    put_each(alloc, out, text, number_of(from), number_of(to))
 }
 
 // Puts a repeat, which ends with `>>`, and what stands behind it.
@@ -35,7 +51,7 @@ fn put_piece(alloc: Global, out: &mut String, piece: &str) -> Result<(), AllocEr
 }
 
 /// The row with each `<<FROM TO TEXT>>` in it replaced by the text once for each number from `FROM`
-/// up to `TO`, without `TO`, each `#` in the text being the number.
+/// up to `TO`, or down to it, without `TO`, each `#` in the text being the number.
 pub fn unrolled(alloc: Global, row: &str) -> Result<String, AllocError> {
     let (front, rest) = row.split_once("<<").unwrap_or((row, ""));
     let mut out = String::from_str(alloc, front)?;

@@ -16,12 +16,12 @@ const OTHER: Pair = Pair {
     new: TypeId { index: 0 },
 };
 
-pub(super) fn line(pair: Pair, bound: Option<u32>) -> PairBound {
+fn line(pair: Pair, bound: Option<u32>) -> PairBound {
     PairBound { pair, bound }
 }
 
 /// The table of these bounds.
-pub(super) fn table(alloc: Global, bounds: &[PairBound]) -> Result<Bounds, Fail> {
+fn table(alloc: Global, bounds: &[PairBound]) -> Result<Bounds, Fail> {
     match Bounds::new(alloc, bounds.to_vec(alloc)?) {
         Ok(table) => Ok(table),
         Err((BoundsError::Memory, _)) => Err(AllocError.into()),
