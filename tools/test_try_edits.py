@@ -385,7 +385,7 @@ class Kept(unittest.TestCase):
     def run_with(self, said):
         """Returns the tries of a run over what was kept, which finds this of each edit that it tries itself."""
 
-        def try_each(_, tries):
+        def try_each(_, tries, __):
             tries.said.update({it.edit: said for it in tries.copies})
 
         kit = load_kit()

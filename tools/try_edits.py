@@ -1,7 +1,7 @@
 #!/usr/bin/env python3
 """Tries the edits of crates, those of a crate in one check: each wrong body on a copy of its function.
 
-usage: tools/try_edits.py [--anew] [--list] [CRATE..]    all crates with edits, where none is named
+usage: tools/try_edits.py [--anew] [--list] [--by COUNT] [CRATE..]    all crates with edits, where none is named
 
 Each alone, an edit costs a check of its crate, and nearly all of that is reading the libraries anew; and the edits of a crate begin with a
 second proof of it. So a check is made of a copy of the crate in which each wrong body stands beside the original (wrong_copies.py), of
@@ -15,10 +15,12 @@ that is refused for a name alone, fails. One that turns more than bodies of func
 alone, which try all others too.
 
 Wants the libraries that `rt lib` builds, and builds those that are not there. What an earlier run on this machine passed is kept beside
-what the kit keeps, by the checksum of all that it read; with --anew all is tried. With --list a table of all edits stands before the last
-line. This counts what was refused and what wasn't; the status is 1 where one wasn't.
+what the kit keeps, by the checksum of all that it read; with --anew all is tried. With --by a check has the copies of so many edits at most,
+and a line says what each check took: so it shows which edits are cheap, and no dear one keeps the others waiting. With --list a table of all
+edits stands before the last line. This counts what was refused and what wasn't; the status is 1 where one wasn't.
 """
 
+import argparse
 import hashlib
 import importlib.machinery
 import importlib.util
@@ -40,6 +42,8 @@ from wrong_copies import make_edited_room, make_room, spots_of  # noqa: E402
 TOP = os.path.dirname(os.path.dirname(os.path.realpath(__file__)))
 # The scripts that a result rests on.
 TOOLS = ("try_edits.py", "wrong_copies.py", "read_goals.py", "why_refused.py")
+# So many edits have their copies in one check, where nothing else is asked for: all.
+MOST = 1_000_000
 # An edit that is tried where it stands: the files' texts with it, and where the functions stand that it turns.
 InPlace = namedtuple("InPlace", "texts spots")
 
@@ -63,11 +67,12 @@ def lanes():
 
 class Tries:
     """The edits of a crate: the wrong copies to be tried, the edits to be tried in place, what is said of each edit once that is known and
-    whether it was refused as it must be, those that are left to rt, what is wrong beside, and the processor seconds that it took."""
+    whether it was refused as it must be, those that are left to rt, what is wrong beside, and the processor seconds that it took, of which each
+    check of copies is told with its edits."""
 
     def __init__(self, kit, crate):
         self.crate, self.copies, self.in_place, self.paths, self.left = crate, [], {}, [], {}
-        self.said, self.faults, self.seconds, self.is_kept = {}, [], 0.0, False
+        self.said, self.faults, self.seconds, self.checks, self.is_kept = {}, [], 0.0, [], False
         good, bad = kit.edits_of(crate)
         for path in bad:
             self.fail(os.path.basename(path), "BAD EDIT: its name is none for an edit")
@@ -121,19 +126,27 @@ def check(kit, crate, room, spots, kept):
         return run.returncode, log.read(), used.ru_utime + used.ru_stime
 
 
-def try_copies(kit, tries, kept):
-    """Tries the copies in one check, which also proves as they stand the functions that other edits turn in place. Where some copies don't compile, they
-    are told, and the others are tried without them."""
-    crate, copies = tries.crate, tries.copies
-    standing = controls_in_place({it: spot for edited in tries.in_place.values() for it, spot in edited.spots.items()})
+def in_parts(copies, most):
+    """Returns the copies in parts of so many edits at most."""
+    edits = [*dict.fromkeys(it.edit for it in copies)]
+    parts = [edits[at : at + most] for at in range(0, len(edits), most)]
+    return [[it for it in copies if it.edit in part] for part in parts]
+
+
+def try_copies(kit, tries, copies, standing, kept):
+    """Tries the copies in one check, which also proves these functions as they stand, which other edits turn in place. Where some copies don't compile,
+    they are told, and the others are tried without them."""
+    crate = tries.crate
     while copies or standing:
         with tempfile.TemporaryDirectory(prefix="protogate-edits-") as room:
             made = make_room(room, crate.name, crate.folder, copies + controls(crate.folder, copies)) | standing
             status, told, seconds = check(kit, crate, room, made.values(), kept)
         tries.seconds += seconds
+        tries.checks.append((seconds, [*dict.fromkeys(it.edit for it in copies)]))
         broken = not_compiled(told, made)
         if not broken or any(it is None or it.edit == CONTROL for it in broken):
-            found, tries.faults = verdicts(crate.name, status, told, made)
+            found, faults = verdicts(crate.name, status, told, made)
+            tries.faults += faults
             tries.said.update(of_edits(found))
             return
         for it, line in broken.items():
@@ -157,10 +170,14 @@ def try_in_place(kit, tries, edit, kept):
         tries.said.update(of_edits(verdicts(crate.name, status, told, spots)[0]))
 
 
-def try_each(kit, tries):
-    """Tries the copies, and then each edit in place, over what the first check proved. Where that shows nothing, no edit counts."""
+def try_each(kit, tries, most):
+    """Tries the copies, of so many edits in a check, and then each edit in place, over what the first check proved. Where that shows nothing, no edit
+    counts."""
+    standing = controls_in_place({it: spot for edited in tries.in_place.values() for it, spot in edited.spots.items()})
     with tempfile.TemporaryDirectory(prefix="protogate-kept-") as kept:
-        try_copies(kit, tries, kept if tries.in_place else None)
+        for copies in in_parts(tries.copies, most) or [[]]:
+            try_copies(kit, tries, copies, standing, kept if standing else None)
+            standing = {}
         for edit in tries.in_place:
             if tries.faults:
                 tries.fail(edit, f"NOT TRIED: {tries.faults[0][:300]}")
@@ -201,8 +218,8 @@ def said_before(path, edits):
     return said if {*said} == edits and all(is_refused for is_refused, _ in said.values()) else {}
 
 
-def try_one(kit, tries, is_anew):
-    """Tries the edits of a crate, or takes what an earlier run passed of the same. What is said already, of edits that can't be tried, stays said."""
+def try_one(kit, tries, is_anew, most=MOST):
+    """Tries the edits of a crate, copies of so many in a check, or takes what an earlier run passed of the same. What is said already, of edits that can't be tried, stays said."""
     at, key = kept_at(kit), key_of(kit, tries)
     edits = {*(it.edit for it in tries.copies), *tries.in_place}
     before = {} if is_anew or not at else said_before(f"{at}/{key}", edits)
@@ -210,7 +227,7 @@ def try_one(kit, tries, is_anew):
         tries.said.update(before)
         tries.is_kept = True
         return tries
-    try_each(kit, tries)
+    try_each(kit, tries, most)
     if at and not tries.failed() and key_of(kit, tries) == key:
         with tempfile.NamedTemporaryFile("w", dir=at, delete=False, encoding="utf-8") as file:
             json.dump(tries.said, file)
@@ -224,15 +241,16 @@ def plan(kit, top, names=()):
     return [Tries(kit, it) for it in crates if os.path.isdir(f"{it.folder}/must-fail")]
 
 
-def try_all(kit, plans, jobs, is_anew):
-    """Tries the edits of these crates, those with most checks and copies first, and prints what is said of each. Returns the counts of refused and of
-    others."""
+def try_all(kit, plans, jobs, is_anew, most=MOST):
+    """Tries the edits of these crates, those with most checks and copies first, and prints what is said of each, and what each check took where a crate
+    has several. Returns the counts of refused and of others."""
     begun = sorted(plans, key=lambda it: (-len(it.in_place), -len(it.copies)))
     with ThreadPoolExecutor(jobs) as pool:
-        for done in [pool.submit(try_one, kit, it, is_anew) for it in begun]:
+        for done in [pool.submit(try_one, kit, it, is_anew, most) for it in begun]:
             tries = done.result()
             how = "kept from an earlier run" if tries.is_kept else f"{tries.seconds:.0f} processor seconds"
-            print("\n".join([*tries.lines(), f"{tries.crate.name}: {tries.passed()} edits refused, {how}"]), flush=True)
+            checks = [f"{seconds:.0f} processor seconds for {', '.join(edits)}" for seconds, edits in tries.checks if len(tries.checks) > 1]
+            print("\n".join([*tries.lines(), *checks, f"{tries.crate.name}: {tries.passed()} edits refused, {how}"]), flush=True)
     return sum(it.passed() for it in plans), sum(it.failed() for it in plans)
 
 
@@ -256,8 +274,13 @@ def table_of(plans):
 
 
 def main(words):
-    names = [it for it in words if it not in ("--anew", "--list")]
-    kit = load_kit()
+    asked = argparse.ArgumentParser(description=__doc__.partition("\n")[0])
+    asked.add_argument("--anew", action="store_true")
+    asked.add_argument("--list", action="store_true")
+    asked.add_argument("--by", type=int, default=MOST, metavar="COUNT")
+    asked.add_argument("names", nargs="*", metavar="CRATE")
+    asked = asked.parse_args(words)
+    names, kit = asked.names, load_kit()
     plans = plan(kit, TOP, names)
     unknown = {*names} - {it.crate.name for it in plans}
     if unknown:
@@ -265,8 +288,8 @@ def main(words):
         return 2
     if not build_below(plans):
         return 1
-    passed, failed = try_all(kit, plans, lanes(), "--anew" in words)
-    if "--list" in words:
+    passed, failed = try_all(kit, plans, lanes(), asked.anew, max(1, asked.by))
+    if asked.list:
         print("\n".join(table_of(plans)))
     left = sum(len(it.left) for it in plans)
     print(f"{passed} edits refused, {failed} not refused as they must be, {left} left to rt")
