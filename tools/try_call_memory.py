@@ -38,36 +38,55 @@ Rows = collections.namedtuple("Rows", "call crate rows told", defaults=[()])
 # A call, the crate with its tests, and their names.
 Tests = collections.namedtuple("Tests", "call crate tests")
 
+
+def record(number, value):
+    """A field's record: of a whole number from 0 to 127, or of less than 128 bytes."""
+    return bytes([8 * number, value]) if isinstance(value, int) else bytes([8 * number + 2, len(value)]) + value
+
+
+def lacks(content, *records):
+    """What a row of `set` says of a content for which memory lacked, over a message of these records: the content comes back as the row
+    spells it, and the message is as it was (docs/CALLS.md)."""
+    return "Memory %s %s" % (content, b"".join(records).hex() or "-")
+
+
+# An empty message in field 1, the zigzag numbers 1 and -1 in 3, the entries 1: "a" and 2: "b" in 4, and the text "c" in 6.
+ALL_SHAPES = [record(1, b""), record(3, b"\x02\x01")]
+ALL_SHAPES += [record(4, record(1, key) + record(2, text)) for key, text in ((1, b"a"), (2, b"b"))] + [record(6, b"c")]
+
 CALLS = [
     Rows("lex", "text_rows", ["the escapes of control characters", "a character over two literals", "a float on the second line"]),
     Rows("parse", "text_rows", ["each part of a message, one token a word", "streams both ways"]),
+    Rows("Text::joined", "text_rows", ["an import's path of three literals"]),
     Rows("link", "text_rows", ["a file that two files import", "a circle of three files", "two messages of one name", "an import of an import"]),
     Rows("link", "text_rows", ["a missing import", "one path twice in a file", "a message with the name of a field"]),
     Rows("link", "text_rows", ["a name that only a field bears", "the full name of a value"]),
     Rows("read_file", "text_rows", ["a file read below a folder"]),
+    Rows("place_in", "text_rows", ["the place of byte 3 of a file"]),
     Rows("resolve", "text_rows", ["uses of types in fields, maps and rpcs", "the first part of a dotted name decides", "a service as a type"]),
     Rows("build", "text_rows", ["the message types of two files", "the services of two files"]),
     Rows("build", "text_rows", ["a number given twice", "a number in two reserved items"]),
     Rows("admit", "text_rows", ["parts: two fields", "parts: an enum of two values", "parts: a reserved number"]),
     Rows("default_json_name", "text_rows", ["the default JSON name of foo_bar, as protoc makes it"]),
+    # The parts come back, with both types.
     Rows("from_parts", "text_rows", ["parts: two types"], ["Memory 2"]),
-    Rows("set", "bytes_rows", ["a member of a oneof clears the others"], ["Memory 7 -"]),
-    Rows("set", "bytes_rows", ["a map's entries are kept by rising key"], ["Memory {2:1 1:0 -1:1} -"]),
-    Rows("set", "bytes_rows", ["a key twice"], ["Memory 7 -", "Memory {1:1 1:0} 1007"]),
-    Rows("set", "bytes_rows", ["equal keys among others come back in their order"], ["Memory {3:1 1:0 3:0 2:1} -"]),
-    Rows("set", "bytes_rows", ["a map that is set by falling keys is written by rising ones"], ["Memory 7 -", "Memory {3:1 1:0} 1007"]),
-    Rows("set", "bytes_rows", ["the second member is written alone"], ["Memory 7 -"]),
-    Rows("set", "bytes_rows", ["a text and bytes are one key"], ["Memory 7 -", "Memory {'k:# #6b:#} 1007"]),
+    Rows("set", "bytes_rows", ["a member of a oneof clears the others"], [lacks("7")]),
+    Rows("set", "bytes_rows", ["a map's entries are kept by rising key"], [lacks("{2:1 1:0 -1:1}")]),
+    Rows("set", "bytes_rows", ["a key twice"], [lacks("7"), lacks("{1:1 1:0}", record(2, 7))]),
+    Rows("set", "bytes_rows", ["equal keys among others come back in their order"], [lacks("{3:1 1:0 3:0 2:1}")]),
+    Rows("set", "bytes_rows", ["a map that is set by falling keys is written by rising ones"], [lacks("7"), lacks("{3:1 1:0}", record(2, 7))]),
+    Rows("set", "bytes_rows", ["the second member is written alone"], [lacks("7")]),
+    Rows("set", "bytes_rows", ["a text and bytes are one key"], [lacks("7"), lacks("{'k:# #6b:#}", record(2, 7))]),
     Rows("decode_unlimited", "bytes_rows", ["a message of all shapes is read without a limit"]),
-    Rows("set", "bytes_rows", ["bytes are set as a text"], ["Memory #61 -"]),
+    Rows("set", "bytes_rows", ["bytes are set as a text"], [lacks("#61")]),
     Rows(
         "set",
         "bytes_rows",
         ["contents of all shapes are set, and before the second member of the oneof the first"],
         [
-            "Memory #63 -",
-            "Memory {2:#62 1:#61} 0a001a020201320163",
-            "Memory [message message] 0a001a0202012205080112016122050802120162320163",
+            lacks("#63"),
+            lacks("{2:#62 1:#61}", *ALL_SHAPES[:2], ALL_SHAPES[-1]),
+            lacks("[message message]", *ALL_SHAPES),
         ],
     ),
     Rows("whole", "bytes_rows", ["messages in a list, a map and a field, and an explicit zero", "a map by falling keys is written by rising ones"]),
@@ -83,17 +102,21 @@ CALLS = [
     Rows("search_counted", "answer_rows", ["work of a type that holds itself and changes"]),
     Rows("settle", "answer_rows", ["bounds of a graph in which an edge costs three times the bound"]),
     Rows("way", "answer_rows", ["way of four steps down"]),
+    # The bounds come back as the row spells them.
     Rows("Bounds::new", "answer_rows", ["bounds of two pairs make a table"], ["Memory 0 0 2147483647, 1 0 none"]),
     Rows("Bounds::new", "answer_rows", ["a pair twice makes no table"], ["Memory 0 0 none, 0 0 2"]),
     Rows("check", "answer_rows", ["a witness that is longer than the bound", "a child is missing"]),
     Rows("search_with, find_with", "answer_rows", ["by names, a renamed number in a child, found"]),
     Rows("gate_with", "view_rows", ["a renamed number in a child"]),
+    Tests("gate_files", "gate_tests", ["a_gate_over_files_answers_one_of_two", "a_gate_over_files_tells_the_old_side_first"]),
+    Tests("Reply::into_text", "gate_tests", ["a_reply_is_a_text"]),
     Tests("relay", "gate_tests", ["three_programs_hand_on_what_they_do_not_know"]),
     Rows(
         "to_text, from_text, check",
         "answer_rows",
         ["a text of two pairs without a witness", "a text of a witness of all letters", "a renamed number in a text by names"],
     ),
+    Tests("descriptor_schema", "fds_tests", ["written_schema"]),
     Rows("read, write, read_again", "fds_rows", ["protoc's set of m.proto"]),
 ]
 

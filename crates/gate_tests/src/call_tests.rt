@@ -1,5 +1,5 @@
 //! The calls of the gate by themselves, beside the runs of the program.
-use pg_gate::{Answer, GateError, Side, gate, gate_files};
+use pg_gate::{Answer, Finding, GateError, Reply, Side, gate, gate_files};
 use pg_link::Listed;
 use pg_schema::Schema;
 use std::alloc::{AllocError, Global};
@@ -93,7 +93,10 @@ fn over_files(
     let mut new = Listed {
         files: &[("m.proto", new.as_bytes())],
     };
-    Ok(gate_files(alloc, &mut old, &mut new, &["m.proto"], &["m.proto"], root))
+    match gate_files(alloc, &mut old, &mut new, &["m.proto"], &["m.proto"], root) {
+        Err(GateError::Memory) => Err(AllocError),
+        answer => Ok(answer),
+    }
 }
 
 #[test]
@@ -121,5 +124,16 @@ fn a_gate_over_files_tells_the_old_side_first(rt: HostRuntime) -> Result<(), Fai
 fn a_gate_over_files_refuses_a_missing_root(rt: HostRuntime) -> Result<(), Fail> {
     let missing = over_files(rt.alloc(), "int32 a = 1;", "int32 a = 1;", "N")?;
     assert!(rt; matches!(missing, Err(GateError::RootMissingOld)));
+    Ok(())
+}
+
+#[test]
+fn a_reply_is_a_text(rt: HostRuntime) -> Result<(), Fail> {
+    let reply = Reply::Found(Finding::Breaks {
+        witness: Vec::from_slice(rt.alloc(), &MINUS_ONE)?,
+        steps: Vec::new(rt.alloc()),
+    });
+    let text = reply.into_text(rt.alloc(), "p.M")?;
+    assert!(rt; text.as_slice() == b"breaks p.M 11\nwitness 08ffffffffffffffffff01\n".as_slice());
     Ok(())
 }

@@ -1,5 +1,5 @@
 //! What is printed of a row.
-use crate::{folder, links, parts, schema, tokens, tree};
+use crate::{folder, joined, links, parts, schema, tokens, tree};
 use pg_link::Sources;
 use rows::cut;
 use std::alloc::{AllocError, Global};
@@ -14,6 +14,7 @@ pub fn answer<S: Sources>(
     match kind {
         "tokens" => tokens::answer(alloc, input),
         "tree" => tree::answer(alloc, input),
+        "joined" => joined::answer(alloc, input),
         "links" => links::answer(alloc, input),
         "parts" => parts::answer(alloc, input),
         "folder" => String::from_str(alloc, folder::answer(alloc, source, input)?),

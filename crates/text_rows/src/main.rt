@@ -6,6 +6,7 @@
 //!   service, else `taken`, or the refusal.
 //! - `WHAT | tree | TEXT | WORD`: that for the text with the word in front of each token in turn,
 //!   and behind the last.
+//! - `WHAT | joined | TEXT`: the path of the first import, of which each literal is a part.
 //! - `WHAT | links | FILES`: the files, each with what its uses of types resolve to, or the
 //!   refusal; `links::options` says what else may !   stand behind the files.
 //! - `WHAT | parts | CALL | PIECES`: what `admit` or `from_parts` makes of parts that come from no
@@ -22,6 +23,7 @@
 
 mod answer;
 mod folder;
+mod joined;
 mod links;
 mod parts;
 mod placed;
