@@ -76,17 +76,21 @@ pub fn to_text(
     pg_cert::to_text(alloc, old, new, certificate)
 }
 
-/// What `to_text` answers of the certificate that `from_text` reads: the same certificate's text of
-/// version 2, whatever version the bytes are of.
+/// What `to_text` answers of the certificate that `from_text` reads: of the certificate that the
+/// bytes spell the text of version 2, whatever version they are of. Bytes are refused only where
+/// they spell none.
 pub fn text_again(
     alloc: Global,
     old: &Schema,
     new: &Schema,
     bytes: &[u8],
 ) -> Result<String, CertError>
-    ensures { IfOk result (λ text. (claim : Claim)
-        → spec.Certifies old.now new.now bytes.now claim
-        → spec.IsSecondText old.now new.now (string_bytes text) claim) }
+    ensures text { IfOk result (λ text. (claim : Claim)
+        × spec.Certifies old.now new.now bytes.now claim
+        × spec.IsSecondText old.now new.now (string_bytes text) claim) }
+    ensures refused { IfErr result (λ e. (e ≡ errors.Memory)
+        ⊎ ((e ≡ errors.BadText) × ((claim : Claim)
+        → ¬ (spec.Certifies old.now new.now bytes.now claim)))) }
 {
     let certificate = from_text(alloc, old, new, bytes)?;
     let text = to_text(alloc, old, new, &certificate)?;
