@@ -5,11 +5,13 @@
 
 mod relaying;
 
-ghost use Rattle.std.specs.Prelude.{◌≡◌, Err, IfErr, IfOk};
+ghost use Rattle.std.specs.Prelude.{◌≡◌, Err, IfErr, IfOk, MatchResult};
 ghost use Rattle.pg_cert.specs.declared.error.CertError.TheVariants as faults;
-ghost use Rattle.pg_gate.specs.Answer.{IsAnswer, IsRefusedRoot, Lacks};
+ghost use Rattle.pg_cert.specs.Certificate.{verdict_of};
+ghost use Rattle.pg_gate.specs.Answer.{IsAnswer, IsRefusedRoot, Lacks, certificate_of};
 ghost use Rattle.pg_gate.specs.Codes.{code_of};
 ghost use Rattle.pg_gate.specs.ViewAnswer.{IsAnswerUnder};
+ghost use Rattle.pg_gate.specs.declared.answer.gate.Answer.{Answer};
 ghost use Rattle.pg_gate.specs.declared.error.GateError.TheVariants as errors;
 
 use pg_cert::{CertError, Verdict};
@@ -46,8 +48,8 @@ pub fn gate_with(
     pg_gate::gate_with(alloc, old, new, root, view)
 }
 
-/// What the checker says of the certificate that `gate_with` answers: it takes it, under the view
-/// that the certificate names, and is refused only memory.
+/// What the checker says of the certificate of an answer that `gate_with` may give: it takes it,
+/// under the view that the certificate names, says just what it shows, and is refused only memory.
 pub fn checked(
     alloc: Global,
     old: &Schema,
@@ -55,7 +57,11 @@ pub fn checked(
     root: &str,
     view: ViewName,
 ) -> Result<Result<Verdict, CertError>, GateError>
-    ensures { IfOk result (λ checked. IfErr checked (λ error. error ≡ faults.Memory)) }
+    ensures checked { IfOk result (λ checked. (answer : Answer)
+        × IsAnswerUnder view old.now new.now root.now answer
+        × MatchResult checked (λ verdict. verdict ≡ verdict_of (certificate_of answer))
+        (λ error. error ≡ faults.Memory)) }
+    ensures refused { IfErr result (IsRefusedRoot old.now new.now root.now) }
 {
     let answer = gate_with(alloc, old, new, root, view)?;
     Ok(match &answer {
