@@ -14,6 +14,7 @@ pub mod HeadingsRead
 pub mod Places
 pub mod FullNames
 pub mod OneSpelling
+pub mod OneText
 pub mod WorkedTexts
 pub mod Witnesses
 pub mod Setting

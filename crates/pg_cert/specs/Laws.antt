@@ -3,6 +3,7 @@ use Rattle.std.specs.Prelude.{◌≡◌, ◌↔◌, ℕ, ◌≤◌, true, List, 
 use Rattle.pg_schema.specs.declared.parts.Parts.{Parts}
 use Rattle.pg_schema.specs.Invariant.{IsSchema}
 use Rattle.pg_schema.specs.Shape.{Shape, IsShape}
+use Rattle.pg_dyn.specs.declared.view_name.ViewName.TheVariants as views
 use Rattle.pg_dyn.specs.Message.{Message}
 use Rattle.pg_dyn.specs.Encoding.{enc}
 use Rattle.pg_dyn.specs.Breaking.{Breaks, Compatible, Least}
@@ -11,12 +12,14 @@ use Rattle.pg_pairs.specs.EnumView.{EnumView, IsEnumView}
 use Rattle.pg_pairs.specs.Covering.{Covers}
 use Rattle.pg_cert.specs.declared.bounds.PairBound.{PairBound}
 use Rattle.pg_cert.specs.declared.error.CertError.{CertError}
+use Rattle.pg_cert.specs.declared.heading.Heading.{Heading}
+use Rattle.pg_cert.specs.declared.heading.Heading.TheVariants as headings
 use Rattle.pg_cert.specs.declared.verdict.Verdict.{Verdict}
 use Rattle.pg_cert.specs.declared.verdict.Verdict.TheVariants as verdicts
 use Rattle.pg_cert.specs.Bounds.{are_bounds, bound_in}
 use Rattle.pg_cert.specs.Certificate.{Claim, Holds, IsWitnessed, verdict_of}
 use Rattle.pg_cert.specs.Faults.{first_fault, WitnessFault}
-use Rattle.pg_cert.specs.Text.{Certifies}
+use Rattle.pg_cert.specs.Text.{Certifies, HasTexts}
 
 -- A table of distinct pairs covers its root where it has no fault, and nowhere else.
 abbrev pub CoversWithoutFault : Type 0
@@ -47,6 +50,23 @@ Says enum_view old new claim verdicts.Breaks = (bytes : List ℕ) × (claim.witn
 abbrev pub VerdictsAreTrue : Type 0
 VerdictsAreTrue =
     (enum_view : EnumView) (old new : Shape) (claim : Claim) → IsEnumView enum_view → IsShape old → IsShape new → Holds enum_view old new claim → Says enum_view old new claim (verdict_of claim)
+
+-- the version that a heading is of
+abbrev pub version_of : Heading → ℕ
+version_of headings.First = 1
+version_of (headings.Second view) = 2
+
+-- the text is one of the claim in that version
+pub record IsTextIn (version : ℕ) (old new : Parts) (text : List ℕ) (claim : Claim) : Type 0 where
+  pub certifies : Certifies old new text claim
+  pub version_is : version_of certifies.heading ≡ version
+
+-- A claim that has texts has one in version 2, and by numbers one in version 1. It has no other, and by names none in version 1.
+pub record OneTextInEachVersion : Type 0 where
+  pub first : (old new : Parts) (claim : Claim) → HasTexts old new claim → claim.view ≡ views.Numbers → (text : List ℕ) × IsTextIn 1 old new text claim
+  pub second : (old new : Parts) (claim : Claim) → HasTexts old new claim → (text : List ℕ) × IsTextIn 2 old new text claim
+  pub alone : (old new : Parts) (claim : Claim) (version : ℕ) (a b : List ℕ) → IsTextIn version old new a claim → IsTextIn version old new b claim → a ≡ b
+  pub none_by_names : (old new : Parts) (claim : Claim) (text : List ℕ) → claim.view ≡ views.Names → IsTextIn 1 old new text claim → ⊥
 
 -- A text certifies one claim at most.
 abbrev pub OneSpelling : Type 0

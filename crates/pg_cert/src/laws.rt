@@ -1,6 +1,6 @@
 //! Laws about the definitions. Each is the contract of a function that does nothing.
 
-ghost use Rattle.pg_cert.specs.Laws.{CoversWithoutFault, OneSpelling, VerdictsAreTrue, WitnessFaultsAreReal};
+ghost use Rattle.pg_cert.specs.Laws.{CoversWithoutFault, OneSpelling, OneTextInEachVersion, VerdictsAreTrue, WitnessFaultsAreReal};
 ghost use Rattle.pg_cert.specs.Worked.{WorkedCertificates};
 ghost use Rattle.pg_cert.specs.WorkedTexts.{WorkedTexts};
 
@@ -37,6 +37,11 @@ pub fn verdicts_are_true()
 /// A text certifies one claim at most.
 pub fn one_spelling()
     ensures { OneSpelling }
+{}
+
+/// A claim has one text in each version, and by names none in version 1.
+pub fn one_text_in_each_version()
+    ensures { OneTextInEachVersion }
 {}
 
 /// A witness with a fault is none.
