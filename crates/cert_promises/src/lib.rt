@@ -4,15 +4,12 @@
 
 ghost use Rattle.std.specs.Prelude.{◌≡◌, ◌⊎◌, length, nat_eq, slice_get, string_bytes, option_map, true, false, IfErr, IfOk, OnOk};
 ghost use Rattle.std.specs.Option.{option_copied};
-ghost use Rattle.pg_schema.specs.Parts.{shape_of};
 ghost use Rattle.pg_cert.specs.declared.bounds.BoundsError.TheVariants.{Invariant};
 ghost use Rattle.pg_cert.specs.declared.error.CertError.TheVariants as errors;
 ghost use Rattle.pg_cert.specs.Bounds.{are_bounds, bound_in, is_bound, with_bound};
-ghost use Rattle.pg_cert.specs.Certificate.{AreBytes, Claim, Holds, is_witness, verdict_of};
-ghost use Rattle.pg_cert.specs.ClaimView.{view_in};
+ghost use Rattle.pg_cert.specs.Certificate.{AreBytes, Claim, is_witness, verdict_of};
+ghost use Rattle.pg_cert.specs.ClaimView.{HoldsOf, IsFirstFaultOf, SaysOf};
 ghost use Rattle.pg_cert.specs.Codes.{code_of};
-ghost use Rattle.pg_cert.specs.Faults.{IsFirstFault};
-ghost use Rattle.pg_cert.specs.Laws.{Says};
 ghost use Rattle.pg_cert.specs.Text as spec;
 
 use pg_cert::{Bounds, BoundsError, CertError, Certificate, PairBound, Verdict};
@@ -28,17 +25,13 @@ pub fn check(
     new: &Schema,
     certificate: &Certificate,
 ) -> Result<Verdict, CertError>
-    ensures holds { OnOk result (Holds (view_in old.now new.now certificate.now)
-        (shape_of old.now) (shape_of new.now) certificate.now) }
+    ensures holds { OnOk result (HoldsOf old.now new.now certificate.now) }
     ensures verdict { IfOk result (λ verdict. verdict ≡ verdict_of certificate.now) }
-    ensures says { IfOk result (λ verdict. Says (view_in old.now new.now certificate.now)
-        (shape_of old.now) (shape_of new.now) certificate.now verdict) }
+    ensures says { IfOk result (SaysOf old.now new.now certificate.now) }
     ensures first_fault { IfErr result
-        (λ e. (e ≡ errors.Memory) ⊎ IsFirstFault (view_in old.now new.now certificate.now)
-        (shape_of old.now) (shape_of new.now) certificate.now e) }
-    ensures refused { IfErr result (λ e. (e ≡ errors.Memory)
-        ⊎ ¬ (Holds (view_in old.now new.now certificate.now) (shape_of old.now)
-        (shape_of new.now) certificate.now)) }
+        (λ e. (e ≡ errors.Memory) ⊎ IsFirstFaultOf old.now new.now certificate.now e) }
+    ensures refused { IfErr result
+        (λ e. (e ≡ errors.Memory) ⊎ ¬ (HoldsOf old.now new.now certificate.now)) }
 {
     pg_cert::check(alloc, old, new, certificate)
 }

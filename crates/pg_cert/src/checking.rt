@@ -8,7 +8,7 @@ ghost use Rattle.pg_pairs.specs.SeenBy.{seen_by};
 ghost use Rattle.pg_cert.specs.declared.error.CertError.TheVariants as errors;
 ghost use Rattle.pg_cert.specs.Bounds.{bound_in};
 ghost use Rattle.pg_cert.specs.Certificate.{Holds, bound_verdict, verdict_of};
-ghost use Rattle.pg_cert.specs.ClaimView.{view_in};
+ghost use Rattle.pg_cert.specs.ClaimView.{HoldsOf, IsFirstFaultOf, SaysOf};
 ghost use Rattle.pg_cert.specs.Checked.{IsChecked};
 ghost use Rattle.pg_cert.specs.Faults.{IsFirstFault, cheaper_choice, first_fault, first_pair_fault, is_within, missing_child, pair_fault};
 ghost use Rattle.pg_cert.specs.Laws.{Says};
@@ -302,17 +302,13 @@ pub fn check(
     new: &Schema,
     certificate: &Certificate,
 ) -> Result<Verdict, CertError>
-    ensures holds { OnOk result (Holds (view_in old.now new.now certificate.now)
-        (shape_of old.now) (shape_of new.now) certificate.now) }
+    ensures holds { OnOk result (HoldsOf old.now new.now certificate.now) }
     ensures verdict { IfOk result (λ verdict. verdict ≡ verdict_of certificate.now) }
-    ensures says { IfOk result (λ verdict. Says (view_in old.now new.now certificate.now)
-        (shape_of old.now) (shape_of new.now) certificate.now verdict) }
+    ensures says { IfOk result (SaysOf old.now new.now certificate.now) }
     ensures first_fault { IfErr result
-        (λ e. (e ≡ errors.Memory) ⊎ IsFirstFault (view_in old.now new.now certificate.now)
-        (shape_of old.now) (shape_of new.now) certificate.now e) }
-    ensures refused { IfErr result (λ e. (e ≡ errors.Memory)
-        ⊎ ¬ (Holds (view_in old.now new.now certificate.now) (shape_of old.now)
-        (shape_of new.now) certificate.now)) }
+        (λ e. (e ≡ errors.Memory) ⊎ IsFirstFaultOf old.now new.now certificate.now e) }
+    ensures refused { IfErr result
+        (λ e. (e ≡ errors.Memory) ⊎ ¬ (HoldsOf old.now new.now certificate.now)) }
 {
     check_under(alloc, old, new, certificate, certificate.view())
 }

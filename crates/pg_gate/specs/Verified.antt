@@ -1,15 +1,12 @@
 -- What a certificate's bytes show of two schemas, and why they are refused. What contracts see of a certificate is a claim.
 use Rattle.std.specs.Prelude.{◌≡◌, ℕ, List, length, Option, Some, None, string_bytes}
 use Rattle.clap.specs.Words.{Text}
-use Rattle.pg_cert.specs.Certificate.{Claim, Holds, verdict_of}
-use Rattle.pg_cert.specs.ClaimView.{view_in}
-use Rattle.pg_cert.specs.Faults.{IsFirstFault}
-use Rattle.pg_cert.specs.Laws.{Says}
+use Rattle.pg_cert.specs.Certificate.{Claim, verdict_of}
+use Rattle.pg_cert.specs.ClaimView.{HoldsOf, IsFirstFaultOf, SaysOf}
 use Rattle.pg_cert.specs.Text.{Certifies, names_of}
 use Rattle.pg_cert.specs.declared.error.CertError.{CertError}
 use Rattle.pg_cert.specs.declared.error.CertError.TheVariants as checks
 use Rattle.pg_pairs.specs.declared.choice.Pair.{Pair}
-use Rattle.pg_schema.specs.Parts.{shape_of}
 use Rattle.pg_schema.specs.declared.parts.Parts.{Parts}
 use Rattle.pg_gate.specs.Answer.{IsNamed}
 use Rattle.pg_gate.specs.Errors.{IsCallError, IsMemory}
@@ -38,9 +35,9 @@ witness_length None = 0
 pub record IsHeld (old new : Parts) (bytes : Text) (verified : Verified) : Type 0 where
   pub claim : Claim
   pub certifies : Certifies old new bytes claim
-  pub holds : Holds (view_in old new claim) (shape_of old) (shape_of new) claim
+  pub holds : HoldsOf old new claim
   pub verdict_is : verified.verdict ≡ verdict_of claim
-  pub says : Says (view_in old new claim) (shape_of old) (shape_of new) claim verified.verdict
+  pub says : SaysOf old new claim verified.verdict
   pub named : IsNamed old (string_bytes verified.name) claim.root.old
   pub length_is : verified.length ≡ witness_length claim.witness
 
@@ -62,7 +59,7 @@ pub record AreNames (old new : Parts) (pair : Pair) (names : PairNames) : Type 0
 pub record HasFirstFault (old new : Parts) (bytes : Text) (fault : CertError) : Type 0 where
   pub claim : Claim
   pub certifies : Certifies old new bytes claim
-  pub is_first : IsFirstFault (view_in old new claim) (shape_of old) (shape_of new) claim fault
+  pub is_first : IsFirstFaultOf old new claim fault
 
 -- why bytes are refused: they certify nothing, or the claim that they certify has this first fault
 abbrev pub IsFaultOfClaim : Parts → Parts → Text → CertError → Type 0
