@@ -13,7 +13,7 @@ const UNSIGNED: &[u8] =
     b"\x0a\x24\x0a\x07m.proto\x22\x11\x0a\x01M\x12\x0c\x0a\x01a\x18\x01\x20\x01\x28\x0dR\x01ab\x06proto3";
 
 /// The files of either side.
-pub(crate) static FILES: [(&str, &[u8]); 19] = [
+pub(crate) static FILES: [(&str, &[u8]); 21] = [
     (
         "m.proto",
         b"syntax = \"proto3\";\nmessage M { int32 a = 1; }\n",
@@ -41,6 +41,15 @@ pub(crate) static FILES: [(&str, &[u8]); 19] = [
     (
         "l.proto",
         b"syntax = \"proto3\";\nmessage K { oneof o { int32 a = 1; int32 b = 2; } }\n",
+    ),
+    // Two enums that give a number other names.
+    (
+        "s.proto",
+        b"syntax = \"proto3\";\nmessage M { enum E { A = 0; B = 1; } E e = 1; }\n",
+    ),
+    (
+        "t.proto",
+        b"syntax = \"proto3\";\nmessage M { enum E { A = 0; C = 1; } E e = 1; }\n",
     ),
     (
         "d/a.proto",
@@ -80,7 +89,7 @@ pub(crate) static FILES: [(&str, &[u8]); 19] = [
 ];
 
 /// Words, what is printed, and the status.
-pub(crate) static CALLS: [(&[&str], &str, u8); 16] = [
+pub(crate) static CALLS: [(&[&str], &str, u8); 17] = [
     (
         &["compile", "m.proto"],
         "\x0a\x24\x0a\x07m.proto\x22\x11\x0a\x01M\x12\x0c\x0a\x01a\x18\x01\x20\x01\x28\x05R\x01ab\x06proto3",
@@ -160,6 +169,18 @@ pub(crate) static CALLS: [(&[&str], &str, u8); 16] = [
     (
         &["gate", "--old=p.proto", "--new=q.proto", "--type=P"],
         "breaks P 13\nwitness 3a0b08ffffffffffffffffff01\nstep 7 P.m p.proto:3:27 P.m q.proto:3:27\nstep 1 M.a m.proto:2:19 M.a u.proto:2:20\n",
+        1,
+    ),
+    // A number with another name.
+    (
+        &[
+            "gate",
+            "--old=s.proto",
+            "--new=t.proto",
+            "--type=M",
+            "--view=names",
+        ],
+        "breaks M 2\nwitness 0801\nstep 1 M.e s.proto:2:40 M.e t.proto:2:40\n",
         1,
     ),
     // Two fields that meet in a oneof.

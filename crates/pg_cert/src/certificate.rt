@@ -48,8 +48,8 @@ fn lend(bytes: &[u8]) -> &[u8]
 }
 
 impl Certificate {
-    /// The certificate of these parts. A witness has at least one byte; without one, the bounds and
-    /// the witness come back.
+    /// The certificate of these parts, `None` for no witness. A witness has at least one byte; the
+    /// bounds and the witness come back just where it has none.
     pub fn new(
         view: ViewName,
         root: Pair,

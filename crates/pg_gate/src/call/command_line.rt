@@ -78,6 +78,7 @@ const VERIFY_ANSWERS: &str = "Prints one line:
   breaks NAME LENGTH    it holds: its witness breaks, and no shorter message does
   bound NAME LENGTH     it holds: a message that breaks has at least that many bytes
   refused REASON        it doesn't hold, or a side has a fault; `man protogate` has each code
+Enums are compared by the view that the certificate names; version 1 means numbers.
 
 Statuses:
   0  compatible: the certificate holds, and no message breaks
@@ -131,6 +132,7 @@ fn folder<'a>(alloc: Global, name: &'a str, help: &'a str) -> Arg<'a>
 fn among<'a>(
     alloc: Global,
     name: &'a str,
+    value_name: &'a str,
     values: &'a [&'a str],
     value: &'a str,
     help: &'a str,
@@ -139,7 +141,7 @@ fn among<'a>(
         ≡ command_line.among name.entry.now values.entry value.entry.now }
     ensures local { result.global ≡ false }
 {
-    defaulted(alloc, name, "VIEW", value, help).value_parser(values)
+    defaulted(alloc, name, value_name, value, help).value_parser(values)
 }
 
 /// An option that has to be there.
@@ -215,6 +217,7 @@ fn gate_command<'a>(alloc: Global, views: &'a [&'a str]) -> Result<Command<'a>, 
         .arg(among(
             alloc,
             "view",
+            "VIEW",
             views,
             "numbers",
             "Compare enums by their numbers alone, or by the names of the numbers too",
