@@ -98,11 +98,16 @@ abbrev pub call_with : Bor (List (Bor Text)) → List Text → Option Request
 call_with names words = call_by (fault_of (whole_app names) words) (subcommand_of (whole_app names) words)
 
 -- What the words call for, or that they are no call. A command keeps the reference to the list of names that `--view` takes, and so do
--- clap's definitions; but they read no more of it than the names. So this is said of some reference to just these names.
+-- clap's definitions, and where it lies nobody knows beforehand. So this is said of some reference to just these names. By law it is
+-- the same for each (`OneCall`).
 pub record CallsFor (words : List Text) (called : Option Request) : Type 0 where
   pub names : Bor (List (Bor Text))
   pub are_names : texts names.now ≡ view_names
   pub by_clap : call_with names words ≡ called
+
+-- Words have one call at most, and have none where they are no call: whichever such reference the command keeps.
+abbrev pub OneCall : Type 0
+OneCall = (words : List Text) (a b : Option Request) → CallsFor words a → CallsFor words b → a ≡ b
 
 -- clap doesn't take the words
 abbrev pub IsNoCall : List Text → Type 0

@@ -4,6 +4,7 @@
 mod answer;
 mod call;
 mod error;
+pub mod laws;
 mod print;
 mod program;
 mod relaying;

@@ -1,0 +1,24 @@
+-- Words of the command line, and what they call for.
+use Rattle.std.specs.Prelude.{false, List, [], ◌∷◌, Some, codes}
+use Rattle.clap.specs.Words.{Text}
+use Rattle.pg_dyn.specs.declared.view_name.ViewName.{ViewName}
+use Rattle.pg_dyn.specs.declared.view_name.ViewName.TheVariants as views
+use Rattle.pg_gate.specs.Call.{CallsFor, IsNoCall, Request, gate}
+
+-- `gate` for a type M of two files, and further words
+abbrev pub gate_words : List Text → List Text
+gate_words more = codes "gate" ∷ codes "--old" ∷ codes "o" ∷ codes "--new" ∷ codes "n" ∷ codes "--type" ∷ codes "M" ∷ more
+
+abbrev pub gate_by : ViewName → Request
+gate_by view = gate (record { old_dir = codes "."; new_dir = codes "."; old = codes "o"; new = codes "n" }) (codes "M") false false view
+
+pub record WorkedCalls : Type 0 where
+  pub by_numbers : CallsFor (gate_words (codes "--view" ∷ codes "numbers" ∷ [])) (Some (gate_by views.Numbers))
+  pub by_names : CallsFor (gate_words (codes "--view" ∷ codes "names" ∷ [])) (Some (gate_by views.Names))
+  pub behind_a_mark : CallsFor (gate_words (codes "--view=names" ∷ [])) (Some (gate_by views.Names))
+  pub no_view : CallsFor (gate_words []) (Some (gate_by views.Numbers))
+  pub another_word : IsNoCall (gate_words (codes "--view" ∷ codes "other" ∷ []))
+  pub capitals : IsNoCall (gate_words (codes "--view" ∷ codes "Names" ∷ []))
+  pub empty_word : IsNoCall (gate_words (codes "--view" ∷ [] ∷ []))
+  pub no_word : IsNoCall (gate_words (codes "--view" ∷ []))
+  pub twice : IsNoCall (gate_words (codes "--view" ∷ codes "names" ∷ codes "--view" ∷ codes "names" ∷ []))
