@@ -25,14 +25,20 @@ first_means_numbers (headings.Second other) version view = absurd (omega (arith,
 
 pub one_text_in_each_version : OneTextInEachVersion
 one_text_in_each_version = record {
-  first = λ old new claim texts view. (text_of headings.First (names_of old) (names_of new) claim, record {
-    certifies = record { has_texts = texts; heading = headings.First; viewed = sym view; spelled = refl };
-    version_is = refl;
-  });
-  second = λ old new claim texts. (text_of (headings.Second claim.view) (names_of old) (names_of new) claim, record {
-    certifies = record { has_texts = texts; heading = headings.Second claim.view; viewed = refl; spelled = refl };
-    version_is = refl;
-  });
+  first = λ old new claim texts view. (
+    text_of headings.First (names_of old) (names_of new) claim,
+    record {
+      certifies = record { has_texts = texts; heading = headings.First; viewed = sym view; spelled = refl };
+      version_is = refl;
+    },
+  );
+  second = λ old new claim texts. (
+    text_of (headings.Second claim.view) (names_of old) (names_of new) claim,
+    record {
+      certifies = record { has_texts = texts; heading = headings.Second claim.view; viewed = refl; spelled = refl };
+      version_is = refl;
+    },
+  );
   alone = alone;
   none_by_names = λ old new claim text view is. first_means_numbers is.certifies.heading is.version_is (is.certifies.viewed ∙ view);
 }
