@@ -31,7 +31,9 @@ use Rattle.pg_dyn.specs.Encoding.{child_type, element_type}
 use Rattle.pg_dyn.specs.Fits.{Fits}
 use Rattle.pg_dyn.specs.Comparison.{View, Expected, Alike, is_zero_expected, is_zero_item, hides_zero, shown, same_key, matches, expected, same}
 use Rattle.pg_dyn.specs.Comparison as comparison
-use Rattle.pg_pairs.specs.Comparing.{view_by, HeldFits, IsKeyIf, Keyed, keyed, keyed_if, keyed_shown, IsSingle, value_expected, item_lent, all_match, is_same_beside}
+use Rattle.pg_dyn.specs.declared.view_name.ViewName.{ViewName}
+use Rattle.pg_dyn.specs.ViewNames.{view_named}
+use Rattle.pg_pairs.specs.Comparing.{HeldFits, IsKeyIf, Keyed, keyed, keyed_if, keyed_shown, IsSingle, value_expected, item_lent, all_match, is_same_beside}
 use Rattle.pg_pairs.proofs.SameSteps.{list_if, part_with, seen_keyed, of_number_seen, pointwise-map, copied_fact}
 
 -- ---- contents that fit
@@ -276,9 +278,9 @@ module _ (view : View) (old new : Shape) (a b : TypeId) where
         | false ↦ rest
       ]
 
-read_as : (alike : EnumType → EnumType → ℤ → Bool) (old new : Parts) (n : ℕ) (listed : Bool) (xs : List Keyed) → AllByRecursion (λ (x : Keyed). item_read n (item_seen listed x.1) ≡ item_lent x.1) xs
-read_as alike old new n listed [] = tt
-read_as alike old new n listed (x ∷ xs) = (of x.1, read_as alike old new n listed xs)
+read_as : (view : ViewName) (old new : Parts) (n : ℕ) (listed : Bool) (xs : List Keyed) → AllByRecursion (λ (x : Keyed). item_read n (item_seen listed x.1) ≡ item_lent x.1) xs
+read_as view old new n listed [] = tt
+read_as view old new n listed (x ∷ xs) = (of x.1, read_as view old new n listed xs)
   where
     of : (v : ValueRef) → item_read n (item_seen listed v) ≡ item_lent v
     of (values.Int m) = refl
@@ -288,51 +290,51 @@ read_as alike old new n listed (x ∷ xs) = (of x.1, read_as alike old new n lis
     of (values.Bytes m) = refl
     of (values.Msg m) = refl
 
-module _ (alike : EnumType → EnumType → ℤ → Bool) (old new : Parts) (f g : FieldShape) (v w : Kept) where
+module _ (view : ViewName) (old new : Parts) (f g : FieldShape) (v w : Kept) where
   expected_as : (listed : Bool) → child_type (fields (shape_of old) (type_of v)) f.number ≡ element_type f.element → child_type (fields (shape_of new) (type_of w)) f.number ≡ element_type g.element → (xs : List Keyed) → AllByRecursion (HeldFits (shape_of old) f.element) xs →
-      AllByRecursion (λ (x : Keyed). item_expected (view_by alike old new) (shape_of old) (shape_of new) (type_of v) (type_of w) f.number (item_seen listed x.1) ≡ value_expected alike old new (element_type g.element) x.1) xs
+      AllByRecursion (λ (x : Keyed). item_expected (view_named view old new) (shape_of old) (shape_of new) (type_of v) (type_of w) f.number (item_seen listed x.1) ≡ value_expected view old new (element_type g.element) x.1) xs
   expected_as listed of_old of_new [] h = tt
   expected_as listed of_old of_new (x ∷ xs) h = (one x.1 (item_type (shape_of old) f.element x.1 h.0.1), expected_as listed of_old of_new xs h.1)
     where
-      one : (value : ValueRef) → IsOfType (element_type f.element) value → item_expected (view_by alike old new) (shape_of old) (shape_of new) (type_of v) (type_of w) f.number (item_seen listed value) ≡ value_expected alike old new (element_type g.element) value
+      one : (value : ValueRef) → IsOfType (element_type f.element) value → item_expected (view_named view old new) (shape_of old) (shape_of new) (type_of v) (type_of w) f.number (item_seen listed value) ≡ value_expected view old new (element_type g.element) value
       one (values.Int m) k = refl
       one (values.F32 m) k = refl
       one (values.F64 m) k = refl
       one (values.Text m) k = refl
       one (values.Bytes m) k = refl
-      one (values.Msg m) k = ap₂ (λ s t. comparison.Kept (same (view_by alike old new) (shape_of old) (shape_of new) s t (message_of m.value))) (of_old ∙ sym k) of_new
+      one (values.Msg m) k = ap₂ (λ s t. comparison.Kept (same (view_named view old new) (shape_of old) (shape_of new) s t (message_of m.value))) (of_old ∙ sym k) of_new
 
   module _ (is_old : IsShape (shape_of old)) (fits : Fits (shape_of old) v) (found : field_at (fields (shape_of old) (type_of v)) f.number ≡ Some f) (beside : field_at (fields (shape_of new) (type_of w)) f.number ≡ Some g) where
     -- a field shows what it means where the shown items meet
     pub beside_is : (got other shown_got shown_other : Option (Bor ContentRef))
         → MatchOption got (of_number f.number v ≡ []) (λ c. of_number f.number v ≡ content_seen f.number c.now) → MatchOption other (of_number f.number w ≡ []) (λ c. of_number f.number w ≡ content_seen f.number c.now)
         → IfSome got (λ c. HasKeys c.now) → IfSome got (λ c. FitsWhereFound v f.number c.now) → keyed_if (option_copied shown_got) ≡ keyed_shown (hides_zero f g) (option_copied got) → keyed_if (option_copied shown_other) ≡ keyed_shown (hides_zero f g) (option_copied other)
-        → all_match alike old new f g (keyed_if (option_copied shown_got)) (keyed_if (option_copied shown_other)) ≡ is_same_beside alike old new v w f (field_at (fields (shape_of new) (type_of w)) f.number)
+        → all_match view old new f g (keyed_if (option_copied shown_got)) (keyed_if (option_copied shown_other)) ≡ is_same_beside view old new v w f (field_at (fields (shape_of new) (type_of w)) f.number)
     beside_is got other shown_got shown_other seen seen_other keys held is is_other =
         let n = f.number in
         let hidden = hides_zero f g in
         let of_old : child_type (fields (shape_of old) (type_of v)) f.number ≡ element_type f.element = rw found refl in
         let of_new : child_type (fields (shape_of new) (type_of w)) f.number ≡ element_type g.element = rw beside refl in
-        let first = expected_shown (view_by alike old new) (shape_of old) (shape_of new) (type_of v) (type_of w) (hides_zero f g) f.number v
-        ∙ ap (λ ps. map (put_in (item_expected (view_by alike old new) (shape_of old) (shape_of new) (type_of v) (type_of w))) (filter (is_shown_part (hides_zero f g)) ps)) (of_number_seen f.number v got seen ∙ seen_keyed f.number (option_copied got))
-        ∙ held_as f.number (hides_zero f g) (list_if (option_copied got)) (item_expected (view_by alike old new) (shape_of old) (shape_of new) (type_of v) (type_of w)) (value_expected alike old new (element_type g.element)) (keyed_if (option_copied got))
+        let first = expected_shown (view_named view old new) (shape_of old) (shape_of new) (type_of v) (type_of w) (hides_zero f g) f.number v
+        ∙ ap (λ ps. map (put_in (item_expected (view_named view old new) (shape_of old) (shape_of new) (type_of v) (type_of w))) (filter (is_shown_part (hides_zero f g)) ps)) (of_number_seen f.number v got seen ∙ seen_keyed f.number (option_copied got))
+        ∙ held_as f.number (hides_zero f g) (list_if (option_copied got)) (item_expected (view_named view old new) (shape_of old) (shape_of new) (type_of v) (type_of w)) (value_expected view old new (element_type g.element)) (keyed_if (option_copied got))
         (expected_as (list_if (option_copied got)) of_old of_new (keyed_if (option_copied got)) (keyed_found (shape_of old) v f.number f is_old fits found got keys held))
-        ∙ ap (map (put_held f.number (value_expected alike old new (element_type g.element)))) (sym is) in
+        ∙ ap (map (put_held f.number (value_expected view old new (element_type g.element)))) (sym is) in
         let second = parts_shown (hides_zero f g) f.number w
         ∙ ap (λ ps. map (put_in item_read) (filter (is_shown_part (hides_zero f g)) ps)) (of_number_seen f.number w other seen_other ∙ seen_keyed f.number (option_copied other))
-        ∙ held_as f.number (hides_zero f g) (list_if (option_copied other)) item_read item_lent (keyed_if (option_copied other)) (read_as alike old new f.number (list_if (option_copied other)) (keyed_if (option_copied other)))
+        ∙ held_as f.number (hides_zero f g) (list_if (option_copied other)) item_read item_lent (keyed_if (option_copied other)) (read_as view old new f.number (list_if (option_copied other)) (keyed_if (option_copied other)))
         ∙ ap (map (put_held f.number item_lent)) (sym is_other) in
-        sym (ap (λ o. is_same_beside alike old new v w f o) beside
-        ∙ ap₂ (pointwise (λ (p : Part Expected) (q : Part Item). same_key p.key q.key && matches (view_by alike old new) f g p.item q.item)) first second
-        ∙ pointwise-map (λ (p : Part Expected) (q : Part Item). same_key p.key q.key && matches (view_by alike old new) f g p.item q.item) (put_held f.number (value_expected alike old new (element_type g.element))) (put_held f.number item_lent) (keyed_if (option_copied shown_got)) (keyed_if (option_copied shown_other)))
+        sym (ap (λ o. is_same_beside view old new v w f o) beside
+        ∙ ap₂ (pointwise (λ (p : Part Expected) (q : Part Item). same_key p.key q.key && matches (view_named view old new) f g p.item q.item)) first second
+        ∙ pointwise-map (λ (p : Part Expected) (q : Part Item). same_key p.key q.key && matches (view_named view old new) f g p.item q.item) (put_held f.number (value_expected view old new (element_type g.element))) (put_held f.number item_lent) (keyed_if (option_copied shown_got)) (keyed_if (option_copied shown_other)))
 
     pub beside_with : (got other shown_got shown_other x y : Option (Bor ContentRef))
         → MatchOption got (of_number f.number v ≡ []) (λ c. of_number f.number v ≡ content_seen f.number c.now) → MatchOption other (of_number f.number w ≡ []) (λ c. of_number f.number w ≡ content_seen f.number c.now)
         → IfSome got (λ c. HasKeys c.now) → IfSome got (λ c. FitsWhereFound v f.number c.now) → keyed_if (option_copied shown_got) ≡ keyed_shown (hides_zero f g) (option_copied got) → keyed_if (option_copied shown_other) ≡ keyed_shown (hides_zero f g) (option_copied other)
         → shown_got ≡ x → shown_other ≡ y
-        → all_match alike old new f g (keyed_if (option_copied x)) (keyed_if (option_copied y)) ≡ is_same_beside alike old new v w f (field_at (fields (shape_of new) (type_of w)) f.number)
+        → all_match view old new f g (keyed_if (option_copied x)) (keyed_if (option_copied y)) ≡ is_same_beside view old new v w f (field_at (fields (shape_of new) (type_of w)) f.number)
     beside_with got other shown_got shown_other x y seen seen_other keys held is is_other is_x is_y =
-        ap₂ (λ s t. all_match alike old new f g (keyed_if (option_copied s)) (keyed_if (option_copied t))) (sym is_x) (sym is_y)
+        ap₂ (λ s t. all_match view old new f g (keyed_if (option_copied s)) (keyed_if (option_copied t))) (sym is_x) (sym is_y)
         ∙ beside_is got other shown_got shown_other seen seen_other keys held is is_other
 
 -- ---- a content beside none

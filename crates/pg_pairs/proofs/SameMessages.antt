@@ -13,6 +13,7 @@ use Rattle.pg_schema.specs.Parts.{field_shape, shape_of, type_at}
 use Rattle.pg_schema.specs.Shape.{Shape, FieldShape, IsShape, fields, field_at}
 use Rattle.pg_wire.specs.declared.record.Record.{Record}
 use Rattle.pg_wire.specs.Reads.{seen_record}
+use Rattle.pg_dyn.specs.declared.view_name.ViewName.{ViewName}
 use Rattle.pg_dyn.specs.Kept.{Kept, type_of, message_of, unknown_of}
 use Rattle.pg_dyn.specs.Writing.{bytes_of}
 use Rattle.pg_dyn.specs.Comparison.{records_outside, unshared_bytes, same}
@@ -42,14 +43,14 @@ all_found shape type list is_shape are =
     each-unmap (λ (f : FieldShape). field_at (fields shape type) f.number ≡ Some f) field_shape list
     (subst (AllByRecursion (λ (f : FieldShape). field_at (fields shape type) f.number ≡ Some f)) (sym are) (fields_are_found.2 (fields shape type) (fields_are_found.0 shape type is_shape).rising))
 
-module _ (alike : EnumType → EnumType → ℤ → Bool) (old new : Parts) (v w : Kept) where
+module _ (view : ViewName) (old new : Parts) (v w : Kept) where
   abbrev same_by : FieldShape → Bool
-  same_by f = is_same_beside alike old new v w f (field_at (fields (shape_of new) (type_of w)) f.number)
+  same_by f = is_same_beside view old new v w f (field_at (fields (shape_of new) (type_of w)) f.number)
 
   abbrev outside_same : Bool
   outside_same = bytes_eq (bytes_of (records_outside (fields (shape_of new) (type_of w)) (unknown_of w))) (unshared_bytes (shape_of old) (type_of v) (fields (shape_of new) (type_of w)) (message_of v))
 
-  same_is : is_same alike old new v w ≡ (list_all same_by (fields (shape_of old) (type_of v)) && outside_same)
+  same_is : is_same view old new v w ≡ (list_all same_by (fields (shape_of old) (type_of v)) && outside_same)
   unfolding same
   same_is = ap (λ us. list_all same_by (fields (shape_of old) (type_of v)) && bytes_eq (bytes_of (records_outside (fields (shape_of new) (type_of w)) us)) (unshared_bytes (shape_of old) (type_of v) (fields (shape_of new) (type_of w)) (message_of v))) (unknown_is_kept.0 w)
 
@@ -57,10 +58,10 @@ module _ (alike : EnumType → EnumType → ℤ → Bool) (old new : Parts) (v w
     all_is : list_all same_by (fields (shape_of old) (type_of v)) ≡ so
     all_is = ap (list_all same_by) (sym are) ∙ list_all-map same_by field_shape list ∙ sym is
 
-    pub same_of_none : so ≡ false → false ≡ is_same alike old new v w
+    pub same_of_none : so ≡ false → false ≡ is_same view old new v w
     same_of_none h = sym (same_is ∙ ap (λ b. b && outside_same) (all_is ∙ h))
 
-    pub same_of_all : so ≡ true → outside_same ≡ is_same alike old new v w
+    pub same_of_all : so ≡ true → outside_same ≡ is_same view old new v w
     same_of_all h = sym (same_is ∙ ap (λ b. b && outside_same) (all_is ∙ h))
 
 -- a type that isn't there has no fields

@@ -1,14 +1,14 @@
 -- An old message beside a new one, content by content: whether the new one shows what the old one holds.
-use Rattle.std.specs.Prelude.{ℕ, ◌≤◌, ℤ, ⊤, length, List, [], ◌∷◌, map, filter, Bool, true, not, ◌&&◌, if◌then◌else◌, Option, Some, None, option_map, is_none}
+use Rattle.std.specs.Prelude.{ℕ, ◌≤◌, ⊤, length, List, [], ◌∷◌, map, filter, Bool, true, not, ◌&&◌, if◌then◌else◌, Option, Some, None, option_map, is_none}
 use lib.Pointwise.{pointwise}
-use Rattle.pg_schema.specs.declared.enum_type.EnumType.{EnumType}
 use Rattle.pg_schema.specs.declared.field.Element.{Element}
 use Rattle.pg_schema.specs.declared.field.Element.TheVariants as elements
 use Rattle.pg_schema.specs.declared.field.TypeId.{TypeId}
 use Rattle.pg_schema.specs.declared.parts.Parts.{Parts}
-use Rattle.pg_schema.specs.Parts.{enum_at, shape_of}
+use Rattle.pg_schema.specs.Parts.{shape_of}
 use Rattle.pg_schema.specs.Shape.{Shape, FieldShape, field_at}
 use Rattle.pg_wire.specs.declared.record.Record.{Record}
+use Rattle.pg_dyn.specs.declared.view_name.ViewName.{ViewName}
 use Rattle.pg_dyn.specs.declared.message_ref.ContentRef.{ContentRef}
 use Rattle.pg_dyn.specs.declared.message_ref.ContentRef.TheVariants as contents
 use Rattle.pg_dyn.specs.declared.message_ref.EntryRef.{EntryRef}
@@ -19,41 +19,37 @@ use Rattle.pg_dyn.specs.BorrowedItems.{ItemFits, is_zero_value}
 use Rattle.pg_dyn.specs.Message.{Leaf, Int, Item, Plain, Msg, parts}
 use Rattle.pg_dyn.specs.Kept.{Kept, type_of, message_of}
 use Rattle.pg_dyn.specs.Encoding.{cap, element_type, enc}
-use Rattle.pg_dyn.specs.Comparison.{View, Expected, Alike, same_content, same_key, matches, expected, same}
+use Rattle.pg_dyn.specs.Comparison.{Expected, Alike, same_content, same_key, matches, expected, same}
 use Rattle.pg_dyn.specs.Comparison as comparison
-use Rattle.pg_pairs.specs.Views.{alike_at}
-
--- the numbers that a view finds alike in enums of two schemas
-abbrev pub view_by : (EnumType → EnumType → ℤ → Bool) → Parts → Parts → View
-view_by alike old new = λ a b n. alike_at alike (enum_at old a) (enum_at new b) n
+use Rattle.pg_dyn.specs.ViewNames.{view_named}
 
 -- a value that is lent as an item of a message
 abbrev pub item_lent : ValueRef → Item
 item_lent (values.Msg child) = Msg (message_of child.value)
 item_lent value = Plain (leaf_of value)
 
-module _ (alike : EnumType → EnumType → ℤ → Bool) (old new : Parts) where
+module _ (view : ViewName) (old new : Parts) where
   -- the new message shows what the old one means
   abbrev pub is_same : Kept → Kept → Bool
-  is_same v w = same (view_by alike old new) (shape_of old) (shape_of new) (type_of v) (type_of w) (message_of v) (message_of w)
+  is_same v w = same (view_named view old new) (shape_of old) (shape_of new) (type_of v) (type_of w) (message_of v) (message_of w)
 
   -- it does so in one field of the old type, beside the new type's field of its number
   abbrev pub is_same_beside : Kept → Kept → FieldShape → Option FieldShape → Bool
-  is_same_beside v w f (Some g) = same_content (view_by alike old new) f g (expected (view_by alike old new) (shape_of old) (shape_of new) (type_of v) (type_of w) (message_of v)) (parts (message_of w))
+  is_same_beside v w f (Some g) = same_content (view_named view old new) f g (expected (view_named view old new) (shape_of old) (shape_of new) (type_of v) (type_of w) (message_of v)) (parts (message_of w))
   is_same_beside v w f None = true
 
   -- what an item of a field whose messages are read as that type has to be met by
   abbrev pub value_expected : TypeId → ValueRef → Expected
-  value_expected b (values.Msg child) = comparison.Kept (same (view_by alike old new) (shape_of old) (shape_of new) (type_of child.value) b (message_of child.value))
+  value_expected b (values.Msg child) = comparison.Kept (same (view_named view old new) (shape_of old) (shape_of new) (type_of child.value) b (message_of child.value))
   value_expected b value = Alike (leaf_of value)
 
   -- a leaf of an enum is alike by the view, any other by itself
   abbrev pub is_alike_leaf : Element → Element → Leaf → Bool
-  is_alike_leaf (elements.Enum e) (elements.Enum g) (Int n) = view_by alike old new e g n
+  is_alike_leaf (elements.Enum e) (elements.Enum g) (Int n) = view_named view old new e g n
   is_alike_leaf e g leaf = true
 
   abbrev pub items_match : FieldShape → FieldShape → ValueRef → ValueRef → Bool
-  items_match f g a b = matches (view_by alike old new) f g (value_expected (element_type g.element) a) (item_lent b)
+  items_match f g a b = matches (view_named view old new) f g (value_expected (element_type g.element) a) (item_lent b)
 
 -- a message's encoding isn't too long
 abbrev pub HasEncoding : Shape → Kept → Type 0
@@ -97,9 +93,9 @@ IsSingle (Some (contents.Many vs)) = ⊥
 IsSingle (Some (contents.Map es)) = ⊥
 IsSingle None = ⊤
 
-module _ (alike : EnumType → EnumType → ℤ → Bool) (old new : Parts) where
+module _ (view : ViewName) (old new : Parts) where
   abbrev pub keyed_match : FieldShape → FieldShape → Keyed → Keyed → Bool
-  keyed_match f g x y = same_key (option_map leaf_of x.0) (option_map leaf_of y.0) && items_match alike old new f g x.1 y.1
+  keyed_match f g x y = same_key (option_map leaf_of x.0) (option_map leaf_of y.0) && items_match view old new f g x.1 y.1
 
   -- as many items on both sides, with equal keys, and each is met
   abbrev pub all_match : FieldShape → FieldShape → List Keyed → List Keyed → Bool

@@ -4,7 +4,7 @@ use Rattle.pg_schema.specs.declared.enum_type.EnumType.{EnumType}
 use Rattle.pg_schema.specs.declared.parts.Parts.{Parts}
 use Rattle.pg_dyn.specs.declared.view_name.ViewName.{ViewName}
 use Rattle.pg_dyn.specs.declared.view_name.ViewName.TheVariants as views
-use Rattle.pg_dyn.specs.ViewNames.{alike_under, view_named}
+use Rattle.pg_dyn.specs.ViewNames.{view_named}
 use Rattle.pg_pairs.specs.LeastByName.{least_by_name}
 use Rattle.pg_pairs.specs.EnumView.{EnumView, IsEnumView}
 use Rattle.pg_pairs.specs.Views.{enum_view_of}
@@ -15,7 +15,7 @@ least_under views.Numbers old new zero = None
 least_under views.Names old new zero = least_by_name old new zero
 
 abbrev pub seen_under : ViewName → Parts → Parts → EnumView
-seen_under view old new = enum_view_of (alike_under view) (least_under view) old new
+seen_under view old new = enum_view_of view (least_under view) old new
 
 -- It keeps the law of views, and finds alike what the view of that name does.
 abbrev pub NamedViews : Type 0

@@ -5,4 +5,4 @@ use Rattle.pg_pairs.specs.EnumView.{EnumView}
 use Rattle.pg_pairs.specs.Views.{enum_view_of}
 
 abbrev pub seen_by : {V : Type 0} → Ghosts V → V → Parts → Parts → EnumView
-seen_by members view old new = enum_view_of (members.is_alike view) (members.least_differing view) old new
+seen_by members view old new = enum_view_of members.NAME (members.least_differing view) old new

@@ -28,8 +28,7 @@ use std::alloc::{AllocError, Global};
 fn is_alike<V: View>(sides: &Sides<'_, V>, fields: &Beside<'_>, value: &ValueRef<'_>) -> bool
     requires key { IsKey value.now }
     requires fits { ItemFits (shape_of sides.now.old.now) fields.now.old.now.element value.now }
-    ensures { result ≡ is_alike_leaf
-        (V.is_alike sides.now.view.now) sides.now.old.now sides.now.new.now
+    ensures { result ≡ is_alike_leaf V.NAME sides.now.old.now sides.now.new.now
         fields.now.old.now.element fields.now.new.now.element (leaf_of value.now) }
 {
     let (Element::Enum(old), Element::Enum(new)) = (fields.old.element, fields.new.element) else {
@@ -117,8 +116,7 @@ fn is_same_item<V: View>(
     requires fits { ItemFits (shape_of sides.now.old.now) fields.now.old.now.element value.now }
     requires encoded { ItemHasEncoding (shape_of sides.now.old.now) value.now }
     requires read_fits { ItemFits (shape_of sides.now.new.now) fields.now.new.now.element read.now }
-    ensures { IfOk result (λ is. is ≡ items_match
-        (V.is_alike sides.now.view.now) sides.now.old.now sides.now.new.now
+    ensures { IfOk result (λ is. is ≡ items_match V.NAME sides.now.old.now sides.now.new.now
         (field_shape fields.now.old.now) (field_shape fields.now.new.now) value.now read.now) }
 {
     match (value, read) {
@@ -145,8 +143,7 @@ fn is_same_content<V: View>(
         (keyed content.now) }
     requires read_fits { AllByRecursion (HeldFits (shape_of sides.now.new.now)
         fields.now.new.now.element) (keyed read.now) }
-    ensures { IfOk result (λ is. is ≡ all_match
-        (V.is_alike sides.now.view.now) sides.now.old.now sides.now.new.now
+    ensures { IfOk result (λ is. is ≡ all_match V.NAME sides.now.old.now sides.now.new.now
         (field_shape fields.now.old.now) (field_shape fields.now.new.now) (keyed content.now)
         (keyed read.now)) }
 {
@@ -184,8 +181,8 @@ fn is_same_field<V: View>(
     requires read_fits { Fits (shape_of sides.now.new.now) read.now }
     requires found { field_at (fields (shape_of sides.now.old.now) (type_of message.now))
         field.now.number ≡ Some (field_shape field.now) }
-    ensures { IfOk result (λ is. is ≡ is_same_beside
-        (V.is_alike sides.now.view.now) sides.now.old.now sides.now.new.now message.now read.now
+    ensures { IfOk result (λ is. is ≡ is_same_beside V.NAME sides.now.old.now
+        sides.now.new.now message.now read.now
         (field_shape field.now) (field_at (fields (shape_of sides.now.new.now) (type_of read.now))
         field.now.number)) }
 {
@@ -223,8 +220,8 @@ fn are_same_fields<V: View>(
         field_at (fields (shape_of sides.now.old.now) (type_of message.now)) f.number
         ≡ Some (field_shape f)) list.now }
     ensures { IfOk result (λ is. is ≡ list_all
-        (λ f. is_same_beside (V.is_alike sides.now.view.now) sides.now.old.now sides.now.new.now
-        message.now read.now (field_shape f)
+        (λ f. is_same_beside V.NAME sides.now.old.now sides.now.new.now message.now read.now
+        (field_shape f)
         (field_at (fields (shape_of sides.now.new.now) (type_of read.now)) f.number)) list.now) }
 {
     for field in list {
@@ -251,8 +248,8 @@ pub(crate) fn is_same_message<V: View>(
     requires fits { Fits (shape_of sides.now.old.now) message.now }
     requires encoded { HasEncoding (shape_of sides.now.old.now) message.now }
     requires read_fits { Fits (shape_of sides.now.new.now) read.now }
-    ensures { IfOk result (λ is. is ≡ is_same
-        (V.is_alike sides.now.view.now) sides.now.old.now sides.now.new.now message.now read.now) }
+    ensures { IfOk result (λ is. is ≡ is_same V.NAME sides.now.old.now sides.now.new.now
+        message.now read.now) }
 {
     if let Some(message_type) = sides.old.message_type(message.type_id()) {
         if !are_same_fields(alloc, sides, &message_type.fields, message, read)? {

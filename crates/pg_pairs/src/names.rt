@@ -109,22 +109,17 @@ fn least_missing(values: &[EnumValue], others: &[EnumValue], zero: bool) -> Opti
 }
 
 impl View for Names {
-    ghost use Rattle.std.specs.Prelude.{refl};
     ghost use Rattle.pg_dyn.specs.declared.view_name.ViewName.TheVariants as views;
-    ghost use Rattle.pg_pairs.specs.LeastByName.{alike_by_name, least_by_name};
+    ghost use Rattle.pg_pairs.specs.LeastByName.{least_by_name};
     ghost use Rattle.pg_pairs.specs.NameLaws.{least_by_name_is};
 
     const NAME: ViewName = ViewName::Names;
 
     ghost NAME = { views.Names };
 
-    ghost is_alike = { λ _. alike_by_name };
-
     ghost least_differing = { λ _. least_by_name };
 
     ghost least_is = { λ _. least_by_name_is };
-
-    ghost is_named = { λ _ _ _ _. refl };
 
     fn alike(&self, old: &EnumType, new: &EnumType, number: i32) -> bool {
         !(has_number(&old.values, number) && has_number(&new.values, number))

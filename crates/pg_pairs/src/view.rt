@@ -13,21 +13,19 @@ use pg_schema::EnumType;
 ///
 /// The law `least_is`: `least` gives, of the numbers from -2,147,483,648 to 2,147,483,647 that
 /// aren't alike, without 0 where `zero` is false, one with the shortest body, and of these the
-/// least number; none only where there is no such number. The law `is_named`: it finds a number
-/// alike where the view of its name does.
+/// least number; none only where there is no such number. A view finds a number alike where the
+/// view of its name does.
 pub trait View {
     /// The name of the view.
     const NAME: ViewName;
 
     ghost NAME: { ViewName };
 
-    ghost is_alike: { Self → EnumType → EnumType → ℤ → Bool };
-
     ghost least_differing: { Self → EnumType → EnumType → Bool → Option ℤ };
 
-    /// Whether the number is the same item in both enums.
+    /// Whether the number is the same item in both enums, as the view of that name finds.
     fn alike(&self, old: &EnumType, new: &EnumType, number: i32) -> bool
-        ensures { result ≡ is_alike self.now old.now new.now number };
+        ensures { result ≡ alike_under NAME old.now new.now number };
 
     /// The least of the shortest numbers that aren't alike; 0 only where `zero` says that it
     /// counts.
@@ -35,10 +33,7 @@ pub trait View {
         ensures { result ≡ least_differing self.now old.now new.now zero };
 
     ghost least_is: { (view : Self) (old new : EnumType) (zero : Bool)
-        → IsLeastOf (is_alike view old new) zero (least_differing view old new zero) };
-
-    ghost is_named: { (view : Self) (old new : EnumType) (number : ℤ)
-        → is_alike view old new number ≡ alike_under NAME old new number };
+        → IsLeastOf (alike_under NAME old new) zero (least_differing view old new zero) };
 }
 
 /// The view that finds every number alike.
@@ -46,7 +41,6 @@ pub trait View {
 pub struct Numbers;
 
 impl View for Numbers {
-    ghost use Rattle.std.specs.Prelude.{refl};
     ghost use Rattle.pg_dyn.specs.declared.view_name.ViewName.TheVariants as views;
     ghost use Rattle.pg_pairs.specs.EnumView.{none_differs};
 
@@ -54,13 +48,9 @@ impl View for Numbers {
 
     ghost NAME = { views.Numbers };
 
-    ghost is_alike = { λ _ _ _ _. true };
-
     ghost least_differing = { λ _ _ _ _. None };
 
     ghost least_is = { λ _ _ _ zero. none_differs zero };
-
-    ghost is_named = { λ _ _ _ _. refl };
 
     fn alike(&self, _old: &EnumType, _new: &EnumType, _number: i32) -> bool {
         true

@@ -1,6 +1,6 @@
 use Rattle.std.proofs.Common.{◌≤◌, subst, sym}
 use Rattle.pg_schema.specs.Parts.{shape_of}
-use Rattle.pg_pairs.specs.Views.{enum_view_of}
+use Rattle.pg_pairs.specs.SeenBy.{seen_by}
 use Rattle.pg_cert.specs.Bounds.{bound_in}
 use Rattle.pg_least.specs.Exact.{IsSearched}
 use Rattle.pg_least.proofs.Claims.{bytes_length, never_empty, one_at_least, searched_some}
@@ -9,7 +9,7 @@ use Rattle.pg_least.proofs.searching.broken.Goals as goal
 
 pub unreachable-requires : goal.unreachable-requires
 unreachable-requires g c =
-    let enum_view = enum_view_of (g.V.View.is_alike c.args.view.now) (g.V.View.least_differing c.args.view.now) c.args.old.now c.args.new.now in
+    let enum_view = seen_by g.V.View c.args.view.now c.args.old.now c.args.new.now in
     let old = shape_of c.args.old.now in
     let new = shape_of c.args.new.now in
     let (n, number) = number_there (bound_in c.args.bounds) c.args.root c.requires.number in
@@ -20,7 +20,7 @@ unreachable-requires g c =
 
 pub returns-clause-searched : goal.returns-clause-searched
 returns-clause-searched g c =
-    let enum_view = enum_view_of (g.V.View.is_alike c.args.view.now) (g.V.View.least_differing c.args.view.now) c.args.old.now c.args.new.now in
+    let enum_view = seen_by g.V.View c.args.view.now c.args.old.now c.args.new.now in
     let old = shape_of c.args.old.now in
     let new = shape_of c.args.new.now in
     let (n, number) = number_there (bound_in c.args.bounds) c.args.root c.requires.number in

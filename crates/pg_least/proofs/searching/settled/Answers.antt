@@ -6,7 +6,7 @@ use Rattle.pg_pairs.specs.declared.choice.Pair.{Pair}
 use Rattle.pg_pairs.specs.Covering.{children}
 use Rattle.pg_pairs.specs.Edges.{edge_price, edges, is_pair, no_bounds}
 use Rattle.pg_pairs.specs.LeastCosts.{least_cost}
-use Rattle.pg_pairs.specs.Views.{enum_view_of}
+use Rattle.pg_pairs.specs.SeenBy.{seen_by}
 use Rattle.pg_least.specs.Descent.{IsTableOf}
 use Rattle.pg_least.specs.Least.{IsCounted, IsSettled}
 use Rattle.pg_least.proofs.Exactness.{settled_between}
@@ -29,9 +29,9 @@ returns-clause-table g c =
     let graph = c.new-graph.result in
     let old = shape_of graph.old.now in
     let new = shape_of graph.new.now in
-    if_ok_so (λ found. IsSettled (children old new) (edges old new) (least_cost (enum_view_of (g.V.View.is_alike graph.view.now) (g.V.View.least_differing graph.view.now) graph.old.now graph.new.now) no_bounds old new) (edge_price old) c.args.root found.0)
-    (λ found. IsTableOf (enum_view_of (g.V.View.is_alike c.args.view.now) (g.V.View.least_differing c.args.view.now) c.args.old.now c.args.new.now) (shape_of c.args.old.now) (shape_of c.args.new.now) c.args.root found.0)
-    (λ found settled. settled_between (λ view o n. enum_view_of (g.V.View.is_alike view) (g.V.View.least_differing view) o n) graph.view.now c.args.view.now graph.old.now c.args.old.now graph.new.now c.args.new.now
+    if_ok_so (λ found. IsSettled (children old new) (edges old new) (least_cost (seen_by g.V.View graph.view.now graph.old.now graph.new.now) no_bounds old new) (edge_price old) c.args.root found.0)
+    (λ found. IsTableOf (seen_by g.V.View c.args.view.now c.args.old.now c.args.new.now) (shape_of c.args.old.now) (shape_of c.args.new.now) c.args.root found.0)
+    (λ found settled. settled_between (λ view o n. seen_by g.V.View view o n) graph.view.now c.args.view.now graph.old.now c.args.old.now graph.new.now c.args.new.now
     c.new-graph.ensures.view c.new-graph.ensures.old c.new-graph.ensures.new c.least_costs_are_exact.ensures c.least_costs_by_edges.ensures c.parts.ensures.checked.shape c.args.root found.0 settled) c.settle.result c.settle.ensures.settled
 
 pub returns-clause-counted : goal.returns-clause-counted

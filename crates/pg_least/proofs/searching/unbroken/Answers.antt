@@ -1,13 +1,13 @@
 use Rattle.std.proofs.Common.{subst, sym}
 use Rattle.pg_schema.specs.Parts.{shape_of}
-use Rattle.pg_pairs.specs.Views.{enum_view_of}
+use Rattle.pg_pairs.specs.SeenBy.{seen_by}
 use Rattle.pg_least.specs.Exact.{IsSearched}
 use Rattle.pg_least.proofs.Claims.{searched_none}
 use Rattle.pg_least.proofs.searching.unbroken.Goals as goal
 
 pub returns-clause-searched : goal.returns-clause-searched
 returns-clause-searched g c =
-    let enum_view = enum_view_of (g.V.View.is_alike c.args.view.now) (g.V.View.least_differing c.args.view.now) c.args.old.now c.args.new.now in
+    let enum_view = seen_by g.V.View c.args.view.now c.args.old.now c.args.new.now in
     let old = shape_of c.args.old.now in
     let new = shape_of c.args.new.now in
     subst (IsSearched enum_view old new c.args.root) (sym c.in-Ok.ensures.claim)

@@ -8,7 +8,7 @@ use Rattle.pg_pairs.specs.declared.choice.Pair.{Pair}
 use Rattle.pg_pairs.specs.Carried.{choice_child, ChildGiven, ChildReached, IsOfPair}
 use Rattle.pg_pairs.specs.Choices.{Table}
 use Rattle.pg_pairs.specs.EnumView.{EnumView}
-use Rattle.pg_pairs.specs.Views.{enum_view_of}
+use Rattle.pg_pairs.specs.SeenBy.{seen_by}
 use Rattle.pg_least.proofs.witness.carried.Goals as goal
 
 -- a child that is reached is one that is given
@@ -20,7 +20,7 @@ given enum_view old new table (Some p) (Some m) fits reached of_pair = (fits, of
 
 pub carry-requires : goal.carry-requires
 carry-requires g c =
-    let enum_view = enum_view_of (g.V.View.is_alike c.args.view.now) (g.V.View.least_differing c.args.view.now) c.args.old.now c.args.new.now in
+    let enum_view = seen_by g.V.View c.args.view.now c.args.old.now c.args.new.now in
     let old = shape_of c.args.old.now in
     let new = shape_of c.args.new.now in
     let round = c.requires.round in

@@ -2,7 +2,7 @@ use Rattle.std.proofs.Common.{◌≡◌, ◌∙◌, List, [], ◌∷◌, ◌++�
 use Rattle.pg_schema.specs.Parts.{shape_of}
 use Rattle.pg_pairs.specs.declared.choice.Pair.{Pair}
 use Rattle.pg_pairs.specs.Choices.{number_for}
-use Rattle.pg_pairs.specs.Views.{enum_view_of}
+use Rattle.pg_pairs.specs.SeenBy.{seen_by}
 use Rattle.pg_cert.specs.Bounds.{bound_in}
 use Rattle.pg_cert.specs.declared.bounds.PairBound.{PairBound}
 use Rattle.pg_least.specs.declared.witness.Step.{Step}
@@ -12,7 +12,7 @@ use Rattle.pg_least.proofs.witness.path_with.Goals as goal
 
 pub steps_down-requires-clause-exact : goal.steps_down-requires-clause-exact
 steps_down-requires-clause-exact g c =
-    let enum_view = enum_view_of (g.V.View.is_alike c.args.view.now) (g.V.View.least_differing c.args.view.now) c.args.old.now c.args.new.now in
+    let enum_view = seen_by g.V.View c.args.view.now c.args.old.now c.args.new.now in
     subst (λ (bounds : List PairBound). IsExactTable enum_view (shape_of c.args.old.now) (shape_of c.args.new.now) (bound_in bounds)) (sym c.bounds.ensures) c.requires.searched.exact
 
 pub steps_down-requires-clause-number : goal.steps_down-requires-clause-number
@@ -22,7 +22,7 @@ steps_down-requires-clause-number g c =
 
 pub returns : goal.returns
 returns g c =
-    let enum_view = enum_view_of (g.V.View.is_alike c.args.view.now) (g.V.View.least_differing c.args.view.now) c.args.old.now c.args.new.now in
+    let enum_view = seen_by g.V.View c.args.view.now c.args.old.now c.args.new.now in
     let old = shape_of c.args.old.now in
     let new = shape_of c.args.new.now in
     let steps = c.in_ok-steps.steps.items in

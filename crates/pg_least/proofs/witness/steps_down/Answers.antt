@@ -1,7 +1,7 @@
 use Rattle.std.proofs.Common.{◌≡◌, Some, ap, sym, ◌∙◌, subst}
 use Rattle.pg_schema.specs.Parts.{shape_of}
 use Rattle.pg_pairs.specs.Carried.{choice_child}
-use Rattle.pg_pairs.specs.Views.{enum_view_of}
+use Rattle.pg_pairs.specs.SeenBy.{seen_by}
 use Rattle.pg_cert.specs.Bounds.{bound_in}
 use Rattle.pg_least.specs.Descent.{IsPathDown, first_step}
 use Rattle.pg_least.proofs.Descents.{child_number, costs_less, first_on, last_step, number_of, path_on}
@@ -9,7 +9,7 @@ use Rattle.pg_least.proofs.witness.steps_down.Goals as goal
 
 pub step_at-requires-in-Some-clause-number : goal.step_at-requires-in-Some-clause-number
 step_at-requires-in-Some-clause-number g c =
-    let enum_view = enum_view_of (g.V.View.is_alike c.args.view.now) (g.V.View.least_differing c.args.view.now) c.args.old.now c.args.new.now in
+    let enum_view = seen_by g.V.View c.args.view.now c.args.old.now c.args.new.now in
     let old = shape_of c.args.old.now in
     let new = shape_of c.args.new.now in
     let table = bound_in c.args.bounds.now in
@@ -21,7 +21,7 @@ step_at-requires-in-Some-clause-number g c =
 
 pub loop-child-smaller : goal.loop-child-smaller
 loop-child-smaller g c =
-    let enum_view = enum_view_of (g.V.View.is_alike c.args.view.now) (g.V.View.least_differing c.args.view.now) c.args.old.now c.args.new.now in
+    let enum_view = seen_by g.V.View c.args.view.now c.args.old.now c.args.new.now in
     let old = shape_of c.args.old.now in
     let new = shape_of c.args.new.now in
     let table = bound_in c.args.bounds.now in
@@ -32,7 +32,7 @@ loop-child-smaller g c =
 
 pub loop-child-preserved : goal.loop-child-preserved
 loop-child-preserved g c =
-    let enum_view = enum_view_of (g.V.View.is_alike c.args.view.now) (g.V.View.least_differing c.args.view.now) c.args.old.now c.args.new.now in
+    let enum_view = seen_by g.V.View c.args.view.now c.args.old.now c.args.new.now in
     let old = shape_of c.args.old.now in
     let new = shape_of c.args.new.now in
     let table = bound_in c.args.bounds.now in

@@ -2,7 +2,7 @@
 use Rattle.std.proofs.Common.{◌∙◌, ◌≤◌, ℕ, List, length, subst}
 use Rattle.pg_schema.specs.Parts.{shape_of}
 use Rattle.pg_dyn.specs.Encoding.{cap}
-use Rattle.pg_pairs.specs.Comparing.{view_by}
+use Rattle.pg_dyn.specs.ViewNames.{view_named}
 use Rattle.pg_pairs.proofs.BreakSteps.{lent_answers, lent_within, lent_written, unread_never}
 use Rattle.pg_pairs.proofs.breaking.breaks.Goals as goal
 
@@ -17,7 +17,7 @@ breaks_as_written-requires-clause-within g c =
 pub returns-in-Ok-clause-exact : goal.returns-in-Ok-clause-exact
 returns-in-Ok-clause-exact g c =
     lent_answers c.reads_again.ensures (shape_of c.args.old.now) c.parts.ensures.checked.shape c.args.message.now c.in-Ok.lent c.requires (subst (λ (xs : List ℕ). length xs ≤ cap) c.in_ok-bytes.ensures.ok.0 c.in_ok-bytes.ensures.ok.1) c.as_slice-written.result.now (c.as_slice-written.ensures.value ∙ c.in_ok-bytes.ensures.ok.0) c.type_id.result c.type_id.ensures c.in-Ok.ensures.message c.in-Ok.ensures.fits.1
-    (view_by (g.V.View.is_alike c.args.view.now) c.args.old.now c.args.new.now) (shape_of c.args.new.now) c.args.pair.old c.args.pair.new c.in_ok-breaks_as_written-in-Ok.field-0 c.in_ok-breaks_as_written-in-Ok.ensures
+    (view_named g.V.View.NAME c.args.old.now c.args.new.now) (shape_of c.args.new.now) c.args.pair.old c.args.pair.new c.in_ok-breaks_as_written-in-Ok.field-0 c.in_ok-breaks_as_written-in-Ok.ensures
 
 pub unreachable-requires : goal.unreachable-requires
 unreachable-requires g c =

@@ -42,8 +42,8 @@ is_same_content-is_same_key-requires-clause-second g t c =
 
 pub is_same_content-returns-then-not-is_same_key : goal.is_same_content-returns-then-not-is_same_key
 is_same_content-returns-then-not-is_same_key g t c =
-    let test = keyed_match (g.V.View.is_alike c.args.sides.now.view.now) c.args.sides.now.old.now c.args.sides.now.new.now (field_shape c.args.fields.now.old.now) (field_shape c.args.fields.now.new.now) in
-    let matches = items_match (g.V.View.is_alike c.args.sides.now.view.now) c.args.sides.now.old.now c.args.sides.now.new.now (field_shape c.args.fields.now.old.now) (field_shape c.args.fields.now.new.now) c.held_at-first.result.item.now c.held_at-second.result.item.now in
+    let test = keyed_match g.V.View.NAME c.args.sides.now.old.now c.args.sides.now.new.now (field_shape c.args.fields.now.old.now) (field_shape c.args.fields.now.new.now) in
+    let matches = items_match g.V.View.NAME c.args.sides.now.old.now c.args.sides.now.new.now (field_shape c.args.fields.now.old.now) (field_shape c.args.fields.now.new.now) c.held_at-first.result.item.now c.held_at-second.result.item.now in
     let rest = pointwise test (drop (c.loop-at.at + 1) (keyed c.args.content.now)) (drop (c.loop-at.at + 1) (keyed c.args.read.now)) in
     sym (sym c.loop-at.invariant
     ∙ both_go_on test (keyed c.args.content.now) (keyed c.args.read.now) c.loop-at.at (option_copied c.held_at-first.result.key, c.held_at-first.result.item.now) (option_copied c.held_at-second.result.key, c.held_at-second.result.item.now) c.held_at-first.ensures c.held_at-second.ensures
@@ -63,7 +63,7 @@ is_same_content-is_same_item-requires g t c κs within =
 
 pub is_same_content-returns-then-not-branch : goal.is_same_content-returns-then-not-branch
 is_same_content-returns-then-not-branch g t c =
-    let test = keyed_match (g.V.View.is_alike c.args.sides.now.view.now) c.args.sides.now.old.now c.args.sides.now.new.now (field_shape c.args.fields.now.old.now) (field_shape c.args.fields.now.new.now) in
+    let test = keyed_match g.V.View.NAME c.args.sides.now.old.now c.args.sides.now.new.now (field_shape c.args.fields.now.old.now) (field_shape c.args.fields.now.new.now) in
     let rest = pointwise test (drop (c.loop-at.at + 1) (keyed c.args.content.now)) (drop (c.loop-at.at + 1) (keyed c.args.read.now)) in
     sym (sym c.loop-at.invariant
     ∙ both_go_on test (keyed c.args.content.now) (keyed c.args.read.now) c.loop-at.at (option_copied c.held_at-first.result.key, c.held_at-first.result.item.now) (option_copied c.held_at-second.result.key, c.held_at-second.result.item.now) c.held_at-first.ensures c.held_at-second.ensures
@@ -71,7 +71,7 @@ is_same_content-returns-then-not-branch g t c =
 
 pub is_same_content-loop-at-preserved : goal.is_same_content-loop-at-preserved
 is_same_content-loop-at-preserved g t c =
-    let test = keyed_match (g.V.View.is_alike c.args.sides.now.view.now) c.args.sides.now.old.now c.args.sides.now.new.now (field_shape c.args.fields.now.old.now) (field_shape c.args.fields.now.new.now) in
+    let test = keyed_match g.V.View.NAME c.args.sides.now.old.now c.args.sides.now.new.now (field_shape c.args.fields.now.old.now) (field_shape c.args.fields.now.new.now) in
     let rest = pointwise test (drop (c.loop-at.at + 1) (keyed c.args.content.now)) (drop (c.loop-at.at + 1) (keyed c.args.read.now)) in
     sym (both_go_on test (keyed c.args.content.now) (keyed c.args.read.now) c.loop-at.at (option_copied c.held_at-first.result.key, c.held_at-first.result.item.now) (option_copied c.held_at-second.result.key, c.held_at-second.result.item.now) c.held_at-first.ensures c.held_at-second.ensures
     ∙ ap₂ (λ a b. (a && b) && rest) (sym c.is_same_key.ensures ∙ c.if-not-is_same_key.false) (sym c.in_ok-is_same_item.ensures ∙ c.if-not-branch.false))
@@ -121,30 +121,30 @@ is_same_field-returns-in-Some-Some g t c =
     ap (λ type. field_at (fields (shape_of c.args.sides.now.new.now) type) c.args.field.now.number) (sym c.type_id.ensures) ∙ sym c.in-Some.ensures.shape in
     IfOk-weaker c.is_same_content.result _ _ (λ so h.
     h
-    ∙ beside_with (g.V.View.is_alike c.args.sides.now.view.now) c.args.sides.now.old.now c.args.sides.now.new.now (field_shape c.args.field.now) (field_shape c.in-Some.beside.now) c.args.message.now c.args.read.now c.requires.old_schema.shape c.requires.fits c.requires.found found c.get.result c.get-2.result c.shown-content.result c.shown-other.result (Some c.in-Some-Some.content) (Some c.in-Some-Some.other) c.get.ensures.content c.get-2.ensures.content c.get.ensures.keys c.get.ensures.fits c.shown-content.ensures.items c.shown-other.ensures.items c.in-Some-Some.is-0 c.in-Some-Some.is-1)
+    ∙ beside_with g.V.View.NAME c.args.sides.now.old.now c.args.sides.now.new.now (field_shape c.args.field.now) (field_shape c.in-Some.beside.now) c.args.message.now c.args.read.now c.requires.old_schema.shape c.requires.fits c.requires.found found c.get.result c.get-2.result c.shown-content.result c.shown-other.result (Some c.in-Some-Some.content) (Some c.in-Some-Some.other) c.get.ensures.content c.get-2.ensures.content c.get.ensures.keys c.get.ensures.fits c.shown-content.ensures.items c.shown-other.ensures.items c.in-Some-Some.is-0 c.in-Some-Some.is-1)
     c.is_same_content.ensures
 
 pub is_same_field-returns-in-None-None : goal.is_same_field-returns-in-None-None
 is_same_field-returns-in-None-None g t c =
     let found : field_at (fields (shape_of c.args.sides.now.new.now) (type_of c.args.read.now)) c.args.field.now.number ≡ Some (field_shape c.in-Some.beside.now) =
     ap (λ type. field_at (fields (shape_of c.args.sides.now.new.now) type) c.args.field.now.number) (sym c.type_id.ensures) ∙ sym c.in-Some.ensures.shape in
-    beside_with (g.V.View.is_alike c.args.sides.now.view.now) c.args.sides.now.old.now c.args.sides.now.new.now (field_shape c.args.field.now) (field_shape c.in-Some.beside.now) c.args.message.now c.args.read.now c.requires.old_schema.shape c.requires.fits c.requires.found found c.get.result c.get-2.result c.shown-content.result c.shown-other.result None None c.get.ensures.content c.get-2.ensures.content c.get.ensures.keys c.get.ensures.fits c.shown-content.ensures.items c.shown-other.ensures.items c.in-None-None.is-0 c.in-None-None.is-1
+    beside_with g.V.View.NAME c.args.sides.now.old.now c.args.sides.now.new.now (field_shape c.args.field.now) (field_shape c.in-Some.beside.now) c.args.message.now c.args.read.now c.requires.old_schema.shape c.requires.fits c.requires.found found c.get.result c.get-2.result c.shown-content.result c.shown-other.result None None c.get.ensures.content c.get-2.ensures.content c.get.ensures.keys c.get.ensures.fits c.shown-content.ensures.items c.shown-other.ensures.items c.in-None-None.is-0 c.in-None-None.is-1
 
 pub is_same_field-returns-in_default-2 : goal.is_same_field-returns-in_default-2
 is_same_field-returns-in_default-2 g t c =
     let found : field_at (fields (shape_of c.args.sides.now.new.now) (type_of c.args.read.now)) c.args.field.now.number ≡ Some (field_shape c.in-Some.beside.now) =
     ap (λ type. field_at (fields (shape_of c.args.sides.now.new.now) type) c.args.field.now.number) (sym c.type_id.ensures) ∙ sym c.in-Some.ensures.shape in
-    let test = keyed_match (g.V.View.is_alike c.args.sides.now.view.now) c.args.sides.now.old.now c.args.sides.now.new.now (field_shape c.args.field.now) (field_shape c.in-Some.beside.now) in
+    let test = keyed_match g.V.View.NAME c.args.sides.now.old.now c.args.sides.now.new.now (field_shape c.args.field.now) (field_shape c.in-Some.beside.now) in
     first_alone test (keyed c.in_default-2.field-0-0.now) (shown_filled c.get.result c.shown-content.result c.in_default-2.field-0-0 c.get.ensures.filled c.shown-content.ensures.same c.in_default-2.is-0)
-    ∙ beside_with (g.V.View.is_alike c.args.sides.now.view.now) c.args.sides.now.old.now c.args.sides.now.new.now (field_shape c.args.field.now) (field_shape c.in-Some.beside.now) c.args.message.now c.args.read.now c.requires.old_schema.shape c.requires.fits c.requires.found found c.get.result c.get-2.result c.shown-content.result c.shown-other.result (Some c.in_default-2.field-0-0) None c.get.ensures.content c.get-2.ensures.content c.get.ensures.keys c.get.ensures.fits c.shown-content.ensures.items c.shown-other.ensures.items c.in_default-2.is-0 c.in_default-2.is-1
+    ∙ beside_with g.V.View.NAME c.args.sides.now.old.now c.args.sides.now.new.now (field_shape c.args.field.now) (field_shape c.in-Some.beside.now) c.args.message.now c.args.read.now c.requires.old_schema.shape c.requires.fits c.requires.found found c.get.result c.get-2.result c.shown-content.result c.shown-other.result (Some c.in_default-2.field-0-0) None c.get.ensures.content c.get-2.ensures.content c.get.ensures.keys c.get.ensures.fits c.shown-content.ensures.items c.shown-other.ensures.items c.in_default-2.is-0 c.in_default-2.is-1
 
 pub is_same_field-returns-in_default-2-2 : goal.is_same_field-returns-in_default-2-2
 is_same_field-returns-in_default-2-2 g t c =
     let found : field_at (fields (shape_of c.args.sides.now.new.now) (type_of c.args.read.now)) c.args.field.now.number ≡ Some (field_shape c.in-Some.beside.now) =
     ap (λ type. field_at (fields (shape_of c.args.sides.now.new.now) type) c.args.field.now.number) (sym c.type_id.ensures) ∙ sym c.in-Some.ensures.shape in
-    let test = keyed_match (g.V.View.is_alike c.args.sides.now.view.now) c.args.sides.now.old.now c.args.sides.now.new.now (field_shape c.args.field.now) (field_shape c.in-Some.beside.now) in
+    let test = keyed_match g.V.View.NAME c.args.sides.now.old.now c.args.sides.now.new.now (field_shape c.args.field.now) (field_shape c.in-Some.beside.now) in
     second_alone test (keyed c.in_default-2.field-0-1.now) (shown_filled c.get-2.result c.shown-other.result c.in_default-2.field-0-1 c.get-2.ensures.filled c.shown-other.ensures.same c.in_default-2.is-1)
-    ∙ beside_with (g.V.View.is_alike c.args.sides.now.view.now) c.args.sides.now.old.now c.args.sides.now.new.now (field_shape c.args.field.now) (field_shape c.in-Some.beside.now) c.args.message.now c.args.read.now c.requires.old_schema.shape c.requires.fits c.requires.found found c.get.result c.get-2.result c.shown-content.result c.shown-other.result None (Some c.in_default-2.field-0-1) c.get.ensures.content c.get-2.ensures.content c.get.ensures.keys c.get.ensures.fits c.shown-content.ensures.items c.shown-other.ensures.items c.in_default-2.is-0 c.in_default-2.is-1
+    ∙ beside_with g.V.View.NAME c.args.sides.now.old.now c.args.sides.now.new.now (field_shape c.args.field.now) (field_shape c.in-Some.beside.now) c.args.message.now c.args.read.now c.requires.old_schema.shape c.requires.fits c.requires.found found c.get.result c.get-2.result c.shown-content.result c.shown-other.result None (Some c.in_default-2.field-0-1) c.get.ensures.content c.get-2.ensures.content c.get.ensures.keys c.get.ensures.fits c.shown-content.ensures.items c.shown-other.ensures.items c.in_default-2.is-0 c.in_default-2.is-1
 
 pub is_same_item-is_same_message-requires : goal.is_same_item-is_same_message-requires
 is_same_item-is_same_message-requires g t c κs within =
@@ -190,7 +190,7 @@ pub is_same_message-returns-then-not-branch : goal.is_same_message-returns-then-
 is_same_message-returns-then-not-branch g t c =
     let are : map field_shape c.deref.result.now ≡ fields (shape_of c.args.sides.now.old.now) (type_of c.args.message.now) =
     ap (map field_shape) c.deref.ensures.value ∙ c.in-Some.ensures.fields ∙ ap (fields (shape_of c.args.sides.now.old.now)) c.type_id.ensures in
-    same_of_none (g.V.View.is_alike c.args.sides.now.view.now) c.args.sides.now.old.now c.args.sides.now.new.now c.args.message.now c.args.read.now c.deref.result.now are c.in_ok-are_same_fields.field-0 c.in_ok-are_same_fields.ensures c.if-not-branch.true
+    same_of_none g.V.View.NAME c.args.sides.now.old.now c.args.sides.now.new.now c.args.message.now c.args.read.now c.deref.result.now are c.in_ok-are_same_fields.field-0 c.in_ok-are_same_fields.ensures c.if-not-branch.true
 
 pub is_same_message-returns : goal.is_same_message-returns
 is_same_message-returns g t c =
@@ -198,10 +198,10 @@ is_same_message-returns g t c =
     h
     ∙ elim c.match-message_type.branch [
       | is_same_message-in-Some+in_ok-are_same_fields+else-not-branch w ↦
-          same_of_all (g.V.View.is_alike c.args.sides.now.view.now) c.args.sides.now.old.now c.args.sides.now.new.now c.args.message.now c.args.read.now w.deref.result.now
+          same_of_all g.V.View.NAME c.args.sides.now.old.now c.args.sides.now.new.now c.args.message.now c.args.read.now w.deref.result.now
           (ap (map field_shape) w.deref.ensures.value ∙ w.in-Some.ensures.fields ∙ ap (fields (shape_of c.args.sides.now.old.now)) c.type_id.ensures) w.in_ok-are_same_fields.field-0 w.in_ok-are_same_fields.ensures w.if-not-branch.false
       | is_same_message-in_default w ↦
-          same_of_all (g.V.View.is_alike c.args.sides.now.view.now) c.args.sides.now.old.now c.args.sides.now.new.now c.args.message.now c.args.read.now []
+          same_of_all g.V.View.NAME c.args.sides.now.old.now c.args.sides.now.new.now c.args.message.now c.args.read.now []
           (no_fields c.args.sides.now.old.now (type_of c.args.message.now) (ap (type_at c.args.sides.now.old.now) (sym c.type_id.ensures) ∙ none_is c.message_type.result w.in_default.not-Some (type_at c.args.sides.now.old.now c.type_id.result) c.message_type.ensures.exact)) true refl refl
     ])
     c.is_same_outside.ensures

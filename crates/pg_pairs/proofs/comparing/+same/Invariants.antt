@@ -26,9 +26,9 @@ decreases-is_same_message g l = 8 * weight l.message.now - 4
 
 abbrev pub invariant-are_same_fields-loop-field : goal.invariant-are_same_fields-loop-field
 invariant-are_same_fields-loop-field g l =
-    AllByRecursion (λ (f : Field). is_same_beside (g.V.View.is_alike l.sides.view.now) l.sides.old.now l.sides.new.now l.message l.read (field_shape f) (field_at (fields (shape_of l.sides.new.now) (type_of l.read)) f.number) ≡ true) (take l.field-index l.list)
+    AllByRecursion (λ (f : Field). is_same_beside g.V.View.NAME l.sides.old.now l.sides.new.now l.message l.read (field_shape f) (field_at (fields (shape_of l.sides.new.now) (type_of l.read)) f.number) ≡ true) (take l.field-index l.list)
 
 abbrev pub invariant-is_same_content-loop-at : goal.invariant-is_same_content-loop-at
 invariant-is_same_content-loop-at g l =
-    all_match (g.V.View.is_alike l.sides.view.now) l.sides.old.now l.sides.new.now (field_shape l.fields.old.now) (field_shape l.fields.new.now) (drop l.at (keyed l.content)) (drop l.at (keyed l.read))
-    ≡ all_match (g.V.View.is_alike l.sides.view.now) l.sides.old.now l.sides.new.now (field_shape l.fields.old.now) (field_shape l.fields.new.now) (keyed l.content) (keyed l.read)
+    all_match g.V.View.NAME l.sides.old.now l.sides.new.now (field_shape l.fields.old.now) (field_shape l.fields.new.now) (drop l.at (keyed l.content)) (drop l.at (keyed l.read))
+    ≡ all_match g.V.View.NAME l.sides.old.now l.sides.new.now (field_shape l.fields.old.now) (field_shape l.fields.new.now) (keyed l.content) (keyed l.read)

@@ -1,7 +1,7 @@
 use Rattle.std.proofs.Common.{map, ap, sym, ◌∙◌}
 use Rattle.pg_schema.specs.Parts.{field_shape, shape_of}
 use Rattle.pg_pairs.specs.Cheapest.{cheapest}
-use Rattle.pg_pairs.specs.Views.{enum_view_of}
+use Rattle.pg_pairs.specs.SeenBy.{seen_by}
 use Rattle.pg_pairs.proofs.OptionSteps.{numbers_fit, no_choices}
 use Rattle.pg_pairs.proofs.least_cost.cheapest.Goals as goal
 
@@ -11,4 +11,4 @@ cheapest_of-requires g c = numbers_fit c.args.old.now c.args.pair.old _ c.parts.
 pub returns-in-None : goal.returns-in-None
 returns-in-None g c =
     sym
-    (ap cheapest (no_choices (enum_view_of (g.V.View.is_alike c.args.view.now) (g.V.View.least_differing c.args.view.now) c.args.old.now c.args.new.now) (g.T.Table.bounds c.args.table.now) c.args.old.now (shape_of c.args.new.now) c.args.pair (sym c.in-None.ensures.exact)))
+    (ap cheapest (no_choices (seen_by g.V.View c.args.view.now c.args.old.now c.args.new.now) (g.T.Table.bounds c.args.table.now) c.args.old.now (shape_of c.args.new.now) c.args.pair (sym c.in-None.ensures.exact)))

@@ -1,14 +1,14 @@
 use Rattle.std.proofs.Common.{map, drop, arith}
 use Rattle.pg_schema.specs.Parts.{field_shape, shape_of}
 use Rattle.pg_schema.specs.Shape.{fields}
-use Rattle.pg_pairs.specs.Views.{enum_view_of}
+use Rattle.pg_pairs.specs.SeenBy.{seen_by}
 use Rattle.pg_pairs.proofs.CheapestSteps.{none_at_end, kept_at_end, found_before, kept_before}
 use Rattle.pg_pairs.proofs.least_cost.cheapest_of.Goals as goal
 
 pub loop-at-init : goal.loop-at-init
 loop-at-init g c = record {
   place = omega arith;
-  found = none_at_end (enum_view_of (g.V.View.is_alike c.args.between.now.view.now) (g.V.View.least_differing c.args.between.now.view.now) c.args.between.now.old.now c.args.between.now.new.now) (g.T.Table.bounds c.args.between.now.table.now) (fields (shape_of c.args.between.now.new.now) c.args.type_id) c.args.list.now;
+  found = none_at_end (seen_by g.V.View c.args.between.now.view.now c.args.between.now.old.now c.args.between.now.new.now) (g.T.Table.bounds c.args.between.now.table.now) (fields (shape_of c.args.between.now.new.now) c.args.type_id) c.args.list.now;
   kept = kept_at_end (fields (shape_of c.args.between.now.new.now) c.args.type_id) c.args.list.now c.new-kept.result c.new-kept.ensures.empty;
 }
 
@@ -22,7 +22,7 @@ loop-at-preserved g c =
     record {
       place = omega arith;
       found =
-          found_before c.args.list.now c.loop-at.at f positive small c.index-list-at.is (enum_view_of (g.V.View.is_alike c.args.between.now.view.now) (g.V.View.least_differing c.args.between.now.view.now) c.args.between.now.old.now c.args.between.now.new.now)
+          found_before c.args.list.now c.loop-at.at f positive small c.index-list-at.is (seen_by g.V.View c.args.between.now.view.now c.args.between.now.old.now c.args.between.now.new.now)
           (g.T.Table.bounds c.args.between.now.table.now) gs c.new_oneof.result c.clear.new.self.items c.offer_beside.new.choices.items c.meet.new.choices.items c.deref.result.now c.first_cheapest.result c.loop-at.found c.first_of-found.result
           c.loop-at.invariant.found c.clear.ensures.items c.in_ok-offer_beside.ensures c.new_oneof.ensures met.0 c.deref.ensures.value c.first_cheapest.ensures c.first_of-found.ensures;
       kept = kept_before c.args.list.now c.loop-at.at f positive small c.index-list-at.is gs c.meet.new.kept met.1;

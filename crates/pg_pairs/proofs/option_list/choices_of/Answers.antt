@@ -2,7 +2,7 @@ use Rattle.std.proofs.Common.{length, map, ap, ◌∙◌}
 use Rattle.std.proofs.lemmas.List.{length-map}
 use Rattle.pg_schema.specs.Parts.{field_shape, shape_of}
 use Rattle.pg_schema.specs.Shape.{fields}
-use Rattle.pg_pairs.specs.Views.{enum_view_of}
+use Rattle.pg_pairs.specs.SeenBy.{seen_by}
 use Rattle.pg_pairs.specs.Members.{links, new_oneof}
 use Rattle.pg_pairs.proofs.Joined.{length-links}
 use Rattle.pg_pairs.proofs.OptionSteps.{next_field}
@@ -15,6 +15,6 @@ others_of-requires g c =
 
 pub loop-at-preserved : goal.loop-at-preserved
 loop-at-preserved g c =
-    next_field (enum_view_of (g.V.View.is_alike c.args.between.now.view.now) (g.V.View.least_differing c.args.between.now.view.now) c.args.between.now.old.now c.args.between.now.new.now) (g.T.Table.bounds c.args.between.now.table.now) (fields (shape_of c.args.between.now.new.now) c.args.type_id) c.args.list.now c.loop-at.at c.index-list-at.result
+    next_field (seen_by g.V.View c.args.between.now.view.now c.args.between.now.old.now c.args.between.now.new.now) (g.T.Table.bounds c.args.between.now.table.now) (fields (shape_of c.args.between.now.new.now) c.args.type_id) c.args.list.now c.loop-at.at c.index-list-at.result
     c.loop-at.choices.items c.offer_beside.new.choices.items c.offer_joined.new.choices.items _ c.loop-at-test.true c.index-list-at.is c.loop-at.invariant c.in_ok-offer_beside.ensures
     (c.in_ok-offer_joined.ensures (fields (shape_of c.args.between.now.new.now) c.args.type_id) (c.deref-in-loop-at.ensures.value ∙ c.in_ok-oneofs.ensures) c.index-list-at.result c.index-list-at.is)

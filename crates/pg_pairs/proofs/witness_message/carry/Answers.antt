@@ -6,7 +6,7 @@ use Rattle.pg_dyn.specs.Setting.{IsSetTo}
 use Rattle.pg_pairs.specs.Carried.{carried_field, least_part}
 use Rattle.pg_pairs.specs.CarriedItems.{content_alone, IsTakenBy, Puts}
 use Rattle.pg_pairs.specs.Laws.{ReachedBy}
-use Rattle.pg_pairs.specs.Views.{enum_view_of}
+use Rattle.pg_pairs.specs.SeenBy.{seen_by}
 use Rattle.pg_pairs.proofs.CarryContents.{choice_content, element_there, given_fits}
 use Rattle.pg_pairs.proofs.CarrySteps.{carried_single, carried_double}
 use Rattle.pg_pairs.proofs.Reached.{choice_known, choices_carried}
@@ -16,20 +16,20 @@ use Rattle.pg_dyn.proofs.PublicLaws.{fields_are_found}
 
 pub field_there-field-requires : goal.field_there-field-requires
 field_there-field-requires g c =
-    let enum_view = enum_view_of (g.V.View.is_alike c.args.view.now) (g.V.View.least_differing c.args.view.now) c.args.old.now c.args.new.now in
-    let law = enum_view_seen (g.V.View.is_alike c.args.view.now) (g.V.View.least_differing c.args.view.now) (g.met.V.View.least_is c.args.view.now) c.args.old.now c.args.new.now in
+    let enum_view = seen_by g.V.View c.args.view.now c.args.old.now c.args.new.now in
+    let law = enum_view_seen g.V.View.NAME (g.V.View.least_differing c.args.view.now) (g.met.V.View.least_is c.args.view.now) c.args.old.now c.args.new.now in
     ap is_some (choice_known enum_view law (shape_of c.args.old.now) (shape_of c.args.new.now) c.parts.ensures.checked.shape c.parts-2.ensures.checked.shape c.requires.choice.0 c.args.pair c.args.choice.now c.requires.choice.1).1.found
 
 pub field_there-other-requires : goal.field_there-other-requires
 field_there-other-requires g c =
-    let enum_view = enum_view_of (g.V.View.is_alike c.args.view.now) (g.V.View.least_differing c.args.view.now) c.args.old.now c.args.new.now in
-    let law = enum_view_seen (g.V.View.is_alike c.args.view.now) (g.V.View.least_differing c.args.view.now) (g.met.V.View.least_is c.args.view.now) c.args.old.now c.args.new.now in
+    let enum_view = seen_by g.V.View c.args.view.now c.args.old.now c.args.new.now in
+    let law = enum_view_seen g.V.View.NAME (g.V.View.least_differing c.args.view.now) (g.met.V.View.least_is c.args.view.now) c.args.old.now c.args.new.now in
     ap is_some ((choice_known enum_view law (shape_of c.args.old.now) (shape_of c.args.new.now) c.parts.ensures.checked.shape c.parts-2.ensures.checked.shape c.requires.choice.0 c.args.pair c.args.choice.now c.requires.choice.1).1.second (eq-eqb c.args.choice.now.case 6 c.if-choice-eq6.true)).1
 
 pub field_there-requires : goal.field_there-requires
 field_there-requires g c =
-    let enum_view = enum_view_of (g.V.View.is_alike c.args.view.now) (g.V.View.least_differing c.args.view.now) c.args.old.now c.args.new.now in
-    let law = enum_view_seen (g.V.View.is_alike c.args.view.now) (g.V.View.least_differing c.args.view.now) (g.met.V.View.least_is c.args.view.now) c.args.old.now c.args.new.now in
+    let enum_view = seen_by g.V.View c.args.view.now c.args.old.now c.args.new.now in
+    let law = enum_view_seen g.V.View.NAME (g.V.View.least_differing c.args.view.now) (g.met.V.View.least_is c.args.view.now) c.args.old.now c.args.new.now in
     ap is_some (choice_known enum_view law (shape_of c.args.old.now) (shape_of c.args.new.now) c.parts.ensures.checked.shape c.parts-2.ensures.checked.shape c.requires.choice.0 c.args.pair c.args.choice.now c.requires.choice.1).1.at
 
 pub add-requires-clause-found : goal.add-requires-clause-found
@@ -54,8 +54,8 @@ add-requires-then-choice-eq6-clause-taken g c =
 
 pub returns-then-choice-eq6-clause-made : goal.returns-then-choice-eq6-clause-made
 returns-then-choice-eq6-clause-made g c =
-    let enum_view = enum_view_of (g.V.View.is_alike c.args.view.now) (g.V.View.least_differing c.args.view.now) c.args.old.now c.args.new.now in
-    let law = enum_view_seen (g.V.View.is_alike c.args.view.now) (g.V.View.least_differing c.args.view.now) (g.met.V.View.least_is c.args.view.now) c.args.old.now c.args.new.now in
+    let enum_view = seen_by g.V.View c.args.view.now c.args.old.now c.args.new.now in
+    let law = enum_view_seen g.V.View.NAME (g.V.View.least_differing c.args.view.now) (g.met.V.View.least_is c.args.view.now) c.args.old.now c.args.new.now in
     let old = shape_of c.args.old.now in
     let new = shape_of c.args.new.now in
     let stands = (choice_known enum_view law old new c.parts.ensures.checked.shape c.parts-2.ensures.checked.shape c.requires.choice.0 c.args.pair c.args.choice.now c.requires.choice.1).1 in
@@ -74,8 +74,8 @@ returns-then-choice-eq6-clause-made g c =
 
 pub returns-then-choice-eq6-clause-reached : goal.returns-then-choice-eq6-clause-reached
 returns-then-choice-eq6-clause-reached g c = λ table among reached.
-    let enum_view = enum_view_of (g.V.View.is_alike c.args.view.now) (g.V.View.least_differing c.args.view.now) c.args.old.now c.args.new.now in
-    let law = enum_view_seen (g.V.View.is_alike c.args.view.now) (g.V.View.least_differing c.args.view.now) (g.met.V.View.least_is c.args.view.now) c.args.old.now c.args.new.now in
+    let enum_view = seen_by g.V.View c.args.view.now c.args.old.now c.args.new.now in
+    let law = enum_view_seen g.V.View.NAME (g.V.View.least_differing c.args.view.now) (g.met.V.View.least_is c.args.view.now) c.args.old.now c.args.new.now in
     subst (λ v. ReachedBy enum_view (shape_of c.args.old.now) (shape_of c.args.new.now) c.args.pair v c.args.choice.now.cost) (sym (returns-then-choice-eq6-clause-made g c))
     (choices_carried enum_view (shape_of c.args.old.now) (shape_of c.args.new.now) table law c.parts.ensures.checked.shape c.parts-2.ensures.checked.shape c.args.pair c.args.choice.now among (option_map message_of c.args.child) reached)
 
@@ -92,8 +92,8 @@ add-requires-in-Some-clause-taken g c =
 
 pub unreachable-requires : goal.unreachable-requires
 unreachable-requires g c =
-    let enum_view = enum_view_of (g.V.View.is_alike c.args.view.now) (g.V.View.least_differing c.args.view.now) c.args.old.now c.args.new.now in
-    let law = enum_view_seen (g.V.View.is_alike c.args.view.now) (g.V.View.least_differing c.args.view.now) (g.met.V.View.least_is c.args.view.now) c.args.old.now c.args.new.now in
+    let enum_view = seen_by g.V.View c.args.view.now c.args.old.now c.args.new.now in
+    let law = enum_view_seen g.V.View.NAME (g.V.View.least_differing c.args.view.now) (g.met.V.View.least_is c.args.view.now) c.args.old.now c.args.new.now in
     let old = shape_of c.args.old.now in
     let new = shape_of c.args.new.now in
     let f = field_shape c.field_there-field.result.now in
@@ -103,8 +103,8 @@ unreachable-requires g c =
 
 pub returns-clause-made : goal.returns-clause-made
 returns-clause-made g c =
-    let enum_view = enum_view_of (g.V.View.is_alike c.args.view.now) (g.V.View.least_differing c.args.view.now) c.args.old.now c.args.new.now in
-    let law = enum_view_seen (g.V.View.is_alike c.args.view.now) (g.V.View.least_differing c.args.view.now) (g.met.V.View.least_is c.args.view.now) c.args.old.now c.args.new.now in
+    let enum_view = seen_by g.V.View c.args.view.now c.args.old.now c.args.new.now in
+    let law = enum_view_seen g.V.View.NAME (g.V.View.least_differing c.args.view.now) (g.met.V.View.least_is c.args.view.now) c.args.old.now c.args.new.now in
     let old = shape_of c.args.old.now in
     let new = shape_of c.args.new.now in
     let number = c.field_there-field.result.now.number in
@@ -119,7 +119,7 @@ returns-clause-made g c =
 
 pub returns-clause-reached : goal.returns-clause-reached
 returns-clause-reached g c = λ table among reached.
-    let enum_view = enum_view_of (g.V.View.is_alike c.args.view.now) (g.V.View.least_differing c.args.view.now) c.args.old.now c.args.new.now in
-    let law = enum_view_seen (g.V.View.is_alike c.args.view.now) (g.V.View.least_differing c.args.view.now) (g.met.V.View.least_is c.args.view.now) c.args.old.now c.args.new.now in
+    let enum_view = seen_by g.V.View c.args.view.now c.args.old.now c.args.new.now in
+    let law = enum_view_seen g.V.View.NAME (g.V.View.least_differing c.args.view.now) (g.met.V.View.least_is c.args.view.now) c.args.old.now c.args.new.now in
     subst (λ v. ReachedBy enum_view (shape_of c.args.old.now) (shape_of c.args.new.now) c.args.pair v c.args.choice.now.cost) (sym (returns-clause-made g c))
     (choices_carried enum_view (shape_of c.args.old.now) (shape_of c.args.new.now) table law c.parts.ensures.checked.shape c.parts-2.ensures.checked.shape c.args.pair c.args.choice.now among (option_map message_of c.args.child) reached)
