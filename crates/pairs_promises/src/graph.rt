@@ -1,11 +1,14 @@
 //! What the graph of two schemas answers.
 
 ghost use Rattle.std.specs.Prelude.{◌≡◌, ◌+◌, ◌<◌, ◌^◌, true, IfOk, OnErr, OnOk};
+ghost use Rattle.std.specs.List.{AllByRecursion};
 ghost use Rattle.pg_schema.specs.Parts.{shape_of};
 ghost use Rattle.pg_pairs.specs.Among.{IsAmong};
 ghost use Rattle.pg_pairs.specs.Covering as covering;
 ghost use Rattle.pg_pairs.specs.Edges as prices;
 ghost use Rattle.pg_pairs.specs.LeastCosts.{least_cost};
+ghost use Rattle.pg_pairs.specs.Reached.{IsReachedInOrder};
+ghost use Rattle.pg_pairs.specs.Seen.{AreClosed};
 ghost use Rattle.pg_pairs.specs.SeenBy.{seen_by};
 ghost use Rattle.pg_pairs.specs.Works.{opened_more, relaxed_more};
 
@@ -93,4 +96,21 @@ pub fn edge_cost<V: View>(
     ensures counted { work.new ≡ relaxed_more work.old }
 {
     graph.edge_cost(edge, bound, work)
+}
+
+/// What `reached_pairs` answers.
+pub fn reached_pairs<G: Prices>(
+    alloc: Global,
+    graph: &G,
+    root: Pair,
+) -> Result<Vec<Pair>, AllocError>
+    requires { G.is_known graph.now root ≡ true }
+    ensures in_order { IfOk result (λ pairs. IsReachedInOrder
+        (G.children_of graph.now) root pairs.items) }
+    ensures once { IfOk result (λ pairs. covering.distinct pairs.items ≡ pairs.items) }
+    ensures closed { IfOk result (λ pairs. AreClosed (G.children_of graph.now) pairs.items) }
+    ensures known { IfOk result (λ pairs. AllByRecursion
+        (λ p. G.is_known graph.now p ≡ true) pairs.items) }
+{
+    pg_pairs::reached_pairs(alloc, graph, root)
 }

@@ -22,7 +22,7 @@ ghost use Rattle.pg_pairs.specs.Gaps as gaps;
 ghost use Rattle.pg_pairs.specs.Laws.{ReachedBy};
 ghost use Rattle.pg_pairs.specs.SeenBy.{seen_by};
 
-pub use graph::{base, edge_cost, edges, knows, priced};
+pub use graph::{base, edge_cost, edges, knows, priced, reached_pairs};
 pub use names::{alike_by_name, least_by_name};
 use pg_dyn::{DynError, Message, MessageRef};
 use pg_pairs::{Choice, Gap, Numbers, Pair, Table, View};

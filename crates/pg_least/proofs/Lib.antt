@@ -1,7 +1,5 @@
 pub mod Descents
 pub mod Claims
-pub mod Grown
-pub mod Reaching
 pub mod Listed
 pub mod Unbounded
 pub mod Lists

@@ -7,7 +7,7 @@ use Rattle.pg_pairs.specs.Among.{IsAmong}
 use Rattle.pg_pairs.specs.ByIndices.{by_indices, equal_same}
 use Rattle.pg_pairs.specs.Covering.{same_pair}
 use Rattle.pg_least.specs.Places.{ArePlaces}
-use Rattle.pg_least.proofs.Grown.{same_pair-true}
+use Rattle.pg_least.proofs.Listed.{same_pair-true}
 use Rattle.pg_least.proofs.Steps.{place_cases}
 
 same_pair-refl : (p : Pair) → same_pair p p ≡ true

@@ -1,4 +1,3 @@
-pub mod Pairs
 pub mod Exact
 pub mod Descent
 pub mod Queues

@@ -3,7 +3,6 @@ use Rattle.std.specs.Prelude.{◌≡◌, ℕ, ◌<◌, List, slice_get, is_some,
 use Rattle.std.specs.BTreeMap.{BTreeMap, get}
 use Rattle.pg_pairs.specs.declared.choice.Pair.{Pair}
 use Rattle.pg_pairs.specs.ByIndices.{by_indices}
-pub use Rattle.pg_least.specs.Pairs.{AreClosed}
 use Rattle.pg_least.specs.declared.arcs.Arc.{Arc}
 
 -- a place for each of the first pairs, and only where the pair stands

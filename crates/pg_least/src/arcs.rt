@@ -8,9 +8,10 @@ ghost use Rattle.pg_pairs.specs.declared.choice.Pair.{Pair};
 ghost use Rattle.pg_pairs.specs.declared.edge.Edge.{Edge};
 ghost use Rattle.pg_pairs.specs.Among.{IsAmong};
 ghost use Rattle.pg_pairs.specs.ByIndices.{by_indices};
+ghost use Rattle.pg_pairs.specs.Seen.{AreClosed};
 ghost use Rattle.pg_least.specs.declared.arcs.Arc.{Arc};
 ghost use Rattle.pg_least.specs.Graphs.{AreByChild, arcs_to};
-ghost use Rattle.pg_least.specs.Places.{AreClosed, ArePlaces, IsPlaced};
+ghost use Rattle.pg_least.specs.Places.{ArePlaces, IsPlaced};
 
 use pg_pairs::{Edge, Pair, Prices};
 use std::alloc::{AllocError, Global};

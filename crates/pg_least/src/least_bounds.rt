@@ -8,10 +8,9 @@ ghost use Rattle.pg_cert.specs.Bounds.{is_bound};
 ghost use Rattle.pg_least.specs.Least.{IsCounted, IsSettled, lines, opened_by};
 
 use crate::arcs::arcs_of;
-use crate::reached::reached;
 use crate::relaxing::settle_all;
 use pg_cert::{Bounds, BoundsError, PairBound};
-use pg_pairs::{Pair, Prices, Work};
+use pg_pairs::{Pair, Prices, Work, reached_pairs};
 use std::alloc::{AllocError, Global};
 
 // Puts what the pair costs without a child behind the other costs.
@@ -104,7 +103,7 @@ pub fn settle<G: Prices>(alloc: Global, graph: &G, root: Pair) -> Result<(Bounds
         relaxed: 0,
         opened: 0,
     };
-    let pairs = reached(alloc, graph, root)?;
+    let pairs = reached_pairs(alloc, graph, root)?;
     let mut costs = bases_of(alloc, graph, &pairs, &mut work)?;
     let arcs = arcs_of(alloc, graph, &pairs)?;
     settle_all(alloc, graph, &arcs, &mut costs, &mut work)?;

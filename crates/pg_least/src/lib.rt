@@ -6,7 +6,6 @@ mod arcs;
 pub mod laws;
 mod least_bounds;
 mod queue;
-mod reached;
 mod relaxing;
 mod searching;
 mod witness;

@@ -46,5 +46,6 @@ pub use returning::returns;
 pub use scalar_gap::gap;
 pub use table::Table;
 pub use view::{Numbers, View};
+pub use walking::reached_pairs;
 pub use witness_message::carry;
 pub use work::Work;

@@ -10,7 +10,7 @@ use crate::choice::Pair;
 use crate::priced::Priced;
 use crate::prices::Prices;
 use crate::view::Numbers;
-use crate::walking::reached;
+use crate::walking::reached_pairs;
 use pg_schema::{Field, Presence, Schema, TypeId};
 use std::alloc::{AllocError, Global};
 
@@ -88,6 +88,6 @@ pub fn returns(alloc: Global, old: &Schema, new: &Schema, pair: Pair) -> Result<
         // A type that isn't there has no fields.
         return Ok(true);
     }
-    let pairs = reached(alloc, &graph, pair)?;
+    let pairs = reached_pairs(alloc, &graph, pair)?;
     Ok(!one_packs(old, new, &pairs))
 }

@@ -34,7 +34,7 @@ fn add_unseen(
 /// it was first seen. The graph knows them all.
 ///
 /// Refused only where memory is.
-pub(crate) fn reached<G: Prices>(
+pub fn reached_pairs<G: Prices>(
     alloc: Global,
     graph: &G,
     root: Pair,

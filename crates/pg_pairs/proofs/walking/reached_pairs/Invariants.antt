@@ -2,9 +2,9 @@ use Rattle.std.proofs.Common.{◌≡◌, true, ◌∷◌, flat_map, take}
 use Rattle.std.specs.List.{AllByRecursion}
 use Rattle.pg_pairs.specs.declared.choice.Pair.{Pair}
 use Rattle.pg_pairs.specs.Covering.{distinct}
-use Rattle.pg_least.specs.Pairs.{AreSeen}
+use Rattle.pg_pairs.specs.Seen.{AreSeen}
 use Rattle.pg_pairs.specs.Reached.{LeadsTo}
-use Rattle.pg_least.proofs.reached.reached.Given as goal
+use Rattle.pg_pairs.proofs.walking.reached_pairs.Given as goal
 
 abbrev pub invariant-loop-at : goal.invariant-loop-at
 invariant-loop-at g l =

@@ -6,8 +6,8 @@ use Rattle.pg_pairs.specs.Covering.{distinct}
 use Rattle.pg_pairs.specs.Reached.{LeadsTo, itself}
 use Rattle.pg_pairs.proofs.FirstSeen.{distinct-more}
 use Rattle.pg_pairs.proofs.Reaching.{copied_at, once, next_found, next_led, all_found, all_closed, take_past, next_each, each_at}
-use Rattle.pg_pairs.proofs.walking.reached.Goals as goal
-use Rattle.pg_pairs.proofs.walking.reached.Goals.{else-loop-at-test, then-loop-at-test+in_default}
+use Rattle.pg_pairs.proofs.walking.reached_pairs.Goals as goal
+use Rattle.pg_pairs.proofs.walking.reached_pairs.Goals.{else-loop-at-test, then-loop-at-test+in_default}
 
 none_is : (o : Option Pair) → ((p : Pair) → o ≡ Some p → ⊥) → o ≡ None
 none_is None h = refl
