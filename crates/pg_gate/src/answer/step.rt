@@ -22,7 +22,7 @@ pub struct Step {
 
 /// The lines of steps.
 #[derive(Clone, Copy)]
-pub struct Steps<'a>(pub &'a [Step]);
+pub(crate) struct Steps<'a>(pub &'a [Step]);
 
 impl fmt::Display for NamedField {
     ghost output = { λ it. Some (spec.field_of it) };

@@ -6,11 +6,11 @@ use std::fmt;
 
 /// Two digits a byte.
 #[derive(Clone, Copy)]
-pub struct Digits<'a>(pub &'a [u8]);
+pub(crate) struct Digits<'a>(pub &'a [u8]);
 
 /// The same, with `-` for no bytes.
 #[derive(Clone, Copy)]
-pub struct Hex<'a>(pub &'a [u8]);
+pub(crate) struct Hex<'a>(pub &'a [u8]);
 
 impl fmt::Display for Digits<'_> {
     ghost output = { λ it. Some (spec.digits_of it.0.now) };

@@ -40,7 +40,7 @@ pub enum Finding {
 
 /// What is found of the types of this name. A certificate names its own.
 #[derive(Clone, Copy)]
-pub struct Report<'a> {
+pub(crate) struct Report<'a> {
     pub root: &'a str,
     pub finding: &'a Finding,
 }
