@@ -1,32 +1,35 @@
 #!/usr/bin/env bash
-# How deep a nest of messages may be decoded, tested, encoded and dropped on a stack of so many KiB: by children, lists and maps; how
-# deep a witness `protogate gate` builds; and how deep a one `protogate verify` reads, behind what it says of the longest chain of types.
+# How deep messages in messages may be read, tested, written, copied and dropped on a stack of so many KiB: in fields, in lists and in
+# maps; how deep a witness `protogate gate` builds; and how deep a one `protogate verify` reads, behind what it says of the longest chain
+# of types.
 # usage: bench/depth.sh [FOLDER [KIB [KIND..]]]    FOLDER keeps the built program for the next run; by default the stack has 8,192 KiB.
-# KIND is children, lists, maps, gate or verify; by default all. PROTOGATE names the program that gate and verify run; by default it is
-# built.
+# KIND is gate, verify, or CALLS:NEST; by default all. CALLS is own (messages that own their parts), lent (those that borrow them), relay
+# or breaks, NEST is fields, lists or maps. PROTOGATE names the program that gate and verify run; by default it is built.
 set -eu
 top=$(cd "$(dirname "$0")/.." && pwd)
 work=${1:-$(mktemp -d)}
 stack=${2:-8192}
 shift $(($# < 2 ? $# : 2))
-[ $# -gt 0 ] || set -- children lists maps gate verify
+[ $# -gt 0 ] || set -- {own,lent,relay,breaks}:{fields,lists,maps} gate verify
 . "$top/bench/build.sh"
 protogate=${PROTOGATE:-$top/crates/protogate/out/protogate}
 case " $* " in
     *" gate "* | *" verify "*) [ -n "${PROTOGATE:-}" ] || "$top/protogate" --help > "$work/help.txt" || true ;;
 esac
 case " $* " in
-    *" children "* | *" lists "* | *" maps "*) build_bench "$top" "$work" depth depth_main.rt.txt "pg_wire pg_schema pg_dyn anyhow" ;;
+    *:*) build_bench "$top" "$work" depth depth_main.rt.txt "pg_wire pg_schema pg_dyn pg_pairs pg_gate anyhow" ;;
 esac
 ulimit -S -s "$stack"
 
+# The number by which the program knows a nest.
+number() {
+    case $1 in fields) echo 1 ;; lists) echo 2 ;; maps) echo 3 ;; esac
+}
+
 # What is said last of a nest of the kind and as many levels.
 last() {
-    local depth="$work/crates/depth/out/depth"
     case $1 in
-        children) "$depth" 1 "$2" 2>&1 || true ;;
-        lists) "$depth" 2 "$2" 2>&1 || true ;;
-        maps) "$depth" 3 "$2" 2>&1 || true ;;
+        *:*) "$work/crates/depth/out/depth" "${1%:*}" "$(number "${1#*:}")" "$2" 2>&1 || true ;;
         gate)
             python3 "$top/bench/circles.py" "$work/circles" "$2" > "$work/levels.txt"
             (cd "$work/circles" && "$protogate" gate --old old.proto --new new.proto --type T1 > said.txt 2>&1 || echo "status $?")
@@ -40,7 +43,7 @@ last() {
 
 # What is said of a nest that is not too deep.
 whole() {
-    case $1 in gate) echo "status 1" ;; verify) echo "refused E807" ;; *) echo dropped ;; esac
+    case $1 in gate) echo "status 1" ;; verify) echo "refused E807" ;; *) echo end ;; esac
 }
 
 # The gate's certificate of a chain of 4,096 types, the most that there may be, and what `verify` says of it.
