@@ -32,6 +32,7 @@ pub mod Reached
 pub mod Seen
 pub mod Returns
 pub mod Home
+pub mod ComesHome
 pub mod HomeExamples
 pub mod ReadBack
 pub mod LeastOf

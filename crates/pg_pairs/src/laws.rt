@@ -3,6 +3,7 @@
 ghost use Rattle.std.specs.Prelude.{◌≡◌};
 ghost use Rattle.pg_pairs.specs.Carried.{EachChildCostsLess, EachChoiceIsCarried};
 ghost use Rattle.pg_pairs.specs.Cheapest.{CheapestIsLeast};
+ghost use Rattle.pg_pairs.specs.ComesHome.{MessagesComeHome};
 ghost use Rattle.pg_pairs.specs.Contents.{ContentsCost};
 ghost use Rattle.pg_pairs.specs.Edges.{ChoicesByEdges, LeastCostsByEdges};
 ghost use Rattle.pg_pairs.specs.ElementGaps.{ElementGaps, UnseenAreNotZero};
@@ -174,4 +175,11 @@ pub fn least_costs_by_edges()
 /// One pair more at the end of a list stands among its distinct pairs if it isn't one of them.
 pub fn one_pair_more()
     ensures { OnePairMore }
+{}
+
+/// Where two types are compatible under a view and the pair returns, each plain message of the old
+/// type comes home: what the old type reads after a program with the new one has relayed it is
+/// home.
+pub fn messages_come_home()
+    ensures { MessagesComeHome }
 {}

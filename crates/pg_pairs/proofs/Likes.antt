@@ -1,0 +1,52 @@
+-- Like elements, either way round.
+use Rattle.std.proofs.Common.{◌≡◌, true, refl, subst}
+use Rattle.pg_schema.specs.declared.field.Element.{Element}
+use Rattle.pg_schema.specs.declared.field.Element.TheVariants as elements
+use Rattle.pg_dyn.specs.Coding.{Form, Integer, Single, Double, Text, Raw, form}
+use Rattle.pg_dyn.specs.Content.{same_wire}
+use Rattle.pg_dyn.proofs.Plain.{same_wire_self}
+use Rattle.pg_pairs.specs.Likeness.{like, like_forms}
+use Rattle.pg_pairs.proofs.Likeness.{same_wire-true}
+use Rattle.pg_pairs.proofs.GapItems.{IsLeafy}
+
+forms_self : (f : Form) → like_forms f f ≡ true
+forms_self (Integer w) = same_wire_self w.wire
+forms_self Single = refl
+forms_self Double = refl
+forms_self Text = refl
+forms_self Raw = refl
+
+pub like_self : (e : Element) → like e e ≡ true
+like_self (elements.Scalar s) = forms_self (form (elements.Scalar s))
+like_self (elements.Enum s) = forms_self (form (elements.Enum s))
+like_self (elements.Message s) = refl
+
+forms_back : (f g : Form) → like_forms f g ≡ true → like_forms g f ≡ true
+forms_back (Integer a) (Integer b) h = subst (λ w. same_wire w a.wire ≡ true) (same_wire-true a.wire b.wire h) (same_wire_self a.wire)
+forms_back Single Single h = refl
+forms_back Double Double h = refl
+forms_back Text Text h = refl
+forms_back Text Raw h = refl
+forms_back Raw Text h = refl
+forms_back Raw Raw h = refl
+forms_back a b h = absurd (cc)
+
+pub like_back : (e d : Element) → like e d ≡ true → like d e ≡ true
+like_back (elements.Message s) (elements.Message t) h = refl
+like_back (elements.Message s) (elements.Scalar t) h = absurd (cc)
+like_back (elements.Message s) (elements.Enum t) h = absurd (cc)
+like_back (elements.Scalar s) (elements.Message t) h = absurd (cc)
+like_back (elements.Enum s) (elements.Message t) h = absurd (cc)
+like_back (elements.Scalar s) (elements.Scalar t) h = forms_back (form (elements.Scalar s)) (form (elements.Scalar t)) h
+like_back (elements.Scalar s) (elements.Enum t) h = forms_back (form (elements.Scalar s)) (form (elements.Enum t)) h
+like_back (elements.Enum s) (elements.Scalar t) h = forms_back (form (elements.Enum s)) (form (elements.Scalar t)) h
+like_back (elements.Enum s) (elements.Enum t) h = forms_back (form (elements.Enum s)) (form (elements.Enum t)) h
+
+pub leafy_beside : (e d : Element) → like e d ≡ true → IsLeafy e → IsLeafy d
+leafy_beside (elements.Scalar s) (elements.Scalar t) h leafy = tt
+leafy_beside (elements.Scalar s) (elements.Enum t) h leafy = tt
+leafy_beside (elements.Enum s) (elements.Scalar t) h leafy = tt
+leafy_beside (elements.Enum s) (elements.Enum t) h leafy = tt
+leafy_beside (elements.Scalar s) (elements.Message t) h leafy = absurd (cc)
+leafy_beside (elements.Enum s) (elements.Message t) h leafy = absurd (cc)
+leafy_beside (elements.Message s) d h leafy = absurd leafy

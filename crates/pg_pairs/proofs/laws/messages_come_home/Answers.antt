@@ -1,0 +1,5 @@
+use Rattle.pg_pairs.proofs.Home as Home
+use Rattle.pg_pairs.proofs.laws.messages_come_home.Goals as goal
+
+pub returns : goal.returns
+returns c = Home.messages_come_home
