@@ -4,7 +4,7 @@ ghost use Rattle.std.specs.Prelude.{◌≡◌, ◌<◌, ◌≤◌, length, Some,
 ghost use Rattle.pg_schema.specs.Parts.{shape_of};
 ghost use Rattle.pg_dyn.specs.Encoding.{cap};
 ghost use Rattle.pg_pairs.specs.Home.{relayed};
-ghost use Rattle.pg_gate.specs.Relaying.{IsRelayError};
+ghost use Rattle.pg_gate.specs.Relaying.{BringsHome, IsRelayError};
 
 use pg_dyn::DynError;
 use pg_pairs::Pair;
@@ -23,6 +23,8 @@ pub fn relay(
     ensures relayed { IfOk result (λ again. relayed (shape_of new.now) pair.new bytes.now
         ≡ Some again.items) }
     ensures short { IfOk result (λ again. length again.items ≤ cap) }
+    ensures home { IfOk result (λ again.
+        BringsHome (shape_of old.now) (shape_of new.now) pair bytes.now again.items) }
     ensures refused { IfErr result (IsRelayError (shape_of new.now) pair.new bytes.now) }
 {
     pg_gate::relay(alloc, old, new, pair, bytes)

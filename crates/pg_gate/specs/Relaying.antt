@@ -1,13 +1,30 @@
--- Why bytes aren't relayed.
-use Rattle.std.specs.Prelude.{◌≡◌, ℕ, ◌<◌, ⊤, List, length, Some, None}
+-- What comes home of a message that is relayed, and why bytes aren't relayed.
+use Rattle.std.specs.Prelude.{◌≡◌, ℕ, ◌<◌, ◌≤◌, ⊤, List, length, true, Some, None}
 use Rattle.pg_schema.specs.declared.field.TypeId.{TypeId}
 use Rattle.pg_schema.specs.Shape.{Shape}
 use Rattle.pg_dyn.specs.declared.error.DynError.{DynError}
 use Rattle.pg_dyn.specs.declared.error.DynError.TheVariants as errors
 use Rattle.pg_dyn.specs.Decoding.{dec}
 use Rattle.pg_dyn.specs.Encoding.{cap, enc}
-use Rattle.pg_dyn.specs.Message.{Message}
+use Rattle.pg_dyn.specs.Message.{Message, IsPlain}
 use Rattle.pg_dyn.specs.Refusals.{MayRefuseUnlimited}
+use Rattle.pg_dyn.specs.Belonging.{IsMessage}
+use Rattle.pg_dyn.specs.Breaking.{Compatible}
+use Rattle.pg_dyn.specs.Comparison.{View}
+use Rattle.pg_pairs.specs.declared.choice.Pair.{Pair}
+use Rattle.pg_pairs.specs.Home.{home}
+use Rattle.pg_pairs.specs.Returns.{Returns}
+
+-- the old type reads the bytes, and what it reads is home to v
+abbrev pub IsHomeIn : Shape → Shape → Pair → Message → List ℕ → Type 0
+IsHomeIn old new pair v bytes = (x : Message) × (dec old pair.old bytes ≡ Some x) × (home old new pair.old pair.new v x ≡ true)
+
+-- Where the types are compatible under a view, and the pair returns, a plain old message that these bytes are the encoding of is home
+-- in the others.
+abbrev pub BringsHome : Shape → Shape → Pair → List ℕ → List ℕ → Type 0
+BringsHome old new pair bytes again =
+    (view : View) → Compatible view old new pair.old pair.new → Returns old new pair →
+    (v : Message) → IsMessage old pair.old v → IsPlain v → enc old pair.old v ≡ bytes → length bytes ≤ cap → IsHomeIn old new pair v again
 
 -- they are read as a message without an encoding
 pub record HasNone (shape : Shape) (type : TypeId) (bytes : List ℕ) : Type 0 where

@@ -4,10 +4,11 @@ ghost use Rattle.std.specs.Prelude.{◌≡◌, ◌<◌, ◌≤◌, length, Some,
 ghost use Rattle.pg_schema.specs.Parts.{shape_of};
 ghost use Rattle.pg_dyn.specs.Encoding.{cap};
 ghost use Rattle.pg_pairs.specs.Home.{relayed};
-ghost use Rattle.pg_gate.specs.Relaying.{IsRelayError};
+ghost use Rattle.pg_gate.specs.Relaying.{BringsHome, IsRelayError};
 
 use pg_dyn::{DynError, decode_unlimited, encode};
 use pg_pairs::Pair;
+use pg_pairs::laws::messages_come_home;
 use pg_schema::Schema;
 use std::alloc::Global;
 
@@ -15,12 +16,16 @@ use std::alloc::Global;
 /// them as by the pair's new type, which its schema has, at any depth. Records that the type
 /// doesn't accept stand behind its own fields, byte for byte and in the order read.
 ///
+/// Where the bytes are those of a plain message of the pair's old type, the two types are compatible
+/// under a view, and `pg_pairs::returns` says so of the pair, the old type reads what is handed on,
+/// and each of its fields shows what it did.
+///
 /// The errors are `Wire` and `NotUtf8`, of bytes that have no reading, as `pg_dyn::decode` tells
 /// them; `TooLong`, where what is read has an encoding of more than 2,147,483,647 bytes; and
 /// `Memory`.
 pub fn relay(
     alloc: Global,
-    _old: &Schema,
+    old: &Schema,
     new: &Schema,
     pair: Pair,
     bytes: &[u8],
@@ -29,8 +34,14 @@ pub fn relay(
     ensures relayed { IfOk result (λ again. relayed (shape_of new.now) pair.new bytes.now
         ≡ Some again.items) }
     ensures short { IfOk result (λ again. length again.items ≤ cap) }
+    ensures home { IfOk result (λ again.
+        BringsHome (shape_of old.now) (shape_of new.now) pair bytes.now again.items) }
     ensures refused { IfErr result (IsRelayError (shape_of new.now) pair.new bytes.now) }
 {
+    messages_come_home();
+    // What holds of every schema.
+    old.parts();
+    new.parts();
     let message = decode_unlimited(alloc, new, pair.new, bytes)?;
     encode(alloc, new, &message)
 }

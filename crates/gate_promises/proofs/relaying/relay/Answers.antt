@@ -7,5 +7,8 @@ returns-clause-relayed c = search rules
 pub returns-clause-short : goal.returns-clause-short
 returns-clause-short c = search rules
 
+pub returns-clause-home : goal.returns-clause-home
+returns-clause-home c = search rules
+
 pub returns-clause-refused : goal.returns-clause-refused
 returns-clause-refused c = search rules
