@@ -1,5 +1,5 @@
 //! The whole program: words, call, answer, text, sink and status.
-ghost use Rattle.std.specs.Prelude.{◌≡◌, ◌≢◌, ◌+◌, IfErr, IfOk, IsErrOf, OnOk};
+ghost use Rattle.std.specs.Prelude.{◌≡◌, ◌≢◌, ◌⊎◌, ◌+◌, IfErr, IfOk, IsErrOf, OnOk};
 ghost use Rattle.clap.specs.Walk.{texts};
 ghost use Rattle.clap.specs.Words.{kind_of};
 ghost use Rattle.pg_gate.specs.Call.{IsCall, IsNoCall, request_of};
@@ -73,12 +73,14 @@ pub fn run<S: Sources, T: Sources, W: Sink>(
         (seen (T.may_give new.old) (T.may_lack new.old) (T.failures new.old) (T.failures new.new)))
         (texts words.now) status (W.taken sink.old) (W.taken sink.new)) }
 
-    // A sink that fails took a beginning of it, and memory that fails leaves the sink alone.
-    ensures begun { IsErrOf result GateError.WriteFailed → ¬ (IsNoCall (texts words.now)) → Begins
+    // A sink that fails took a beginning of it; or `clap` does not take the words, and the sources
+    // are as they were. Memory that fails leaves the sink alone.
+    ensures begun { IsErrOf result GateError.WriteFailed → Begins
         (Grants (seen (S.may_give old.old) (S.may_lack old.old)
         (S.failures old.old) (S.failures old.new))
         (seen (T.may_give new.old) (T.may_lack new.old) (T.failures new.old) (T.failures new.new)))
-        (texts words.now) (W.taken sink.old) (W.taken sink.new) }
+        (texts words.now) (W.taken sink.old) (W.taken sink.new)
+        ⊎ (IsNoCall (texts words.now) × (old.new ≡ old.old) × (new.new ≡ new.old)) }
     ensures only { IfErr result IsRunError }
     ensures untouched { IsErrOf result GateError.Memory → W.taken sink.new ≡ W.taken sink.old }
     ensures kept { Keeps (W.taken sink.old) (W.taken sink.new) }

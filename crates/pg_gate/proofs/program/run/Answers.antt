@@ -1,4 +1,4 @@
-use Rattle.std.proofs.Common.{refl}
+use Rattle.std.proofs.Common.{refl, inr}
 use Rattle.std.proofs.lemmas.Result.{IfOk-weaker}
 use Rattle.pg_gate.specs.Call.{request_of}
 use Rattle.pg_gate.specs.Run.{answered, unfailed}
@@ -10,7 +10,7 @@ pub returns-in-Err-clause-usage : goal.returns-in-Err-clause-usage
 returns-in-Err-clause-usage g c = IfOk-weaker c.usage.result _ _ (λ status is same. c.in-Err.ensures.refused is.1) c.usage.ensures.usage
 
 pub returns-in-Err-clause-begun : goal.returns-in-Err-clause-begun
-returns-in-Err-clause-begun g c = λ failed call. absurd (call (c.in-Err.ensures.refused (c.usage.ensures.refused failed)))
+returns-in-Err-clause-begun g c = λ failed. inr (c.in-Err.ensures.refused (c.usage.ensures.refused failed), refl, refl)
 
 -- Where memory runs out before an answer is found, no source failed. Behind it each failed as the answer says.
 pub returns-in-Err-clause-lacking : goal.returns-in-Err-clause-lacking
