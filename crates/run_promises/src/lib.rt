@@ -3,11 +3,11 @@
 //! reads leave, aren't said again.
 #![tactic(auto)]
 
-ghost use Rattle.std.specs.Prelude.{◌≡◌, ◌≢◌, IfOk, IsErrOf};
+ghost use Rattle.std.specs.Prelude.{◌≡◌, ◌≢◌, ◌⊎◌, ◌+◌, IfErr, IfOk, IsErrOf};
 ghost use Rattle.clap.specs.Walk.{texts};
 ghost use Rattle.pg_gate.specs.Call.{IsCall, IsNoCall};
 ghost use Rattle.pg_gate.specs.Grants.{Grants, seen};
-ghost use Rattle.pg_gate.specs.Run.{MayLack, Prints};
+ghost use Rattle.pg_gate.specs.Run.{Begins, IsRunError, MayLack, Prints, failures_in};
 
 use pg_gate::{GateError, Sink};
 use pg_link::Sources;
@@ -66,4 +66,28 @@ pub fn run_unanswered<S: Sources, T: Sources, W: Sink>(
         × (T.failures new.new ≡ T.failures new.old)) }
 {
     pg_gate::run(alloc, given, old, new, sink)
+}
+
+/// What `run` leaves of its sink where it fails, and how it ends then.
+pub fn run_failed<S: Sources, T: Sources, W: Sink>(
+    alloc: Global,
+    asked: &[&str],
+    old: &mut S,
+    new: &mut T,
+    sink: &mut W,
+) -> Result<u8, GateError>
+    // A sink that fails took a beginning of the text; or `clap` does not take the words, and the
+    // sources are as they were. Memory that fails leaves the sink alone.
+    ensures begun { IsErrOf result GateError.WriteFailed → Begins
+        (Grants (seen (S.may_give old.old) (S.may_lack old.old)
+        (S.failures old.old) (S.failures old.new))
+        (seen (T.may_give new.old) (T.may_lack new.old) (T.failures new.old) (T.failures new.new)))
+        (texts asked.now) (W.taken sink.old) (W.taken sink.new)
+        ⊎ (IsNoCall (texts asked.now) × (old.new ≡ old.old) × (new.new ≡ new.old)) }
+    ensures only { IfErr result IsRunError }
+    ensures untouched { IsErrOf result GateError.Memory → W.taken sink.new ≡ W.taken sink.old }
+    // Its count rose by one where it ends so, and by none else.
+    ensures counted { W.failures sink.new ≡ W.failures sink.old + failures_in result }
+{
+    pg_gate::run(alloc, asked, old, new, sink)
 }
