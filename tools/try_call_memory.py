@@ -101,7 +101,7 @@ CALLS = [
     Rows("search", "answer_rows", ["search of four steps down to no change", "search of a bound that falls"]),
     Rows("search_counted", "answer_rows", ["work of a type that holds itself and changes"]),
     Rows("settle", "answer_rows", ["bounds of a graph in which an edge costs three times the bound"]),
-    Rows("way", "answer_rows", ["way of four steps down"]),
+    Rows("path", "answer_rows", ["way of four steps down"]),
     # The bounds come back as the row spells them.
     Rows("Bounds::new", "answer_rows", ["bounds of two pairs make a table"], ["Memory 0 0 2147483647, 1 0 none"]),
     Rows("Bounds::new", "answer_rows", ["a pair twice makes no table"], ["Memory 0 0 none, 0 0 2"]),
