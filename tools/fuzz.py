@@ -1,27 +1,31 @@
 #!/usr/bin/env python3
 """Runs the built program on texts, descriptor sets, certificates and messages that are changed at random, and judges its answers.
 
-    tools/fuzz.py [--seed N] [--count N] [--seconds N] [--jobs N] [--only KIND:NUMBER] [--folder FOLDER] [PROGRAM]
+    tools/fuzz.py [--seed N] [--count N] [--seconds N] [--least N] [--jobs N] [--only KIND:NUMBER] [--folder FOLDER] [PROGRAM]
 
 KIND is text, set, certificate or message. Of each kind COUNT inputs are tried (20,000 by default), as far as SECONDS allow (120), by
 as many processes side by side as there are processors. What is changed are the repository's own inputs (tools/fuzz_seeds.py), one to
-four times each (tools/fuzz_changes.py). The input of a kind and number is the same for a seed, however many are tried.
+four times each (tools/fuzz_changes.py). The input of a kind and number is the same for a seed, however many are tried. A machine may be
+too slow for all of them; but where fewer than LEAST of a kind were tried, the run fails. By default that is a twentieth of COUNT: with
+1,000 inputs nearly every way of changing one comes over fifty times, and a machine that tries fewer in two minutes is stuck, not slow.
 
 Asked of every run: it ends within ten seconds with a status from 0 to 5, by no signal, with nothing on standard error, and prints
 just what docs/USAGE.md and docs/REFUSALS.md say of that subcommand and status. Asked of what is accepted:
 
 - text: what `compile` refuses, `gate` refuses alike; the set that `compile` writes is one for `show`, and for protoc where it is there
-- text, set: the certificate of `gate --cert` passes `verify`, with the same status and length; `--both` begins with the answer; the
-  witness has its length, and the old side reads it and writes it again
+- text, set: the certificate of `gate --cert` passes `verify`, with the same status and length, and names the view that was asked for, by
+  numbers or by names; `--both` begins with the answer; the witness has its length, and the old side reads it and writes it again
 - certificate: `gate` answers what `verify` says has been proved
 - message: `show` of what was written again shows the same, and the same bytes again
 
 An input that fails is written to a folder below FOLDER (./fuzz-failures), with its files and the commands of its runs, and is printed
-at the end with the command that tries it again, by number and kind, however many processes there were. The last line counts the inputs of each kind, how many of them were accepted and how many
-refused, the failures and the seconds. The status is 1 where an input failed.
+at the end with the command that tries it again, by number and kind, however many processes there were. The last line counts the inputs
+of each kind, how many of them were accepted and how many refused, the failures and the seconds. It says so where not all inputs were
+tried in time. The status is 1 where an input failed, or where too few were tried.
 """
 import argparse
 import collections
+import itertools
 import multiprocessing
 import os
 import random
@@ -45,6 +49,10 @@ KINDS = ("text", "set", "certificate", "message")
 LIMIT = 10
 # A share of the inputs ends with as many failures.
 MOST_FAILURES = 10
+# So many times fewer inputs than COUNT are tried even by a slow machine.
+LEAST_SHARE = 20
+# How the view is asked for by which enums are compared; without words it is that by numbers.
+VIEWS = ([], ["--view", "numbers"], ["--view", "names"])
 # Of so many sets one is given to protoc, which takes several times as long as the program.
 PROTOC_SHARE = 4
 # What protoc refuses in a set, and proto3 has no rule against.
@@ -156,17 +164,26 @@ def judge_witness(room, sides, type_, said):
     expect(is_deep or shown.endswith(b"again %s\n" % witness) and b"unknown" not in shown, f"{quoted(said)} shown: {quoted(shown)}")
 
 
+def view_of(certificate):
+    """Returns the name of the view that a certificate of version 2 names."""
+    return certificate.split(b"\n")[1].split()[1].decode()
+
+
 def judge_gate(room, random_, sides, type_):
-    """Asks the gate of two sides. Its certificate is checked; one in four times both directions are asked, and the witness shown."""
-    status, said = room.run(["gate", *sides, "--type", type_])
+    """Asks the gate of two sides, by one view. Its certificate is checked; one in four times both directions are asked, and the witness
+    shown."""
+    view = random_.choice(VIEWS)
+    words = ["gate", *sides, "--type", type_, *view]
+    status, said = room.run(words)
     if status not in ACCEPTED["gate"]:
         return status, said
-    certified, _ = room.run(["gate", *sides, "--type", type_, "--cert"], "certificate", keep="c")
+    certified, certificate = room.run([*words, "--cert"], "certificate", keep="c")
     verified, verdict = room.run(["verify", *sides, "c"])
     expect(certified == verified == status, f"status {status} of gate, {certified} with --cert, {verified} of verify")
     expect(verdict == said[:said.index(b"\n") + 1], f"gate: {quoted(said)}, verify: {quoted(verdict)}")
+    expect(view_of(certificate) == (view or VIEWS[1])[1], f"{shlex.join(words)} --cert: {quoted(certificate)}")
     if random_.randrange(4) == 0:
-        both, answers = room.run(["gate", *sides, "--type", type_, "--both"], "both")
+        both, answers = room.run([*words, "--both"], "both")
         expect(answers.startswith(b"forward\n" + said) and both >= status, f"gate: {quoted(said)}, with --both: {quoted(answers)}")
         if status:
             judge_witness(room, sides, type_, said)
@@ -236,10 +253,11 @@ def judge_verdict(room, seed, certificate, said):
     forms, certificate = ANSWERS["certificate"], in_version_2(certificate)
     expect(forms[0].fullmatch(certificate) or forms[1].fullmatch(certificate), f"verify takes {quoted(certificate)}")
     verdict, root, *length = said.split()
-    view, types = (line.split()[1:] for line in certificate.split(b"\n")[1:3])
+    types = certificate.split(b"\n")[2].split()[1:]
     if types[0] != types[1]:
         return
-    answer, found, *rest = room.run(["gate", *sides_of(seed), "--type", root.decode(), "--view", view[0].decode()])[1].split()
+    words = ["gate", *sides_of(seed), "--type", root.decode(), "--view", view_of(certificate)]
+    answer, found, *rest = room.run(words)[1].split()
     if verdict == b"bound":
         is_proved = answer == b"compatible" or int(rest[0]) >= int(length[0])
     else:
@@ -335,7 +353,7 @@ def try_share(options, seeds, share):
 
 
 def made_seeds(program, seeds):
-    """Returns the sets that the program makes of the texts of each change, and the certificates between them."""
+    """Returns the sets that the program makes of the texts of each change, and the certificates between them, by both views."""
     room, sets, certificates = Room(program), [], []
     for seed in seeds:
         room.clear()
@@ -344,8 +362,8 @@ def made_seeds(program, seeds):
         (done, old), (also, new) = (room.run(["compile", "--dir", *it]) for it in (("old", seed.old), ("new", seed.new)))
         expect(done == also == 0, f"a seed is refused: {quoted(old)} {quoted(new)}")
         sets.append(Seed({"m.pb": old}, "m.pb", {"m.pb": new}, "m.pb", seed.types, b""))
-        for type_ in seed.types:
-            status, said = room.run(["gate", *sides_of(seed), "--type", type_, "--cert"], "certificate")
+        for type_, view in itertools.product(seed.types, VIEWS[1:]):
+            status, said = room.run(["gate", *sides_of(seed), "--type", type_, *view, "--cert"], "certificate")
             if status in ACCEPTED["gate"]:
                 certificates.append(seed._replace(types=[type_], data=said))
     room.remove()
@@ -357,11 +375,24 @@ def options_of():
     parser.add_argument("--seed", type=int, default=1)
     parser.add_argument("--count", type=int, default=20_000)
     parser.add_argument("--seconds", type=float, default=120)
+    parser.add_argument("--least", type=int)
     parser.add_argument("--jobs", type=int, default=len(os.sched_getaffinity(0)))
     parser.add_argument("--only", metavar="KIND:NUMBER")
     parser.add_argument("--folder", default="fuzz-failures", type=os.path.abspath)
     parser.add_argument("program", nargs="?", default=os.path.join(ROOT, "crates/protogate/out/protogate"), type=os.path.abspath)
-    return parser.parse_args()
+    options = parser.parse_args()
+    if options.least is None:
+        options.least = 0 if options.only else options.count // LEAST_SHARE
+    return options
+
+
+def shortage(options, tried):
+    """Returns what the last line says where fewer inputs were tried than are asked for, or nothing; and whether they are too few."""
+    fewest = min(tried.values())
+    if options.only or fewest >= options.count:
+        return "", False
+    too_few = f", too few: at least {options.least} are wanted" if fewest < options.least else ""
+    return f"not all {options.count} of each were tried in {options.seconds:g} seconds{too_few}; ", bool(too_few)
 
 
 def main():
@@ -378,11 +409,12 @@ def main():
     counts = sum((it for it, _ in shares), collections.Counter())
     for _, _, failure in sorted(it for _, failures in shares for it in failures):
         print(failure)
-    parts = [f"{kind} {sum(counts[kind, it] for it in ('accepted', 'refused', 'failed'))} inputs: {counts[kind, 'accepted']} accepted, "
-             f"{counts[kind, 'refused']} refused" for kind in KINDS]
+    tried = {kind: sum(counts[kind, it] for it in ("accepted", "refused", "failed")) for kind in KINDS}
+    parts = [f"{kind} {tried[kind]} inputs: {counts[kind, 'accepted']} accepted, {counts[kind, 'refused']} refused" for kind in KINDS]
     failed = sum(counts[kind, "failed"] for kind in KINDS)
-    print("; ".join([*parts, f"{failed} failures; seed {options.seed}; {time.time() - begun:.0f} seconds"]))
-    return 1 if failed else 0
+    short, is_too_few = shortage(options, tried)
+    print("; ".join([*parts, f"{short}{failed} failures; seed {options.seed}; {time.time() - begun:.0f} seconds"]))
+    return 1 if failed or is_too_few else 0
 
 
 if __name__ == "__main__":

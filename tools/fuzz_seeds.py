@@ -19,7 +19,7 @@ Seed = collections.namedtuple("Seed", "old_files old new_files new types data")
 
 ESCAPE = re.compile(rb"\\(x[0-9a-f]{2}|.)", re.S)
 NAMED = {b"n": b"\n", b"r": b"\r", b"t": b"\t"}
-SIDES = re.compile(r"(gate|verify) --old[= ](\S+) --new[= ](\S+) (?:--type[= ](\S+)|(\w+))(?: --\w+)*")
+SIDES = re.compile(r"(gate|verify) --old[= ](\S+) --new[= ](\S+) (?:--type[= ](\S+)|(\w+))(?: --\w+(?:[= ](?:numbers|names))?)*")
 SHOWN = re.compile(r"show --file[= ](\S+) --type[= ](\S+) ([0-9A-Fa-f]*)")
 FIELD = re.compile(r"(?:(k\d+) )?(?:(optional|repeated|unpacked) )?(\S+) (\w+)=(\d+)")
 
