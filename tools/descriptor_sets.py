@@ -243,8 +243,8 @@ def refused(sets):
         return message(s).field[0]
 
     bytes_of_one = one.SerializeToString()
-    rows.append(("a front", 701, bytes_of_one[:-1]))
-    rows.append(("no text", 701, bytes_of_one.replace(b"\x0a\x01M", b"\x0a\x01\xff")))
+    rows.append(("a front", 502, bytes_of_one[:-1]))
+    rows.append(("no text", 604, bytes_of_one.replace(b"\x0a\x01M", b"\x0a\x01\xff")))
     # syntax
     row("proto2", 702, one, lambda s: setattr(s.file[0], "syntax", "proto2"))
     row("no syntax", 702, one, lambda s: s.file[0].ClearField("syntax"))
@@ -346,7 +346,7 @@ def rows_of_sets(sets):
     rows.append(("no bytes", b"", '""'))
     one = data["m.proto"]
     for length in range(1, len(one)):
-        rows.append(("cut off behind byte %d" % length, one[:length], "refused E701"))
+        rows.append(("cut off behind byte %d" % length, one[:length], "refused E502"))
     return rows
 
 

@@ -2,7 +2,6 @@
 //! states, or its refusal.
 #![tactic(auto)]
 
-mod code;
 mod row;
 
 use std::io;

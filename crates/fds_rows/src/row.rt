@@ -1,5 +1,4 @@
 //! One row: `WHAT | BYTES`.
-use crate::code::code;
 use pg_fds::{FdsError, read, read_again, write};
 use pg_schema::Schema;
 use rows::{bytes_of, cut};
@@ -31,7 +30,7 @@ fn told(alloc: Global, bytes: &[u8]) -> Result<String, AllocError> {
         Ok((written, true)) => format!(in alloc; "\"{}\"", written.escape_ascii()),
         Ok((_, false)) => String::from_str(alloc, "not the same again"),
         Err(FdsError::Memory) => Err(AllocError),
-        Err(error) => format!(in alloc; "refused E{}", code(&error)),
+        Err(error) => format!(in alloc; "refused E{}", error.code()),
     }
 }
 
