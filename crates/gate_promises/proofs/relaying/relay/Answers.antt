@@ -8,7 +8,7 @@ pub returns-clause-short : goal.returns-clause-short
 returns-clause-short c = search rules
 
 pub returns-clause-home : goal.returns-clause-home
-returns-clause-home c = search rules
+returns-clause-home c = c.relay.ensures.home
 
 pub returns-clause-refused : goal.returns-clause-refused
 returns-clause-refused c = search rules

@@ -8,6 +8,6 @@ returns-clause-home c =
     IfOk-weaker c.encode.result _ _
     (λ again written.
     writes_home c.messages_come_home.ensures (shape_of c.args.old.now) (shape_of c.args.new.now) c.args.pair c.parts.ensures.checked.shape
-    c.parts-2.ensures.checked.shape c.in_ok-message.field-0 c.args.bytes.now again.items c.in_ok-message.ensures.message
+    c.parts-2.ensures.checked.shape c.in_ok-message.message c.args.bytes.now again.items c.in_ok-message.ensures.message
     c.in_ok-message.ensures.fits written)
     c.encode.ensures.ok
