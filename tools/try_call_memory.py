@@ -110,7 +110,7 @@ CALLS = [
     Rows("gate_with", "view_rows", ["a renamed number in a child"]),
     Tests("gate_files", "gate_tests", ["a_gate_over_files_answers_one_of_two", "a_gate_over_files_tells_the_old_side_first"]),
     Tests("Reply::into_text", "gate_tests", ["a_reply_is_a_text"]),
-    Tests("relay", "gate_tests", ["three_programs_hand_on_what_they_do_not_know"]),
+    Rows("relay", "view_rows", ["what the new type lacks is handed on", "what three programs handed on comes home"]),
     Rows(
         "to_text, from_text, check",
         "answer_rows",

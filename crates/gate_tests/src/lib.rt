@@ -12,8 +12,6 @@ mod failing_source;
 #[cfg(test)]
 mod one_byte;
 #[cfg(test)]
-mod relay_tests;
-#[cfg(test)]
 mod runs;
 #[cfg(test)]
 mod sink_tests;

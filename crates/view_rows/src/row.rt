@@ -1,4 +1,5 @@
 //! One row.
+use crate::relaying::handed_on;
 use pg_gate::{Answer, GateError, ViewName, gate_with};
 use pg_schema::Schema;
 use rows::cut;
@@ -28,17 +29,19 @@ fn both(alloc: Global, old: &Schema, new: &Schema) -> Result<String, AllocError>
     format!(in alloc; "{numbers} | {names}")
 }
 
-fn answered(alloc: Global, old: &str, new: &str) -> Result<String, AllocError> {
+fn answered(alloc: Global, old: &str, new: &str, digits: &str) -> Result<String, AllocError> {
     match schemas(alloc, old, new)? {
-        Some((old, new)) => both(alloc, &old, &new),
+        Some((old, new)) if digits.is_empty() => both(alloc, &old, &new),
+        Some((old, new)) => handed_on(alloc, &old, &new, digits),
         None => String::from_str(alloc, "no schemas"),
     }
 }
 
-/// What a row shows, and the answers by number and by name.
+/// What a row shows, and the answers by number and by name, or what is handed on.
 pub(crate) fn answer(alloc: Global, row: &str) -> Result<String, AllocError> {
     let (shows, lines) = cut(row);
-    let (old, new) = cut(lines);
-    let text = answered(alloc, old, new)?;
+    let (old, lines) = cut(lines);
+    let (new, digits) = cut(lines);
+    let text = answered(alloc, old, new, digits)?;
     format!(in alloc; "{shows} | {text}")
 }
