@@ -5,6 +5,7 @@ usage: tools/build.py    what is built already, and unchanged, is taken as it st
 """
 
 import contextlib
+import fcntl
 import os
 import re
 import shutil
@@ -180,11 +181,27 @@ def build(room):
         stop(running)
 
 
+@contextlib.contextmanager
+def alone():
+    """Waits until no other build of this checkout runs, since they share lanes. The program's folder is what is locked."""
+    folder = os.open(f"{TOP}/crates/{PROGRAM}", os.O_RDONLY)
+    try:
+        fcntl.flock(folder, fcntl.LOCK_EX | fcntl.LOCK_NB)
+    except BlockingIOError:
+        say("another build runs here; waiting for it")
+        fcntl.flock(folder, fcntl.LOCK_EX)
+    try:
+        yield
+    finally:
+        os.close(folder)
+
+
 def main():
-    begun = time.time()
-    signal.signal(signal.SIGTERM, lambda *_: sys.exit(143))
-    say("proving and building: some 40 minutes on four idle processors the first time")
-    with tempfile.TemporaryDirectory(prefix="protogate-build-") as room:
+    for number in (signal.SIGTERM, signal.SIGHUP):
+        signal.signal(number, lambda number, _: sys.exit(128 + number))
+    with alone(), tempfile.TemporaryDirectory(prefix="protogate-build-") as room:
+        begun = time.time()
+        say("proving and building: some 40 minutes on four idle processors the first time")
         if not build(room):
             return 1
     stamp = f"{TOP}/crates/{PROGRAM}/out/{PROGRAM}.begun"
