@@ -5,13 +5,12 @@
 
 mod relaying;
 
-ghost use Rattle.std.specs.Prelude.{◌≡◌, Err, IfErr, IfOk, MatchResult};
+ghost use Rattle.std.specs.Prelude.{◌≡◌, Err, IfErr, IfOk};
 ghost use Rattle.pg_cert.specs.declared.error.CertError.TheVariants as faults;
 ghost use Rattle.pg_cert.specs.Certificate.{verdict_of};
 ghost use Rattle.pg_gate.specs.Answer.{IsAnswer, IsRefusedRoot, Lacks, certificate_of};
 ghost use Rattle.pg_gate.specs.Codes.{code_of};
 ghost use Rattle.pg_gate.specs.ViewAnswer.{IsAnswerUnder};
-ghost use Rattle.pg_gate.specs.declared.answer.gate.Answer.{Answer};
 ghost use Rattle.pg_gate.specs.declared.error.GateError.TheVariants as errors;
 
 use pg_cert::{CertError, Verdict};
@@ -48,26 +47,35 @@ pub fn gate_with(
     pg_gate::gate_with(alloc, old, new, root, view)
 }
 
-/// What the checker says of the certificate of an answer that `gate_with` may give: it takes it,
-/// under the view that the certificate names, says just what it shows, and is refused only memory.
+/// An answer, and what the checker says of its certificate.
+pub struct WithVerdict {
+    pub answer: Answer,
+    pub verdict: Result<Verdict, CertError>,
+}
+
+/// What `gate_with` answers, and what the checker says of that: it takes the certificate, under the
+/// view that the certificate names, says just what it shows, and is refused only memory.
 pub fn checked(
     alloc: Global,
     old: &Schema,
     new: &Schema,
     root: &str,
     view: ViewName,
-) -> Result<Result<Verdict, CertError>, GateError>
-    ensures checked { IfOk result (λ checked. (answer : Answer)
-        × IsAnswerUnder view old.now new.now root.now answer
-        × MatchResult checked (λ verdict. verdict ≡ verdict_of (certificate_of answer))
+) -> Result<WithVerdict, GateError>
+    ensures answer { IfOk result
+        (λ checked. IsAnswerUnder view old.now new.now root.now checked.answer) }
+    ensures verdict { IfOk result (λ checked. IfOk checked.verdict
+        (λ verdict. verdict ≡ verdict_of (certificate_of checked.answer))) }
+    ensures memory { IfOk result (λ checked. IfErr checked.verdict
         (λ error. error ≡ faults.Memory)) }
     ensures refused { IfErr result (IsRefusedRoot old.now new.now root.now) }
 {
     let answer = gate_with(alloc, old, new, root, view)?;
-    Ok(match &answer {
+    let verdict = match &answer {
         Answer::Compatible(certificate) => pg_cert::check(alloc, old, new, certificate),
         Answer::Breaks { certificate, .. } => pg_cert::check(alloc, old, new, certificate),
-    })
+    };
+    Ok(WithVerdict { answer, verdict })
 }
 
 /// What `GateError::code` answers.
