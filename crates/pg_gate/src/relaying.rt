@@ -16,9 +16,10 @@ use std::alloc::Global;
 /// them as by the pair's new type, which its schema has, at any depth. Records that the type
 /// doesn't accept stand behind its own fields, byte for byte and in the order read.
 ///
-/// Where the bytes are those of a plain message of the pair's old type, the two types are compatible
-/// under a view, and `pg_pairs::returns` says so of the pair, the old type reads what is handed on,
-/// and each of its fields shows what it did.
+/// Take bytes that encode a message of the pair's old type which has no unknown records at any
+/// depth. Where the two types are compatible under a view and `pg_pairs::returns` answers yes, the
+/// old type reads what is handed on. Each field then shows what it did, but for a zero of a single
+/// field that the new type has without presence.
 ///
 /// The errors are `Wire` and `NotUtf8`, of bytes that have no reading, as `pg_dyn::decode` tells
 /// them; `TooLong`, where what is read has an encoding of more than 2,147,483,647 bytes; and
