@@ -17,11 +17,12 @@ ROOTS = {
     "a message breaks": "crates/pg_dyn/specs/Breaking.antt",
     "what `gate` promises": "crates/pg_gate/specs/Answer.antt",
     "what `gate_with` promises": "crates/pg_gate/specs/ViewAnswer.antt",
+    "what `relay` promises": "crates/pg_gate/specs/Relaying.antt",
 }
 # Which documents say the counts of which promise.
 COUNTED = {
     "README.md": ["a message breaks", "what `gate` promises"],
-    "docs/MODEL.md": ["what `gate` promises", "what `gate_with` promises"],
+    "docs/MODEL.md": ["what `gate` promises", "what `gate_with` promises", "what `relay` promises"],
 }
 # A path of code or definitions that a document names: from the top, below `crates`, or below a crate's folder.
 NAMED = re.compile(r"`([\w/+-]+/[\w+-]+\.(?:rt|antt))`")
@@ -62,7 +63,7 @@ def differences():
     """Returns what docs/MODEL.md and README.md say otherwise than the definitions: files, and counts of files and lines."""
     said = {it: open(f"{TOP}/{it}", encoding="utf-8").read() for it in COUNTED}
     listed = re.findall(r"^\| `(crates/pg_\w+/specs/\w+\.antt)` \|", said["docs/MODEL.md"], re.M)
-    wanted = rests_on(ROOTS["what `gate_with` promises"])
+    wanted = dict.fromkeys(it for root in ROOTS.values() for it in rests_on(root))
     found = [f"docs/MODEL.md lacks {it}" for it in wanted if it not in listed]
     found += [f"docs/MODEL.md lists {it}, which no promise imports" for it in listed if it not in wanted]
     for document, promises in COUNTED.items():
