@@ -1,6 +1,7 @@
 //! What is read of bytes.
 
-ghost use Rattle.std.specs.Prelude.{◌≡◌, ◌<◌, ℕ, length, true, is_some, None, Some, OnOk, IfOk, IfErr};
+ghost use Rattle.std.specs.Prelude.{◌≡◌, ◌<◌, ℕ, length, true, is_some, None, Some};
+ghost use Rattle.std.specs.Prelude.{OnOk, IfOk, IfErr};
 ghost use Rattle.pg_schema.specs.Parts.{shape_of};
 ghost use Rattle.pg_schema.specs.Shape.{fields};
 ghost use Rattle.pg_dyn.specs.Decoding.{dec};

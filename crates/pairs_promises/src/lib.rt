@@ -100,7 +100,8 @@ pub fn carry<V: View>(
         IsAmong choice.now (choices (seen_by V.View view.now old.now new.now) table
         (shape_of old.now) (shape_of new.now) pair)
         → carried.ChildReached (seen_by V.View view.now old.now new.now) (shape_of old.now)
-        (shape_of new.now) table (carried.choice_child (shape_of old.now) (shape_of new.now) pair choice.now)
+        (shape_of new.now) table
+        (carried.choice_child (shape_of old.now) (shape_of new.now) pair choice.now)
         (option_map message_of child)
         → ReachedBy (seen_by V.View view.now old.now new.now)
         (shape_of old.now) (shape_of new.now) pair (message_of m) choice.now.cost) }

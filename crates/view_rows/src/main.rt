@@ -1,11 +1,12 @@
-//! What `gate_with` answers of two schemas under each view, and what `relay` hands on, for each line
-//! of standard input.
+//! What `gate_with` answers of two schemas under each view, and what `relay` hands on, for each
+//! line of standard input.
 //!
 //! A line is `WHAT IT SHOWS | OLD SCHEMA | NEW SCHEMA`. The schemas are spelled as `tiny_schemas`
 //! says, and the types that are asked for are called `M`. What is printed is the least message that
 //! breaks, in hexadecimal digits, or that the types are compatible: by the numbers of enums, and by
-//! their names. Where bytes stand behind the schemas, as ` | DIGITS`, what the first type of the new
-//! schema hands on of them is printed.
+//! their names. Where bytes stand behind the schemas, as ` | DIGITS`, it is what the first type of
+//! the new schema hands on of them; or, of several new schemas with ` > ` between them, what one
+//! hands on to the next.
 #![tactic(auto)]
 
 mod relaying;

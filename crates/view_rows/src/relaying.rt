@@ -1,10 +1,11 @@
-//! What a program of the new schema hands on of bytes that it reads.
+//! What programs of new schemas hand on of bytes that they read.
 use hex::FromHexError;
 use pg_dyn::DynError;
 use pg_gate::relay;
 use pg_pairs::Pair;
 use pg_schema::{Schema, TypeId};
 use std::alloc::{AllocError, Global};
+use tiny_schemas::schemas;
 
 // The first types.
 const FIRST: Pair = Pair {
@@ -31,9 +32,8 @@ fn relayed(alloc: Global, old: &Schema, new: &Schema, bytes: &[u8]) -> Result<St
     }
 }
 
-/// What the first type of the new schema hands on of the bytes, or the code and the byte of the
-/// refusal.
-pub(crate) fn handed_on(
+// What a program of the new schema hands on of the bytes that the digits spell.
+fn handed_on_by(
     alloc: Global,
     old: &Schema,
     new: &Schema,
@@ -44,4 +44,23 @@ pub(crate) fn handed_on(
         Err(FromHexError::OutOfMemory) => Err(AllocError),
         Err(_) => String::from_str(alloc, "no digits"),
     }
+}
+
+/// What a program of each of the new schemas, one behind the other with ` > ` between them, hands
+/// on of what it has from the one before, the first of them of the bytes; or the code and the byte
+/// of a refusal. Each reads by its schema's first type.
+pub(crate) fn handed_on(
+    alloc: Global,
+    old: &str,
+    hops: &str,
+    digits: &str,
+) -> Result<String, AllocError> {
+    let mut now = String::from_str(alloc, digits)?;
+    for hop in hops.split(" > ") {
+        now = match schemas(alloc, old, hop)? {
+            Some((old, new)) => handed_on_by(alloc, &old, &new, &now)?,
+            None => String::from_str(alloc, "no schemas")?,
+        };
+    }
+    Ok(now)
 }

@@ -29,10 +29,9 @@ fn both(alloc: Global, old: &Schema, new: &Schema) -> Result<String, AllocError>
     format!(in alloc; "{numbers} | {names}")
 }
 
-fn answered(alloc: Global, old: &str, new: &str, digits: &str) -> Result<String, AllocError> {
+fn answered(alloc: Global, old: &str, new: &str) -> Result<String, AllocError> {
     match schemas(alloc, old, new)? {
-        Some((old, new)) if digits.is_empty() => both(alloc, &old, &new),
-        Some((old, new)) => handed_on(alloc, &old, &new, digits),
+        Some((old, new)) => both(alloc, &old, &new),
         None => String::from_str(alloc, "no schemas"),
     }
 }
@@ -42,6 +41,9 @@ pub(crate) fn answer(alloc: Global, row: &str) -> Result<String, AllocError> {
     let (shows, lines) = cut(row);
     let (old, lines) = cut(lines);
     let (new, digits) = cut(lines);
-    let text = answered(alloc, old, new, digits)?;
+    let text = match digits {
+        "" => answered(alloc, old, new)?,
+        _ => handed_on(alloc, old, new, digits)?,
+    };
     format!(in alloc; "{shows} | {text}")
 }
