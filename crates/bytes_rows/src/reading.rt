@@ -2,8 +2,8 @@
 use crate::contents::{spelled_message, word};
 use crate::types::FIRST;
 use pg_dyn::{
-    DynError, Message, copy, decode, decode_ref, decode_ref_unlimited, decode_unlimited, encode,
-    encode_ref, encode_unshared, encode_unshared_ref, fits,
+    DynError, Message, decode, decode_ref, decode_ref_unlimited, decode_unlimited, encode,
+    encode_ref, encode_unshared_ref, fits,
 };
 use pg_schema::Schema;
 use pg_show::{HexError, bytes_of_hex, show};
@@ -95,7 +95,7 @@ fn plain(alloc: Global, schema: &Schema, bytes: &[u8]) -> Result<String, DynErro
     answer(alloc, message.is_plain())
 }
 
-/// The bytes of the copy of a message that fits.
+/// The bytes of a message that fits, written and read again: of its copy.
 pub(crate) fn copied(
     alloc: Global,
     schema: &Schema,
@@ -104,7 +104,11 @@ pub(crate) fn copied(
     if !fits(schema, message) {
         return Err(DynError::WrongKind);
     }
-    let copied = copy(alloc, schema, message)?;
+    let bytes = encode(alloc, schema, message)?;
+    if !schema.has(message.type_id()) {
+        return Err(DynError::NoSuchField);
+    }
+    let copied = decode_unlimited(alloc, schema, message.type_id(), &bytes)?;
     written(alloc, schema, &copied)
 }
 
@@ -151,8 +155,8 @@ fn of_both(
     answer(alloc, fits(other, &message))
 }
 
-// What the other type doesn't have of a message that borrows from the bytes.
-fn outside_lent(
+// What the other type doesn't have of a message.
+fn outside(
     alloc: Global,
     schema: &Schema,
     other: &Schema,
@@ -168,28 +172,6 @@ fn outside_lent(
         )?),
         Err(error) => Err(error),
     }
-}
-
-// What the other type doesn't have of a message; of one that borrows it is the same.
-fn outside(
-    alloc: Global,
-    schema: &Schema,
-    other: &Schema,
-    bytes: &[u8],
-) -> Result<String, DynError> {
-    let lent = outside_lent(alloc, schema, other, bytes)?;
-    let message = read(alloc, schema, bytes, 100)?;
-    if !fits(schema, &message) {
-        return Err(DynError::WrongKind);
-    }
-    let owned = word(
-        alloc,
-        &encode_unshared(alloc, schema, &message, other, FIRST)?,
-    )?;
-    if owned.as_str() != lent.as_str() {
-        return text(alloc, "written otherwise where it borrows");
-    }
-    Ok(owned)
 }
 
 fn shown(alloc: Global, schema: &Schema, bytes: &[u8]) -> Result<String, DynError> {

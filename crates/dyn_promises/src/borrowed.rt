@@ -15,13 +15,6 @@ use pg_schema::TypeId;
 use pg_wire::Record;
 use std::alloc::{AllocError, Global};
 
-/// What `MessageRef::empty` answers.
-pub fn empty<'a>(alloc: Global, type_id: TypeId) -> MessageRef<'a>
-    ensures { result ≡ ends type_id [] }
-{
-    MessageRef::empty(alloc, type_id)
-}
-
 /// What `MessageRef::type_id` answers.
 pub fn type_id(message: &MessageRef<'_>) -> TypeId
     ensures { result ≡ type_of message.now }

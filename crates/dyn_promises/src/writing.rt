@@ -1,6 +1,6 @@
 //! What is written of messages.
 
-ghost use Rattle.std.specs.Prelude.{◌≡◌, ◌<◌, ◌≤◌, ◌⊎◌, length, IfOk, IfErr};
+ghost use Rattle.std.specs.Prelude.{◌≡◌, ◌≤◌, length, IfOk, IfErr};
 ghost use Rattle.pg_schema.specs.Parts.{shape_of};
 ghost use Rattle.pg_schema.specs.Shape.{fields};
 ghost use Rattle.pg_dyn.specs.Comparison.{unshared_bytes};
@@ -8,7 +8,6 @@ ghost use Rattle.pg_dyn.specs.Encoding.{cap, enc};
 ghost use Rattle.pg_dyn.specs.Fits.{Fits};
 ghost use Rattle.pg_dyn.specs.Kept.{message_of, type_of};
 ghost use Rattle.pg_dyn.specs.Written.{MayNotWrite};
-ghost use Rattle.pg_dyn.specs.declared.error.DynError.TheVariants as errors;
 
 use pg_dyn::{DynError, Message, MessageRef};
 use pg_schema::{Schema, TypeId};
@@ -44,25 +43,6 @@ pub fn encode_ref(
     pg_dyn::encode_ref(alloc, schema, message)
 }
 
-/// What `encode_unshared` answers.
-pub fn encode_unshared(
-    alloc: Global,
-    schema: &Schema,
-    message: &Message,
-    other: &Schema,
-    other_type: TypeId,
-) -> Result<Vec<u8>, DynError>
-    requires { Fits (shape_of schema.now) message.now }
-    ensures ok { IfOk result (λ bytes. bytes.items
-        ≡ unshared_bytes (shape_of schema.now) (type_of message.now)
-        (fields (shape_of other.now) other_type) (message_of message.now)) }
-    ensures err { IfErr result (λ e.
-        MayNotWrite (length (unshared_bytes (shape_of schema.now) (type_of message.now)
-        (fields (shape_of other.now) other_type) (message_of message.now))) e) }
-{
-    pg_dyn::encode_unshared(alloc, schema, message, other, other_type)
-}
-
 /// What `encode_unshared_ref` answers.
 pub fn encode_unshared_ref(
     alloc: Global,
@@ -80,17 +60,4 @@ pub fn encode_unshared_ref(
         (fields (shape_of other.now) other_type) (message_of message.now))) e) }
 {
     pg_dyn::encode_unshared_ref(alloc, schema, message, other, other_type)
-}
-
-/// What `copy` answers.
-pub fn copy(alloc: Global, schema: &Schema, message: &Message) -> Result<Message, DynError>
-    requires { Fits (shape_of schema.now) message.now }
-    ensures same { IfOk result (λ copy. (message_of copy ≡ message_of message.now)
-        × (type_of copy ≡ type_of message.now)) }
-    ensures fits { IfOk result (λ copy. Fits (shape_of schema.now) copy) }
-    ensures refused { IfErr result (λ e. (e ≡ errors.Memory)
-        ⊎ ((e ≡ errors.TooLong) × (cap
-        < length (enc (shape_of schema.now) (type_of message.now) (message_of message.now))))) }
-{
-    pg_dyn::copy(alloc, schema, message)
 }

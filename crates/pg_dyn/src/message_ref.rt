@@ -84,17 +84,6 @@ impl<'a> MessageRef<'a> {
     ghost use Rattle.pg_dyn.specs.Kept.{ends, type_of, of_number, unknown_of};
     ghost use Rattle.pg_dyn.specs.Seen.{Rises};
 
-    /// The message without content.
-    pub fn empty(alloc: Global, type_id: TypeId) -> MessageRef<'a>
-        ensures { result ≡ ends type_id [] }
-    {
-        MessageRef {
-            type_id,
-            fields: Vec::new(alloc),
-            unknown: Vec::new(alloc),
-        }
-    }
-
     /// The type of the message.
     pub fn type_id(&self) -> TypeId
         ensures { result ≡ type_of self.now }

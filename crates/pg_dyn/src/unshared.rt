@@ -15,7 +15,6 @@ use crate::counting::{MAX_ENCODING_LEN, count_content};
 use crate::encoding::write_content;
 use crate::error::DynError;
 use crate::lending::Lends;
-use crate::message::Message;
 use crate::message_ref::MessageRef;
 use pg_schema::{Schema, TypeId};
 use std::alloc::Global;
@@ -111,35 +110,10 @@ fn encode_unshared_lent<M: Lends>(
 
 /// Of a message's encoding the records of the fields whose numbers another type doesn't have, in
 /// their order: what a reader of that type keeps as unknown (proto3 language guide, "Unknown
-/// Fields").
+/// Fields"). The message borrows.
 ///
 /// The errors are `TooLong`, only where these records have more than 2,147,483,647 bytes, and
 /// `Memory`.
-pub fn encode_unshared(
-    alloc: Global,
-    schema: &Schema,
-    message: &Message,
-    other: &Schema,
-    other_type: TypeId,
-) -> Result<Vec<u8>, DynError>
-    requires { Fits (shape_of schema.now) message.now }
-    ensures ok { IfOk result (λ bytes. bytes.items
-        ≡ unshared_bytes (shape_of schema.now) (type_of message.now)
-        (fields (shape_of other.now) other_type) (message_of message.now)) }
-    ensures err { IfErr result (λ e.
-        MayNotWrite (length (unshared_bytes (shape_of schema.now) (type_of message.now)
-        (fields (shape_of other.now) other_type) (message_of message.now))) e) }
-{
-    let schemas = Other {
-        own: schema,
-        other,
-        other_type,
-    };
-    encode_unshared_lent(alloc, message, &schemas)
-}
-
-/// The same of a message that borrows, as `encode_unshared` gives it of one that owns its parts.
-/// The condition and the errors are the same.
 pub fn encode_unshared_ref(
     alloc: Global,
     schema: &Schema,
