@@ -11,11 +11,8 @@ use crate::fault::Fault;
 use crate::file::file_fault;
 use crate::made_parts::{Source, parts_of};
 use crate::outline::{file_enums, file_messages};
-use pg_schema::Parts;
+use pg_schema::{MAX_MESSAGE_TYPES, Parts};
 use std::alloc::{AllocError, Global};
-
-/// The most message types.
-const MOST_TYPES: usize = 4096;
 
 /// A rule that one of the files breaks; the file is given by its place among them.
 #[derive(Clone, Copy, Debug, PartialEq, Eq)]
@@ -67,7 +64,7 @@ fn look_at(alloc: Global, file: &Source<'_>, left: usize) -> Result<Checked, All
 fn first_broken(alloc: Global, files: &[Source<'_>]) -> Result<Option<FileFault>, AllocError>
     ensures { IfOk result (λ fault. fault ≡ spec.first_broken (map source files.now)) }
 {
-    let mut left = MOST_TYPES;
+    let mut left = MAX_MESSAGE_TYPES;
     for (index, file) in files.iter().enumerate() {
         let found = look_at(alloc, file, left)?;
         if let Some(fault) = found.fault {

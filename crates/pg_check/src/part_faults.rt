@@ -14,13 +14,10 @@ use crate::names::{Called, Titled, first_among, first_twice};
 use crate::numbers::{self, Keyed, Numbers, rank};
 use crate::oneof_members::have_members;
 use pg_schema::{
-    EnumType, Field, File, FileOption, MessageType, OptionValue, Parts, Presence, ReservedFields,
-    Scalar,
+    EnumType, Field, File, FileOption, MAX_MESSAGE_TYPES, MessageType, OptionValue, Parts,
+    Presence, ReservedFields, Scalar,
 };
 use std::alloc::{AllocError, Global};
-
-/// The most message types.
-const MOST_TYPES: usize = 4096;
 
 /// The fault of a rule that is broken at no place.
 fn told(rule: Rule, is_broken: bool) -> Option<Fault>
@@ -288,7 +285,7 @@ fn files_fault(alloc: Global, files: &[File]) -> Result<Option<Fault>, AllocErro
 pub(crate) fn parts_fault(alloc: Global, parts: &Parts) -> Result<Option<Fault>, AllocError>
     ensures { IfOk result (λ fault. fault ≡ spec.parts_fault parts.now) }
 {
-    if parts.types.as_slice().len() > MOST_TYPES {
+    if parts.types.as_slice().len() > MAX_MESSAGE_TYPES {
         return Ok(broken(Rule::TooManyTypes, Some(0)));
     }
     let of_types = messages_fault(alloc, &parts.types)?;

@@ -17,7 +17,7 @@ use crate::text_sets::set_of;
 use std::alloc::{AllocError, Global};
 
 /// The most message types that a schema may have.
-const MOST_TYPES: usize = 4096;
+pub const MAX_MESSAGE_TYPES: usize = 4096;
 
 /// Each file, message type, enum and service keeps to its rules.
 fn keep_rules(alloc: Global, parts: &Parts) -> Result<bool, AllocError>
@@ -69,7 +69,7 @@ fn are_named_apart(alloc: Global, parts: &Parts) -> Result<bool, AllocError>
 pub(crate) fn is_sound(alloc: Global, parts: &Parts) -> Result<bool, AllocError>
     ensures { IfOk result (λ b. IsTrue b ↔ IsSound parts.now) }
 {
-    if parts.types.len() > MOST_TYPES || !keep_rules(alloc, parts)? {
+    if parts.types.len() > MAX_MESSAGE_TYPES || !keep_rules(alloc, parts)? {
         return Ok(false);
     }
     if !are_placed(alloc, parts)? {
