@@ -25,16 +25,6 @@ pub fn element_wire_type(element: Element) -> WireType
     }
 }
 
-// Whether a list of such elements can stand in one record.
-fn is_packable(element: Element) -> bool
-    ensures { result ≡ is_packable element }
-{
-    !matches!(
-        element,
-        Element::Scalar(Scalar::String | Scalar::Bytes) | Element::Message(_)
-    )
-}
-
 /// Whether the wire type is that of an element's own records.
 pub(crate) fn is_own(wire_type: WireType, element: Element) -> bool
     ensures { result ≡ same_wire wire_type (form_wire (form element)) }
@@ -52,7 +42,7 @@ pub(crate) fn accepts(field: &Field, wire_type: WireType) -> bool
         Presence::Map { .. } => wire_type == WireType::Len,
         Presence::Repeated { .. } => {
             wire_type == element_wire_type(field.element)
-                || (wire_type == WireType::Len && is_packable(field.element))
+                || (wire_type == WireType::Len && field.element.is_packable())
         }
         Presence::Implicit | Presence::Explicit => wire_type == element_wire_type(field.element),
     }
