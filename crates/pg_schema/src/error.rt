@@ -15,6 +15,22 @@ pub enum PartsError {
     Invariant,
 }
 
+impl PartsError {
+    ghost use Rattle.std.specs.Prelude.{◌≡◌};
+    ghost use Rattle.pg_schema.specs.Codes.{code_of};
+
+    /// The number behind the E by which users know the error. `Invariant` has none: it doesn't say
+    /// which rule is broken, and each rule has a number of its own.
+    pub fn code(self) -> Option<u16>
+        ensures { result ≡ code_of self }
+    {
+        match self {
+            PartsError::Memory => Some(1),
+            PartsError::Invariant => None,
+        }
+    }
+}
+
 impl fmt::Display for PartsError {
     ghost output = { λ e. Some (told e) };
 

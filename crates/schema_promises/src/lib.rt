@@ -7,6 +7,7 @@ ghost use Rattle.std.specs.Option.{option_copied};
 ghost use Rattle.std.specs.String.{string_bytes};
 ghost use Rattle.pg_schema.specs.declared.error.PartsError.TheVariants.{Invariant};
 ghost use Rattle.pg_schema.specs.declared.field.TypeId.{TypeId};
+ghost use Rattle.pg_schema.specs.Codes.{code_of};
 ghost use Rattle.pg_schema.specs.Invariant.{IsSchema};
 ghost use Rattle.pg_schema.specs.JsonName.{default_json_name};
 ghost use Rattle.pg_schema.specs.Parts.{enum_at, field_of, field_shape, name_at, shape_of, type_at};
@@ -93,6 +94,13 @@ pub fn default_json_name(alloc: Global, name: &str) -> Result<String, AllocError
     ensures { IfOk result (λ text. string_bytes text ≡ default_json_name name.now) }
 {
     pg_schema::default_json_name(alloc, name)
+}
+
+/// What `PartsError::code` answers.
+pub fn code(error: PartsError) -> Option<u16>
+    ensures { result ≡ code_of error }
+{
+    error.code()
 }
 
 /// What the `Display` of `PartsError` writes.
