@@ -9,5 +9,4 @@ pub mod MessageLemmas
 pub mod TextSetLemmas
 pub mod SoundShapes
 pub mod SoundNames
-pub mod NameWords
 pub mod PackageLemmas

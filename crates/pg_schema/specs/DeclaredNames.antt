@@ -1,9 +1,7 @@
 -- The full names that files declare (proto3 language specification, "Package", "Message definition", "Enum definition";
 -- proto3 language guide, "Enumerations": the values of an enum are siblings of its name). That a map field declares an entry
 -- type is descriptor.proto's `map_entry`.
-use Rattle.std.specs.Prelude.{ℕ, Bool, true, List, [], ◌∷◌, ◌++◌, map, flat_map, codes, Option, Some, None, slice_get, if◌then◌else◌}
-use Rattle.std.specs.Char.{to_ascii_uppercase}
-use Rattle.std.specs.List.{list_all}
+use Rattle.std.specs.Prelude.{ℕ, true, List, [], ◌∷◌, ◌++◌, map, flat_map, codes, Option, Some, None, slice_get, if◌then◌else◌}
 use Rattle.std.specs.String.{string_bytes}
 use Rattle.pg_schema.specs.declared.enum_type.EnumType.{EnumType}
 use Rattle.pg_schema.specs.declared.field.EnumId.{EnumId}
@@ -17,7 +15,6 @@ use Rattle.pg_schema.specs.EnumRules.{value_names}
 use Rattle.pg_schema.specs.JsonName.{in_camel_case}
 use Rattle.pg_schema.specs.MessageRules.{field_names}
 use Rattle.pg_schema.specs.Shape.{is_map}
-use Rattle.pg_schema.specs.Words.{is_word_byte}
 
 -- the full name of a name that a scope declares
 abbrev pub within : (scope name : List ℕ) → List ℕ
@@ -63,14 +60,3 @@ abbrev pub declared_names : Parts → List (List ℕ)
 declared_names parts =
     flat_map (type_names parts.enums.items) parts.types.items ++ map (λ (e : EnumType). string_bytes e.name) parts.enums.items
     ++ flat_map service_names parts.services.items ++ flat_map (file_names parts.enums.items) parts.files.items
-
--- in upper case where a part of the name begins
-abbrev pub letter : (begins : Bool) → ℕ → ℕ
-letter begins byte = if begins then to_ascii_uppercase byte else byte
-
--- the field's name has the letters and digits of a word
-abbrev pub has_word : Field → Bool
-has_word f = list_all is_word_byte (string_bytes f.name)
-
-abbrev pub have_words : MessageType → Bool
-have_words t = list_all has_word t.fields.items

@@ -1,25 +1,27 @@
 //! The full names that files declare.
 
-ghost use Rattle.std.specs.Prelude.{◌≡◌, ◌++◌, ◌<◌, IfOk, OnOk, flat_map, map, slice_get, true};
-ghost use Rattle.std.specs.List.{list_all};
+ghost use Rattle.std.specs.Prelude.{◌≡◌, ◌++◌, IfOk, OnOk, flat_map, map, slice_get};
 ghost use Rattle.std.specs.String.{string_bytes};
 ghost use Rattle.pg_schema.specs.declared.enum_type.EnumType.{EnumType};
 ghost use Rattle.pg_schema.specs.declared.field.Field.{Field};
-ghost use Rattle.pg_schema.specs.DeclaredNames.{declared_names, entry_name, entry_names, file_names, has_word, have_words, letter, method_names, service_names, type_names, values_at, values_of, within};
+ghost use Rattle.pg_schema.specs.DeclaredNames.{declared_names, entry_name, entry_names, file_names, method_names, service_names, type_names, values_at, values_of, within};
 ghost use Rattle.pg_schema.specs.EnumRules.{value_names};
 ghost use Rattle.pg_schema.specs.MessageRules.{field_names};
-ghost use Rattle.pg_schema.specs.Words.{is_word_byte};
 
 use crate::enum_type::{EnumType, EnumValue};
 use crate::field::{EnumId, Field, Presence};
 use crate::file::File;
+use crate::json_name::in_camel_case;
 use crate::message_type::MessageType;
 use crate::parts::Parts;
 use crate::service::{Method, Service};
 use std::alloc::{AllocError, Global};
 
-/// The full name of a name that the scope declares.
-fn within(alloc: Global, scope: &str, name: &str) -> Result<String, AllocError>
+/// The full name of a name that the scope declares: that of the scope, a dot and the name; in the
+/// scope without a name the name alone.
+///
+/// Refused only where memory is.
+pub fn full_name(alloc: Global, scope: &str, name: &str) -> Result<String, AllocError>
     ensures { IfOk result (λ full. string_bytes full ≡ within scope.now name.now) }
 {
     let mut full = String::from_str(alloc, scope)?;
@@ -30,34 +32,15 @@ fn within(alloc: Global, scope: &str, name: &str) -> Result<String, AllocError>
     Ok(full)
 }
 
-/// The letter, in upper case where a part of the name begins.
-fn letter(begins: bool, byte: u8) -> u8
-    requires { byte < 128 }
-    ensures value { result ≡ letter begins byte }
-    ensures small { result < 128 }
-{
-    if begins {
-        byte.to_ascii_uppercase()
-    } else {
-        byte
-    }
-}
-
-/// What the entry type of a map field of that name is called.
-fn entry_name(alloc: Global, name: &str) -> Result<String, AllocError>
-    requires { list_all is_word_byte name.now ≡ true }
+/// The name of the message type of a map field's entries, for a field of this name: the field's
+/// name without its `_`, its first letter and each behind a `_` in upper case, and `Entry`
+/// (descriptor.proto, `map_entry`).
+///
+/// Refused only where memory is.
+pub fn entry_name(alloc: Global, name: &str) -> Result<String, AllocError>
     ensures { IfOk result (λ entry. string_bytes entry ≡ entry_name name.now) }
 {
-    let mut entry = String::new(alloc);
-    let mut begins = true;
-    for byte in name.as_bytes() {
-        if *byte == b'_' {
-            begins = true;
-        } else {
-            entry.push(char::from(letter(begins, *byte)))?;
-            begins = false;
-        }
-    }
+    let mut entry = in_camel_case(alloc, true, name)?;
     entry.push_str("Entry")?;
     Ok(entry)
 }
@@ -73,7 +56,7 @@ fn push_field_names(
         ≡ map string_bytes names.old.items ++ map (within scope.now) (field_names fields.now)) }
 {
     for field in fields {
-        names.push(within(alloc, scope, &field.name)?)?;
+        names.push(full_name(alloc, scope, &field.name)?)?;
     }
     Ok(())
 }
@@ -90,7 +73,7 @@ fn push_oneof_names(
         ++ map (within scope.now) (map string_bytes oneofs.now)) }
 {
     for oneof in oneofs {
-        names.push(within(alloc, scope, oneof)?)?;
+        names.push(full_name(alloc, scope, oneof)?)?;
     }
     Ok(())
 }
@@ -106,7 +89,7 @@ fn push_value_names(
         ≡ map string_bytes names.old.items ++ map (within scope.now) (value_names values.now)) }
 {
     for value in values {
-        names.push(within(alloc, scope, &value.name)?)?;
+        names.push(full_name(alloc, scope, &value.name)?)?;
     }
     Ok(())
 }
@@ -122,7 +105,7 @@ fn push_method_names(
         ≡ map string_bytes names.old.items ++ map (within scope.now) (method_names methods.now)) }
 {
     for method in methods {
-        names.push(within(alloc, scope, &method.name)?)?;
+        names.push(full_name(alloc, scope, &method.name)?)?;
     }
     Ok(())
 }
@@ -134,14 +117,13 @@ fn push_entry_names(
     scope: &str,
     fields: &[Field],
 ) -> Result<(), AllocError>
-    requires { list_all has_word fields.now ≡ true }
     ensures { OnOk result (map string_bytes names.new.items
         ≡ map string_bytes names.old.items ++ map (within scope.now) (entry_names fields.now)) }
 {
     for field in fields {
         if matches!(field.presence, Presence::Map { .. }) {
             let entry = entry_name(alloc, &field.name)?;
-            names.push(within(alloc, scope, &entry)?)?;
+            names.push(full_name(alloc, scope, &entry)?)?;
         }
     }
     Ok(())
@@ -190,7 +172,6 @@ fn push_type_names(
     enums: &[EnumType],
     message_type: &MessageType,
 ) -> Result<(), AllocError>
-    requires { list_all has_word message_type.now.fields.items ≡ true }
     ensures { OnOk result (map string_bytes names.new.items
         ≡ map string_bytes names.old.items ++ type_names enums.now message_type.now) }
 {
@@ -222,7 +203,6 @@ fn push_all_type_names(
     enums: &[EnumType],
     types: &[MessageType],
 ) -> Result<(), AllocError>
-    requires { list_all have_words types.now ≡ true }
     ensures { OnOk result (map string_bytes names.new.items
         ≡ map string_bytes names.old.items ++ flat_map (type_names enums.now) types.now) }
 {
@@ -277,7 +257,6 @@ fn push_file_names(
 
 /// The full names that all files declare.
 pub(crate) fn declared_names(alloc: Global, parts: &Parts) -> Result<Vec<String>, AllocError>
-    requires { list_all have_words parts.now.types.items ≡ true }
     ensures { IfOk result (λ names. map string_bytes names.items ≡ declared_names parts.now) }
 {
     let mut names = Vec::new(alloc);

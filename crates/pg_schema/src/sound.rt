@@ -2,7 +2,6 @@
 
 ghost use Rattle.std.specs.Prelude.{◌≡◌, ◌↔◌, IfOk, IsTrue, true};
 ghost use Rattle.std.specs.List.{list_all};
-ghost use Rattle.pg_schema.specs.DeclaredNames.{have_words};
 ghost use Rattle.pg_schema.specs.FileRules.{is_file};
 ghost use Rattle.pg_schema.specs.Sound.{are_named_apart, are_placed, IsSound, keep_rules};
 
@@ -54,8 +53,7 @@ fn are_placed(alloc: Global, parts: &Parts) -> Result<bool, AllocError>
 
 /// No full name is declared twice, in whichever files, and none is a part of a package.
 fn are_named_apart(alloc: Global, parts: &Parts) -> Result<bool, AllocError>
-    requires words { list_all have_words parts.now.types.items ≡ true }
-    requires files { list_all is_file parts.now.files.items ≡ true }
+    requires { list_all is_file parts.now.files.items ≡ true }
     ensures { IfOk result (λ b. b ≡ are_named_apart parts.now) }
 {
     let names = declared_names(alloc, parts)?;

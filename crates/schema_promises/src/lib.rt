@@ -8,6 +8,7 @@ ghost use Rattle.std.specs.String.{string_bytes};
 ghost use Rattle.pg_schema.specs.declared.error.PartsError.TheVariants.{Invariant};
 ghost use Rattle.pg_schema.specs.declared.field.TypeId.{TypeId};
 ghost use Rattle.pg_schema.specs.Codes.{code_of};
+ghost use Rattle.pg_schema.specs.DeclaredNames.{entry_name, within};
 ghost use Rattle.pg_schema.specs.Invariant.{IsSchema};
 ghost use Rattle.pg_schema.specs.JsonName.{default_json_name};
 ghost use Rattle.pg_schema.specs.Parts.{enum_at, field_of, field_shape, name_at, shape_of, type_at};
@@ -94,6 +95,20 @@ pub fn default_json_name(alloc: Global, name: &str) -> Result<String, AllocError
     ensures { IfOk result (λ text. string_bytes text ≡ default_json_name name.now) }
 {
     pg_schema::default_json_name(alloc, name)
+}
+
+/// What `full_name` answers. Only an edit reads the other name.
+pub fn full_name(alloc: Global, scope: &str, name: &str, _other: &str) -> Result<String, AllocError>
+    ensures { IfOk result (λ full. string_bytes full ≡ within scope.now name.now) }
+{
+    pg_schema::full_name(alloc, scope, name)
+}
+
+/// What `entry_name` answers.
+pub fn entry_name(alloc: Global, name: &str) -> Result<String, AllocError>
+    ensures { IfOk result (λ entry. string_bytes entry ≡ entry_name name.now) }
+{
+    pg_schema::entry_name(alloc, name)
 }
 
 /// What `PartsError::code` answers.
