@@ -121,8 +121,50 @@ fn push_each<M: Lends>(
     Ok(())
 }
 
-// Adds the bodies of a list, by a loop for each scalar of which lists are packed. Not inlined, as
-// `push_item`.
+// The same of items of a scalar type.
+#[inline(always)]
+fn push_scalars<M: Lends>(
+    out: &mut Vec<u8>,
+    scalar: Scalar,
+    values: &[M::Value],
+) -> Result<(), AllocError>
+    requires { LeavesFit M.item (elements.Scalar scalar) values.now }
+    ensures ok { OnOk result (out.new.items
+        ≡ out.old.items ++ packed_body M.item (elements.Scalar scalar) values.now) }
+{
+    push_each::<M>(out, Element::Scalar(scalar), values)
+}
+
+// The same by a loop for each scalar type of which lists are packed.
+#[inline(always)]
+fn push_packables<M: Lends>(
+    out: &mut Vec<u8>,
+    scalar: Scalar,
+    values: &[M::Value],
+) -> Result<(), AllocError>
+    requires { LeavesFit M.item (elements.Scalar scalar) values.now }
+    ensures ok { OnOk result (out.new.items
+        ≡ out.old.items ++ packed_body M.item (elements.Scalar scalar) values.now) }
+{
+    match scalar {
+        Scalar::Double => push_scalars::<M>(out, Scalar::Double, values),
+        Scalar::Float => push_scalars::<M>(out, Scalar::Float, values),
+        Scalar::Int32 => push_scalars::<M>(out, Scalar::Int32, values),
+        Scalar::Int64 => push_scalars::<M>(out, Scalar::Int64, values),
+        Scalar::Uint32 => push_scalars::<M>(out, Scalar::Uint32, values),
+        Scalar::Uint64 => push_scalars::<M>(out, Scalar::Uint64, values),
+        Scalar::Sint32 => push_scalars::<M>(out, Scalar::Sint32, values),
+        Scalar::Sint64 => push_scalars::<M>(out, Scalar::Sint64, values),
+        Scalar::Fixed32 => push_scalars::<M>(out, Scalar::Fixed32, values),
+        Scalar::Fixed64 => push_scalars::<M>(out, Scalar::Fixed64, values),
+        Scalar::Sfixed32 => push_scalars::<M>(out, Scalar::Sfixed32, values),
+        Scalar::Sfixed64 => push_scalars::<M>(out, Scalar::Sfixed64, values),
+        Scalar::Bool => push_scalars::<M>(out, Scalar::Bool, values),
+        Scalar::String | Scalar::Bytes => push_scalars::<M>(out, scalar, values),
+    }
+}
+
+// Adds the bodies of a list. Not inlined, as `push_item`.
 #[inline(never)]
 fn push_bodies<M: Lends>(
     out: &mut Vec<u8>,
@@ -134,68 +176,8 @@ fn push_bodies<M: Lends>(
         ≡ out.old.items ++ packed_body M.item element values.now) }
 {
     match element {
-        Element::Scalar(Scalar::Double) => push_each::<M>(
-            out,
-            Element::Scalar(Scalar::Double),
-            values,
-        ),
-        Element::Scalar(Scalar::Float) => push_each::<M>(
-            out,
-            Element::Scalar(Scalar::Float),
-            values,
-        ),
-        Element::Scalar(Scalar::Int32) => push_each::<M>(
-            out,
-            Element::Scalar(Scalar::Int32),
-            values,
-        ),
-        Element::Scalar(Scalar::Int64) => push_each::<M>(
-            out,
-            Element::Scalar(Scalar::Int64),
-            values,
-        ),
-        Element::Scalar(Scalar::Uint32) => push_each::<M>(
-            out,
-            Element::Scalar(Scalar::Uint32),
-            values,
-        ),
-        Element::Scalar(Scalar::Uint64) => push_each::<M>(
-            out,
-            Element::Scalar(Scalar::Uint64),
-            values,
-        ),
-        Element::Scalar(Scalar::Sint32) => push_each::<M>(
-            out,
-            Element::Scalar(Scalar::Sint32),
-            values,
-        ),
-        Element::Scalar(Scalar::Sint64) => push_each::<M>(
-            out,
-            Element::Scalar(Scalar::Sint64),
-            values,
-        ),
-        Element::Scalar(Scalar::Fixed32) => push_each::<M>(
-            out,
-            Element::Scalar(Scalar::Fixed32),
-            values,
-        ),
-        Element::Scalar(Scalar::Fixed64) => push_each::<M>(
-            out,
-            Element::Scalar(Scalar::Fixed64),
-            values,
-        ),
-        Element::Scalar(Scalar::Sfixed32) => push_each::<M>(
-            out,
-            Element::Scalar(Scalar::Sfixed32),
-            values,
-        ),
-        Element::Scalar(Scalar::Sfixed64) => push_each::<M>(
-            out,
-            Element::Scalar(Scalar::Sfixed64),
-            values,
-        ),
-        Element::Scalar(Scalar::Bool) => push_each::<M>(out, Element::Scalar(Scalar::Bool), values),
-        _ => push_each::<M>(out, element, values),
+        Element::Scalar(scalar) => push_packables::<M>(out, scalar, values),
+        Element::Enum(_) | Element::Message(_) => push_each::<M>(out, element, values),
     }
 }
 
