@@ -6,10 +6,9 @@ ghost use Rattle.pg_check.specs.MadeServices as spec;
 
 use crate::made_number::index_of;
 use crate::made_option::flag_in;
-use crate::outline::full_name;
 use crate::types::Targets;
 use pg_link::Target;
-use pg_schema::{Method, MethodOptions, Service, ServiceId, ServiceOptions, TypeId};
+use pg_schema::{Method, MethodOptions, Service, ServiceId, ServiceOptions, TypeId, full_name};
 use pg_syntax::tree::{self, Rpc, RpcPart, ServicePart, Statement};
 use std::alloc::{AllocError, Global};
 
@@ -104,7 +103,7 @@ fn made_service(
     ensures { IfOk result (λ made. spec.service made
         ≡ spec.made_service (target_in targets.now) scope.now service.now) }
 {
-    let name = full_name(alloc, scope, &service.name)?;
+    let name = full_name(alloc, scope, &service.name.text)?;
     let methods = made_methods(alloc, targets, &service.parts)?;
     let options = ServiceOptions {
         deprecated: service_flag(&service.parts),

@@ -4,7 +4,8 @@ ghost use Rattle.std.specs.Prelude.{◌≡◌, ◌++◌, IfOk, OnOk, flat_map, m
 ghost use Rattle.pg_schema.specs.DeclaredNames.{within};
 ghost use Rattle.pg_check.specs.Outline as spec;
 
-use pg_syntax::tree::{Dotted, Enum, FileTree, Message, Name, Part, Statement};
+use pg_schema::full_name;
+use pg_syntax::tree::{Dotted, Enum, FileTree, Message, Part, Statement};
 use std::alloc::{AllocError, Global};
 
 /// A message, the scope that declares it, and its full name without a dot in front.
@@ -21,18 +22,6 @@ pub(crate) struct FoundEnum<'a> {
     pub scope: String,
     pub full: String,
     pub tree: &'a Enum,
-}
-
-/// The full name of a name that a scope declares.
-pub(crate) fn full_name(alloc: Global, scope: &str, name: &Name) -> Result<String, AllocError>
-    ensures { IfOk result (λ full. string_bytes full ≡ spec.full_name scope.now name.now) }
-{
-    let mut full = String::from_str(alloc, scope)?;
-    if !scope.is_empty() {
-        full.push('.')?;
-    }
-    full.push_str(&name.text)?;
-    Ok(full)
 }
 
 /// Appends the messages of a part.
@@ -89,7 +78,7 @@ fn push_message<'a>(
     ensures { OnOk result (map spec.message found.new.items ≡ map spec.message found.old.items
         ++ spec.messages_of scope.now message.now) }
 {
-    let full = full_name(alloc, scope, &message.name)?;
+    let full = full_name(alloc, scope, &message.name.text)?;
     let inner = full.clone()?;
     found.push(FoundMessage {
         scope: String::from_str(alloc, scope)?,
@@ -109,7 +98,7 @@ fn push_enum<'a>(
     ensures { OnOk result (map spec.enumeration found.new.items
         ≡ map spec.enumeration found.old.items ++ spec.an_enum scope.now tree.now) }
 {
-    let full = full_name(alloc, scope, &tree.name)?;
+    let full = full_name(alloc, scope, &tree.name.text)?;
     let scope = String::from_str(alloc, scope)?;
     found.push(FoundEnum { scope, full, tree })?;
     Ok(())
@@ -169,7 +158,7 @@ fn push_enums_of<'a>(
     ensures { OnOk result (map spec.enumeration found.new.items
         ≡ map spec.enumeration found.old.items ++ spec.enums_of scope.now message.now) }
 {
-    let inner = full_name(alloc, scope, &message.name)?;
+    let inner = full_name(alloc, scope, &message.name.text)?;
     push_body_enums(alloc, found, &inner, &message.parts)
 }
 
