@@ -18,20 +18,9 @@ use crate::outline::Named;
 use crate::proto;
 use crate::said::text;
 use pg_dyn::Message;
+use pg_schema::full_name;
 use std::alloc::{AllocError, Global};
 use std::collections::BTreeMap;
-
-/// The full name of a name that the scope declares.
-pub fn full_name(alloc: Global, scope: &str, name: &str) -> Result<String, AllocError>
-    ensures { IfOk result (λ full. string_bytes full ≡ within scope.now name.now) }
-{
-    let mut full = String::from_str(alloc, scope)?;
-    if !scope.is_empty() {
-        full.push('.')?;
-    }
-    full.push_str(name)?;
-    Ok(full)
-}
 
 /// Puts a name in the table. Refused, memory aside, only where it may not be declared.
 pub fn declare(

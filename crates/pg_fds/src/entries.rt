@@ -15,7 +15,6 @@ use crate::building::{
 };
 use crate::descriptor::{LABEL, NUMBER, TYPE};
 use crate::fields::{element_code, element_name};
-use crate::names::entry_name;
 use crate::places::{FIELD, MESSAGE, MESSAGE_OPTIONS};
 use crate::proto;
 use crate::proto::{
@@ -23,7 +22,7 @@ use crate::proto::{
     MESSAGE_FIELD, MESSAGE_MAP_ENTRY, MESSAGE_NAME,
 };
 use pg_dyn::{Message, Value};
-use pg_schema::{Element, Field, Presence, Scalar, Schema};
+use pg_schema::{Element, Field, Presence, Scalar, Schema, entry_name};
 use std::alloc::{AllocError, Global};
 
 // The message of a field of an entry type.

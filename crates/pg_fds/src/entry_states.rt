@@ -22,12 +22,11 @@ ghost use Rattle.pg_fds.specs.States.{AreKeyAndValue, HasEntry, StatesEntries, S
 
 use crate::error::Unstated;
 use crate::fields::{element_code, element_name};
-use crate::names::entry_name;
 use crate::proto;
 use crate::said::{children, ensure, flag, item, number, option, text};
 use crate::states::{has_json_name, has_type_name, label_of, same_text};
 use pg_dyn::{Message, Value};
-use pg_schema::{Element, Field, Presence, Scalar, Schema, default_json_name};
+use pg_schema::{Element, Field, Presence, Scalar, Schema, default_json_name, entry_name};
 use std::alloc::Global;
 use std::collections::BTreeMap;
 

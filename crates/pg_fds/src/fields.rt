@@ -14,7 +14,7 @@ use crate::building::{
     empty, put_count, put_mark, put_maybe_count, put_maybe_text, put_options, put_text,
 };
 use crate::descriptor::{LABEL, NUMBER, TYPE};
-use crate::names::{dotted, dotted_within, entry_name};
+use crate::names::{dotted, dotted_within};
 use crate::options::two_flags;
 use crate::places::{FIELD, FIELD_OPTIONS};
 use crate::proto;
@@ -23,7 +23,7 @@ use crate::proto::{
     FIELD_PROTO3_OPTIONAL, FIELD_TYPE, FIELD_TYPE_NAME,
 };
 use pg_dyn::Message;
-use pg_schema::{Element, Field, Presence, Scalar, Schema};
+use pg_schema::{Element, Field, Presence, Scalar, Schema, entry_name};
 use std::alloc::{AllocError, Global};
 
 /// LABEL_OPTIONAL or LABEL_REPEATED.

@@ -24,13 +24,13 @@ use crate::codes::{MESSAGE_CODE, REPEATED};
 use crate::entry_states::{has_no_options, lacks, lacks_all};
 use crate::error::Unstated;
 use crate::made_fields::{element, resolved};
-use crate::names::{dotted_within, entry_name};
+use crate::names::dotted_within;
 use crate::outline::Named;
 use crate::proto;
 use crate::said::{children, ensure, flag, maybe_text, number, option, text};
 use crate::states::{has_json_name, label_of, same_text};
 use pg_dyn::Message;
-use pg_schema::{Element, Presence, Scalar};
+use pg_schema::{Element, Presence, Scalar, entry_name};
 use std::alloc::Global;
 use std::collections::BTreeMap;
 

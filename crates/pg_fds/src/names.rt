@@ -2,10 +2,9 @@
 
 ghost use Rattle.std.specs.Prelude.{◌≡◌, ◌∷◌, ◌<◌, IfOk, map};
 ghost use Rattle.std.specs.String.{string_bytes};
-ghost use Rattle.pg_schema.specs.DeclaredNames.{entry_name, within};
+ghost use Rattle.pg_schema.specs.DeclaredNames.{within};
 ghost use Rattle.pg_fds.specs.Messages.{own_name};
 
-use pg_schema::default_json_name;
 use std::alloc::{AllocError, Global};
 
 /// What stands behind the last dot of a full name.
@@ -16,18 +15,6 @@ pub fn own_name(name: &str) -> &str
         Some((_, own)) => own,
         None => name,
     }
-}
-
-/// What the entry type of a map field of that name is called: its name as a JSON name that begins
-/// with a letter in upper case, and `Entry`.
-pub fn entry_name(alloc: Global, name: &str) -> Result<String, AllocError>
-    ensures { IfOk result (λ entry. string_bytes entry ≡ entry_name name.now) }
-{
-    let mut begun = String::from_str(alloc, "_")?;
-    begun.push_str(name)?;
-    let mut entry = default_json_name(alloc, &begun)?;
-    entry.push_str("Entry")?;
-    Ok(entry)
 }
 
 /// A full name with a dot in front.

@@ -18,7 +18,7 @@ ghost use Rattle.pg_fds.specs.StatesTypes.{is_entry};
 mod enums;
 mod services;
 
-use crate::declare::{declare, declare_each, declare_package, full_name, real_oneofs};
+use crate::declare::{declare, declare_each, declare_package, real_oneofs};
 use crate::error::Unstated;
 use crate::oneof_states::{marks, synthetic_places};
 use crate::outline::enums::outline_enums;
@@ -27,7 +27,7 @@ use crate::proto;
 use crate::said::{children, text};
 use crate::type_states::{entries_of, types_of};
 use pg_dyn::Message;
-use pg_schema::{EnumId, ServiceId, TypeId};
+use pg_schema::{EnumId, ServiceId, TypeId, full_name};
 use std::alloc::Global;
 use std::collections::BTreeMap;
 

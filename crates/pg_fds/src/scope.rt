@@ -10,8 +10,8 @@ ghost use Rattle.pg_schema.specs.MessageRules.{field_names};
 ghost use Rattle.pg_fds.specs.Messages.{names_within, own_enum_name, own_type_name, where_found};
 ghost use Rattle.pg_fds.specs.Places.{declared_in};
 
-use crate::names::{entry_name, own_name};
-use pg_schema::{EnumId, EnumValue, Field, MessageType, Presence, Schema, TypeId};
+use crate::names::own_name;
+use pg_schema::{EnumId, EnumValue, Field, MessageType, Presence, Schema, TypeId, entry_name};
 use std::alloc::{AllocError, Global};
 
 // Puts the names of the fields behind the others.
