@@ -19,6 +19,10 @@ use crate::reading::stop::Stop;
 use pg_schema::{Schema, TypeId};
 use std::alloc::Global;
 
+/// A limit of depth for callers that have none of their own, as Protocol Buffers' C++ and Java
+/// readers have one of 100. The message that is read has depth 1.
+pub const DEFAULT_DEPTH_LIMIT: usize = 100;
+
 /// The message that bytes are read as, by the type, which the schema has (Protocol Buffers encoding
 /// guide, "Message Structure", "Last One Wins", "Packed Repeated Fields", "Maps"). Its texts, bytes
 /// and unknown records are those of the bytes; none is copied. Records that no field of the type

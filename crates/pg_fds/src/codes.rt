@@ -12,9 +12,9 @@ ghost use Rattle.pg_fds.specs.Said.{number_at};
 
 use crate::fields::scalar_code;
 use crate::proto;
-use crate::said::{MOST_DEEP, children, number};
+use crate::said::{children, number};
 use crate::states::label_of;
-use pg_dyn::Message;
+use pg_dyn::{DEFAULT_DEPTH_LIMIT, Message};
 use pg_schema::Scalar;
 use std::alloc::{AllocError, Global};
 
@@ -156,7 +156,7 @@ fn file_has_types(alloc: Global, file: &Message) -> Result<bool, AllocError>
 {
     let declared = children(alloc, file, proto::FILE_MESSAGE_TYPE)?;
     let types = declared.as_slice();
-    let taken = have_types(alloc, MOST_DEEP, types)?;
+    let taken = have_types(alloc, DEFAULT_DEPTH_LIMIT, types)?;
     Ok(taken)
 }
 

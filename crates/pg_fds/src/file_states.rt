@@ -24,11 +24,11 @@ use crate::error::Unstated;
 use crate::files::mode_code;
 use crate::oneof_states::marks;
 use crate::proto;
-use crate::said::{MOST_DEEP, child_in, children, ensure, item, numbers, text, texts};
+use crate::said::{child_in, children, ensure, item, numbers, text, texts};
 use crate::service_states::services;
 use crate::states::{enums, same_text};
 use crate::type_states::types;
-use pg_dyn::{Message, Value};
+use pg_dyn::{DEFAULT_DEPTH_LIMIT, Message, Value};
 use pg_schema::{File, FileOption, Import, OptionValue, Schema};
 use std::alloc::Global;
 
@@ -213,7 +213,7 @@ fn declares(
     types(
         alloc,
         source,
-        MOST_DEEP,
+        DEFAULT_DEPTH_LIMIT,
         scope,
         &children(alloc, message, proto::FILE_MESSAGE_TYPE)?,
         &declared.types,

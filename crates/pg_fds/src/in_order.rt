@@ -9,7 +9,8 @@ ghost use Rattle.pg_fds.specs.InOrder.{StandInOrder, enums_below, file_enums, fi
 ghost use Rattle.pg_fds.specs.Walks.{places_from};
 
 use crate::error::Unstated;
-use crate::said::{MOST_DEEP, ensure};
+use crate::said::ensure;
+use pg_dyn::DEFAULT_DEPTH_LIMIT;
 use pg_schema::{EnumId, File, Schema, ServiceId, TypeId};
 
 // The place is the next one.
@@ -112,7 +113,7 @@ fn all_types(source: &Schema, files: &[File]) -> Result<usize, Unstated>
 {
     let mut end = 0;
     for file in files {
-        end = types(source, MOST_DEEP, file.types.as_slice(), end)?;
+        end = types(source, DEFAULT_DEPTH_LIMIT, file.types.as_slice(), end)?;
     }
     Ok(end)
 }
@@ -128,7 +129,7 @@ fn all_enums(source: &Schema, files: &[File]) -> Result<usize, Unstated>
     let mut end = 0;
     for file in files {
         let own = enums(file.enums.as_slice(), end)?;
-        end = inner_enums(source, MOST_DEEP, file.types.as_slice(), own)?;
+        end = inner_enums(source, DEFAULT_DEPTH_LIMIT, file.types.as_slice(), own)?;
     }
     Ok(end)
 }

@@ -33,11 +33,11 @@ use crate::order::order;
 use crate::outline::outline_files;
 use crate::places::SET;
 use crate::proto;
-use crate::said::{MOST_DEEP, children};
+use crate::said::children;
 use crate::set_states::{kept, skips, states_files};
 use pg_check::{CheckError, admit};
 use pg_dyn::laws::faults_are_real;
-use pg_dyn::{DynError, Message, decode};
+use pg_dyn::{DEFAULT_DEPTH_LIMIT, DynError, Message, decode};
 use pg_schema::{Parts, Schema};
 use std::alloc::Global;
 
@@ -62,7 +62,7 @@ fn decoded(alloc: Global, bytes: &[u8]) -> Result<Message, FdsError>
     ensures of_bytes { IfErr result IsOfBytes }
 {
     let table = descriptor_schema(alloc)?;
-    match decode(alloc, &table, SET, bytes, MOST_DEEP) {
+    match decode(alloc, &table, SET, bytes, DEFAULT_DEPTH_LIMIT) {
         Ok(set) => Ok(set),
         Err(error) => Err(undecoded(error)),
     }
@@ -95,7 +95,7 @@ fn parts(alloc: Global, skips: bool, files: &[&Message], order: &[usize]) -> Res
     ensures none { IfErr result (λ e. (parts : StatedParts) → CanBeMade parts
         → StatesFiles skips (map message_of (lent files.now)) parts → e ≡ unstated.Memory) }
 {
-    let outline = outline_files(alloc, MOST_DEEP, files, order)?;
+    let outline = outline_files(alloc, DEFAULT_DEPTH_LIMIT, files, order)?;
     made_parts(alloc, skips, &outline)
 }
 

@@ -17,9 +17,6 @@ use crate::error::Unstated;
 use pg_dyn::{Content, Message, Value};
 use std::alloc::{AllocError, Global};
 
-/// How deep the messages of a set may be nested, and so its message types.
-pub const MOST_DEEP: usize = 100;
-
 /// What has to hold of a set that states a schema.
 pub fn ensure(holds: bool) -> Result<(), Unstated>
     ensures ok { OnOk result (holds ≡ true) }

@@ -8,12 +8,9 @@ ghost use Rattle.pg_show.specs.Shown.{Refuses, Shows, again_line, most_levels, n
 
 use crate::hex_word::push_hex;
 use crate::lines::{Level, push_message};
-use pg_dyn::{DynError, decode_ref, encode_ref};
+use pg_dyn::{DEFAULT_DEPTH_LIMIT, DynError, decode_ref, encode_ref};
 use pg_schema::{Schema, TypeId};
 use std::alloc::{AllocError, Global};
-
-// Messages may be nested that deep; the root has depth 1.
-const MOST_LEVELS: usize = 100;
 
 // Adds the line of the message's encoding.
 fn push_again(alloc: Global, text: &mut String, bytes: &[u8]) -> Result<(), AllocError>
@@ -50,7 +47,7 @@ pub fn show(
         (fields (shape_of schema.now) type_id) bytes.now place → ⊥) }
     ensures refused { IfErr result (Refuses (shape_of schema.now) type_id bytes.now) }
 {
-    let message = decode_ref(alloc, schema, type_id, bytes, MOST_LEVELS)?;
+    let message = decode_ref(alloc, schema, type_id, bytes, DEFAULT_DEPTH_LIMIT)?;
     let again = encode_ref(alloc, schema, &message)?;
     let level = Level {
         alloc,
