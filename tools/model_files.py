@@ -26,14 +26,14 @@ COUNTED = {
 }
 # A path of code or definitions that a document names: from the top, below `crates`, or below a crate's folder.
 NAMED = re.compile(r"`([\w/+-]+/[\w+-]+\.(?:rt|antt))`")
-IMPORT = re.compile(r"^\s*(?:pub\s+)?use\s+Rattle\.(pg_\w+)\.specs\.(\w+)", re.M)
+IMPORT = re.compile(r"^\s*(?:pub\s+)?use\s+Rattle\.(pg_\w+)\.specs\.(\w+(?:\.\w+)*)", re.M)
 
 
 def imported(path):
     """Returns the files of definitions that one imports."""
     with open(f"{TOP}/{path}", encoding="utf-8") as file:
         found = IMPORT.findall(file.read())
-    named = [f"crates/{crate}/specs/{module}.antt" for crate, module in found]
+    named = [f"crates/{crate}/specs/{module.replace('.', '/')}.antt" for crate, module in found]
     return [it for it in dict.fromkeys(named) if os.path.isfile(f"{TOP}/{it}")]
 
 
@@ -62,7 +62,7 @@ def lines_of(paths):
 def differences():
     """Returns what docs/MODEL.md and README.md say otherwise than the definitions: files, and counts of files and lines."""
     said = {it: open(f"{TOP}/{it}", encoding="utf-8").read() for it in COUNTED}
-    listed = re.findall(r"^\| `(crates/pg_\w+/specs/\w+\.antt)` \|", said["docs/MODEL.md"], re.M)
+    listed = re.findall(r"^\| `(crates/pg_\w+/specs/[\w/]+\.antt)` \|", said["docs/MODEL.md"], re.M)
     wanted = dict.fromkeys(it for root in ROOTS.values() for it in rests_on(root))
     found = [f"docs/MODEL.md lacks {it}" for it in wanted if it not in listed]
     found += [f"docs/MODEL.md lists {it}, which no promise imports" for it in listed if it not in wanted]
