@@ -1,11 +1,13 @@
 -- The least number that one of two enums names and the other doesn't is the least that differs.
-use Rattle.std.proofs.Common.{◌≡◌, ◌^◌, ℤ, pos, negsuc, List, [], ◌∷◌, ◌++◌, filter, Bool, true, false, not, ◌&&◌, ◌||◌, Option, Some, None, inl, inr, ⊎_elim, refl, ap, sym, ◌∙◌, subst, true≢false}
+use Rattle.std.proofs.Common.{◌≡◌, ◌+◌, ◌<◌, ◌^◌, ℕ, suc, ℤ, pos, negsuc, List, [], ◌∷◌, ◌++◌, length, get_or, drop, map, filter, arith, Bool, true, false, not, ◌&&◌, ◌||◌, Option, Some, None, inl, inr, ⊎_elim, refl, ap, sym, ◌∙◌, subst, true≢false}
 use Rattle.std.specs.Ordering.{int_eq}
+use Rattle.std.proofs.Math.Seq.{drop-cons}
 use Rattle.std.proofs.lemmas.Bool.{and_parts, and_from, and_cases, and_left, and_right, or_from, or_left, or_right, lt-ltb}
 use Rattle.std.proofs.lemmas.Bool.Decides.{Decides-int_eq}
 use mir.Syntax.{w32}
 use mir.Val.{SFits}
-use Rattle.pg_dyn.specs.ViewNames.{NamedNumber, declares, has_name, names_within, same_names}
+use Rattle.pg_schema.specs.declared.enum_type.EnumValue.{EnumValue}
+use Rattle.pg_dyn.specs.ViewNames.{NamedNumber, named, declares, has_name, names_within, same_names}
 use Rattle.pg_pairs.specs.Among.{IsAmong}
 use Rattle.pg_pairs.specs.EnumView.{Differs}
 use Rattle.pg_pairs.specs.LeastNumbers.{least_number, lesser, lesser_of, has_32_bits, number_counts}
@@ -140,3 +142,22 @@ module _ (zero : Bool) (v : NamedNumber) (values others : List NamedNumber) (o :
   pub left_out_step : (number_counts zero v.number && is_missing others v) ≡ false →
       lesser_of o (least_number (missing_numbers zero values others)) ≡ lesser_of o (least_number (missing_numbers zero (v ∷ values) others))
   left_out_step h = rw h refl
+
+-- A number that isn't the lesser one may be passed over, whether its name is missing or not.
+
+module _ (zero : Bool) (v : NamedNumber) (values others : List NamedNumber) (o : Option ℤ) where
+  pub passed_over_step : lesser_of o (Some v.number) ≡ o →
+      lesser_of o (least_number (missing_numbers zero values others)) ≡ lesser_of o (least_number (missing_numbers zero (v ∷ values) others))
+  passed_over_step h =
+      let rest = least_number (missing_numbers zero values others) in
+      elim (number_counts zero v.number && is_missing others v) as (λ b. (number_counts zero v.number && is_missing others v) ≡ b → lesser_of o rest ≡ lesser_of o (least_number (missing_numbers zero (v ∷ values) others))) [
+        | true ↦ λ e. ap (λ x. lesser_of x rest) (sym h) ∙ counted_step zero v values others o e
+        | false ↦ λ e. left_out_step zero v values others o e
+      ] refl
+
+-- What is left of the values, with the next one in front.
+pub next_left : (zero : Bool) (values : List EnumValue) (others : List NamedNumber) (i : ℕ) (v : EnumValue) (o : Option ℤ) → i < length values → v ≡ get_or values i v
+    → lesser_of o (least_number (missing_numbers zero (map named (drop i values)) others)) ≡ lesser_of o (least_number (missing_numbers zero (named v ∷ map named (drop (i + 1) values)) others))
+next_left zero values others i v o h is =
+    ap (λ (vs : List EnumValue). lesser_of o (least_number (missing_numbers zero (map named vs) others)))
+    (drop-cons values i v h ∙ ap (λ (w : EnumValue). w ∷ drop (suc i) values) (sym is) ∙ ap (λ k. v ∷ drop k values) (let e : suc i ≡ i + 1 = omega arith in e))

@@ -67,6 +67,7 @@ pub mod EdgeLaws
 pub mod ChoicePlaces
 pub mod SameLengths
 pub mod LeastByName
+pub mod FoundValues
 pub mod NamedViews
 pub mod Grown
 pub mod Reaching

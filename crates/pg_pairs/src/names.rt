@@ -1,9 +1,12 @@
 //! The view by names.
 
-ghost use Rattle.std.specs.Prelude.{◌≡◌, ◌&&◌, map};
+ghost use Rattle.std.specs.Prelude.{◌≡◌, ◌&&◌, map, true, false, Some};
+ghost use Rattle.std.specs.Ordering.{int_eq};
+ghost use Rattle.std.specs.Str.{bytes_eq};
+ghost use Rattle.std.specs.String.{string_bytes};
 ghost use Rattle.pg_dyn.specs.ViewNames.{declares, has_name, named, names_within};
 ghost use Rattle.pg_pairs.specs.LeastNumbers.{least_number, lesser_of, number_counts, number_word};
-ghost use Rattle.pg_pairs.specs.MissingNames.{is_missing, missing_numbers};
+ghost use Rattle.pg_pairs.specs.MissingNames.{RiseByWord, is_missing, missing_numbers};
 
 use crate::view::View;
 use pg_dyn::{ViewName, complement_64};
@@ -46,12 +49,20 @@ fn has_number(values: &[EnumValue], number: i32) -> bool
     false
 }
 
+// Whether the value has the number and the name.
+fn is_named(value: &EnumValue, number: i32, name: &str) -> bool
+    ensures { result ≡ (int_eq value.now.number number
+        && bytes_eq (string_bytes value.now.name) name.now) }
+{
+    value.number == number && value.name.as_str() == name
+}
+
 // Whether one of these values has the number and the name.
 fn has_name(values: &[EnumValue], number: i32, name: &str) -> bool
     ensures { result ≡ has_name (map named values.now) number name.now }
 {
     for value in values {
-        if value.number == number && value.name.as_str() == name {
+        if is_named(value, number, name) {
             return true;
         }
     }
@@ -63,6 +74,76 @@ fn is_missing(others: &[EnumValue], value: &EnumValue) -> bool
     ensures { result ≡ is_missing (map named others.now) (named value.now) }
 {
     has_number(others, value.number) && !has_name(others, value.number, &value.name)
+}
+
+// Whether the words of the numbers rise: none is lesser than the one before.
+fn rise_by_word(values: &[EnumValue]) -> bool
+    ensures { result ≡ true → RiseByWord values.now }
+{
+    values.is_sorted_by_key(|value| number_word(value.number))
+}
+
+// The values with the number of this one, which stand together where the words of the numbers rise.
+fn values_beside<'a>(values: &'a [EnumValue], value: &EnumValue) -> &'a [EnumValue]
+    requires { RiseByWord values.now }
+    ensures { is_missing (map named result.now) (named value.now)
+        ≡ is_missing (map named values.now) (named value.now) }
+{
+    let word = number_word(value.number);
+    let start = values.partition_point(|other| number_word(other.number) < word);
+    let rest = &values[start..];
+    let count = rest.partition_point(|other| number_word(other.number) <= word);
+    &rest[..count]
+}
+
+// Whether the value at the place has the number.
+fn has_number_at(values: &[EnumValue], place: usize, number: i32) -> bool {
+    match values.get(place) {
+        Some(value) => value.number == number,
+        None => false,
+    }
+}
+
+// Whether the value at the place has the number and the name of this one.
+fn stands_at(others: &[EnumValue], place: usize, value: &EnumValue) -> bool
+    ensures { result ≡ true → is_missing (map named others.now) (named value.now) ≡ false }
+{
+    match others.get(place) {
+        Some(other) => is_named(other, value.number, &value.name),
+        None => false,
+    }
+}
+
+// Where the number stands among the values: behind the place if it does, else where it is first.
+// Of a number that they lack this says nothing.
+fn place_of(values: &[EnumValue], rise: bool, number: i32, place: usize) -> usize {
+    let next = place.saturating_add(1);
+    if has_number_at(values, next, number) {
+        return next;
+    }
+    if rise {
+        let word = number_word(number);
+        return values.partition_point(|value| number_word(value.number) < word);
+    }
+    values
+        .iter()
+        .position(|value| value.number == number)
+        .unwrap_or(place)
+}
+
+// The same as `is_missing`, sought first at the place, and then by halving where the words of the
+// others' numbers rise.
+fn is_missing_beside(others: &[EnumValue], rise: bool, place: usize, value: &EnumValue) -> bool
+    requires { rise ≡ true → RiseByWord others.now }
+    ensures { result ≡ is_missing (map named others.now) (named value.now) }
+{
+    if stands_at(others, place, value) {
+        return false;
+    }
+    if rise {
+        return is_missing(values_beside(others, value), value);
+    }
+    is_missing(others, value)
 }
 
 // Whether each name that these values give the number is one that the others give it.
@@ -85,24 +166,33 @@ fn counts(number: i32, zero: bool) -> bool
     zero || number != 0
 }
 
-// Whether the value's number counts, and its name is missing among the others.
-fn is_counted(others: &[EnumValue], value: &EnumValue, zero: bool) -> bool
-    ensures { result ≡ (number_counts zero value.now.number && is_missing (map named others.now)
-        (named value.now)) }
+// Whether the number would be the lesser one.
+fn is_lesser(number: i32, least: Option<i32>) -> bool
+    ensures lesser { result ≡ true → lesser_of least (Some number) ≡ Some number }
+    ensures other { result ≡ false → lesser_of least (Some number) ≡ least }
 {
-    counts(value.number, zero) && is_missing(others, value)
+    match least {
+        Some(least) => number_word(number) < number_word(least),
+        None => true,
+    }
 }
 
 // The least number that counts and that these values give a name that the others don't give it,
-// though they have it.
+// though they have it. The values of two enums mostly stand in one order, so a name is sought first
+// behind the place of the last one.
 fn least_missing(values: &[EnumValue], others: &[EnumValue], zero: bool) -> Option<i32>
     ensures { result ≡ least_number (missing_numbers zero (map named values.now)
         (map named others.now)) }
 {
+    let rise = rise_by_word(others);
     let mut least = None;
+    let mut place = 0;
     for value in values {
-        if is_counted(others, value, zero) {
-            least = lesser_of(least, Some(value.number));
+        if counts(value.number, zero) && is_lesser(value.number, least) {
+            place = place_of(others, rise, value.number, place);
+            if is_missing_beside(others, rise, place, value) {
+                least = Some(value.number);
+            }
         }
     }
     least
