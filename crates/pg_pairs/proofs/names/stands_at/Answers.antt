@@ -1,4 +1,4 @@
-use Rattle.std.proofs.Common.{◌≡◌, ◌&&◌, SFits, length, to_z, of_z, w32, ap, sym, ◌∙◌, rules}
+use Rattle.std.proofs.Common.{◌&&◌, SFits, length, to_z, of_z, w32, ap, sym, ◌∙◌, rules}
 use Rattle.std.specs.Ordering.{int_eq}
 use Rattle.std.specs.Str.{bytes_eq}
 use Rattle.std.specs.String.{string_bytes}
