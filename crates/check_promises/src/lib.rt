@@ -3,7 +3,7 @@
 #![tactic(auto)]
 
 ghost use Rattle.std.specs.Prelude.{◌≡◌, IfErr, IfOk, OnOk};
-ghost use Rattle.pg_schema.specs.Sound.{IsSound};
+ghost use Rattle.pg_schema.specs.rules.Sound.{IsSound};
 ghost use Rattle.pg_check.specs.Codes as codes;
 ghost use Rattle.pg_check.specs.Declares.{Declares};
 ghost use Rattle.pg_check.specs.Errors as spec;

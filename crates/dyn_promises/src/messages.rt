@@ -4,13 +4,13 @@ ghost use Rattle.std.specs.Prelude.{◌≡◌, ◌<◌, ◌↔◌, length, [], m
 ghost use Rattle.std.specs.List.{AllByRecursion};
 ghost use Rattle.pg_schema.specs.Parts.{shape_of};
 ghost use Rattle.pg_schema.specs.Shape.{IsShape, Shape};
-ghost use Rattle.pg_dyn.specs.ContentFaults.{ContentFault, ContentsFault, HasKeyTwice, HasNoFault, MayRefuseFor};
+ghost use Rattle.pg_dyn.specs.setting.ContentFaults.{ContentFault, ContentsFault, HasKeyTwice, HasNoFault, MayRefuseFor};
 ghost use Rattle.pg_dyn.specs.ContentFits.{HoldsContent};
 ghost use Rattle.pg_dyn.specs.Fits.{Fits};
 ghost use Rattle.pg_dyn.specs.Kept.{IsPlain, ends, of_number, type_of, unknown_of};
 ghost use Rattle.pg_dyn.specs.Seen.{IsFilled, Rises, content_seen, fields_onto, record_seen};
-ghost use Rattle.pg_dyn.specs.Setting.{IsSetTo, IsWhole};
-ghost use Rattle.pg_dyn.specs.Told.{TakesContent};
+ghost use Rattle.pg_dyn.specs.setting.Setting.{IsSetTo, IsWhole};
+ghost use Rattle.pg_dyn.specs.setting.Told.{TakesContent};
 
 use pg_dyn::{Content, DynError, Message, UnknownRecord};
 use pg_schema::{Schema, TypeId};

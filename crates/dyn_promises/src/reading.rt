@@ -4,11 +4,11 @@ ghost use Rattle.std.specs.Prelude.{◌≡◌, ◌<◌, ℕ, length, true, is_so
 ghost use Rattle.std.specs.Prelude.{OnOk, IfOk, IfErr};
 ghost use Rattle.pg_schema.specs.Parts.{shape_of};
 ghost use Rattle.pg_schema.specs.Shape.{fields};
-ghost use Rattle.pg_dyn.specs.Decoding.{dec};
+ghost use Rattle.pg_dyn.specs.reading.Decoding.{dec};
 ghost use Rattle.pg_dyn.specs.Fits.{Fits};
 ghost use Rattle.pg_dyn.specs.Kept.{message_of, type_of};
-ghost use Rattle.pg_dyn.specs.Refusals.{MayRefuse, MayRefuseUnlimited};
-ghost use Rattle.pg_dyn.specs.TooDeep.{TooDeepIn};
+ghost use Rattle.pg_dyn.specs.reading.Refusals.{MayRefuse, MayRefuseUnlimited};
+ghost use Rattle.pg_dyn.specs.reading.TooDeep.{TooDeepIn};
 ghost use Rattle.pg_dyn.specs.declared.error.DynError.TheVariants as errors;
 
 use pg_dyn::{DynError, Message, MessageRef};

@@ -6,17 +6,17 @@ use Rattle.std.specs.Str.{bytes_eq}
 use Rattle.std.proofs.lemmas.Bool.{and_parts, eqb-true}
 use Rattle.std.proofs.lemmas.List.{take-append-drop}
 use Rattle.std.proofs.lemmas.List.Folds.{list_any-append}
-use Rattle.pg_schema.specs.declared.enum_type.EnumType.{EnumType}
-use Rattle.pg_schema.specs.declared.field.TypeId.{TypeId}
-use Rattle.pg_schema.specs.declared.file.File.{File}
-use Rattle.pg_schema.specs.declared.message_type.MessageType.{MessageType}
+use Rattle.pg_schema.specs.declared.parts.enum_type.EnumType.{EnumType}
+use Rattle.pg_schema.specs.declared.parts.field.TypeId.{TypeId}
+use Rattle.pg_schema.specs.declared.parts.file.File.{File}
+use Rattle.pg_schema.specs.declared.parts.message_type.MessageType.{MessageType}
 use Rattle.pg_schema.specs.declared.parts.Parts.{Parts}
-use Rattle.pg_schema.specs.declared.service.Service.{Service}
-use Rattle.pg_schema.specs.FileRules.{is_file, is_file_option, option_numbers}
-use Rattle.pg_schema.specs.Pairs.{is_rising}
-use Rattle.pg_schema.specs.Scopes.{is_dot_and_word, is_in, is_named_in, type_name, are_types_in, are_enums_in, are_services_in, is_type_scope, is_file_scope, are_each_once, type_places, declared_types, declared_enums, declared_services}
-use Rattle.pg_schema.specs.Sound.{IsSound}
-use Rattle.pg_schema.specs.Words.{is_letter, is_digit, is_word_byte, is_word, before_first, parts_at_dots, is_package}
+use Rattle.pg_schema.specs.declared.parts.service.Service.{Service}
+use Rattle.pg_schema.specs.rules.Files.{is_file, is_file_option, option_numbers}
+use Rattle.pg_schema.specs.rules.Pairs.{is_rising}
+use Rattle.pg_schema.specs.rules.Scopes.{is_dot_and_word, is_in, is_named_in, type_name, are_types_in, are_enums_in, are_services_in, is_type_scope, is_file_scope, are_each_once, type_places, declared_types, declared_enums, declared_services}
+use Rattle.pg_schema.specs.rules.Sound.{IsSound}
+use Rattle.pg_schema.specs.rules.Words.{is_letter, is_digit, is_word_byte, is_word, before_first, parts_at_dots, is_package}
 use Rattle.pg_cert.proofs.Places.{each_place}
 use Rattle.pg_cert.proofs.WordsRead.{same_bytes}
 

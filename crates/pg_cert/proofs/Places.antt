@@ -4,8 +4,8 @@ use Rattle.std.specs.List.{AllByRecursion, IsDistinct, list_all, list_any}
 use Rattle.std.proofs.lemmas.Bool.{and_parts, or_parts, ltb-true, eqb-true}
 use Rattle.std.proofs.lemmas.Map.Keys.{IsDistinct-cons}
 use Rattle.std.proofs.lemmas.Map.Steps.{length-le_from_distinct_below}
-use Rattle.pg_schema.specs.Pairs.{all_pairs}
-use Rattle.pg_schema.specs.Scopes.{are_each_once}
+use Rattle.pg_schema.specs.rules.Pairs.{all_pairs}
+use Rattle.pg_schema.specs.rules.Scopes.{are_each_once}
 
 was_false : (b : Bool) → not b ≡ true → b ≡ false
 was_false false h = refl

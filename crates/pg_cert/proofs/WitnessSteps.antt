@@ -3,8 +3,8 @@ use Rattle.std.proofs.Common.{◌≡◌, ◌<◌, ◌≤◌, ℕ, zero, suc, Lis
 use Rattle.pg_schema.specs.Shape.{Shape, FieldShape, IsShape, fields, field_at}
 use Rattle.pg_dyn.specs.Belonging.{IsMessage}
 use Rattle.pg_dyn.specs.Breaking.{Breaks}
-use Rattle.pg_dyn.specs.Decoding.{dec}
-use Rattle.pg_dyn.specs.Encoding.{cap, enc}
+use Rattle.pg_dyn.specs.reading.Decoding.{dec}
+use Rattle.pg_dyn.specs.encoding.Encoding.{cap, enc}
 use Rattle.pg_dyn.specs.Kept.{Kept, message_of, type_of}
 use Rattle.pg_dyn.specs.Kept as kept
 use Rattle.pg_dyn.specs.Laws.{ReadsAgain}

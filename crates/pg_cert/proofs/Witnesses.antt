@@ -7,8 +7,8 @@ use Rattle.pg_wire.specs.Words.{signed, unzigzag}
 use Rattle.pg_wire.specs.Records.{tag_parts, record_at, records_of, tag, written}
 use Rattle.pg_schema.specs.Shape.{IsShape}
 use Rattle.pg_dyn.specs.Coding.{word_bytes, word_in}
-use Rattle.pg_dyn.specs.Encoding.{enc}
-use Rattle.pg_dyn.specs.Decoding.{dec}
+use Rattle.pg_dyn.specs.encoding.Encoding.{enc}
+use Rattle.pg_dyn.specs.reading.Decoding.{dec}
 use Rattle.pg_dyn.specs.Examples.{first, one, SameType}
 use Rattle.pg_dyn.specs.Laws.{ReadsAgain, SelfCompatible}
 use Rattle.pg_dyn.specs.Message.{Int}

@@ -1,6 +1,6 @@
 -- Tables of bounds as lists (this profile's choice: what a certificate holds).
 use Rattle.std.specs.Prelude.{ℕ, zero, suc, nat_le, List, [], ◌∷◌, find, Bool, true, not, ◌&&◌, Option, Some, None, option_map, is_some}
-use Rattle.pg_dyn.specs.Encoding.{cap}
+use Rattle.pg_dyn.specs.encoding.Encoding.{cap}
 use Rattle.pg_pairs.specs.Choices.{Table}
 use Rattle.pg_pairs.specs.Covering.{same_pair}
 use Rattle.pg_cert.specs.declared.bounds.PairBound.{PairBound}

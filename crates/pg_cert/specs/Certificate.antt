@@ -5,7 +5,7 @@ use Rattle.pg_schema.specs.Shape.{Shape}
 use Rattle.pg_dyn.specs.declared.view_name.ViewName.{ViewName}
 use Rattle.pg_dyn.specs.Belonging.{IsMessage}
 use Rattle.pg_dyn.specs.Message.{Message, IsPlain}
-use Rattle.pg_dyn.specs.Encoding.{enc, cap}
+use Rattle.pg_dyn.specs.encoding.Encoding.{enc, cap}
 use Rattle.pg_dyn.specs.Breaking.{Breaks}
 use Rattle.pg_pairs.specs.declared.choice.Pair.{Pair}
 use Rattle.pg_pairs.specs.EnumView.{EnumView}

@@ -1,8 +1,8 @@
 -- Small certificates: which hold, and the first fault of those that don't.
 use Rattle.std.specs.Prelude.{◌≡◌, ℕ, true, false, List, [], ◌∷◌, Option, Some, None}
-use Rattle.pg_schema.specs.declared.field.Scalar.TheVariants.{Int32, Uint32}
-use Rattle.pg_schema.specs.declared.field.Element.TheVariants as elements
-use Rattle.pg_schema.specs.declared.field.Presence.TheVariants.{Implicit, Explicit, Repeated}
+use Rattle.pg_schema.specs.declared.parts.field.Scalar.TheVariants.{Int32, Uint32}
+use Rattle.pg_schema.specs.declared.parts.field.Element.TheVariants as elements
+use Rattle.pg_schema.specs.declared.parts.field.Presence.TheVariants.{Implicit, Explicit, Repeated}
 use Rattle.pg_schema.specs.Shape.{Shape}
 use Rattle.pg_dyn.specs.declared.view_name.ViewName.TheVariants as views
 use Rattle.pg_dyn.specs.Examples.{first, second, field, scalar, of_fields, linked}

@@ -4,7 +4,7 @@ ghost use Rattle.std.specs.Prelude.{◌≡◌, ◌↔◌, ◌++◌, ◌∷◌, �
 ghost use Rattle.std.specs.List.{AllByRecursion};
 ghost use Rattle.std.specs.Option.{option_copied};
 ghost use Rattle.hex.specs.declared.error.FromHexError.TheVariants.{OutOfMemory};
-ghost use Rattle.pg_schema.specs.declared.field.TypeId.{TypeId};
+ghost use Rattle.pg_schema.specs.declared.parts.field.TypeId.{TypeId};
 ghost use Rattle.pg_dyn.specs.declared.view_name.ViewName.{ViewName};
 ghost use Rattle.pg_dyn.specs.declared.view_name.ViewName.TheVariants as views;
 ghost use Rattle.pg_pairs.specs.declared.choice.Pair.{Pair};

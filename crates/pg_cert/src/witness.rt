@@ -2,7 +2,7 @@
 
 ghost use Rattle.std.specs.Prelude.{◌≡◌, ◌⊎◌, ◌↔◌, ◌<◌, ◌≤◌, true, length, Some, MatchOption, MatchResult, IfOk, IsTrue};
 ghost use Rattle.pg_schema.specs.Parts.{shape_of};
-ghost use Rattle.pg_dyn.specs.Encoding.{cap, enc};
+ghost use Rattle.pg_dyn.specs.encoding.Encoding.{cap, enc};
 ghost use Rattle.pg_dyn.specs.Fits.{Fits};
 ghost use Rattle.pg_dyn.specs.Kept.{message_of, type_of};
 ghost use Rattle.pg_pairs.specs.SeenBy.{seen_by};

@@ -8,8 +8,8 @@ use Rattle.pg_link.specs.Declares.{Declarations, Done, Word, entry_name, names_i
 use Rattle.pg_link.specs.Files.{Declared}
 use Rattle.pg_link.specs.Names.{Text, called}
 use Rattle.pg_link.specs.Outline.{all_of, file_names, of_enum, of_enum_part, of_oneof, of_oneof_part, of_part, of_row, of_service, of_service_part, of_statement, package_words, word}
-use Rattle.pg_schema.specs.DeclaredNames.{within}
-use Rattle.pg_schema.specs.Words.{is_word}
+use Rattle.pg_schema.specs.rules.DeclaredNames.{within}
+use Rattle.pg_schema.specs.rules.Words.{is_word}
 use Rattle.pg_check.specs.Enums as enums
 use Rattle.pg_check.specs.MadeServices.{MadeMethod, MadeService, made_methods, made_service, made_services, service_in}
 use Rattle.pg_check.specs.Outline.{Enum, Message, all_enums, all_messages, dotted_more, enums_in, file_enums, file_messages, full_name, messages_in, package_in, package_of, row_enums, row_list, row_messages, scoped_enums, statement_enums, statement_messages, statements_behind}

@@ -4,11 +4,11 @@ use Rattle.std.specs.List.{list_all, AllByRecursion}
 use Rattle.std.proofs.lemmas.Bool.{false≢true}
 use Rattle.std.proofs.lemmas.Bool.Decides.{nat_tests}
 use Rattle.std.proofs.lemmas.List.{append-nil}
-use Rattle.pg_schema.specs.declared.file.File.{File}
+use Rattle.pg_schema.specs.declared.parts.file.File.{File}
 use Rattle.pg_schema.specs.declared.parts.Parts.{Parts}
-use Rattle.pg_schema.specs.DeclaredNames.{declared_names, within}
-use Rattle.pg_schema.specs.PackageNames.{are_free_of, is_free_of, is_front}
-use Rattle.pg_schema.specs.Words.{is_word, is_word_byte}
+use Rattle.pg_schema.specs.rules.DeclaredNames.{declared_names, within}
+use Rattle.pg_schema.specs.rules.Packages.{are_free_of, is_free_of, is_front}
+use Rattle.pg_schema.specs.rules.Words.{is_word, is_word_byte}
 use Rattle.pg_link.specs.Declares.{Done, Word, names_in, package_names, package_scope, within as linked_within}
 use Rattle.pg_link.specs.Files.{Declared as Name}
 use Rattle.pg_link.specs.Linked.{IsLinkedUp, LinkedFiles}

@@ -8,14 +8,14 @@ use Rattle.std.proofs.lemmas.List.{map-append}
 use Rattle.std.proofs.lemmas.List.Folds.{list_all-map}
 use Rattle.std.proofs.lemmas.Simd.{map-map}
 use Rattle.std.proofs.lemmas.Slice.Eq.{bytes_eq-Decides}
-use Rattle.pg_schema.specs.declared.enum_type.EnumType.{EnumType}
-use Rattle.pg_schema.specs.declared.enum_type.EnumValue as schema
-use Rattle.pg_schema.specs.declared.enum_type.ReservedValues.{ReservedValues}
-use Rattle.pg_schema.specs.EnumRules as rules
-use Rattle.pg_schema.specs.FieldRules.{stated_or}
-use Rattle.pg_schema.specs.Pairs.{all_pairs}
-use Rattle.pg_schema.specs.TextSets.{is_among}
-use Rattle.pg_schema.specs.UsedNumbers.{are_aliases, are_apart as uses_apart, enum_uses, from_lowest, is_used_once, is_value_range, reserved_values_use, value_use}
+use Rattle.pg_schema.specs.declared.parts.enum_type.EnumType.{EnumType}
+use Rattle.pg_schema.specs.declared.parts.enum_type.EnumValue as schema
+use Rattle.pg_schema.specs.declared.parts.enum_type.ReservedValues.{ReservedValues}
+use Rattle.pg_schema.specs.rules.Enums as rules
+use Rattle.pg_schema.specs.rules.Fields.{stated_or}
+use Rattle.pg_schema.specs.rules.Pairs.{all_pairs}
+use Rattle.pg_schema.specs.rules.TextSets.{is_among}
+use Rattle.pg_schema.specs.rules.Uses.{are_aliases, are_apart as uses_apart, enum_uses, from_lowest, is_used_once, is_value_range, reserved_values_use, value_use}
 use Rattle.pg_check.specs.declared.numbers.Keyed.{Keyed}
 use Rattle.pg_check.specs.declared.numbers.Numbers.{Numbers}
 use Rattle.pg_check.specs.Enums as enums

@@ -5,10 +5,10 @@ use Rattle.std.specs.Option.{option_map}
 use Rattle.std.proofs.lemmas.Bool.{false≢true}
 use Rattle.std.proofs.lemmas.Bool.Decides.{nat_tests}
 use Rattle.std.proofs.lemmas.List.Folds.{list_all-append}
-use Rattle.pg_schema.specs.declared.field.Element.{Element}
-use Rattle.pg_schema.specs.declared.field.Presence.TheVariants as presences
-use Rattle.pg_schema.specs.declared.field.Scalar.{Scalar}
-use Rattle.pg_schema.specs.FieldRules as rules
+use Rattle.pg_schema.specs.declared.parts.field.Element.{Element}
+use Rattle.pg_schema.specs.declared.parts.field.Presence.TheVariants as presences
+use Rattle.pg_schema.specs.declared.parts.field.Scalar.{Scalar}
+use Rattle.pg_schema.specs.rules.Fields as rules
 use Rattle.pg_schema.specs.Shape.{is_key, is_packable}
 use Rattle.pg_link.specs.declared.target.Target.{Target}
 use Rattle.pg_link.specs.declared.target.Target.TheVariants as targets_of

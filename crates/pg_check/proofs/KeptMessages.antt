@@ -8,15 +8,15 @@ use Rattle.std.proofs.lemmas.List.{length-map}
 use Rattle.std.proofs.lemmas.List.Folds.{list_all-map}
 use Rattle.std.proofs.lemmas.List.Sorted.{IsPermutation-map, length_permutation}
 use Rattle.std.proofs.lemmas.Simd.{map-map}
-use Rattle.pg_schema.specs.declared.field.EnumId.{EnumId}
-use Rattle.pg_schema.specs.declared.field.Field.{Field}
-use Rattle.pg_schema.specs.declared.field.TypeId.{TypeId}
-use Rattle.pg_schema.specs.declared.message_type.MessageType.{MessageType}
-use Rattle.pg_schema.specs.declared.message_type.ReservedFields.{ReservedFields}
-use Rattle.pg_schema.specs.MessageRules as rules
-use Rattle.pg_schema.specs.Pairs.{all_pairs, are_distinct, differ, is_rising}
-use Rattle.pg_schema.specs.TextSets.{is_among}
-use Rattle.pg_schema.specs.UsedNumbers.{are_aliases, are_apart as uses_apart, field_use, is_reserved_range, is_used_once, message_uses, reserved_use}
+use Rattle.pg_schema.specs.declared.parts.field.EnumId.{EnumId}
+use Rattle.pg_schema.specs.declared.parts.field.Field.{Field}
+use Rattle.pg_schema.specs.declared.parts.field.TypeId.{TypeId}
+use Rattle.pg_schema.specs.declared.parts.message_type.MessageType.{MessageType}
+use Rattle.pg_schema.specs.declared.parts.message_type.ReservedFields.{ReservedFields}
+use Rattle.pg_schema.specs.rules.Messages as rules
+use Rattle.pg_schema.specs.rules.Pairs.{all_pairs, are_distinct, differ, is_rising}
+use Rattle.pg_schema.specs.rules.TextSets.{is_among}
+use Rattle.pg_schema.specs.rules.Uses.{are_aliases, are_apart as uses_apart, field_use, is_reserved_range, is_used_once, message_uses, reserved_use}
 use Rattle.pg_link.specs.declared.target.Target.{Target}
 use Rattle.pg_check.specs.declared.numbers.Keyed.{Keyed}
 use Rattle.pg_check.specs.declared.numbers.Numbers.{Numbers}

@@ -7,9 +7,9 @@ use Rattle.std.proofs.lemmas.Bool.{false≢true}
 use Rattle.std.proofs.lemmas.Bool.Decides.{nat_tests}
 use Rattle.std.proofs.lemmas.List.Folds.{list_any-append}
 use Rattle.std.proofs.lemmas.List.Sorted.{list_any-IsPermutation}
-use Rattle.pg_schema.specs.declared.field.Field.{Field}
-use Rattle.pg_schema.specs.MessageRules.{have_members, is_member, is_place}
-use Rattle.pg_schema.specs.Pairs.{is_rising}
+use Rattle.pg_schema.specs.declared.parts.field.Field.{Field}
+use Rattle.pg_schema.specs.rules.Messages.{have_members, is_member, is_place}
+use Rattle.pg_schema.specs.rules.Pairs.{is_rising}
 use Rattle.pg_link.specs.declared.target.Target.{Target}
 use Rattle.pg_check.specs.KeepsRules.{is_no_option, oneof_keeps}
 use Rattle.pg_check.specs.MadeFields.{MadeField, field, made_field, oneof_of}

@@ -9,12 +9,12 @@ use Rattle.std.proofs.lemmas.List.Folds.{list_all-map}
 use Rattle.std.proofs.lemmas.Option.{same_Some}
 use Rattle.std.proofs.lemmas.Simd.{map-map}
 use Rattle.std.proofs.lemmas.Slice.Eq.{bytes_eq-Decides}
-use Rattle.pg_schema.specs.declared.options.FileOption as options
-use Rattle.pg_schema.specs.declared.options.OptionValue.{OptionValue}
-use Rattle.pg_schema.specs.declared.options.OptionValue.TheVariants as schema_values
-use Rattle.pg_schema.specs.declared.options.OptimizeMode.TheVariants as modes
-use Rattle.pg_schema.specs.FileRules.{flag_options, is_file_option, is_of_kind, option_numbers, text_options}
-use Rattle.pg_schema.specs.Pairs.{all_pairs, is_rising}
+use Rattle.pg_schema.specs.declared.parts.options.FileOption as options
+use Rattle.pg_schema.specs.declared.parts.options.OptionValue.{OptionValue}
+use Rattle.pg_schema.specs.declared.parts.options.OptionValue.TheVariants as schema_values
+use Rattle.pg_schema.specs.declared.parts.options.OptimizeMode.TheVariants as modes
+use Rattle.pg_schema.specs.rules.Files.{flag_options, is_file_option, is_of_kind, option_numbers, text_options}
+use Rattle.pg_schema.specs.rules.Pairs.{all_pairs, is_rising}
 use Rattle.pg_check.specs.declared.options.Kind.{Kind}
 use Rattle.pg_check.specs.declared.options.Kind.TheVariants as kinds
 use Rattle.pg_check.specs.declared.options.Known.{Known}

@@ -8,19 +8,19 @@ use Rattle.std.proofs.lemmas.List.Elements.{recursion_from_All}
 use Rattle.std.proofs.lemmas.List.Folds.{list_all-append, list_all-map}
 use Rattle.std.proofs.lemmas.Slice.Eq.{bytes_eq-Decides}
 use Rattle.std.specs.Str.{bytes_eq}
-use Rattle.pg_schema.specs.declared.enum_type.EnumType.{EnumType}
-use Rattle.pg_schema.specs.declared.field.Scalar.{Scalar}
-use Rattle.pg_schema.specs.declared.file.File.{File}
-use Rattle.pg_schema.specs.declared.message_type.MessageType.{MessageType}
+use Rattle.pg_schema.specs.declared.parts.enum_type.EnumType.{EnumType}
+use Rattle.pg_schema.specs.declared.parts.field.Scalar.{Scalar}
+use Rattle.pg_schema.specs.declared.parts.file.File.{File}
+use Rattle.pg_schema.specs.declared.parts.message_type.MessageType.{MessageType}
 use Rattle.pg_schema.specs.declared.parts.Parts.{Parts}
-use Rattle.pg_schema.specs.declared.service.Service as schema_services
-use Rattle.pg_schema.specs.DeclaredNames.{declared_names, entry_names, file_names, service_names, type_names, values_at, within}
-use Rattle.pg_schema.specs.EnumRules.{is_value}
-use Rattle.pg_schema.specs.FieldRules.{is_known}
-use Rattle.pg_schema.specs.FileRules.{is_service}
-use Rattle.pg_schema.specs.MessageRules.{field_names}
-use Rattle.pg_schema.specs.Pairs.{are_distinct, differ}
-use Rattle.pg_schema.specs.Words.{is_package, is_word}
+use Rattle.pg_schema.specs.declared.parts.service.Service as schema_services
+use Rattle.pg_schema.specs.rules.DeclaredNames.{declared_names, entry_names, file_names, service_names, type_names, values_at, within}
+use Rattle.pg_schema.specs.rules.Enums.{is_value}
+use Rattle.pg_schema.specs.rules.Fields.{is_known}
+use Rattle.pg_schema.specs.rules.Files.{is_service}
+use Rattle.pg_schema.specs.rules.Messages.{field_names}
+use Rattle.pg_schema.specs.rules.Pairs.{are_distinct, differ}
+use Rattle.pg_schema.specs.rules.Words.{is_package, is_word}
 use Rattle.pg_link.specs.declared.target.Target.{Target}
 use Rattle.pg_link.specs.declared.target.Target.TheVariants as targets
 use Rattle.pg_link.specs.Files as linked

@@ -7,7 +7,7 @@ use Rattle.std.proofs.lemmas.Grind.{elements}
 use Rattle.std.proofs.lemmas.List.Edits.{length-swap}
 use Rattle.std.proofs.lemmas.List.Folds.{list_all-append, list_all-map}
 use Rattle.std.proofs.lemmas.List.Sorted.{IsPermutation-keeps}
-use Rattle.pg_schema.specs.Pairs.{all_pairs}
+use Rattle.pg_schema.specs.rules.Pairs.{all_pairs}
 use Rattle.pg_check.proofs.NoneLaws.{and_both, and_left, and_right}
 
 -- ---- each item

@@ -5,8 +5,8 @@ use Rattle.std.specs.List.{list_any}
 use Rattle.std.specs.Ordering.{is_eq, nat_cmp}
 use Rattle.std.proofs.lemmas.Bool.Decides.{nat_tests}
 use Rattle.std.proofs.lemmas.List.Folds.{list_any_more}
-use Rattle.pg_schema.specs.declared.field.Field.{Field}
-use Rattle.pg_schema.specs.MessageRules.{have_members, is_member, is_place}
+use Rattle.pg_schema.specs.declared.parts.field.Field.{Field}
+use Rattle.pg_schema.specs.rules.Messages.{have_members, is_member, is_place}
 use Rattle.pg_check.specs.PartFaults.{IsPlaceSet}
 
 same_test : (place q : ℕ) → is_eq (nat_cmp place q) ≡ nat_eq place q

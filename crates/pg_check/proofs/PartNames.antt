@@ -3,22 +3,22 @@ use Rattle.std.proofs.Common.{◌≡◌, ◌∙◌, ℕ, zero, suc, ◌+◌, ◌
 use Rattle.std.specs.Char.{to_ascii_uppercase}
 use Rattle.std.proofs.lemmas.Bool.Decides.{nat_tests}
 use Rattle.std.proofs.lemmas.Option.{same_Some}
-use Rattle.pg_schema.specs.declared.enum_type.EnumType.{EnumType}
-use Rattle.pg_schema.specs.declared.enum_type.EnumValue as schema_values
-use Rattle.pg_schema.specs.declared.field.Element.{Element}
-use Rattle.pg_schema.specs.declared.field.EnumId.{EnumId}
-use Rattle.pg_schema.specs.declared.field.Field.{Field}
-use Rattle.pg_schema.specs.declared.field.Presence.TheVariants as presences
-use Rattle.pg_schema.specs.declared.file.File.{File}
-use Rattle.pg_schema.specs.declared.message_type.MessageType.{MessageType}
-use Rattle.pg_schema.specs.declared.service.Method as schema_methods
-use Rattle.pg_schema.specs.declared.service.Service as schema_services
-use Rattle.pg_schema.specs.DeclaredNames as names
-use Rattle.pg_schema.specs.DeclaredNames.{declared_names, entry_names, entry_of, method_names, service_names, type_names, values_at, values_of, within}
-use Rattle.pg_schema.specs.EnumRules.{value_names}
-use Rattle.pg_schema.specs.FieldRules.{is_message}
+use Rattle.pg_schema.specs.declared.parts.enum_type.EnumType.{EnumType}
+use Rattle.pg_schema.specs.declared.parts.enum_type.EnumValue as schema_values
+use Rattle.pg_schema.specs.declared.parts.field.Element.{Element}
+use Rattle.pg_schema.specs.declared.parts.field.EnumId.{EnumId}
+use Rattle.pg_schema.specs.declared.parts.field.Field.{Field}
+use Rattle.pg_schema.specs.declared.parts.field.Presence.TheVariants as presences
+use Rattle.pg_schema.specs.declared.parts.file.File.{File}
+use Rattle.pg_schema.specs.declared.parts.message_type.MessageType.{MessageType}
+use Rattle.pg_schema.specs.declared.parts.service.Method as schema_methods
+use Rattle.pg_schema.specs.declared.parts.service.Service as schema_services
+use Rattle.pg_schema.specs.rules.DeclaredNames as names
+use Rattle.pg_schema.specs.rules.DeclaredNames.{declared_names, entry_names, entry_of, method_names, service_names, type_names, values_at, values_of, within}
+use Rattle.pg_schema.specs.rules.Enums.{value_names}
+use Rattle.pg_schema.specs.rules.Fields.{is_message}
 use Rattle.pg_schema.specs.JsonName.{in_camel_case}
-use Rattle.pg_schema.specs.MessageRules.{field_names}
+use Rattle.pg_schema.specs.rules.Messages.{field_names}
 use Rattle.pg_schema.specs.Shape.{is_map}
 use Rattle.pg_link.specs.declared.target.Target.{Target}
 use Rattle.pg_link.specs.Declares as linked

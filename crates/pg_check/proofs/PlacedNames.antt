@@ -3,12 +3,12 @@ use Rattle.std.proofs.Common.{◌≡◌, ◌∙◌, ℕ, ◌+◌, ◌^◌, ◌�
 use Rattle.std.specs.List.{AllByRecursion}
 use Rattle.std.proofs.lemmas.List.{map-append}
 use Rattle.std.proofs.lemmas.List.Elements.{recursion_from_All}
-use Rattle.pg_schema.specs.declared.enum_type.EnumType.{EnumType}
-use Rattle.pg_schema.specs.declared.message_type.MessageType.{MessageType}
+use Rattle.pg_schema.specs.declared.parts.enum_type.EnumType.{EnumType}
+use Rattle.pg_schema.specs.declared.parts.message_type.MessageType.{MessageType}
 use Rattle.pg_schema.specs.declared.parts.Parts.{Parts}
-use Rattle.pg_schema.specs.DeclaredNames as names
-use Rattle.pg_schema.specs.DeclaredNames.{declared_names, service_names, type_names, within}
-use Rattle.pg_schema.specs.Pairs.{are_distinct}
+use Rattle.pg_schema.specs.rules.DeclaredNames as names
+use Rattle.pg_schema.specs.rules.DeclaredNames.{declared_names, service_names, type_names, within}
+use Rattle.pg_schema.specs.rules.Pairs.{are_distinct}
 use Rattle.pg_link.specs.Linked.{IsLinkedUp, LinkedFiles}
 use Rattle.pg_link.specs.Names.{Text}
 use Rattle.pg_link.specs.Outline.{file_names}

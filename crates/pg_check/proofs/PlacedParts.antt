@@ -1,13 +1,13 @@
 -- Of a schema's facts, where its files are linked and keep to the rules, those on places and full names.
 use Rattle.std.proofs.Common.{◌≡◌, ◌≤◌, ◌^◌, true, length}
 use Rattle.std.specs.List.{list_all, AllByRecursion}
-use Rattle.pg_schema.specs.declared.enum_type.EnumType.{EnumType}
+use Rattle.pg_schema.specs.declared.parts.enum_type.EnumType.{EnumType}
 use Rattle.pg_schema.specs.declared.parts.Parts.{Parts}
-use Rattle.pg_schema.specs.DeclaredNames.{declared_names}
-use Rattle.pg_schema.specs.EnumRules.{value_names}
-use Rattle.pg_schema.specs.PackageNames.{are_free_of}
-use Rattle.pg_schema.specs.Pairs.{are_distinct}
-use Rattle.pg_schema.specs.Scopes.{are_declared_once, is_file_scope, is_type_scope}
+use Rattle.pg_schema.specs.rules.DeclaredNames.{declared_names}
+use Rattle.pg_schema.specs.rules.Enums.{value_names}
+use Rattle.pg_schema.specs.rules.Packages.{are_free_of}
+use Rattle.pg_schema.specs.rules.Pairs.{are_distinct}
+use Rattle.pg_schema.specs.rules.Scopes.{are_declared_once, is_file_scope, is_type_scope}
 
 abbrev pub HasValuesOnce : EnumType → Type 0
 HasValuesOnce e = are_distinct (value_names e.values.items) ≡ true

@@ -3,8 +3,8 @@ use Rattle.std.proofs.Common.{◌≡◌, ◌∙◌, ℕ, zero, suc, ◌+◌, ◌
 use Rattle.std.specs.List.{list_all, filter, AllByRecursion}
 use Rattle.std.specs.Str.{bytes_eq}
 use Rattle.std.proofs.lemmas.Bool.Decides.{nat_tests}
-use Rattle.pg_schema.specs.Pairs.{all_pairs}
-use Rattle.pg_schema.specs.Scopes.{are_each_once}
+use Rattle.pg_schema.specs.rules.Pairs.{all_pairs}
+use Rattle.pg_schema.specs.rules.Scopes.{are_each_once}
 use Rattle.pg_check.specs.ByScope.{Placed, placed_from, places_in}
 use Rattle.pg_check.specs.MadeNumbers.{index_of}
 use Rattle.pg_check.proofs.NoneLaws.{and_both}

@@ -4,7 +4,7 @@ use Rattle.std.specs.List.{list_all}
 use Rattle.std.specs.List.Sorted.{IsPermutation, IsNonDecreasingBy}
 use Rattle.std.proofs.lemmas.Bool.Decides.{nat_tests}
 use Rattle.std.proofs.lemmas.List.Sorted.{IsPermutation-map}
-use Rattle.pg_schema.specs.Pairs.{all_pairs, is_rising}
+use Rattle.pg_schema.specs.rules.Pairs.{all_pairs, is_rising}
 use Rattle.pg_check.proofs.Moved.{IsSymmetric, pairs_moved}
 use Rattle.pg_check.proofs.NoneLaws.{and_both, and_left, and_right}
 use Rattle.pg_check.proofs.UsesApart.{two_apart}

@@ -2,9 +2,9 @@
 use Rattle.std.proofs.Common.{◌≡◌, ℕ, List, Option, refl}
 use Rattle.pg_link.specs.declared.error.Place.{Place}
 use Rattle.pg_link.specs.declared.target.Target.{Target}
-use Rattle.pg_schema.specs.declared.enum_type.EnumType.{EnumType}
-use Rattle.pg_schema.specs.declared.file.File.{File}
-use Rattle.pg_schema.specs.declared.message_type.MessageType.{MessageType}
+use Rattle.pg_schema.specs.declared.parts.enum_type.EnumType.{EnumType}
+use Rattle.pg_schema.specs.declared.parts.file.File.{File}
+use Rattle.pg_schema.specs.declared.parts.message_type.MessageType.{MessageType}
 use Rattle.pg_check.specs.BrokenParts as of_parts
 use Rattle.pg_check.specs.BrokenParts.{BreaksEnumType, BreaksFilePart, BreaksType}
 use Rattle.pg_check.specs.BrokenRules as of_texts

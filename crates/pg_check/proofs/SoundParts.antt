@@ -1,7 +1,7 @@
 -- The parts of linked files that keep to the rules are those of a schema.
 use Rattle.std.proofs.Common.{◌≤◌, ◌^◌, length, arith}
 use Rattle.pg_schema.specs.declared.parts.Parts.{Parts}
-use Rattle.pg_schema.specs.Sound.{IsSound}
+use Rattle.pg_schema.specs.rules.Sound.{IsSound}
 use Rattle.pg_link.specs.Linked.{IsLinkedUp, LinkedFiles}
 use Rattle.pg_check.specs.Declares.{Declares}
 use Rattle.pg_check.specs.KeptParts.{KeptParts}

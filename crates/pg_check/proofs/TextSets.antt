@@ -9,7 +9,7 @@ use Rattle.std.proofs.lemmas.List.Folds.{list_any-append}
 use Rattle.std.proofs.lemmas.Slice.Eq.{bytes_eq-Decides}
 use Rattle.std.proofs.lemmas.Bool.{false≢true}
 use Rattle.pg_check.specs.Names.{Named, is_same, text_of}
-use Rattle.pg_schema.specs.TextSets.{is_among, IsSetOf}
+use Rattle.pg_schema.specs.rules.TextSets.{is_among, IsSetOf}
 
 or_of : (a b : Bool) → cond b true a ≡ (a || b)
 or_of true true = refl

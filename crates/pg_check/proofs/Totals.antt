@@ -7,7 +7,7 @@ use Rattle.std.proofs.lemmas.Bool.{false≢true}
 use Rattle.std.proofs.lemmas.List.Sorted.{sum_by-IsPermutation}
 use Rattle.std.proofs.lemmas.List.Sums.{sum_by-cons}
 use Rattle.std.proofs.lemmas.Slice.Eq.{bytes_eq-Decides}
-use Rattle.pg_schema.specs.Pairs.{are_distinct, differ}
+use Rattle.pg_schema.specs.rules.Pairs.{are_distinct, differ}
 use Rattle.pg_check.proofs.NoneLaws.{and_both}
 
 abbrev pub total : {X : Type 0} → (X → ℕ) → List X → ℕ

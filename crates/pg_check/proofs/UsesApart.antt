@@ -3,7 +3,7 @@ use Rattle.std.proofs.Common.{◌≡◌, ℕ, ◌+◌, Bool, true, false, not, �
 use Rattle.std.specs.List.{list_all, list_any}
 use Rattle.std.proofs.lemmas.Bool.{false≢true}
 use Rattle.std.proofs.lemmas.Bool.Decides.{nat_tests}
-use Rattle.pg_schema.specs.Pairs.{all_pairs}
+use Rattle.pg_schema.specs.rules.Pairs.{all_pairs}
 use Rattle.pg_check.specs.declared.numbers.Keyed.{Keyed}
 use Rattle.pg_check.specs.declared.numbers.Numbers.{Numbers}
 use Rattle.pg_check.specs.KeepsRules.{are_apart, is_free, lies_within, rises}

@@ -2,20 +2,20 @@
 use Rattle.std.proofs.Common.{◌≡◌, ℕ, Bool, true, false, not, ◌&&◌, List, [], ◌∷◌, map, length, is_some, refl}
 use Rattle.std.specs.List.{list_all, AllByRecursion}
 use Rattle.std.specs.String.{string_bytes}
-use Rattle.pg_schema.specs.declared.enum_type.EnumType.{EnumType}
-use Rattle.pg_schema.specs.declared.field.Field.{Field}
-use Rattle.pg_schema.specs.declared.file.File.{File}
-use Rattle.pg_schema.specs.declared.message_type.MessageType.{MessageType}
+use Rattle.pg_schema.specs.declared.parts.enum_type.EnumType.{EnumType}
+use Rattle.pg_schema.specs.declared.parts.field.Field.{Field}
+use Rattle.pg_schema.specs.declared.parts.file.File.{File}
+use Rattle.pg_schema.specs.declared.parts.message_type.MessageType.{MessageType}
 use Rattle.pg_schema.specs.declared.parts.Parts.{Parts}
-use Rattle.pg_schema.specs.EnumRules.{begins_with_zero, is_enum, is_value, value_names}
-use Rattle.pg_schema.specs.FieldRules.{has_presence, is_field_number, is_known, is_oneof, is_packed, stated_or}
-use Rattle.pg_schema.specs.FileRules.{is_file, is_file_option, option_numbers}
-use Rattle.pg_schema.specs.MessageRules.{field_names, has_fields, has_oneofs, has_reserved, have_members, is_declared, is_field, is_message_type, json_names, numbers}
-use Rattle.pg_schema.specs.Pairs.{are_distinct, is_rising}
-use Rattle.pg_schema.specs.Sound.{IsSound}
-use Rattle.pg_schema.specs.TextSets.{are_named_once, is_among}
-use Rattle.pg_schema.specs.UsedNumbers.{enum_uses, is_reserved_range, is_used_once, is_value_range, message_uses}
-use Rattle.pg_schema.specs.Words.{is_word}
+use Rattle.pg_schema.specs.rules.Enums.{begins_with_zero, is_enum, is_value, value_names}
+use Rattle.pg_schema.specs.rules.Fields.{has_presence, is_field_number, is_known, is_oneof, is_packed, stated_or}
+use Rattle.pg_schema.specs.rules.Files.{is_file, is_file_option, option_numbers}
+use Rattle.pg_schema.specs.rules.Messages.{field_names, has_fields, has_oneofs, has_reserved, have_members, is_declared, is_field, is_message_type, json_names, numbers}
+use Rattle.pg_schema.specs.rules.Pairs.{are_distinct, is_rising}
+use Rattle.pg_schema.specs.rules.Sound.{IsSound}
+use Rattle.pg_schema.specs.rules.TextSets.{are_named_once, is_among}
+use Rattle.pg_schema.specs.rules.Uses.{enum_uses, is_reserved_range, is_used_once, is_value_range, message_uses}
+use Rattle.pg_schema.specs.rules.Words.{is_word}
 use Rattle.pg_check.specs.KeptParts.{KeptEnum, KeptFile, KeptMessage, KeptParts, is_kept_field}
 use Rattle.pg_check.specs.NamedParts.{NamedEnum, NamedMessage, NamedParts, has_package, is_named_field}
 use Rattle.pg_check.proofs.NoneLaws.{and_both, and_left, and_right}

@@ -4,8 +4,8 @@ use Rattle.std.specs.List.{list_all, AllByRecursion}
 use Rattle.std.proofs.lemmas.Bool.{false≢true}
 use Rattle.std.proofs.lemmas.Bool.Decides.{nat_tests}
 use Rattle.std.proofs.lemmas.List.Folds.{list_all-append}
-use Rattle.pg_schema.specs.DeclaredNames.{within}
-use Rattle.pg_schema.specs.Words.{before_first, is_package, is_word, is_word_byte, parts_at_dots}
+use Rattle.pg_schema.specs.rules.DeclaredNames.{within}
+use Rattle.pg_schema.specs.rules.Words.{before_first, is_package, is_word, is_word_byte, parts_at_dots}
 use Rattle.pg_check.specs.MadeMessages.{oneof_in, oneofs}
 use Rattle.pg_check.specs.Members.{DeclaredField, members_from, members_in, name_of, oneof_members, oneofs_in}
 use Rattle.pg_check.specs.Outline.{Enum, Message, all_enums, all_messages, an_enum, dotted, dotted_more, enums_in, file_messages, full_name, messages_in, package_in, package_of, row_enums, row_list, row_messages, scoped_enums, statement_enums, statement_messages, statements_behind}

@@ -3,8 +3,8 @@
 -- Fields"). Which options are taken, and that there are at most 4,096 message types, is this profile's choice.
 use Rattle.std.specs.Prelude.{◌≡◌, ◌≤◌, ℕ, Bool, true, false, not, nat_eq, nat_lt, ◌&&◌, ◌||◌, List, [], ◌∷◌, length, map, flat_map, Option}
 use Rattle.std.specs.List.{list_all, AllByRecursion}
-use Rattle.pg_schema.specs.Pairs.{all_pairs}
-use Rattle.pg_schema.specs.TextSets.{is_among}
+use Rattle.pg_schema.specs.rules.Pairs.{all_pairs}
+use Rattle.pg_schema.specs.rules.TextSets.{is_among}
 use Rattle.pg_link.specs.declared.target.Target.{Target}
 use Rattle.pg_check.specs.declared.numbers.Keyed.{Keyed}
 use Rattle.pg_check.specs.declared.numbers.Numbers.{Numbers}

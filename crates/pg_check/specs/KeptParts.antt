@@ -4,18 +4,18 @@
 use Rattle.std.specs.Prelude.{◌≡◌, ◌≤◌, ℕ, Bool, true, false, not, ◌&&◌, ◌∷◌, map, length, is_some}
 use Rattle.std.specs.List.{list_all, AllByRecursion}
 use Rattle.std.specs.String.{string_bytes}
-use Rattle.pg_schema.specs.declared.enum_type.EnumType.{EnumType}
-use Rattle.pg_schema.specs.declared.field.Field.{Field}
-use Rattle.pg_schema.specs.declared.file.File.{File}
-use Rattle.pg_schema.specs.declared.message_type.MessageType.{MessageType}
+use Rattle.pg_schema.specs.declared.parts.enum_type.EnumType.{EnumType}
+use Rattle.pg_schema.specs.declared.parts.field.Field.{Field}
+use Rattle.pg_schema.specs.declared.parts.file.File.{File}
+use Rattle.pg_schema.specs.declared.parts.message_type.MessageType.{MessageType}
 use Rattle.pg_schema.specs.declared.parts.Parts.{Parts}
-use Rattle.pg_schema.specs.EnumRules.{begins_with_zero, value_names}
-use Rattle.pg_schema.specs.FieldRules.{has_presence, is_field_number, is_oneof, is_packed, stated_or}
-use Rattle.pg_schema.specs.FileRules.{is_file_option, option_numbers}
-use Rattle.pg_schema.specs.MessageRules.{field_names, have_members, is_declared, json_names, numbers}
-use Rattle.pg_schema.specs.Pairs.{are_distinct, is_rising}
-use Rattle.pg_schema.specs.TextSets.{is_among}
-use Rattle.pg_schema.specs.UsedNumbers.{enum_uses, is_reserved_range, is_used_once, is_value_range, message_uses}
+use Rattle.pg_schema.specs.rules.Enums.{begins_with_zero, value_names}
+use Rattle.pg_schema.specs.rules.Fields.{has_presence, is_field_number, is_oneof, is_packed, stated_or}
+use Rattle.pg_schema.specs.rules.Files.{is_file_option, option_numbers}
+use Rattle.pg_schema.specs.rules.Messages.{field_names, have_members, is_declared, json_names, numbers}
+use Rattle.pg_schema.specs.rules.Pairs.{are_distinct, is_rising}
+use Rattle.pg_schema.specs.rules.TextSets.{is_among}
+use Rattle.pg_schema.specs.rules.Uses.{enum_uses, is_reserved_range, is_used_once, is_value_range, message_uses}
 
 pub record KeptEnum (e : EnumType) : Type 0 where
   pub first_value : begins_with_zero e.values.items ≡ true

@@ -1,10 +1,10 @@
 -- What an enum declares, as a schema has it (proto3 language specification, "Enum definition").
 use Rattle.std.specs.Prelude.{ℕ, ℤ, Bool, List, [], ◌∷◌, map, flat_map, codes, Option, string_bytes}
-use Rattle.pg_schema.specs.declared.enum_type.EnumType.{EnumType}
-use Rattle.pg_schema.specs.declared.enum_type.EnumValue.{EnumValue}
-use Rattle.pg_schema.specs.declared.enum_type.ReservedValues.{ReservedValues}
-use Rattle.pg_schema.specs.declared.options.EnumOptions.{EnumOptions}
-use Rattle.pg_schema.specs.declared.options.EnumValueOptions.{EnumValueOptions}
+use Rattle.pg_schema.specs.declared.parts.enum_type.EnumType.{EnumType}
+use Rattle.pg_schema.specs.declared.parts.enum_type.EnumValue.{EnumValue}
+use Rattle.pg_schema.specs.declared.parts.enum_type.ReservedValues.{ReservedValues}
+use Rattle.pg_schema.specs.declared.parts.options.EnumOptions.{EnumOptions}
+use Rattle.pg_schema.specs.declared.parts.options.EnumValueOptions.{EnumValueOptions}
 use Rattle.pg_check.specs.Enums as rules
 use Rattle.pg_check.specs.MadeNumbers.{value_number, value_range}
 use Rattle.pg_check.specs.MadeOptions.{flag_of}

@@ -2,15 +2,15 @@
 -- guide, "Field Presence", "JSON Mapping"; Encoding guide, "Packed Repeated Fields").
 use Rattle.std.specs.Prelude.{ℕ, Bool, true, false, ◌||◌, List, codes, Option, Some, None, string_bytes, is_some, if◌then◌else◌}
 use Rattle.std.specs.Option.{option_map}
-use Rattle.pg_schema.specs.declared.field.Element.{Element}
-use Rattle.pg_schema.specs.declared.field.Element.TheVariants as elements
-use Rattle.pg_schema.specs.declared.field.Field as schema
-use Rattle.pg_schema.specs.declared.field.Presence.{Presence}
-use Rattle.pg_schema.specs.declared.field.Presence.TheVariants as presences
-use Rattle.pg_schema.specs.declared.field.Scalar.{Scalar}
-use Rattle.pg_schema.specs.declared.field.Scalar.TheVariants as scalars
-use Rattle.pg_schema.specs.declared.options.FieldOptions.{FieldOptions}
-use Rattle.pg_schema.specs.FieldRules.{is_message, stated_or}
+use Rattle.pg_schema.specs.declared.parts.field.Element.{Element}
+use Rattle.pg_schema.specs.declared.parts.field.Element.TheVariants as elements
+use Rattle.pg_schema.specs.declared.parts.field.Field as schema
+use Rattle.pg_schema.specs.declared.parts.field.Presence.{Presence}
+use Rattle.pg_schema.specs.declared.parts.field.Presence.TheVariants as presences
+use Rattle.pg_schema.specs.declared.parts.field.Scalar.{Scalar}
+use Rattle.pg_schema.specs.declared.parts.field.Scalar.TheVariants as scalars
+use Rattle.pg_schema.specs.declared.parts.options.FieldOptions.{FieldOptions}
+use Rattle.pg_schema.specs.rules.Fields.{is_message, stated_or}
 use Rattle.pg_schema.specs.Shape.{is_packable}
 use Rattle.pg_link.specs.declared.target.Target.{Target}
 use Rattle.pg_link.specs.declared.target.Target.TheVariants as targets

@@ -2,12 +2,12 @@
 -- Statement", "Option").
 use Rattle.std.specs.Prelude.{ℕ, Bool, List, [], ◌∷◌, ◌++◌, map, flat_map, codes, Option, Some, None, string_bytes, if◌then◌else◌}
 use Rattle.std.specs.List.Sorted.{IsPermutation, IsNonDecreasingBy}
-use Rattle.pg_schema.specs.declared.file.Import as imports
-use Rattle.pg_schema.specs.declared.options.FileOption as options
-use Rattle.pg_schema.specs.declared.options.OptimizeMode.{OptimizeMode}
-use Rattle.pg_schema.specs.declared.options.OptimizeMode.TheVariants as modes
-use Rattle.pg_schema.specs.declared.options.OptionValue.{OptionValue}
-use Rattle.pg_schema.specs.declared.options.OptionValue.TheVariants as schema_values
+use Rattle.pg_schema.specs.declared.parts.file.Import as imports
+use Rattle.pg_schema.specs.declared.parts.options.FileOption as options
+use Rattle.pg_schema.specs.declared.parts.options.OptimizeMode.{OptimizeMode}
+use Rattle.pg_schema.specs.declared.parts.options.OptimizeMode.TheVariants as modes
+use Rattle.pg_schema.specs.declared.parts.options.OptionValue.{OptionValue}
+use Rattle.pg_schema.specs.declared.parts.options.OptionValue.TheVariants as schema_values
 use Rattle.pg_check.specs.declared.options.Kind.{Kind}
 use Rattle.pg_check.specs.declared.options.Kind.TheVariants as kinds
 use Rattle.pg_check.specs.declared.options.Known.{Known}

@@ -1,12 +1,12 @@
 -- What a message declares, as a schema has it (proto3 language specification, "Message definition").
 use Rattle.std.specs.Prelude.{◌≡◌, ℕ, Bool, List, [], ◌∷◌, map, flat_map, codes, Option, string_bytes}
 use Rattle.std.specs.List.Sorted.{IsPermutation, IsNonDecreasingBy}
-use Rattle.pg_schema.specs.declared.field.EnumId.{EnumId}
-use Rattle.pg_schema.specs.declared.field.Field as schema
-use Rattle.pg_schema.specs.declared.field.TypeId.{TypeId}
-use Rattle.pg_schema.specs.declared.message_type.MessageType as types
-use Rattle.pg_schema.specs.declared.message_type.ReservedFields.{ReservedFields}
-use Rattle.pg_schema.specs.declared.options.MessageOptions.{MessageOptions}
+use Rattle.pg_schema.specs.declared.parts.field.EnumId.{EnumId}
+use Rattle.pg_schema.specs.declared.parts.field.Field as schema
+use Rattle.pg_schema.specs.declared.parts.field.TypeId.{TypeId}
+use Rattle.pg_schema.specs.declared.parts.message_type.MessageType as types
+use Rattle.pg_schema.specs.declared.parts.message_type.ReservedFields.{ReservedFields}
+use Rattle.pg_schema.specs.declared.parts.options.MessageOptions.{MessageOptions}
 use Rattle.pg_link.specs.declared.target.Target.{Target}
 use Rattle.pg_check.specs.MadeFields.{MadeField, field, made_field, made_number}
 use Rattle.pg_check.specs.MadeNumbers.{field_range}

@@ -1,7 +1,7 @@
 -- Numbers as a schema has them. A number that its kind can't have comes to 0; a file that breaks no rule has none.
 use Rattle.std.specs.Prelude.{ℕ, ◌-◌, ◌^◌, ℤ, pos, neg_ℤ, false, nat_lt, nat_le, if◌then◌else◌}
-use Rattle.pg_schema.specs.declared.enum_type.ReservedValues.{ReservedValues}
-use Rattle.pg_schema.specs.declared.message_type.ReservedFields.{ReservedFields}
+use Rattle.pg_schema.specs.declared.parts.enum_type.ReservedValues.{ReservedValues}
+use Rattle.pg_schema.specs.declared.parts.message_type.ReservedFields.{ReservedFields}
 use Rattle.pg_check.specs.declared.numbers.Numbers.{Numbers}
 use Rattle.pg_check.specs.Numbers.{highest_field, highest_value, is_within, lowest_field, lowest_value, rank}
 

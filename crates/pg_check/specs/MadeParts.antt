@@ -1,12 +1,12 @@
 -- What files declare, as a schema has it, file after file: message types and services are numbered in order of declaration, enums scope by
 -- scope, those of the package before those of each message type.
 use Rattle.std.specs.Prelude.{◌≡◌, ℕ, List, [], ◌∷◌, ◌++◌, map, length, Option, string_bytes}
-use Rattle.pg_schema.specs.declared.field.EnumId.{EnumId}
-use Rattle.pg_schema.specs.declared.field.TypeId.{TypeId}
-use Rattle.pg_schema.specs.declared.file.File as files
-use Rattle.pg_schema.specs.declared.message_type.MessageType as messages
+use Rattle.pg_schema.specs.declared.parts.field.EnumId.{EnumId}
+use Rattle.pg_schema.specs.declared.parts.field.TypeId.{TypeId}
+use Rattle.pg_schema.specs.declared.parts.file.File as files
+use Rattle.pg_schema.specs.declared.parts.message_type.MessageType as messages
 use Rattle.pg_schema.specs.declared.parts.Parts.{Parts}
-use Rattle.pg_schema.specs.declared.service.ServiceId.{ServiceId}
+use Rattle.pg_schema.specs.declared.parts.service.ServiceId.{ServiceId}
 use Rattle.pg_link.specs.declared.target.Target.{Target}
 use Rattle.pg_check.specs.ByScope.{Placed, placed_from, types_in, enums_in, type_id, enum_id}
 use Rattle.pg_check.specs.MadeEnums.{MadeEnum, enumeration, made_enum}

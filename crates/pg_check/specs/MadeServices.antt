@@ -1,11 +1,11 @@
 -- What a service declares, as a schema has it (proto3 language specification, "Service definition").
 use Rattle.std.specs.Prelude.{ℕ, ◌+◌, Bool, List, [], ◌∷◌, map, flat_map, codes, Option, Some, None, string_bytes}
-use Rattle.pg_schema.specs.declared.field.TypeId.{TypeId}
-use Rattle.pg_schema.specs.declared.options.MethodOptions.{MethodOptions}
-use Rattle.pg_schema.specs.declared.options.ServiceOptions.{ServiceOptions}
-use Rattle.pg_schema.specs.declared.service.Method as methods
-use Rattle.pg_schema.specs.declared.service.Service as services
-use Rattle.pg_schema.specs.declared.service.ServiceId.{ServiceId}
+use Rattle.pg_schema.specs.declared.parts.field.TypeId.{TypeId}
+use Rattle.pg_schema.specs.declared.parts.options.MethodOptions.{MethodOptions}
+use Rattle.pg_schema.specs.declared.parts.options.ServiceOptions.{ServiceOptions}
+use Rattle.pg_schema.specs.declared.parts.service.Method as methods
+use Rattle.pg_schema.specs.declared.parts.service.Service as services
+use Rattle.pg_schema.specs.declared.parts.service.ServiceId.{ServiceId}
 use Rattle.pg_link.specs.declared.target.Target.{Target}
 use Rattle.pg_link.specs.declared.target.Target.TheVariants as targets
 use Rattle.pg_check.specs.Files.{rpc_body}

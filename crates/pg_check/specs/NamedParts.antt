@@ -3,20 +3,20 @@
 use Rattle.std.specs.Prelude.{◌≡◌, ℕ, Bool, true, ◌&&◌, length}
 use Rattle.std.specs.List.{list_all, AllByRecursion}
 use Rattle.std.specs.String.{string_bytes}
-use Rattle.pg_schema.specs.declared.enum_type.EnumType.{EnumType}
-use Rattle.pg_schema.specs.declared.field.Field.{Field}
-use Rattle.pg_schema.specs.declared.file.File.{File}
-use Rattle.pg_schema.specs.declared.message_type.MessageType.{MessageType}
+use Rattle.pg_schema.specs.declared.parts.enum_type.EnumType.{EnumType}
+use Rattle.pg_schema.specs.declared.parts.field.Field.{Field}
+use Rattle.pg_schema.specs.declared.parts.file.File.{File}
+use Rattle.pg_schema.specs.declared.parts.message_type.MessageType.{MessageType}
 use Rattle.pg_schema.specs.declared.parts.Parts.{Parts}
-use Rattle.pg_schema.specs.DeclaredNames.{declared_names}
-use Rattle.pg_schema.specs.EnumRules.{is_value, value_names}
-use Rattle.pg_schema.specs.FieldRules.{is_known}
-use Rattle.pg_schema.specs.FileRules.{is_service}
-use Rattle.pg_schema.specs.MessageRules.{field_names}
-use Rattle.pg_schema.specs.PackageNames.{are_free_of}
-use Rattle.pg_schema.specs.Pairs.{are_distinct}
-use Rattle.pg_schema.specs.Scopes.{are_declared_once, is_file_scope, is_type_scope}
-use Rattle.pg_schema.specs.Words.{is_package, is_word}
+use Rattle.pg_schema.specs.rules.DeclaredNames.{declared_names}
+use Rattle.pg_schema.specs.rules.Enums.{is_value, value_names}
+use Rattle.pg_schema.specs.rules.Fields.{is_known}
+use Rattle.pg_schema.specs.rules.Files.{is_service}
+use Rattle.pg_schema.specs.rules.Messages.{field_names}
+use Rattle.pg_schema.specs.rules.Packages.{are_free_of}
+use Rattle.pg_schema.specs.rules.Pairs.{are_distinct}
+use Rattle.pg_schema.specs.rules.Scopes.{are_declared_once, is_file_scope, is_type_scope}
+use Rattle.pg_schema.specs.rules.Words.{is_package, is_word}
 
 -- the field's name is a word, and what its element names is one of so many message types and enums
 abbrev pub is_named_field : (types enums : ℕ) → Field → Bool

@@ -2,7 +2,7 @@
 -- lists of bytes, and are compared byte by byte.
 use Rattle.std.specs.Prelude.{ℕ, Bool, List, [], Option, string_bytes}
 use Rattle.std.specs.Str.{bytes_eq}
-use Rattle.pg_schema.specs.TextSets.{is_among}
+use Rattle.pg_schema.specs.rules.TextSets.{is_among}
 use Rattle.pg_check.specs.declared.names as code
 use Rattle.pg_check.specs.Numbers.{first_such, first_again}
 

@@ -1,7 +1,7 @@
 -- What files declare outside and inside of messages: statements, message types, enums and services, each in order of
 -- declaration, and enums also scope by scope (proto3 language specification, "Message definition", "Enum definition", "Package").
 use Rattle.std.specs.Prelude.{ℕ, List, [], ◌∷◌, ◌++◌, flat_map, Option, Some, None, string_bytes}
-use Rattle.pg_schema.specs.DeclaredNames.{within}
+use Rattle.pg_schema.specs.rules.DeclaredNames.{within}
 use Rattle.pg_check.specs.declared.outline.FoundMessage as messages
 use Rattle.pg_check.specs.declared.outline.FoundEnum as enums
 use Rattle.pg_syntax.specs.declared.tree as tree

@@ -5,21 +5,21 @@ use Rattle.std.specs.Prelude.{◌≡◌, ℕ, suc, ℤ, pos, negsuc, Bool, true,
 use Rattle.std.specs.BTreeSet.{BTreeSet, contains}
 use Rattle.std.specs.List.{list_any}
 use Rattle.std.specs.Ordering.{nat_cmp}
-use Rattle.pg_schema.specs.declared.enum_type.EnumType.{EnumType}
-use Rattle.pg_schema.specs.declared.enum_type.EnumValue.{EnumValue}
-use Rattle.pg_schema.specs.declared.enum_type.ReservedValues.{ReservedValues}
-use Rattle.pg_schema.specs.declared.field.Element.{Element}
-use Rattle.pg_schema.specs.declared.field.Field.{Field}
-use Rattle.pg_schema.specs.declared.field.Presence.{Presence}
-use Rattle.pg_schema.specs.declared.field.Presence.TheVariants as presences
-use Rattle.pg_schema.specs.declared.file.File.{File}
-use Rattle.pg_schema.specs.declared.message_type.MessageType.{MessageType}
-use Rattle.pg_schema.specs.declared.message_type.ReservedFields.{ReservedFields}
-use Rattle.pg_schema.specs.declared.options.FileOption.{FileOption}
+use Rattle.pg_schema.specs.declared.parts.enum_type.EnumType.{EnumType}
+use Rattle.pg_schema.specs.declared.parts.enum_type.EnumValue.{EnumValue}
+use Rattle.pg_schema.specs.declared.parts.enum_type.ReservedValues.{ReservedValues}
+use Rattle.pg_schema.specs.declared.parts.field.Element.{Element}
+use Rattle.pg_schema.specs.declared.parts.field.Field.{Field}
+use Rattle.pg_schema.specs.declared.parts.field.Presence.{Presence}
+use Rattle.pg_schema.specs.declared.parts.field.Presence.TheVariants as presences
+use Rattle.pg_schema.specs.declared.parts.file.File.{File}
+use Rattle.pg_schema.specs.declared.parts.message_type.MessageType.{MessageType}
+use Rattle.pg_schema.specs.declared.parts.message_type.ReservedFields.{ReservedFields}
+use Rattle.pg_schema.specs.declared.parts.options.FileOption.{FileOption}
 use Rattle.pg_schema.specs.declared.parts.Parts.{Parts}
-use Rattle.pg_schema.specs.FieldRules.{stated_or}
-use Rattle.pg_schema.specs.FileRules.{is_file_option}
-use Rattle.pg_schema.specs.MessageRules.{have_members, is_member}
+use Rattle.pg_schema.specs.rules.Fields.{stated_or}
+use Rattle.pg_schema.specs.rules.Files.{is_file_option}
+use Rattle.pg_schema.specs.rules.Messages.{have_members, is_member}
 use Rattle.pg_schema.specs.Shape.{is_key, is_packable}
 use Rattle.pg_check.specs.declared.fault.Fault.{Fault}
 use Rattle.pg_check.specs.declared.fault.Rule.{Rule}

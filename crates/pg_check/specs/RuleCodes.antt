@@ -1,9 +1,9 @@
 -- The code in the fact that a rule is broken is the code that users are told.
 use Rattle.std.specs.Prelude.{◌≡◌, ℕ}
 use Rattle.pg_link.specs.declared.error.Place.{Place}
-use Rattle.pg_schema.specs.declared.enum_type.EnumType.{EnumType}
-use Rattle.pg_schema.specs.declared.file.File.{File}
-use Rattle.pg_schema.specs.declared.message_type.MessageType.{MessageType}
+use Rattle.pg_schema.specs.declared.parts.enum_type.EnumType.{EnumType}
+use Rattle.pg_schema.specs.declared.parts.file.File.{File}
+use Rattle.pg_schema.specs.declared.parts.message_type.MessageType.{MessageType}
 use Rattle.pg_check.specs.BrokenParts.{BreaksEnumType, BreaksFilePart, BreaksType}
 use Rattle.pg_check.specs.BrokenRules.{BreaksFile}
 use Rattle.pg_check.specs.Codes.{code_of}

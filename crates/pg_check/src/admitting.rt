@@ -1,7 +1,7 @@
 //! From parts that come from no text to a checked schema.
 
 ghost use Rattle.std.specs.Prelude.{◌≡◌, IfErr, IfOk, OnOk};
-ghost use Rattle.pg_schema.specs.Sound.{IsSound};
+ghost use Rattle.pg_schema.specs.rules.Sound.{IsSound};
 ghost use Rattle.pg_check.specs.PartErrors.{IsRefusedOf};
 
 use crate::error::{CheckError, error_of};

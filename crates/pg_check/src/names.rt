@@ -1,7 +1,7 @@
 //! Names that are reserved, and texts that stand twice.
 
 ghost use Rattle.std.specs.Prelude.{◌≡◌, IfOk, map, string_bytes};
-ghost use Rattle.pg_schema.specs.TextSets.{IsSetOf};
+ghost use Rattle.pg_schema.specs.rules.TextSets.{IsSetOf};
 ghost use Rattle.pg_check.specs.Names as spec;
 
 use std::alloc::{AllocError, Global};

@@ -1,8 +1,8 @@
 //! Oneofs of parts, and their members.
 
 ghost use Rattle.std.specs.Prelude.{◌≡◌, IfOk, List};
-ghost use Rattle.pg_schema.specs.declared.field.Field.{Field};
-ghost use Rattle.pg_schema.specs.MessageRules.{have_members};
+ghost use Rattle.pg_schema.specs.declared.parts.field.Field.{Field};
+ghost use Rattle.pg_schema.specs.rules.Messages.{have_members};
 ghost use Rattle.pg_check.specs.PartFaults.{IsPlaceSet};
 
 use pg_schema::Field;

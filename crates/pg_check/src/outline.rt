@@ -1,7 +1,7 @@
 //! What files declare, inside and outside of messages, in order of declaration.
 
 ghost use Rattle.std.specs.Prelude.{◌≡◌, ◌++◌, IfOk, OnOk, flat_map, map, string_bytes};
-ghost use Rattle.pg_schema.specs.DeclaredNames.{within};
+ghost use Rattle.pg_schema.specs.rules.DeclaredNames.{within};
 ghost use Rattle.pg_check.specs.Outline as spec;
 
 use pg_schema::full_name;

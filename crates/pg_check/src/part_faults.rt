@@ -2,7 +2,7 @@
 
 ghost use Rattle.std.specs.Prelude.{◌≡◌, IfOk, map, string_bytes};
 ghost use Rattle.std.specs.List.{list_any};
-ghost use Rattle.pg_schema.specs.FileRules.{is_file_option};
+ghost use Rattle.pg_schema.specs.rules.Files.{is_file_option};
 ghost use Rattle.pg_check.specs.Faults.{first_fault};
 ghost use Rattle.pg_check.specs.Names as names;
 ghost use Rattle.pg_check.specs.PartFaults as spec;

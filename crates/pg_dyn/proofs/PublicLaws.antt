@@ -8,30 +8,30 @@ use Rattle.pg_dyn.specs.Kept as kept
 use Rattle.pg_dyn.specs.Message.{Leaf, key_cmp, leaf_eq}
 use Rattle.pg_dyn.specs.Message as model
 use Rattle.pg_dyn.specs.Bodies.{BodiesReadAgain, EntryBodiesRead, PackedBodiesRead, SingleBodiesRead}
-use Rattle.pg_dyn.specs.Encoding.{enc, encoded_parts}
+use Rattle.pg_dyn.specs.encoding.Encoding.{enc, encoded_parts}
 use Rattle.pg_dyn.specs.OwnParts.{ComparandsAreWritten, ChildrenAreShorter, OneIsEmpty, OwnPartsFit, SiblingsMutual}
 use Rattle.pg_dyn.specs.FieldLaws.{ContentsAreSeen, EntriesRise, EqualLeaves, FieldsAreFound, LastItems, OwnContents, PackableWires, PartsKeepTypes, PlainIsKept, RecordsOfFields, RisingEntriesStay, UnknownIsKept}
 use Rattle.pg_dyn.specs.Laws.{DecodingIs, EncodingSpells, KeptByField, MessageSplits, WritingSplits}
 use Rattle.pg_dyn.specs.ByComparands.{KeptByComparands}
 use Rattle.pg_dyn.proofs.Lists.{each_of_all, each_weaker}
-use Rattle.pg_dyn.proofs.Codings.{Reads-from_range}
-use Rattle.pg_dyn.proofs.Plain as Plain
-use Rattle.pg_dyn.proofs.Entries.{entry_read, records_of_entry}
-use Rattle.pg_dyn.proofs.Fields as Fields
-use Rattle.pg_dyn.proofs.Splitting as Splitting
-use Rattle.pg_dyn.proofs.Flat as Flat
-use Rattle.pg_dyn.proofs.Belonging.{child_type_is, fields-IsType, flat_parts, is_flat}
-use Rattle.pg_dyn.proofs.Shorter.{children_shorter}
-use Rattle.pg_dyn.proofs.Again.{records_of-enc}
-use Rattle.pg_dyn.proofs.ReadSplits.{reading_of, field_split, no_field_split, unknown_split}
-use Rattle.pg_dyn.proofs.Depth.{dec_is}
-use Rattle.pg_dyn.proofs.ByField as ByField
-use Rattle.pg_dyn.proofs.ByComparands as ByComparands
-use Rattle.pg_dyn.proofs.RecordsRead.{content_none}
-use Rattle.pg_dyn.proofs.ItemLeaves.{item_is_key}
-use Rattle.pg_dyn.proofs.ReplacingLaws.{content_number, type_of-kept_onto, unknown-message_of, type_of-with_parts, type_of-without_siblings}
-use Rattle.pg_dyn.proofs.SelfSame.{plain_unknown}
-use Rattle.pg_dyn.proofs.Leaves.{leaf_eq_self, same_leaf}
+use Rattle.pg_dyn.proofs.lemmas.Codings.{Reads-from_range}
+use Rattle.pg_dyn.proofs.lemmas.Plain as Plain
+use Rattle.pg_dyn.proofs.lemmas.Entries.{entry_read, records_of_entry}
+use Rattle.pg_dyn.proofs.lemmas.Fields as Fields
+use Rattle.pg_dyn.proofs.lemmas.Splitting as Splitting
+use Rattle.pg_dyn.proofs.lemmas.Flat as Flat
+use Rattle.pg_dyn.proofs.lemmas.Belonging.{child_type_is, fields-IsType, flat_parts, is_flat}
+use Rattle.pg_dyn.proofs.lemmas.Shorter.{children_shorter}
+use Rattle.pg_dyn.proofs.lemmas.Again.{records_of-enc}
+use Rattle.pg_dyn.proofs.lemmas.ReadSplits.{reading_of, field_split, no_field_split, unknown_split}
+use Rattle.pg_dyn.proofs.lemmas.Depth.{dec_is}
+use Rattle.pg_dyn.proofs.lemmas.ByField as ByField
+use Rattle.pg_dyn.proofs.lemmas.ByComparands as ByComparands
+use Rattle.pg_dyn.proofs.lemmas.RecordsRead.{content_none}
+use Rattle.pg_dyn.proofs.lemmas.ItemLeaves.{item_is_key}
+use Rattle.pg_dyn.proofs.lemmas.ReplacingLaws.{content_number, type_of-kept_onto, unknown-message_of, type_of-with_parts, type_of-without_siblings}
+use Rattle.pg_dyn.proofs.lemmas.SelfSame.{plain_unknown}
+use Rattle.pg_dyn.proofs.lemmas.Leaves.{leaf_eq_self, same_leaf}
 
 -- ---- bytes and their messages
 

@@ -2,9 +2,9 @@
 -- Fields", "Maps").
 use Rattle.std.specs.Prelude.{◌≡◌, ⊤, ℕ, ◌^◌, ◌<◌, List, [], ◌∷◌, ◌++◌, map, flat_map, length, true, Some, Ok}
 use Rattle.std.specs.List.{AllByRecursion}
-use Rattle.pg_schema.specs.declared.field.Scalar.{Scalar}
-use Rattle.pg_schema.specs.declared.field.Element.{Element}
-use Rattle.pg_schema.specs.declared.field.Element.TheVariants as elements
+use Rattle.pg_schema.specs.declared.parts.field.Scalar.{Scalar}
+use Rattle.pg_schema.specs.declared.parts.field.Element.{Element}
+use Rattle.pg_schema.specs.declared.parts.field.Element.TheVariants as elements
 use Rattle.pg_schema.specs.Shape.{FieldShape, is_packable}
 use Rattle.pg_wire.specs.declared.record.WireType.{WireType}
 use Rattle.pg_wire.specs.declared.record.WireType.TheVariants.{Varint, I64, Len, I32}
@@ -12,7 +12,7 @@ use Rattle.pg_wire.specs.Varint.{IsVarint}
 use Rattle.pg_wire.specs.Records.{WireRecord, records_of, written}
 use Rattle.pg_dyn.specs.Message.{Leaf, Bytes}
 use Rattle.pg_dyn.specs.Coding.{Form, InRange, body, form, form_wire, leaf_in}
-use Rattle.pg_dyn.specs.Content.{entry_in, leaf_bytes, leaves_in, packed_leaves}
+use Rattle.pg_dyn.specs.reading.Content.{entry_in, leaf_bytes, leaves_in, packed_leaves}
 use Rattle.pg_dyn.specs.Optional.{all_some}
 
 -- what a body is by its wire type alone

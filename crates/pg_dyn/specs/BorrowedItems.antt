@@ -2,8 +2,8 @@
 use Rattle.std.specs.Prelude.{List, Bool, false}
 use Rattle.std.specs.List.{AllByRecursion}
 use Rattle.std.specs.Ordering.{is_lt}
-use Rattle.pg_schema.specs.declared.field.Element.{Element}
-use Rattle.pg_schema.specs.declared.field.Scalar.{Scalar}
+use Rattle.pg_schema.specs.declared.parts.field.Element.{Element}
+use Rattle.pg_schema.specs.declared.parts.field.Scalar.{Scalar}
 use Rattle.pg_schema.specs.Shape.{Shape}
 use Rattle.pg_dyn.specs.declared.message_ref.EntryRef.{EntryRef}
 use Rattle.pg_dyn.specs.declared.message_ref.ValueRef.{ValueRef}
@@ -11,7 +11,7 @@ use Rattle.pg_dyn.specs.Borrowed.{item_seen, leaf_of}
 use Rattle.pg_dyn.specs.KeyOrder.{IsOfKind, Rise, rank_cmp}
 use Rattle.pg_dyn.specs.Message.{Leaf}
 use Rattle.pg_dyn.specs.PartsFit.{IsElementItem, IsScalarItem}
-use Rattle.pg_dyn.specs.Setting.{is_zero_kept}
+use Rattle.pg_dyn.specs.setting.Setting.{is_zero_kept}
 
 abbrev pub IsItemOf : Scalar → ValueRef → Type 0
 IsItemOf s value = IsScalarItem s (item_seen false value)

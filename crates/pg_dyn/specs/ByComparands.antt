@@ -2,15 +2,15 @@
 -- content, and the law that being kept is decided so, field by field (this profile's choice).
 use Rattle.std.specs.Prelude.{◌≡◌, ◌≤◌, ◌↔◌, ◌⊎◌, ℕ, List, [], map, filter, length, Bool, true, false, not, ◌&&◌, ◌||◌, nat_eq, Option, Some, None, option_and_then}
 use Rattle.std.specs.List.{list_all}
-use Rattle.pg_schema.specs.declared.field.TypeId.{TypeId}
+use Rattle.pg_schema.specs.declared.parts.field.TypeId.{TypeId}
 use Rattle.pg_schema.specs.Shape.{Shape, FieldShape, IsShape, fields, field_at}
 use Rattle.pg_wire.specs.Records.{WireRecord}
 use Rattle.pg_dyn.specs.Optional.{all_some}
 use Rattle.pg_dyn.specs.Message.{Item, Message, Part, IsPlain}
-use Rattle.pg_dyn.specs.Content.{takes, is_sibling, content}
-use Rattle.pg_dyn.specs.Writing.{field_records}
-use Rattle.pg_dyn.specs.Encoding.{enc, cap}
-use Rattle.pg_dyn.specs.Decoding.{Reader, is_readable, read_part, dec}
+use Rattle.pg_dyn.specs.reading.Content.{takes, is_sibling, content}
+use Rattle.pg_dyn.specs.encoding.Writing.{field_records}
+use Rattle.pg_dyn.specs.encoding.Encoding.{enc, cap}
+use Rattle.pg_dyn.specs.reading.Decoding.{Reader, is_readable, read_part, dec}
 use Rattle.pg_dyn.specs.Belonging.{IsMessage}
 use Rattle.pg_dyn.specs.Comparison.{View, Comparand, writes, expects, comparands, same_content}
 use Rattle.pg_dyn.specs.Breaking.{is_kept}

@@ -1,12 +1,12 @@
 -- Why some bytes can't be read, and where: an example of each fault, in a message, a child and a map's entry.
 use Rattle.std.specs.Prelude.{ℕ, true, List, [], ◌∷◌}
-use Rattle.pg_schema.specs.declared.field.Scalar.TheVariants.{Int32, Fixed32}
-use Rattle.pg_schema.specs.declared.field.Scalar.TheVariants as scalars
-use Rattle.pg_schema.specs.declared.field.Element.TheVariants as elements
-use Rattle.pg_schema.specs.declared.field.Presence.TheVariants.{Implicit, Explicit, Repeated, Map}
+use Rattle.pg_schema.specs.declared.parts.field.Scalar.TheVariants.{Int32, Fixed32}
+use Rattle.pg_schema.specs.declared.parts.field.Scalar.TheVariants as scalars
+use Rattle.pg_schema.specs.declared.parts.field.Element.TheVariants as elements
+use Rattle.pg_schema.specs.declared.parts.field.Presence.TheVariants.{Implicit, Explicit, Repeated, Map}
 use Rattle.pg_schema.specs.Shape.{Shape, fields}
 use Rattle.pg_wire.specs.Reading.{VarintTooLong, Truncated, BadTag, Group, BadWireType}
-use Rattle.pg_dyn.specs.Faults.{Code, Wire, NotUtf8, FaultIn}
+use Rattle.pg_dyn.specs.reading.Faults.{Code, Wire, NotUtf8, FaultIn}
 use Rattle.pg_dyn.specs.Examples.{first, field, scalar, member, of_fields, int32}
 
 -- bytes of the first type have that fault

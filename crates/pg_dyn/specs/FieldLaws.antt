@@ -3,11 +3,11 @@
 use Rattle.std.specs.Prelude.{◌≡◌, ◌↔◌, ⊤, ℕ, List, [], ◌∷◌, length, map, filter, true, false, Some}
 use Rattle.std.specs.List.{AllByRecursion}
 use Rattle.std.specs.declared.cmp.Ordering.TheVariants.{Less}
-use Rattle.pg_schema.specs.declared.field.TypeId.{TypeId}
-use Rattle.pg_schema.specs.declared.field.Scalar.{Scalar}
-use Rattle.pg_schema.specs.declared.field.Element.{Element}
-use Rattle.pg_schema.specs.declared.field.Element.TheVariants as elements
-use Rattle.pg_schema.specs.declared.field.Presence.{Presence}
+use Rattle.pg_schema.specs.declared.parts.field.TypeId.{TypeId}
+use Rattle.pg_schema.specs.declared.parts.field.Scalar.{Scalar}
+use Rattle.pg_schema.specs.declared.parts.field.Element.{Element}
+use Rattle.pg_schema.specs.declared.parts.field.Element.TheVariants as elements
+use Rattle.pg_schema.specs.declared.parts.field.Presence.{Presence}
 use Rattle.pg_schema.specs.Shape.{Shape, FieldShape, IsShape, IsType, Rising, fields, field_at, is_key, is_packable}
 use Rattle.pg_wire.specs.declared.record.WireType.TheVariants.{Len}
 use Rattle.pg_wire.specs.Records.{WireRecord}
@@ -18,9 +18,9 @@ use Rattle.pg_dyn.specs.Message as model
 use Rattle.pg_dyn.specs.Bodies.{IsNestedLeaf}
 use Rattle.pg_dyn.specs.Coding.{form, form_wire}
 use Rattle.pg_dyn.specs.Optional.{all_some, last_of}
-use Rattle.pg_dyn.specs.Content.{by_key, content, entry_in, last_item, same_wire, takes}
-use Rattle.pg_dyn.specs.Writing.{field_records, records_in}
-use Rattle.pg_dyn.specs.Encoding.{child_type}
+use Rattle.pg_dyn.specs.reading.Content.{by_key, content, entry_in, last_item, same_wire, takes}
+use Rattle.pg_dyn.specs.encoding.Writing.{field_records, records_in}
+use Rattle.pg_dyn.specs.encoding.Encoding.{child_type}
 use Rattle.pg_dyn.specs.Belonging.{MayBeZero}
 use Rattle.pg_dyn.specs.Comparison.{Expected, View, same_content}
 use Rattle.pg_dyn.specs.Laws.{of_number}

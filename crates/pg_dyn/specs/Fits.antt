@@ -2,7 +2,7 @@
 use Rattle.std.specs.Prelude.{◌≡◌, ℕ, ◌<◌, ⊤, Bool, false, length, List, Option, Some, None}
 use Rattle.pg_schema.specs.Shape.{Shape, FieldShape, fields, field_at, is_repeated}
 use Rattle.pg_dyn.specs.Kept.{Kept, ends, holds, nests, type_of, message_of}
-use Rattle.pg_dyn.specs.Encoding.{child_type}
+use Rattle.pg_dyn.specs.encoding.Encoding.{child_type}
 use Rattle.pg_dyn.specs.Belonging.{IsMessage}
 
 -- whether the items of the field with the number stand in a list

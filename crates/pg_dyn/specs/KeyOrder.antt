@@ -10,7 +10,7 @@ use Rattle.pg_dyn.specs.declared.message.Content.TheVariants as contents
 use Rattle.pg_dyn.specs.declared.message.Value.{Value}
 use Rattle.pg_dyn.specs.declared.message.Value.TheVariants as values
 use Rattle.pg_dyn.specs.Message.{Leaf, Int, Bytes, key_cmp}
-use Rattle.pg_dyn.specs.Content.{leaf_bytes}
+use Rattle.pg_dyn.specs.reading.Content.{leaf_bytes}
 use Rattle.pg_dyn.specs.Seen.{leaf_of}
 
 -- each key is below all later ones, whatever else an entry holds

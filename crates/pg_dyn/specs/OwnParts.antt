@@ -1,11 +1,11 @@
 -- What is known of the parts of a message of a type, field by field.
 use Rattle.std.specs.Prelude.{◌≡◌, ◌≢◌, ◌⊎◌, ⊤, ℕ, ◌^◌, ◌<◌, ◌≤◌, List, [], ◌∷◌, map, filter, flat_map, length, true, false, Option, Some, None}
 use Rattle.std.specs.List.{AllByRecursion}
-use Rattle.pg_schema.specs.declared.field.TypeId.{TypeId}
-use Rattle.pg_schema.specs.declared.field.Element.{Element}
-use Rattle.pg_schema.specs.declared.field.Element.TheVariants as elements
-use Rattle.pg_schema.specs.declared.field.Presence.{Presence}
-use Rattle.pg_schema.specs.declared.field.Presence.TheVariants as presences
+use Rattle.pg_schema.specs.declared.parts.field.TypeId.{TypeId}
+use Rattle.pg_schema.specs.declared.parts.field.Element.{Element}
+use Rattle.pg_schema.specs.declared.parts.field.Element.TheVariants as elements
+use Rattle.pg_schema.specs.declared.parts.field.Presence.{Presence}
+use Rattle.pg_schema.specs.declared.parts.field.Presence.TheVariants as presences
 use Rattle.pg_schema.specs.Shape.{Shape, FieldShape, IsShape, fields, field_at}
 use Rattle.pg_wire.specs.declared.record.WireType.TheVariants.{Len}
 use Rattle.pg_wire.specs.Records.{WireRecord, written}
@@ -14,9 +14,9 @@ use Rattle.pg_dyn.specs.Coding.{body, form}
 use Rattle.pg_dyn.specs.Bodies.{IsNestedLeaf, IsReadAs, entry_body, record_with}
 use Rattle.pg_dyn.specs.Belonging.{IsMessage, KeyFits, MayBeZero, MayFollow}
 use Rattle.pg_dyn.specs.Comparison.{View, comparands, writes}
-use Rattle.pg_dyn.specs.Content.{is_sibling, same_oneof}
-use Rattle.pg_dyn.specs.Writing.{key_of}
-use Rattle.pg_dyn.specs.Encoding.{cap, child_type, enc, encoded_parts}
+use Rattle.pg_dyn.specs.reading.Content.{is_sibling, same_oneof}
+use Rattle.pg_dyn.specs.encoding.Writing.{key_of}
+use Rattle.pg_dyn.specs.encoding.Encoding.{cap, child_type, enc, encoded_parts}
 
 -- a part that a field of this number may hold
 pub record FitsField (number : ℕ) (p : Presence) (e : Element) (part : Part Leaf) : Type 0 where

@@ -1,11 +1,11 @@
 -- A message with another content under a number.
 use Rattle.std.specs.Prelude.{ℕ, List, [], ◌∷◌, ◌++◌, filter, nat_lt, nat_eq, Bool, not, ◌&&◌, Option}
 use Rattle.std.specs.List.{list_any}
-use Rattle.pg_schema.specs.declared.field.TypeId.{TypeId}
+use Rattle.pg_schema.specs.declared.parts.field.TypeId.{TypeId}
 use Rattle.pg_schema.specs.Shape.{FieldShape}
 use Rattle.pg_wire.specs.Records.{WireRecord}
 use Rattle.pg_dyn.specs.Message.{Leaf, Part}
-use Rattle.pg_dyn.specs.Content.{is_sibling}
+use Rattle.pg_dyn.specs.reading.Content.{is_sibling}
 use Rattle.pg_dyn.specs.Kept.{Kept, ends, holds, nests, KeptItem, Plain, Msg, type_of, parts_of, unknown_of}
 
 -- the message with these parts in front

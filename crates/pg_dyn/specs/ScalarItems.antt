@@ -1,8 +1,8 @@
 -- Items of scalar fields, as the program holds them.
 use Rattle.std.specs.Prelude.{◌≡◌, ℕ, ⊤, List, length}
 use Rattle.std.specs.Str.{IsValidUpTo}
-use Rattle.pg_schema.specs.declared.field.Scalar.{Scalar}
-use Rattle.pg_schema.specs.declared.field.Scalar.TheVariants as scalars
+use Rattle.pg_schema.specs.declared.parts.field.Scalar.{Scalar}
+use Rattle.pg_schema.specs.declared.parts.field.Scalar.TheVariants as scalars
 use Rattle.pg_wire.specs.declared.record.WireType.{WireType}
 use Rattle.pg_wire.specs.declared.record.WireType.TheVariants.{Varint, I64, Len, I32}
 use Rattle.pg_wire.specs.Varint.{IsVarint}

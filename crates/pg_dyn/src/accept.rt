@@ -1,15 +1,15 @@
 //! Which wire types a field accepts.
 
 ghost use Rattle.std.specs.Prelude.{◌≡◌, ◌&&◌, ◌||◌, false, MatchOption};
-ghost use Rattle.pg_schema.specs.declared.field.Presence.TheVariants as presences;
+ghost use Rattle.pg_schema.specs.declared.parts.field.Presence.TheVariants as presences;
 ghost use Rattle.pg_schema.specs.Parts.{field_shape};
 ghost use Rattle.pg_schema.specs.Shape.{is_map, is_packable, is_repeated};
 ghost use Rattle.pg_dyn.specs.Coding.{form, form_wire};
-ghost use Rattle.pg_dyn.specs.Content.{own_wire, same_wire};
-ghost use Rattle.pg_dyn.specs.Written.{is_packed};
+ghost use Rattle.pg_dyn.specs.reading.Content.{own_wire, same_wire};
+ghost use Rattle.pg_dyn.specs.encoding.Written.{is_packed};
 ghost use Rattle.pg_wire.specs.declared.record.WireType.TheVariants.{Len};
 
-use crate::body::wire_type_of;
+use crate::encoding::body::wire_type_of;
 use pg_schema::{Element, Field, Presence, Scalar};
 use pg_wire::WireType;
 

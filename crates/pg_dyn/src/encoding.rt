@@ -1,6 +1,10 @@
 //! How a message that fits is written: its records, counted first.
 
+pub(crate) mod body;
+pub(crate) mod counting;
+mod lending;
 mod records;
+pub(crate) mod unshared;
 
 ghost use Rattle.std.specs.Prelude.{◌≡◌, ℕ, ◌≤◌, ◌++◌, List, length, flat_map, IfOk, IfErr};
 ghost use Rattle.std.specs.List.{AllByRecursion};
@@ -9,18 +13,18 @@ ghost use Rattle.pg_schema.specs.Parts.{field_shape, shape_of};
 ghost use Rattle.pg_wire.specs.declared.record.WireType.TheVariants.{Len};
 ghost use Rattle.pg_wire.specs.Records.{written};
 ghost use Rattle.pg_dyn.specs.Coding.{InRange, scalar_form};
-ghost use Rattle.pg_dyn.specs.Encoding.{cap, enc};
+ghost use Rattle.pg_dyn.specs.encoding.Encoding.{cap, enc};
 ghost use Rattle.pg_dyn.specs.Fits.{Fits};
 ghost use Rattle.pg_dyn.specs.Kept.{message_of, type_of};
-ghost use Rattle.pg_dyn.specs.Lending.{Child, bare_leaf};
+ghost use Rattle.pg_dyn.specs.encoding.Lending.{Child, bare_leaf};
 ghost use Rattle.pg_dyn.specs.PartsFit.{IsPartOf};
-ghost use Rattle.pg_dyn.specs.Written.{Adds, BareFits, CanBePacked, MayNotAdd, MayNotWrite, capped, entry_record, field_lengths, field_written, inner_lengths, item_body, item_bytes, item_lengths, own_bytes};
+ghost use Rattle.pg_dyn.specs.encoding.Written.{Adds, BareFits, CanBePacked, MayNotAdd, MayNotWrite, capped, entry_record, field_lengths, field_written, inner_lengths, item_body, item_bytes, item_lengths, own_bytes};
 
+use self::counting::{MAX_ENCODING_LEN, body_len, count_message, entry_len, saturated_len};
+use self::lending::Lends;
 use self::records::{not_too_long, push_front, push_item, push_packed, push_unknown};
 use crate::accept::{element_wire_type, is_packed, map_key};
-use crate::counting::{MAX_ENCODING_LEN, body_len, count_message, entry_len, saturated_len};
 use crate::error::DynError;
-use crate::lending::Lends;
 use crate::message::Message;
 use crate::message_ref::MessageRef;
 use pg_schema::{Element, Field, Scalar, Schema};

@@ -44,7 +44,7 @@ pub enum DynError {
 
 impl DynError {
     ghost use Rattle.std.specs.Prelude.{◌≡◌};
-    ghost use Rattle.pg_dyn.specs.ContentFaults.{code};
+    ghost use Rattle.pg_dyn.specs.setting.ContentFaults.{code};
     ghost use Rattle.pg_dyn.specs.Codes.{code_of, place_of};
 
     /// The number behind the E by which users know the error.

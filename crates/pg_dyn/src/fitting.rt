@@ -6,7 +6,7 @@ ghost use Rattle.std.specs.declared.cmp.Ordering.TheVariants.{Less};
 ghost use Rattle.pg_schema.specs.Invariant.{IsSchema};
 ghost use Rattle.pg_schema.specs.Parts.{shape_of};
 ghost use Rattle.pg_schema.specs.Shape.{fields};
-ghost use Rattle.pg_dyn.specs.Content.{is_unknown};
+ghost use Rattle.pg_dyn.specs.reading.Content.{is_unknown};
 ghost use Rattle.pg_dyn.specs.ContentFits.{ContentFits, ItemFits, KeysRise};
 ghost use Rattle.pg_dyn.specs.Fits.{Fits};
 ghost use Rattle.pg_dyn.specs.Message.{key_cmp};
@@ -14,9 +14,9 @@ ghost use Rattle.pg_dyn.specs.ScalarItems.{IsItemOf};
 ghost use Rattle.pg_dyn.specs.Seen.{IsKey, leaf_of, record_seen};
 
 use crate::accept::accepts;
-use crate::check::check_item;
 use crate::message::{Content, Message, UnknownRecord, Value};
 use crate::oneofs::none_siblings;
+use crate::setting::check::check_item;
 use pg_schema::{Element, Field, Presence, Scalar, Schema, TypeId};
 use std::cmp::Ordering;
 

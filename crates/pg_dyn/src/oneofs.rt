@@ -3,8 +3,8 @@
 ghost use Rattle.std.specs.Prelude.{◌≡◌, ◌↔◌, ℕ, ◌+◌, ◌^◌, ◌<◌, ◌≤◌, length, false, option_and_then, IfSome, IsTrue};
 ghost use Rattle.pg_schema.specs.Parts.{shape_of};
 ghost use Rattle.pg_schema.specs.Shape.{field_at, fields};
-ghost use Rattle.pg_dyn.specs.Content.{same_oneof};
-ghost use Rattle.pg_dyn.specs.ContentFaults.{members};
+ghost use Rattle.pg_dyn.specs.reading.Content.{same_oneof};
+ghost use Rattle.pg_dyn.specs.setting.ContentFaults.{members};
 ghost use Rattle.pg_dyn.specs.ContentFits.{NoneSiblings};
 ghost use Rattle.pg_dyn.specs.Seen.{Rises};
 

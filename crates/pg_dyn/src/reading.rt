@@ -1,17 +1,21 @@
 //! What bytes are read as: their records are gathered, and then read field by field.
 
-pub(crate) mod elements;
+pub(crate) mod decoding;
+mod elements;
 mod entries;
+mod faults;
 mod gathering;
 mod items;
 mod keys;
 mod nested;
 mod oneof_runs;
 mod ordering;
-pub(crate) mod packed;
+mod packed;
 mod parts;
+mod scalar;
 mod scalars;
 mod sorting;
-pub(crate) mod stop;
+mod stop;
+pub(crate) mod unlimited;
 
 pub(crate) use nested::read_message;

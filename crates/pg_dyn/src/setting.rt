@@ -1,17 +1,25 @@
 //! Setting one field of a message.
 
+pub(crate) mod check;
+mod filling;
+mod keys;
+mod normalizing;
+mod oneof_hints;
+mod oneof_siblings;
+mod putting;
+
 ghost use Rattle.std.specs.Prelude.{◌≡◌, OnOk, IfErr, Some};
 ghost use Rattle.pg_schema.specs.Parts.{field_shape, shape_of};
 ghost use Rattle.pg_schema.specs.Shape.{field_at, fields};
-ghost use Rattle.pg_dyn.specs.ContentFaults.{ContentFault, HasKeyTwice, HasNoFault, MayRefuseFor};
+ghost use Rattle.pg_dyn.specs.setting.ContentFaults.{ContentFault, HasKeyTwice, HasNoFault, MayRefuseFor};
 ghost use Rattle.pg_dyn.specs.Fits.{Fits};
 ghost use Rattle.pg_dyn.specs.Kept.{type_of};
-ghost use Rattle.pg_dyn.specs.Setting.{IsSetTo};
+ghost use Rattle.pg_dyn.specs.setting.Setting.{IsSetTo};
 
-use crate::check::check_content;
+use self::check::check_content;
+use self::keys::check_keys;
 use crate::error::DynError;
 use crate::field_list::{put, remove, reserve};
-use crate::keys::check_keys;
 use crate::message::{Content, Message};
 use pg_schema::{Field, Schema};
 
@@ -67,8 +75,8 @@ impl Message {
     ghost use Rattle.pg_schema.specs.Invariant.{IsSchema};
     ghost use Rattle.pg_dyn.specs.Replacing.{with_parts, without_siblings};
     ghost use Rattle.pg_dyn.specs.Seen.{content_seen};
-    ghost use Rattle.pg_dyn.specs.Setting.{normalized};
-    ghost use Rattle.pg_dyn.specs.Told.{ItemsFit};
+    ghost use Rattle.pg_dyn.specs.setting.Setting.{normalized};
+    ghost use Rattle.pg_dyn.specs.setting.Told.{ItemsFit};
 
     /// Puts a content that is one of the field, in place of the one that stands there, whatever
     /// stands in other members of the field's oneof. Where memory is refused, the content comes

@@ -4,9 +4,9 @@ use Rattle.std.proofs.lemmas.Bool.Decides.{nat_tests}
 use Rattle.std.proofs.lemmas.List.{append-nil, map-append}
 use Rattle.std.proofs.lemmas.Option.{same_Some}
 use Rattle.std.specs.List.{AllByRecursion}
-use Rattle.pg_schema.specs.declared.field.Element.{Element}
-use Rattle.pg_schema.specs.declared.field.Presence.TheVariants.{Repeated}
-use Rattle.pg_schema.specs.declared.field.TypeId.{TypeId}
+use Rattle.pg_schema.specs.declared.parts.field.Element.{Element}
+use Rattle.pg_schema.specs.declared.parts.field.Presence.TheVariants.{Repeated}
+use Rattle.pg_schema.specs.declared.parts.field.TypeId.{TypeId}
 use Rattle.pg_schema.specs.Shape.{Shape, FieldShape, fields, field_at}
 use Rattle.pg_dyn.specs.declared.message.Content.{Content}
 use Rattle.pg_dyn.specs.declared.message.Content.TheVariants as contents
@@ -17,12 +17,12 @@ use Rattle.pg_dyn.specs.Message.{Message, Part, Item, message_from}
 use Rattle.pg_dyn.specs.Message as model
 use Rattle.pg_dyn.specs.Replacing.{kept_from, with_parts, with_content}
 use Rattle.pg_dyn.specs.Seen.{content_seen, item_seen}
-use Rattle.pg_dyn.specs.Setting.{IsSetTo, normalized}
+use Rattle.pg_dyn.specs.setting.Setting.{IsSetTo, normalized}
 use Rattle.pg_dyn.specs.Fits.{Fits}
 use Rattle.pg_dyn.specs.ContentFits.{ItemFits}
-use Rattle.pg_dyn.specs.Told.{ItemsFit, TakesContent}
+use Rattle.pg_dyn.specs.setting.Told.{ItemsFit, TakesContent}
 use Rattle.pg_dyn.proofs.Lists.{filter_all, filter_none}
-use Rattle.pg_dyn.proofs.ReplacingLaws.{no_siblings, parts_of-kept_onto, unknown_of-kept_onto, type_of-kept_onto, parts-message_of, unknown-message_of, item_of, part_item}
+use Rattle.pg_dyn.proofs.lemmas.ReplacingLaws.{no_siblings, parts_of-kept_onto, unknown_of-kept_onto, type_of-kept_onto, parts-message_of, unknown-message_of, item_of, part_item}
 use Rattle.pg_fds.specs.Descriptor.{descriptor_shape, one, many}
 use Rattle.pg_fds.specs.Building.{items_of, items_in, items_within, shown, greatest, last_number, IsChild, AreChildren, IsOf, HasOne, HasMany, written_shape}
 use Rattle.pg_fds.specs.Items.{item, child, children, texts}

@@ -4,8 +4,8 @@ use Rattle.std.proofs.lemmas.Option.{none-some, same_Some}
 use Rattle.std.specs.Prelude.{IsSomeAnd}
 use Rattle.std.specs.BTreeMap.{BTreeMap, get_by_text}
 use Rattle.std.specs.Str.{IsUtf8}
-use Rattle.pg_schema.specs.declared.field.TypeId.{TypeId}
-use Rattle.pg_schema.specs.Scopes.{type_name}
+use Rattle.pg_schema.specs.declared.parts.field.TypeId.{TypeId}
+use Rattle.pg_schema.specs.rules.Scopes.{type_name}
 use Rattle.pg_fds.specs.declared.outline.Named.{Named}
 use Rattle.pg_fds.specs.declared.outline.Named.TheVariants as nameds
 use Rattle.pg_fds.specs.Fields.{dotted}

@@ -3,11 +3,11 @@ use Rattle.std.proofs.Common.{◌≡◌, ℕ, suc, Bool, true, false, cond, nat_
 use Rattle.std.proofs.lemmas.Bool.{false≢true}
 use Rattle.std.proofs.lemmas.Bool.Decides.{nat_tests}
 use Rattle.std.specs.List.{AllByRecursion, Any, list_all, list_any}
-use Rattle.pg_schema.specs.declared.field.Field.{Field}
-use Rattle.pg_schema.specs.declared.message_type.MessageType.{MessageType}
-use Rattle.pg_schema.specs.MessageRules.{is_declared, numbers}
-use Rattle.pg_schema.specs.Pairs.{are_distinct, differ, is_rising}
-use Rattle.pg_schema.proofs.PairLemmas.{and_both, and_left, and_right}
+use Rattle.pg_schema.specs.declared.parts.field.Field.{Field}
+use Rattle.pg_schema.specs.declared.parts.message_type.MessageType.{MessageType}
+use Rattle.pg_schema.specs.rules.Messages.{is_declared, numbers}
+use Rattle.pg_schema.specs.rules.Pairs.{are_distinct, differ, is_rising}
+use Rattle.pg_schema.proofs.lemmas.rules.PairLemmas.{and_both, and_left, and_right}
 use Rattle.pg_fds.specs.Messages.{declared_fields, where_found}
 use Rattle.pg_fds.proofs.Matched.{Has, all_tested, any_has}
 use Rattle.pg_fds.proofs.WrittenEntries.{FindsItself, as_many, each_declared, find_themselves, found, found_alone, is_among_declared, maps, maps_total}

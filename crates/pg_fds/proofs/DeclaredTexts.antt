@@ -4,18 +4,18 @@ use Rattle.std.proofs.lemmas.Str.{IsUtf8-append, IsUtf8-string_bytes, is_utf8-fr
 use Rattle.std.specs.List.{AllByRecursion, list_all}
 use Rattle.std.specs.Str.{IsUtf8, is_utf8}
 use Rattle.std.specs.String.{string_bytes}
-use Rattle.pg_schema.specs.declared.enum_type.EnumType.{EnumType}
-use Rattle.pg_schema.specs.declared.enum_type.EnumValue.{EnumValue}
-use Rattle.pg_schema.specs.declared.field.EnumId.{EnumId}
-use Rattle.pg_schema.specs.declared.field.Field.{Field}
-use Rattle.pg_schema.specs.declared.message_type.MessageType.{MessageType}
+use Rattle.pg_schema.specs.declared.parts.enum_type.EnumType.{EnumType}
+use Rattle.pg_schema.specs.declared.parts.enum_type.EnumValue.{EnumValue}
+use Rattle.pg_schema.specs.declared.parts.field.EnumId.{EnumId}
+use Rattle.pg_schema.specs.declared.parts.field.Field.{Field}
+use Rattle.pg_schema.specs.declared.parts.message_type.MessageType.{MessageType}
 use Rattle.pg_schema.specs.declared.parts.Parts.{Parts}
-use Rattle.pg_schema.specs.declared.service.Method.{Method}
-use Rattle.pg_schema.specs.DeclaredNames.{declared_names, entry_name, entry_names, entry_of, file_names, service_names, type_names, values_at, values_of, within}
-use Rattle.pg_schema.specs.MessageRules.{is_field, is_message_type}
+use Rattle.pg_schema.specs.declared.parts.service.Method.{Method}
+use Rattle.pg_schema.specs.rules.DeclaredNames.{declared_names, entry_name, entry_names, entry_of, file_names, service_names, type_names, values_at, values_of, within}
+use Rattle.pg_schema.specs.rules.Messages.{is_field, is_message_type}
 use Rattle.pg_schema.specs.Shape.{is_map}
-use Rattle.pg_schema.specs.Words.{is_word}
-use Rattle.pg_schema.proofs.PairLemmas.{and_both, and_left, and_right}
+use Rattle.pg_schema.specs.rules.Words.{is_word}
+use Rattle.pg_schema.proofs.lemmas.rules.PairLemmas.{and_both, and_left, and_right}
 use Rattle.pg_fds.proofs.EntryTexts.{entry_text}
 use Rattle.pg_fds.proofs.MadeMessage.{fields_kept}
 

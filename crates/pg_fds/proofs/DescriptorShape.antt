@@ -1,6 +1,6 @@
 -- Parts that say what descriptor.proto is written down to declare have its shape.
 use Rattle.std.proofs.Common.{◌≡◌, List, map, refl, ap, ◌∙◌}
-use Rattle.pg_schema.specs.declared.message_type.MessageType.{MessageType}
+use Rattle.pg_schema.specs.declared.parts.message_type.MessageType.{MessageType}
 use Rattle.pg_schema.specs.declared.parts.Parts.{Parts}
 use Rattle.pg_schema.specs.Parts.{field_shape, shape_of}
 use Rattle.pg_schema.specs.Shape.{FieldShape}

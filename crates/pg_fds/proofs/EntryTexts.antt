@@ -7,10 +7,10 @@ use Rattle.std.specs.Prelude.{codes}
 use Rattle.std.specs.Char.{to_ascii_uppercase}
 use Rattle.std.specs.List.{list_all}
 use Rattle.std.specs.Str.{IsAscii, IsUtf8}
-use Rattle.pg_schema.specs.DeclaredNames.{entry_name}
+use Rattle.pg_schema.specs.rules.DeclaredNames.{entry_name}
 use Rattle.pg_schema.specs.JsonName.{in_camel_case, underscore}
-use Rattle.pg_schema.specs.Words.{is_digit, is_letter, is_word, is_word_byte}
-use Rattle.pg_schema.proofs.PairLemmas.{and_both, and_left, and_right}
+use Rattle.pg_schema.specs.rules.Words.{is_digit, is_letter, is_word, is_word_byte}
+use Rattle.pg_schema.proofs.lemmas.rules.PairLemmas.{and_both, and_left, and_right}
 
 abbrev is_low : ℕ → Bool
 is_low b = nat_lt b 128

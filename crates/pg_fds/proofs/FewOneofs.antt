@@ -3,12 +3,12 @@ use Rattle.std.proofs.Common.{◌≡◌, ℕ, zero, suc, ◌+◌, ◌≤◌, ◌
 use Rattle.std.proofs.lemmas.Bool.{false≢true}
 use Rattle.std.proofs.lemmas.Bool.Decides.{nat_tests}
 use Rattle.std.specs.List.{list_all, list_any}
-use Rattle.pg_schema.specs.declared.field.Field.{Field}
-use Rattle.pg_schema.specs.declared.message_type.MessageType.{MessageType}
-use Rattle.pg_schema.specs.FieldRules.{is_oneof}
-use Rattle.pg_schema.specs.MessageRules.{has_fields, has_oneofs, have_members, is_field, is_member, is_message_type, is_place, numbers}
-use Rattle.pg_schema.specs.Pairs.{is_rising}
-use Rattle.pg_schema.proofs.PairLemmas.{and_both, and_left, and_right}
+use Rattle.pg_schema.specs.declared.parts.field.Field.{Field}
+use Rattle.pg_schema.specs.declared.parts.message_type.MessageType.{MessageType}
+use Rattle.pg_schema.specs.rules.Fields.{is_oneof}
+use Rattle.pg_schema.specs.rules.Messages.{has_fields, has_oneofs, have_members, is_field, is_member, is_message_type, is_place, numbers}
+use Rattle.pg_schema.specs.rules.Pairs.{is_rising}
+use Rattle.pg_schema.proofs.lemmas.rules.PairLemmas.{and_both, and_left, and_right}
 
 below : (a b : ℕ) → nat_lt a b ≡ true → a < b
 below a b h = grind (arith, nat_tests)

@@ -1,12 +1,12 @@
 -- Of a sound schema whose places 32 bits hold, there are at most 2^32 enums and services.
 use Rattle.std.proofs.Common.{ℕ, ◌<◌, ◌≤◌, ◌^◌, List, [], ◌∷◌, ◌++◌, flat_map, length}
 use Rattle.std.specs.List.{AllByRecursion}
-use Rattle.pg_schema.specs.declared.field.EnumId.{EnumId}
-use Rattle.pg_schema.specs.declared.file.File.{File}
+use Rattle.pg_schema.specs.declared.parts.field.EnumId.{EnumId}
+use Rattle.pg_schema.specs.declared.parts.file.File.{File}
 use Rattle.pg_schema.specs.declared.parts.Parts.{Parts}
-use Rattle.pg_schema.specs.declared.service.ServiceId.{ServiceId}
-use Rattle.pg_schema.specs.Scopes.{declared_enums, declared_services, enum_places, service_places}
-use Rattle.pg_schema.specs.Sound.{IsSound}
+use Rattle.pg_schema.specs.declared.parts.service.ServiceId.{ServiceId}
+use Rattle.pg_schema.specs.rules.Scopes.{declared_enums, declared_services, enum_places, service_places}
+use Rattle.pg_schema.specs.rules.Sound.{IsSound}
 use Rattle.pg_fds.specs.Reads.{IsHeld}
 use Rattle.pg_fds.specs.Small.{HasLowEnums, HasLowPlaces, IsLowEnum, IsLowService}
 use Rattle.pg_fds.proofs.PlacesOnce.{at_most}

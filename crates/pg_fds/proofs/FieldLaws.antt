@@ -1,7 +1,7 @@
 -- The fields that a message type declares.
 use Rattle.std.proofs.Common.{ℕ, ◌+◌, ◌≤◌, Bool, true, false, cond, List, [], ◌∷◌, ◌++◌, length, flat_map, find, nat_eq, Option, Some, None, arith}
 use Rattle.std.specs.List.{AllByRecursion}
-use Rattle.pg_schema.specs.declared.field.Field.{Field}
+use Rattle.pg_schema.specs.declared.parts.field.Field.{Field}
 use Rattle.pg_fds.specs.Messages.{where_found}
 
 abbrev found : List Field → ℕ → List Field

@@ -7,12 +7,12 @@ use Rattle.std.specs.Prelude.{codes}
 use Rattle.std.specs.Str.{IsUtf8}
 use Rattle.std.specs.String.{string_bytes}
 use denote.Ref.{Bor}
-use Rattle.pg_schema.specs.declared.file.File.{File}
-use Rattle.pg_schema.specs.declared.file.Import.{Import}
-use Rattle.pg_schema.specs.FileRules.{is_file, is_file_option, option_numbers}
-use Rattle.pg_schema.specs.Pairs.{is_rising}
-use Rattle.pg_schema.specs.Words.{is_package}
-use Rattle.pg_schema.proofs.PairLemmas.{and_left, and_right}
+use Rattle.pg_schema.specs.declared.parts.file.File.{File}
+use Rattle.pg_schema.specs.declared.parts.file.Import.{Import}
+use Rattle.pg_schema.specs.rules.Files.{is_file, is_file_option, option_numbers}
+use Rattle.pg_schema.specs.rules.Pairs.{is_rising}
+use Rattle.pg_schema.specs.rules.Words.{is_package}
+use Rattle.pg_schema.proofs.lemmas.rules.PairLemmas.{and_left, and_right}
 use Rattle.pg_dyn.specs.Kept.{Kept, message_of}
 use Rattle.pg_dyn.specs.Message.{Message}
 use Rattle.pg_fds.specs.FilePlaces.{HasPathTexts}

@@ -4,13 +4,13 @@ use Rattle.std.proofs.lemmas.Bool.{false≢true}
 use Rattle.std.proofs.lemmas.Option.{none-some, same_Some}
 use Rattle.std.specs.List.{flat_map, list_all}
 use Rattle.std.specs.String.{string_bytes}
-use Rattle.pg_schema.specs.declared.field.TypeId.{TypeId}
-use Rattle.pg_schema.specs.declared.file.File.{File}
-use Rattle.pg_schema.specs.declared.message_type.MessageType.{MessageType}
+use Rattle.pg_schema.specs.declared.parts.field.TypeId.{TypeId}
+use Rattle.pg_schema.specs.declared.parts.file.File.{File}
+use Rattle.pg_schema.specs.declared.parts.message_type.MessageType.{MessageType}
 use Rattle.pg_schema.specs.declared.parts.Parts.{Parts}
-use Rattle.pg_schema.specs.Scopes.{are_enums_in, are_types_in, enum_places, is_file_scope, is_named_in, is_type_scope, type_name}
-use Rattle.pg_schema.specs.Sound.{IsSound}
-use Rattle.pg_schema.proofs.PairLemmas.{and_left, and_right}
+use Rattle.pg_schema.specs.rules.Scopes.{are_enums_in, are_types_in, enum_places, is_file_scope, is_named_in, is_type_scope, type_name}
+use Rattle.pg_schema.specs.rules.Sound.{IsSound}
+use Rattle.pg_schema.proofs.lemmas.rules.PairLemmas.{and_left, and_right}
 use Rattle.pg_fds.specs.InOrder.{enums_below, file_enums, inner_enums, inner_types, types_below}
 use Rattle.pg_fds.specs.StatesFiles.{most_deep}
 use Rattle.pg_fds.specs.Walks.{places_from}

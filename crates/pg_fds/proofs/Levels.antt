@@ -4,25 +4,25 @@ use Rattle.std.proofs.lemmas.Bool.{false≢true}
 use Rattle.std.proofs.lemmas.Bool.Decides.{nat_tests}
 use Rattle.std.proofs.lemmas.Option.{none-some, same_Some}
 use Rattle.std.specs.List.{AllByRecursion, list_all, list_any}
-use Rattle.pg_schema.specs.declared.field.Element.{Element}
-use Rattle.pg_schema.specs.declared.field.Element.TheVariants as elements
-use Rattle.pg_schema.specs.declared.field.Presence.{Presence}
-use Rattle.pg_schema.specs.declared.field.Presence.TheVariants as presences
-use Rattle.pg_schema.specs.declared.field.TypeId.{TypeId}
+use Rattle.pg_schema.specs.declared.parts.field.Element.{Element}
+use Rattle.pg_schema.specs.declared.parts.field.Element.TheVariants as elements
+use Rattle.pg_schema.specs.declared.parts.field.Presence.{Presence}
+use Rattle.pg_schema.specs.declared.parts.field.Presence.TheVariants as presences
+use Rattle.pg_schema.specs.declared.parts.field.TypeId.{TypeId}
 use Rattle.pg_schema.specs.Shape.{FieldShape, IsShape, Shape, field_at, fields, is_map}
 use Rattle.pg_wire.specs.Records.{IsRecord, Spells, WireRecord, record_at, written}
 use Rattle.pg_wire.proofs.Bind.{ok_pair}
 use Rattle.pg_wire.proofs.RecordLaws.{record_at_takes}
 use Rattle.pg_dyn.specs.Belonging.{IsMessage, IsUnknown, LeafFits}
 use Rattle.pg_dyn.specs.Coding.{body, form}
-use Rattle.pg_dyn.specs.Content.{is_unknown, takes}
-use Rattle.pg_dyn.specs.Encoding.{cap, child_type, enc, encoded_parts}
+use Rattle.pg_dyn.specs.reading.Content.{is_unknown, takes}
+use Rattle.pg_dyn.specs.encoding.Encoding.{cap, child_type, enc, encoded_parts}
 use Rattle.pg_dyn.specs.Laws.{EncodingSpells, WritingSplits, of_number}
 use Rattle.pg_dyn.specs.Message.{Bytes, Leaf, Message, Part, ends, holds, is_of, nests, unknown_of}
-use Rattle.pg_dyn.specs.TooDeep.{TooDeepIn, TooDeepOf, in_child, in_entry, in_record, missing_value, the_child, the_root}
-use Rattle.pg_dyn.specs.Writing.{field_records, item_record, records_in}
-use Rattle.pg_dyn.proofs.Belonging.{child_type_is, fields-IsType}
-use Rattle.pg_dyn.proofs.Faulty.{first_of, nonempty, split_at}
+use Rattle.pg_dyn.specs.reading.TooDeep.{TooDeepIn, TooDeepOf, in_child, in_entry, in_record, missing_value, the_child, the_root}
+use Rattle.pg_dyn.specs.encoding.Writing.{field_records, item_record, records_in}
+use Rattle.pg_dyn.proofs.lemmas.Belonging.{child_type_is, fields-IsType}
+use Rattle.pg_dyn.proofs.lemmas.Faulty.{first_of, nonempty, split_at}
 use Rattle.pg_fds.proofs.Matched.{Has}
 
 -- how many levels a message has: its own, and those of the deepest message in it

@@ -7,8 +7,8 @@ use Rattle.std.proofs.lemmas.Grind.{flat_map-append}
 use Rattle.std.proofs.lemmas.List.{length-map}
 use Rattle.std.proofs.lemmas.Option.{none-some, same_Some}
 use Rattle.std.specs.List.{list_all}
-use Rattle.pg_schema.specs.declared.field.TypeId.{TypeId}
-use Rattle.pg_schema.specs.declared.file.File.{File}
+use Rattle.pg_schema.specs.declared.parts.field.TypeId.{TypeId}
+use Rattle.pg_schema.specs.declared.parts.file.File.{File}
 use Rattle.pg_schema.specs.declared.parts.Parts.{Parts}
 use Rattle.pg_schema.specs.Shape.{FieldShape, Shape, field_at, fields}
 use Rattle.pg_wire.specs.Laws.{LengthsGrow}
@@ -16,9 +16,9 @@ use Rattle.pg_wire.specs.Records.{WireRecord, written}
 use Rattle.pg_wire.specs.Varint.{varint}
 use Rattle.pg_wire.specs.declared.record.WireType.TheVariants.{Len}
 use Rattle.pg_dyn.specs.Coding.{body, form}
-use Rattle.pg_dyn.specs.Encoding.{cap, child_type, enc, encoded_parts}
+use Rattle.pg_dyn.specs.encoding.Encoding.{cap, child_type, enc, encoded_parts}
 use Rattle.pg_dyn.specs.Message.{Bytes, Item, Leaf, Message, Msg, Part, Plain, ends, holds, is_of, nests, parts, unknown_of}
-use Rattle.pg_dyn.specs.Writing.{bytes_of, field_records, item_record, records_in}
+use Rattle.pg_dyn.specs.encoding.Writing.{bytes_of, field_records, item_record, records_in}
 use Rattle.pg_fds.specs.Descriptor.{descriptor_shape, file_set, many, message, text, type_id}
 use Rattle.pg_fds.specs.Items.{children}
 use Rattle.pg_fds.specs.Places.{Declared, declared_in}

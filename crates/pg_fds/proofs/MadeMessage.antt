@@ -12,19 +12,19 @@ use Rattle.std.specs.List.Sorted.{IsNonDecreasingBy, IsPermutation}
 use Rattle.std.specs.Str.{IsUtf8, bytes_eq, is_utf8}
 use Rattle.std.specs.String.{string_bytes}
 use denote.Ref.{Bor}
-use Rattle.pg_schema.specs.declared.field.Field.{Field}
-use Rattle.pg_schema.specs.declared.field.Presence.{Presence}
-use Rattle.pg_schema.specs.declared.field.Presence.TheVariants as presences
-use Rattle.pg_schema.specs.declared.message_type.MessageType.{MessageType}
-use Rattle.pg_schema.specs.DeclaredNames.{entry_name, entry_names}
-use Rattle.pg_schema.specs.FieldRules.{has_presence, is_known, is_oneof, is_packed}
-use Rattle.pg_schema.specs.MessageRules.{has_fields, has_oneofs, has_reserved, have_members, is_declared, is_field, is_message_type, json_names, numbers}
-use Rattle.pg_schema.specs.Pairs.{are_distinct, is_rising}
+use Rattle.pg_schema.specs.declared.parts.field.Field.{Field}
+use Rattle.pg_schema.specs.declared.parts.field.Presence.{Presence}
+use Rattle.pg_schema.specs.declared.parts.field.Presence.TheVariants as presences
+use Rattle.pg_schema.specs.declared.parts.message_type.MessageType.{MessageType}
+use Rattle.pg_schema.specs.rules.DeclaredNames.{entry_name, entry_names}
+use Rattle.pg_schema.specs.rules.Fields.{has_presence, is_known, is_oneof, is_packed}
+use Rattle.pg_schema.specs.rules.Messages.{has_fields, has_oneofs, has_reserved, have_members, is_declared, is_field, is_message_type, json_names, numbers}
+use Rattle.pg_schema.specs.rules.Pairs.{are_distinct, is_rising}
 use Rattle.pg_schema.specs.Shape.{is_map}
-use Rattle.pg_schema.specs.TextSets.{is_among}
-use Rattle.pg_schema.specs.UsedNumbers.{is_reserved_range}
-use Rattle.pg_schema.specs.Words.{is_word}
-use Rattle.pg_schema.proofs.PairLemmas.{and_left, and_right}
+use Rattle.pg_schema.specs.rules.TextSets.{is_among}
+use Rattle.pg_schema.specs.rules.Uses.{is_reserved_range}
+use Rattle.pg_schema.specs.rules.Words.{is_word}
+use Rattle.pg_schema.proofs.lemmas.rules.PairLemmas.{and_left, and_right}
 use Rattle.pg_dyn.specs.Kept.{Kept, message_of}
 use Rattle.pg_dyn.specs.Message.{Message}
 use Rattle.pg_fds.specs.declared.outline.Named.{Named}

@@ -3,8 +3,8 @@ use Rattle.std.proofs.Common.{◌≡◌, ℕ, zero, suc, ◌<◌, Bool, true, no
 use Rattle.std.proofs.lemmas.Bool.{false≢true}
 use Rattle.std.proofs.lemmas.Slice.Eq.{bytes_eq-Decides}
 use Rattle.std.specs.List.{AllByRecursion, Any, list_all}
-use Rattle.pg_schema.specs.Pairs.{are_distinct, differ}
-use Rattle.pg_schema.proofs.PairLemmas.{and_both, and_left, and_right, bytes_eq-sym}
+use Rattle.pg_schema.specs.rules.Pairs.{are_distinct, differ}
+use Rattle.pg_schema.proofs.lemmas.rules.PairLemmas.{and_both, and_left, and_right, bytes_eq-sym}
 
 pub differ_apart : (a b : List ℕ) → differ a b ≡ true → a ≡ b → ⊥
 differ_apart a b h same = false≢true (sym (ap not ((bytes_eq-Decides a b).1 same)) ∙ h)

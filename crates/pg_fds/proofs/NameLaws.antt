@@ -6,7 +6,7 @@ use Rattle.std.proofs.lemmas.List.{take-append-drop}
 use Rattle.std.proofs.lemmas.Str.Pattern.{NoCharPasses-char, drop_at_char}
 use Rattle.std.specs.Str.{NoCharPasses}
 use Rattle.std.specs.Str.Pattern.{HasCharAt}
-use Rattle.pg_schema.specs.Words.{before_first, parts_at_dots}
+use Rattle.pg_schema.specs.rules.Words.{before_first, parts_at_dots}
 use Rattle.pg_fds.specs.Messages.{last_of, own_name}
 
 abbrev pub HasNoDot : List ℕ → Type 0

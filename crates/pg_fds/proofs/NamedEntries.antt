@@ -6,9 +6,9 @@ use Rattle.std.specs.BTreeMap.{BTreeMap, get_by_text}
 use Rattle.std.specs.List.{AllByRecursion, list_all}
 use Rattle.std.specs.Str.{IsUtf8, bytes_eq}
 use denote.Ref.{Bor}
-use Rattle.pg_schema.specs.Pairs.{are_distinct, differ}
-use Rattle.pg_schema.specs.TextSets.{is_among}
-use Rattle.pg_schema.proofs.PairLemmas.{all_pairs_push, among_push, and_left, and_right, bytes_eq-sym}
+use Rattle.pg_schema.specs.rules.Pairs.{are_distinct, differ}
+use Rattle.pg_schema.specs.rules.TextSets.{is_among}
+use Rattle.pg_schema.proofs.lemmas.rules.PairLemmas.{all_pairs_push, among_push, and_left, and_right, bytes_eq-sym}
 use Rattle.pg_dyn.specs.Kept.{Kept, message_of}
 use Rattle.pg_fds.specs.Lent.{lent}
 use Rattle.pg_fds.specs.Made.{HasNamed}

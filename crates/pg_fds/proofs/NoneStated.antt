@@ -7,10 +7,10 @@ use Rattle.pg_schema.specs.Shape.{fields}
 use Rattle.pg_wire.specs.Errors.{fault_of, place_of}
 use Rattle.pg_dyn.specs.declared.error.DynError.{DynError}
 use Rattle.pg_dyn.specs.declared.error.DynError.TheVariants as messages
-use Rattle.pg_dyn.specs.Decoding.{dec}
-use Rattle.pg_dyn.specs.Faults.{Code, FaultIn, NotUtf8, Wire}
+use Rattle.pg_dyn.specs.reading.Decoding.{dec}
+use Rattle.pg_dyn.specs.reading.Faults.{Code, FaultIn, NotUtf8, Wire}
 use Rattle.pg_dyn.specs.Laws.{FaultsAreReal}
-use Rattle.pg_dyn.specs.Refusals.{MayRefuse}
+use Rattle.pg_dyn.specs.reading.Refusals.{MayRefuse}
 use Rattle.pg_fds.specs.declared.error.FdsError.{FdsError}
 use Rattle.pg_fds.specs.declared.error.FdsError.TheVariants as errors
 use Rattle.pg_fds.specs.Building.{written_shape}

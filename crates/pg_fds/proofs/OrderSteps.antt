@@ -2,9 +2,9 @@
 use Rattle.std.proofs.Common.{◌≡◌, ℕ, zero, suc, ◌+◌, ◌<◌, ◌≤◌, Bool, true, false, cond, not, ◌&&◌, List, [], ◌∷◌, ◌++◌, length, map, take, drop, get_or, Result, Err, IfErr, Some, slice_get, refl, ap, ap₂, sym, subst, ◌∙◌, arith, add-one}
 use Rattle.std.specs.List.{list_all}
 use denote.Ref.{Bor}
-use Rattle.pg_schema.specs.Pairs.{are_distinct}
-use Rattle.pg_schema.specs.TextSets.{is_among}
-use Rattle.pg_schema.proofs.TextSetLemmas.{twice}
+use Rattle.pg_schema.specs.rules.Pairs.{are_distinct}
+use Rattle.pg_schema.specs.rules.TextSets.{is_among}
+use Rattle.pg_schema.proofs.lemmas.rules.TextSetLemmas.{twice}
 use Rattle.pg_fds.specs.declared.order.Importing.{Importing}
 use Rattle.pg_fds.specs.Lent.{lent}
 use Rattle.pg_fds.specs.FilePlaces.{StandAt, importer, importers}

@@ -5,8 +5,8 @@ use Rattle.std.proofs.lemmas.List.Folds.{list_any-append}
 use Rattle.std.proofs.lemmas.Map.Keys.{IsDistinct-cons}
 use Rattle.std.proofs.lemmas.Map.Steps.{length-le_from_distinct_below}
 use Rattle.std.specs.List.{AllByRecursion, IsDistinct, list_all, list_any}
-use Rattle.pg_schema.specs.Pairs.{all_pairs}
-use Rattle.pg_schema.specs.Scopes.{are_each_once}
+use Rattle.pg_schema.specs.rules.Pairs.{all_pairs}
+use Rattle.pg_schema.specs.rules.Scopes.{are_each_once}
 
 -- ---- a place that is among others
 

@@ -1,12 +1,12 @@
 -- The presence of fields that aren't maps, by label, items and options.
 use Rattle.std.proofs.Common.{◌≡◌, Bool, true, false, cond, not, ◌||◌, Option, Some, None, refl, ap, sym, ◌∙◌, arith, unwrap_or}
 use Rattle.std.proofs.lemmas.Bool.{false≢true}
-use Rattle.pg_schema.specs.declared.field.Element.{Element}
-use Rattle.pg_schema.specs.declared.field.Presence.{Presence}
-use Rattle.pg_schema.specs.declared.field.Presence.TheVariants as presences
-use Rattle.pg_schema.specs.FieldRules.{has_presence, is_message, is_packed, stated_or}
+use Rattle.pg_schema.specs.declared.parts.field.Element.{Element}
+use Rattle.pg_schema.specs.declared.parts.field.Presence.{Presence}
+use Rattle.pg_schema.specs.declared.parts.field.Presence.TheVariants as presences
+use Rattle.pg_schema.specs.rules.Fields.{has_presence, is_message, is_packed, stated_or}
 use Rattle.pg_schema.specs.Shape.{is_map, is_packable}
-use Rattle.pg_schema.proofs.PairLemmas.{and_left}
+use Rattle.pg_schema.proofs.lemmas.rules.PairLemmas.{and_left}
 use Rattle.pg_fds.specs.Fields.{label}
 
 not_true : (b : Bool) → not b ≡ true → b ≡ false

@@ -7,7 +7,7 @@ use Rattle.std.specs.List.{AllByRecursion}
 use Rattle.std.specs.Str.{IsUtf8}
 use Rattle.std.specs.String.{string_bytes}
 use denote.Ref.{Bor}
-use Rattle.pg_schema.specs.declared.field.TypeId.{TypeId}
+use Rattle.pg_schema.specs.declared.parts.field.TypeId.{TypeId}
 use Rattle.pg_wire.specs.Records.{WireRecord}
 use Rattle.pg_dyn.specs.declared.message.Content.{Content}
 use Rattle.pg_dyn.specs.declared.message.Content.TheVariants as contents
@@ -16,8 +16,8 @@ use Rattle.pg_dyn.specs.declared.message.Value.TheVariants as values
 use Rattle.pg_dyn.specs.Kept.{Kept, KeptItem, ends, parts_of, message_of, of_number}
 use Rattle.pg_dyn.specs.Message.{Item, Part, is_of, parts}
 use Rattle.pg_dyn.specs.Seen.{IsFilled, content_seen, fields_onto, item_seen, leaf_of}
-use Rattle.pg_dyn.proofs.KeptParts.{parts_of-content_onto}
-use Rattle.pg_dyn.proofs.ReplacingLaws.{parts-message_of, item_of, part_item}
+use Rattle.pg_dyn.proofs.lemmas.KeptParts.{parts_of-content_onto}
+use Rattle.pg_dyn.proofs.lemmas.ReplacingLaws.{parts-message_of, item_of, part_item}
 use Rattle.pg_fds.specs.Building.{shown}
 use Rattle.pg_fds.specs.Lent.{lent}
 use Rattle.pg_fds.specs.Said.{item_at, items_at, text_of}

@@ -2,11 +2,11 @@
 use Rattle.std.proofs.Common.{◌≡◌, ◌≤◌, true, List, map, length, ap, ap₂, sym, subst, ◌∙◌}
 use Rattle.std.specs.List.{list_all}
 use Rattle.pg_schema.specs.declared.parts.Parts.{Parts}
-use Rattle.pg_schema.specs.EnumRules.{is_enum}
-use Rattle.pg_schema.specs.FileRules.{is_file, is_service}
-use Rattle.pg_schema.specs.MessageRules.{is_message_type}
-use Rattle.pg_schema.specs.Pairs.{are_distinct}
-use Rattle.pg_schema.specs.Sound.{IsSound}
+use Rattle.pg_schema.specs.rules.Enums.{is_enum}
+use Rattle.pg_schema.specs.rules.Files.{is_file, is_service}
+use Rattle.pg_schema.specs.rules.Messages.{is_message_type}
+use Rattle.pg_schema.specs.rules.Pairs.{are_distinct}
+use Rattle.pg_schema.specs.rules.Sound.{IsSound}
 use Rattle.pg_fds.specs.Views.{EnumView, FileView, PartsView, ServiceView, TypeView, enum_view, file_view, parts_view, service_view, type_view}
 use Rattle.pg_fds.proofs.Seen.{all_seen, length_seen}
 use Rattle.pg_fds.proofs.SeenParts.{all_names, file_stands, names_kept, once_kept, packages_free, packages_kept, scopes_of_files, scopes_of_types, stand_once, type_stands}

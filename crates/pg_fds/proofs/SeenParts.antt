@@ -2,16 +2,16 @@
 use Rattle.std.proofs.Common.{◌≡◌, ℕ, Bool, ◌&&◌, List, [], ◌∷◌, ◌++◌, map, flat_map, length, Option, Some, None, option_map, slice_get, if◌then◌else◌, refl, ap, ap₂, ◌∙◌}
 use Rattle.std.specs.List.{list_all}
 use Rattle.std.specs.String.{string_bytes}
-use Rattle.pg_schema.specs.declared.enum_type.EnumType.{EnumType}
-use Rattle.pg_schema.specs.declared.field.EnumId.{EnumId}
-use Rattle.pg_schema.specs.declared.field.TypeId.{TypeId}
-use Rattle.pg_schema.specs.declared.message_type.MessageType.{MessageType}
+use Rattle.pg_schema.specs.declared.parts.enum_type.EnumType.{EnumType}
+use Rattle.pg_schema.specs.declared.parts.field.EnumId.{EnumId}
+use Rattle.pg_schema.specs.declared.parts.field.TypeId.{TypeId}
+use Rattle.pg_schema.specs.declared.parts.message_type.MessageType.{MessageType}
 use Rattle.pg_schema.specs.declared.parts.Parts.{Parts}
-use Rattle.pg_schema.specs.declared.service.Service.{Service}
-use Rattle.pg_schema.specs.declared.service.ServiceId.{ServiceId}
-use Rattle.pg_schema.specs.DeclaredNames.{declared_names, entry_name, entry_of, file_names, service_names, type_names, values_at, values_of, within}
-use Rattle.pg_schema.specs.PackageNames.{are_free_of, is_free_of}
-use Rattle.pg_schema.specs.Scopes.{are_declared_once, are_each_once, are_enums_in, are_services_in, are_types_in, enum_name, enum_places, is_file_scope, is_named_in, is_type_scope, service_name, service_places, type_name, type_places}
+use Rattle.pg_schema.specs.declared.parts.service.Service.{Service}
+use Rattle.pg_schema.specs.declared.parts.service.ServiceId.{ServiceId}
+use Rattle.pg_schema.specs.rules.DeclaredNames.{declared_names, entry_name, entry_of, file_names, service_names, type_names, values_at, values_of, within}
+use Rattle.pg_schema.specs.rules.Packages.{are_free_of, is_free_of}
+use Rattle.pg_schema.specs.rules.Scopes.{are_declared_once, are_each_once, are_enums_in, are_services_in, are_types_in, enum_name, enum_places, is_file_scope, is_named_in, is_type_scope, service_name, service_places, type_name, type_places}
 use Rattle.pg_schema.specs.Shape.{is_map}
 use Rattle.pg_fds.specs.Views.{EnumView, FieldView, FileView, MethodView, PartsView, ServiceView, TypeView, ValueView, enum_view, field_view, file_view, method_view, parts_view, service_view, type_view, value_view}
 use Rattle.pg_fds.proofs.Alike.{all_agree, flat_agree}

@@ -2,22 +2,22 @@
 use Rattle.std.proofs.Common.{◌≡◌, ℕ, zero, suc, Bool, true, false, nat_eq, nat_lt, ◌&&◌, List, [], ◌∷◌, ◌++◌, map, length, is_some, refl, ap, ap₂, ◌∙◌}
 use Rattle.std.specs.List.{list_all, list_any}
 use Rattle.std.specs.String.{string_bytes}
-use Rattle.pg_schema.specs.declared.enum_type.EnumType.{EnumType}
-use Rattle.pg_schema.specs.declared.enum_type.EnumValue.{EnumValue}
-use Rattle.pg_schema.specs.declared.field.Field.{Field}
-use Rattle.pg_schema.specs.declared.file.File.{File}
-use Rattle.pg_schema.specs.declared.message_type.MessageType.{MessageType}
-use Rattle.pg_schema.specs.declared.options.OptionValue.{OptionValue}
-use Rattle.pg_schema.specs.declared.options.OptionValue.TheVariants as option_values
-use Rattle.pg_schema.specs.declared.service.Service.{Service}
-use Rattle.pg_schema.specs.EnumRules.{begins_with_zero, is_enum, is_value, is_zero}
-use Rattle.pg_schema.specs.FieldRules.{has_presence, is_field_number, is_known, is_oneof, is_packed, stated_or}
-use Rattle.pg_schema.specs.FileRules.{flag_options, is_file, is_file_option, is_method, is_of_kind, is_service, text_options}
-use Rattle.pg_schema.specs.MessageRules.{field_names, has_fields, has_oneofs, has_reserved, have_members, is_field, is_member, is_message_type, is_place}
-use Rattle.pg_schema.specs.Pairs.{are_distinct, is_rising}
-use Rattle.pg_schema.specs.TextSets.{are_named_once}
-use Rattle.pg_schema.specs.UsedNumbers.{field_use, from_lowest, is_reserved_range, is_used_once, is_value_range, reserved_use, reserved_values_use, value_use}
-use Rattle.pg_schema.specs.Words.{is_package, is_word}
+use Rattle.pg_schema.specs.declared.parts.enum_type.EnumType.{EnumType}
+use Rattle.pg_schema.specs.declared.parts.enum_type.EnumValue.{EnumValue}
+use Rattle.pg_schema.specs.declared.parts.field.Field.{Field}
+use Rattle.pg_schema.specs.declared.parts.file.File.{File}
+use Rattle.pg_schema.specs.declared.parts.message_type.MessageType.{MessageType}
+use Rattle.pg_schema.specs.declared.parts.options.OptionValue.{OptionValue}
+use Rattle.pg_schema.specs.declared.parts.options.OptionValue.TheVariants as option_values
+use Rattle.pg_schema.specs.declared.parts.service.Service.{Service}
+use Rattle.pg_schema.specs.rules.Enums.{begins_with_zero, is_enum, is_value, is_zero}
+use Rattle.pg_schema.specs.rules.Fields.{has_presence, is_field_number, is_known, is_oneof, is_packed, stated_or}
+use Rattle.pg_schema.specs.rules.Files.{flag_options, is_file, is_file_option, is_method, is_of_kind, is_service, text_options}
+use Rattle.pg_schema.specs.rules.Messages.{field_names, has_fields, has_oneofs, has_reserved, have_members, is_field, is_member, is_message_type, is_place}
+use Rattle.pg_schema.specs.rules.Pairs.{are_distinct, is_rising}
+use Rattle.pg_schema.specs.rules.TextSets.{are_named_once}
+use Rattle.pg_schema.specs.rules.Uses.{field_use, from_lowest, is_reserved_range, is_used_once, is_value_range, reserved_use, reserved_values_use, value_use}
+use Rattle.pg_schema.specs.rules.Words.{is_package, is_word}
 use Rattle.pg_fds.specs.Views.{EnumView, FieldView, FileView, Flag, MethodView, Mode, OptionView, ServiceView, Text, TypeView, ValueOf, ValueView, enum_view, field_view, file_view, method_view, option_view, service_view, type_view, value_of, value_view}
 use Rattle.pg_fds.proofs.Seen.{all_seen, any_seen, length_seen, map_seen}
 

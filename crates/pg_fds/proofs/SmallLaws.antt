@@ -2,19 +2,19 @@
 use Rattle.std.proofs.Common.{◌≡◌, ℕ, ◌+◌, ◌≤◌, ◌<◌, ◌^◌, true, nat_lt, nat_le, List, [], ◌∷◌, length, Option, Some, None, IfSome, ap, sym, ◌∙◌, arith}
 use Rattle.std.proofs.lemmas.Bool.Decides.{nat_tests}
 use Rattle.std.specs.List.{AllByRecursion, list_all}
-use Rattle.pg_schema.specs.declared.field.Field.{Field}
-use Rattle.pg_schema.specs.declared.file.File.{File}
-use Rattle.pg_schema.specs.declared.message_type.MessageType.{MessageType}
-use Rattle.pg_schema.specs.declared.message_type.ReservedFields.{ReservedFields}
+use Rattle.pg_schema.specs.declared.parts.field.Field.{Field}
+use Rattle.pg_schema.specs.declared.parts.file.File.{File}
+use Rattle.pg_schema.specs.declared.parts.message_type.MessageType.{MessageType}
+use Rattle.pg_schema.specs.declared.parts.message_type.ReservedFields.{ReservedFields}
 use Rattle.pg_schema.specs.declared.parts.Parts.{Parts}
-use Rattle.pg_schema.specs.FieldRules.{is_oneof}
-use Rattle.pg_schema.specs.FileRules.{is_file}
+use Rattle.pg_schema.specs.rules.Fields.{is_oneof}
+use Rattle.pg_schema.specs.rules.Files.{is_file}
 use Rattle.pg_schema.specs.Invariant.{IsSchema}
-use Rattle.pg_schema.specs.MessageRules.{is_field, is_message_type}
-use Rattle.pg_schema.specs.UsedNumbers.{is_reserved_range}
-use Rattle.pg_schema.proofs.PairLemmas.{and_left, and_right}
+use Rattle.pg_schema.specs.rules.Messages.{is_field, is_message_type}
+use Rattle.pg_schema.specs.rules.Uses.{is_reserved_range}
+use Rattle.pg_schema.proofs.lemmas.rules.PairLemmas.{and_left, and_right}
 use Rattle.pg_schema.specs.Shape.{Shape}
-use Rattle.pg_dyn.specs.Encoding.{enc}
+use Rattle.pg_dyn.specs.encoding.Encoding.{enc}
 use Rattle.pg_dyn.specs.Kept.{Kept, type_of, message_of}
 use Rattle.pg_dyn.specs.Message.{message_from}
 use Rattle.pg_fds.specs.Building.{IsOf, items_of}

@@ -2,10 +2,10 @@
 use Rattle.std.proofs.Common.{◌≡◌, ◌⊎◌, inl, inr, ℕ, zero, suc, ◌<◌, List, [], ◌∷◌, flat_map, length, slice_get, subst, arith}
 use Rattle.std.specs.Prelude.{IfSome}
 use Rattle.std.specs.List.{AllByRecursion}
-use Rattle.pg_schema.specs.declared.file.File.{File}
+use Rattle.pg_schema.specs.declared.parts.file.File.{File}
 use Rattle.pg_schema.specs.declared.parts.Parts.{Parts}
-use Rattle.pg_schema.specs.Scopes.{declared_enums}
-use Rattle.pg_schema.specs.Sound.{IsSound}
+use Rattle.pg_schema.specs.rules.Scopes.{declared_enums}
+use Rattle.pg_schema.specs.rules.Sound.{IsSound}
 use Rattle.pg_dyn.specs.Belonging.{IsMessage}
 use Rattle.pg_dyn.specs.Fits.{Fits}
 use Rattle.pg_dyn.specs.Kept.{Kept, message_of, type_of}

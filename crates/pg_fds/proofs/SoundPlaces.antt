@@ -5,13 +5,13 @@ use Rattle.std.proofs.lemmas.Option.{none-some, same_Some, slice_get_within}
 use Rattle.std.specs.List.{AllByRecursion}
 use Rattle.std.specs.Str.{bytes_eq}
 use Rattle.std.specs.String.{string_bytes}
-use Rattle.pg_schema.specs.declared.field.TypeId.{TypeId}
-use Rattle.pg_schema.specs.declared.file.File.{File}
-use Rattle.pg_schema.specs.declared.message_type.MessageType.{MessageType}
+use Rattle.pg_schema.specs.declared.parts.field.TypeId.{TypeId}
+use Rattle.pg_schema.specs.declared.parts.file.File.{File}
+use Rattle.pg_schema.specs.declared.parts.message_type.MessageType.{MessageType}
 use Rattle.pg_schema.specs.declared.parts.Parts.{Parts}
-use Rattle.pg_schema.specs.Scopes.{are_each_once, are_enums_in, are_types_in, declared_enums, declared_services, declared_types, enum_places, is_dot_and_word, is_in, is_named_in, is_type_scope, type_name, type_places}
-use Rattle.pg_schema.specs.Sound.{IsSound}
-use Rattle.pg_schema.proofs.PairLemmas.{and_right}
+use Rattle.pg_schema.specs.rules.Scopes.{are_each_once, are_enums_in, are_types_in, declared_enums, declared_services, declared_types, enum_places, is_dot_and_word, is_in, is_named_in, is_type_scope, type_name, type_places}
+use Rattle.pg_schema.specs.rules.Sound.{IsSound}
+use Rattle.pg_schema.proofs.lemmas.rules.PairLemmas.{and_right}
 use Rattle.pg_fds.proofs.InOrderLaws.{tested_got}
 use Rattle.pg_fds.proofs.PlacesOnce.{IsAmong, among, among_either, each_place, lists}
 

@@ -6,17 +6,17 @@ use Rattle.std.proofs.lemmas.Str.{IsUtf8-from_is_utf8, IsUtf8-string_bytes}
 use Rattle.std.specs.List.{AllByRecursion, AllZip, list_all}
 use Rattle.std.specs.Str.{IsUtf8, is_utf8}
 use Rattle.std.specs.String.{string_bytes}
-use Rattle.pg_schema.specs.declared.enum_type.EnumType.{EnumType}
-use Rattle.pg_schema.specs.declared.file.File.{File}
-use Rattle.pg_schema.specs.declared.message_type.MessageType.{MessageType}
+use Rattle.pg_schema.specs.declared.parts.enum_type.EnumType.{EnumType}
+use Rattle.pg_schema.specs.declared.parts.file.File.{File}
+use Rattle.pg_schema.specs.declared.parts.message_type.MessageType.{MessageType}
 use Rattle.pg_schema.specs.declared.parts.Parts.{Parts}
-use Rattle.pg_schema.specs.DeclaredNames as schema
-use Rattle.pg_schema.specs.DeclaredNames.{declared_names}
-use Rattle.pg_schema.specs.MessageRules.{is_message_type}
-use Rattle.pg_schema.specs.PackageNames.{are_free_of, is_free_of, is_front}
-use Rattle.pg_schema.specs.Scopes.{declared_services, enum_places}
-use Rattle.pg_schema.specs.Sound.{IsSound}
-use Rattle.pg_schema.proofs.PairLemmas.{and_both, and_left, and_right}
+use Rattle.pg_schema.specs.rules.DeclaredNames as schema
+use Rattle.pg_schema.specs.rules.DeclaredNames.{declared_names}
+use Rattle.pg_schema.specs.rules.Messages.{is_message_type}
+use Rattle.pg_schema.specs.rules.Packages.{are_free_of, is_free_of, is_front}
+use Rattle.pg_schema.specs.rules.Scopes.{declared_services, enum_places}
+use Rattle.pg_schema.specs.rules.Sound.{IsSound}
+use Rattle.pg_schema.proofs.lemmas.rules.PairLemmas.{and_both, and_left, and_right}
 use Rattle.pg_dyn.specs.Message.{Message}
 use Rattle.pg_fds.specs.InOrder.{StandInOrder, enums_below}
 use Rattle.pg_fds.specs.Outlines.{MayDeclare, NameOneofs}

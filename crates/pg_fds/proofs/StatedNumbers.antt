@@ -4,15 +4,15 @@ use Rattle.std.specs.Prelude.{FitsSigned, IfSome, IsSomeAnd}
 use Rattle.std.specs.Int.{w32}
 use Rattle.std.specs.List.{AllByRecursion, AllZip, Any}
 use Rattle.std.specs.String.{string_bytes}
-use Rattle.pg_schema.specs.declared.enum_type.EnumType.{EnumType}
-use Rattle.pg_schema.specs.declared.enum_type.EnumValue.{EnumValue}
-use Rattle.pg_schema.specs.declared.enum_type.ReservedValues.{ReservedValues}
-use Rattle.pg_schema.specs.declared.field.EnumId.{EnumId}
-use Rattle.pg_schema.specs.declared.field.TypeId.{TypeId}
-use Rattle.pg_schema.specs.declared.file.File.{File}
-use Rattle.pg_schema.specs.declared.message_type.MessageType.{MessageType}
+use Rattle.pg_schema.specs.declared.parts.enum_type.EnumType.{EnumType}
+use Rattle.pg_schema.specs.declared.parts.enum_type.EnumValue.{EnumValue}
+use Rattle.pg_schema.specs.declared.parts.enum_type.ReservedValues.{ReservedValues}
+use Rattle.pg_schema.specs.declared.parts.field.EnumId.{EnumId}
+use Rattle.pg_schema.specs.declared.parts.field.TypeId.{TypeId}
+use Rattle.pg_schema.specs.declared.parts.file.File.{File}
+use Rattle.pg_schema.specs.declared.parts.message_type.MessageType.{MessageType}
 use Rattle.pg_schema.specs.declared.parts.Parts.{Parts}
-use Rattle.pg_schema.specs.Scopes.{enum_places, type_places}
+use Rattle.pg_schema.specs.rules.Scopes.{enum_places, type_places}
 use Rattle.pg_dyn.specs.Belonging.{IsMessage}
 use Rattle.pg_dyn.specs.Message.{Message}
 use Rattle.pg_fds.specs.Descriptor.{descriptor_shape, file_set, many, message, number, one, type_id}

@@ -1,15 +1,15 @@
 -- What is outlined of files that state a schema, which stands in order of declaration, is of the schema's parts.
 use Rattle.std.proofs.Common.{◌≡◌, ℕ, Bool, List, [], ◌∷◌, length, map, refl, ap, ap₂, sym, subst}
 use Rattle.std.specs.List.{AllZip, flat_map}
-use Rattle.pg_schema.specs.declared.enum_type.EnumType.{EnumType}
-use Rattle.pg_schema.specs.declared.field.EnumId.{EnumId}
-use Rattle.pg_schema.specs.declared.field.TypeId.{TypeId}
-use Rattle.pg_schema.specs.declared.file.File.{File}
-use Rattle.pg_schema.specs.declared.message_type.MessageType.{MessageType}
+use Rattle.pg_schema.specs.declared.parts.enum_type.EnumType.{EnumType}
+use Rattle.pg_schema.specs.declared.parts.field.EnumId.{EnumId}
+use Rattle.pg_schema.specs.declared.parts.field.TypeId.{TypeId}
+use Rattle.pg_schema.specs.declared.parts.file.File.{File}
+use Rattle.pg_schema.specs.declared.parts.message_type.MessageType.{MessageType}
 use Rattle.pg_schema.specs.declared.parts.Parts.{Parts}
-use Rattle.pg_schema.specs.declared.service.Service.{Service}
-use Rattle.pg_schema.specs.declared.service.ServiceId.{ServiceId}
-use Rattle.pg_schema.specs.Scopes.{enum_places, service_places, type_places}
+use Rattle.pg_schema.specs.declared.parts.service.Service.{Service}
+use Rattle.pg_schema.specs.declared.parts.service.ServiceId.{ServiceId}
+use Rattle.pg_schema.specs.rules.Scopes.{enum_places, service_places, type_places}
 use Rattle.pg_dyn.specs.Message.{Message}
 use Rattle.pg_fds.specs.declared.outline.Outline.{Outline}
 use Rattle.pg_fds.specs.declared.outline.Outlined.{Outlined}

@@ -5,13 +5,13 @@ use Rattle.std.proofs.lemmas.List.{length-map}
 use Rattle.std.specs.Prelude.{IsSomeAnd}
 use Rattle.std.specs.List.{AllZip}
 use Rattle.std.specs.String.{string_bytes}
-use Rattle.pg_schema.specs.declared.enum_type.EnumType.{EnumType}
-use Rattle.pg_schema.specs.declared.field.EnumId.{EnumId}
-use Rattle.pg_schema.specs.declared.field.TypeId.{TypeId}
-use Rattle.pg_schema.specs.declared.message_type.MessageType.{MessageType}
-use Rattle.pg_schema.specs.declared.service.Service.{Service}
-use Rattle.pg_schema.specs.declared.service.ServiceId.{ServiceId}
-use Rattle.pg_schema.specs.Scopes.{enum_places, service_places, type_places}
+use Rattle.pg_schema.specs.declared.parts.enum_type.EnumType.{EnumType}
+use Rattle.pg_schema.specs.declared.parts.field.EnumId.{EnumId}
+use Rattle.pg_schema.specs.declared.parts.field.TypeId.{TypeId}
+use Rattle.pg_schema.specs.declared.parts.message_type.MessageType.{MessageType}
+use Rattle.pg_schema.specs.declared.parts.service.Service.{Service}
+use Rattle.pg_schema.specs.declared.parts.service.ServiceId.{ServiceId}
+use Rattle.pg_schema.specs.rules.Scopes.{enum_places, service_places, type_places}
 use Rattle.pg_dyn.specs.Message.{Message}
 use Rattle.pg_fds.specs.InOrder.{enums_below, inner_enums, inner_types, types_below}
 use Rattle.pg_fds.specs.OutlinedPlaces.{Counts, PlacedType, behind_type, inside_type, placed_types, placed_with, places_of_types}

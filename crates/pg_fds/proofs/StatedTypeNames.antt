@@ -5,14 +5,14 @@ use Rattle.std.specs.Prelude.{IsSomeAnd}
 use Rattle.std.specs.List.{AllByRecursion, AllZip, Any}
 use Rattle.std.specs.Str.{bytes_eq}
 use Rattle.std.specs.String.{string_bytes}
-use Rattle.pg_schema.specs.declared.field.Field.{Field}
-use Rattle.pg_schema.specs.declared.field.TypeId.{TypeId}
-use Rattle.pg_schema.specs.declared.message_type.MessageType.{MessageType}
-use Rattle.pg_schema.specs.DeclaredNames as schema
-use Rattle.pg_schema.specs.DeclaredNames.{entry_name, entry_names, values_at, within}
-use Rattle.pg_schema.specs.MessageRules.{field_names, is_declared, numbers}
-use Rattle.pg_schema.specs.Pairs.{are_distinct, is_rising}
-use Rattle.pg_schema.specs.Scopes.{enum_places}
+use Rattle.pg_schema.specs.declared.parts.field.Field.{Field}
+use Rattle.pg_schema.specs.declared.parts.field.TypeId.{TypeId}
+use Rattle.pg_schema.specs.declared.parts.message_type.MessageType.{MessageType}
+use Rattle.pg_schema.specs.rules.DeclaredNames as schema
+use Rattle.pg_schema.specs.rules.DeclaredNames.{entry_name, entry_names, values_at, within}
+use Rattle.pg_schema.specs.rules.Messages.{field_names, is_declared, numbers}
+use Rattle.pg_schema.specs.rules.Pairs.{are_distinct, is_rising}
+use Rattle.pg_schema.specs.rules.Scopes.{enum_places}
 use Rattle.pg_dyn.specs.Message.{Message}
 use Rattle.pg_fds.specs.InOrder.{enums_below, inner_enums, inner_types, types_below}
 use Rattle.pg_fds.specs.Messages.{declared_fields}

@@ -5,9 +5,9 @@ use Rattle.std.specs.Str.{bytes_eq}
 use Rattle.std.specs.List.{AllByRecursion}
 use Rattle.std.specs.String.{string_bytes}
 use denote.Ref.{Bor}
-use Rattle.pg_schema.specs.declared.field.Field.{Field}
-use Rattle.pg_schema.specs.TextSets.{is_among, IsSetOf}
-use Rattle.pg_schema.proofs.PairLemmas.{bytes_eq-sym}
+use Rattle.pg_schema.specs.declared.parts.field.Field.{Field}
+use Rattle.pg_schema.specs.rules.TextSets.{is_among, IsSetOf}
+use Rattle.pg_schema.proofs.lemmas.rules.PairLemmas.{bytes_eq-sym}
 use Rattle.pg_fds.specs.Lent.{lent}
 use Rattle.pg_fds.specs.Synthetic.{freed, sign, synthetic_name, synthetic_oneofs}
 

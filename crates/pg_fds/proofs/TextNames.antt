@@ -7,17 +7,17 @@ use Rattle.std.proofs.lemmas.Bool.{false≢true}
 use Rattle.std.proofs.lemmas.Bool.Decides.{nat_tests}
 use Rattle.std.proofs.lemmas.List.Folds.{list_all-append, list_any-append}
 use Rattle.std.proofs.lemmas.Slice.Eq.{bytes_eq-Decides}
-use Rattle.pg_schema.specs.declared.enum_type.EnumType.{EnumType}
-use Rattle.pg_schema.specs.declared.file.File.{File}
-use Rattle.pg_schema.specs.declared.message_type.MessageType.{MessageType}
+use Rattle.pg_schema.specs.declared.parts.enum_type.EnumType.{EnumType}
+use Rattle.pg_schema.specs.declared.parts.file.File.{File}
+use Rattle.pg_schema.specs.declared.parts.message_type.MessageType.{MessageType}
 use Rattle.pg_schema.specs.declared.parts.Parts.{Parts}
-use Rattle.pg_schema.specs.DeclaredNames.{declared_names, entry_names, file_names, service_names, type_names, values_at, within}
-use Rattle.pg_schema.specs.MessageRules.{field_names}
-use Rattle.pg_schema.specs.PackageNames.{are_free_of, is_free_of, is_front}
-use Rattle.pg_schema.specs.Pairs.{are_distinct, differ}
-use Rattle.pg_schema.specs.Sound.{IsSound}
-use Rattle.pg_schema.specs.TextSets.{is_among}
-use Rattle.pg_schema.proofs.PairLemmas.{and_both, and_left, and_right}
+use Rattle.pg_schema.specs.rules.DeclaredNames.{declared_names, entry_names, file_names, service_names, type_names, values_at, within}
+use Rattle.pg_schema.specs.rules.Messages.{field_names}
+use Rattle.pg_schema.specs.rules.Packages.{are_free_of, is_free_of, is_front}
+use Rattle.pg_schema.specs.rules.Pairs.{are_distinct, differ}
+use Rattle.pg_schema.specs.rules.Sound.{IsSound}
+use Rattle.pg_schema.specs.rules.TextSets.{is_among}
+use Rattle.pg_schema.proofs.lemmas.rules.PairLemmas.{and_both, and_left, and_right}
 
 -- ---- names of which none stands twice
 

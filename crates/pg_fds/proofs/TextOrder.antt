@@ -1,7 +1,7 @@
 -- The schemas of texts are numbered in the order of a schema that a set states.
 use Rattle.std.proofs.Common.{◌≡◌, ℕ, ◌^◌, ◌≤◌, true, List, length}
 use Rattle.pg_schema.specs.declared.parts.Parts.{Parts}
-use Rattle.pg_schema.specs.Sound.{IsSound}
+use Rattle.pg_schema.specs.rules.Sound.{IsSound}
 use Rattle.pg_check.specs.MadeParts.{ArePartsOf, Source}
 use Rattle.pg_fds.specs.Again.{are_shallow}
 use Rattle.pg_fds.specs.InOrder.{StandInOrder}

@@ -4,10 +4,10 @@ use Rattle.std.specs.List.{AllByRecursion}
 use Rattle.std.proofs.lemmas.Bool.Decides.{nat_tests}
 use Rattle.std.proofs.lemmas.Grind.{flat_map-append}
 use Rattle.std.proofs.lemmas.List.{append-nil, length-map}
-use Rattle.pg_schema.specs.declared.file.File.{File}
+use Rattle.pg_schema.specs.declared.parts.file.File.{File}
 use Rattle.pg_schema.specs.declared.parts.Parts.{Parts}
-use Rattle.pg_schema.specs.Scopes.{declared_services, service_places}
-use Rattle.pg_schema.specs.Sound.{IsSound}
+use Rattle.pg_schema.specs.rules.Scopes.{declared_services, service_places}
+use Rattle.pg_schema.specs.rules.Sound.{IsSound}
 use Rattle.pg_check.specs.MadeNumbers.{index_of}
 use Rattle.pg_check.specs.MadeParts.{ArePartsOf, Declared, EachIs, FileShape, IsFileOf, Source, file_services, file_shape, nothing, with_file, with_files}
 use Rattle.pg_check.specs.MadeServices.{MadeService, service, service_ids}

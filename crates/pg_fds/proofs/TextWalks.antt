@@ -7,10 +7,10 @@ use Rattle.std.proofs.lemmas.Bool.{false≢true}
 use Rattle.std.proofs.lemmas.List.{map-append}
 use Rattle.std.proofs.lemmas.List.Folds.{list_all-append, list_any-append}
 use Rattle.std.proofs.lemmas.Slice.Eq.{bytes_eq-Decides}
-use Rattle.pg_schema.specs.declared.message_type.MessageType.{MessageType}
-use Rattle.pg_schema.specs.Pairs.{are_distinct, differ}
-use Rattle.pg_schema.specs.TextSets.{is_among}
-use Rattle.pg_schema.proofs.PairLemmas.{and_left, and_right}
+use Rattle.pg_schema.specs.declared.parts.message_type.MessageType.{MessageType}
+use Rattle.pg_schema.specs.rules.Pairs.{are_distinct, differ}
+use Rattle.pg_schema.specs.rules.TextSets.{is_among}
+use Rattle.pg_schema.proofs.lemmas.rules.PairLemmas.{and_left, and_right}
 use Rattle.pg_check.specs.ByScope.{Placed, placed_from, places_in, type_id}
 use Rattle.pg_check.specs.Outline.{Message, message_scope}
 use Rattle.pg_fds.specs.Again.{holds_inside, nest_within}

@@ -5,8 +5,8 @@ use Rattle.std.specs.Prelude.{IsSomeAnd}
 use Rattle.std.specs.List.{AllZip}
 use Rattle.std.specs.String.{string_bytes}
 use denote.Ref.{Bor}
-use Rattle.pg_schema.specs.declared.field.TypeId.{TypeId}
-use Rattle.pg_schema.specs.declared.message_type.MessageType.{MessageType}
+use Rattle.pg_schema.specs.declared.parts.field.TypeId.{TypeId}
+use Rattle.pg_schema.specs.declared.parts.message_type.MessageType.{MessageType}
 use Rattle.pg_dyn.specs.Kept.{Kept, message_of}
 use Rattle.pg_dyn.specs.Message.{Message}
 use Rattle.pg_fds.specs.Lent.{lent}

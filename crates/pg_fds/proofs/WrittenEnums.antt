@@ -4,13 +4,13 @@ use Rattle.std.proofs.lemmas.Bool.{false≢true}
 use Rattle.std.specs.Prelude.{IsSomeAnd}
 use Rattle.std.specs.List.{AllZip}
 use Rattle.std.specs.String.{string_bytes}
-use Rattle.pg_schema.specs.declared.enum_type.EnumType.{EnumType}
-use Rattle.pg_schema.specs.declared.enum_type.EnumValue.{EnumValue}
-use Rattle.pg_schema.specs.declared.enum_type.ReservedValues.{ReservedValues}
-use Rattle.pg_schema.specs.declared.field.EnumId.{EnumId}
-use Rattle.pg_schema.specs.DeclaredNames.{within}
-use Rattle.pg_schema.specs.Scopes.{are_enums_in, enum_name, is_in, is_named_in}
-use Rattle.pg_schema.proofs.PairLemmas.{and_left, and_right}
+use Rattle.pg_schema.specs.declared.parts.enum_type.EnumType.{EnumType}
+use Rattle.pg_schema.specs.declared.parts.enum_type.EnumValue.{EnumValue}
+use Rattle.pg_schema.specs.declared.parts.enum_type.ReservedValues.{ReservedValues}
+use Rattle.pg_schema.specs.declared.parts.field.EnumId.{EnumId}
+use Rattle.pg_schema.specs.rules.DeclaredNames.{within}
+use Rattle.pg_schema.specs.rules.Scopes.{are_enums_in, enum_name, is_in, is_named_in}
+use Rattle.pg_schema.proofs.lemmas.rules.PairLemmas.{and_left, and_right}
 use Rattle.pg_dyn.specs.Message.{Message}
 use Rattle.pg_fds.specs.Items.{Items, stated}
 use Rattle.pg_fds.specs.Messages.{enum_items, enum_options, enums_items, own_name, value_items, value_range, where_found}

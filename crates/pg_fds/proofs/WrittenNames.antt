@@ -6,10 +6,10 @@ use Rattle.std.proofs.lemmas.List.{take-append-drop}
 use Rattle.std.proofs.lemmas.Slice.Eq.{bytes_eq-Decides}
 use Rattle.std.specs.List.{list_all}
 use Rattle.std.specs.Str.{bytes_eq}
-use Rattle.pg_schema.specs.DeclaredNames.{within}
-use Rattle.pg_schema.specs.Scopes.{is_dot_and_word, is_in}
-use Rattle.pg_schema.specs.Words.{is_digit, is_letter, is_word, is_word_byte}
-use Rattle.pg_schema.proofs.PairLemmas.{and_left, and_right}
+use Rattle.pg_schema.specs.rules.DeclaredNames.{within}
+use Rattle.pg_schema.specs.rules.Scopes.{is_dot_and_word, is_in}
+use Rattle.pg_schema.specs.rules.Words.{is_digit, is_letter, is_word, is_word_byte}
+use Rattle.pg_schema.proofs.lemmas.rules.PairLemmas.{and_left, and_right}
 use Rattle.pg_fds.specs.Messages.{own_name}
 use Rattle.pg_fds.proofs.NameLaws.{own_of_dotted, own_of_word}
 

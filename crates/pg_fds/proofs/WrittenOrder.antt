@@ -2,11 +2,11 @@
 use Rattle.std.proofs.Common.{◌≡◌, ℕ, true, false, List, [], ◌∷◌, ◌++◌, length, map, Option, Some, slice_get, refl, ap, sym, subst, ◌∙◌}
 use Rattle.std.specs.Str.{bytes_eq}
 use Rattle.std.specs.String.{string_bytes}
-use Rattle.pg_schema.specs.declared.file.File.{File}
-use Rattle.pg_schema.specs.declared.file.Import.{Import}
-use Rattle.pg_schema.specs.Pairs.{are_distinct}
-use Rattle.pg_schema.specs.TextSets.{is_among}
-use Rattle.pg_schema.proofs.PairLemmas.{and_left, and_right}
+use Rattle.pg_schema.specs.declared.parts.file.File.{File}
+use Rattle.pg_schema.specs.declared.parts.file.Import.{Import}
+use Rattle.pg_schema.specs.rules.Pairs.{are_distinct}
+use Rattle.pg_schema.specs.rules.TextSets.{is_among}
+use Rattle.pg_schema.proofs.lemmas.rules.PairLemmas.{and_left, and_right}
 use Rattle.pg_fds.specs.PostOrder.{Importer, IsPostOrder, Visits, all_visited, imports_at, kept_paths, listed_last, passed_over, paths_of}
 use Rattle.pg_fds.specs.Reads.{AreBehind, file_name, imports_among}
 use Rattle.pg_fds.proofs.StatedFiles.{files_distinct}

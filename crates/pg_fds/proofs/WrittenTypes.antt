@@ -5,19 +5,19 @@ use Rattle.std.proofs.lemmas.Option.{none-some, same_Some}
 use Rattle.std.specs.Prelude.{IsSomeAnd}
 use Rattle.std.specs.List.{AllByRecursion, AllZip, list_all}
 use Rattle.std.specs.String.{string_bytes}
-use Rattle.pg_schema.specs.declared.field.Field.{Field}
-use Rattle.pg_schema.specs.declared.field.Presence.{Presence}
-use Rattle.pg_schema.specs.declared.field.Presence.TheVariants as presences
-use Rattle.pg_schema.specs.declared.field.TypeId.{TypeId}
-use Rattle.pg_schema.specs.declared.message_type.MessageType.{MessageType}
+use Rattle.pg_schema.specs.declared.parts.field.Field.{Field}
+use Rattle.pg_schema.specs.declared.parts.field.Presence.{Presence}
+use Rattle.pg_schema.specs.declared.parts.field.Presence.TheVariants as presences
+use Rattle.pg_schema.specs.declared.parts.field.TypeId.{TypeId}
+use Rattle.pg_schema.specs.declared.parts.message_type.MessageType.{MessageType}
 use Rattle.pg_schema.specs.declared.parts.Parts.{Parts}
-use Rattle.pg_schema.specs.DeclaredNames.{within}
-use Rattle.pg_schema.specs.FieldRules.{is_oneof}
-use Rattle.pg_schema.specs.MessageRules.{has_fields, is_declared, is_field, is_message_type, numbers}
-use Rattle.pg_schema.specs.Pairs.{is_rising}
-use Rattle.pg_schema.specs.Scopes.{are_enums_in, are_types_in, is_in, is_named_in, is_type_scope, type_name}
-use Rattle.pg_schema.specs.Sound.{IsSound}
-use Rattle.pg_schema.proofs.PairLemmas.{and_both, and_left, and_right}
+use Rattle.pg_schema.specs.rules.DeclaredNames.{within}
+use Rattle.pg_schema.specs.rules.Fields.{is_oneof}
+use Rattle.pg_schema.specs.rules.Messages.{has_fields, is_declared, is_field, is_message_type, numbers}
+use Rattle.pg_schema.specs.rules.Pairs.{is_rising}
+use Rattle.pg_schema.specs.rules.Scopes.{are_enums_in, are_types_in, is_in, is_named_in, is_type_scope, type_name}
+use Rattle.pg_schema.specs.rules.Sound.{IsSound}
+use Rattle.pg_schema.proofs.lemmas.rules.PairLemmas.{and_both, and_left, and_right}
 use Rattle.pg_dyn.specs.Message.{Message}
 use Rattle.pg_fds.specs.Again.{holds_inside, nest_within}
 use Rattle.pg_fds.specs.Entries.{entries, entry_items}

@@ -2,11 +2,11 @@
 -- `FileDescriptorSet` and below). Singular fields have explicit presence, repeated numbers are unpacked, both as in that file. That
 -- other fields and options are left out is this profile's choice.
 use Rattle.std.specs.Prelude.{ℕ, false, List, [], ◌∷◌, None}
-use Rattle.pg_schema.specs.declared.field.TypeId.{TypeId}
-use Rattle.pg_schema.specs.declared.field.Element.{Element}
-use Rattle.pg_schema.specs.declared.field.Element.TheVariants as elements
-use Rattle.pg_schema.specs.declared.field.Presence.TheVariants.{Explicit, Repeated}
-use Rattle.pg_schema.specs.declared.field.Scalar.TheVariants as scalars
+use Rattle.pg_schema.specs.declared.parts.field.TypeId.{TypeId}
+use Rattle.pg_schema.specs.declared.parts.field.Element.{Element}
+use Rattle.pg_schema.specs.declared.parts.field.Element.TheVariants as elements
+use Rattle.pg_schema.specs.declared.parts.field.Presence.TheVariants.{Explicit, Repeated}
+use Rattle.pg_schema.specs.declared.parts.field.Scalar.TheVariants as scalars
 use Rattle.pg_schema.specs.Shape.{FieldShape, Shape}
 
 -- ---- the places of the message types and enums

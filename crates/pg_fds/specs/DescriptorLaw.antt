@@ -1,7 +1,7 @@
 -- The schema of descriptor.proto keeps to the rules of a schema.
 use Rattle.std.specs.Prelude.{◌≡◌}
 use Rattle.pg_schema.specs.declared.parts.Parts.{Parts}
-use Rattle.pg_schema.specs.Sound.{IsSound}
+use Rattle.pg_schema.specs.rules.Sound.{IsSound}
 use Rattle.pg_fds.specs.DescriptorParts.{descriptor_parts}
 use Rattle.pg_fds.specs.Views.{parts_view}
 

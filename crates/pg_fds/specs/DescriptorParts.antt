@@ -3,12 +3,12 @@
 -- of number 0 besides, since a schema's enum has one. What is left out is this profile's choice, as are that fields are declared by rising
 -- number, in which order enums are, and that a field of a message type isn't marked `optional`.
 use Rattle.std.specs.Prelude.{ℕ, ℤ, pos, false, not, ◌&&◌, ◌||◌, List, [], ◌∷◌, map, codes, Some, None, if◌then◌else◌}
-use Rattle.pg_schema.specs.declared.field.Element.{Element}
-use Rattle.pg_schema.specs.declared.field.EnumId.{EnumId}
-use Rattle.pg_schema.specs.declared.field.Presence.{Presence}
-use Rattle.pg_schema.specs.declared.field.Presence.TheVariants.{Explicit, Repeated}
-use Rattle.pg_schema.specs.declared.field.TypeId.{TypeId}
-use Rattle.pg_schema.specs.FieldRules.{is_message}
+use Rattle.pg_schema.specs.declared.parts.field.Element.{Element}
+use Rattle.pg_schema.specs.declared.parts.field.EnumId.{EnumId}
+use Rattle.pg_schema.specs.declared.parts.field.Presence.{Presence}
+use Rattle.pg_schema.specs.declared.parts.field.Presence.TheVariants.{Explicit, Repeated}
+use Rattle.pg_schema.specs.declared.parts.field.TypeId.{TypeId}
+use Rattle.pg_schema.specs.rules.Fields.{is_message}
 use Rattle.pg_schema.specs.JsonName.{default_json_name}
 use Rattle.pg_schema.specs.Shape.{is_packable, is_singular}
 use Rattle.pg_fds.specs.Descriptor.{flag, label_enum, message, mode_enum, number, text, type_enum, type_id}

@@ -1,14 +1,14 @@
 -- Worked sets: the bytes of small files' sets. They are protoc's, from `protoc --descriptor_set_out=m.pb m.proto` (libprotoc 3.21.12).
 use Rattle.std.specs.Prelude.{◌≡◌, ℕ, Bool, true, false, List, [], ◌∷◌, codes, None}
 use Rattle.std.specs.String.{string_bytes}
-use Rattle.pg_schema.specs.declared.field.Element.{Element}
-use Rattle.pg_schema.specs.declared.field.Element.TheVariants as elements
-use Rattle.pg_schema.specs.declared.field.Field.{Field}
-use Rattle.pg_schema.specs.declared.field.Presence.{Presence}
-use Rattle.pg_schema.specs.declared.field.Presence.TheVariants.{Implicit, Explicit, Map}
-use Rattle.pg_schema.specs.declared.field.Scalar.TheVariants.{Int32, String}
-use Rattle.pg_schema.specs.declared.file.File.{File}
-use Rattle.pg_schema.specs.declared.message_type.MessageType.{MessageType}
+use Rattle.pg_schema.specs.declared.parts.field.Element.{Element}
+use Rattle.pg_schema.specs.declared.parts.field.Element.TheVariants as elements
+use Rattle.pg_schema.specs.declared.parts.field.Field.{Field}
+use Rattle.pg_schema.specs.declared.parts.field.Presence.{Presence}
+use Rattle.pg_schema.specs.declared.parts.field.Presence.TheVariants.{Implicit, Explicit, Map}
+use Rattle.pg_schema.specs.declared.parts.field.Scalar.TheVariants.{Int32, String}
+use Rattle.pg_schema.specs.declared.parts.file.File.{File}
+use Rattle.pg_schema.specs.declared.parts.message_type.MessageType.{MessageType}
 use Rattle.pg_schema.specs.declared.parts.Parts.{Parts}
 use Rattle.pg_fds.specs.Set.{fds}
 

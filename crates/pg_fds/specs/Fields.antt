@@ -1,16 +1,16 @@
 -- A field's message, `FieldDescriptorProto` of descriptor.proto.
 use Rattle.std.specs.Prelude.{ℕ, suc, List, [], ◌∷◌, ◌++◌, Option, Some, None, option_map, if◌then◌else◌}
 use Rattle.std.specs.String.{string_bytes}
-use Rattle.pg_schema.specs.declared.field.Element.{Element}
-use Rattle.pg_schema.specs.declared.field.Element.TheVariants as elements
-use Rattle.pg_schema.specs.declared.field.Field.{Field}
-use Rattle.pg_schema.specs.declared.field.Presence.{Presence}
-use Rattle.pg_schema.specs.declared.field.Presence.TheVariants as presences
-use Rattle.pg_schema.specs.declared.field.Scalar.{Scalar}
-use Rattle.pg_schema.specs.declared.field.Scalar.TheVariants as scalars
-use Rattle.pg_schema.specs.declared.options.FieldOptions.{FieldOptions}
-use Rattle.pg_schema.specs.DeclaredNames.{entry_name, within}
-use Rattle.pg_schema.specs.Scopes.{type_name, enum_name}
+use Rattle.pg_schema.specs.declared.parts.field.Element.{Element}
+use Rattle.pg_schema.specs.declared.parts.field.Element.TheVariants as elements
+use Rattle.pg_schema.specs.declared.parts.field.Field.{Field}
+use Rattle.pg_schema.specs.declared.parts.field.Presence.{Presence}
+use Rattle.pg_schema.specs.declared.parts.field.Presence.TheVariants as presences
+use Rattle.pg_schema.specs.declared.parts.field.Scalar.{Scalar}
+use Rattle.pg_schema.specs.declared.parts.field.Scalar.TheVariants as scalars
+use Rattle.pg_schema.specs.declared.parts.options.FieldOptions.{FieldOptions}
+use Rattle.pg_schema.specs.rules.DeclaredNames.{entry_name, within}
+use Rattle.pg_schema.specs.rules.Scopes.{type_name, enum_name}
 use Rattle.pg_fds.specs.Places.{Declared}
 use Rattle.pg_fds.specs.Items.{Items, text, maybe_text, count, maybe_count, mark, stated, options}
 use Rattle.pg_fds.specs.Proto as proto

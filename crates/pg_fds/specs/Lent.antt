@@ -1,8 +1,8 @@
 -- What references point to, and the fields that numbers name.
 use Rattle.std.specs.Prelude.{ℕ, List, map, flat_map}
 use denote.Ref.{Bor}
-use Rattle.pg_schema.specs.declared.field.Field.{Field}
-use Rattle.pg_schema.specs.declared.field.TypeId.{TypeId}
+use Rattle.pg_schema.specs.declared.parts.field.Field.{Field}
+use Rattle.pg_schema.specs.declared.parts.field.TypeId.{TypeId}
 use Rattle.pg_schema.specs.declared.parts.Parts.{Parts}
 use Rattle.pg_schema.specs.Parts.{field_of}
 use Rattle.pg_fds.specs.Messages.{where_found}

@@ -1,7 +1,7 @@
 -- What is made of a message type's fields and oneofs.
 use Rattle.std.specs.Prelude.{◌≡◌, map}
 use Rattle.std.specs.String.{string_bytes}
-use Rattle.pg_schema.specs.declared.message_type.MessageType.{MessageType}
+use Rattle.pg_schema.specs.declared.parts.message_type.MessageType.{MessageType}
 use Rattle.pg_fds.specs.declared.made_types.Members.{Members}
 use Rattle.pg_fds.specs.Views.{field_view}
 

@@ -2,11 +2,11 @@
 use Rattle.std.specs.Prelude.{◌≡◌, ℕ, ℤ, pos, nat_eq, not, List, find, flat_map, Option, Some, None, if◌then◌else◌}
 use Rattle.std.specs.List.{AllByRecursion}
 use Rattle.std.specs.Ordering.{int_eq}
-use Rattle.pg_schema.specs.declared.options.FileOption.{FileOption}
-use Rattle.pg_schema.specs.declared.options.OptimizeMode.{OptimizeMode}
-use Rattle.pg_schema.specs.declared.options.OptimizeMode.TheVariants as modes
-use Rattle.pg_schema.specs.declared.options.OptionValue.{OptionValue}
-use Rattle.pg_schema.specs.declared.options.OptionValue.TheVariants as values
+use Rattle.pg_schema.specs.declared.parts.options.FileOption.{FileOption}
+use Rattle.pg_schema.specs.declared.parts.options.OptimizeMode.{OptimizeMode}
+use Rattle.pg_schema.specs.declared.parts.options.OptimizeMode.TheVariants as modes
+use Rattle.pg_schema.specs.declared.parts.options.OptionValue.{OptionValue}
+use Rattle.pg_schema.specs.declared.parts.options.OptionValue.TheVariants as values
 use Rattle.pg_dyn.specs.Message.{Message}
 use Rattle.pg_fds.specs.Messages.{where_found}
 use Rattle.pg_fds.specs.Said.{item_at}

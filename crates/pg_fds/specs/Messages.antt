@@ -1,18 +1,18 @@
 -- The messages of message types and enums, `DescriptorProto` and `EnumDescriptorProto` of descriptor.proto.
 use Rattle.std.specs.Prelude.{ℕ, zero, suc, List, [], ◌∷◌, ◌++◌, map, flat_map, find, length, nat_eq, slice_get, Option, Some, None}
 use Rattle.std.specs.String.{string_bytes}
-use Rattle.pg_schema.specs.declared.enum_type.EnumType.{EnumType}
-use Rattle.pg_schema.specs.declared.enum_type.EnumValue.{EnumValue}
-use Rattle.pg_schema.specs.declared.enum_type.ReservedValues.{ReservedValues}
-use Rattle.pg_schema.specs.declared.field.EnumId.{EnumId}
-use Rattle.pg_schema.specs.declared.field.Field.{Field}
-use Rattle.pg_schema.specs.declared.field.TypeId.{TypeId}
-use Rattle.pg_schema.specs.declared.message_type.MessageType.{MessageType}
-use Rattle.pg_schema.specs.declared.message_type.ReservedFields.{ReservedFields}
-use Rattle.pg_schema.specs.declared.options.EnumOptions.{EnumOptions}
-use Rattle.pg_schema.specs.DeclaredNames.{entry_names, values_at}
-use Rattle.pg_schema.specs.MessageRules.{field_names}
-use Rattle.pg_schema.specs.Words.{parts_at_dots}
+use Rattle.pg_schema.specs.declared.parts.enum_type.EnumType.{EnumType}
+use Rattle.pg_schema.specs.declared.parts.enum_type.EnumValue.{EnumValue}
+use Rattle.pg_schema.specs.declared.parts.enum_type.ReservedValues.{ReservedValues}
+use Rattle.pg_schema.specs.declared.parts.field.EnumId.{EnumId}
+use Rattle.pg_schema.specs.declared.parts.field.Field.{Field}
+use Rattle.pg_schema.specs.declared.parts.field.TypeId.{TypeId}
+use Rattle.pg_schema.specs.declared.parts.message_type.MessageType.{MessageType}
+use Rattle.pg_schema.specs.declared.parts.message_type.ReservedFields.{ReservedFields}
+use Rattle.pg_schema.specs.declared.parts.options.EnumOptions.{EnumOptions}
+use Rattle.pg_schema.specs.rules.DeclaredNames.{entry_names, values_at}
+use Rattle.pg_schema.specs.rules.Messages.{field_names}
+use Rattle.pg_schema.specs.rules.Words.{parts_at_dots}
 use Rattle.pg_fds.specs.Places.{Declared}
 use Rattle.pg_fds.specs.Entries.{entries}
 use Rattle.pg_fds.specs.Fields.{fields_items}

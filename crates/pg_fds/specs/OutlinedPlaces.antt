@@ -1,7 +1,7 @@
 -- The places that each message type and each file of a set keeps: those of the message types, enums and services declared in it, which
 -- are counted as they are told of.
 use Rattle.std.specs.Prelude.{ℕ, zero, suc, ◌+◌, List, [], ◌∷◌, ◌++◌, filter, length}
-use Rattle.pg_schema.specs.Scopes.{enum_places, service_places, type_places}
+use Rattle.pg_schema.specs.rules.Scopes.{enum_places, service_places, type_places}
 use Rattle.pg_dyn.specs.Kept.{message_of}
 use Rattle.pg_dyn.specs.Message.{Message}
 use Rattle.pg_fds.specs.declared.outline.Outline.{Outline}

@@ -1,6 +1,6 @@
 -- What an outline has more, once what a scope, a file or all files declare is in it.
 use Rattle.std.specs.Prelude.{◌≡◌, ◌++◌, ◌∷◌, [], ℕ, true, List, flat_map, map}
-use Rattle.pg_schema.specs.TextSets.{is_among}
+use Rattle.pg_schema.specs.rules.TextSets.{is_among}
 use Rattle.pg_dyn.specs.Message.{Message}
 use Rattle.pg_fds.specs.declared.outline.Outline.{Outline}
 use Rattle.pg_fds.specs.OutlinedPlaces.{counts_of, file_places, inside_file, no_counts, placed_file, placed_files, placed_type, placed_types, types_of_files}

@@ -1,11 +1,11 @@
 -- Small pieces of sets: names, codes, ranges, options and marks.
 use Rattle.std.specs.Prelude.{◌≡◌, negsuc, true, false, List, [], ◌∷◌, ◌++◌, map, codes, Some, None}
-use Rattle.pg_schema.specs.declared.field.Element.TheVariants as elements
-use Rattle.pg_schema.specs.declared.field.Presence.TheVariants.{Implicit, Explicit, Repeated, Map}
-use Rattle.pg_schema.specs.declared.field.Scalar.{Scalar}
-use Rattle.pg_schema.specs.declared.field.Scalar.TheVariants as scalars
-use Rattle.pg_schema.specs.declared.options.OptimizeMode.TheVariants as modes
-use Rattle.pg_schema.specs.declared.options.OptionValue.TheVariants as values
+use Rattle.pg_schema.specs.declared.parts.field.Element.TheVariants as elements
+use Rattle.pg_schema.specs.declared.parts.field.Presence.TheVariants.{Implicit, Explicit, Repeated, Map}
+use Rattle.pg_schema.specs.declared.parts.field.Scalar.{Scalar}
+use Rattle.pg_schema.specs.declared.parts.field.Scalar.TheVariants as scalars
+use Rattle.pg_schema.specs.declared.parts.options.OptimizeMode.TheVariants as modes
+use Rattle.pg_schema.specs.declared.parts.options.OptionValue.TheVariants as values
 use Rattle.pg_fds.specs.Fields.{label, scalar_code, type_code, field_options}
 use Rattle.pg_fds.specs.Items.{count, whole, mark, filled, options, child}
 use Rattle.pg_fds.specs.Messages.{own_name, field_range, value_range, enum_options}

@@ -1,10 +1,10 @@
 -- Places in order of declaration, by small examples.
 use Rattle.std.specs.Prelude.{◌≡◌, ℕ, [], ◌∷◌, flat_map}
-use Rattle.pg_schema.specs.declared.field.EnumId.{EnumId}
-use Rattle.pg_schema.specs.declared.field.Field.{Field}
-use Rattle.pg_schema.specs.declared.field.TypeId.{TypeId}
-use Rattle.pg_schema.specs.declared.file.File.{File}
-use Rattle.pg_schema.specs.declared.message_type.MessageType.{MessageType}
+use Rattle.pg_schema.specs.declared.parts.field.EnumId.{EnumId}
+use Rattle.pg_schema.specs.declared.parts.field.Field.{Field}
+use Rattle.pg_schema.specs.declared.parts.field.TypeId.{TypeId}
+use Rattle.pg_schema.specs.declared.parts.file.File.{File}
+use Rattle.pg_schema.specs.declared.parts.message_type.MessageType.{MessageType}
 use Rattle.pg_schema.specs.declared.parts.Parts.{Parts}
 use Rattle.pg_fds.specs.Examples.{AreParts, IsMessage}
 use Rattle.pg_fds.specs.InOrder.{StandInOrder, enums_below, file_enums, types_below}

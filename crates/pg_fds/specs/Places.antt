@@ -1,9 +1,9 @@
 -- What the places in a schema's files mean.
 use Rattle.std.specs.Prelude.{List}
-use Rattle.pg_schema.specs.declared.enum_type.EnumType.{EnumType}
-use Rattle.pg_schema.specs.declared.message_type.MessageType.{MessageType}
+use Rattle.pg_schema.specs.declared.parts.enum_type.EnumType.{EnumType}
+use Rattle.pg_schema.specs.declared.parts.message_type.MessageType.{MessageType}
 use Rattle.pg_schema.specs.declared.parts.Parts.{Parts}
-use Rattle.pg_schema.specs.declared.service.Service.{Service}
+use Rattle.pg_schema.specs.declared.parts.service.Service.{Service}
 
 -- the message types, enums and services of all files, by their places
 pub record Declared : Type 0 where

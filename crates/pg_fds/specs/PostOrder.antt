@@ -2,7 +2,7 @@
 use Rattle.std.specs.Prelude.{◌≡◌, ℕ, Bool, true, false, not, ◌&&◌, ◌⊎◌, List, [], ◌∷◌, ◌++◌, map, filter, find, Option, Some, option_map}
 use Rattle.std.specs.List.{list_all, list_any}
 use Rattle.std.specs.Str.{bytes_eq}
-use Rattle.pg_schema.specs.Pairs.{are_distinct}
+use Rattle.pg_schema.specs.rules.Pairs.{are_distinct}
 use Rattle.pg_fds.specs.StatesFiles.{is_descriptor}
 
 -- What is listed once these were visited in order, where those in front are listed already: one that is listed is passed over; any other

@@ -1,9 +1,9 @@
 -- Parts of messages that are put at one go.
 use Rattle.std.specs.Prelude.{ℕ, List, length, map, ◌++◌}
 use Rattle.std.specs.String.{string_bytes}
-use Rattle.pg_schema.specs.declared.field.Field.{Field}
-use Rattle.pg_schema.specs.declared.file.File.{File}
-use Rattle.pg_schema.specs.declared.message_type.MessageType.{MessageType}
+use Rattle.pg_schema.specs.declared.parts.field.Field.{Field}
+use Rattle.pg_schema.specs.declared.parts.file.File.{File}
+use Rattle.pg_schema.specs.declared.parts.message_type.MessageType.{MessageType}
 use Rattle.pg_fds.specs.Fields.{label, named_type, type_code}
 use Rattle.pg_fds.specs.Items.{Items, children, count, maybe_text, options, stated, texts}
 use Rattle.pg_fds.specs.Messages.{enums_items, field_range, oneof_items, oneof_names, types_items}

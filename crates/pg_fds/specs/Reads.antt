@@ -2,13 +2,13 @@
 use Rattle.std.specs.Prelude.{◌≡◌, ℕ, ◌≤◌, ◌^◌, ⊤, Bool, true, false, not, List, [], ◌∷◌, ◌++◌, map, length, filter, IsSomeAnd}
 use Rattle.std.specs.List.{AllByRecursion, Any, list_all, list_any}
 use Rattle.std.specs.String.{string_bytes}
-use Rattle.pg_schema.specs.declared.file.File.{File}
-use Rattle.pg_schema.specs.declared.file.Import.{Import}
+use Rattle.pg_schema.specs.declared.parts.file.File.{File}
+use Rattle.pg_schema.specs.declared.parts.file.Import.{Import}
 use Rattle.pg_schema.specs.declared.parts.Parts.{Parts}
-use Rattle.pg_schema.specs.Pairs.{are_distinct}
-use Rattle.pg_schema.specs.Sound.{IsSound}
-use Rattle.pg_schema.specs.TextSets.{is_among}
-use Rattle.pg_dyn.specs.Decoding.{dec}
+use Rattle.pg_schema.specs.rules.Pairs.{are_distinct}
+use Rattle.pg_schema.specs.rules.Sound.{IsSound}
+use Rattle.pg_schema.specs.rules.TextSets.{is_among}
+use Rattle.pg_dyn.specs.reading.Decoding.{dec}
 use Rattle.pg_dyn.specs.Message.{Message}
 use Rattle.pg_fds.specs.Building.{written_shape}
 use Rattle.pg_fds.specs.Descriptor.{file_set}

@@ -1,10 +1,10 @@
 -- The rows of a schema that is written down.
 use Rattle.std.specs.Prelude.{ℕ, ℤ, List, map}
 use denote.Ref.{Bor}
-use Rattle.pg_schema.specs.declared.field.Element.{Element}
-use Rattle.pg_schema.specs.declared.field.EnumId.{EnumId}
-use Rattle.pg_schema.specs.declared.field.Presence.{Presence}
-use Rattle.pg_schema.specs.declared.field.TypeId.{TypeId}
+use Rattle.pg_schema.specs.declared.parts.field.Element.{Element}
+use Rattle.pg_schema.specs.declared.parts.field.EnumId.{EnumId}
+use Rattle.pg_schema.specs.declared.parts.field.Presence.{Presence}
+use Rattle.pg_schema.specs.declared.parts.field.TypeId.{TypeId}
 use Rattle.pg_fds.specs.DescriptorParts.{enum_of, field_of, type_of, value_of}
 use Rattle.pg_fds.specs.Views.{EnumView, FieldView, TypeView, ValueView}
 

@@ -1,19 +1,19 @@
 -- The set of files that a schema's all give, `FileDescriptorSet` of descriptor.proto.
 use Rattle.std.specs.Prelude.{◌≡◌, ℕ, suc, List, [], ◌∷◌, ◌++◌, map, flat_map, length, codes, Option, Some, None, slice_get, if◌then◌else◌, ◌≤◌}
 use Rattle.std.specs.String.{string_bytes}
-use Rattle.pg_schema.specs.declared.file.File.{File}
-use Rattle.pg_schema.specs.declared.file.Import.{Import}
-use Rattle.pg_schema.specs.declared.options.FileOption.{FileOption}
-use Rattle.pg_schema.specs.declared.options.OptimizeMode.{OptimizeMode}
-use Rattle.pg_schema.specs.declared.options.OptimizeMode.TheVariants as modes
-use Rattle.pg_schema.specs.declared.options.OptionValue.{OptionValue}
-use Rattle.pg_schema.specs.declared.options.OptionValue.TheVariants as values
-use Rattle.pg_schema.specs.declared.service.Method.{Method}
-use Rattle.pg_schema.specs.declared.service.Service.{Service}
-use Rattle.pg_schema.specs.declared.service.ServiceId.{ServiceId}
-use Rattle.pg_schema.specs.Scopes.{type_name}
+use Rattle.pg_schema.specs.declared.parts.file.File.{File}
+use Rattle.pg_schema.specs.declared.parts.file.Import.{Import}
+use Rattle.pg_schema.specs.declared.parts.options.FileOption.{FileOption}
+use Rattle.pg_schema.specs.declared.parts.options.OptimizeMode.{OptimizeMode}
+use Rattle.pg_schema.specs.declared.parts.options.OptimizeMode.TheVariants as modes
+use Rattle.pg_schema.specs.declared.parts.options.OptionValue.{OptionValue}
+use Rattle.pg_schema.specs.declared.parts.options.OptionValue.TheVariants as values
+use Rattle.pg_schema.specs.declared.parts.service.Method.{Method}
+use Rattle.pg_schema.specs.declared.parts.service.Service.{Service}
+use Rattle.pg_schema.specs.declared.parts.service.ServiceId.{ServiceId}
+use Rattle.pg_schema.specs.rules.Scopes.{type_name}
 use Rattle.pg_dyn.specs.Message.{Message, message_from}
-use Rattle.pg_dyn.specs.Encoding.{cap, enc}
+use Rattle.pg_dyn.specs.encoding.Encoding.{cap, enc}
 use Rattle.pg_schema.specs.declared.parts.Parts.{Parts}
 use Rattle.pg_fds.specs.Places.{Declared, declared_in}
 use Rattle.pg_fds.specs.Descriptor.{descriptor_shape, file_set}

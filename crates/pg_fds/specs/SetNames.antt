@@ -4,10 +4,10 @@ use Rattle.std.specs.Prelude.{◌≡◌, ℕ, zero, suc, true, List, [], ◌∷�
 use Rattle.std.specs.BTreeMap.{BTreeMap, get_by_text}
 use Rattle.std.specs.List.{AllByRecursion, list_all}
 use Rattle.std.specs.Str.{IsUtf8}
-use Rattle.pg_schema.specs.DeclaredNames.{within}
-use Rattle.pg_schema.specs.PackageNames.{is_free_of, is_front}
-use Rattle.pg_schema.specs.Pairs.{are_distinct}
-use Rattle.pg_schema.specs.TextSets.{is_among}
+use Rattle.pg_schema.specs.rules.DeclaredNames.{within}
+use Rattle.pg_schema.specs.rules.Packages.{is_free_of, is_front}
+use Rattle.pg_schema.specs.rules.Pairs.{are_distinct}
+use Rattle.pg_schema.specs.rules.TextSets.{is_among}
 use Rattle.pg_dyn.specs.Message.{Message}
 use Rattle.pg_fds.specs.declared.error.Unstated.{Unstated}
 use Rattle.pg_fds.specs.declared.error.Unstated.TheVariants as errors

@@ -2,15 +2,15 @@
 use Rattle.std.specs.Prelude.{◌+◌, ◌<◌, ◌^◌, length, FitsSigned, IfSome}
 use Rattle.std.specs.Int.{w32}
 use Rattle.std.specs.List.{AllByRecursion}
-use Rattle.pg_schema.specs.declared.enum_type.EnumType.{EnumType}
-use Rattle.pg_schema.specs.declared.enum_type.EnumValue.{EnumValue}
-use Rattle.pg_schema.specs.declared.enum_type.ReservedValues.{ReservedValues}
-use Rattle.pg_schema.specs.declared.field.EnumId.{EnumId}
-use Rattle.pg_schema.specs.declared.field.Field.{Field}
-use Rattle.pg_schema.specs.declared.file.File.{File}
-use Rattle.pg_schema.specs.declared.message_type.MessageType.{MessageType}
-use Rattle.pg_schema.specs.declared.message_type.ReservedFields.{ReservedFields}
-use Rattle.pg_schema.specs.declared.service.ServiceId.{ServiceId}
+use Rattle.pg_schema.specs.declared.parts.enum_type.EnumType.{EnumType}
+use Rattle.pg_schema.specs.declared.parts.enum_type.EnumValue.{EnumValue}
+use Rattle.pg_schema.specs.declared.parts.enum_type.ReservedValues.{ReservedValues}
+use Rattle.pg_schema.specs.declared.parts.field.EnumId.{EnumId}
+use Rattle.pg_schema.specs.declared.parts.field.Field.{Field}
+use Rattle.pg_schema.specs.declared.parts.file.File.{File}
+use Rattle.pg_schema.specs.declared.parts.message_type.MessageType.{MessageType}
+use Rattle.pg_schema.specs.declared.parts.message_type.ReservedFields.{ReservedFields}
+use Rattle.pg_schema.specs.declared.parts.service.ServiceId.{ServiceId}
 
 -- the field's own, and the place of its oneof
 pub record HasSmallNumbers (f : Field) : Type 0 where

@@ -2,8 +2,8 @@
 use Rattle.std.specs.Prelude.{◌≡◌, Bool, true, filter, length, map}
 use Rattle.std.specs.List.{AllZip, list_all}
 use Rattle.std.specs.String.{string_bytes}
-use Rattle.pg_schema.specs.declared.file.File.{File}
-use Rattle.pg_schema.specs.declared.message_type.MessageType.{MessageType}
+use Rattle.pg_schema.specs.declared.parts.file.File.{File}
+use Rattle.pg_schema.specs.declared.parts.message_type.MessageType.{MessageType}
 use Rattle.pg_dyn.specs.Message.{Message}
 use Rattle.pg_fds.specs.Messages.{declared_fields}
 use Rattle.pg_fds.specs.Places.{Declared}

@@ -2,10 +2,10 @@
 use Rattle.std.specs.Prelude.{◌≡◌, ℕ, ◌+◌, ◌<◌, zero, suc, ℤ, pos, negsuc, ⊤, Bool, false, not, nat_eq, List, [], ◌∷◌, map, length, filter, filter_map, Option, Some, None, slice_get, slice_index_or, IsSomeAnd, if◌then◌else◌}
 use Rattle.std.specs.List.{AllZip, list_any}
 use Rattle.std.specs.String.{string_bytes}
-use Rattle.pg_schema.specs.declared.field.Field.{Field}
-use Rattle.pg_schema.specs.declared.field.TypeId.{TypeId}
-use Rattle.pg_schema.specs.declared.message_type.MessageType.{MessageType}
-use Rattle.pg_schema.specs.DeclaredNames.{within}
+use Rattle.pg_schema.specs.declared.parts.field.Field.{Field}
+use Rattle.pg_schema.specs.declared.parts.field.TypeId.{TypeId}
+use Rattle.pg_schema.specs.declared.parts.message_type.MessageType.{MessageType}
+use Rattle.pg_schema.specs.rules.DeclaredNames.{within}
 use Rattle.pg_dyn.specs.Message.{Message}
 use Rattle.pg_fds.specs.Messages.{declared_fields}
 use Rattle.pg_fds.specs.Places.{Declared}

@@ -1,32 +1,32 @@
 -- What the parts of a schema say, wherever their texts and lists lie in memory.
 use Rattle.std.specs.Prelude.{ℕ, ℤ, Bool, List, map, Option}
 use Rattle.std.specs.String.{string_bytes}
-use Rattle.pg_schema.specs.declared.enum_type.EnumType.{EnumType}
-use Rattle.pg_schema.specs.declared.enum_type.EnumValue.{EnumValue}
-use Rattle.pg_schema.specs.declared.enum_type.ReservedValues.{ReservedValues}
-use Rattle.pg_schema.specs.declared.field.Element.{Element}
-use Rattle.pg_schema.specs.declared.field.EnumId.{EnumId}
-use Rattle.pg_schema.specs.declared.field.Field.{Field}
-use Rattle.pg_schema.specs.declared.field.Presence.{Presence}
-use Rattle.pg_schema.specs.declared.field.TypeId.{TypeId}
-use Rattle.pg_schema.specs.declared.file.File.{File}
-use Rattle.pg_schema.specs.declared.file.Import.{Import}
-use Rattle.pg_schema.specs.declared.message_type.MessageType.{MessageType}
-use Rattle.pg_schema.specs.declared.message_type.ReservedFields.{ReservedFields}
-use Rattle.pg_schema.specs.declared.options.EnumOptions.{EnumOptions}
-use Rattle.pg_schema.specs.declared.options.EnumValueOptions.{EnumValueOptions}
-use Rattle.pg_schema.specs.declared.options.FieldOptions.{FieldOptions}
-use Rattle.pg_schema.specs.declared.options.FileOption.{FileOption}
-use Rattle.pg_schema.specs.declared.options.MessageOptions.{MessageOptions}
-use Rattle.pg_schema.specs.declared.options.MethodOptions.{MethodOptions}
-use Rattle.pg_schema.specs.declared.options.OptimizeMode.{OptimizeMode}
-use Rattle.pg_schema.specs.declared.options.OptionValue.{OptionValue}
-use Rattle.pg_schema.specs.declared.options.OptionValue.TheVariants as values
-use Rattle.pg_schema.specs.declared.options.ServiceOptions.{ServiceOptions}
+use Rattle.pg_schema.specs.declared.parts.enum_type.EnumType.{EnumType}
+use Rattle.pg_schema.specs.declared.parts.enum_type.EnumValue.{EnumValue}
+use Rattle.pg_schema.specs.declared.parts.enum_type.ReservedValues.{ReservedValues}
+use Rattle.pg_schema.specs.declared.parts.field.Element.{Element}
+use Rattle.pg_schema.specs.declared.parts.field.EnumId.{EnumId}
+use Rattle.pg_schema.specs.declared.parts.field.Field.{Field}
+use Rattle.pg_schema.specs.declared.parts.field.Presence.{Presence}
+use Rattle.pg_schema.specs.declared.parts.field.TypeId.{TypeId}
+use Rattle.pg_schema.specs.declared.parts.file.File.{File}
+use Rattle.pg_schema.specs.declared.parts.file.Import.{Import}
+use Rattle.pg_schema.specs.declared.parts.message_type.MessageType.{MessageType}
+use Rattle.pg_schema.specs.declared.parts.message_type.ReservedFields.{ReservedFields}
+use Rattle.pg_schema.specs.declared.parts.options.EnumOptions.{EnumOptions}
+use Rattle.pg_schema.specs.declared.parts.options.EnumValueOptions.{EnumValueOptions}
+use Rattle.pg_schema.specs.declared.parts.options.FieldOptions.{FieldOptions}
+use Rattle.pg_schema.specs.declared.parts.options.FileOption.{FileOption}
+use Rattle.pg_schema.specs.declared.parts.options.MessageOptions.{MessageOptions}
+use Rattle.pg_schema.specs.declared.parts.options.MethodOptions.{MethodOptions}
+use Rattle.pg_schema.specs.declared.parts.options.OptimizeMode.{OptimizeMode}
+use Rattle.pg_schema.specs.declared.parts.options.OptionValue.{OptionValue}
+use Rattle.pg_schema.specs.declared.parts.options.OptionValue.TheVariants as values
+use Rattle.pg_schema.specs.declared.parts.options.ServiceOptions.{ServiceOptions}
 use Rattle.pg_schema.specs.declared.parts.Parts.{Parts}
-use Rattle.pg_schema.specs.declared.service.Method.{Method}
-use Rattle.pg_schema.specs.declared.service.Service.{Service}
-use Rattle.pg_schema.specs.declared.service.ServiceId.{ServiceId}
+use Rattle.pg_schema.specs.declared.parts.service.Method.{Method}
+use Rattle.pg_schema.specs.declared.parts.service.Service.{Service}
+use Rattle.pg_schema.specs.declared.parts.service.ServiceId.{ServiceId}
 
 -- ---- fields and message types
 

@@ -1,9 +1,9 @@
 -- Files whose imports an int32 counts.
 use Rattle.std.specs.Prelude.{◌≡◌, ◌<◌, ◌^◌, Bool, true, nat_lt, ◌∷◌, length}
 use Rattle.std.specs.List.{list_all}
-use Rattle.pg_schema.specs.declared.file.File.{File}
-use Rattle.pg_schema.specs.FileRules.{is_file_option, option_numbers}
-use Rattle.pg_schema.specs.Pairs.{is_rising}
+use Rattle.pg_schema.specs.declared.parts.file.File.{File}
+use Rattle.pg_schema.specs.rules.Files.{is_file_option, option_numbers}
+use Rattle.pg_schema.specs.rules.Pairs.{is_rising}
 
 pub record IsWritable (f : File) : Type 0 where
   pub imports : length f.imports.items < 2 ^ 31

@@ -1,7 +1,7 @@
 -- Sets that are written.
 use Rattle.std.specs.Prelude.{◌<◌, length, map}
 use Rattle.pg_schema.specs.declared.parts.Parts.{Parts}
-use Rattle.pg_dyn.specs.Encoding.{cap, enc}
+use Rattle.pg_dyn.specs.encoding.Encoding.{cap, enc}
 use Rattle.pg_fds.specs.Descriptor.{descriptor_shape, file_set}
 use Rattle.pg_fds.specs.Items.{Items, children}
 use Rattle.pg_fds.specs.Places.{declared_in}

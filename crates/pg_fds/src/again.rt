@@ -2,7 +2,7 @@
 
 ghost use Rattle.std.specs.Prelude.{ℕ, ◌≡◌, ◌<◌, ◌^◌, ◌⊎◌, List, IfErr, IfOk};
 ghost use Rattle.std.specs.List.{AllByRecursion};
-ghost use Rattle.pg_schema.specs.Sound.{IsSound};
+ghost use Rattle.pg_schema.specs.rules.Sound.{IsSound};
 ghost use Rattle.pg_fds.specs.declared.error.FdsError.TheVariants as errors;
 ghost use Rattle.pg_fds.specs.ReadAgain.{IsReadAgain, IsTooLong, MayRefuseAgain};
 ghost use Rattle.pg_fds.specs.Reads.{IsHeld, fds_reads};

@@ -5,9 +5,9 @@ ghost use Rattle.std.specs.Prelude.{◌≡◌, ◌∷◌, [], ℕ, true, IfErr, 
 ghost use Rattle.std.specs.BTreeMap.{get_by_text};
 ghost use Rattle.std.specs.List.{AllByRecursion};
 ghost use Rattle.std.specs.String.{string_bytes};
-ghost use Rattle.pg_schema.specs.DeclaredNames.{within};
-ghost use Rattle.pg_schema.specs.PackageNames.{is_front};
-ghost use Rattle.pg_schema.specs.TextSets.{is_among};
+ghost use Rattle.pg_schema.specs.rules.DeclaredNames.{within};
+ghost use Rattle.pg_schema.specs.rules.Packages.{is_front};
+ghost use Rattle.pg_schema.specs.rules.TextSets.{is_among};
 ghost use Rattle.pg_dyn.specs.Kept.{message_of};
 ghost use Rattle.pg_fds.specs.Lent.{lent};
 ghost use Rattle.pg_fds.specs.SetNames.{Declares, WantsMemory, full_name, full_names};

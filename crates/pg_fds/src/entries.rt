@@ -2,8 +2,8 @@
 
 ghost use Rattle.std.specs.Prelude.{◌≡◌, ◌<◌, ◌^◌, ◌++◌, ◌∷◌, [], IfOk, OnOk, codes, map, true};
 ghost use Rattle.pg_schema.specs.Parts.{shape_of};
-ghost use Rattle.pg_schema.specs.declared.field.Element.TheVariants as elements;
-ghost use Rattle.pg_schema.specs.declared.field.Presence.TheVariants as presences;
+ghost use Rattle.pg_schema.specs.declared.parts.field.Element.TheVariants as elements;
+ghost use Rattle.pg_schema.specs.declared.parts.field.Presence.TheVariants as presences;
 ghost use Rattle.pg_fds.specs.Building.{AreChildren, IsOf, items_of, items_within, written_shape};
 ghost use Rattle.pg_fds.specs.Entries.{entries, entry_field, entry_items};
 ghost use Rattle.pg_fds.specs.Items as rows;

@@ -4,10 +4,10 @@ ghost use Rattle.std.specs.Prelude.{◌≡◌, ◌&&◌, ◌∷◌, [], true, If
 ghost use Rattle.std.specs.List.{list_all};
 ghost use Rattle.std.specs.Option.{option_copied, unwrap_or};
 ghost use Rattle.std.specs.Str.{IsUtf8};
-ghost use Rattle.pg_schema.specs.declared.options.FileOption.{FileOption};
-ghost use Rattle.pg_schema.specs.FileRules.{is_file, is_file_option, option_numbers};
-ghost use Rattle.pg_schema.specs.Pairs.{are_distinct, is_rising};
-ghost use Rattle.pg_schema.specs.Sound.{IsSound};
+ghost use Rattle.pg_schema.specs.declared.parts.options.FileOption.{FileOption};
+ghost use Rattle.pg_schema.specs.rules.Files.{is_file, is_file_option, option_numbers};
+ghost use Rattle.pg_schema.specs.rules.Pairs.{are_distinct, is_rising};
+ghost use Rattle.pg_schema.specs.rules.Sound.{IsSound};
 ghost use Rattle.pg_dyn.specs.Kept.{message_of};
 ghost use Rattle.pg_dyn.specs.Message.{ends};
 ghost use Rattle.pg_fds.specs.declared.error.Unstated.TheVariants.{Memory};

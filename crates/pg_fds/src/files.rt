@@ -4,9 +4,9 @@
 ghost use Rattle.std.specs.Prelude.{◌≡◌, ◌<◌, ◌≤◌, ◌^◌, ◌++◌, ◌∷◌, IfOk, OnOk, length, map, pos, true};
 ghost use Rattle.std.specs.List.{AllByRecursion, list_all};
 ghost use Rattle.std.specs.String.{string_bytes};
-ghost use Rattle.pg_schema.specs.declared.file.Import.{Import};
-ghost use Rattle.pg_schema.specs.FileRules.{is_file_option, option_numbers};
-ghost use Rattle.pg_schema.specs.Pairs.{is_rising};
+ghost use Rattle.pg_schema.specs.declared.parts.file.Import.{Import};
+ghost use Rattle.pg_schema.specs.rules.Files.{is_file_option, option_numbers};
+ghost use Rattle.pg_schema.specs.rules.Pairs.{is_rising};
 ghost use Rattle.pg_schema.specs.Parts.{shape_of};
 ghost use Rattle.pg_dyn.specs.ContentFits.{ItemFits};
 ghost use Rattle.pg_dyn.specs.Message as model;

@@ -3,8 +3,8 @@
 
 ghost use Rattle.std.specs.Prelude.{◌≡◌, ◌++◌, ◌∷◌, [], ℕ, List, true, IfOk, OnErr, OnOk, flat_map};
 ghost use Rattle.std.specs.List.{list_all};
-ghost use Rattle.pg_schema.specs.Scopes.{are_types_in, declared_services, enum_places, is_file_scope, service_places};
-ghost use Rattle.pg_schema.specs.Sound.{IsSound};
+ghost use Rattle.pg_schema.specs.rules.Scopes.{are_types_in, declared_services, enum_places, is_file_scope, service_places};
+ghost use Rattle.pg_schema.specs.rules.Sound.{IsSound};
 ghost use Rattle.pg_fds.specs.InOrder.{StandInOrder, enums_below, file_enums, file_types, types_below};
 ghost use Rattle.pg_fds.specs.Walks.{places_from};
 

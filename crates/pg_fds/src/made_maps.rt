@@ -3,12 +3,12 @@
 ghost use Rattle.std.specs.Prelude.{◌≡◌, ℕ, pos, true, List, None, Some, length, map, IfErr, IfOk, OnErr, OnOk, if◌then◌else◌};
 ghost use Rattle.std.specs.BTreeMap.{get_by_text};
 ghost use Rattle.std.specs.Str.{bytes_eq};
-ghost use Rattle.pg_schema.specs.declared.field.Element.{Element as StatedElement};
-ghost use Rattle.pg_schema.specs.declared.field.Element.TheVariants.{Scalar as ScalarElement};
-ghost use Rattle.pg_schema.specs.declared.field.Field.{Field as StatedField};
-ghost use Rattle.pg_schema.specs.declared.field.Scalar.{Scalar as StatedScalar};
-ghost use Rattle.pg_schema.specs.DeclaredNames.{entry_name};
-ghost use Rattle.pg_schema.specs.FieldRules.{is_known};
+ghost use Rattle.pg_schema.specs.declared.parts.field.Element.{Element as StatedElement};
+ghost use Rattle.pg_schema.specs.declared.parts.field.Element.TheVariants.{Scalar as ScalarElement};
+ghost use Rattle.pg_schema.specs.declared.parts.field.Field.{Field as StatedField};
+ghost use Rattle.pg_schema.specs.declared.parts.field.Scalar.{Scalar as StatedScalar};
+ghost use Rattle.pg_schema.specs.rules.DeclaredNames.{entry_name};
+ghost use Rattle.pg_schema.specs.rules.Fields.{is_known};
 ghost use Rattle.pg_schema.specs.JsonName.{default_json_name};
 ghost use Rattle.pg_schema.specs.Shape.{is_map};
 ghost use Rattle.pg_dyn.specs.Kept.{message_of};

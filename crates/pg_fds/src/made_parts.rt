@@ -2,12 +2,12 @@
 
 ghost use Rattle.std.specs.Prelude.{◌≡◌, List, IfErr, IfOk, map};
 ghost use Rattle.std.specs.List.{AllByRecursion, AllZip};
-ghost use Rattle.pg_schema.specs.declared.enum_type.EnumType.{EnumType as StatedEnum};
-ghost use Rattle.pg_schema.specs.declared.file.File.{File as StatedFile};
-ghost use Rattle.pg_schema.specs.declared.message_type.MessageType.{MessageType as StatedType};
+ghost use Rattle.pg_schema.specs.declared.parts.enum_type.EnumType.{EnumType as StatedEnum};
+ghost use Rattle.pg_schema.specs.declared.parts.file.File.{File as StatedFile};
+ghost use Rattle.pg_schema.specs.declared.parts.message_type.MessageType.{MessageType as StatedType};
 ghost use Rattle.pg_schema.specs.declared.parts.Parts.{Parts as StatedParts};
-ghost use Rattle.pg_schema.specs.declared.service.Service.{Service as StatedService};
-ghost use Rattle.pg_schema.specs.Sound.{IsSound};
+ghost use Rattle.pg_schema.specs.declared.parts.service.Service.{Service as StatedService};
+ghost use Rattle.pg_schema.specs.rules.Sound.{IsSound};
 ghost use Rattle.pg_fds.specs.declared.error.Unstated.TheVariants.{Memory};
 ghost use Rattle.pg_fds.specs.Made.{AreOutlined, HasNames, IsMadeEnum, IsMadeFile, IsMadeService, IsMadeType};
 ghost use Rattle.pg_fds.specs.Places.{Declared};

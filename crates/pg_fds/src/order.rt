@@ -2,8 +2,8 @@
 
 ghost use Rattle.std.specs.Prelude.{◌≡◌, ◌⊎◌, false, true, ℕ, List, IfErr, IfOk, OnOk, map};
 ghost use Rattle.std.specs.List.{AllByRecursion, list_all};
-ghost use Rattle.pg_schema.specs.Pairs.{are_distinct};
-ghost use Rattle.pg_schema.specs.TextSets.{is_among};
+ghost use Rattle.pg_schema.specs.rules.Pairs.{are_distinct};
+ghost use Rattle.pg_schema.specs.rules.TextSets.{is_among};
 ghost use Rattle.pg_dyn.specs.Kept.{message_of};
 ghost use Rattle.pg_fds.specs.declared.error.Unstated.TheVariants as errors;
 ghost use Rattle.pg_fds.specs.Lent.{lent};

@@ -3,12 +3,12 @@
 ghost use Rattle.std.specs.Prelude.{ℕ, ◌≡◌, Bool, List, Some, IfErr, IfOk, OnErr, OnOk, map};
 ghost use Rattle.std.specs.List.{AllByRecursion, list_all};
 ghost use Rattle.pg_schema.specs.declared.parts.Parts.{Parts as StatedParts};
-ghost use Rattle.pg_schema.specs.Sound.{IsSound};
+ghost use Rattle.pg_schema.specs.rules.Sound.{IsSound};
 ghost use Rattle.pg_check.specs.PartErrors.{IsRefusedOf};
-ghost use Rattle.pg_dyn.specs.Decoding.{dec};
+ghost use Rattle.pg_dyn.specs.reading.Decoding.{dec};
 ghost use Rattle.pg_dyn.specs.Fits.{Fits};
 ghost use Rattle.pg_dyn.specs.Kept.{message_of, type_of};
-ghost use Rattle.pg_dyn.specs.Refusals.{MayRefuse};
+ghost use Rattle.pg_dyn.specs.reading.Refusals.{MayRefuse};
 ghost use Rattle.pg_fds.specs.declared.error.FdsError.TheVariants as errors;
 ghost use Rattle.pg_fds.specs.declared.error.Unstated.TheVariants as unstated;
 ghost use Rattle.pg_fds.specs.Building.{written_shape};

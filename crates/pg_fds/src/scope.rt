@@ -2,11 +2,11 @@
 
 ghost use Rattle.std.specs.Prelude.{◌≡◌, ◌++◌, IfOk, OnOk, flat_map, map, slice_get};
 ghost use Rattle.std.specs.String.{string_bytes};
-ghost use Rattle.pg_schema.specs.declared.field.EnumId.{EnumId};
-ghost use Rattle.pg_schema.specs.declared.field.TypeId.{TypeId};
-ghost use Rattle.pg_schema.specs.DeclaredNames.{entry_names, values_at};
-ghost use Rattle.pg_schema.specs.EnumRules.{value_names};
-ghost use Rattle.pg_schema.specs.MessageRules.{field_names};
+ghost use Rattle.pg_schema.specs.declared.parts.field.EnumId.{EnumId};
+ghost use Rattle.pg_schema.specs.declared.parts.field.TypeId.{TypeId};
+ghost use Rattle.pg_schema.specs.rules.DeclaredNames.{entry_names, values_at};
+ghost use Rattle.pg_schema.specs.rules.Enums.{value_names};
+ghost use Rattle.pg_schema.specs.rules.Messages.{field_names};
 ghost use Rattle.pg_fds.specs.Messages.{names_within, own_enum_name, own_type_name, where_found};
 ghost use Rattle.pg_fds.specs.Places.{declared_in};
 

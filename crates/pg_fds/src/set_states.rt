@@ -3,10 +3,10 @@
 ghost use Rattle.std.specs.Prelude.{◌≡◌, ◌<◌, [], true, not, IfErr, IfOk, OnErr, OnOk, IsSomeAnd, ℕ, List, filter, length, map, slice_get};
 ghost use Rattle.std.specs.List.{AllByRecursion, AllZip, Any, list_all, list_any};
 ghost use Rattle.std.specs.Str.{IsUtf8};
-ghost use Rattle.pg_schema.specs.declared.file.File.{File};
-ghost use Rattle.pg_schema.specs.FileRules.{is_file};
-ghost use Rattle.pg_schema.specs.Sound.{IsSound};
-ghost use Rattle.pg_schema.specs.TextSets.{IsSetOf};
+ghost use Rattle.pg_schema.specs.declared.parts.file.File.{File};
+ghost use Rattle.pg_schema.specs.rules.Files.{is_file};
+ghost use Rattle.pg_schema.specs.rules.Sound.{IsSound};
+ghost use Rattle.pg_schema.specs.rules.TextSets.{IsSetOf};
 ghost use Rattle.pg_dyn.specs.Kept.{message_of};
 ghost use Rattle.pg_fds.specs.declared.error.Unstated.TheVariants.{Memory};
 ghost use Rattle.pg_fds.specs.FilePlaces.{AreOrdered, name_at};

@@ -2,7 +2,7 @@
 
 ghost use Rattle.std.specs.Prelude.{◌≡◌, ◌++◌, ◌∷◌, [], ℕ, List, IfOk, OnOk, length, map};
 ghost use Rattle.std.specs.String.{string_bytes};
-ghost use Rattle.pg_schema.specs.TextSets.{IsSetOf};
+ghost use Rattle.pg_schema.specs.rules.TextSets.{IsSetOf};
 ghost use Rattle.pg_fds.specs.Lent.{lent};
 ghost use Rattle.pg_fds.specs.Synthetic.{freed, sign, synthetic_name, synthetic_oneofs, with_underscore};
 

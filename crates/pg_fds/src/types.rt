@@ -1,7 +1,7 @@
 //! Message types and enums of a schema that is written down in rows.
 
 ghost use Rattle.std.specs.Prelude.{◌≡◌, IfOk, map};
-ghost use Rattle.pg_schema.specs.declared.field.Field.{Field};
+ghost use Rattle.pg_schema.specs.declared.parts.field.Field.{Field};
 ghost use Rattle.pg_fds.specs.Descriptor.{type_id};
 ghost use Rattle.pg_fds.specs.Rows.{enum_in, field_in, type_in, value_in};
 ghost use Rattle.pg_fds.specs.Views.{enum_view, field_view, type_view, value_view};

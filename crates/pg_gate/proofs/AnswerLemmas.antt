@@ -7,11 +7,11 @@ use Rattle.pg_schema.specs.Parts.{shape_of}
 use Rattle.pg_schema.specs.Shape.{IsShape, Shape, fields}
 use Rattle.pg_dyn.specs.Breaking.{Breaks, Compatible, is_kept}
 use Rattle.pg_dyn.specs.Comparison.{View, records_outside, same, unshared_bytes}
-use Rattle.pg_dyn.specs.Decoding.{dec}
-use Rattle.pg_dyn.specs.Encoding.{enc}
+use Rattle.pg_dyn.specs.reading.Decoding.{dec}
+use Rattle.pg_dyn.specs.encoding.Encoding.{enc}
 use Rattle.pg_dyn.specs.Kept.{Kept, message_of}
 use Rattle.pg_dyn.specs.Message.{Message, unknown_of}
-use Rattle.pg_dyn.specs.Writing.{bytes_of}
+use Rattle.pg_dyn.specs.encoding.Writing.{bytes_of}
 use Rattle.pg_pairs.specs.declared.choice.Pair.{Pair}
 use Rattle.pg_pairs.specs.Choices.{number_for}
 use Rattle.pg_dyn.specs.declared.view_name.ViewName.{ViewName}

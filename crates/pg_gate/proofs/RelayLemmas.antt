@@ -1,10 +1,10 @@
 -- What is relayed of a plain old message comes home.
 use Rattle.std.proofs.Common.{◌≡◌, ◌≤◌, ℕ, List, length, true, false, true≢false, Option, Some, None, refl, ap, sym, ◌∙◌, subst}
-use Rattle.pg_schema.specs.declared.field.TypeId.{TypeId}
+use Rattle.pg_schema.specs.declared.parts.field.TypeId.{TypeId}
 use Rattle.pg_schema.specs.Shape.{Shape, IsShape}
 use Rattle.pg_dyn.specs.Message.{Message}
-use Rattle.pg_dyn.specs.Encoding.{cap, enc}
-use Rattle.pg_dyn.specs.Decoding.{dec}
+use Rattle.pg_dyn.specs.encoding.Encoding.{cap, enc}
+use Rattle.pg_dyn.specs.reading.Decoding.{dec}
 use Rattle.pg_dyn.specs.Belonging.{IsMessage}
 use Rattle.pg_dyn.specs.Fits.{Fits}
 use Rattle.pg_dyn.specs.Kept.{Kept, message_of, type_of}

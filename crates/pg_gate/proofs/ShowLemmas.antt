@@ -2,7 +2,7 @@
 use Rattle.std.proofs.Common.{◌≡◌, Some}
 use Rattle.clap.specs.Words.{Text}
 use Rattle.pg_link.specs.Walk.{World}
-use Rattle.pg_schema.specs.declared.field.TypeId.{TypeId}
+use Rattle.pg_schema.specs.declared.parts.field.TypeId.{TypeId}
 use Rattle.pg_schema.specs.declared.parts.Parts.{Parts}
 use Rattle.pg_show.specs.Hex.{bytes_in}
 use Rattle.pg_gate.specs.Answer.{IsNamed, Lacks}

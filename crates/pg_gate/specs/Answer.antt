@@ -2,19 +2,19 @@
 -- which numbers of two enums are the same item, and an enum view also which of the others is least; `gate` compares enums by their numbers.
 use Rattle.std.specs.Prelude.{◌≡◌, ◌≢◌, ◌≤◌, length, true, Some, None}
 use Rattle.clap.specs.Words.{Text}
-use Rattle.pg_schema.specs.declared.field.TypeId.{TypeId}
+use Rattle.pg_schema.specs.declared.parts.field.TypeId.{TypeId}
 use Rattle.pg_schema.specs.declared.parts.Parts.{Parts}
 use Rattle.pg_schema.specs.Parts.{name_at, shape_of}
 use Rattle.pg_schema.specs.Shape.{Shape, fields}
 use Rattle.pg_dyn.specs.Belonging.{IsMessage}
 use Rattle.pg_dyn.specs.Breaking.{Breaks, Compatible, Least}
 use Rattle.pg_dyn.specs.Comparison.{View, records_outside, same, unshared_bytes}
-use Rattle.pg_dyn.specs.Decoding.{dec}
-use Rattle.pg_dyn.specs.Encoding.{cap, enc}
+use Rattle.pg_dyn.specs.reading.Decoding.{dec}
+use Rattle.pg_dyn.specs.encoding.Encoding.{cap, enc}
 use Rattle.pg_dyn.specs.Fits.{Fits}
 use Rattle.pg_dyn.specs.Kept.{Kept, message_of, type_of}
 use Rattle.pg_dyn.specs.Message.{IsPlain, Message, unknown_of}
-use Rattle.pg_dyn.specs.Writing.{bytes_of}
+use Rattle.pg_dyn.specs.encoding.Writing.{bytes_of}
 use Rattle.pg_dyn.specs.declared.view_name.ViewName.TheVariants as views
 use Rattle.pg_pairs.specs.declared.choice.Pair.{Pair}
 use Rattle.pg_pairs.specs.EnumView.{EnumView, by_numbers}

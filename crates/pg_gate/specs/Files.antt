@@ -28,7 +28,7 @@ use Rattle.pg_gate.specs.declared.error.Fault.TheVariants as faults
 use Rattle.pg_gate.specs.declared.error.GateError.{GateError}
 use Rattle.pg_gate.specs.declared.error.Side.{Side}
 use Rattle.pg_schema.specs.declared.parts.Parts.{Parts}
-use Rattle.pg_schema.specs.Sound.{IsSound}
+use Rattle.pg_schema.specs.rules.Sound.{IsSound}
 
 abbrev pub paths_of : List (Bor Text) → List Text
 paths_of = map (λ path. path.now)

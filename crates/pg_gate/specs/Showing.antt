@@ -1,10 +1,10 @@
 -- What is shown of bytes, and why nothing is.
 use Rattle.std.specs.Prelude.{◌≡◌, ℕ, Some, None}
 use Rattle.clap.specs.Words.{Text}
-use Rattle.pg_dyn.specs.TooDeep.{TooDeepIn}
+use Rattle.pg_dyn.specs.reading.TooDeep.{TooDeepIn}
 use Rattle.pg_dyn.specs.declared.error.DynError.{DynError}
 use Rattle.pg_dyn.specs.declared.error.DynError.TheVariants as messages
-use Rattle.pg_schema.specs.declared.field.TypeId.{TypeId}
+use Rattle.pg_schema.specs.declared.parts.field.TypeId.{TypeId}
 use Rattle.pg_schema.specs.declared.parts.Parts.{Parts}
 use Rattle.pg_schema.specs.Parts.{shape_of}
 use Rattle.pg_schema.specs.Shape.{fields}

@@ -11,8 +11,8 @@ use Rattle.pg_least.specs.Descent.{IsPath}
 use Rattle.pg_least.specs.declared.witness.Step as stages
 use Rattle.pg_pairs.specs.declared.choice.Choice.{Choice}
 use Rattle.pg_pairs.specs.declared.choice.Pair.{Pair}
-use Rattle.pg_schema.specs.declared.field.Field.{Field}
-use Rattle.pg_schema.specs.declared.field.TypeId.{TypeId}
+use Rattle.pg_schema.specs.declared.parts.field.Field.{Field}
+use Rattle.pg_schema.specs.declared.parts.field.TypeId.{TypeId}
 use Rattle.pg_schema.specs.declared.parts.Parts.{Parts}
 use Rattle.pg_schema.specs.Parts.{field_of, shape_of}
 use Rattle.pg_gate.specs.declared.answer.step.Step.{Step}

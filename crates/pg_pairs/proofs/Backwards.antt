@@ -3,18 +3,18 @@ use Rattle.std.proofs.Common.{◌≡◌, ℕ, ◌<◌, ◌^◌, List, [], ◌∷
 use Rattle.std.specs.List.{AllByRecursion}
 use Rattle.std.specs.declared.cmp.Ordering.TheVariants.{Less}
 use Rattle.std.proofs.lemmas.Bool.{or_left}
-use Rattle.pg_schema.specs.declared.field.Scalar.{Scalar}
-use Rattle.pg_schema.specs.declared.field.Element.{Element}
-use Rattle.pg_schema.specs.declared.field.Element.TheVariants as elements
-use Rattle.pg_schema.specs.declared.field.Presence.{Presence}
-use Rattle.pg_schema.specs.declared.field.Presence.TheVariants as presences
+use Rattle.pg_schema.specs.declared.parts.field.Scalar.{Scalar}
+use Rattle.pg_schema.specs.declared.parts.field.Element.{Element}
+use Rattle.pg_schema.specs.declared.parts.field.Element.TheVariants as elements
+use Rattle.pg_schema.specs.declared.parts.field.Presence.{Presence}
+use Rattle.pg_schema.specs.declared.parts.field.Presence.TheVariants as presences
 use Rattle.pg_schema.specs.Shape.{Shape, FieldShape, PresenceFits, is_singular, is_implicit, is_repeated, is_packable}
 use Rattle.pg_dyn.specs.Message.{Leaf, Part, is_zero, key_cmp}
 use Rattle.pg_dyn.specs.Coding.{form, body, zero_leaf, InRange}
 use Rattle.pg_dyn.specs.Bodies.{IsReadAs}
-use Rattle.pg_dyn.specs.Writing.{key_of}
-use Rattle.pg_dyn.specs.Decoding.{dec, is_child}
-use Rattle.pg_dyn.specs.Encoding.{element_type}
+use Rattle.pg_dyn.specs.encoding.Writing.{key_of}
+use Rattle.pg_dyn.specs.reading.Decoding.{dec, is_child}
+use Rattle.pg_dyn.specs.encoding.Encoding.{element_type}
 use Rattle.pg_dyn.specs.Belonging.{MayBeZero}
 use Rattle.pg_dyn.specs.Comparison.{numbers, Comparand, writes}
 use Rattle.pg_dyn.proofs.Lists.{each_weaker, each_both, each-map, each_of_all}

@@ -2,21 +2,21 @@
 use Rattle.std.proofs.Common.{◌≡◌, ◌<◌, ◌≤◌, ◌↔◌, ℕ, zero, suc, List, [], ◌∷◌, ◌++◌, length, get_or, filter, Bool, true, false, not, IsTrue, nat_eq, Option, Some, None, refl, ap, ap₂, sym, ◌∙◌, subst, arith, eqb-true, eq-eqb, true≢false}
 use Rattle.std.specs.List.{list_all}
 use Rattle.std.proofs.lemmas.Bool.{not-true}
-use Rattle.pg_schema.specs.declared.field.TypeId.{TypeId}
+use Rattle.pg_schema.specs.declared.parts.field.TypeId.{TypeId}
 use Rattle.pg_schema.specs.Shape.{Shape, FieldShape, IsShape, fields, field_at}
 use Rattle.pg_wire.specs.Records.{WireRecord}
 use Rattle.pg_dyn.specs.Belonging.{IsMessage}
 use Rattle.pg_dyn.specs.Breaking.{Breaks, is_kept}
 use Rattle.pg_dyn.specs.Comparison.{View, same}
-use Rattle.pg_dyn.specs.Decoding.{Reader, dec, read_records}
-use Rattle.pg_dyn.specs.Encoding.{cap, enc, encoded_parts}
+use Rattle.pg_dyn.specs.reading.Decoding.{Reader, dec, read_records}
+use Rattle.pg_dyn.specs.encoding.Encoding.{cap, enc, encoded_parts}
 use Rattle.pg_dyn.specs.Fits.{Fits}
 use Rattle.pg_dyn.specs.Kept.{Kept, message_of, type_of}
 use Rattle.pg_dyn.specs.Kept as kept
 use Rattle.pg_dyn.specs.Laws.{ReadsAgain}
 use Rattle.pg_dyn.specs.Message.{Message, unknown_of}
 use Rattle.pg_dyn.specs.Message as model
-use Rattle.pg_dyn.specs.Writing.{records_in}
+use Rattle.pg_dyn.specs.encoding.Writing.{records_in}
 use Rattle.pg_dyn.proofs.PublicLaws.{decoding_is, encoding_spells, kept_by_field, plain_is_kept}
 
 -- ---- types

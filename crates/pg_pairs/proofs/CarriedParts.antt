@@ -1,8 +1,8 @@
 -- What an entry beside another holds makes the message of its choice.
 use Rattle.std.proofs.Common.{◌≡◌, ℕ, Bool, true, false, if◌then◌else◌, [], Some, refl, ap₂}
-use Rattle.pg_schema.specs.declared.field.Scalar.{Scalar}
-use Rattle.pg_schema.specs.declared.field.Element.{Element}
-use Rattle.pg_schema.specs.declared.field.Element.TheVariants as elements
+use Rattle.pg_schema.specs.declared.parts.field.Scalar.{Scalar}
+use Rattle.pg_schema.specs.declared.parts.field.Element.{Element}
+use Rattle.pg_schema.specs.declared.parts.field.Element.TheVariants as elements
 use Rattle.pg_dyn.specs.Message.{ends, with_part}
 use Rattle.pg_dyn.specs.Coding.{form, zero_leaf}
 use Rattle.pg_pairs.specs.declared.item.Small.TheVariants.{Zero, Far}

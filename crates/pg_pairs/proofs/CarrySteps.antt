@@ -1,11 +1,11 @@
 -- What setting the contents of a choice makes: its message.
 use Rattle.std.proofs.Common.{◌≡◌, ℕ, ◌<◌, List, [], ◌∷◌, map, length, Bool, true, false, not, ◌&&◌, nat_eq, nat_lt, if◌then◌else◌, Option, Some, None, option_map, ◌⊎◌, inl, inr, ⊎_elim, refl, ap, ap₂, sym, ◌∙◌, subst, subst₂, append-nil, arith, eqb-true}
 use Rattle.std.specs.List.{AllByRecursion}
-use Rattle.pg_schema.specs.declared.field.TypeId.{TypeId}
-use Rattle.pg_schema.specs.declared.field.Element.{Element}
-use Rattle.pg_schema.specs.declared.field.Element.TheVariants as elements
-use Rattle.pg_schema.specs.declared.field.Presence.{Presence}
-use Rattle.pg_schema.specs.declared.field.Presence.TheVariants as presences
+use Rattle.pg_schema.specs.declared.parts.field.TypeId.{TypeId}
+use Rattle.pg_schema.specs.declared.parts.field.Element.{Element}
+use Rattle.pg_schema.specs.declared.parts.field.Element.TheVariants as elements
+use Rattle.pg_schema.specs.declared.parts.field.Presence.{Presence}
+use Rattle.pg_schema.specs.declared.parts.field.Presence.TheVariants as presences
 use Rattle.std.proofs.lemmas.Bool.{and_left, and_right, cases_Bool, lt-ltb, le-ltb}
 use Rattle.pg_schema.specs.Shape.{Shape, FieldShape, IsField, IsShape, PresenceFits, Rising, fields, field_at, is_repeated}
 use Rattle.pg_dyn.specs.declared.message.Content.{Content}
@@ -17,10 +17,10 @@ use Rattle.pg_dyn.specs.Coding.{form, zero_leaf}
 use Rattle.pg_dyn.specs.Belonging.{LeafFits, IsMessage}
 use Rattle.pg_dyn.specs.Message as model
 use Rattle.pg_dyn.specs.Kept.{Kept, ends, KeptItem, Plain, Msg, type_of, message_of}
-use Rattle.pg_dyn.specs.Content.{same_oneof, is_sibling}
+use Rattle.pg_dyn.specs.reading.Content.{same_oneof, is_sibling}
 use Rattle.pg_dyn.specs.Replacing.{kept_part, kept_onto, kept_from, is_sibling_number, with_content}
 use Rattle.pg_dyn.specs.Seen.{leaf_of, item_seen, content_seen}
-use Rattle.pg_dyn.specs.Setting.{normalized, normalized_by, IsSetTo}
+use Rattle.pg_dyn.specs.setting.Setting.{normalized, normalized_by, IsSetTo}
 use Rattle.pg_dyn.proofs.Lists.{each_at, each_weaker, list_any_none}
 use Rattle.pg_pairs.specs.declared.choice.Choice.{Choice}
 use Rattle.pg_pairs.specs.declared.choice.Pair.{Pair}

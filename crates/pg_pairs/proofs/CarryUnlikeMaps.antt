@@ -2,12 +2,12 @@
 use Rattle.std.proofs.Common.{◌≡◌, ℕ, pos, ◌+◌, ◌<◌, ◌≤◌, ◌^◌, List, [], ◌∷◌, ◌++◌, length, Bool, false, ◌&&◌, nat_eq, Option, Some, None, ◌⊎◌, inl, inr, ⊎_elim, refl, ap, sym, ◌∙◌, subst, arith, append-nil}
 use Rattle.std.specs.List.{AllByRecursion}
 use Rattle.std.proofs.lemmas.Bool.{and_left, and_right, cases_Bool}
-use Rattle.pg_schema.specs.declared.field.TypeId.{TypeId}
-use Rattle.pg_schema.specs.declared.field.Scalar.{Scalar}
-use Rattle.pg_schema.specs.declared.field.Scalar.TheVariants as scalars
-use Rattle.pg_schema.specs.declared.field.Element.{Element}
-use Rattle.pg_schema.specs.declared.field.Element.TheVariants as elements
-use Rattle.pg_schema.specs.declared.field.Presence.TheVariants as presences
+use Rattle.pg_schema.specs.declared.parts.field.TypeId.{TypeId}
+use Rattle.pg_schema.specs.declared.parts.field.Scalar.{Scalar}
+use Rattle.pg_schema.specs.declared.parts.field.Scalar.TheVariants as scalars
+use Rattle.pg_schema.specs.declared.parts.field.Element.{Element}
+use Rattle.pg_schema.specs.declared.parts.field.Element.TheVariants as elements
+use Rattle.pg_schema.specs.declared.parts.field.Presence.TheVariants as presences
 use Rattle.pg_schema.specs.Shape.{Shape, FieldShape, IsShape, fields, field_at, is_packable}
 use Rattle.pg_wire.specs.declared.record.WireType.TheVariants.{Len}
 use Rattle.pg_wire.specs.Varint.{varint}
@@ -15,10 +15,10 @@ use Rattle.pg_wire.specs.Records.{WireRecord, tag, written}
 use Rattle.pg_dyn.specs.Optional.{first_or}
 use Rattle.pg_dyn.specs.Message.{Leaf, Int, Bytes, Item, Plain, Msg, Message, ends, holds, nests, leaf_eq}
 use Rattle.pg_dyn.specs.Coding.{Form, Integer, Single, Double, Text, Raw, form, form_wire, word_bytes, zero_leaf, InRange}
-use Rattle.pg_dyn.specs.Content.{same_wire, is_accepted, takes, plain_content, key_field, value_field, entry_part, leaf_bytes}
-use Rattle.pg_dyn.specs.Writing.{item_record, entry_bytes, records_in, bytes_of}
-use Rattle.pg_dyn.specs.Encoding.{child_type, enc, cap}
-use Rattle.pg_dyn.specs.Decoding.{read_item, dec}
+use Rattle.pg_dyn.specs.reading.Content.{same_wire, is_accepted, takes, plain_content, key_field, value_field, entry_part, leaf_bytes}
+use Rattle.pg_dyn.specs.encoding.Writing.{item_record, entry_bytes, records_in, bytes_of}
+use Rattle.pg_dyn.specs.encoding.Encoding.{child_type, enc, cap}
+use Rattle.pg_dyn.specs.reading.Decoding.{read_item, dec}
 use Rattle.pg_dyn.specs.Belonging.{IsMessage}
 use Rattle.pg_dyn.specs.Comparison.{View, Alike, matches, alike_leaves, same_message, unshared_bytes, Kept}
 use Rattle.pg_dyn.proofs.Lists.{filter_none, option_map_some}

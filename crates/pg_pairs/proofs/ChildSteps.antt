@@ -1,8 +1,8 @@
 -- One step of gathering children: the list and the set of what was seen.
 use Rattle.std.proofs.Common.{◌≡◌, ℕ, List, [], ◌∷◌, ◌++◌, map, Bool, true, false, ◌||◌, cond, Option, Some, None, option_to_list, take, slice_index_or, length, ◌<◌, ◌+◌, zero, suc, get_or, slice_get, refl, ap, sym, ◌∙◌, subst}
 use Rattle.std.specs.BTreeSet.{BTreeSet, contains, Updates}
-use Rattle.pg_schema.specs.declared.field.Field.{Field}
-use Rattle.pg_schema.specs.declared.message_type.MessageType.{MessageType}
+use Rattle.pg_schema.specs.declared.parts.field.Field.{Field}
+use Rattle.pg_schema.specs.declared.parts.message_type.MessageType.{MessageType}
 use Rattle.pg_schema.specs.declared.parts.Parts.{Parts}
 use Rattle.pg_schema.specs.Parts.{field_shape, shape_of, type_at}
 use Rattle.pg_schema.specs.Shape.{Shape, FieldShape, fields, field_at}

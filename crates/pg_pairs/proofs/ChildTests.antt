@@ -1,14 +1,14 @@
 -- The children of two fields, and the tests of them in their comparands.
 use Rattle.std.proofs.Common.{◌≡◌, ℕ, ◌++◌, true, Option, refl}
-use Rattle.pg_schema.specs.declared.field.TypeId.{TypeId}
-use Rattle.pg_schema.specs.declared.field.Element.{Element}
-use Rattle.pg_schema.specs.declared.field.Presence.{Presence}
-use Rattle.pg_schema.specs.declared.field.Presence.TheVariants as presences
+use Rattle.pg_schema.specs.declared.parts.field.TypeId.{TypeId}
+use Rattle.pg_schema.specs.declared.parts.field.Element.{Element}
+use Rattle.pg_schema.specs.declared.parts.field.Presence.{Presence}
+use Rattle.pg_schema.specs.declared.parts.field.Presence.TheVariants as presences
 use Rattle.pg_schema.specs.Shape.{Shape, FieldShape, fields}
 use Rattle.pg_dyn.specs.Message.{Message, unknown_of}
-use Rattle.pg_dyn.specs.Writing.{records_in, bytes_of}
-use Rattle.pg_dyn.specs.Encoding.{encoded_parts, enc}
-use Rattle.pg_dyn.specs.Decoding.{dec}
+use Rattle.pg_dyn.specs.encoding.Writing.{records_in, bytes_of}
+use Rattle.pg_dyn.specs.encoding.Encoding.{encoded_parts, enc}
+use Rattle.pg_dyn.specs.reading.Decoding.{dec}
 use Rattle.pg_dyn.specs.Comparison.{View, same_message, unshared_bytes, expected, same}
 use Rattle.pg_dyn.specs.Breaking.{is_kept}
 use Rattle.pg_pairs.specs.Covering.{message_pair, field_children}

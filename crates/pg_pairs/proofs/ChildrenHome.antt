@@ -1,16 +1,16 @@
 -- The children of a message: the new type keeps them, and they come home.
 use Rattle.std.proofs.Common.{◌≡◌, ℕ, ◌<◌, ◌≤◌, List, ◌++◌, length, Bool, true, false, ◌&&◌, nat_eq, if◌then◌else◌, Option, Some, is_some, refl, ap, ap₂, sym, ◌∙◌, subst, arith, eqb-true}
 use Rattle.std.specs.List.{AllByRecursion}
-use Rattle.pg_schema.specs.declared.field.TypeId.{TypeId}
-use Rattle.pg_schema.specs.declared.field.Element.{Element}
-use Rattle.pg_schema.specs.declared.field.Element.TheVariants as elements
-use Rattle.pg_schema.specs.declared.field.Presence.{Presence}
+use Rattle.pg_schema.specs.declared.parts.field.TypeId.{TypeId}
+use Rattle.pg_schema.specs.declared.parts.field.Element.{Element}
+use Rattle.pg_schema.specs.declared.parts.field.Element.TheVariants as elements
+use Rattle.pg_schema.specs.declared.parts.field.Presence.{Presence}
 use Rattle.pg_schema.specs.Shape.{Shape, FieldShape, IsShape, fields, field_at, is_singular}
 use Rattle.pg_dyn.specs.Message.{Leaf, Bytes, Message, ends, holds, nests, IsPlain, unknown_of}
 use Rattle.pg_dyn.specs.Coding.{form, InRange}
-use Rattle.pg_dyn.specs.Writing.{bytes_of, records_in}
-use Rattle.pg_dyn.specs.Encoding.{cap, child_type, enc, encoded_parts}
-use Rattle.pg_dyn.specs.Decoding.{dec}
+use Rattle.pg_dyn.specs.encoding.Writing.{bytes_of, records_in}
+use Rattle.pg_dyn.specs.encoding.Encoding.{cap, child_type, enc, encoded_parts}
+use Rattle.pg_dyn.specs.reading.Decoding.{dec}
 use Rattle.pg_dyn.specs.Belonging.{IsMessage, LeafFits}
 use Rattle.pg_dyn.specs.OwnParts.{ChildrenShorter}
 use Rattle.pg_dyn.specs.ByComparands.{comparands_at}

@@ -1,11 +1,11 @@
 -- Where the choices of a field stand: those round an item in a field that is no map, those of an entry in a map.
 use Rattle.std.proofs.Common.{◌≡◌, ℕ, List, [], ◌∷◌, ◌++◌, true, false, ◌&&◌, nat_eq, if◌then◌else◌, Option, Some, None, option_map, refl}
 use Rattle.std.specs.List.{AllByRecursion}
-use Rattle.pg_schema.specs.declared.field.Element.{Element}
-use Rattle.pg_schema.specs.declared.field.Element.TheVariants as elements
-use Rattle.pg_schema.specs.declared.field.Presence.{Presence}
-use Rattle.pg_schema.specs.declared.field.Presence.TheVariants as presences
-use Rattle.pg_schema.specs.declared.field.Scalar.{Scalar}
+use Rattle.pg_schema.specs.declared.parts.field.Element.{Element}
+use Rattle.pg_schema.specs.declared.parts.field.Element.TheVariants as elements
+use Rattle.pg_schema.specs.declared.parts.field.Presence.{Presence}
+use Rattle.pg_schema.specs.declared.parts.field.Presence.TheVariants as presences
+use Rattle.pg_schema.specs.declared.parts.field.Scalar.{Scalar}
 use Rattle.pg_schema.specs.Shape.{FieldShape, is_map}
 use Rattle.pg_dyn.proofs.Lists.{each-append}
 use Rattle.pg_pairs.specs.declared.choice.Choice.{Choice}

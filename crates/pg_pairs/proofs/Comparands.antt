@@ -1,12 +1,12 @@
 -- The comparands of a field: what they hold, what they cost, and whether a reader sees them.
 use Rattle.std.proofs.Common.{◌≡◌, ℕ, ◌+◌, ◌≤◌, List, [], length, map, flat_map, Bool, true, false, Option, Some, None, unwrap_or, refl, ap, sym, ◌∙◌, subst, arith, length-append}
 use Rattle.std.specs.List.{AllByRecursion}
-use Rattle.pg_schema.specs.declared.field.TypeId.{TypeId}
-use Rattle.pg_schema.specs.declared.field.Scalar.{Scalar}
-use Rattle.pg_schema.specs.declared.field.Element.{Element}
-use Rattle.pg_schema.specs.declared.field.Element.TheVariants as elements
-use Rattle.pg_schema.specs.declared.field.Presence.{Presence}
-use Rattle.pg_schema.specs.declared.field.Presence.TheVariants as presences
+use Rattle.pg_schema.specs.declared.parts.field.TypeId.{TypeId}
+use Rattle.pg_schema.specs.declared.parts.field.Scalar.{Scalar}
+use Rattle.pg_schema.specs.declared.parts.field.Element.{Element}
+use Rattle.pg_schema.specs.declared.parts.field.Element.TheVariants as elements
+use Rattle.pg_schema.specs.declared.parts.field.Presence.{Presence}
+use Rattle.pg_schema.specs.declared.parts.field.Presence.TheVariants as presences
 use Rattle.pg_schema.specs.Shape.{FieldShape, PresenceFits}
 use Rattle.pg_wire.specs.declared.record.WireType.{WireType}
 use Rattle.pg_wire.specs.declared.record.WireType.TheVariants.{Varint, I64, Len, I32}
@@ -14,8 +14,8 @@ use Rattle.pg_wire.specs.Varint.{varint}
 use Rattle.pg_wire.specs.Records.{WireRecord, tag, written}
 use Rattle.pg_dyn.specs.Message.{Leaf, Bytes, Plain, Message, Part, is_zero}
 use Rattle.pg_dyn.specs.Coding.{form, form_wire, body, zero_leaf, InRange}
-use Rattle.pg_dyn.specs.Writing.{item_record, entry_bytes, key_of, field_records, bytes_of}
-use Rattle.pg_dyn.specs.Decoding.{Reader, is_child, read_item}
+use Rattle.pg_dyn.specs.encoding.Writing.{item_record, entry_bytes, key_of, field_records, bytes_of}
+use Rattle.pg_dyn.specs.reading.Decoding.{Reader, is_child, read_item}
 use Rattle.pg_dyn.specs.Belonging.{KeyFits}
 use Rattle.pg_dyn.specs.Comparison.{View, Alike, Kept}
 use Rattle.pg_pairs.proofs.Packed.{Reads}

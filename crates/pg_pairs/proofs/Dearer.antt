@@ -3,7 +3,7 @@ use Rattle.std.proofs.Common.{length, ◌≡◌, ℕ, ◌<◌, ◌≤◌, Bool, 
 use Rattle.std.specs.List.{AllByRecursion}
 use Rattle.std.proofs.lemmas.Bool.{leb-false}
 use Rattle.pg_schema.specs.Shape.{Shape, FieldShape, IsShape, fields, field_at}
-use Rattle.pg_dyn.specs.Encoding.{cap, enc}
+use Rattle.pg_dyn.specs.encoding.Encoding.{cap, enc}
 use Rattle.pg_dyn.proofs.Lists.{each_unfiltered}
 use Rattle.pg_pairs.specs.declared.choice.Choice.{Choice}
 use Rattle.pg_pairs.specs.declared.choice.Pair.{Pair}
@@ -15,7 +15,7 @@ use Rattle.pg_pairs.specs.Laws.{IsReached}
 use Rattle.pg_pairs.proofs.Choosing.{field_allowed, same_pair-true}
 use Rattle.pg_pairs.proofs.Reached.{choices_reached}
 use Rattle.pg_pairs.proofs.Reaching.{every_is_among}
-use Rattle.pg_schema.specs.declared.field.TypeId.{TypeId}
+use Rattle.pg_schema.specs.declared.parts.field.TypeId.{TypeId}
 use Rattle.pg_dyn.specs.Message.{Message}
 use Rattle.pg_dyn.specs.Comparison.{numbers}
 use Rattle.pg_dyn.specs.Breaking.{Breaks}

@@ -4,14 +4,14 @@ use Rattle.std.specs.List.{AllByRecursion, IsDistinct, list_any}
 use Rattle.std.proofs.lemmas.Bool.{and_parts, leb-true}
 use Rattle.std.proofs.lemmas.List.{length-map}
 use Rattle.std.proofs.lemmas.Map.Steps.{length-le_from_distinct_below}
-use Rattle.pg_schema.specs.declared.field.TypeId.{TypeId}
-use Rattle.pg_schema.specs.declared.field.Element.{Element}
-use Rattle.pg_schema.specs.declared.field.Element.TheVariants as elements
-use Rattle.pg_schema.specs.declared.field.Presence.{Presence}
-use Rattle.pg_schema.specs.declared.field.Presence.TheVariants as presences
+use Rattle.pg_schema.specs.declared.parts.field.TypeId.{TypeId}
+use Rattle.pg_schema.specs.declared.parts.field.Element.{Element}
+use Rattle.pg_schema.specs.declared.parts.field.Element.TheVariants as elements
+use Rattle.pg_schema.specs.declared.parts.field.Presence.{Presence}
+use Rattle.pg_schema.specs.declared.parts.field.Presence.TheVariants as presences
 use Rattle.pg_schema.specs.Shape.{Shape, FieldShape, ElementFits, IsField, IsShape, Rising, field_at, fields}
 use Rattle.pg_wire.proofs.PublicLaws.{lengths_grow}
-use Rattle.pg_dyn.specs.Encoding.{cap}
+use Rattle.pg_dyn.specs.encoding.Encoding.{cap}
 use Rattle.pg_dyn.proofs.Lists.{each_at, each_filtered, each-flat_map, each_weaker}
 use Rattle.pg_dyn.proofs.PublicLaws.{fields_are_found}
 use Rattle.pg_pairs.specs.declared.choice.Pair.{Pair}

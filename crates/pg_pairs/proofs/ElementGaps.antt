@@ -1,7 +1,7 @@
 -- The gap between elements that are no messages, and which items aren't seen.
 use Rattle.std.proofs.Common.{◌≡◌, Bool, true, false, ◌&&◌, Some, refl, ap, sym, ◌∙◌}
-use Rattle.pg_schema.specs.declared.field.Element.{Element}
-use Rattle.pg_schema.specs.declared.field.Element.TheVariants as elements
+use Rattle.pg_schema.specs.declared.parts.field.Element.{Element}
+use Rattle.pg_schema.specs.declared.parts.field.Element.TheVariants as elements
 use Rattle.pg_dyn.specs.Message.{Leaf, Int, F32, F64, Bytes, is_zero, leaf_eq}
 use Rattle.pg_dyn.specs.Coding.{Form, Integer, Single, Double, Text, Raw, form, zero_leaf, InRange}
 use Rattle.pg_dyn.specs.Comparison.{numbers, alike_leaves}

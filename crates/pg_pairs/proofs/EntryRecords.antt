@@ -1,13 +1,13 @@
 -- The two records of an entry, with what is known of its key and its value.
 use Rattle.std.proofs.Common.{◌≡◌, ◌<◌, ◌^◌, List, [], ◌∷◌, length, Ok}
-use Rattle.pg_schema.specs.declared.field.Scalar.{Scalar}
-use Rattle.pg_schema.specs.declared.field.Element.{Element}
-use Rattle.pg_schema.specs.declared.field.Element.TheVariants as elements
+use Rattle.pg_schema.specs.declared.parts.field.Scalar.{Scalar}
+use Rattle.pg_schema.specs.declared.parts.field.Element.{Element}
+use Rattle.pg_schema.specs.declared.parts.field.Element.TheVariants as elements
 use Rattle.pg_wire.specs.Records.{WireRecord, records_of}
 use Rattle.pg_dyn.specs.Message.{Leaf}
 use Rattle.pg_dyn.specs.Coding.{form, body}
 use Rattle.pg_dyn.specs.Bodies.{IsNestedLeaf}
-use Rattle.pg_dyn.specs.Writing.{item_record, entry_bytes}
+use Rattle.pg_dyn.specs.encoding.Writing.{item_record, entry_bytes}
 use Rattle.pg_pairs.proofs.Packed.{Reads}
 use Rattle.pg_dyn.proofs.PublicLaws.{entry_bodies_read}
 

@@ -1,6 +1,6 @@
 -- What a view that keeps its law sees is an enum view, for enums that aren't there too.
 use Rattle.std.proofs.Common.{◌≡◌, ℤ, Bool, true, Option, Some, None, refl}
-use Rattle.pg_schema.specs.declared.enum_type.EnumType.{EnumType}
+use Rattle.pg_schema.specs.declared.parts.enum_type.EnumType.{EnumType}
 use Rattle.pg_schema.specs.declared.parts.Parts.{Parts}
 use Rattle.pg_schema.specs.Parts.{enum_at}
 use Rattle.pg_dyn.specs.declared.view_name.ViewName.{ViewName}

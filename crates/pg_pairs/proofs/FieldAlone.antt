@@ -1,13 +1,13 @@
 -- A message that breaks with the content of one field alone costs at least the field's cheapest choice.
 use Rattle.std.proofs.Common.{◌≡◌, ℕ, ◌≤◌, List, [], ◌∷◌, length, false, Option, Some, None, refl, subst, arith}
 use Rattle.std.specs.List.{AllByRecursion}
-use Rattle.pg_schema.specs.declared.field.Element.{Element}
-use Rattle.pg_schema.specs.declared.field.Element.TheVariants as elements
-use Rattle.pg_schema.specs.declared.field.Presence.{Presence}
+use Rattle.pg_schema.specs.declared.parts.field.Element.{Element}
+use Rattle.pg_schema.specs.declared.parts.field.Element.TheVariants as elements
+use Rattle.pg_schema.specs.declared.parts.field.Presence.{Presence}
 use Rattle.pg_schema.specs.Shape.{Shape, FieldShape, IsShape}
 use Rattle.pg_dyn.specs.Message.{Leaf, Item, Plain, Msg, Message}
-use Rattle.pg_dyn.specs.Encoding.{enc}
-use Rattle.pg_dyn.specs.Decoding.{dec}
+use Rattle.pg_dyn.specs.encoding.Encoding.{enc}
+use Rattle.pg_dyn.specs.reading.Decoding.{dec}
 use Rattle.pg_dyn.specs.Belonging.{LeafFits}
 use Rattle.pg_dyn.specs.Comparison.{View, Comparand, comparands}
 use Rattle.pg_dyn.proofs.Lists.{each_of_all}

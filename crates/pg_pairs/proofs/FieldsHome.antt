@@ -3,15 +3,15 @@ use Rattle.std.proofs.Common.{◌≡◌, ℕ, List, [], ◌∷◌, map, filter, 
 use Rattle.std.specs.List.{AllByRecursion}
 use Rattle.std.proofs.lemmas.Bool.{and_from, and_parts, and_right, or_right}
 use lib.Pointwise.{pointwise}
-use Rattle.pg_schema.specs.declared.field.Element.{Element}
-use Rattle.pg_schema.specs.declared.field.Element.TheVariants as elements
-use Rattle.pg_schema.specs.declared.field.Presence.TheVariants as presences
+use Rattle.pg_schema.specs.declared.parts.field.Element.{Element}
+use Rattle.pg_schema.specs.declared.parts.field.Element.TheVariants as elements
+use Rattle.pg_schema.specs.declared.parts.field.Presence.TheVariants as presences
 use Rattle.pg_schema.specs.Shape.{Shape, FieldShape}
 use Rattle.pg_wire.specs.Records.{WireRecord}
 use Rattle.pg_dyn.specs.Message.{Item, Plain, Msg, Part, is_of, is_zero}
-use Rattle.pg_dyn.specs.Content.{takes}
-use Rattle.pg_dyn.specs.Writing.{field_records}
-use Rattle.pg_dyn.specs.Decoding.{Reader, is_readable}
+use Rattle.pg_dyn.specs.reading.Content.{takes}
+use Rattle.pg_dyn.specs.encoding.Writing.{field_records}
+use Rattle.pg_dyn.specs.reading.Decoding.{Reader, is_readable}
 use Rattle.pg_dyn.specs.Comparison.{Expected, Alike, Kept, Comparand, numbers, writes, expects, is_zero_expected, is_zero_item, same_key, matches, shown}
 use Rattle.pg_dyn.specs.ByComparands.{field_read, all_field_readable}
 use Rattle.pg_dyn.proofs.Lists.{each_weaker, filter_all, filter-filter_weaker, list_all_each, map_map}

@@ -6,13 +6,13 @@ use Rattle.pg_schema.specs.Shape.{FieldShape, Rising, field_at}
 use Rattle.pg_wire.specs.Records.{WireRecord}
 use Rattle.pg_dyn.specs.Optional.{all_some, joined}
 use Rattle.pg_dyn.specs.Message.{Item, Message, Part, is_of, parts, message_from}
-use Rattle.pg_dyn.specs.Content.{takes, is_sibling, is_unknown, counted, content}
-use Rattle.pg_dyn.specs.Decoding.{Reader, is_readable, all_readable, read_part, field_parts, read_records}
+use Rattle.pg_dyn.specs.reading.Content.{takes, is_sibling, is_unknown, counted, content}
+use Rattle.pg_dyn.specs.reading.Decoding.{Reader, is_readable, all_readable, read_part, field_parts, read_records}
 use Rattle.pg_dyn.specs.Laws.{of_number}
 use Rattle.pg_dyn.specs.ByComparands.{field_read, all_field_readable}
 use Rattle.pg_dyn.proofs.Lists.{all_some-map, each_weaker, each_of_all, each_swap, filtered_out, list_all_each, list_all_true, list_any_none, after_last_of_none, filter-after_last_of_none, filter-filter_weaker, each_unfiltered}
-use Rattle.pg_dyn.proofs.Splitting.{each_found, takes_number}
-use Rattle.pg_dyn.proofs.ReadSplits.{reading_of, field_split}
+use Rattle.pg_dyn.proofs.lemmas.Splitting.{each_found, takes_number}
+use Rattle.pg_dyn.proofs.lemmas.ReadSplits.{reading_of, field_split}
 
 module _ (child : Reader) (fs : List FieldShape) (rising : Rising fs) (rs : List WireRecord) (own : FieldShape → List WireRecord)
     (numbered : (f : FieldShape) → field_at fs f.number ≡ Some f → filter (of_number f.number) rs ≡ own f)

@@ -1,15 +1,15 @@
 -- Messages come home: by induction over the message.
 use Rattle.std.proofs.Common.{◌≡◌, ℕ, length, true, Some, sym, ◌∙◌, true≢false}
 use Rattle.std.proofs.lemmas.Bool.{false_from_ne_true}
-use Rattle.pg_schema.specs.declared.field.TypeId.{TypeId}
+use Rattle.pg_schema.specs.declared.parts.field.TypeId.{TypeId}
 use Rattle.pg_schema.specs.Shape.{Shape, IsShape}
 use Rattle.pg_dyn.specs.Message.{Message, ends, holds, nests}
-use Rattle.pg_dyn.specs.Encoding.{enc}
-use Rattle.pg_dyn.specs.Decoding.{dec}
+use Rattle.pg_dyn.specs.encoding.Encoding.{enc}
+use Rattle.pg_dyn.specs.reading.Decoding.{dec}
 use Rattle.pg_dyn.specs.Comparison.{View}
 use Rattle.pg_dyn.specs.Breaking.{Compatible, is_kept}
 use Rattle.pg_pairs.specs.Home.{home, comes_home}
-use Rattle.pg_dyn.proofs.ViewNames.{kept_by_number}
+use Rattle.pg_dyn.proofs.lemmas.ViewNames.{kept_by_number}
 use Rattle.pg_pairs.proofs.Dearer.{CompatibleTo}
 use Rattle.pg_pairs.proofs.ChildrenHome.{ComesHome, ChildrenComeHome}
 use Rattle.pg_pairs.specs.ComesHome.{MessagesComeHome}

@@ -1,15 +1,15 @@
 -- The parts of an old message as they are written and as they must come home.
 use Rattle.std.proofs.Common.{◌≡◌, ℕ, map, filter, refl, ap, sym, ◌∙◌, List, [], ◌∷◌, ◌++◌, if◌then◌else◌, is_some}
-use Rattle.pg_schema.specs.declared.field.TypeId.{TypeId}
+use Rattle.pg_schema.specs.declared.parts.field.TypeId.{TypeId}
 use Rattle.pg_schema.specs.Shape.{Shape, fields, field_at}
 use Rattle.pg_dyn.specs.Message.{Message, ends, holds, nests, is_of, Bytes, unknown_of}
-use Rattle.pg_dyn.specs.Encoding.{encoded_parts, child_type}
+use Rattle.pg_dyn.specs.encoding.Encoding.{encoded_parts, child_type}
 use Rattle.pg_dyn.specs.Comparison.{numbers, comparands, expects, writes, Alike, Kept, Comparand}
 use Rattle.pg_dyn.specs.ByComparands.{comparands_at}
 use Rattle.pg_dyn.proofs.Lists.{filter-map}
 use Rattle.pg_pairs.specs.Home.{homeward, home_message, message_eq}
 use Rattle.pg_dyn.proofs.PublicLaws.{comparands_are_written}
-use Rattle.pg_dyn.specs.Writing.{bytes_of, records_in}
+use Rattle.pg_dyn.specs.encoding.Writing.{bytes_of, records_in}
 
 abbrev pub home_comparands : Shape → Shape → TypeId → TypeId → Message → List Comparand
 home_comparands old new a b (ends unknown) = []

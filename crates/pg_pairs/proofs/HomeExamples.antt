@@ -1,15 +1,15 @@
 -- The examples of what comes home, by computation.
 use Rattle.std.proofs.Common.{◌≡◌, true, false, inl, ⊎_elim, refl, sym, subst, true≢false}
 use Rattle.std.specs.Str.{is_utf8, chars}
-use Rattle.pg_schema.specs.declared.field.Presence.TheVariants.{Repeated}
+use Rattle.pg_schema.specs.declared.parts.field.Presence.TheVariants.{Repeated}
 use Rattle.pg_schema.specs.Shape.{Shape}
 use Rattle.pg_wire.specs.Reading.{exactly, row}
 use Rattle.pg_wire.specs.Varint.{varint_at, varint}
 use Rattle.pg_wire.specs.Words.{signed, unzigzag}
 use Rattle.pg_wire.specs.Records.{tag_parts, record_at, records_of, tag, written}
 use Rattle.pg_dyn.specs.Coding.{word_bytes, word_in}
-use Rattle.pg_dyn.specs.Encoding.{enc}
-use Rattle.pg_dyn.specs.Decoding.{dec}
+use Rattle.pg_dyn.specs.encoding.Encoding.{enc}
+use Rattle.pg_dyn.specs.reading.Decoding.{dec}
 use Rattle.pg_dyn.specs.Examples.{first, second, int32, tree}
 use Rattle.pg_pairs.specs.declared.choice.Pair.{Pair}
 use Rattle.pg_pairs.specs.Among.{IsAmong}

@@ -1,25 +1,25 @@
 -- One message, whose children come home.
 use Rattle.std.proofs.Common.{◌≡◌, ℕ, ◌^◌, ◌<◌, ◌≤◌, List, [], ◌∷◌, ◌++◌, length, map, filter, Bool, true, false, not, cond, nat_eq, ◌||◌, Option, Some, None, unwrap_or, ◌⊎◌, inl, inr, ⊎_elim, refl, ap, ap₂, sym, ◌∙◌, subst, arith, append-nil, length-append, eqb-true}
 use Rattle.std.specs.List.{AllByRecursion}
-use Rattle.pg_schema.specs.declared.field.TypeId.{TypeId}
-use Rattle.pg_schema.specs.declared.field.Element.{Element}
-use Rattle.pg_schema.specs.declared.field.Element.TheVariants as elements
-use Rattle.pg_schema.specs.declared.field.Presence.{Presence}
-use Rattle.pg_schema.specs.declared.field.Presence.TheVariants as presences
+use Rattle.pg_schema.specs.declared.parts.field.TypeId.{TypeId}
+use Rattle.pg_schema.specs.declared.parts.field.Element.{Element}
+use Rattle.pg_schema.specs.declared.parts.field.Element.TheVariants as elements
+use Rattle.pg_schema.specs.declared.parts.field.Presence.{Presence}
+use Rattle.pg_schema.specs.declared.parts.field.Presence.TheVariants as presences
 use Rattle.pg_schema.specs.Shape.{Shape, FieldShape, PresenceFits, fields, field_at}
 use Rattle.pg_wire.specs.Records.{WireRecord}
 use Rattle.pg_dyn.specs.Message.{Leaf, Bytes, Item, Message, Part, is_of, is_zero, parts, unknown_of}
-use Rattle.pg_dyn.specs.Content.{takes, is_unknown}
+use Rattle.pg_dyn.specs.reading.Content.{takes, is_unknown}
 use Rattle.pg_dyn.specs.Coding.{form, InRange}
-use Rattle.pg_dyn.specs.Writing.{item_record, bytes_of, field_records, records_in}
-use Rattle.pg_dyn.specs.Encoding.{child_type, element_type, enc, encoded_parts}
-use Rattle.pg_dyn.specs.Decoding.{dec, read_records}
+use Rattle.pg_dyn.specs.encoding.Writing.{item_record, bytes_of, field_records, records_in}
+use Rattle.pg_dyn.specs.encoding.Encoding.{child_type, element_type, enc, encoded_parts}
+use Rattle.pg_dyn.specs.reading.Decoding.{dec, read_records}
 use Rattle.pg_dyn.specs.OwnParts.{ChildrenShorter}
 use Rattle.pg_dyn.specs.Comparison.{numbers, Alike, Expected, Comparand, comparands, writes, expects, is_zero_expected}
 use Rattle.pg_dyn.specs.ByComparands.{comparands_at, field_read, all_field_readable}
 use Rattle.pg_dyn.specs.Laws.{of_number}
 use Rattle.pg_dyn.proofs.Lists.{each_weaker, each_both, map_map, each-filter, each_filtered, filter_none, filter-map, list_all_each, list_any_at, each_of_all}
-use Rattle.pg_dyn.proofs.Splitting.{each_found}
+use Rattle.pg_dyn.proofs.lemmas.Splitting.{each_found}
 use Rattle.pg_pairs.specs.Likeness.{like}
 use Rattle.pg_pairs.specs.Edges.{no_bounds}
 use Rattle.pg_pairs.specs.Home.{home, home_content, home_message, homeward}

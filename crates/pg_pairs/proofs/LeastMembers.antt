@@ -3,7 +3,7 @@ use Rattle.std.proofs.Common.{◌≡◌, ℕ, ◌+◌, List, [], ◌∷◌, ◌+
 use Rattle.std.specs.HashMap.{HashMap, get, Updates}
 use Rattle.std.proofs.lemmas.Bool.{leb-true, leb-false, le-leb, lt-leb}
 use Rattle.pg_schema.specs.Shape.{FieldShape}
-use Rattle.pg_dyn.specs.Content.{same_oneof}
+use Rattle.pg_dyn.specs.reading.Content.{same_oneof}
 use Rattle.pg_pairs.specs.declared.choice.Choice.{Choice}
 use Rattle.pg_pairs.specs.declared.least_member.Member.{Member}
 use Rattle.pg_pairs.specs.declared.least_member.Two.{Two}

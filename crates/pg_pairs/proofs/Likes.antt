@@ -1,10 +1,10 @@
 -- Like elements, either way round.
 use Rattle.std.proofs.Common.{◌≡◌, true, refl, subst}
-use Rattle.pg_schema.specs.declared.field.Element.{Element}
-use Rattle.pg_schema.specs.declared.field.Element.TheVariants as elements
+use Rattle.pg_schema.specs.declared.parts.field.Element.{Element}
+use Rattle.pg_schema.specs.declared.parts.field.Element.TheVariants as elements
 use Rattle.pg_dyn.specs.Coding.{Form, Integer, Single, Double, Text, Raw, form}
-use Rattle.pg_dyn.specs.Content.{same_wire}
-use Rattle.pg_dyn.proofs.Plain.{same_wire_self}
+use Rattle.pg_dyn.specs.reading.Content.{same_wire}
+use Rattle.pg_dyn.proofs.lemmas.Plain.{same_wire_self}
 use Rattle.pg_pairs.specs.Likeness.{like, like_forms}
 use Rattle.pg_pairs.proofs.Likeness.{same_wire-true}
 use Rattle.pg_pairs.proofs.GapItems.{IsLeafy}

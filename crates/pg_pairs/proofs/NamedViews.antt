@@ -1,6 +1,6 @@
 -- A view sees between two schemas what the view of its name does: there is only one least number that differs.
 use Rattle.std.proofs.Common.{◌≡◌, ℤ, Bool, Option, Some, None, refl}
-use Rattle.pg_schema.specs.declared.enum_type.EnumType.{EnumType}
+use Rattle.pg_schema.specs.declared.parts.enum_type.EnumType.{EnumType}
 use Rattle.pg_schema.specs.declared.parts.Parts.{Parts}
 use Rattle.pg_schema.specs.Parts.{enum_at}
 use Rattle.pg_dyn.specs.declared.view_name.ViewName.{ViewName}

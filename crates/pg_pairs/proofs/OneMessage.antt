@@ -3,14 +3,14 @@
 use Rattle.std.proofs.Common.{◌≡◌, ℕ, ◌+◌, ◌<◌, ◌≤◌, ◌≢◌, List, [], ◌∷◌, ◌++◌, length, map, filter, flat_map, true, false, not, nat_eq, cond, Some, None, ◌⊎◌, inl, inr, ⊎_elim, refl, ap, sym, ◌∙◌, subst, arith, eqb-true, ne_eqb, append-nil, length-append}
 use Rattle.std.specs.List.{AllByRecursion}
 use Rattle.std.proofs.lemmas.Bool.{and_parts, and_from, cases_Bool, cases_lt}
-use Rattle.pg_schema.specs.declared.field.TypeId.{TypeId}
+use Rattle.pg_schema.specs.declared.parts.field.TypeId.{TypeId}
 use Rattle.pg_schema.specs.Shape.{Shape, FieldShape, IsField, IsType, IsShape, Rising, PresenceFits, fields, field_at}
 use Rattle.pg_wire.specs.Records.{WireRecord}
 use Rattle.pg_dyn.specs.Message.{Message, ends, holds, nests, IsPlain, is_of}
 use Rattle.pg_dyn.specs.Coding.{form}
-use Rattle.pg_dyn.specs.Content.{same_oneof, is_sibling}
-use Rattle.pg_dyn.specs.Writing.{field_records, records_in, bytes_of}
-use Rattle.pg_dyn.specs.Encoding.{encoded_parts, enc}
+use Rattle.pg_dyn.specs.reading.Content.{same_oneof, is_sibling}
+use Rattle.pg_dyn.specs.encoding.Writing.{field_records, records_in, bytes_of}
+use Rattle.pg_dyn.specs.encoding.Encoding.{encoded_parts, enc}
 use Rattle.pg_dyn.specs.Belonging.{IsMessage}
 use Rattle.pg_dyn.specs.Comparison.{View, Comparand, writes, comparands}
 use Rattle.pg_dyn.specs.ByComparands.{comparands_at}

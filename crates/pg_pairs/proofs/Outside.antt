@@ -3,11 +3,11 @@ use Rattle.std.proofs.Common.{◌≡◌, ℕ, List, ◌∷◌, Bool, true, false
 use Rattle.std.specs.Str.{bytes_eq}
 use Rattle.std.proofs.lemmas.Bool.{and_from}
 use lib.Pointwise.{pointwise}
-use Rattle.pg_schema.specs.declared.field.TypeId.{TypeId}
+use Rattle.pg_schema.specs.declared.parts.field.TypeId.{TypeId}
 use Rattle.pg_schema.specs.Shape.{Shape, FieldShape, fields, field_at}
 use Rattle.pg_dyn.specs.Message.{Bytes, Item, Plain, Msg, Message, ends, holds, nests, Part, parts}
-use Rattle.pg_dyn.specs.Writing.{bytes_of}
-use Rattle.pg_dyn.specs.Encoding.{child_type}
+use Rattle.pg_dyn.specs.encoding.Writing.{bytes_of}
+use Rattle.pg_dyn.specs.encoding.Encoding.{child_type}
 use Rattle.pg_dyn.specs.Comparison.{Expected, Alike, Kept, numbers, is_zero_expected, is_zero_item, same_key, matches, shown}
 use Rattle.pg_pairs.specs.Home.{home_content, home_message, homeward, message_eq}
 use Rattle.pg_dyn.proofs.PublicLaws.{equal_leaves}

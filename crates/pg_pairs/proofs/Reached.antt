@@ -4,8 +4,8 @@ use Rattle.std.specs.List.{AllByRecursion}
 use Rattle.std.proofs.lemmas.Bool.{and_parts, leb-true, not-true}
 use Rattle.pg_schema.specs.Shape.{Shape, FieldShape, PresenceFits, IsField, IsShape, Rising, fields, field_at}
 use Rattle.pg_dyn.specs.Message.{Message}
-use Rattle.pg_dyn.specs.Content.{same_oneof}
-use Rattle.pg_dyn.specs.Encoding.{cap}
+use Rattle.pg_dyn.specs.reading.Content.{same_oneof}
+use Rattle.pg_dyn.specs.encoding.Encoding.{cap}
 use Rattle.pg_dyn.proofs.Lists.{each-append, each_both, each_weaker, each_at}
 use Rattle.pg_pairs.specs.declared.choice.Choice.{Choice}
 use Rattle.pg_pairs.specs.declared.choice.Pair.{Pair}

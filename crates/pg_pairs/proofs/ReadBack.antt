@@ -1,9 +1,9 @@
 -- An item that is read across two types as itself has the same body in both.
 use Rattle.std.proofs.Common.{◌≡◌, ℕ, ℤ, pos, negsuc, ◌*◌, ◌/◌, ◌%◌, ◌^◌, ◌<◌, ◌≤◌, true, false, [], Option, Some, refl, ap, sym, ◌∙◌, subst, arith, lt-ltb, le-ltb, eq-eqb, ne_eqb, ⊎_elim}
 use Rattle.std.proofs.lemmas.Bool.{cases_eq, cases_lt}
-use Rattle.pg_schema.specs.declared.field.Scalar.{Scalar}
-use Rattle.pg_schema.specs.declared.field.Scalar.TheVariants as scalars
-use Rattle.pg_schema.specs.declared.field.Element.TheVariants as elements
+use Rattle.pg_schema.specs.declared.parts.field.Scalar.{Scalar}
+use Rattle.pg_schema.specs.declared.parts.field.Scalar.TheVariants as scalars
+use Rattle.pg_schema.specs.declared.parts.field.Element.TheVariants as elements
 use Rattle.pg_wire.specs.Varint.{varint, varint_value}
 use Rattle.pg_wire.specs.Words.{IsBetween, signed, twos_complement, unzigzag, zigzag}
 use Rattle.pg_wire.specs.declared.record.WireType.TheVariants.{Varint}

@@ -2,23 +2,23 @@
 use Rattle.std.proofs.Common.{◌≡◌, ℕ, ◌^◌, ◌<◌, ◌≤◌, List, [], ◌∷◌, ◌++◌, length, map, filter, true, false, not, ◌||◌, Option, Some, None, Ok, ◌⊎◌, inl, inr, ⊎_elim, refl, ap, ap₂, sym, ◌∙◌, subst, arith, append-nil, eqb-true}
 use Rattle.std.specs.List.{AllByRecursion, list_all}
 use Rattle.std.proofs.lemmas.Bool.{false_from_ne_true}
-use Rattle.pg_schema.specs.declared.field.TypeId.{TypeId}
+use Rattle.pg_schema.specs.declared.parts.field.TypeId.{TypeId}
 use Rattle.pg_schema.specs.Shape.{Shape, FieldShape, IsType, IsShape, fields, field_at}
 use Rattle.pg_wire.specs.Records.{WireRecord, records_of}
 use Rattle.pg_dyn.specs.Message.{Item, Message, Part, IsPlain, is_of, parts, unknown_of}
-use Rattle.pg_dyn.specs.Content.{takes, is_sibling, is_unknown}
-use Rattle.pg_dyn.specs.Writing.{field_records, records_in}
-use Rattle.pg_dyn.specs.Encoding.{cap, enc, encoded_parts}
-use Rattle.pg_dyn.specs.Decoding.{dec, is_readable, read_records}
+use Rattle.pg_dyn.specs.reading.Content.{takes, is_sibling, is_unknown}
+use Rattle.pg_dyn.specs.encoding.Writing.{field_records, records_in}
+use Rattle.pg_dyn.specs.encoding.Encoding.{cap, enc, encoded_parts}
+use Rattle.pg_dyn.specs.reading.Decoding.{dec, is_readable, read_records}
 use Rattle.pg_dyn.specs.Belonging.{IsMessage}
 use Rattle.pg_dyn.specs.Comparison.{numbers, Expected, Comparand, comparands, writes, expects}
 use Rattle.pg_dyn.specs.ByComparands.{comparands_at, field_read, all_field_readable}
 use Rattle.pg_dyn.specs.Laws.{of_number}
 use Rattle.pg_dyn.proofs.Lists.{each_weaker, each_filtered, filter_all, filter-append', filter_swap, filter-map, list_all_each, list_all_true, list_any_none, each_at}
-use Rattle.pg_dyn.proofs.Splitting.{each_found, field_records_number, takes_number}
+use Rattle.pg_dyn.proofs.lemmas.Splitting.{each_found, field_records_number, takes_number}
 use Rattle.pg_pairs.specs.Returns.{Returns}
 use Rattle.pg_pairs.specs.Home.{homeward}
-use Rattle.pg_dyn.proofs.Again.{reads_again}
+use Rattle.pg_dyn.proofs.lemmas.Again.{reads_again}
 use Rattle.pg_pairs.proofs.Across.{reads}
 use Rattle.pg_pairs.proofs.Messages.{field_written}
 use Rattle.pg_dyn.proofs.PublicLaws.{decoding_is, encoding_spells, fields_are_found, message_splits, one_is_empty, records_of_fields, unknown_is_kept, writing_splits}

@@ -1,15 +1,15 @@
 -- Comparands that the new type reads and writes again are seen by the old one.
 use Rattle.std.proofs.Common.{◌≡◌, ℕ, ◌≤◌, List, ◌∷◌, map, filter, true, false, Option, Some, None, option_map, is_some, unwrap_or, refl, ap, sym, ◌∙◌, subst, arith, length, Bool}
 use Rattle.std.specs.List.{AllByRecursion}
-use Rattle.pg_schema.specs.declared.field.TypeId.{TypeId}
-use Rattle.pg_schema.specs.declared.field.Element.{Element}
-use Rattle.pg_schema.specs.declared.field.Element.TheVariants as elements
+use Rattle.pg_schema.specs.declared.parts.field.TypeId.{TypeId}
+use Rattle.pg_schema.specs.declared.parts.field.Element.{Element}
+use Rattle.pg_schema.specs.declared.parts.field.Element.TheVariants as elements
 use Rattle.pg_schema.specs.Shape.{Shape, FieldShape, fields, field_at}
 use Rattle.pg_dyn.specs.Message.{Leaf, Int, F32, F64, Bytes, Item, Plain, Msg, Message, ends, holds, nests, Part, parts, is_of, leaf_eq}
 use Rattle.pg_dyn.specs.Coding.{form, body, InRange}
 use Rattle.pg_dyn.specs.Bodies.{IsReadAs, IsNestedLeaf}
-use Rattle.pg_dyn.specs.Decoding.{Reader, dec, is_child, read_item}
-use Rattle.pg_dyn.specs.Encoding.{cap, child_type, element_type, enc, encoded_parts}
+use Rattle.pg_dyn.specs.reading.Decoding.{Reader, dec, is_child, read_item}
+use Rattle.pg_dyn.specs.encoding.Encoding.{cap, child_type, element_type, enc, encoded_parts}
 use Rattle.pg_dyn.specs.Belonging.{IsMessage}
 use Rattle.pg_dyn.specs.OwnParts.{ChildrenShorter}
 use Rattle.pg_dyn.specs.Comparison.{numbers, Comparand, writes, Alike, alike_leaves, Kept}

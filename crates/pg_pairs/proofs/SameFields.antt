@@ -4,12 +4,12 @@ use Rattle.std.specs.Bool.{⊤}
 use Rattle.std.specs.List.{AllByRecursion}
 use Rattle.std.specs.Option.{option_copied}
 use lib.Pointwise.{pointwise}
-use Rattle.pg_schema.specs.declared.enum_type.EnumType.{EnumType}
-use Rattle.pg_schema.specs.declared.field.TypeId.{TypeId}
-use Rattle.pg_schema.specs.declared.field.Element.{Element}
-use Rattle.pg_schema.specs.declared.field.Element.TheVariants as elements
-use Rattle.pg_schema.specs.declared.field.Presence.{Presence}
-use Rattle.pg_schema.specs.declared.field.Presence.TheVariants as presences
+use Rattle.pg_schema.specs.declared.parts.enum_type.EnumType.{EnumType}
+use Rattle.pg_schema.specs.declared.parts.field.TypeId.{TypeId}
+use Rattle.pg_schema.specs.declared.parts.field.Element.{Element}
+use Rattle.pg_schema.specs.declared.parts.field.Element.TheVariants as elements
+use Rattle.pg_schema.specs.declared.parts.field.Presence.{Presence}
+use Rattle.pg_schema.specs.declared.parts.field.Presence.TheVariants as presences
 use Rattle.pg_schema.specs.declared.parts.Parts.{Parts}
 use Rattle.pg_schema.specs.Parts.{shape_of}
 use Rattle.pg_schema.specs.Shape.{Shape, FieldShape, IsShape, fields, field_at, is_implicit, is_repeated, is_singular}
@@ -26,8 +26,8 @@ use Rattle.pg_dyn.specs.Belonging.{KeyFits, LeafFits}
 use Rattle.pg_dyn.specs.Borrowed.{HasKeys, IsFilled, IsKey, leaf_of, item_part, entry_part, item_seen, content_seen}
 use Rattle.pg_dyn.specs.BorrowedItems.{ItemFits, is_zero_value}
 use Rattle.pg_dyn.specs.PartsFit.{HoldsItem, HoldsPart, IsElementItem}
-use Rattle.pg_dyn.specs.Setting.{is_zero_kept}
-use Rattle.pg_dyn.specs.Encoding.{child_type, element_type}
+use Rattle.pg_dyn.specs.setting.Setting.{is_zero_kept}
+use Rattle.pg_dyn.specs.encoding.Encoding.{child_type, element_type}
 use Rattle.pg_dyn.specs.Fits.{Fits}
 use Rattle.pg_dyn.specs.Comparison.{View, Expected, Alike, is_zero_expected, is_zero_item, hides_zero, shown, same_key, matches, expected, same}
 use Rattle.pg_dyn.specs.Comparison as comparison

@@ -3,7 +3,7 @@ use Rattle.std.proofs.Common.{◌≡◌, ℕ, ◌≤◌, Bor, ◌+◌, ◌<◌, 
 use Rattle.std.specs.Bool.{⊤}
 use Rattle.std.specs.List.{AllByRecursion}
 use Rattle.std.specs.Option.{option_copied}
-use Rattle.pg_schema.specs.declared.field.TypeId.{TypeId}
+use Rattle.pg_schema.specs.declared.parts.field.TypeId.{TypeId}
 use Rattle.pg_wire.specs.Records.{WireRecord}
 use Rattle.pg_schema.specs.Shape.{Shape, FieldShape, IsShape, fields, field_at}
 use Rattle.pg_dyn.specs.declared.message_ref.ContentRef.{ContentRef}
@@ -15,8 +15,8 @@ use Rattle.pg_dyn.specs.Message.{Part, Message, is_of}
 use Rattle.pg_dyn.specs.Message as model
 use Rattle.pg_dyn.specs.Kept.{Kept, KeptItem, Plain, Msg, ends, holds, nests, type_of, message_of, parts_of, of_number}
 use Rattle.pg_dyn.specs.Borrowed.{item_part, entry_part, item_seen, content_seen}
-use Rattle.pg_dyn.specs.Writing.{records_in, bytes_of, field_records}
-use Rattle.pg_dyn.specs.Encoding.{cap, enc, encoded_parts}
+use Rattle.pg_dyn.specs.encoding.Writing.{records_in, bytes_of, field_records}
+use Rattle.pg_dyn.specs.encoding.Encoding.{cap, enc, encoded_parts}
 use Rattle.pg_dyn.specs.Fits.{Fits, PartsAgree}
 use Rattle.pg_dyn.specs.Comparison.{unshared_bytes}
 use Rattle.pg_dyn.specs.OwnParts.{ChildrenShorter}

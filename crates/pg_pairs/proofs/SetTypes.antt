@@ -5,7 +5,7 @@ use Rattle.pg_dyn.specs.declared.message.Content.{Content}
 use Rattle.pg_dyn.specs.Kept.{Kept, type_of}
 use Rattle.pg_dyn.specs.Replacing.{without_siblings}
 use Rattle.pg_dyn.specs.Seen.{content_seen}
-use Rattle.pg_dyn.specs.Setting.{normalized, IsSetTo}
+use Rattle.pg_dyn.specs.setting.Setting.{normalized, IsSetTo}
 use Rattle.pg_dyn.proofs.PublicLaws.{parts_keep_types}
 
 pub type_set : (shape : Shape) (number : ℕ) (content : Content) (old new : Kept) → IsSetTo shape number content old new → type_of new ≡ type_of old

@@ -2,16 +2,16 @@
 use Rattle.std.proofs.Common.{◌≡◌, ℕ, ◌<◌, ◌≤◌, List, [], ◌++◌, length, true, Option, Some, option_map, ⊎_elim, refl, ap, ◌∙◌, subst, arith, length-append}
 use Rattle.std.specs.List.{AllByRecursion}
 use Rattle.std.proofs.lemmas.Bool.{cases_lt}
-use Rattle.pg_schema.specs.declared.field.TypeId.{TypeId}
-use Rattle.pg_schema.specs.declared.field.Scalar.{Scalar}
-use Rattle.pg_schema.specs.declared.field.Element.TheVariants as elements
-use Rattle.pg_schema.specs.declared.field.Presence.{Presence}
-use Rattle.pg_schema.specs.declared.field.Presence.TheVariants as presences
+use Rattle.pg_schema.specs.declared.parts.field.TypeId.{TypeId}
+use Rattle.pg_schema.specs.declared.parts.field.Scalar.{Scalar}
+use Rattle.pg_schema.specs.declared.parts.field.Element.TheVariants as elements
+use Rattle.pg_schema.specs.declared.parts.field.Presence.{Presence}
+use Rattle.pg_schema.specs.declared.parts.field.Presence.TheVariants as presences
 use Rattle.pg_schema.specs.Shape.{Shape, FieldShape, IsShape, fields, field_at}
 use Rattle.pg_wire.specs.Varint.{varint}
 use Rattle.pg_dyn.specs.Message.{Bytes}
 use Rattle.pg_dyn.specs.Coding.{form}
-use Rattle.pg_dyn.specs.Encoding.{enc, cap}
+use Rattle.pg_dyn.specs.encoding.Encoding.{enc, cap}
 use Rattle.pg_dyn.specs.Comparison.{Comparand}
 use Rattle.pg_dyn.proofs.Lists.{each_before, each_after}
 use Rattle.pg_pairs.specs.declared.choice.Choice.{Choice}

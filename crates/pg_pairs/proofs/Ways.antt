@@ -1,17 +1,17 @@
 -- How a content passes between two fields of one number, either way: what is read of it where each item is.
 use Rattle.std.proofs.Common.{◌≡◌, ℕ, List, [], ◌∷◌, map, true, false, ◌||◌, Option, None, ◌⊎◌, refl}
 use Rattle.std.specs.List.{AllByRecursion}
-use Rattle.pg_schema.specs.declared.field.Scalar.{Scalar}
-use Rattle.pg_schema.specs.declared.field.Element.{Element}
-use Rattle.pg_schema.specs.declared.field.Element.TheVariants as elements
-use Rattle.pg_schema.specs.declared.field.Presence.{Presence}
-use Rattle.pg_schema.specs.declared.field.Presence.TheVariants as presences
+use Rattle.pg_schema.specs.declared.parts.field.Scalar.{Scalar}
+use Rattle.pg_schema.specs.declared.parts.field.Element.{Element}
+use Rattle.pg_schema.specs.declared.parts.field.Element.TheVariants as elements
+use Rattle.pg_schema.specs.declared.parts.field.Presence.{Presence}
+use Rattle.pg_schema.specs.declared.parts.field.Presence.TheVariants as presences
 use Rattle.pg_schema.specs.Shape.{FieldShape, is_singular, is_implicit, is_repeated, is_packable}
 use Rattle.pg_dyn.specs.Message.{is_zero}
 use Rattle.pg_dyn.specs.Coding.{form, InRange}
-use Rattle.pg_dyn.specs.Content.{last_item}
-use Rattle.pg_dyn.specs.Writing.{key_of}
-use Rattle.pg_dyn.specs.Decoding.{Reader}
+use Rattle.pg_dyn.specs.reading.Content.{last_item}
+use Rattle.pg_dyn.specs.encoding.Writing.{key_of}
+use Rattle.pg_dyn.specs.reading.Decoding.{Reader}
 use Rattle.pg_dyn.specs.Belonging.{MayBeZero}
 use Rattle.pg_dyn.specs.Comparison.{View, Comparand, writes}
 use Rattle.pg_dyn.proofs.Lists.{each_both}

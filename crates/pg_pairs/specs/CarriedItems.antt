@@ -1,16 +1,16 @@
 -- Contents of carried messages as the program holds them.
 use Rattle.std.specs.Prelude.{◌≡◌, ℕ, [], ◌∷◌, List, nat_eq, Bool, true, false, not, ◌&&◌, if◌then◌else◌, Option, Some, None, is_some}
-use Rattle.pg_schema.specs.declared.field.Element.{Element}
-use Rattle.pg_schema.specs.declared.field.Element.TheVariants as elements
-use Rattle.pg_schema.specs.declared.field.Presence.{Presence}
-use Rattle.pg_schema.specs.declared.field.Scalar.{Scalar}
+use Rattle.pg_schema.specs.declared.parts.field.Element.{Element}
+use Rattle.pg_schema.specs.declared.parts.field.Element.TheVariants as elements
+use Rattle.pg_schema.specs.declared.parts.field.Presence.{Presence}
+use Rattle.pg_schema.specs.declared.parts.field.Scalar.{Scalar}
 use Rattle.pg_schema.specs.Shape.{Shape, FieldShape, is_map}
 use Rattle.pg_dyn.specs.declared.message.Content.{Content}
 use Rattle.pg_dyn.specs.declared.message.Content.TheVariants as contents
 use Rattle.pg_dyn.specs.declared.message.Value.{Value}
 use Rattle.pg_dyn.specs.declared.message.Value.TheVariants as values
-use Rattle.pg_dyn.specs.ContentFaults.{HasKeyTwice}
-use Rattle.pg_dyn.specs.Told.{ItemsFit}
+use Rattle.pg_dyn.specs.setting.ContentFaults.{HasKeyTwice}
+use Rattle.pg_dyn.specs.setting.Told.{ItemsFit}
 use Rattle.pg_dyn.specs.Message.{Leaf, Item, Plain, Msg, Message, ends, with_part}
 use Rattle.pg_dyn.specs.Coding.{Form, zero_leaf}
 use Rattle.pg_dyn.specs.Kept.{Kept, message_of, type_of}

@@ -1,9 +1,9 @@
 -- An old message beside a new one, content by content: whether the new one shows what the old one holds.
 use Rattle.std.specs.Prelude.{ℕ, ◌≤◌, ⊤, length, List, [], ◌∷◌, map, filter, Bool, true, not, ◌&&◌, if◌then◌else◌, Option, Some, None, option_map, is_none}
 use lib.Pointwise.{pointwise}
-use Rattle.pg_schema.specs.declared.field.Element.{Element}
-use Rattle.pg_schema.specs.declared.field.Element.TheVariants as elements
-use Rattle.pg_schema.specs.declared.field.TypeId.{TypeId}
+use Rattle.pg_schema.specs.declared.parts.field.Element.{Element}
+use Rattle.pg_schema.specs.declared.parts.field.Element.TheVariants as elements
+use Rattle.pg_schema.specs.declared.parts.field.TypeId.{TypeId}
 use Rattle.pg_schema.specs.declared.parts.Parts.{Parts}
 use Rattle.pg_schema.specs.Parts.{shape_of}
 use Rattle.pg_schema.specs.Shape.{Shape, FieldShape, field_at}
@@ -18,7 +18,7 @@ use Rattle.pg_dyn.specs.Borrowed.{IsKey, leaf_of}
 use Rattle.pg_dyn.specs.BorrowedItems.{ItemFits, is_zero_value}
 use Rattle.pg_dyn.specs.Message.{Leaf, Int, Item, Plain, Msg, parts}
 use Rattle.pg_dyn.specs.Kept.{Kept, type_of, message_of}
-use Rattle.pg_dyn.specs.Encoding.{cap, element_type, enc}
+use Rattle.pg_dyn.specs.encoding.Encoding.{cap, element_type, enc}
 use Rattle.pg_dyn.specs.Comparison.{Expected, Alike, same_content, same_key, matches, expected, same}
 use Rattle.pg_dyn.specs.Comparison as comparison
 use Rattle.pg_dyn.specs.ViewNames.{view_named}

@@ -1,7 +1,7 @@
 -- The gap between any two like elements that are no messages, under any view of enum items; and zero, which like elements see.
 use Rattle.std.specs.Prelude.{◌≡◌, ⊤, Bool, true, false}
-use Rattle.pg_schema.specs.declared.field.Element.{Element}
-use Rattle.pg_schema.specs.declared.field.Element.TheVariants as elements
+use Rattle.pg_schema.specs.declared.parts.field.Element.{Element}
+use Rattle.pg_schema.specs.declared.parts.field.Element.TheVariants as elements
 use Rattle.pg_dyn.specs.Message.{Leaf, is_zero}
 use Rattle.pg_dyn.specs.Coding.{form, InRange}
 use Rattle.pg_dyn.specs.Comparison.{numbers}

@@ -3,7 +3,7 @@ use Rattle.std.specs.Prelude.{◌≡◌, ℕ, ℤ, pos, ◌^◌, ◌≤◌, ⊤,
 use Rattle.std.specs.Int.Signed.{◌≤ℤ◌}
 use Rattle.std.specs.Ordering.{int_eq}
 use Rattle.std.proofs.Common.{subst}
-use Rattle.pg_schema.specs.declared.field.EnumId.{EnumId}
+use Rattle.pg_schema.specs.declared.parts.field.EnumId.{EnumId}
 use Rattle.pg_wire.specs.Varint.{varint}
 use Rattle.pg_wire.specs.Words.{IsBetween, twos_complement}
 use Rattle.pg_dyn.specs.Comparison.{View, numbers}

@@ -3,7 +3,7 @@
 use Rattle.std.specs.Prelude.{◌≡◌, ℕ, ◌≤◌, List, [], ◌∷◌, length, true, Option, Some, None}
 use Rattle.pg_schema.specs.Shape.{Shape, FieldShape, IsShape, fields, field_at, is_singular, is_repeated, is_map}
 use Rattle.pg_dyn.specs.Message.{Leaf, Item, Plain, Msg, Message, ends, with_part}
-use Rattle.pg_dyn.specs.Encoding.{enc}
+use Rattle.pg_dyn.specs.encoding.Encoding.{enc}
 use Rattle.pg_dyn.specs.Breaking.{Breaks}
 use Rattle.pg_pairs.specs.declared.choice.Choice.{Choice}
 use Rattle.pg_pairs.specs.declared.choice.Pair.{Pair}

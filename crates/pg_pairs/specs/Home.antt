@@ -3,12 +3,12 @@ use Rattle.std.specs.Prelude.{ℕ, List, [], ◌∷◌, Bool, false, ◌&&◌, n
 use Rattle.std.specs.List.{list_all}
 use Rattle.std.specs.Str.{bytes_eq}
 use lib.Pointwise.{pointwise}
-use Rattle.pg_schema.specs.declared.field.TypeId.{TypeId}
+use Rattle.pg_schema.specs.declared.parts.field.TypeId.{TypeId}
 use Rattle.pg_schema.specs.Shape.{Shape, FieldShape, fields, field_at, is_singular, is_implicit}
 use Rattle.pg_dyn.specs.Message.{Item, Message, ends, holds, nests, Part, parts, leaf_eq}
-use Rattle.pg_dyn.specs.Writing.{bytes_of}
-use Rattle.pg_dyn.specs.Encoding.{child_type, enc}
-use Rattle.pg_dyn.specs.Decoding.{dec}
+use Rattle.pg_dyn.specs.encoding.Writing.{bytes_of}
+use Rattle.pg_dyn.specs.encoding.Encoding.{child_type, enc}
+use Rattle.pg_dyn.specs.reading.Decoding.{dec}
 use Rattle.pg_dyn.specs.Comparison.{Expected, Alike, Kept, is_zero_expected, is_zero_item, shown, numbers, same_key, matches}
 
 -- what a program with that type writes again of the bytes that it reads

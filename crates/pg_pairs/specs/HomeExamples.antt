@@ -1,10 +1,10 @@
 -- Small types, what a program with the new one relays, and what of it comes home.
 use Rattle.std.specs.Prelude.{◌≡◌, pos, true, false, List, [], ◌∷◌, Some, None}
-use Rattle.pg_schema.specs.declared.field.Scalar.TheVariants.{Int32}
-use Rattle.pg_schema.specs.declared.field.Scalar.TheVariants as scalars
-use Rattle.pg_schema.specs.declared.field.Element.TheVariants as elements
-use Rattle.pg_schema.specs.declared.field.Presence.{Presence}
-use Rattle.pg_schema.specs.declared.field.Presence.TheVariants.{Implicit, Explicit, Repeated}
+use Rattle.pg_schema.specs.declared.parts.field.Scalar.TheVariants.{Int32}
+use Rattle.pg_schema.specs.declared.parts.field.Scalar.TheVariants as scalars
+use Rattle.pg_schema.specs.declared.parts.field.Element.TheVariants as elements
+use Rattle.pg_schema.specs.declared.parts.field.Presence.{Presence}
+use Rattle.pg_schema.specs.declared.parts.field.Presence.TheVariants.{Implicit, Explicit, Repeated}
 use Rattle.pg_schema.specs.Shape.{Shape, FieldShape}
 use Rattle.pg_dyn.specs.Message.{Int, Bytes, Message, ends, holds, nests}
 use Rattle.pg_dyn.specs.Examples.{first, second, field, scalar, of_fields, int32, one, tree}

@@ -1,6 +1,6 @@
 -- The view by names: of the numbers that two enums name differently the least.
 use Rattle.std.specs.Prelude.{ℤ, List, map, filter, Bool, not, ◌&&◌, Option}
-use Rattle.pg_schema.specs.declared.enum_type.EnumType.{EnumType}
+use Rattle.pg_schema.specs.declared.parts.enum_type.EnumType.{EnumType}
 use Rattle.pg_dyn.specs.declared.view_name.ViewName.TheVariants as views
 use Rattle.pg_dyn.specs.ViewNames.{NamedNumber, named_numbers, same_names, alike_under}
 use Rattle.pg_pairs.specs.LeastNumbers.{least_number, number_counts}

@@ -2,9 +2,9 @@
 use Rattle.std.specs.Prelude.{◌≡◌, ℕ, suc, ◌<◌, nat_eq, true, length, get_or, List, [], ◌∷◌, ◌++◌, map, drop, slice_index_or, if◌then◌else◌, Option, Some, None, option_and_then, unwrap_or}
 use Rattle.std.specs.HashMap.{HashMap, get, Updates}
 use Rattle.pg_schema.specs.Shape.{FieldShape, field_at}
-use Rattle.pg_schema.specs.declared.field.Field.{Field}
+use Rattle.pg_schema.specs.declared.parts.field.Field.{Field}
 use Rattle.pg_schema.specs.Parts.{field_shape}
-use Rattle.pg_dyn.specs.Content.{same_oneof}
+use Rattle.pg_dyn.specs.reading.Content.{same_oneof}
 use Rattle.pg_pairs.specs.declared.choice.Choice.{Choice}
 use Rattle.pg_pairs.specs.Choices.{affordable, joined_choices}
 

@@ -1,7 +1,7 @@
 -- For the program: whose name is missing among other values of its number.
 use Rattle.std.specs.Prelude.{ℤ, List, map, filter, Bool, not, ◌&&◌}
 use Rattle.std.specs.List.Sorted.{IsNonDecreasingBy}
-use Rattle.pg_schema.specs.declared.enum_type.EnumValue.{EnumValue}
+use Rattle.pg_schema.specs.declared.parts.enum_type.EnumValue.{EnumValue}
 use Rattle.pg_dyn.specs.ViewNames.{NamedNumber, declares, has_name}
 use Rattle.pg_pairs.specs.LeastNumbers.{number_counts, number_word}
 

@@ -3,7 +3,7 @@ use Rattle.std.proofs.Common.{◌≡◌, ◌^◌, ℤ, pos, negsuc, List, [], �
 use Rattle.std.specs.Ordering.{int_eq}
 use Rattle.std.proofs.lemmas.Bool.{and_parts, and_from, or_parts, ltb-true, lt-ltb, not_from_false}
 use Rattle.std.proofs.lemmas.Bool.Decides.{Decides-int_eq}
-use Rattle.pg_schema.specs.declared.enum_type.EnumType.{EnumType}
+use Rattle.pg_schema.specs.declared.parts.enum_type.EnumType.{EnumType}
 use Rattle.pg_wire.specs.Words.{IsBetween}
 use Rattle.pg_dyn.specs.ViewNames.{NamedNumber, named_numbers, declares, names_within, same_names}
 use Rattle.pg_pairs.specs.Among.{IsAmong}

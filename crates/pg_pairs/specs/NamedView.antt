@@ -1,6 +1,6 @@
 -- What the view of a name sees between two schemas.
 use Rattle.std.specs.Prelude.{◌≡◌, ℤ, Bool, Option, None}
-use Rattle.pg_schema.specs.declared.enum_type.EnumType.{EnumType}
+use Rattle.pg_schema.specs.declared.parts.enum_type.EnumType.{EnumType}
 use Rattle.pg_schema.specs.declared.parts.Parts.{Parts}
 use Rattle.pg_dyn.specs.declared.view_name.ViewName.{ViewName}
 use Rattle.pg_dyn.specs.declared.view_name.ViewName.TheVariants as views

@@ -1,11 +1,11 @@
 -- Small pairs of types with all their choices, and the children of one.
 use Rattle.std.specs.Prelude.{◌≡◌, ℕ, nat_eq, if◌then◌else◌, true, false, List, [], ◌∷◌, ◌++◌, Option, Some, None}
-use Rattle.pg_schema.specs.declared.field.TypeId.{TypeId}
-use Rattle.pg_schema.specs.declared.field.Scalar.{Scalar}
-use Rattle.pg_schema.specs.declared.field.Scalar.TheVariants.{Int32, Uint32, Fixed32, Sint32, String, Bytes}
-use Rattle.pg_schema.specs.declared.field.Scalar.TheVariants as scalars
-use Rattle.pg_schema.specs.declared.field.Element.TheVariants as elements
-use Rattle.pg_schema.specs.declared.field.Presence.TheVariants.{Implicit, Explicit, Repeated, Map}
+use Rattle.pg_schema.specs.declared.parts.field.TypeId.{TypeId}
+use Rattle.pg_schema.specs.declared.parts.field.Scalar.{Scalar}
+use Rattle.pg_schema.specs.declared.parts.field.Scalar.TheVariants.{Int32, Uint32, Fixed32, Sint32, String, Bytes}
+use Rattle.pg_schema.specs.declared.parts.field.Scalar.TheVariants as scalars
+use Rattle.pg_schema.specs.declared.parts.field.Element.TheVariants as elements
+use Rattle.pg_schema.specs.declared.parts.field.Presence.TheVariants.{Implicit, Explicit, Repeated, Map}
 use Rattle.pg_schema.specs.Shape.{FieldShape}
 use Rattle.pg_dyn.specs.Examples.{first, second, field, scalar, member, of_fields, linked}
 use Rattle.pg_pairs.specs.declared.choice.Choice.{Choice}

@@ -1,6 +1,6 @@
 -- What a view sees of the enums of two schemas.
 use Rattle.std.specs.Prelude.{◌≡◌, ℤ, Bool, Option, Some, None}
-use Rattle.pg_schema.specs.declared.enum_type.EnumType.{EnumType}
+use Rattle.pg_schema.specs.declared.parts.enum_type.EnumType.{EnumType}
 use Rattle.pg_schema.specs.declared.parts.Parts.{Parts}
 use Rattle.pg_schema.specs.Parts.{enum_at}
 use Rattle.pg_dyn.specs.declared.view_name.ViewName.{ViewName}

@@ -12,7 +12,7 @@ ghost use Rattle.pg_dyn.specs.BorrowedItems.{ItemFits};
 ghost use Rattle.pg_dyn.specs.Comparison.{records_outside, unshared_bytes};
 ghost use Rattle.pg_dyn.specs.Fits.{Fits};
 ghost use Rattle.pg_dyn.specs.Kept.{message_of, type_of, unknown_of};
-ghost use Rattle.pg_dyn.specs.Writing.{bytes_of};
+ghost use Rattle.pg_dyn.specs.encoding.Writing.{bytes_of};
 ghost use Rattle.pg_pairs.specs.Comparing.{all_match, HasEncoding, HeldFits, is_alike_leaf, is_same, is_same_beside, ItemHasEncoding, items_match, keyed, keyed_if, outside_record};
 
 use crate::item::Sides;

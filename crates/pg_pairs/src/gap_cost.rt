@@ -3,7 +3,7 @@
 ghost use Rattle.std.specs.Prelude.{◌≡◌, ◌<◌, ◌≤◌, ◌^◌, length, IfSome, option_map};
 ghost use Rattle.pg_wire.specs.Varint.{varint};
 ghost use Rattle.pg_wire.specs.Words.{twos_complement};
-ghost use Rattle.pg_schema.specs.declared.enum_type.EnumType.{EnumType};
+ghost use Rattle.pg_schema.specs.declared.parts.enum_type.EnumType.{EnumType};
 ghost use Rattle.pg_dyn.specs.Coding.{scalar_form};
 ghost use Rattle.pg_pairs.specs.Choices.{child_body, gap_body};
 ghost use Rattle.pg_pairs.specs.Gaps.{body_length, gap, item_of};

@@ -2,10 +2,10 @@
 
 ghost use Rattle.std.specs.Prelude.{◌≡◌, ◌+◌, ◌++◌, ◌<◌, ◌^◌, [], ◌∷◌, List, if◌then◌else◌, length, map, not, OnOk};
 ghost use Rattle.std.specs.List.{AllByRecursion};
-ghost use Rattle.pg_schema.specs.declared.field.Field.{Field};
+ghost use Rattle.pg_schema.specs.declared.parts.field.Field.{Field};
 ghost use Rattle.pg_schema.specs.Parts.{field_shape};
 ghost use Rattle.pg_schema.specs.Shape.{FieldShape};
-ghost use Rattle.pg_dyn.specs.Content.{same_oneof};
+ghost use Rattle.pg_dyn.specs.reading.Content.{same_oneof};
 ghost use Rattle.pg_pairs.specs.Choices.{affordable, choice};
 ghost use Rattle.pg_pairs.specs.Costs.{least_content};
 ghost use Rattle.pg_pairs.specs.Members.{JoinsWith, PassesBy, links, new_oneof};

@@ -3,7 +3,7 @@
 ghost use Rattle.std.specs.Prelude.{◌≡◌, ◌++◌, ◌<◌, ◌^◌, ℕ, List, ◌∷◌, Option, Some, if◌then◌else◌, not, OnOk};
 ghost use Rattle.pg_schema.specs.Parts.{field_shape};
 ghost use Rattle.pg_schema.specs.Shape.{FieldShape};
-ghost use Rattle.pg_dyn.specs.Content.{same_oneof};
+ghost use Rattle.pg_dyn.specs.reading.Content.{same_oneof};
 ghost use Rattle.pg_pairs.specs.Choices.{affordable};
 ghost use Rattle.pg_pairs.specs.LeastMembers.{IsOrdered, KeepsLeast, beside, least_member, lesser, member_of, met_choices};
 ghost use Rattle.pg_pairs.specs.Members.{new_oneof};

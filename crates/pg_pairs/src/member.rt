@@ -3,7 +3,7 @@
 ghost use Rattle.std.specs.Prelude.{◌≡◌, ◌<◌, List, Option, ℕ, length, map, IfOk, vec_len};
 ghost use Rattle.pg_schema.specs.Parts.{field_shape, shape_of};
 ghost use Rattle.pg_schema.specs.Shape.{fields};
-ghost use Rattle.pg_dyn.specs.Content.{same_oneof};
+ghost use Rattle.pg_dyn.specs.reading.Content.{same_oneof};
 ghost use Rattle.pg_pairs.specs.Members.{IsLink, PassesBy, links, new_oneof};
 
 use pg_schema::{Field, Schema, TypeId};

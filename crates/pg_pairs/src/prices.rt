@@ -2,7 +2,7 @@
 
 ghost use Rattle.std.specs.Prelude.{◌≡◌, ◌+◌, ◌<◌, ◌≤◌, ◌^◌, ℕ, Bool, true, List, length, Option, Some, IfOk, IfSome, OnErr, OnOk};
 ghost use Rattle.std.specs.List.{AllByRecursion};
-ghost use Rattle.pg_dyn.specs.Encoding.{cap};
+ghost use Rattle.pg_dyn.specs.encoding.Encoding.{cap};
 ghost use Rattle.pg_pairs.specs.declared.choice.Pair.{Pair};
 ghost use Rattle.pg_pairs.specs.declared.edge.Edge.{Edge};
 ghost use Rattle.pg_pairs.specs.Among.{IsAmong};

@@ -6,7 +6,7 @@ ghost use Rattle.pg_schema.specs.Parts.{field_shape};
 ghost use Rattle.pg_schema.specs.Shape.{is_implicit, is_singular};
 ghost use Rattle.std.specs.Str.{bytes_eq};
 ghost use Rattle.pg_dyn.specs.Comparison.{hides_zero, same_key};
-ghost use Rattle.pg_dyn.specs.Content.{leaf_bytes};
+ghost use Rattle.pg_dyn.specs.reading.Content.{leaf_bytes};
 ghost use Rattle.pg_dyn.specs.Borrowed.{IsKey, leaf_of};
 ghost use Rattle.pg_dyn.specs.BorrowedItems.{is_zero_value};
 ghost use Rattle.pg_dyn.specs.Message.{leaf_eq};

@@ -1,7 +1,7 @@
 //! Views: which numbers of an old enum are the same item in a new one.
 
 ghost use Rattle.std.specs.Prelude.{◌≡◌, ℤ, Bool, true, Option, None};
-ghost use Rattle.pg_schema.specs.declared.enum_type.EnumType.{EnumType};
+ghost use Rattle.pg_schema.specs.declared.parts.enum_type.EnumType.{EnumType};
 ghost use Rattle.pg_dyn.specs.declared.view_name.ViewName.{ViewName};
 ghost use Rattle.pg_dyn.specs.ViewNames.{alike_under};
 ghost use Rattle.pg_pairs.specs.EnumView.{IsLeastOf};

@@ -5,7 +5,7 @@ ghost use Rattle.pg_schema.specs.Parts.{field_shape, shape_of};
 ghost use Rattle.pg_schema.specs.Shape.{field_at, fields};
 ghost use Rattle.pg_dyn.specs.Fits.{Fits};
 ghost use Rattle.pg_dyn.specs.Kept.{message_of, type_of};
-ghost use Rattle.pg_dyn.specs.Setting.{IsSetTo};
+ghost use Rattle.pg_dyn.specs.setting.Setting.{IsSetTo};
 ghost use Rattle.pg_pairs.specs.Carried.{carried, choice_child, ChildGiven, ChildReached, IsChoiceOf};
 ghost use Rattle.pg_pairs.specs.CarriedItems.{IsTakenBy};
 ghost use Rattle.pg_pairs.specs.Choices.{Table, choices};

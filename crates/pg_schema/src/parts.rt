@@ -1,9 +1,16 @@
 //! All that a schema declares, as plain data.
 
-use crate::enum_type::EnumType;
-use crate::file::File;
-use crate::message_type::MessageType;
-use crate::service::Service;
+pub(crate) mod enum_type;
+pub(crate) mod field;
+pub(crate) mod file;
+pub(crate) mod message_type;
+pub(crate) mod options;
+pub(crate) mod service;
+
+use self::enum_type::EnumType;
+use self::file::File;
+use self::message_type::MessageType;
+use self::service::Service;
 
 /// All that a schema declares: files, message types and services in order of declaration, and enums
 /// scope by scope.

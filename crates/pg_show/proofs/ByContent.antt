@@ -1,6 +1,6 @@
 -- The lines of a message are those of its contents, one behind the other.
 use Rattle.std.proofs.Common.{◌≡◌, ℕ, List, [], ◌∷◌, ◌++◌, flat_map, map, Option, Some, None, Bool, true, false, refl, ap, ap₂, sym, ◌∙◌, append-nil, append_assoc}
-use Rattle.pg_schema.specs.declared.field.TypeId.{TypeId}
+use Rattle.pg_schema.specs.declared.parts.field.TypeId.{TypeId}
 use Rattle.pg_schema.specs.declared.parts.Parts.{Parts}
 use Rattle.pg_schema.specs.Parts.{shape_of}
 use Rattle.pg_schema.specs.Shape.{fields}
@@ -14,7 +14,7 @@ use Rattle.pg_dyn.specs.declared.message_ref.ValueRef.TheVariants as values
 use Rattle.pg_dyn.specs.Borrowed.{all_seen, content_seen, entry_part, fields_onto, item_part, item_seen, leaf_of}
 use Rattle.pg_dyn.specs.Message.{Leaf, Part}
 use Rattle.pg_dyn.specs.Kept.{Kept, KeptItem, Plain, Msg, ends}
-use Rattle.pg_dyn.specs.Encoding.{element_type}
+use Rattle.pg_dyn.specs.encoding.Encoding.{element_type}
 use Rattle.pg_dyn.specs.Replacing.{kept_onto, kept_part}
 use Rattle.pg_dyn.proofs.Lists.{flat_map-append'}
 use Rattle.pg_show.specs.Lines.{Text, element_of, inner, item, line}

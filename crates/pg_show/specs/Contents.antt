@@ -1,7 +1,7 @@
 -- The lines of a message as the program reads it, content by content.
 use Rattle.std.specs.Prelude.{ℕ, ◌++◌, flat_map, codes, Option, Some, None}
-use Rattle.pg_schema.specs.declared.field.Element.{Element}
-use Rattle.pg_schema.specs.declared.field.TypeId.{TypeId}
+use Rattle.pg_schema.specs.declared.parts.field.Element.{Element}
+use Rattle.pg_schema.specs.declared.parts.field.TypeId.{TypeId}
 use Rattle.pg_schema.specs.declared.parts.Parts.{Parts}
 use Rattle.pg_schema.specs.Parts.{shape_of}
 use Rattle.pg_schema.specs.Shape.{fields}
@@ -14,7 +14,7 @@ use Rattle.pg_dyn.specs.declared.message_ref.ValueRef.{ValueRef}
 use Rattle.pg_dyn.specs.declared.message_ref.ValueRef.TheVariants as values
 use Rattle.pg_dyn.specs.Message.{Leaf}
 use Rattle.pg_dyn.specs.Kept.{Kept, message_of}
-use Rattle.pg_dyn.specs.Encoding.{element_type}
+use Rattle.pg_dyn.specs.encoding.Encoding.{element_type}
 use Rattle.pg_dyn.specs.Borrowed.{leaf_of}
 use Rattle.pg_show.specs.Lines.{Text, element_of, inner, item, line, lines, unknown_line}
 use Rattle.pg_show.specs.Shown.{names_of}

@@ -1,16 +1,16 @@
 -- The text by which bytes are shown, and when they are refused.
 use Rattle.std.specs.Prelude.{◌≡◌, ℕ, ◌<◌, List, [], ◌++◌, length, codes, Option, Some, None, string_bytes}
-use Rattle.pg_schema.specs.declared.field.Field.{Field}
-use Rattle.pg_schema.specs.declared.field.TypeId.{TypeId}
+use Rattle.pg_schema.specs.declared.parts.field.Field.{Field}
+use Rattle.pg_schema.specs.declared.parts.field.TypeId.{TypeId}
 use Rattle.pg_schema.specs.declared.parts.Parts.{Parts}
 use Rattle.pg_schema.specs.Parts.{field_of}
 use Rattle.pg_schema.specs.Shape.{Shape}
 use Rattle.pg_dyn.specs.declared.error.DynError.{DynError}
 use Rattle.pg_dyn.specs.declared.error.DynError.TheVariants as errors
 use Rattle.pg_dyn.specs.Message.{Message}
-use Rattle.pg_dyn.specs.Decoding.{dec}
-use Rattle.pg_dyn.specs.Encoding.{cap, enc}
-use Rattle.pg_dyn.specs.Refusals.{MayRefuse}
+use Rattle.pg_dyn.specs.reading.Decoding.{dec}
+use Rattle.pg_dyn.specs.encoding.Encoding.{cap, enc}
+use Rattle.pg_dyn.specs.reading.Refusals.{MayRefuse}
 use Rattle.pg_show.specs.Hex.{hex_of}
 use Rattle.pg_show.specs.Lines.{Names, Text, line_end, lines}
 

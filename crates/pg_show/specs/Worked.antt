@@ -1,9 +1,9 @@
 -- Worked examples: small types, bytes, and the text by which they are shown; and hexadecimal words.
 use Rattle.std.specs.Prelude.{◌≡◌, ℕ, ◌-◌, List, [], ◌∷◌, ◌++◌, flat_map, get_or, codes, true, Some, None}
-use Rattle.pg_schema.specs.declared.field.Element.TheVariants as elements
-use Rattle.pg_schema.specs.declared.field.Presence.TheVariants.{Implicit, Explicit, Repeated, Map}
-use Rattle.pg_schema.specs.declared.field.Scalar.TheVariants.{Int32}
-use Rattle.pg_schema.specs.declared.field.Scalar.TheVariants as scalars
+use Rattle.pg_schema.specs.declared.parts.field.Element.TheVariants as elements
+use Rattle.pg_schema.specs.declared.parts.field.Presence.TheVariants.{Implicit, Explicit, Repeated, Map}
+use Rattle.pg_schema.specs.declared.parts.field.Scalar.TheVariants.{Int32}
+use Rattle.pg_schema.specs.declared.parts.field.Scalar.TheVariants as scalars
 use Rattle.pg_schema.specs.Shape.{Shape}
 use Rattle.pg_wire.specs.declared.error.WireError.TheVariants.{VarintTooLong, Truncated, Group}
 use Rattle.pg_dyn.specs.declared.error.DynError.TheVariants.{Wire}

@@ -4,8 +4,8 @@ ghost use Rattle.std.specs.Prelude.{◌≡◌, ◌++◌, OnOk, option_map, strin
 ghost use Rattle.std.specs.Fmt.{signed_decimal};
 ghost use Rattle.std.specs.Option.{option_copied};
 ghost use Rattle.hex.specs.Hex.{encode_lower};
-ghost use Rattle.pg_dyn.specs.Content.{leaf_bytes};
-ghost use Rattle.pg_dyn.specs.Encoding.{element_type};
+ghost use Rattle.pg_dyn.specs.reading.Content.{leaf_bytes};
+ghost use Rattle.pg_dyn.specs.encoding.Encoding.{element_type};
 ghost use Rattle.pg_dyn.specs.Borrowed.{leaf_of};
 ghost use Rattle.pg_show.specs.Lines as spec;
 

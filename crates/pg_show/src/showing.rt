@@ -3,7 +3,7 @@
 ghost use Rattle.std.specs.Prelude.{◌≡◌, ◌<◌, ◌++◌, length, ℕ, IfErr, IfOk, OnOk, string_bytes};
 ghost use Rattle.pg_schema.specs.Parts.{shape_of};
 ghost use Rattle.pg_schema.specs.Shape.{fields};
-ghost use Rattle.pg_dyn.specs.TooDeep.{TooDeepIn};
+ghost use Rattle.pg_dyn.specs.reading.TooDeep.{TooDeepIn};
 ghost use Rattle.pg_show.specs.Shown.{Refuses, Shows, again_line, most_levels, names_of};
 
 use crate::hex_word::push_hex;

@@ -6,14 +6,14 @@ ghost use Rattle.std.specs.Prelude.{◌≡◌, ◌<◌, ◌↔◌, Some, length,
 ghost use Rattle.std.specs.Option.{option_copied};
 ghost use Rattle.std.specs.String.{string_bytes};
 ghost use Rattle.pg_schema.specs.declared.error.PartsError.TheVariants.{Invariant};
-ghost use Rattle.pg_schema.specs.declared.field.TypeId.{TypeId};
+ghost use Rattle.pg_schema.specs.declared.parts.field.TypeId.{TypeId};
 ghost use Rattle.pg_schema.specs.Codes.{code_of};
-ghost use Rattle.pg_schema.specs.DeclaredNames.{entry_name, within};
+ghost use Rattle.pg_schema.specs.rules.DeclaredNames.{entry_name, within};
 ghost use Rattle.pg_schema.specs.Invariant.{IsSchema};
 ghost use Rattle.pg_schema.specs.JsonName.{default_json_name};
 ghost use Rattle.pg_schema.specs.Parts.{enum_at, field_of, field_shape, name_at, shape_of, type_at};
 ghost use Rattle.pg_schema.specs.Shape.{field_at, fields, is_packable};
-ghost use Rattle.pg_schema.specs.Sound.{IsSound};
+ghost use Rattle.pg_schema.specs.rules.Sound.{IsSound};
 ghost use Rattle.pg_schema.specs.Told as spec;
 
 use pg_schema::{Element, EnumId, EnumType, Field, MessageType, Parts, PartsError, Schema, TypeId};

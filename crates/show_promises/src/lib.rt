@@ -5,7 +5,7 @@
 ghost use Rattle.std.specs.Prelude.{◌≡◌, ◌<◌, ◌⊎◌, ℕ, length, None, Some, IfErr, IfOk, OnOk, string_bytes};
 ghost use Rattle.pg_schema.specs.Parts.{shape_of};
 ghost use Rattle.pg_schema.specs.Shape.{fields};
-ghost use Rattle.pg_dyn.specs.TooDeep.{TooDeepIn};
+ghost use Rattle.pg_dyn.specs.reading.TooDeep.{TooDeepIn};
 ghost use Rattle.pg_show.specs.Codes.{code_of};
 ghost use Rattle.pg_show.specs.Shown.{Refuses, Shows, most_levels, names_of};
 ghost use Rattle.pg_show.specs.declared.error.HexError.TheVariants.{BadHex, Memory};

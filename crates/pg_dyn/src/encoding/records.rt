@@ -1,18 +1,18 @@
 //! The records of what is no message, and the front of those that are.
 
 ghost use Rattle.std.specs.Prelude.{◌≡◌, ℕ, ◌<◌, ◌++◌, List, length, flat_map, OnOk, IfOk, IfErr};
-ghost use Rattle.pg_schema.specs.declared.field.Element.TheVariants as elements;
+ghost use Rattle.pg_schema.specs.declared.parts.field.Element.TheVariants as elements;
 ghost use Rattle.pg_wire.specs.declared.record.WireType.TheVariants.{Len};
 ghost use Rattle.pg_wire.specs.Records.{length_before, tag, wire_code};
 ghost use Rattle.pg_dyn.specs.Coding.{InRange, body, form, scalar_form};
-ghost use Rattle.pg_dyn.specs.Lending.{bare_leaf, leaf_lent};
-ghost use Rattle.pg_dyn.specs.Writing.{item_record};
-ghost use Rattle.pg_dyn.specs.Written.{Adds, LeafFits, LeavesFit, MayNotAdd, MayNotWrite, capped, packed_body, packed_bytes, packed_lengths};
+ghost use Rattle.pg_dyn.specs.encoding.Lending.{bare_leaf, leaf_lent};
+ghost use Rattle.pg_dyn.specs.encoding.Writing.{item_record};
+ghost use Rattle.pg_dyn.specs.encoding.Written.{Adds, LeafFits, LeavesFit, MayNotAdd, MayNotWrite, capped, packed_body, packed_bytes, packed_lengths};
 
-use crate::body::{push_body, push_varint, wire_type_of};
-use crate::counting::{MAX_ENCODING_LEN, body_len};
+use crate::encoding::body::{push_body, push_varint, wire_type_of};
+use crate::encoding::counting::{MAX_ENCODING_LEN, body_len};
+use crate::encoding::lending::{LeafRef, Lends};
 use crate::error::DynError;
-use crate::lending::{LeafRef, Lends};
 use pg_schema::{Element, Scalar};
 use pg_wire::WireType;
 use std::alloc::AllocError;

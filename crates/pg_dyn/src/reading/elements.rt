@@ -1,7 +1,7 @@
 //! The scalar types as which elements are read.
 
 ghost use Rattle.std.specs.Prelude.{◌≡◌};
-ghost use Rattle.pg_dyn.specs.Held.{read_as};
+ghost use Rattle.pg_dyn.specs.reading.Held.{read_as};
 
 use pg_schema::{Element, Scalar};
 

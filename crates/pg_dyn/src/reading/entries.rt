@@ -7,7 +7,7 @@ ghost use Rattle.pg_dyn.specs.declared.message_ref.EntryRef.{EntryRef as TheEntr
 ghost use Rattle.pg_dyn.specs.Borrowed.{leaf_of};
 ghost use Rattle.pg_dyn.specs.BorrowedItems.{IsAlike, KeysRise, key_of};
 ghost use Rattle.pg_dyn.specs.Message.{key_cmp};
-ghost use Rattle.pg_dyn.specs.Normalized.{place};
+ghost use Rattle.pg_dyn.specs.reading.Normalized.{place};
 
 use crate::message_ref::{EntryRef, ValueRef};
 use std::alloc::AllocError;

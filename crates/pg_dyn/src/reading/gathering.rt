@@ -6,8 +6,8 @@ ghost use Rattle.pg_schema.specs.Parts.{shape_of};
 ghost use Rattle.pg_wire.specs.Reads.{seen_record};
 ghost use Rattle.pg_wire.specs.Records.{IsRecord, WireRecord, records_of};
 ghost use Rattle.pg_dyn.specs.declared.reading.stop.Stop.TheVariants as stops;
-ghost use Rattle.pg_dyn.specs.ByFields.{StopsFor};
-ghost use Rattle.pg_dyn.specs.Gathering.{AreGathered};
+ghost use Rattle.pg_dyn.specs.reading.ByFields.{StopsFor};
+ghost use Rattle.pg_dyn.specs.reading.Gathering.{AreGathered};
 
 use crate::accept::accepts;
 use crate::reading::oneof_runs::OneofRuns;
@@ -30,7 +30,7 @@ pub(crate) struct Gathered<'a> {
 impl<'a> Gathered<'a> {
     ghost use Rattle.std.specs.Prelude.{[], ◌∷◌};
     ghost use Rattle.pg_schema.specs.Shape.{Shape};
-    ghost use Rattle.pg_schema.specs.declared.field.TypeId.{TypeId as TheTypeId};
+    ghost use Rattle.pg_schema.specs.declared.parts.field.TypeId.{TypeId as TheTypeId};
 
     /// No records.
     pub(crate) fn new(alloc: Global) -> Gathered<'a>

@@ -4,7 +4,7 @@ ghost use Rattle.std.specs.Prelude.{◌≡◌};
 ghost use Rattle.pg_dyn.specs.Borrowed.{leaf_of};
 ghost use Rattle.pg_dyn.specs.BorrowedItems.{IsItemOf, is_zero_value};
 ghost use Rattle.pg_dyn.specs.Coding.{scalar_form, zero_leaf};
-ghost use Rattle.pg_dyn.specs.Held.{IsHeldList, item_left};
+ghost use Rattle.pg_dyn.specs.reading.Held.{IsHeldList, item_left};
 
 use crate::message_ref::{ContentRef, ValueRef};
 use pg_schema::{Presence, Scalar};

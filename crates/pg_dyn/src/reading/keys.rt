@@ -4,7 +4,7 @@ ghost use Rattle.std.specs.Prelude.{◌≡◌, ◌↔◌, IsTrue};
 ghost use Rattle.std.specs.declared.cmp.Ordering.TheVariants.{Less};
 ghost use Rattle.pg_dyn.specs.Borrowed.{leaf_of};
 ghost use Rattle.pg_dyn.specs.BorrowedItems.{AreAlike, KeysRise};
-ghost use Rattle.pg_dyn.specs.Content.{leaf_bytes};
+ghost use Rattle.pg_dyn.specs.reading.Content.{leaf_bytes};
 ghost use Rattle.pg_dyn.specs.KeyOrder.{AreSame, number_in, rank_cmp};
 ghost use Rattle.pg_dyn.specs.Message.{key_cmp};
 

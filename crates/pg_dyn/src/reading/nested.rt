@@ -4,23 +4,23 @@
 
 ghost use Rattle.std.specs.Prelude.{◌≡◌, ◌≢◌, ◌<◌, List, [], ◌∷◌, map, length, suc, true, false, Some, OnOk, IfOk, IfErr, is_some};
 ghost use Rattle.std.specs.List.{AllByRecursion};
-ghost use Rattle.pg_schema.specs.declared.field.Element.TheVariants as elements;
-ghost use Rattle.pg_schema.specs.declared.field.Presence.TheVariants as presences;
+ghost use Rattle.pg_schema.specs.declared.parts.field.Element.TheVariants as elements;
+ghost use Rattle.pg_schema.specs.declared.parts.field.Presence.TheVariants as presences;
 ghost use Rattle.pg_schema.specs.Invariant.{IsSchema};
 ghost use Rattle.pg_schema.specs.Parts.{field_shape, shape_of};
 ghost use Rattle.pg_schema.specs.Shape.{IsField, fields, is_repeated};
 ghost use Rattle.pg_wire.specs.Reads.{seen_record};
 ghost use Rattle.pg_wire.specs.Records.{IsRecord, WireRecord};
-ghost use Rattle.pg_dyn.specs.ByFields.{AllCount, AreGood, AreOf, BodiesGood, HoldsOf, IsChildOf, IsEntryRead, RecordsGood, StopsFor};
-ghost use Rattle.pg_dyn.specs.Content.{is_unknown};
+ghost use Rattle.pg_dyn.specs.reading.ByFields.{AllCount, AreGood, AreOf, BodiesGood, HoldsOf, IsChildOf, IsEntryRead, RecordsGood, StopsFor};
+ghost use Rattle.pg_dyn.specs.reading.Content.{is_unknown};
 ghost use Rattle.pg_dyn.specs.BorrowedItems.{ItemFits};
-ghost use Rattle.pg_dyn.specs.Decoding.{dec, read_records};
+ghost use Rattle.pg_dyn.specs.reading.Decoding.{dec, read_records};
 ghost use Rattle.pg_dyn.specs.Fits.{Fits};
-ghost use Rattle.pg_dyn.specs.Gathering.{AreGathered, AreOneofRuns, IsCounted, NumbersRise};
+ghost use Rattle.pg_dyn.specs.reading.Gathering.{AreGathered, AreOneofRuns, IsCounted, NumbersRise};
 ghost use Rattle.pg_dyn.specs.Kept.{ends, message_of, type_of};
 ghost use Rattle.pg_dyn.specs.Borrowed.{HasKeys, IsFilled, fields_onto};
 ghost use Rattle.pg_dyn.specs.Seen.{Rises};
-ghost use Rattle.pg_dyn.specs.Steps.{HeldFits, IsShallowIn};
+ghost use Rattle.pg_dyn.specs.reading.Steps.{HeldFits, IsShallowIn};
 
 use crate::message_ref::{ContentRef, EntryRef, MessageRef, ValueRef};
 use crate::reading::elements::scalar_of;

@@ -4,7 +4,7 @@
 ghost use Rattle.std.specs.Prelude.{◌≡◌, ◌∷◌, ◌++◌, [], true, length, Some, OnOk, IfErr};
 ghost use Rattle.pg_schema.specs.Parts.{field_shape};
 ghost use Rattle.pg_dyn.specs.declared.reading.stop.Stop.TheVariants as stops;
-ghost use Rattle.pg_dyn.specs.Gathering.{counts_at};
+ghost use Rattle.pg_dyn.specs.reading.Gathering.{counts_at};
 
 use crate::reading::stop::Stop;
 use pg_schema::Field;
@@ -31,8 +31,8 @@ impl OneofRuns {
     ghost use Rattle.std.specs.Prelude.{List};
     ghost use Rattle.pg_schema.specs.Shape.{FieldShape, Rising, field_at};
     ghost use Rattle.pg_wire.specs.Records.{WireRecord};
-    ghost use Rattle.pg_dyn.specs.Content.{takes};
-    ghost use Rattle.pg_dyn.specs.Gathering.{AreOneofRuns};
+    ghost use Rattle.pg_dyn.specs.reading.Content.{takes};
+    ghost use Rattle.pg_dyn.specs.reading.Gathering.{AreOneofRuns};
 
     /// No records.
     pub(crate) fn new(alloc: Global) -> OneofRuns

@@ -2,7 +2,7 @@
 
 ghost use Rattle.std.specs.Prelude.{◌≡◌, [], IfOk};
 ghost use Rattle.pg_dyn.specs.BorrowedItems.{AreAlike, key_of};
-ghost use Rattle.pg_dyn.specs.Normalized.{placed};
+ghost use Rattle.pg_dyn.specs.reading.Normalized.{placed};
 
 use crate::message_ref::EntryRef;
 use crate::reading::entries::put_in;

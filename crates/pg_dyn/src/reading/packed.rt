@@ -1,23 +1,23 @@
 //! Reading packed lists.
 
 ghost use Rattle.std.specs.Prelude.{◌≡◌, ◌<◌, ◌≤◌, true, Ok, Err, Some, is_some, take, drop, length, OnOk, IfOk, IfErr};
-ghost use Rattle.pg_schema.specs.declared.field.Element.TheVariants as elements;
+ghost use Rattle.pg_schema.specs.declared.parts.field.Element.TheVariants as elements;
 ghost use Rattle.pg_schema.specs.Shape.{is_packable};
 ghost use Rattle.pg_wire.specs.Errors.{error_at};
 ghost use Rattle.pg_wire.specs.Reading.{Fault};
 ghost use Rattle.pg_wire.specs.declared.error.WireError.TheVariants as wire_errors;
-ghost use Rattle.pg_dyn.specs.ByFields.{StopsFor};
+ghost use Rattle.pg_dyn.specs.reading.ByFields.{StopsFor};
 ghost use Rattle.pg_dyn.specs.Coding.{element_at, form_wire, scalar_form, word_in};
-ghost use Rattle.pg_dyn.specs.Content.{packed_leaves};
+ghost use Rattle.pg_dyn.specs.reading.Content.{packed_leaves};
 ghost use Rattle.pg_dyn.specs.declared.error.DynError.TheVariants as errors;
-ghost use Rattle.pg_dyn.specs.Steps.{RowReads, RowRefused};
+ghost use Rattle.pg_dyn.specs.reading.Steps.{RowReads, RowRefused};
 ghost use Rattle.pg_dyn.specs.WordOf.{HasBits};
 
-use crate::body::wire_type_of;
+use crate::encoding::body::wire_type_of;
 use crate::error::DynError;
 use crate::message_ref::ValueRef;
+use crate::reading::scalar::word_item;
 use crate::reading::stop::Stop;
-use crate::scalar::word_item;
 use pg_schema::Scalar;
 use pg_wire::{WireError, WireType, read_varint};
 

@@ -1,22 +1,22 @@
 //! The records of a map's entry.
 
 ghost use Rattle.std.specs.Prelude.{◌≡◌, List, Ok, IfOk, IfErr};
-ghost use Rattle.pg_schema.specs.declared.field.Element.{Element as TheElement};
+ghost use Rattle.pg_schema.specs.declared.parts.field.Element.{Element as TheElement};
 ghost use Rattle.pg_schema.specs.Shape.{Shape};
 ghost use Rattle.pg_wire.specs.Records.{WireRecord, records_of};
-ghost use Rattle.pg_dyn.specs.ByFields.{StopsFor};
+ghost use Rattle.pg_dyn.specs.reading.ByFields.{StopsFor};
 ghost use Rattle.pg_dyn.specs.BorrowedItems.{ItemFits};
-ghost use Rattle.pg_dyn.specs.EntryParts.{AreParts, ScalarsGood};
-ghost use Rattle.pg_dyn.specs.EntrySteps.{PartFits, WholeItem};
-ghost use Rattle.pg_dyn.specs.Held.{read_as};
-ghost use Rattle.pg_dyn.specs.ReadingOn.{IsNoMessage};
+ghost use Rattle.pg_dyn.specs.reading.EntryParts.{AreParts, ScalarsGood};
+ghost use Rattle.pg_dyn.specs.reading.EntrySteps.{PartFits, WholeItem};
+ghost use Rattle.pg_dyn.specs.reading.Held.{read_as};
+ghost use Rattle.pg_dyn.specs.reading.ReadingOn.{IsNoMessage};
 
 use crate::accept::is_own;
 use crate::message_ref::ValueRef;
 use crate::reading::elements::scalar_of;
 use crate::reading::items::zero_of;
+use crate::reading::scalar::item_in;
 use crate::reading::stop::Stop;
-use crate::scalar::item_in;
 use pg_schema::{Element, Scalar};
 use pg_wire::{Record, Records};
 use std::alloc::Global;

@@ -4,18 +4,18 @@ ghost use Rattle.std.specs.Prelude.{◌≡◌, ◌≢◌, ℕ, [], map, true, fa
 ghost use Rattle.pg_schema.specs.Parts.{field_shape};
 ghost use Rattle.pg_schema.specs.Shape.{Shape, is_map, is_repeated};
 ghost use Rattle.pg_wire.specs.Reads.{seen_record};
-ghost use Rattle.pg_dyn.specs.ByFields.{AreGood, AreOf, HoldsOf, StopsFor};
-ghost use Rattle.pg_dyn.specs.ItemRuns.{AllRead, AreItemsOf};
-ghost use Rattle.pg_dyn.specs.ReadingOn.{IsNoMessage};
-ghost use Rattle.pg_dyn.specs.Steps.{HeldFits};
+ghost use Rattle.pg_dyn.specs.reading.ByFields.{AreGood, AreOf, HoldsOf, StopsFor};
+ghost use Rattle.pg_dyn.specs.reading.ItemRuns.{AllRead, AreItemsOf};
+ghost use Rattle.pg_dyn.specs.reading.ReadingOn.{IsNoMessage};
+ghost use Rattle.pg_dyn.specs.reading.Steps.{HeldFits};
 
 use crate::accept::is_own;
 use crate::message_ref::{ContentRef, ValueRef};
 use crate::reading::elements::scalar_of;
 use crate::reading::items::{left, list_left};
 use crate::reading::packed::push_packed;
+use crate::reading::scalar::item_in;
 use crate::reading::stop::Stop;
-use crate::scalar::item_in;
 use pg_schema::Field;
 use pg_wire::Record;
 use std::alloc::Global;

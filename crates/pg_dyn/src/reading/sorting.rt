@@ -3,7 +3,7 @@
 ghost use Rattle.std.specs.Prelude.{◌≡◌, ◌≢◌, ◌-◌, ◌<◌, ◌≤◌, length, take, drop, get_or, IfOk, IsTrue};
 ghost use Rattle.std.specs.List.{AllByRecursion};
 ghost use Rattle.pg_wire.specs.declared.record.Record.{Record as TheRecord};
-ghost use Rattle.pg_dyn.specs.Gathering.{AreByNumber, NumbersRise};
+ghost use Rattle.pg_dyn.specs.reading.Gathering.{AreByNumber, NumbersRise};
 
 use pg_wire::Record;
 use std::alloc::AllocError;

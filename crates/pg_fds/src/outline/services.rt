@@ -1,7 +1,7 @@
 //! The services of a set, each with its place, its name and those of its methods.
 
 ghost use Rattle.std.specs.Prelude.{◌≡◌, ◌+◌, ◌<◌, ◌≤◌, ◌^◌, ◌++◌, ◌∷◌, [], ℕ, IfErr, IfOk, List, OnOk, length, map};
-ghost use Rattle.pg_schema.specs.Scopes.{service_places};
+ghost use Rattle.pg_schema.specs.rules.Scopes.{service_places};
 ghost use Rattle.pg_dyn.specs.Kept.{message_of};
 ghost use Rattle.pg_fds.specs.Lent.{lent};
 ghost use Rattle.pg_fds.specs.Outlines.{row, row_in, rows_in};

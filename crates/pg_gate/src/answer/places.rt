@@ -7,7 +7,7 @@ use pg_link::{Linked, Place};
 use pg_schema::TypeId;
 use pg_syntax::tree::{FileTree, Message, Name, OneofPart, Part, Statement};
 use std::alloc::{AllocError, Global};
-use std::collections::HashMap;
+use std::collections::BTreeMap;
 
 /// The place of a word: its file by number, the line and the column.
 #[derive(Clone, Copy)]
@@ -24,7 +24,7 @@ struct Finder<'a> {
     next: u32,
     file: usize,
     cursor: Cursor<'a>,
-    spots: HashMap<(u32, u64), Spot>,
+    spots: BTreeMap<(u32, u64), Spot>,
 }
 
 /// Puts the place of a field's name to the others.
@@ -115,7 +115,7 @@ fn add_tree(finder: &mut Finder<'_>, tree: &FileTree) -> Result<(), AllocError> 
 #[derive(Drop)]
 pub(crate) struct Places<'a> {
     files: &'a Linked,
-    spots: HashMap<(u32, u64), Spot>,
+    spots: BTreeMap<(u32, u64), Spot>,
 }
 
 impl Places<'_> {
@@ -153,7 +153,7 @@ pub(crate) fn places_of<'a>(
         next: 0,
         file: 0,
         cursor: Cursor::new(&[]),
-        spots: HashMap::new(alloc),
+        spots: BTreeMap::new(alloc),
     };
     for file in 0..files.files().len() {
         if let Some((_, source)) = files.files().get_index(file) {

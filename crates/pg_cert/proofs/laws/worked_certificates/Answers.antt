@@ -1,5 +1,5 @@
 use Rattle.std.proofs.Common.{◌≡◌, List, [], ◌∷◌, true, Some, None, Option, ℕ, refl, negsuc, pos, arith}
-use Rattle.pg_schema.specs.declared.field.Scalar.TheVariants.{Int32, Uint32}
+use Rattle.pg_schema.specs.declared.parts.field.Scalar.TheVariants.{Int32, Uint32}
 use Rattle.pg_schema.specs.Shape.{Shape}
 use Rattle.pg_wire.specs.Records.{tag}
 use Rattle.pg_wire.specs.Varint.{varint}

@@ -1,6 +1,6 @@
 use Rattle.std.proofs.Common.{rules}
 use Rattle.std.proofs.lemmas.List.Sorted.{IsNonDecreasingBy-from_sort_by_key, IsPermutation-map}
-use Rattle.pg_schema.specs.declared.options.FileOption.{FileOption}
+use Rattle.pg_schema.specs.declared.parts.options.FileOption.{FileOption}
 use Rattle.pg_check.specs.MadeFiles.{file_option}
 use Rattle.pg_check.proofs.made_file.by_number.Goals as goal
 

@@ -1,6 +1,6 @@
 use Rattle.std.proofs.Common.{map, sym, ◌∙◌, get_or, []}
 use Rattle.std.specs.String.{string_bytes}
-use Rattle.pg_schema.specs.TextSets.{is_among}
+use Rattle.pg_schema.specs.rules.TextSets.{is_among}
 use Rattle.pg_check.specs.declared.names.Called.{Called}
 use Rattle.pg_check.specs.Names.{Named, at, called}
 use Rattle.pg_check.proofs.FirstLaws.{such_more}

@@ -1,7 +1,7 @@
 use Rattle.std.proofs.Common.{◌≡◌, true, false, map, take, sym, ◌∙◌, ap, subst}
 use Rattle.std.proofs.lemmas.Map.Text.{btree_set_updates_text}
 use Rattle.std.specs.String.{string_bytes}
-use Rattle.pg_schema.specs.TextSets.{is_among, IsSetOf}
+use Rattle.pg_schema.specs.rules.TextSets.{is_among, IsSetOf}
 use Rattle.pg_check.specs.Names.{text_of, titled}
 use Rattle.pg_check.proofs.FirstLaws.{was_new, was_old}
 use Rattle.pg_check.proofs.TextSets.{set_more}

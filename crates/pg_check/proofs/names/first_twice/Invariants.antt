@@ -1,5 +1,5 @@
 use Rattle.std.proofs.Common.{◌≡◌, map, take, drop}
-use Rattle.pg_schema.specs.TextSets.{IsSetOf}
+use Rattle.pg_schema.specs.rules.TextSets.{IsSetOf}
 use Rattle.pg_check.specs.Names.{at, first_twice, is_same, text_of, titled}
 use Rattle.pg_check.specs.Numbers.{first_again}
 use Rattle.pg_check.proofs.names.first_twice.Given as goal

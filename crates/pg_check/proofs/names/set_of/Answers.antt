@@ -1,7 +1,7 @@
 use Rattle.std.proofs.Common.{true, map, take, sym, subst}
 use Rattle.std.proofs.lemmas.Map.Text.{btree_set_updates_text}
 use Rattle.std.specs.String.{string_bytes}
-use Rattle.pg_schema.specs.TextSets.{IsSetOf}
+use Rattle.pg_schema.specs.rules.TextSets.{IsSetOf}
 use Rattle.pg_check.proofs.TextSets.{set_more, texts_step}
 use Rattle.pg_check.proofs.names.set_of.Goals as goal
 

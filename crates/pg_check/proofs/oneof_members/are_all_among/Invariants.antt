@@ -1,6 +1,6 @@
 use Rattle.std.proofs.Common.{◌≡◌, List, true}
-use Rattle.pg_schema.specs.declared.field.Field.{Field}
-use Rattle.pg_schema.specs.MessageRules.{have_members}
+use Rattle.pg_schema.specs.declared.parts.field.Field.{Field}
+use Rattle.pg_schema.specs.rules.Messages.{have_members}
 use Rattle.pg_check.specs.PartFaults.{IsPlaceSet}
 use Rattle.pg_check.proofs.oneof_members.are_all_among.Given as goal
 

@@ -3,11 +3,11 @@
 use Rattle.std.proofs.Common.{◌+◌, ◌*◌, ℕ}
 use Rattle.pg_schema.specs.Parts.{shape_of}
 use Rattle.pg_dyn.specs.Kept.{weight}
-use Rattle.pg_dyn.specs.Lending.{bare_leaf}
-use Rattle.pg_dyn.specs.Written.{entry_record, item_bytes, item_lengths}
-use Rattle.pg_dyn.proofs.EncodeSteps.{IsOnTheWay, content_bytes}
-use Rattle.pg_dyn.proofs.LentWeights.{bare_weight, parts_weight, weights}
-use Rattle.pg_dyn.proofs.NotedLengths.{content_lengths}
+use Rattle.pg_dyn.specs.encoding.Lending.{bare_leaf}
+use Rattle.pg_dyn.specs.encoding.Written.{entry_record, item_bytes, item_lengths}
+use Rattle.pg_dyn.proofs.lemmas.encoding.EncodeSteps.{IsOnTheWay, content_bytes}
+use Rattle.pg_dyn.proofs.lemmas.encoding.LentWeights.{bare_weight, parts_weight, weights}
+use Rattle.pg_dyn.proofs.lemmas.encoding.NotedLengths.{content_lengths}
 use Rattle.pg_dyn.proofs.encoding.+write.Given as goal
 
 abbrev pub decreases-write_message : goal.decreases-write_message

@@ -2,7 +2,7 @@ use Rattle.std.proofs.Common.{◌≡◌, ◌++◌, [], length, ap, sym, ◌∙�
 use Rattle.std.proofs.lemmas.List.{append-nil}
 use Rattle.std.proofs.lemmas.Result.{err_from_is_err_and}
 use Rattle.pg_schema.specs.Parts.{shape_of}
-use Rattle.pg_dyn.specs.Written.{inner_lengths, own_bytes}
+use Rattle.pg_dyn.specs.encoding.Written.{inner_lengths, own_bytes}
 use Rattle.pg_dyn.proofs.encoding.encode_lent.Goals as goal
 
 pub returns-clause-ok : goal.returns-clause-ok

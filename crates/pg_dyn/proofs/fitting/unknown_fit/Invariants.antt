@@ -4,7 +4,7 @@ use Rattle.std.specs.List.{AllByRecursion}
 use Rattle.pg_schema.specs.Parts.{shape_of}
 use Rattle.pg_schema.specs.Shape.{fields}
 use Rattle.pg_dyn.specs.declared.message.UnknownRecord.{UnknownRecord}
-use Rattle.pg_dyn.specs.Content.{is_unknown}
+use Rattle.pg_dyn.specs.reading.Content.{is_unknown}
 use Rattle.pg_dyn.specs.Seen.{record_seen}
 use Rattle.pg_dyn.proofs.fitting.unknown_fit.Given as goal
 

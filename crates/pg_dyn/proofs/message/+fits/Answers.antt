@@ -2,23 +2,23 @@
 use Rattle.std.proofs.Common.{Vec, Global, ◌≡◌, List, true, map, sym, subst, ◌∙◌, true≢false}
 use Rattle.std.specs.List.{AllByRecursion}
 use Rattle.pg_schema.specs.Parts.{field_shape, shape_of}
-use Rattle.pg_schema.specs.declared.field.Element.{Element}
-use Rattle.pg_schema.specs.declared.field.Presence.{Presence}
-use Rattle.pg_schema.specs.declared.field.Presence.TheVariants as presences
-use Rattle.pg_schema.specs.declared.field.Scalar.{Scalar}
+use Rattle.pg_schema.specs.declared.parts.field.Element.{Element}
+use Rattle.pg_schema.specs.declared.parts.field.Presence.{Presence}
+use Rattle.pg_schema.specs.declared.parts.field.Presence.TheVariants as presences
+use Rattle.pg_schema.specs.declared.parts.field.Scalar.{Scalar}
 use Rattle.pg_schema.specs.Shape.{Shape, FieldShape, fields}
 use Rattle.pg_dyn.specs.declared.message.Content.{Content}
 use Rattle.pg_dyn.specs.declared.message.Content.TheVariants as contents
 use Rattle.pg_dyn.specs.declared.message.UnknownRecord.{UnknownRecord}
 use Rattle.pg_dyn.specs.declared.message.Value.{Value}
 use Rattle.pg_dyn.specs.ContentFits.{ContentFits, HoldsContent, ItemFits, NoneSiblings}
-use Rattle.pg_dyn.specs.Content.{is_unknown}
+use Rattle.pg_dyn.specs.reading.Content.{is_unknown}
 use Rattle.pg_dyn.specs.ScalarItems.{IsItemOf}
 use Rattle.pg_dyn.specs.Seen.{IsKey, Rises, record_seen}
-use Rattle.pg_dyn.proofs.FitsByContents.{fits_from_contents, contents_from_fits}
-use Rattle.pg_dyn.proofs.ItemLeaves.{item_is_key}
-use Rattle.pg_dyn.proofs.FitsChecks.{same_field, all_unknown, none_accepted}
-use Rattle.pg_dyn.proofs.FitsSteps.{each_more, some_not_none}
+use Rattle.pg_dyn.proofs.lemmas.FitsByContents.{fits_from_contents, contents_from_fits}
+use Rattle.pg_dyn.proofs.lemmas.ItemLeaves.{item_is_key}
+use Rattle.pg_dyn.proofs.lemmas.FitsChecks.{same_field, all_unknown, none_accepted}
+use Rattle.pg_dyn.proofs.lemmas.FitsSteps.{each_more, some_not_none}
 use Rattle.pg_dyn.proofs.Lists.{each_weaker, each_at_index, each_from_take}
 use Rattle.pg_dyn.proofs.message.+fits.Goals as goal
 

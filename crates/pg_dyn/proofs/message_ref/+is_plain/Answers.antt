@@ -3,7 +3,7 @@ use Rattle.std.proofs.Common.{IsTrue, ℕ, subst, sym, true≢false}
 use Rattle.pg_dyn.specs.declared.message_ref.ContentRef.{ContentRef}
 use Rattle.pg_dyn.specs.Borrowed.{ArePlain}
 use Rattle.pg_dyn.specs.Kept.{IsPlain}
-use Rattle.pg_dyn.proofs.BorrowedPlainness.{message_plain, none_from_empty, empty_from_none}
+use Rattle.pg_dyn.proofs.lemmas.BorrowedPlainness.{message_plain, none_from_empty, empty_from_none}
 use Rattle.pg_dyn.proofs.message_ref.+is_plain.Goals as goal
 use Rattle.pg_dyn.proofs.Lists.{each_at_index, each_from_take}
 

@@ -10,7 +10,7 @@ use Rattle.pg_dyn.specs.declared.message_ref.EntryRef.{EntryRef}
 use Rattle.pg_dyn.specs.Borrowed as borrowed
 use Rattle.pg_dyn.specs.Copies.{IsContentCopy, entry_part}
 use Rattle.pg_dyn.specs.Seen.{record_seen}
-use Rattle.pg_dyn.proofs.BorrowedParts.{AreCopies, KeysCopied, copies_more, copy_shows, entry_copied, keys_more, list_copied, map_copied, map_more, rises_same}
+use Rattle.pg_dyn.proofs.lemmas.BorrowedParts.{AreCopies, KeysCopied, copies_more, copy_shows, entry_copied, keys_more, list_copied, map_copied, map_more, rises_same}
 use Rattle.pg_dyn.proofs.message_ref.+owning.Goals as goal
 
 pub EntryRef::to_entry-returns : goal.EntryRef::to_entry-returns

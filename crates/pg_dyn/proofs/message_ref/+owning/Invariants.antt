@@ -3,7 +3,7 @@ use Rattle.std.proofs.Common.{◌≡◌, ℕ, true, map, take}
 use Rattle.pg_dyn.specs.Borrowed as borrowed
 use Rattle.pg_dyn.specs.Copies.{entry_part}
 use Rattle.pg_dyn.specs.Seen.{item_seen}
-use Rattle.pg_dyn.proofs.BorrowedParts.{AreCopies, KeysCopied}
+use Rattle.pg_dyn.proofs.lemmas.BorrowedParts.{AreCopies, KeysCopied}
 use Rattle.pg_dyn.proofs.message_ref.+owning.Given as goal
 
 abbrev pub decreases-ValueRef::to_value : goal.decreases-ValueRef::to_value

@@ -2,7 +2,7 @@
 use Rattle.std.proofs.Common.{◌-◌, ℕ, ◌+◌, ◌<◌, ◌≤◌, length}
 use Rattle.pg_schema.specs.Parts.{shape_of}
 use Rattle.pg_schema.specs.Shape.{fields}
-use Rattle.pg_dyn.specs.ContentFaults.{members}
+use Rattle.pg_dyn.specs.setting.ContentFaults.{members}
 use Rattle.pg_dyn.proofs.oneofs.each_oneof_once.Given as goal
 
 abbrev pub invariant-loop-first : goal.invariant-loop-first

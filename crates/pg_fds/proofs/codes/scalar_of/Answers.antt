@@ -1,6 +1,6 @@
 use Rattle.std.proofs.Common.{get_or, pos, sym, ◌∙◌}
 use Rattle.std.specs.Ordering.{int_eq}
-use Rattle.pg_schema.specs.declared.field.Scalar.TheVariants.{Double}
+use Rattle.pg_schema.specs.declared.parts.field.Scalar.TheVariants.{Double}
 use Rattle.pg_dyn.specs.Kept.{message_of}
 use Rattle.pg_fds.specs.Codes.{scalars}
 use Rattle.pg_fds.specs.Fields.{scalar_code}

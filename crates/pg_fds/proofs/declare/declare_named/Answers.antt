@@ -2,7 +2,7 @@ use Rattle.std.proofs.Common.{◌≡◌, ℕ, List, [], ◌∷◌, Some, ap, sub
 use Rattle.std.proofs.lemmas.Result.{err_from_is_err_and}
 use Rattle.std.specs.BTreeMap.{get_by_text}
 use Rattle.std.specs.String.{string_bytes}
-use Rattle.pg_schema.specs.DeclaredNames.{within}
+use Rattle.pg_schema.specs.rules.DeclaredNames.{within}
 use Rattle.pg_dyn.specs.Kept.{message_of}
 use Rattle.pg_fds.specs.Said.{text_at}
 use Rattle.pg_fds.specs.SetNames.{Declares, WantsMemory, full_name}

@@ -1,8 +1,8 @@
 use Rattle.std.proofs.Common.{◌≡◌, ℕ, List, [], true, sym, subst}
 use Rattle.std.proofs.lemmas.Result.{IfErr-weaker, err_from_is_err_and, on_ok_weaker}
 use Rattle.std.specs.String.{string_bytes}
-use Rattle.pg_schema.specs.PackageNames.{is_front}
-use Rattle.pg_schema.specs.TextSets.{is_among}
+use Rattle.pg_schema.specs.rules.Packages.{is_front}
+use Rattle.pg_schema.specs.rules.TextSets.{is_among}
 use Rattle.pg_fds.specs.SetNames.{Declares, WantsMemory}
 use Rattle.pg_fds.proofs.NameTable.{at_end, before_dot, declares_both, letter_on, wants_later}
 use Rattle.pg_fds.proofs.OrderSteps.{handed_on}

@@ -1,6 +1,6 @@
 use Rattle.std.proofs.Common.{◌≡◌, ◌++◌, ℕ, List, [], true}
 use Rattle.std.specs.String.{string_bytes}
-use Rattle.pg_schema.specs.TextSets.{is_among}
+use Rattle.pg_schema.specs.rules.TextSets.{is_among}
 use Rattle.pg_fds.specs.SetNames.{Declares}
 use Rattle.pg_fds.proofs.declare.declare_package.Given as goal
 

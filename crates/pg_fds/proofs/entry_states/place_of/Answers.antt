@@ -2,7 +2,7 @@ use Rattle.std.proofs.Common.{◌≡◌, ap, sym, ◌∙◌}
 use Rattle.std.specs.BTreeMap.{get_by_text}
 use Rattle.std.specs.Option.{option_copied}
 use Rattle.std.specs.String.{string_bytes}
-use Rattle.pg_schema.specs.DeclaredNames.{entry_name}
+use Rattle.pg_schema.specs.rules.DeclaredNames.{entry_name}
 use Rattle.pg_fds.proofs.entry_states.place_of.Goals as goal
 
 pub returns-in-Some-clause-found : goal.returns-in-Some-clause-found

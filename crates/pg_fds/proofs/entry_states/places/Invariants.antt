@@ -1,5 +1,5 @@
 use Rattle.std.proofs.Common.{◌≡◌, map, take, true}
-use Rattle.pg_schema.specs.Pairs.{are_distinct}
+use Rattle.pg_schema.specs.rules.Pairs.{are_distinct}
 use Rattle.pg_dyn.specs.Kept.{message_of}
 use Rattle.pg_fds.specs.FilePlaces.{IsIndex}
 use Rattle.pg_fds.specs.Lent.{lent}

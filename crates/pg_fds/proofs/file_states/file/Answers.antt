@@ -3,8 +3,8 @@ use Rattle.std.proofs.lemmas.Result.{MatchResult-from_err, err_from_is_err_and}
 use Rattle.std.proofs.lemmas.Str.{IsUtf8-string_bytes}
 use Rattle.std.specs.List.{list_all}
 use Rattle.std.specs.Str.{IsUtf8}
-use Rattle.pg_schema.specs.FileRules.{is_file_option, option_numbers}
-use Rattle.pg_schema.specs.Pairs.{is_rising}
+use Rattle.pg_schema.specs.rules.Files.{is_file_option, option_numbers}
+use Rattle.pg_schema.specs.rules.Pairs.{is_rising}
 use Rattle.pg_dyn.specs.Kept.{message_of}
 use Rattle.pg_fds.specs.Said.{options_at}
 use Rattle.pg_fds.specs.StatesFiles.{StatesOptions}

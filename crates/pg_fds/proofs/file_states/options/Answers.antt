@@ -3,7 +3,7 @@ use Rattle.std.proofs.lemmas.Bool.{false≢true}
 use Rattle.std.proofs.lemmas.Result.{on_err_weaker}
 use Rattle.std.specs.Bool.{◌==◌}
 use Rattle.std.specs.Option.{option_copied, unwrap_or}
-use Rattle.pg_schema.specs.declared.options.FileOption.{FileOption}
+use Rattle.pg_schema.specs.declared.parts.options.FileOption.{FileOption}
 use Rattle.pg_dyn.specs.Kept.{message_of}
 use Rattle.pg_dyn.specs.Message.{ends}
 use Rattle.pg_fds.specs.Said.{options_at}

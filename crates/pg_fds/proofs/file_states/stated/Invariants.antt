@@ -1,5 +1,5 @@
 use Rattle.std.proofs.Common.{◌≡◌, drop, find, nat_eq}
-use Rattle.pg_schema.specs.declared.options.FileOption.{FileOption}
+use Rattle.pg_schema.specs.declared.parts.options.FileOption.{FileOption}
 use Rattle.pg_fds.proofs.file_states.stated.Given as goal
 
 abbrev pub invariant-loop-option : goal.invariant-loop-option

@@ -1,6 +1,6 @@
 use Rattle.std.proofs.Common.{◌++◌, ◌-◌, ◌∷◌, [], get_or, ap, sym, ◌∙◌}
 use Rattle.std.specs.Option.{option_copied}
-use Rattle.pg_schema.specs.declared.field.TypeId.{TypeId}
+use Rattle.pg_schema.specs.declared.parts.field.TypeId.{TypeId}
 use Rattle.pg_fds.specs.Building.{items_within}
 use Rattle.pg_fds.specs.Messages.{type_items, types_items}
 use Rattle.pg_fds.specs.Places.{declared_in}

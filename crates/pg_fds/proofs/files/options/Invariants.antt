@@ -1,6 +1,6 @@
 use Rattle.std.proofs.Common.{◌≡◌, ◌∷◌, true, take, drop}
-use Rattle.pg_schema.specs.FileRules.{option_numbers}
-use Rattle.pg_schema.specs.Pairs.{is_rising}
+use Rattle.pg_schema.specs.rules.Files.{option_numbers}
+use Rattle.pg_schema.specs.rules.Pairs.{is_rising}
 use Rattle.pg_fds.specs.declared.places.TheConstants.{FILE_OPTIONS}
 use Rattle.pg_fds.specs.Building.{IsOf, items_of, last_number}
 use Rattle.pg_fds.specs.Set.{file_options}

@@ -1,6 +1,6 @@
 use Rattle.std.proofs.Common.{◌≡◌, map, take}
 use Rattle.std.specs.String.{string_bytes}
-use Rattle.pg_schema.specs.declared.file.Import.{Import}
+use Rattle.pg_schema.specs.declared.parts.file.Import.{Import}
 use Rattle.pg_fds.proofs.files.paths.Given as goal
 
 abbrev pub invariant-loop-import : goal.invariant-loop-import

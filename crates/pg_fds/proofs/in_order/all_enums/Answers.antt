@@ -2,7 +2,7 @@ use Rattle.std.proofs.Common.{◌≡◌, ◌++◌, ap, drop, suc, sym, ◌∙◌
 use Rattle.std.proofs.lemmas.Result.{MatchResult-from_err}
 use Rattle.std.specs.List.{flat_map}
 use Rattle.std.specs.String.{string_bytes}
-use Rattle.pg_schema.specs.Scopes.{are_types_in, enum_places}
+use Rattle.pg_schema.specs.rules.Scopes.{are_types_in, enum_places}
 use Rattle.pg_fds.specs.InOrder.{enums_below, file_enums}
 use Rattle.pg_fds.specs.StatesFiles.{most_deep}
 use Rattle.pg_fds.specs.Walks.{places_from}

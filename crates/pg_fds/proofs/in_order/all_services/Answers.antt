@@ -1,7 +1,7 @@
 use Rattle.std.proofs.Common.{◌++◌, ap, drop, suc, ◌∙◌}
 use Rattle.std.proofs.lemmas.Result.{MatchResult-from_err}
-use Rattle.pg_schema.specs.declared.file.File.{File}
-use Rattle.pg_schema.specs.Scopes.{declared_services, service_places}
+use Rattle.pg_schema.specs.declared.parts.file.File.{File}
+use Rattle.pg_schema.specs.rules.Scopes.{declared_services, service_places}
 use Rattle.pg_fds.specs.Walks.{places_from}
 use Rattle.pg_fds.proofs.InOrderLaws.{file_asked}
 use Rattle.pg_fds.proofs.in_order.all_services.Goals as goal

@@ -1,5 +1,5 @@
 use Rattle.std.proofs.Common.{◌≡◌, take}
-use Rattle.pg_schema.specs.Scopes.{declared_services}
+use Rattle.pg_schema.specs.rules.Scopes.{declared_services}
 use Rattle.pg_fds.specs.Walks.{places_from}
 use Rattle.pg_fds.proofs.in_order.all_services.Given as goal
 

@@ -3,7 +3,7 @@ use Rattle.std.proofs.lemmas.Result.{MatchResult-from_err, on_err_weaker}
 use Rattle.std.specs.List.{flat_map, list_all}
 use Rattle.std.specs.Vec.{vec_len}
 use Rattle.pg_schema.specs.declared.parts.Parts.{Parts}
-use Rattle.pg_schema.specs.Scopes.{declared_services, is_file_scope}
+use Rattle.pg_schema.specs.rules.Scopes.{declared_services, is_file_scope}
 use Rattle.pg_fds.specs.InOrder.{file_enums, file_types}
 use Rattle.pg_fds.proofs.InOrderLaws.{same_count}
 use Rattle.pg_fds.proofs.ZipPlaces.{apart}

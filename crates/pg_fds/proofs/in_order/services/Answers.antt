@@ -1,7 +1,7 @@
 use Rattle.std.proofs.Common.{◌++◌, drop, suc}
 use Rattle.std.proofs.lemmas.Result.{MatchResult-from_err}
-use Rattle.pg_schema.specs.declared.service.ServiceId.{ServiceId}
-use Rattle.pg_schema.specs.Scopes.{service_places}
+use Rattle.pg_schema.specs.declared.parts.service.ServiceId.{ServiceId}
+use Rattle.pg_schema.specs.rules.Scopes.{service_places}
 use Rattle.pg_fds.specs.Walks.{places_from}
 use Rattle.pg_fds.proofs.InOrderLaws.{place_asked}
 use Rattle.pg_fds.proofs.in_order.services.Goals as goal

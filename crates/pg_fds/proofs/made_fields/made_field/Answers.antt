@@ -3,7 +3,7 @@ use Rattle.std.proofs.lemmas.Result.{MatchResult-from_err, err_from_is_err_and}
 use Rattle.std.proofs.lemmas.Str.{IsUtf8-string_bytes}
 use Rattle.std.specs.Str.{IsUtf8}
 use Rattle.std.specs.String.{string_bytes}
-use Rattle.pg_schema.specs.FieldRules.{has_presence, is_packed}
+use Rattle.pg_schema.specs.rules.Fields.{has_presence, is_packed}
 use Rattle.pg_fds.proofs.ViewLaws.{same_field}
 use Rattle.pg_fds.proofs.made_fields.made_field.Goals as goal
 

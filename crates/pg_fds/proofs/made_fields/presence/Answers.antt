@@ -2,7 +2,7 @@ use Rattle.std.proofs.Common.{◌≡◌, SFits, ap, of_z, pos, rules, subst, sym
 use Rattle.std.proofs.lemmas.Int.{to_z-of_z}
 use Rattle.std.specs.Int.{w128}
 use Rattle.std.specs.Prelude.{nat_abs}
-use Rattle.pg_schema.specs.FieldRules.{has_presence}
+use Rattle.pg_schema.specs.rules.Fields.{has_presence}
 use Rattle.pg_fds.proofs.PresenceLaws.{label_one, not_optional}
 use Rattle.pg_fds.proofs.made_fields.presence.Goals as goal
 

@@ -1,5 +1,5 @@
 use Rattle.std.proofs.Common.{ap, ◌∙◌}
-use Rattle.pg_schema.specs.FieldRules.{stated_or}
+use Rattle.pg_schema.specs.rules.Fields.{stated_or}
 use Rattle.pg_fds.proofs.PresenceLaws.{repeated_is, stated_is}
 use Rattle.pg_fds.proofs.made_fields.repeated.Goals as goal
 

@@ -1,6 +1,6 @@
 use Rattle.std.proofs.Common.{◌≡◌, List, map, take}
 use Rattle.std.specs.List.{AllZip}
-use Rattle.pg_schema.specs.declared.service.Method.{Method}
+use Rattle.pg_schema.specs.declared.parts.service.Method.{Method}
 use Rattle.pg_dyn.specs.Kept.{message_of}
 use Rattle.pg_fds.specs.Lent.{lent}
 use Rattle.pg_fds.specs.Made.{HasNames}

@@ -1,7 +1,7 @@
 use Rattle.std.proofs.Common.{Global, Vec, ap, get_or, map, option_map, sym, ◌∙◌}
 use Rattle.std.proofs.lemmas.Result.{err_from_is_err_and}
 use Rattle.std.specs.Option.{option_copied}
-use Rattle.pg_schema.specs.declared.options.FileOption.{FileOption}
+use Rattle.pg_schema.specs.declared.parts.options.FileOption.{FileOption}
 use Rattle.pg_dyn.specs.Kept.{message_of}
 use Rattle.pg_fds.specs.Building.{shown}
 use Rattle.pg_fds.specs.Views.{option_view}

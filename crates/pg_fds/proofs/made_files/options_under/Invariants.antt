@@ -1,7 +1,7 @@
 use Rattle.std.proofs.Common.{◌≡◌, List, map, take, true}
 use Rattle.std.specs.List.{list_all}
-use Rattle.pg_schema.specs.declared.options.FileOption.{FileOption}
-use Rattle.pg_schema.specs.FileRules.{is_file_option}
+use Rattle.pg_schema.specs.declared.parts.options.FileOption.{FileOption}
+use Rattle.pg_schema.specs.rules.Files.{is_file_option}
 use Rattle.pg_dyn.specs.Kept.{message_of}
 use Rattle.pg_fds.specs.MadeOptions.{StatesThese, views_under}
 use Rattle.pg_fds.specs.Views.{option_view}

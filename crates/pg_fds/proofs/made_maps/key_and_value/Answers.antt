@@ -1,7 +1,7 @@
 use Rattle.std.proofs.Common.{refl}
 use Rattle.std.specs.Prelude.{codes}
 use Rattle.std.proofs.lemmas.Result.{MatchResult-from_err, err_from_is_err_and}
-use Rattle.pg_schema.specs.declared.field.Element.TheVariants as elements
+use Rattle.pg_schema.specs.declared.parts.field.Element.TheVariants as elements
 use Rattle.pg_dyn.specs.Kept.{message_of}
 use Rattle.pg_fds.proofs.MapLaws.{element_of, two_fields}
 use Rattle.pg_fds.proofs.made_maps.key_and_value.Goals as goal

@@ -1,6 +1,6 @@
 use Rattle.std.proofs.Common.{◌≡◌, List, map, take}
 use Rattle.std.specs.List.{AllZip}
-use Rattle.pg_schema.specs.declared.file.File.{File}
+use Rattle.pg_schema.specs.declared.parts.file.File.{File}
 use Rattle.pg_fds.specs.Made.{IsMadeFile}
 use Rattle.pg_fds.specs.Places.{Declared}
 use Rattle.pg_fds.specs.Views.{file_view}

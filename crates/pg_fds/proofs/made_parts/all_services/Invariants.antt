@@ -1,6 +1,6 @@
 use Rattle.std.proofs.Common.{◌≡◌, List, map, take}
 use Rattle.std.specs.List.{AllZip}
-use Rattle.pg_schema.specs.declared.service.Service.{Service}
+use Rattle.pg_schema.specs.declared.parts.service.Service.{Service}
 use Rattle.pg_fds.specs.Made.{HasNames, IsMadeService}
 use Rattle.pg_fds.specs.Places.{Declared}
 use Rattle.pg_fds.specs.Views.{service_view}

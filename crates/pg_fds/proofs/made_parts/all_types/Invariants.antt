@@ -1,6 +1,6 @@
 use Rattle.std.proofs.Common.{◌≡◌, List, map, take}
 use Rattle.std.specs.List.{AllZip}
-use Rattle.pg_schema.specs.declared.message_type.MessageType.{MessageType}
+use Rattle.pg_schema.specs.declared.parts.message_type.MessageType.{MessageType}
 use Rattle.pg_fds.specs.Made.{IsMadeType}
 use Rattle.pg_fds.specs.Places.{Declared}
 use Rattle.pg_fds.specs.Views.{type_view}

@@ -1,6 +1,6 @@
 use Rattle.std.proofs.Common.{rules}
 use Rattle.std.proofs.lemmas.List.Sorted.{IsNonDecreasingBy-from_sort_by_key}
-use Rattle.pg_schema.specs.declared.field.Field.{Field}
+use Rattle.pg_schema.specs.declared.parts.field.Field.{Field}
 use Rattle.pg_fds.proofs.made_types.by_number.Goals as goal
 
 pub returns-clause-rising : goal.returns-clause-rising

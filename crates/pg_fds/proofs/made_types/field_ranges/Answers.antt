@@ -1,4 +1,4 @@
-use Rattle.pg_schema.specs.UsedNumbers.{is_reserved_range}
+use Rattle.pg_schema.specs.rules.Uses.{is_reserved_range}
 use Rattle.pg_fds.specs.States.{StatesFieldRange}
 use Rattle.pg_fds.proofs.MadeLaws.{made_all, made_more}
 use Rattle.pg_fds.proofs.made_types.field_ranges.Goals as goal

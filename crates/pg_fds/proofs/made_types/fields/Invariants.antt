@@ -1,6 +1,6 @@
 use Rattle.std.proofs.Common.{List, map}
 use Rattle.std.specs.List.{AllZip}
-use Rattle.pg_schema.specs.declared.field.Field.{Field}
+use Rattle.pg_schema.specs.declared.parts.field.Field.{Field}
 use Rattle.pg_dyn.specs.Kept.{message_of}
 use Rattle.pg_fds.specs.Lent.{lent}
 use Rattle.pg_fds.specs.Made.{HasEntries, StatesFieldAt}

@@ -3,9 +3,9 @@ use Rattle.std.proofs.lemmas.Map.Text.{btree_set_updates_text}
 use Rattle.std.specs.BTreeSet.{contains_text}
 use Rattle.std.specs.String.{string_bytes}
 use denote.Ref.{Bor}
-use Rattle.pg_schema.specs.Pairs.{are_distinct}
-use Rattle.pg_schema.specs.TextSets.{IsSetOf, is_among}
-use Rattle.pg_schema.proofs.TextSetLemmas.{distinct_more, set_more}
+use Rattle.pg_schema.specs.rules.Pairs.{are_distinct}
+use Rattle.pg_schema.specs.rules.TextSets.{IsSetOf, is_among}
+use Rattle.pg_schema.proofs.lemmas.rules.TextSetLemmas.{distinct_more, set_more}
 use Rattle.pg_fds.specs.Lent.{lent}
 use Rattle.pg_fds.proofs.OrderSteps.{item_at_place, one_step, stands_twice}
 use Rattle.pg_fds.proofs.order.are_apart.Goals as goal

@@ -2,9 +2,9 @@ use Rattle.std.proofs.Common.{◌≡◌, ◌+◌, [], ◌∷◌, ◌++◌, inr, 
 use Rattle.std.proofs.lemmas.Map.Text.{btree_map_updates_text}
 use Rattle.std.specs.BTreeMap.{get_by_text}
 use Rattle.std.specs.String.{string_bytes}
-use Rattle.pg_schema.specs.Pairs.{are_distinct}
-use Rattle.pg_schema.specs.TextSets.{is_among}
-use Rattle.pg_schema.proofs.TextSetLemmas.{distinct_more}
+use Rattle.pg_schema.specs.rules.Pairs.{are_distinct}
+use Rattle.pg_schema.specs.rules.TextSets.{is_among}
+use Rattle.pg_schema.proofs.lemmas.rules.TextSetLemmas.{distinct_more}
 use Rattle.pg_fds.specs.FilePlaces.{IsIndex, importers}
 use Rattle.pg_fds.specs.PostOrder.{paths_of}
 use Rattle.pg_fds.proofs.Ordering.{index_has, index_lacks, index_more}

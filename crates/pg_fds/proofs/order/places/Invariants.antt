@@ -1,5 +1,5 @@
 use Rattle.std.proofs.Common.{◌≡◌, take, true}
-use Rattle.pg_schema.specs.Pairs.{are_distinct}
+use Rattle.pg_schema.specs.rules.Pairs.{are_distinct}
 use Rattle.pg_fds.specs.FilePlaces.{IsIndex, importers}
 use Rattle.pg_fds.specs.PostOrder.{paths_of}
 use Rattle.pg_fds.proofs.order.places.Given as goal

@@ -1,7 +1,7 @@
 use Rattle.std.proofs.Common.{◌≡◌, ℕ, true, List, None, map, take}
 use Rattle.std.specs.BTreeMap.{get_by_text}
 use Rattle.std.specs.List.{AllByRecursion}
-use Rattle.pg_schema.specs.TextSets.{is_among}
+use Rattle.pg_schema.specs.rules.TextSets.{is_among}
 use Rattle.pg_dyn.specs.Kept.{message_of}
 use Rattle.pg_fds.specs.Lent.{lent}
 use Rattle.pg_fds.specs.Outlines.{files_at}

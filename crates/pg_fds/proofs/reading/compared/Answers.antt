@@ -1,6 +1,6 @@
 use Rattle.std.proofs.Common.{◌≡◌, map}
 use Rattle.std.proofs.lemmas.Result.{IfErr-weaker, err_from_is_err_and, on_ok_weaker}
-use Rattle.pg_schema.specs.Sound.{IsSound}
+use Rattle.pg_schema.specs.rules.Sound.{IsSound}
 use Rattle.pg_dyn.specs.Kept.{message_of}
 use Rattle.pg_fds.specs.declared.error.Unstated.TheVariants as unstated
 use Rattle.pg_fds.specs.InOrder.{StandInOrder}

@@ -1,8 +1,8 @@
 use Rattle.std.proofs.Common.{◌≡◌, ◌<◌, length, Some, sym, subst, rules}
-use Rattle.pg_dyn.specs.Decoding.{dec}
+use Rattle.pg_dyn.specs.reading.Decoding.{dec}
 use Rattle.pg_dyn.specs.Fits.{Fits}
 use Rattle.pg_dyn.specs.Kept.{message_of, type_of}
-use Rattle.pg_dyn.specs.Refusals.{MayRefuse}
+use Rattle.pg_dyn.specs.reading.Refusals.{MayRefuse}
 use Rattle.pg_fds.specs.Building.{written_shape}
 use Rattle.pg_fds.specs.Descriptor.{file_set}
 use Rattle.pg_fds.proofs.reading.decoded.Goals as goal

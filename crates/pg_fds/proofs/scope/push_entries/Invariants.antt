@@ -1,6 +1,6 @@
 use Rattle.std.proofs.Common.{◌≡◌, ◌++◌, take, map}
 use Rattle.std.specs.String.{string_bytes}
-use Rattle.pg_schema.specs.DeclaredNames.{entry_names}
+use Rattle.pg_schema.specs.rules.DeclaredNames.{entry_names}
 use Rattle.pg_fds.proofs.scope.push_entries.Given as goal
 
 abbrev pub invariant-loop-field : goal.invariant-loop-field

@@ -1,6 +1,6 @@
 use Rattle.std.proofs.Common.{◌≡◌, ◌++◌, take, map}
 use Rattle.std.specs.String.{string_bytes}
-use Rattle.pg_schema.specs.MessageRules.{field_names}
+use Rattle.pg_schema.specs.rules.Messages.{field_names}
 use Rattle.pg_fds.proofs.scope.push_fields.Given as goal
 
 abbrev pub invariant-loop-field : goal.invariant-loop-field

@@ -1,6 +1,6 @@
 use Rattle.std.proofs.Common.{◌≡◌, ◌++◌, take, map}
 use Rattle.std.specs.String.{string_bytes}
-use Rattle.pg_schema.specs.EnumRules.{value_names}
+use Rattle.pg_schema.specs.rules.Enums.{value_names}
 use Rattle.pg_fds.proofs.scope.push_values.Given as goal
 
 abbrev pub invariant-loop-value : goal.invariant-loop-value

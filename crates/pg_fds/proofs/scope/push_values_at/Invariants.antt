@@ -1,6 +1,6 @@
 use Rattle.std.proofs.Common.{◌≡◌, ◌++◌, take, map}
 use Rattle.std.specs.String.{string_bytes}
-use Rattle.pg_schema.specs.DeclaredNames.{values_at}
+use Rattle.pg_schema.specs.rules.DeclaredNames.{values_at}
 use Rattle.pg_fds.proofs.scope.push_values_at.Given as goal
 
 abbrev pub invariant-loop-id : goal.invariant-loop-id

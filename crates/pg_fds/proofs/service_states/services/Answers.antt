@@ -1,6 +1,6 @@
 use Rattle.std.proofs.lemmas.Result.{MatchResult-from_err, err_from_is_err_and}
 use Rattle.std.specs.Prelude.{IsSomeAnd, slice_get}
-use Rattle.pg_schema.specs.declared.service.ServiceId.{ServiceId}
+use Rattle.pg_schema.specs.declared.parts.service.ServiceId.{ServiceId}
 use Rattle.pg_fds.specs.Places.{declared_in}
 use Rattle.pg_fds.specs.StatesFiles.{StatesService}
 use Rattle.pg_fds.proofs.ZipPlaces.{zip_or, zip_uneven}

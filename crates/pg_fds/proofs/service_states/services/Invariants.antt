@@ -4,7 +4,7 @@ use Rattle.pg_dyn.specs.Kept.{message_of}
 use Rattle.pg_fds.specs.Lent.{lent}
 use Rattle.pg_fds.specs.Places.{declared_in}
 use Rattle.std.specs.Prelude.{IsSomeAnd, slice_get}
-use Rattle.pg_schema.specs.declared.service.ServiceId.{ServiceId}
+use Rattle.pg_schema.specs.declared.parts.service.ServiceId.{ServiceId}
 use Rattle.pg_fds.specs.StatesFiles.{StatesService}
 use Rattle.pg_fds.proofs.service_states.services.Given as goal
 

@@ -4,9 +4,9 @@ use Rattle.std.proofs.lemmas.Map.Text.{btree_set_updates_text}
 use Rattle.std.proofs.lemmas.Result.{MatchResult-from_err}
 use Rattle.std.specs.BTreeSet.{contains_text}
 use Rattle.std.specs.String.{string_bytes}
-use Rattle.pg_schema.specs.declared.file.File.{File}
-use Rattle.pg_schema.specs.TextSets.{IsSetOf, is_among}
-use Rattle.pg_schema.proofs.TextSetLemmas.{set_more}
+use Rattle.pg_schema.specs.declared.parts.file.File.{File}
+use Rattle.pg_schema.specs.rules.TextSets.{IsSetOf, is_among}
+use Rattle.pg_schema.proofs.lemmas.rules.TextSetLemmas.{set_more}
 use Rattle.pg_fds.specs.Reads.{AreBehind, file_name, imports_among}
 use Rattle.pg_fds.proofs.SetLaws.{files_step}
 use Rattle.pg_fds.proofs.Zips.{none_left, rest}

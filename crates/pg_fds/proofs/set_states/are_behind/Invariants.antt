@@ -1,5 +1,5 @@
 use Rattle.std.proofs.Common.{[], drop, map, take}
-use Rattle.pg_schema.specs.TextSets.{IsSetOf}
+use Rattle.pg_schema.specs.rules.TextSets.{IsSetOf}
 use Rattle.pg_fds.specs.Reads.{AreBehind, file_name}
 use Rattle.pg_fds.proofs.set_states.are_behind.Given as goal
 

@@ -3,8 +3,8 @@ use Rattle.std.proofs.lemmas.Bool.{false≢true}
 use Rattle.std.proofs.lemmas.Result.{MatchResult-from_err}
 use Rattle.std.specs.BTreeSet.{contains_text}
 use Rattle.std.specs.String.{string_bytes}
-use Rattle.pg_schema.specs.declared.file.Import.{Import}
-use Rattle.pg_schema.specs.TextSets.{is_among}
+use Rattle.pg_schema.specs.declared.parts.file.Import.{Import}
+use Rattle.pg_schema.specs.rules.TextSets.{is_among}
 use Rattle.pg_fds.proofs.FileLaws.{test_in}
 use Rattle.pg_fds.proofs.SetLaws.{all_step}
 use Rattle.pg_fds.proofs.set_states.has_imports.Goals as goal

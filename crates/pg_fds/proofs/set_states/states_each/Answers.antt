@@ -1,14 +1,14 @@
 use Rattle.std.proofs.Common.{◌<◌, get_or, length, map, rules}
 use Rattle.std.proofs.lemmas.Result.{MatchResult-from_err, err_from_is_err_and}
 use Rattle.std.specs.List.{Any}
-use Rattle.pg_schema.specs.declared.file.File.{File}
+use Rattle.pg_schema.specs.declared.parts.file.File.{File}
 use Rattle.pg_dyn.specs.Kept.{message_of}
 use Rattle.pg_fds.specs.Lent.{lent}
 use Rattle.pg_fds.specs.Places.{declared_in}
 use Rattle.pg_fds.specs.PostOrder.{paths_of}
 use Rattle.pg_fds.specs.Reads.{importer_of}
 use Rattle.pg_fds.specs.StatesFiles.{StatesFile}
-use Rattle.pg_schema.specs.FileRules.{is_file}
+use Rattle.pg_schema.specs.rules.Files.{is_file}
 use Rattle.pg_fds.proofs.FileLaws.{test_in}
 use Rattle.pg_fds.proofs.OrderSteps.{item_at_place}
 use Rattle.pg_fds.proofs.SetLaws.{each_step, named_step}

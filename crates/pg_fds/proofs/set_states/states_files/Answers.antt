@@ -1,10 +1,10 @@
 use Rattle.std.proofs.Common.{◌≡◌, length, map, true, ap, subst, sym, ◌∙◌, []}
 use Rattle.std.proofs.lemmas.Result.{err_from_is_err_and}
 use Rattle.std.specs.List.{AllByRecursion, AllZip, Any, list_all}
-use Rattle.pg_schema.specs.declared.file.File.{File}
+use Rattle.pg_schema.specs.declared.parts.file.File.{File}
 use Rattle.pg_schema.specs.declared.parts.Parts.{Parts}
-use Rattle.pg_schema.specs.FileRules.{is_file}
-use Rattle.pg_schema.specs.Pairs.{are_distinct}
+use Rattle.pg_schema.specs.rules.Files.{is_file}
+use Rattle.pg_schema.specs.rules.Pairs.{are_distinct}
 use Rattle.pg_dyn.specs.Kept.{message_of}
 use Rattle.pg_fds.specs.Lent.{lent}
 use Rattle.pg_fds.specs.Outlines.{files_at}

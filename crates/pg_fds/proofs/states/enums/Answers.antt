@@ -1,6 +1,6 @@
 use Rattle.std.proofs.lemmas.Result.{MatchResult-from_err, err_from_is_err_and}
 use Rattle.std.specs.Prelude.{IsSomeAnd, slice_get}
-use Rattle.pg_schema.specs.declared.field.EnumId.{EnumId}
+use Rattle.pg_schema.specs.declared.parts.field.EnumId.{EnumId}
 use Rattle.pg_fds.specs.States.{StatesEnum}
 use Rattle.pg_fds.proofs.ZipPlaces.{zip_or, zip_uneven}
 use Rattle.pg_fds.proofs.states.enums.Goals as goal

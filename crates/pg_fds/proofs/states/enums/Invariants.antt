@@ -4,7 +4,7 @@ use Rattle.pg_dyn.specs.Kept.{message_of}
 use Rattle.pg_fds.specs.Lent.{lent}
 use Rattle.std.proofs.Common.{slice_get}
 use Rattle.std.specs.Prelude.{IsSomeAnd}
-use Rattle.pg_schema.specs.declared.field.EnumId.{EnumId}
+use Rattle.pg_schema.specs.declared.parts.field.EnumId.{EnumId}
 use Rattle.pg_fds.specs.States.{StatesEnum}
 use Rattle.pg_fds.proofs.states.enums.Given as goal
 

@@ -1,7 +1,7 @@
 use Rattle.std.proofs.Common.{◌≡◌, ◌∷◌, true, length, ap, subst, ◌∙◌}
 use Rattle.std.proofs.lemmas.Map.Text.{btree_set_updates_text}
 use Rattle.std.specs.String.{string_bytes}
-use Rattle.pg_schema.specs.TextSets.{IsSetOf}
+use Rattle.pg_schema.specs.rules.TextSets.{IsSetOf}
 use Rattle.pg_fds.specs.Synthetic.{freed, synthetic_name, with_underscore}
 use Rattle.pg_fds.proofs.SyntheticLaws.{set_with}
 use Rattle.pg_fds.proofs.synthetic.push_synthetic.Goals as goal

@@ -1,8 +1,8 @@
 use Rattle.std.proofs.Common.{map, take, true, sym, subst}
 use Rattle.std.proofs.lemmas.Map.Text.{btree_set_updates_text}
 use Rattle.std.specs.String.{string_bytes}
-use Rattle.pg_schema.specs.TextSets.{IsSetOf}
-use Rattle.pg_schema.proofs.TextSetLemmas.{set_more, texts_step}
+use Rattle.pg_schema.specs.rules.TextSets.{IsSetOf}
+use Rattle.pg_schema.proofs.lemmas.rules.TextSetLemmas.{set_more, texts_step}
 use Rattle.pg_fds.proofs.synthetic.set_of.Goals as goal
 
 pub loop-name-preserved : goal.loop-name-preserved

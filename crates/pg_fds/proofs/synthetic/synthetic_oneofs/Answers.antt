@@ -1,7 +1,7 @@
 use Rattle.std.proofs.Common.{◌≡◌, ◌+◌, length, map, ap, sym, subst, ◌∙◌, arith}
 use Rattle.std.proofs.lemmas.List.{length-map}
 use Rattle.std.specs.String.{string_bytes}
-use Rattle.pg_schema.specs.TextSets.{IsSetOf}
+use Rattle.pg_schema.specs.rules.TextSets.{IsSetOf}
 use Rattle.pg_fds.specs.Lent.{lent}
 use Rattle.pg_fds.specs.Synthetic.{synthetic_name, synthetic_oneofs}
 use Rattle.pg_fds.proofs.SyntheticLaws.{length-onto, onto, onto-append, step_made}

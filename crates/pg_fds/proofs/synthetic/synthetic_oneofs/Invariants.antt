@@ -1,6 +1,6 @@
 use Rattle.std.proofs.Common.{◌≡◌, ◌++◌, map, drop}
 use Rattle.std.specs.String.{string_bytes}
-use Rattle.pg_schema.specs.TextSets.{IsSetOf}
+use Rattle.pg_schema.specs.rules.TextSets.{IsSetOf}
 use Rattle.pg_fds.specs.Lent.{lent}
 use Rattle.pg_fds.specs.Synthetic.{synthetic_oneofs}
 use Rattle.pg_fds.proofs.SyntheticLaws.{onto}

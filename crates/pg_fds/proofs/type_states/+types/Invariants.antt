@@ -4,7 +4,7 @@ use Rattle.pg_dyn.specs.Kept.{message_of}
 use Rattle.pg_fds.specs.Lent.{lent}
 use Rattle.pg_fds.specs.Places.{declared_in}
 use Rattle.std.specs.Prelude.{IsSomeAnd, slice_get, ◌-◌}
-use Rattle.pg_schema.specs.declared.field.TypeId.{TypeId}
+use Rattle.pg_schema.specs.declared.parts.field.TypeId.{TypeId}
 use Rattle.pg_fds.specs.StatesTypes.{StatesTypes, StatesWhole}
 use Rattle.pg_fds.proofs.type_states.+types.Given as goal
 

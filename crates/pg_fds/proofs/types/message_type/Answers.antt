@@ -1,6 +1,6 @@
 use Rattle.std.proofs.Common.{map, refl, ap, ◌∙◌}
 use Rattle.std.specs.String.{string_bytes}
-use Rattle.pg_schema.specs.declared.field.Field.{Field}
+use Rattle.pg_schema.specs.declared.parts.field.Field.{Field}
 use Rattle.pg_fds.proofs.ViewLaws.{same_type}
 use Rattle.pg_fds.proofs.SeenRules.{numbers_seen}
 use Rattle.pg_fds.proofs.types.message_type.Goals as goal

@@ -1,5 +1,5 @@
 use Rattle.std.proofs.Common.{◌≡◌, take, map}
-use Rattle.pg_schema.specs.declared.field.Field.{Field}
+use Rattle.pg_schema.specs.declared.parts.field.Field.{Field}
 use Rattle.pg_fds.proofs.types.numbers.Given as goal
 
 abbrev pub invariant-loop-field : goal.invariant-loop-field

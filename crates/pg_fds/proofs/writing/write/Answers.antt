@@ -1,6 +1,6 @@
 use Rattle.std.proofs.Common.{◌<◌, length, inl, inr, refl, sym, subst, ◌∙◌}
 use Rattle.pg_schema.specs.Parts.{shape_of}
-use Rattle.pg_dyn.specs.Encoding.{cap}
+use Rattle.pg_dyn.specs.encoding.Encoding.{cap}
 use Rattle.pg_dyn.specs.Fits.{Fits}
 use Rattle.pg_fds.specs.Building.{written_shape}
 use Rattle.pg_schema.specs.Shape.{IsShape}

@@ -1,7 +1,7 @@
 -- What is read of the encoding is the message itself.
 use Rattle.std.proofs.Common.{◌∙◌, ◌≤◌, ℕ, List, length, subst}
 use Rattle.pg_schema.specs.Parts.{shape_of}
-use Rattle.pg_dyn.specs.Encoding.{cap}
+use Rattle.pg_dyn.specs.encoding.Encoding.{cap}
 use Rattle.pg_dyn.specs.ViewNames.{view_named}
 use Rattle.pg_pairs.proofs.BreakSteps.{lent_answers, lent_within, lent_written, unread_never}
 use Rattle.pg_pairs.proofs.breaking.breaks.Goals as goal

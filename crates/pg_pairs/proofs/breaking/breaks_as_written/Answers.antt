@@ -1,8 +1,8 @@
 -- What the new type's reader makes of the encoding decides.
 use Rattle.std.proofs.Common.{◌≡◌, ◌∙◌, false, Some, None, ap, sym, true≢false}
 use Rattle.pg_schema.specs.Parts.{shape_of}
-use Rattle.pg_dyn.specs.Decoding.{dec}
-use Rattle.pg_dyn.specs.Encoding.{enc}
+use Rattle.pg_dyn.specs.reading.Decoding.{dec}
+use Rattle.pg_dyn.specs.encoding.Encoding.{enc}
 use Rattle.pg_dyn.specs.Kept.{message_of, type_of}
 use Rattle.pg_dyn.specs.ViewNames.{view_named}
 use Rattle.pg_pairs.proofs.BreakSteps.{absent_keeps, answered, of_read, other_type, same_type, unread_is}

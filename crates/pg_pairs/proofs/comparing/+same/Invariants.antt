@@ -3,7 +3,7 @@ use Rattle.std.proofs.Common.{◌≡◌, ◌+◌, ◌-◌, ◌*◌, true, take, 
 use Rattle.std.specs.List.{AllByRecursion}
 use Rattle.pg_schema.specs.Parts.{field_shape, shape_of}
 use Rattle.pg_schema.specs.Shape.{field_at, fields}
-use Rattle.pg_schema.specs.declared.field.Field.{Field}
+use Rattle.pg_schema.specs.declared.parts.field.Field.{Field}
 use Rattle.pg_dyn.specs.Kept.{type_of, weight}
 use Rattle.pg_pairs.specs.Comparing.{all_match, is_same_beside, keyed}
 use Rattle.pg_pairs.proofs.SameSteps.{held_weight, total}

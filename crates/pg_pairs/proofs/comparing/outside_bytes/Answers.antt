@@ -3,7 +3,7 @@ use Rattle.pg_schema.specs.Parts.{shape_of}
 use Rattle.pg_schema.specs.Shape.{fields}
 use Rattle.pg_dyn.specs.Comparison.{records_outside}
 use Rattle.pg_dyn.specs.Kept.{unknown_of}
-use Rattle.pg_dyn.specs.Writing.{bytes_of}
+use Rattle.pg_dyn.specs.encoding.Writing.{bytes_of}
 use Rattle.pg_pairs.specs.Comparing.{outside_record}
 use Rattle.pg_pairs.proofs.SameMessages.{outside_all}
 use Rattle.pg_pairs.proofs.comparing.outside_bytes.Goals as goal

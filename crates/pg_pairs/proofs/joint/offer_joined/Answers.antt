@@ -1,6 +1,6 @@
 use Rattle.std.proofs.Common.{◌≡◌, ℕ, suc, ◌<◌, ◌-◌, length, map, drop, get_or, true, None, arith, ap, sym, subst, refl, ◌++◌}
 use Rattle.pg_schema.specs.Parts.{field_shape}
-use Rattle.pg_dyn.specs.Content.{same_oneof}
+use Rattle.pg_dyn.specs.reading.Content.{same_oneof}
 use Rattle.pg_pairs.specs.Choices.{affordable, joined_choices}
 use Rattle.pg_pairs.proofs.Joined.{next_there, later, next_same, jumps, oneof_at, turn, jump_on, on_later, on_same}
 use Rattle.pg_pairs.proofs.joint.offer_joined.Goals as goal

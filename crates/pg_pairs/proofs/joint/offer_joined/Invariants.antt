@@ -1,8 +1,8 @@
 use Rattle.std.proofs.Common.{◌≡◌, ◌<◌, ◌-◌, ◌++◌, suc, length, drop, map, get_or, slice_index_or, true, List, None}
-use Rattle.pg_schema.specs.declared.field.Field.{Field}
+use Rattle.pg_schema.specs.declared.parts.field.Field.{Field}
 use Rattle.pg_schema.specs.Parts.{field_shape}
 use Rattle.pg_schema.specs.Shape.{FieldShape}
-use Rattle.pg_dyn.specs.Content.{same_oneof}
+use Rattle.pg_dyn.specs.reading.Content.{same_oneof}
 use Rattle.pg_pairs.specs.Choices.{affordable, joined_choices}
 use Rattle.pg_pairs.specs.Members.{new_oneof}
 use Rattle.pg_pairs.proofs.joint.offer_joined.Given as goal

@@ -1,7 +1,7 @@
 use Rattle.std.proofs.Common.{◌≡◌, ◌<◌, length, slice_index_or, true, ap, sym, subst, ◌∙◌, arith}
 use Rattle.std.proofs.lemmas.List.{get_or_read}
-use Rattle.pg_schema.specs.declared.field.Field.{Field}
-use Rattle.pg_dyn.specs.Content.{same_oneof}
+use Rattle.pg_schema.specs.declared.parts.field.Field.{Field}
+use Rattle.pg_dyn.specs.reading.Content.{same_oneof}
 use Rattle.pg_pairs.specs.Members.{PassesTo}
 use Rattle.pg_pairs.proofs.Joined.{passes_on, goes_on}
 use Rattle.pg_pairs.proofs.member.lead_past.Goals as goal

@@ -3,7 +3,7 @@ use Rattle.std.proofs.lemmas.Bool.{MatchBool-at_true}
 use Rattle.std.proofs.lemmas.Fn.{always_returns_same}
 use Rattle.std.proofs.lemmas.List.Sorted.{IsNonDecreasingBy-from_all_adjacent}
 use Rattle.std.proofs.lemmas.Map.Keys.{le_from_is_le}
-use Rattle.pg_schema.specs.declared.enum_type.EnumValue.{EnumValue}
+use Rattle.pg_schema.specs.declared.parts.enum_type.EnumValue.{EnumValue}
 use Rattle.pg_pairs.specs.LeastNumbers.{number_word}
 use Rattle.pg_pairs.proofs.names.rise_by_word.Goals as goal
 

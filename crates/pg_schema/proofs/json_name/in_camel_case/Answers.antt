@@ -3,7 +3,7 @@ use Rattle.std.specs.String.{string_bytes}
 use Rattle.std.specs.declared.str.Chars.{Chars}
 use Rattle.std.proofs.Math.Utf8.{encode}
 use Rattle.pg_schema.specs.JsonName.{in_camel_case}
-use Rattle.pg_schema.proofs.JsonNames.{dropped, kept, cased}
+use Rattle.pg_schema.proofs.lemmas.JsonNames.{dropped, kept, cased}
 use Rattle.pg_schema.proofs.json_name.in_camel_case.Goals as goal
 
 -- one more character is written

@@ -1,5 +1,5 @@
 use Rattle.std.proofs.Common.{◌≡◌, true, false, ◌&&◌, ◌||◌, sym, subst, refl}
-use Rattle.pg_schema.specs.MessageRules.{is_place}
+use Rattle.pg_schema.specs.rules.Messages.{is_place}
 use Rattle.pg_schema.proofs.laws.worked_rules.Goals as goal
 
 pub returns : goal.returns

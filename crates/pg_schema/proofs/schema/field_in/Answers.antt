@@ -1,7 +1,7 @@
 use Rattle.std.proofs.Common.{sym, rules}
 use Rattle.std.proofs.lemmas.List.Sorted.{answers_always}
-use Rattle.pg_schema.specs.declared.field.Field.{Field}
-use Rattle.pg_schema.proofs.FieldSearch.{searchable, found_at, none_found, equal_number, apart}
+use Rattle.pg_schema.specs.declared.parts.field.Field.{Field}
+use Rattle.pg_schema.proofs.lemmas.schema.FieldSearch.{searchable, found_at, none_found, equal_number, apart}
 use Rattle.pg_schema.proofs.schema.field_in.Goals as goal
 
 pub returns-in-Ok : goal.returns-in-Ok

@@ -1,11 +1,11 @@
 use Rattle.std.proofs.Common.{◌≡◌, ◌≤◌, ◌++◌, List, [], ◌∷◌, ℕ, nat_eq, false, length, ap, sym, refl, ◌∙◌, arith}
 use Rattle.std.proofs.lemmas.Result.{err_from_is_err_and}
-use Rattle.pg_schema.specs.declared.field.Element.{Element}
+use Rattle.pg_schema.specs.declared.parts.field.Element.{Element}
 use Rattle.pg_wire.specs.declared.record.WireType.TheVariants.{Len}
 use Rattle.pg_wire.specs.Records.{written}
-use Rattle.pg_dyn.specs.Lending.{Bare}
-use Rattle.pg_dyn.specs.Written.{capped, packed_body, packed_bytes, packed_lengths}
-use Rattle.pg_dyn.proofs.EncodeSteps.{first_is, later_is, longer, record_in_turn, record_size}
+use Rattle.pg_dyn.specs.encoding.Lending.{Bare}
+use Rattle.pg_dyn.specs.encoding.Written.{capped, packed_body, packed_bytes, packed_lengths}
+use Rattle.pg_dyn.proofs.lemmas.encoding.EncodeSteps.{first_is, later_is, longer, record_in_turn, record_size}
 use Rattle.pg_dyn.proofs.encoding.records.push_packed.Goals as goal
 
 packed_some : {V : Type 0} (item : V → Bare) (n : ℕ) (e : Element) (vs : List V) → nat_eq (length vs) 0 ≡ false → packed_bytes item n e vs ≡ (written n Len (packed_body item e vs)).bytes

@@ -1,4 +1,4 @@
-use Rattle.pg_dyn.proofs.ViewNames as ViewNames
+use Rattle.pg_dyn.proofs.lemmas.ViewNames as ViewNames
 use Rattle.pg_dyn.proofs.laws.views.numbers_view.Goals as goal
 
 pub returns : goal.returns

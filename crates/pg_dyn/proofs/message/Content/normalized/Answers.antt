@@ -1,21 +1,21 @@
 -- One item, a list item by item, and a map's entries in order.
 use Rattle.std.proofs.Common.{◌≡◌, false, ap, sym, subst, ◌∙◌}
 use Rattle.std.proofs.lemmas.List.Sorted.{length_permutation}
-use Rattle.pg_schema.specs.declared.field.Presence.{Presence}
+use Rattle.pg_schema.specs.declared.parts.field.Presence.{Presence}
 use Rattle.pg_schema.specs.Parts.{shape_of}
 use Rattle.pg_dyn.specs.declared.message.Content.{Content}
 use Rattle.pg_dyn.specs.declared.message.Content.TheVariants as contents
 use Rattle.pg_dyn.specs.declared.message.Value.{Value}
-use Rattle.pg_dyn.specs.ContentFaults.{HasKeyTwice}
+use Rattle.pg_dyn.specs.setting.ContentFaults.{HasKeyTwice}
 use Rattle.pg_dyn.specs.ContentFits.{ContentFits}
 use Rattle.pg_dyn.specs.KeyOrder.{KeysAlike}
 use Rattle.pg_dyn.specs.Seen.{content_seen, IsKey}
-use Rattle.pg_dyn.specs.Setting.{normalized_by}
-use Rattle.pg_dyn.specs.Told.{EntryFits, is_nothing, ItemsFit}
-use Rattle.pg_dyn.proofs.ItemLeaves.{item_is_key}
-use Rattle.pg_dyn.proofs.KeyLaws.{each_moved}
+use Rattle.pg_dyn.specs.setting.Setting.{normalized_by}
+use Rattle.pg_dyn.specs.setting.Told.{EntryFits, is_nothing, ItemsFit}
+use Rattle.pg_dyn.proofs.lemmas.ItemLeaves.{item_is_key}
+use Rattle.pg_dyn.proofs.lemmas.KeyLaws.{each_moved}
 use Rattle.pg_dyn.proofs.Lists.{each_weaker}
-use Rattle.pg_dyn.proofs.NormalizedLaws.{as_long, keys_rise, list_seen, map_items, map_seen, none_left, one_fits}
+use Rattle.pg_dyn.proofs.lemmas.setting.NormalizedLaws.{as_long, keys_rise, list_seen, map_items, map_seen, none_left, one_fits}
 use Rattle.pg_dyn.proofs.message.Content.normalized.Goals as goal
 
 pub returns-in_default-One-clause-fits : goal.returns-in_default-One-clause-fits

@@ -1,6 +1,6 @@
 -- The field that takes the content is the one that is found.
 use Rattle.std.proofs.Common.{◌≡◌, ℕ, Some, Result, OnOk, map, ap, sym, subst, ◌∙◌}
-use Rattle.pg_schema.specs.declared.field.TypeId.{TypeId}
+use Rattle.pg_schema.specs.declared.parts.field.TypeId.{TypeId}
 use Rattle.pg_schema.specs.Parts.{field_shape, shape_of}
 use Rattle.pg_schema.specs.Shape.{FieldShape, fields, field_at}
 use Rattle.pg_dyn.specs.declared.error.DynError.{DynError}
@@ -8,11 +8,11 @@ use Rattle.pg_dyn.specs.Fits.{Fits}
 use Rattle.pg_dyn.specs.Kept.{type_of}
 use Rattle.pg_dyn.specs.Replacing.{with_parts, without_siblings}
 use Rattle.pg_dyn.specs.Seen.{content_seen, record_seen}
-use Rattle.pg_dyn.specs.Setting.{normalized}
-use Rattle.pg_dyn.specs.Told.{ItemsFit}
-use Rattle.pg_dyn.proofs.FitsChecks.{none_found, same_field}
-use Rattle.pg_dyn.proofs.ReplacingLaws.{type_shown}
-use Rattle.pg_dyn.proofs.Splitting.{found_number}
+use Rattle.pg_dyn.specs.setting.Setting.{normalized}
+use Rattle.pg_dyn.specs.setting.Told.{ItemsFit}
+use Rattle.pg_dyn.proofs.lemmas.FitsChecks.{none_found, same_field}
+use Rattle.pg_dyn.proofs.lemmas.ReplacingLaws.{type_shown}
+use Rattle.pg_dyn.proofs.lemmas.Splitting.{found_number}
 use Rattle.pg_dyn.proofs.message.Message.add.Goals.{in-Ok, in-Err}
 use Rattle.pg_dyn.proofs.message.Message.add.Goals as goal
 

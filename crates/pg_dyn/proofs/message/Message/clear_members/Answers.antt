@@ -5,8 +5,8 @@ use Rattle.pg_schema.specs.Parts.{field_shape}
 use Rattle.pg_dyn.specs.declared.message.Content.{Content}
 use Rattle.pg_dyn.specs.Replacing.{is_sibling_number}
 use Rattle.pg_dyn.specs.Seen.{IsFilled, HasKeys, Rises, record_seen}
-use Rattle.pg_dyn.proofs.FieldListLaws.{rises-filter}
-use Rattle.pg_dyn.proofs.WithoutSiblings.{cleared_shown, each_left}
+use Rattle.pg_dyn.proofs.lemmas.FieldListLaws.{rises-filter}
+use Rattle.pg_dyn.proofs.lemmas.setting.WithoutSiblings.{cleared_shown, each_left}
 use Rattle.pg_dyn.proofs.message.Message.clear_members.Goals as goal
 
 pub invariant_of-self : goal.invariant_of-self

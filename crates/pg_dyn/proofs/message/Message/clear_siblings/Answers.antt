@@ -1,16 +1,16 @@
 -- The contents that are left still rise, and are those of the message without the others.
 use Rattle.std.proofs.Common.{ℕ, map, not, ap, sym, subst, ◌∙◌}
 use Rattle.std.specs.List.{AllByRecursion}
-use Rattle.pg_schema.specs.declared.field.TypeId.{TypeId}
+use Rattle.pg_schema.specs.declared.parts.field.TypeId.{TypeId}
 use Rattle.pg_schema.specs.Parts.{field_shape, shape_of}
 use Rattle.pg_schema.specs.Shape.{fields}
 use Rattle.pg_dyn.specs.declared.message.Content.{Content}
 use Rattle.pg_dyn.specs.Kept.{type_of}
 use Rattle.pg_dyn.specs.Replacing.{is_sibling_number, without_siblings}
 use Rattle.pg_dyn.specs.Seen.{IsFilled, HasKeys, Rises, record_seen}
-use Rattle.pg_dyn.proofs.FieldListLaws.{rises-filter}
-use Rattle.pg_dyn.proofs.ReplacingLaws.{no_siblings, type_shown}
-use Rattle.pg_dyn.proofs.WithoutSiblings.{cleared_shown, each_left}
+use Rattle.pg_dyn.proofs.lemmas.FieldListLaws.{rises-filter}
+use Rattle.pg_dyn.proofs.lemmas.ReplacingLaws.{no_siblings, type_shown}
+use Rattle.pg_dyn.proofs.lemmas.setting.WithoutSiblings.{cleared_shown, each_left}
 use Rattle.pg_dyn.proofs.message.Message.clear_siblings.Goals as goal
 
 pub invariant_of-self : goal.invariant_of-self

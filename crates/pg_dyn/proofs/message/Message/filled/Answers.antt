@@ -1,18 +1,18 @@
 use Rattle.std.proofs.Common.{◌≡◌, ◌∷◌, [], ◌++◌, ℕ, Some, sym, ap, subst, ◌∙◌, append_assoc}
 use Rattle.std.specs.Vec.Iter.{into_iter_items}
 use Rattle.std.specs.List.{AllByRecursion}
-use Rattle.pg_schema.specs.declared.field.TypeId.{TypeId}
+use Rattle.pg_schema.specs.declared.parts.field.TypeId.{TypeId}
 use Rattle.pg_schema.specs.Parts.{shape_of}
 use Rattle.pg_schema.specs.Shape.{fields, field_at}
 use Rattle.pg_dyn.specs.declared.message.Content.{Content}
-use Rattle.pg_dyn.specs.ContentFaults.{HasKeyTwice}
+use Rattle.pg_dyn.specs.setting.ContentFaults.{HasKeyTwice}
 use Rattle.pg_dyn.specs.ContentFits.{NoneSiblings}
 use Rattle.pg_dyn.specs.Fits.{Fits}
 use Rattle.pg_dyn.specs.Kept.{type_of}
 use Rattle.pg_dyn.specs.Replacing.{without_siblings}
 use Rattle.pg_dyn.specs.Seen.{Rises}
-use Rattle.pg_dyn.specs.Told.{TakesContent}
-use Rattle.pg_dyn.proofs.WholeSteps.{whole_more, fill_fits, rises_before, fact_of_next, facts_before}
+use Rattle.pg_dyn.specs.setting.Told.{TakesContent}
+use Rattle.pg_dyn.proofs.lemmas.setting.WholeSteps.{whole_more, fill_fits, rises_before, fact_of_next, facts_before}
 use Rattle.pg_dyn.proofs.message.Message.filled.Goals as goal
 
 pub loop-number-preserved : goal.loop-number-preserved

@@ -1,6 +1,6 @@
 -- A message that holds the field holds no other member, and one that holds another holds no further one.
 use Rattle.std.proofs.Common.{◌≡◌, ◌<◌, ℕ, true, pos, List, [], ◌∷◌, length, get_or, Some, map, not, ap, sym, subst, ◌∙◌}
-use Rattle.pg_schema.specs.declared.field.TypeId.{TypeId}
+use Rattle.pg_schema.specs.declared.parts.field.TypeId.{TypeId}
 use Rattle.pg_schema.specs.declared.parts.Parts.{Parts}
 use Rattle.pg_schema.specs.Invariant.{IsSchema}
 use Rattle.pg_schema.specs.Parts.{field_shape, shape_of}
@@ -15,14 +15,14 @@ use Rattle.pg_dyn.specs.Kept.{Kept, type_of}
 use Rattle.pg_dyn.specs.Replacing.{is_sibling_number, without_siblings}
 use Rattle.pg_dyn.specs.Seen.{HasKeys, IsFilled, Rises, record_seen}
 use Rattle.std.specs.List.{AllByRecursion}
-use Rattle.pg_dyn.proofs.TypeFields.{rising}
-use Rattle.pg_dyn.proofs.FitsByContents.{contents_from_fits}
-use Rattle.pg_dyn.proofs.HeldAlone.{alone_out, held_alone}
+use Rattle.pg_dyn.proofs.lemmas.TypeFields.{rising}
+use Rattle.pg_dyn.proofs.lemmas.FitsByContents.{contents_from_fits}
+use Rattle.pg_dyn.proofs.lemmas.setting.HeldAlone.{alone_out, held_alone}
 use Rattle.pg_dyn.proofs.Lists.{filter_all}
-use Rattle.pg_dyn.proofs.MembersOut.{all_stay, sibling_out}
-use Rattle.pg_dyn.proofs.ReplacingLaws.{shown, type_shown}
-use Rattle.pg_dyn.proofs.Splitting.{found_number}
-use Rattle.pg_dyn.proofs.WithoutSiblings.{cleared_shown, sibling_found}
+use Rattle.pg_dyn.proofs.lemmas.setting.MembersOut.{all_stay, sibling_out}
+use Rattle.pg_dyn.proofs.lemmas.ReplacingLaws.{shown, type_shown}
+use Rattle.pg_dyn.proofs.lemmas.Splitting.{found_number}
+use Rattle.pg_dyn.proofs.lemmas.setting.WithoutSiblings.{cleared_shown, sibling_found}
 use Rattle.pg_dyn.proofs.message.Message.held_siblings.Goals as goal
 
 -- a content stands under the number

@@ -1,7 +1,7 @@
 -- The fields round the number stay, and still rise.
 use Rattle.std.proofs.Common.{◌≡◌, ℕ, [], Some, map, refl, ap, ap₂, sym, subst, ◌∙◌}
 use Rattle.std.specs.List.{AllByRecursion}
-use Rattle.pg_schema.specs.declared.field.TypeId.{TypeId}
+use Rattle.pg_schema.specs.declared.parts.field.TypeId.{TypeId}
 use Rattle.pg_schema.specs.Parts.{field_shape, shape_of}
 use Rattle.pg_schema.specs.Shape.{fields, field_at}
 use Rattle.pg_dyn.specs.declared.message.Content.{Content}
@@ -10,9 +10,9 @@ use Rattle.pg_dyn.specs.Fits.{Fits}
 use Rattle.pg_dyn.specs.Kept.{type_of}
 use Rattle.pg_dyn.specs.Replacing.{with_parts, without_siblings}
 use Rattle.pg_dyn.specs.Seen.{IsFilled, HasKeys, Rises, record_seen}
-use Rattle.pg_dyn.proofs.FieldListLaws.{rises_put, rises_remove, each_put, each_removed}
-use Rattle.pg_dyn.proofs.PutLaws.{content_alike, nothing_normalized, put_fits, removed_fits}
-use Rattle.pg_dyn.proofs.ReplacingLaws.{shown, put_shows, remove_shows, type_shown}
+use Rattle.pg_dyn.proofs.lemmas.FieldListLaws.{rises_put, rises_remove, each_put, each_removed}
+use Rattle.pg_dyn.proofs.lemmas.setting.PutLaws.{content_alike, nothing_normalized, put_fits, removed_fits}
+use Rattle.pg_dyn.proofs.lemmas.ReplacingLaws.{shown, put_shows, remove_shows, type_shown}
 use Rattle.pg_dyn.proofs.message.Message.put_content.Goals as goal
 
 pub invariant_of-self : goal.invariant_of-self

@@ -1,18 +1,18 @@
 -- A content that passes the tests is put in and the siblings taken out; one that doesn't comes back.
 use Rattle.std.proofs.Common.{◌≡◌, IfSome, map, ⊎_elim, refl, ap, sym, subst, ◌∙◌}
-use Rattle.pg_schema.specs.declared.field.TypeId.{TypeId}
+use Rattle.pg_schema.specs.declared.parts.field.TypeId.{TypeId}
 use Rattle.pg_schema.specs.Parts.{field_shape, shape_of}
 use Rattle.pg_schema.specs.Shape.{fields, field_at}
 use Rattle.pg_dyn.specs.declared.error.DynError.{DynError}
-use Rattle.pg_dyn.specs.ContentFaults.{ContentFault, IsLowest, MayRefuseFor}
+use Rattle.pg_dyn.specs.setting.ContentFaults.{ContentFault, IsLowest, MayRefuseFor}
 use Rattle.pg_dyn.specs.Fits.{Fits}
 use Rattle.pg_dyn.specs.Kept.{type_of}
 use Rattle.pg_dyn.specs.Replacing.{without_siblings}
 use Rattle.pg_dyn.specs.Seen.{record_seen}
-use Rattle.pg_dyn.specs.Told.{IsTaken}
-use Rattle.pg_dyn.proofs.PutLaws.{cleared_fits, content_alike, normalized_number}
-use Rattle.pg_dyn.proofs.ReplacingLaws.{type_shown, type_of-with_parts}
-use Rattle.pg_dyn.proofs.SetSteps.{accepted, key_twice, may_refuse, members_after, number_is, set_to}
+use Rattle.pg_dyn.specs.setting.Told.{IsTaken}
+use Rattle.pg_dyn.proofs.lemmas.setting.PutLaws.{cleared_fits, content_alike, normalized_number}
+use Rattle.pg_dyn.proofs.lemmas.ReplacingLaws.{type_shown, type_of-with_parts}
+use Rattle.pg_dyn.proofs.lemmas.setting.SetSteps.{accepted, key_twice, may_refuse, members_after, number_is, set_to}
 use Rattle.pg_dyn.proofs.message.Message.set.Goals as goal
 
 pub returns-in-Err-clause-refused : goal.returns-in-Err-clause-refused

@@ -11,13 +11,13 @@ use Rattle.pg_dyn.specs.declared.error.DynError.{DynError}
 use Rattle.pg_dyn.specs.declared.message.Content.{Content}
 use Rattle.pg_dyn.specs.declared.message.Message.{Message}
 use Rattle.pg_dyn.specs.Seen.{Rises}
-use Rattle.pg_dyn.specs.ContentFaults.{AnyOf, PassTwice, ContentsFault, ContentFault, HasKeyTwice, is_in_oneof, members, IsLowest, MayRefuseFor}
-use Rattle.pg_dyn.specs.Setting.{IsWhole}
-use Rattle.pg_dyn.specs.Told.{TakesContent}
-use Rattle.pg_dyn.proofs.KeyLaws.{count_moved, each_moved}
-use Rattle.pg_dyn.proofs.Standing.{any_moved}
-use Rattle.pg_dyn.proofs.WholeSteps.{of_field, kept_under}
-use Rattle.pg_dyn.proofs.WholeFaults.{no_siblings_from, once, once_unsorted, whole_accepted, whole_key_twice, whole_refused, whole_twice, whole_unsorted}
+use Rattle.pg_dyn.specs.setting.ContentFaults.{AnyOf, PassTwice, ContentsFault, ContentFault, HasKeyTwice, is_in_oneof, members, IsLowest, MayRefuseFor}
+use Rattle.pg_dyn.specs.setting.Setting.{IsWhole}
+use Rattle.pg_dyn.specs.setting.Told.{TakesContent}
+use Rattle.pg_dyn.proofs.lemmas.KeyLaws.{count_moved, each_moved}
+use Rattle.pg_dyn.proofs.lemmas.Standing.{any_moved}
+use Rattle.pg_dyn.proofs.lemmas.setting.WholeSteps.{of_field, kept_under}
+use Rattle.pg_dyn.proofs.lemmas.setting.WholeFaults.{no_siblings_from, once, once_unsorted, whole_accepted, whole_key_twice, whole_refused, whole_twice, whole_unsorted}
 use Rattle.pg_dyn.proofs.message.Message.whole.Goals as goal
 
 if_ok : {T E : Type 0} (r : Result T E) (P Q : T → Type 0) → ((x : T) → P x → Q x) → IfOk r P → IfOk r Q

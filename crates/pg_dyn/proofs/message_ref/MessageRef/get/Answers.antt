@@ -7,11 +7,11 @@ use Rattle.pg_dyn.specs.Borrowed.{HasKeys, IsFilled}
 use Rattle.pg_dyn.specs.Kept.{of_number, parts_of, type_of}
 use Rattle.pg_dyn.specs.Message.{is_of}
 use Rattle.pg_dyn.specs.PartsFit.{HoldsPart}
-use Rattle.pg_dyn.proofs.BorrowedParts.{found_field, of_number_none}
-use Rattle.pg_dyn.proofs.FieldListLaws.{AllBelow, AllFrom, apart_past_end, apart_there, none_there, same_at}
-use Rattle.pg_dyn.proofs.KeptParts.{found_fact}
+use Rattle.pg_dyn.proofs.lemmas.BorrowedParts.{found_field, of_number_none}
+use Rattle.pg_dyn.proofs.lemmas.FieldListLaws.{AllBelow, AllFrom, apart_past_end, apart_there, none_there, same_at}
+use Rattle.pg_dyn.proofs.lemmas.KeptParts.{found_fact}
 use Rattle.pg_dyn.proofs.Lists.{each_filtered}
-use Rattle.pg_dyn.proofs.PartsFit.{parts_hold}
+use Rattle.pg_dyn.proofs.lemmas.PartsFit.{parts_hold}
 use Rattle.pg_dyn.proofs.message_ref.MessageRef.get.Goals.{else-place-len-via-then-place-len+else-index-number, else-place-len-via-else-place-len}
 use Rattle.pg_dyn.proofs.message_ref.MessageRef.get.Goals as goal
 

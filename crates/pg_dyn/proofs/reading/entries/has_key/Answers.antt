@@ -2,8 +2,8 @@
 use Rattle.pg_dyn.specs.declared.message_ref.EntryRef.{EntryRef}
 use Rattle.pg_dyn.specs.BorrowedItems.{key_of}
 use Rattle.pg_dyn.specs.KeyOrder.{IsOfKind}
-use Rattle.pg_dyn.proofs.FitsSteps.{fact_at}
-use Rattle.pg_dyn.proofs.LastOfKeys.{same_kind}
+use Rattle.pg_dyn.proofs.lemmas.FitsSteps.{fact_at}
+use Rattle.pg_dyn.proofs.lemmas.reading.LastOfKeys.{same_kind}
 use Rattle.pg_dyn.proofs.reading.entries.has_key.Goals as goal
 
 pub order-requires : goal.order-requires

@@ -5,9 +5,9 @@ use Rattle.pg_dyn.specs.Borrowed.{leaf_of}
 use Rattle.pg_dyn.specs.BorrowedItems.{key_of}
 use Rattle.pg_dyn.specs.KeyOrder.{IsOfKind}
 use Rattle.pg_dyn.specs.declared.message_ref.EntryRef.{EntryRef}
-use Rattle.pg_dyn.proofs.FitsSteps.{fact_at}
-use Rattle.pg_dyn.proofs.LastOfKeys.{same_kind}
-use Rattle.pg_dyn.proofs.EntryPlaces.{Below, NotBelow, below_upto, not_below_from}
+use Rattle.pg_dyn.proofs.lemmas.FitsSteps.{fact_at}
+use Rattle.pg_dyn.proofs.lemmas.reading.LastOfKeys.{same_kind}
+use Rattle.pg_dyn.proofs.lemmas.reading.EntryPlaces.{Below, NotBelow, below_upto, not_below_from}
 use Rattle.pg_dyn.proofs.reading.entries.place_of_key.Goals as goal
 
 not_true : (b : Bool) → b ≡ true → b ≡ false → ⊥

@@ -5,7 +5,7 @@ use Rattle.std.specs.List.{AllByRecursion}
 use Rattle.pg_dyn.specs.declared.message_ref.EntryRef.{EntryRef}
 use Rattle.pg_dyn.specs.BorrowedItems.{key_of}
 use Rattle.pg_dyn.specs.Message.{key_cmp}
-use Rattle.pg_dyn.proofs.EntryPlaces.{Below, NotBelow, put_over, put_between}
+use Rattle.pg_dyn.proofs.lemmas.reading.EntryPlaces.{Below, NotBelow, put_over, put_between}
 use Rattle.pg_dyn.proofs.reading.entries.put_in.Goals as goal
 
 pub returns-then-has_key : goal.returns-then-has_key

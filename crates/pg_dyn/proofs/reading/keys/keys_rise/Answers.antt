@@ -3,8 +3,8 @@ use Rattle.std.proofs.lemmas.Bool.{cases_eq}
 use Rattle.pg_dyn.specs.declared.message_ref.EntryRef.{EntryRef}
 use Rattle.pg_dyn.specs.BorrowedItems.{key_of}
 use Rattle.pg_dyn.specs.KeyOrder.{IsOfKind}
-use Rattle.pg_dyn.proofs.FitsSteps.{IsUnder, fact_at, rise_from, same_default}
-use Rattle.pg_dyn.proofs.LastOfKeys.{same_kind}
+use Rattle.pg_dyn.proofs.lemmas.FitsSteps.{IsUnder, fact_at, rise_from, same_default}
+use Rattle.pg_dyn.proofs.lemmas.reading.LastOfKeys.{same_kind}
 use Rattle.pg_dyn.proofs.reading.keys.keys_rise.Goals as goal
 
 pub is_below-requires : goal.is_below-requires

@@ -2,7 +2,7 @@
 use Rattle.std.proofs.Common.{ℕ, ◌<◌, ◌+◌, get_or}
 use Rattle.pg_dyn.specs.declared.message_ref.EntryRef.{EntryRef}
 use Rattle.pg_dyn.specs.BorrowedItems.{key_of}
-use Rattle.pg_dyn.proofs.FitsSteps.{IsUnder}
+use Rattle.pg_dyn.proofs.lemmas.FitsSteps.{IsUnder}
 use Rattle.pg_dyn.proofs.reading.keys.keys_rise.Given as goal
 
 abbrev pub invariant-loop-next : goal.invariant-loop-next

@@ -3,14 +3,14 @@ use Rattle.std.proofs.Common.{◌≡◌, true, suc, [], Ok, Err, IfOk, IfErr, Re
 use Rattle.std.proofs.lemmas.Result.{err_from_is_err_and}
 use Rattle.pg_schema.specs.Parts.{shape_of}
 use Rattle.pg_schema.specs.Shape.{fields}
-use Rattle.pg_dyn.specs.ByFields.{StopsFor}
-use Rattle.pg_dyn.specs.Decoding.{dec}
+use Rattle.pg_dyn.specs.reading.ByFields.{StopsFor}
+use Rattle.pg_dyn.specs.reading.Decoding.{dec}
 use Rattle.pg_dyn.specs.Kept.{message_of}
-use Rattle.pg_dyn.specs.Steps.{IsShallowIn}
-use Rattle.pg_dyn.proofs.BodiesByFields.{bytes_good, bytes_read, records_good}
-use Rattle.pg_dyn.proofs.TypeFields.{on_ok_map}
-use Rattle.pg_dyn.proofs.Joining.{readable_from_dec}
-use Rattle.pg_dyn.proofs.StopSteps.{handed_on, stops_for}
+use Rattle.pg_dyn.specs.reading.Steps.{IsShallowIn}
+use Rattle.pg_dyn.proofs.lemmas.reading.BodiesByFields.{bytes_good, bytes_read, records_good}
+use Rattle.pg_dyn.proofs.lemmas.TypeFields.{on_ok_map}
+use Rattle.pg_dyn.proofs.lemmas.Joining.{readable_from_dec}
+use Rattle.pg_dyn.proofs.lemmas.reading.StopSteps.{handed_on, stops_for}
 use Rattle.pg_dyn.proofs.reading.nested.read_message.Goals as goal
 
 if_ok : {T E : Type 0} (P Q : T → Type 0) (r : Result T E) → ((x : T) → P x → Q x) → IfOk r P → IfOk r Q

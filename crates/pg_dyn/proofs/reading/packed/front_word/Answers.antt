@@ -3,7 +3,7 @@ use Rattle.std.proofs.Common.{◌≡◌, take, IfOk, ap, sym, subst, arith}
 use Rattle.pg_wire.specs.declared.record.WireType.{WireType}
 use Rattle.pg_dyn.specs.Coding.{element_at, word_in}
 use Rattle.pg_dyn.specs.WordOf.{HasBits}
-use Rattle.pg_dyn.proofs.PackedRows.{IsOne, varint_is_one, varint_is_word, if_there, if_short}
+use Rattle.pg_dyn.proofs.lemmas.reading.PackedRows.{IsOne, varint_is_one, varint_is_word, if_there, if_short}
 use Rattle.pg_dyn.proofs.reading.packed.front_word.Goals as goal
 
 pub returns-in-Varint-clause-ok : goal.returns-in-Varint-clause-ok

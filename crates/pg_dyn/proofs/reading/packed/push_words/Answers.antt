@@ -4,7 +4,7 @@ use Rattle.pg_wire.specs.declared.record.WireType.{WireType}
 use Rattle.pg_dyn.specs.declared.message_ref.ValueRef.{ValueRef}
 use Rattle.pg_dyn.specs.Coding.{element_at, word_in}
 use Rattle.pg_dyn.specs.WordOf.{HasBits}
-use Rattle.pg_dyn.proofs.PackedRows.{IsOne, RowSoFar, row_begin, row_done, row_broken, row_fault, row_onward, to_end}
+use Rattle.pg_dyn.proofs.lemmas.reading.PackedRows.{IsOne, RowSoFar, row_begin, row_done, row_broken, row_fault, row_onward, to_end}
 use Rattle.pg_dyn.proofs.reading.packed.push_words.Goals as goal
 
 pub loop-start-init : goal.loop-start-init

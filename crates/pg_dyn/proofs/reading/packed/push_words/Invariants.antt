@@ -1,6 +1,6 @@
 -- The items up to the place are read.
 use Rattle.std.proofs.Common.{◌-◌, length}
-use Rattle.pg_dyn.proofs.PackedRows.{RowSoFar}
+use Rattle.pg_dyn.proofs.lemmas.reading.PackedRows.{RowSoFar}
 use Rattle.pg_dyn.proofs.reading.packed.push_words.Given as goal
 
 abbrev pub invariant-loop-start : goal.invariant-loop-start

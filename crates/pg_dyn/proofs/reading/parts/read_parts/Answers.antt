@@ -2,11 +2,11 @@ use Rattle.std.proofs.Common.{◌≡◌, List, ◌∷◌, Ok, ap, subst, ◌∙�
 use Rattle.std.proofs.lemmas.Result.{err_from_is_err_and}
 use Rattle.pg_wire.specs.Reads.{seen, seen_record}
 use Rattle.pg_wire.specs.Records.{WireRecord, records_of}
-use Rattle.pg_dyn.specs.ByFields.{StopsFor}
-use Rattle.pg_dyn.specs.EntryParts.{ScalarsGood}
-use Rattle.pg_dyn.proofs.EntryByParts.{good_one}
-use Rattle.pg_dyn.proofs.RecordFronts.{all_read, next_is_record, next_of_all, no_records, one_read}
-use Rattle.pg_dyn.proofs.StopSteps.{handed_on, stops_for}
+use Rattle.pg_dyn.specs.reading.ByFields.{StopsFor}
+use Rattle.pg_dyn.specs.reading.EntryParts.{ScalarsGood}
+use Rattle.pg_dyn.proofs.lemmas.reading.EntryByParts.{good_one}
+use Rattle.pg_dyn.proofs.lemmas.reading.RecordFronts.{all_read, next_is_record, next_of_all, no_records, one_read}
+use Rattle.pg_dyn.proofs.lemmas.reading.StopSteps.{handed_on, stops_for}
 use Rattle.pg_dyn.proofs.reading.parts.read_parts.Goals as goal
 
 pub add-requires : goal.add-requires

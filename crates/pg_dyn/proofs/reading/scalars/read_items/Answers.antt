@@ -1,20 +1,20 @@
 use Rattle.std.proofs.Common.{◌≡◌, [], ◌∷◌, ◌++◌, map, take, true, is_some, ap, sym, subst, ◌∙◌}
 use Rattle.std.specs.List.{AllByRecursion}
 use Rattle.std.proofs.lemmas.Result.{err_from_is_err_and}
-use Rattle.pg_schema.specs.declared.field.Scalar.{Scalar}
+use Rattle.pg_schema.specs.declared.parts.field.Scalar.{Scalar}
 use Rattle.pg_schema.specs.Parts.{field_shape}
 use Rattle.pg_wire.specs.Reads.{seen_record}
 use Rattle.pg_wire.specs.Records.{IsRecord}
-use Rattle.pg_dyn.specs.ByFields.{StopsFor}
+use Rattle.pg_dyn.specs.reading.ByFields.{StopsFor}
 use Rattle.pg_dyn.specs.Coding.{leaf_in, scalar_form}
-use Rattle.pg_dyn.specs.Content.{leaves_in, packed_leaves, takes}
-use Rattle.pg_dyn.specs.ItemRuns.{AllRead}
+use Rattle.pg_dyn.specs.reading.Content.{leaves_in, packed_leaves, takes}
+use Rattle.pg_dyn.specs.reading.ItemRuns.{AllRead}
 use Rattle.pg_dyn.specs.BorrowedItems.{IsItemOf}
 use Rattle.pg_dyn.specs.Borrowed.{leaf_of}
-use Rattle.pg_dyn.proofs.FieldKinds.{lists_no_map}
-use Rattle.pg_dyn.proofs.ScalarRuns.{ItemsSoFar, item_there, more_items, own_item, own_shape, row_items, row_packable, row_there}
-use Rattle.pg_dyn.proofs.SliceRuns.{holds_in, one_more, record_in}
-use Rattle.pg_dyn.proofs.StopSteps.{handed_on, stops_for}
+use Rattle.pg_dyn.proofs.lemmas.reading.FieldKinds.{lists_no_map}
+use Rattle.pg_dyn.proofs.lemmas.reading.ScalarRuns.{ItemsSoFar, item_there, more_items, own_item, own_shape, row_items, row_packable, row_there}
+use Rattle.pg_dyn.proofs.lemmas.reading.SliceRuns.{holds_in, one_more, record_in}
+use Rattle.pg_dyn.proofs.lemmas.reading.StopSteps.{handed_on, stops_for}
 use Rattle.pg_dyn.proofs.reading.scalars.read_items.Goals.{then-is_own+in_ok-item_in+in_ok-push, else-is_own+in_ok-push_packed}
 use Rattle.pg_dyn.proofs.reading.scalars.read_items.Goals as goal
 

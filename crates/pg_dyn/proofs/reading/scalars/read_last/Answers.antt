@@ -1,19 +1,19 @@
 use Rattle.std.proofs.Common.{◌≡◌, map, take, true, is_some, Some, ap, sym, subst, ◌∙◌}
 use Rattle.std.proofs.lemmas.Result.{err_from_is_err_and}
-use Rattle.pg_schema.specs.declared.field.Scalar.{Scalar}
+use Rattle.pg_schema.specs.declared.parts.field.Scalar.{Scalar}
 use Rattle.pg_schema.specs.Parts.{field_shape}
 use Rattle.pg_wire.specs.Reads.{seen_record}
 use Rattle.pg_wire.specs.Records.{IsRecord}
-use Rattle.pg_dyn.specs.ByFields.{AreGood, HoldsOf, StopsFor}
+use Rattle.pg_dyn.specs.reading.ByFields.{AreGood, HoldsOf, StopsFor}
 use Rattle.pg_dyn.specs.Coding.{leaf_in, scalar_form}
-use Rattle.pg_dyn.specs.Content.{takes}
+use Rattle.pg_dyn.specs.reading.Content.{takes}
 use Rattle.pg_dyn.specs.BorrowedItems.{IsItemOf}
 use Rattle.pg_dyn.specs.Borrowed.{leaf_of}
-use Rattle.pg_dyn.specs.Steps.{FieldReads, HeldFits, IsShallow}
-use Rattle.pg_dyn.proofs.FieldRecords.{singular_wire}
-use Rattle.pg_dyn.proofs.ScalarRuns.{LastSoFar, all_good, good_read, item_there, last_fits, last_holds, new_last, own_item, own_shape}
-use Rattle.pg_dyn.proofs.SliceRuns.{all_of, holds_in, one_more, record_in, some_seen}
-use Rattle.pg_dyn.proofs.StopSteps.{handed_on, stops_for}
+use Rattle.pg_dyn.specs.reading.Steps.{FieldReads, HeldFits, IsShallow}
+use Rattle.pg_dyn.proofs.lemmas.reading.FieldRecords.{singular_wire}
+use Rattle.pg_dyn.proofs.lemmas.reading.ScalarRuns.{LastSoFar, all_good, good_read, item_there, last_fits, last_holds, new_last, own_item, own_shape}
+use Rattle.pg_dyn.proofs.lemmas.reading.SliceRuns.{all_of, holds_in, one_more, record_in, some_seen}
+use Rattle.pg_dyn.proofs.lemmas.reading.StopSteps.{handed_on, stops_for}
 use Rattle.pg_dyn.proofs.reading.scalars.read_last.Goals.{in-Some, in-None}
 use Rattle.pg_dyn.proofs.reading.scalars.read_last.Goals as goal
 

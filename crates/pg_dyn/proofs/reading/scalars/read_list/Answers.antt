@@ -2,10 +2,10 @@ use Rattle.std.proofs.Common.{map}
 use Rattle.std.proofs.lemmas.Result.{err_from_is_err_and}
 use Rattle.pg_schema.specs.Parts.{field_shape}
 use Rattle.pg_wire.specs.Reads.{seen_record}
-use Rattle.pg_dyn.specs.ByFields.{AreGood, StopsFor}
-use Rattle.pg_dyn.proofs.FieldKinds.{lists_no_map}
-use Rattle.pg_dyn.proofs.ScalarRuns.{all_read, items_good, list_fits, list_holds}
-use Rattle.pg_dyn.proofs.StopSteps.{handed_on, stops_for}
+use Rattle.pg_dyn.specs.reading.ByFields.{AreGood, StopsFor}
+use Rattle.pg_dyn.proofs.lemmas.reading.FieldKinds.{lists_no_map}
+use Rattle.pg_dyn.proofs.lemmas.reading.ScalarRuns.{all_read, items_good, list_fits, list_holds}
+use Rattle.pg_dyn.proofs.lemmas.reading.StopSteps.{handed_on, stops_for}
 use Rattle.pg_dyn.proofs.reading.scalars.read_list.Goals as goal
 
 pub returns-in_err-read_items-clause-err : goal.returns-in_err-read_items-clause-err

@@ -4,8 +4,8 @@ use Rattle.std.proofs.lemmas.List.{take_all, take_more}
 use Rattle.std.specs.List.{AllByRecursion}
 use Rattle.pg_wire.specs.declared.record.Record.{Record}
 use Rattle.pg_wire.specs.declared.record.WireType.TheVariants.{Varint}
-use Rattle.pg_dyn.specs.Gathering.{NumbersRise}
-use Rattle.pg_dyn.proofs.NumberOrder.{highest_more, rise_more}
+use Rattle.pg_dyn.specs.reading.Gathering.{NumbersRise}
+use Rattle.pg_dyn.proofs.lemmas.reading.NumberOrder.{highest_more, rise_more}
 use Rattle.pg_dyn.proofs.reading.sorting.in_order.Goals as goal
 
 none : Record

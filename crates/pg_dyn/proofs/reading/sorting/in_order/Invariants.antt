@@ -2,7 +2,7 @@
 use Rattle.std.proofs.Common.{◌≤◌, take}
 use Rattle.std.specs.List.{AllByRecursion}
 use Rattle.pg_wire.specs.declared.record.Record.{Record}
-use Rattle.pg_dyn.specs.Gathering.{NumbersRise}
+use Rattle.pg_dyn.specs.reading.Gathering.{NumbersRise}
 use Rattle.pg_dyn.proofs.reading.sorting.in_order.Given as goal
 
 abbrev pub invariant-loop-record : goal.invariant-loop-record

@@ -2,9 +2,9 @@ use Rattle.std.proofs.Common.{◌≡◌, ◌+◌, ◌-◌, ◌++◌, ◌∷◌, 
 use Rattle.std.proofs.lemmas.List.{length-map}
 use Rattle.std.proofs.lemmas.Result.{err_from_is_err_and}
 use Rattle.std.specs.List.{flat_map}
-use Rattle.pg_schema.specs.declared.field.TypeId.{TypeId}
-use Rattle.pg_schema.specs.DeclaredNames.{within}
-use Rattle.pg_schema.specs.Scopes.{enum_places, type_places}
+use Rattle.pg_schema.specs.declared.parts.field.TypeId.{TypeId}
+use Rattle.pg_schema.specs.rules.DeclaredNames.{within}
+use Rattle.pg_schema.specs.rules.Scopes.{enum_places, type_places}
 use Rattle.pg_dyn.specs.Kept.{message_of}
 use Rattle.pg_fds.specs.Lent.{lent}
 use Rattle.pg_fds.specs.Outlines.{AreEnumsNamed, AreTypesNamed, NameOneofs, enum_rows, row, row_in, rows_in, rows_of_enums, rows_of_type, type_row, type_rows}

@@ -1,6 +1,6 @@
 use Rattle.std.proofs.Common.{◌≡◌, ◌++◌, ◌-◌, ◌∷◌, [], ℕ, List, map, take}
 use Rattle.std.specs.List.{flat_map}
-use Rattle.pg_schema.specs.Scopes.{type_places}
+use Rattle.pg_schema.specs.rules.Scopes.{type_places}
 use Rattle.pg_dyn.specs.Kept.{message_of}
 use Rattle.pg_fds.specs.Lent.{lent}
 use Rattle.pg_fds.specs.Outlines.{AreEnumsNamed, AreTypesNamed, enum_rows, row, rows_of_enums, rows_of_type, type_row, type_rows}

@@ -1,6 +1,6 @@
 use Rattle.std.proofs.Common.{refl, ap}
 use Rattle.std.proofs.Math.Seq.{map-set_same}
-use Rattle.pg_schema.specs.Scopes.{enum_places, type_places}
+use Rattle.pg_schema.specs.rules.Scopes.{enum_places, type_places}
 use Rattle.pg_fds.specs.Outlines.{type_row}
 use Rattle.pg_fds.proofs.OutlinedPlaces.{placed_inside}
 use Rattle.pg_fds.proofs.outline.Outline.place_inside.Goals as goal

@@ -1,6 +1,6 @@
 use Rattle.std.proofs.Common.{◌≡◌, ◌+◌, ◌<◌, length, map, rules, arith}
 use Rattle.std.proofs.lemmas.Result.{err_from_is_err_and}
-use Rattle.pg_schema.specs.declared.service.ServiceId.{ServiceId}
+use Rattle.pg_schema.specs.declared.parts.service.ServiceId.{ServiceId}
 use Rattle.pg_fds.specs.Outlines.{row, row_in}
 use Rattle.pg_fds.specs.SetNames.{service_names}
 use Rattle.pg_fds.proofs.NameLoops.{loop_declares, loop_wants}

@@ -1,5 +1,5 @@
 use Rattle.std.proofs.Common.{◌≡◌, ◌++◌, ℕ, List, length, map, take}
-use Rattle.pg_schema.specs.Scopes.{service_places}
+use Rattle.pg_schema.specs.rules.Scopes.{service_places}
 use Rattle.pg_dyn.specs.Kept.{message_of}
 use Rattle.pg_fds.specs.Lent.{lent}
 use Rattle.pg_fds.specs.Outlines.{row, rows_in}

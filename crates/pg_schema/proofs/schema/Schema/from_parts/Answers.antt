@@ -1,9 +1,9 @@
 use Rattle.std.proofs.Common.{subst, sym}
 use Rattle.pg_schema.specs.Invariant.{IsSchema}
 use Rattle.pg_schema.specs.Parts.{HasDistinctNames}
-use Rattle.pg_schema.proofs.NameTables.{distinct_from_table, table_along}
-use Rattle.pg_schema.proofs.SoundNames.{distinct_from_sound}
-use Rattle.pg_schema.proofs.SoundShapes.{shape_from_sound}
+use Rattle.pg_schema.proofs.lemmas.schema.NameTables.{distinct_from_table, table_along}
+use Rattle.pg_schema.proofs.lemmas.rules.SoundNames.{distinct_from_sound}
+use Rattle.pg_schema.proofs.lemmas.rules.SoundShapes.{shape_from_sound}
 use Rattle.pg_schema.proofs.schema.Schema.from_parts.Goals as goal
 
 checked : (c : goal.In-Ok-names_of) → IsSchema c.args.parts

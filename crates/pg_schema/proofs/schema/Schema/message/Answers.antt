@@ -1,5 +1,5 @@
 use Rattle.std.proofs.Common.{◌≡◌, ◌↔◌, Option, Some, sym, ◌∙◌, subst}
-use Rattle.pg_schema.specs.declared.field.TypeId.{TypeId}
+use Rattle.pg_schema.specs.declared.parts.field.TypeId.{TypeId}
 use Rattle.pg_schema.specs.declared.parts.Parts.{Parts}
 use Rattle.pg_schema.specs.Parts.{name_at}
 use Rattle.pg_schema.proofs.schema.Schema.message.Goals as goal

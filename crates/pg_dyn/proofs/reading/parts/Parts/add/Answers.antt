@@ -1,18 +1,18 @@
 use Rattle.std.proofs.Common.{◌≡◌, ◌∷◌, [], map, false, is_some, inl, inr, refl, ap, sym, subst, ◌∙◌}
 use Rattle.std.proofs.lemmas.List.{map-append}
 use Rattle.std.proofs.lemmas.Result.{err_from_is_err_and}
-use Rattle.pg_schema.specs.declared.field.Element.TheVariants as elements
-use Rattle.pg_schema.specs.declared.field.Scalar.{Scalar}
+use Rattle.pg_schema.specs.declared.parts.field.Element.TheVariants as elements
+use Rattle.pg_schema.specs.declared.parts.field.Scalar.{Scalar}
 use Rattle.pg_wire.specs.Reads.{seen_record}
-use Rattle.pg_dyn.specs.ByFields.{StopsFor}
+use Rattle.pg_dyn.specs.reading.ByFields.{StopsFor}
 use Rattle.pg_dyn.specs.Coding.{leaf_in, scalar_form}
-use Rattle.pg_dyn.specs.Content.{key_field, takes, value_field}
-use Rattle.pg_dyn.specs.EntryParts.{ScalarsGood}
-use Rattle.pg_dyn.specs.EntrySteps.{IsMessageOf}
+use Rattle.pg_dyn.specs.reading.Content.{key_field, takes, value_field}
+use Rattle.pg_dyn.specs.reading.EntryParts.{ScalarsGood}
+use Rattle.pg_dyn.specs.reading.EntrySteps.{IsMessageOf}
 use Rattle.pg_dyn.specs.BorrowedItems.{IsItemOf}
-use Rattle.pg_dyn.proofs.EntryByParts.{child_added, key_added, none_added, not_explicit, unreadable, value_added}
-use Rattle.pg_dyn.proofs.FieldKinds.{no_message}
-use Rattle.pg_dyn.proofs.StopSteps.{handed_on, none_of_err, stops_for}
+use Rattle.pg_dyn.proofs.lemmas.reading.EntryByParts.{child_added, key_added, none_added, not_explicit, unreadable, value_added}
+use Rattle.pg_dyn.proofs.lemmas.reading.FieldKinds.{no_message}
+use Rattle.pg_dyn.proofs.lemmas.reading.StopSteps.{handed_on, none_of_err, stops_for}
 use Rattle.pg_dyn.proofs.reading.parts.Parts.add.Goals.{else-found-eq1-via-then-found-eq1+else-is_own, else-found-eq1-via-else-found-eq1, else-found-eq2-via-then-found-eq2+else-is_own-2, else-found-eq2-via-else-found-eq2}
 use Rattle.pg_dyn.proofs.reading.parts.Parts.add.Goals as goal
 

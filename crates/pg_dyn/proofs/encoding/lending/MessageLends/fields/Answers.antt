@@ -1,0 +1,24 @@
+use Rattle.std.proofs.Common.{◌≢◌, [], map, sym, ap, subst, ◌∙◌}
+use Rattle.std.specs.List.{AllByRecursion}
+use Rattle.pg_dyn.specs.Kept.{ends, type_of, unknown_of}
+use Rattle.pg_dyn.specs.encoding.Lending.{AreOf, all_parts}
+use Rattle.pg_dyn.specs.Replacing.{kept_onto}
+use Rattle.pg_dyn.specs.Seen.{IsFilled, content_seen, record_seen}
+use Rattle.pg_dyn.proofs.lemmas.encoding.LentParts.{owned_filled, owned_whole}
+use Rattle.pg_dyn.proofs.Lists.{each_of_all, each_weaker}
+use Rattle.pg_dyn.proofs.lemmas.ReplacingLaws.{content_number}
+use Rattle.pg_dyn.proofs.encoding.lending.MessageLends.fields.Goals as goal
+
+pub returns-clause-whole : goal.returns-clause-whole
+returns-clause-whole c =
+    let a = c.self.inside in
+    owned_whole a.fields.items a.type_id (map record_seen a.unknown.items) c.args.self.now c.self.view_is
+    ∙ ap (λ ms. kept_onto (all_parts content_seen ms) (ends (type_of c.args.self.now) (unknown_of c.args.self.now))) (sym c.deref.ensures.value)
+
+pub returns-clause-filled : goal.returns-clause-filled
+returns-clause-filled c =
+    subst (AllByRecursion (λ f. content_seen f.0 f.1 ≢ [])) (sym c.deref.ensures.value)
+    (each_weaker (λ f. IsFilled f.1) (λ f. content_seen f.0 f.1 ≢ []) (λ f. owned_filled f.0 f.1) c.self.inside.fields.items c.self.invariant.filled)
+
+pub returns-clause-numbered : goal.returns-clause-numbered
+returns-clause-numbered c = each_of_all (λ f. AreOf f.0 (content_seen f.0 f.1)) (λ f. content_number f.0 f.1) c.deref.result.now

@@ -1,0 +1,7 @@
+pub mod EncodeSteps
+pub mod EncodedFields
+pub mod LentParts
+pub mod LentWeights
+pub mod NotedLengths
+pub mod PackedSizes
+pub mod UnsharedFields

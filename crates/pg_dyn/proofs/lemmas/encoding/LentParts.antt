@@ -1,0 +1,150 @@
+-- The parts that messages lend, of those that own them and of those that borrow.
+use Rattle.std.proofs.Common.{◌≡◌, ◌≢◌, ℕ, List, [], ◌∷◌, map, Bool, true, false, Option, Some, None, refl, ap, ap₂, sym, ◌∙◌}
+use Rattle.pg_schema.specs.declared.parts.field.TypeId.{TypeId}
+use Rattle.pg_wire.specs.Records.{WireRecord}
+use Rattle.pg_dyn.specs.declared.message.Content.{Content}
+use Rattle.pg_dyn.specs.declared.message.Content.TheVariants as owned
+use Rattle.pg_dyn.specs.declared.message.Value.{Value}
+use Rattle.pg_dyn.specs.declared.message.Value.TheVariants as values
+use Rattle.pg_dyn.specs.declared.message_ref.ContentRef.{ContentRef}
+use Rattle.pg_dyn.specs.declared.message_ref.ContentRef.TheVariants as lent
+use Rattle.pg_dyn.specs.declared.message_ref.EntryRef.{EntryRef}
+use Rattle.pg_dyn.specs.declared.message_ref.ValueRef.{ValueRef}
+use Rattle.pg_dyn.specs.declared.message_ref.ValueRef.TheVariants as borrows
+use Rattle.pg_dyn.specs.Borrowed as borrowed
+use Rattle.pg_dyn.specs.Kept.{Kept, KeptItem, ends, type_of, unknown_of}
+use Rattle.pg_dyn.specs.encoding.Lending.{AreKeyed, AreKeyless, all_parts, bare_leaf, entry_part, in_list, item_part, lent_item, owned_item}
+use Rattle.pg_dyn.specs.Message.{Leaf, Part}
+use Rattle.pg_dyn.specs.Replacing.{kept_onto}
+use Rattle.pg_dyn.specs.Seen.{IsFilled, content_seen, fields_onto, item_seen, leaf_of}
+use Rattle.pg_dyn.proofs.lemmas.ReplacingLaws.{fields_from, type_of-kept_onto, unknown_of-kept_onto}
+
+-- a message is its parts, its type and its unknown records
+pub lent_whole : {C : Type 0} (parts : ℕ → C → List (Part KeptItem)) (ms : List (ℕ × C)) (type : TypeId) (us : List WireRecord) (m : Kept) → kept_onto (all_parts parts ms) (ends type us) ≡ m
+    → m ≡ kept_onto (all_parts parts ms) (ends (type_of m) (unknown_of m))
+lent_whole parts ms type us m view =
+    sym view
+    ∙ ap₂ (λ t u. kept_onto (all_parts parts ms) (ends t u)) (sym (type_of-kept_onto (all_parts parts ms) (ends type us)) ∙ ap type_of view)
+    (sym (unknown_of-kept_onto (all_parts parts ms) (ends type us)) ∙ ap unknown_of view)
+
+pub owned_whole : (ms : List (ℕ × Content)) (type : TypeId) (us : List WireRecord) (m : Kept) → fields_onto ms (ends type us) ≡ m → m ≡ kept_onto (all_parts content_seen ms) (ends (type_of m) (unknown_of m))
+owned_whole ms type us m view = lent_whole content_seen ms type us m (sym (fields_from ms (ends type us)) ∙ view)
+
+some_of : {A B : Type 0} (h : A → B) (xs : List A) → xs ≢ [] → map h xs ≢ []
+some_of h [] filled e = filled refl
+some_of h (x ∷ xs) filled e = absurd (cc)
+
+-- a list without keys isn't one of entries, unless it is empty; one with keys is
+
+no_keys : {A : Type 0} (h : A → Part KeptItem) (k : A → Leaf) → ((x : A) → (h x).key ≡ Some (k x)) → (xs : List A) → AreKeyless (map h xs) → map h xs ≡ []
+no_keys h k is [] keyless = refl
+no_keys h k is (x ∷ xs) keyless = absurd (let none : ◌≡◌ {A = Option Leaf} None (Some (k x)) = sym keyless.0 ∙ is x in cc)
+
+all_keys : {A : Type 0} (h : A → Part KeptItem) → ((x : A) → (h x).key ≡ None) → (xs : List A) → AreKeyed (map h xs) → map h xs ≡ []
+all_keys h is [] keyed = refl
+all_keys h is (x ∷ xs) keyed = absurd (keyed.0 (is x))
+
+map_as : {A B : Type 0} (g h : A → B) → ((x : A) → g x ≡ h x) → (xs : List A) → map g xs ≡ map h xs
+map_as g h is [] = refl
+map_as g h is (x ∷ xs) = ap₂ (λ y ys. y ∷ ys) (is x) (map_as g h is xs)
+
+-- Messages that own their parts.
+
+owned_seen : (l : Bool) (v : Value) → item_seen l v ≡ in_list l (owned_item v)
+owned_seen l (values.Int n) = refl
+owned_seen l (values.F32 n) = refl
+owned_seen l (values.F64 n) = refl
+owned_seen l (values.Text n) = refl
+owned_seen l (values.Bytes n) = refl
+owned_seen l (values.Msg child) = refl
+
+pub owned_leaf : (v : Value) → leaf_of v ≡ bare_leaf (owned_item v)
+owned_leaf (values.Int n) = refl
+owned_leaf (values.F32 n) = refl
+owned_leaf (values.F64 n) = refl
+owned_leaf (values.Text n) = refl
+owned_leaf (values.Bytes n) = refl
+owned_leaf (values.Msg child) = refl
+
+owned_item_part : (n : ℕ) (l : Bool) (v : Value) → record { number = n; key = None; item = item_seen l v } ≡ item_part owned_item n l v
+owned_item_part n l v = ap (λ (x : KeptItem). record { number = n; key = None; item = x }) (owned_seen l v)
+
+abbrev owned_entry_part : ℕ → Value × Value → Part KeptItem
+owned_entry_part n e = record { number = n; key = Some (leaf_of e.0); item = item_seen false e.1 }
+
+owned_entry_is : (n : ℕ) (e : Value × Value) → owned_entry_part n e ≡ entry_part owned_item (λ (x : Value × Value). x.0) (λ (x : Value × Value). x.1) n e
+owned_entry_is n e = ap₂ (λ k (x : KeptItem). record { number = n; key = Some k; item = x }) (owned_leaf e.0) (owned_seen false e.1)
+
+pub owned_filled : (n : ℕ) (c : Content) → IsFilled c → content_seen n c ≢ []
+owned_filled n (owned.One v) filled e = absurd (cc)
+owned_filled n (owned.Many vs) filled e = some_of (λ v. record { number = n; key = None; item = item_seen true v }) vs.items filled e
+owned_filled n (owned.Map es) filled e = some_of (owned_entry_part n) es.items filled e
+
+abbrev pub owned_items : Content → List Value
+owned_items (owned.One v) = v ∷ []
+owned_items (owned.Many vs) = vs.items
+owned_items (owned.Map es) = []
+
+abbrev pub owned_entries : Content → List (Value × Value)
+owned_entries (owned.One v) = []
+owned_entries (owned.Many vs) = []
+owned_entries (owned.Map es) = es.items
+
+pub owned_items_are : (n : ℕ) (c : Content) → AreKeyless (content_seen n c) → (l : Bool) × (content_seen n c ≡ map (item_part owned_item n l) (owned_items c))
+owned_items_are n (owned.One v) keyless = (false, ap (λ p. p ∷ []) (owned_item_part n false v))
+owned_items_are n (owned.Many vs) keyless = (true, map_as (λ v. record { number = n; key = None; item = item_seen true v }) (item_part owned_item n true) (owned_item_part n true) vs.items)
+owned_items_are n (owned.Map es) keyless = (false, no_keys (owned_entry_part n) (λ (e : Value × Value). leaf_of e.0) (λ e. refl) es.items keyless)
+
+pub owned_entries_are : (n : ℕ) (c : Content) → AreKeyed (content_seen n c) → content_seen n c ≡ map (entry_part owned_item (λ (x : Value × Value). x.0) (λ (x : Value × Value). x.1) n) (owned_entries c)
+owned_entries_are n (owned.One v) keyed = absurd (keyed.0 refl)
+owned_entries_are n (owned.Many vs) keyed = all_keys (λ v. record { number = n; key = None; item = item_seen true v }) (λ v. refl) vs.items keyed
+owned_entries_are n (owned.Map es) keyed = map_as (owned_entry_part n) (entry_part owned_item (λ (x : Value × Value). x.0) (λ (x : Value × Value). x.1) n) (owned_entry_is n) es.items
+
+-- Messages that borrow.
+
+lent_seen : (l : Bool) (v : ValueRef) → borrowed.item_seen l v ≡ in_list l (lent_item v)
+lent_seen l (borrows.Int n) = refl
+lent_seen l (borrows.F32 n) = refl
+lent_seen l (borrows.F64 n) = refl
+lent_seen l (borrows.Text n) = refl
+lent_seen l (borrows.Bytes n) = refl
+lent_seen l (borrows.Msg child) = refl
+
+pub lent_leaf : (v : ValueRef) → borrowed.leaf_of v ≡ bare_leaf (lent_item v)
+lent_leaf (borrows.Int n) = refl
+lent_leaf (borrows.F32 n) = refl
+lent_leaf (borrows.F64 n) = refl
+lent_leaf (borrows.Text n) = refl
+lent_leaf (borrows.Bytes n) = refl
+lent_leaf (borrows.Msg child) = refl
+
+lent_item_part : (n : ℕ) (l : Bool) (v : ValueRef) → borrowed.item_part n l v ≡ item_part lent_item n l v
+lent_item_part n l v = ap (λ (x : KeptItem). record { number = n; key = None; item = x }) (lent_seen l v)
+
+lent_entry_is : (n : ℕ) (e : EntryRef) → borrowed.entry_part n e ≡ entry_part lent_item (λ (x : EntryRef). x.key) (λ (x : EntryRef). x.value) n e
+lent_entry_is n e = ap₂ (λ k (x : KeptItem). record { number = n; key = Some k; item = x }) (lent_leaf e.key) (lent_seen false e.value)
+
+pub lent_filled : (n : ℕ) (c : ContentRef) → borrowed.IsFilled c → borrowed.content_seen n c ≢ []
+lent_filled n (lent.One v) filled e = absurd (cc)
+lent_filled n (lent.Many vs) filled e = some_of (borrowed.item_part n true) vs.items filled e
+lent_filled n (lent.Map es) filled e = some_of (borrowed.entry_part n) es.items filled e
+
+abbrev pub lent_items : ContentRef → List ValueRef
+lent_items (lent.One v) = v ∷ []
+lent_items (lent.Many vs) = vs.items
+lent_items (lent.Map es) = []
+
+abbrev pub lent_entries : ContentRef → List EntryRef
+lent_entries (lent.One v) = []
+lent_entries (lent.Many vs) = []
+lent_entries (lent.Map es) = es.items
+
+pub lent_items_are : (n : ℕ) (c : ContentRef) → AreKeyless (borrowed.content_seen n c) → (l : Bool) × (borrowed.content_seen n c ≡ map (item_part lent_item n l) (lent_items c))
+lent_items_are n (lent.One v) keyless = (false, ap (λ p. p ∷ []) (lent_item_part n false v))
+lent_items_are n (lent.Many vs) keyless = (true, map_as (borrowed.item_part n true) (item_part lent_item n true) (lent_item_part n true) vs.items)
+lent_items_are n (lent.Map es) keyless = (false, no_keys (borrowed.entry_part n) (λ (e : EntryRef). borrowed.leaf_of e.key) (λ e. refl) es.items keyless)
+
+pub lent_entries_are : (n : ℕ) (c : ContentRef) → AreKeyed (borrowed.content_seen n c) → borrowed.content_seen n c ≡ map (entry_part lent_item (λ (x : EntryRef). x.key) (λ (x : EntryRef). x.value) n) (lent_entries c)
+lent_entries_are n (lent.One v) keyed = absurd (keyed.0 refl)
+lent_entries_are n (lent.Many vs) keyed = all_keys (borrowed.item_part n true) (λ v. refl) vs.items keyed
+lent_entries_are n (lent.Map es) keyed = map_as (borrowed.entry_part n) (entry_part lent_item (λ (x : EntryRef). x.key) (λ (x : EntryRef). x.value) n) (lent_entry_is n) es.items

@@ -1,0 +1,132 @@
+-- What a field holds together: one item, a list, or entries by rising key.
+use Rattle.std.proofs.Common.{Global, Vec, ◌≡◌, ◌≢◌, ℕ, List, [], ◌∷◌, map, true, false, Some, None, refl, ap, sym, subst}
+use Rattle.std.specs.List.{AllByRecursion}
+use Rattle.std.specs.declared.cmp.Ordering.TheVariants.{Less}
+use Rattle.pg_schema.specs.declared.parts.field.Presence.{Presence}
+use Rattle.pg_schema.specs.declared.parts.field.Presence.TheVariants as presences
+use Rattle.pg_schema.specs.declared.parts.field.Element.TheVariants as elements
+use Rattle.pg_schema.specs.declared.parts.field.Scalar.{Scalar}
+use Rattle.pg_schema.specs.declared.parts.field.TypeId.{TypeId}
+use Rattle.pg_schema.specs.Shape.{Shape, FieldShape, is_map, is_repeated}
+use Rattle.pg_dyn.specs.declared.message_ref.ContentRef.TheVariants as contents
+use Rattle.pg_dyn.specs.declared.message_ref.EntryRef.{EntryRef}
+use Rattle.pg_dyn.specs.declared.message_ref.ValueRef.{ValueRef}
+use Rattle.pg_dyn.specs.declared.message_ref.ValueRef.TheVariants as values
+use Rattle.pg_dyn.specs.Belonging.{KeyFits, MayFollow}
+use Rattle.pg_dyn.specs.Borrowed.{IsKey, entry_part, item_part, item_seen}
+use Rattle.pg_dyn.specs.BorrowedItems.{IsItemOf, ItemFits, KeysRise, key_of}
+use Rattle.pg_dyn.specs.Kept.{KeptItem, Plain, Msg}
+use Rattle.pg_dyn.specs.Message.{Part, key_cmp}
+use Rattle.pg_dyn.specs.PartsFit.{InOrder, IsPartOf}
+use Rattle.pg_dyn.specs.reading.Steps.{HeldFits}
+use Rattle.pg_dyn.proofs.lemmas.BorrowedItems.{LeafMayBeZero, in_range, item_is_key, value_holds}
+use Rattle.pg_dyn.proofs.Lists.{each-map, each_weaker}
+
+keyless : (p : Presence) → is_map p ≡ false → KeyFits p None
+keyless presences.Implicit h = refl
+keyless presences.Explicit h = refl
+keyless (presences.Repeated packed) h = refl
+keyless (presences.Map key) h = absurd (cc)
+
+list_keyless : (p : Presence) → is_repeated p ≡ true → KeyFits p None
+list_keyless presences.Implicit h = refl
+list_keyless presences.Explicit h = refl
+list_keyless (presences.Repeated packed) h = refl
+list_keyless (presences.Map key) h = absurd (cc)
+
+-- items of lists and of maps may be zero, and so may messages
+list_zero : (p : Presence) (item : KeptItem) → is_repeated p ≡ true → LeafMayBeZero p item
+list_zero presences.Implicit item h = absurd (cc)
+list_zero presences.Explicit item h = absurd (cc)
+list_zero (presences.Repeated packed) (Plain listed leaf) h = tt
+list_zero (presences.Repeated packed) (Msg listed child) h = tt
+list_zero (presences.Map key) item h = absurd (cc)
+
+map_zero : (p : Presence) (key : Scalar) (item : KeptItem) → p ≡ presences.Map key → LeafMayBeZero p item
+map_zero p key (Plain listed leaf) is = rw is tt
+map_zero p key (Msg listed child) is = tt
+
+pub child_zero : (shape : Shape) (t : TypeId) (p : Presence) (v : ValueRef) → ItemFits shape (elements.Message t) v → LeafMayBeZero p (item_seen false v)
+child_zero shape t p (values.Int x) h = absurd h
+child_zero shape t p (values.F32 x) h = absurd h
+child_zero shape t p (values.F64 x) h = absurd h
+child_zero shape t p (values.Text x) h = absurd h
+child_zero shape t p (values.Bytes x) h = absurd h
+child_zero shape t p (values.Msg x) h = tt
+
+follows : (p : Presence) → is_repeated p ≡ true → MayFollow p None None
+follows presences.Implicit h = absurd (cc)
+follows presences.Explicit h = absurd (cc)
+follows (presences.Repeated packed) h = tt
+follows (presences.Map key) h = absurd (cc)
+
+list_in_order : (p : Presence) (n : ℕ) → is_repeated p ≡ true → (vs : List ValueRef) → InOrder p (map (item_part n true) vs)
+list_in_order p n h [] = tt
+list_in_order p n h (v ∷ vs) = (each vs, list_in_order p n h vs)
+  where
+    each : (ws : List ValueRef) → AllByRecursion (λ (q : Part KeptItem). MayFollow p None q.key) (map (item_part n true) ws)
+    each [] = tt
+    each (w ∷ ws) = (follows p h, each ws)
+
+map_in_order : (p : Presence) (n : ℕ) (key : Scalar) → p ≡ presences.Map key → (es : List EntryRef) → KeysRise es → InOrder p (map (entry_part n) es)
+map_in_order p n key is [] rise = tt
+map_in_order p n key is (e ∷ es) rise = (each es rise.0, map_in_order p n key is es rise.1)
+  where
+    each : (xs : List EntryRef) → AllByRecursion (λ (x : EntryRef). key_cmp (key_of e) (key_of x) ≡ Less) xs
+        → AllByRecursion (λ (q : Part KeptItem). MayFollow p (Some (key_of e)) q.key) (map (entry_part n) xs)
+    each [] h = tt
+    each (x ∷ xs) h = (subst (λ q. MayFollow q (Some (key_of e)) (Some (key_of x))) (sym is) h.0, each xs h.1)
+
+module _ (shape : Shape) (f : FieldShape) where
+  pub one_held : (v : ValueRef) → is_repeated f.presence ≡ false → is_map f.presence ≡ false → ItemFits shape f.element v
+      → LeafMayBeZero f.presence (item_seen false v) → HeldFits shape f (Some (contents.One v))
+  one_held v singular no_map fits zero = (
+    record {
+      each = (record { number_is = refl; key_fits = keyless f.presence no_map; item = value_holds shape f false v singular fits zero }, tt);
+      in_order = (tt, tt);
+    },
+    tt,
+    tt,
+  )
+
+  pub list_held : (vs : Vec ValueRef Global) → is_repeated f.presence ≡ true → AllByRecursion (ItemFits shape f.element) vs.items → vs.items ≢ []
+      → HeldFits shape f (Some (contents.Many vs))
+  list_held vs repeated fit some = (
+    record {
+      each = each-map (IsPartOf shape f) (item_part f.number true) vs.items
+          (each_weaker (ItemFits shape f.element) (λ (v : ValueRef). IsPartOf shape f (item_part f.number true v)) one vs.items fit);
+      in_order = list_in_order f.presence f.number repeated vs.items;
+    },
+    some,
+    tt,
+  )
+    where
+      one : (v : ValueRef) → ItemFits shape f.element v → IsPartOf shape f (item_part f.number true v)
+      one v h = record {
+        number_is = refl;
+        key_fits = list_keyless f.presence repeated;
+        item = value_holds shape f true v repeated h (list_zero f.presence (item_seen false v) repeated);
+      }
+
+  -- an entry is one of the map
+  abbrev pub EntryFits : Scalar → EntryRef → Type 0
+  EntryFits key e = IsItemOf key e.key × ItemFits shape f.element e.value
+
+  pub map_held : (key : Scalar) (es : Vec EntryRef Global) → f.presence ≡ presences.Map key → AllByRecursion (EntryFits key) es.items → KeysRise es.items
+      → es.items ≢ [] → HeldFits shape f (Some (contents.Map es))
+  map_held key es is fit rise some = (
+    record {
+      each = each-map (IsPartOf shape f) (entry_part f.number) es.items
+          (each_weaker (EntryFits key) (λ (e : EntryRef). IsPartOf shape f (entry_part f.number e)) one es.items fit);
+      in_order = map_in_order f.presence f.number key is es.items rise;
+    },
+    some,
+    each_weaker (EntryFits key) (λ (e : EntryRef). IsKey e.key) (λ e h. item_is_key key e.key h.0) es.items fit,
+  )
+    where
+      one : (e : EntryRef) → EntryFits key e → IsPartOf shape f (entry_part f.number e)
+      one e h = record {
+        number_is = refl;
+        key_fits = subst (λ p. KeyFits p (Some (key_of e))) (sym is) (in_range key e.key h.0);
+        item = value_holds shape f false e.value (ap is_repeated is) h.1 (map_zero f.presence key (item_seen false e.value) is);
+      }

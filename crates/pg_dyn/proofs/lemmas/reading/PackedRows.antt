@@ -1,0 +1,202 @@
+-- Packed lists, element by element.
+use Rattle.std.proofs.Common.{◌≡◌, ℕ, zero, suc, ◌+◌, ◌-◌, ◌<◌, ◌≤◌, List, [], ◌∷◌, ◌++◌, length, map, take, drop, true, true≢false, Some, is_some, option_and_then, Result, Ok, Err, IfOk, refl, ap, ap₂, sym, ◌∙◌, arith, lt-ltb, le-ltb, length-append, length-drop, drop-drop, drop_at, append_assoc}
+use Rattle.std.specs.List.{AllByRecursion}
+use Rattle.std.proofs.lemmas.List.{append-nil, map-append, drop_all, take_at, take_all}
+use Rattle.pg_schema.specs.declared.parts.field.Scalar.{Scalar}
+use Rattle.pg_wire.specs.declared.error.WireError.{WireError}
+use Rattle.pg_wire.specs.declared.record.WireType.{WireType}
+use Rattle.pg_wire.specs.declared.record.WireType.TheVariants.{Varint, I64, Len, I32}
+use Rattle.pg_wire.specs.Reading.{Fault, Front, ◌>>=◌, exactly, row, row_within, Truncated}
+use Rattle.pg_wire.specs.Errors.{error_at, fault_of, place_of, placed}
+use Rattle.pg_wire.proofs.Results.{fault_of-error_at}
+use Rattle.pg_wire.specs.Reads.{value_at}
+use Rattle.pg_wire.specs.Varint.{varint_at, varint_value}
+use Rattle.pg_wire.proofs.RecordLaws.{exactly_takes}
+use Rattle.pg_wire.proofs.Varints.{varint_at_takes, length-IsVarint}
+use Rattle.pg_dyn.specs.declared.message_ref.ValueRef.{ValueRef}
+use Rattle.pg_dyn.specs.WordOf.{HasBits}
+use Rattle.pg_dyn.specs.Coding.{form_wire, leaf_in, element_at, scalar_form, word_in}
+use Rattle.pg_dyn.specs.reading.Content.{packed_leaves, option_from}
+use Rattle.pg_dyn.specs.Optional.{all_some}
+use Rattle.pg_dyn.specs.BorrowedItems.{IsItemOf}
+use Rattle.pg_dyn.specs.Borrowed.{leaf_of}
+use Rattle.pg_dyn.proofs.Lists.{each-append}
+use Rattle.pg_dyn.proofs.lemmas.reading.ReadsOn.{all_some-append}
+
+-- One element at the front.
+
+pub exact_ok : (n : ℕ) (bytes : List ℕ) → n ≤ length bytes → exactly n bytes ≡ Ok (take n bytes, drop n bytes)
+unfolding exactly
+exact_ok n bytes h = rw (le-ltb (length bytes) n h)
+
+pub exact_err : (n : ℕ) (bytes : List ℕ) → length bytes < n → exactly n bytes ≡ Err Truncated
+unfolding exactly
+exact_err n bytes h = rw (lt-ltb (length bytes) n h)
+
+abbrev pub IsOne : WireType → List ℕ → ℕ → Type 0
+IsOne wire bytes n = (element_at wire bytes ≡ Ok (take n bytes, drop n bytes)) × (1 ≤ n) × (n ≤ length bytes)
+
+ok_pair_is : (a b : ℕ) (x y : ℕ) → ◌≡◌ {A = Result (ℕ × ℕ) WireError} (Ok (a, b)) (Ok (x, y)) → b ≡ y
+ok_pair_is a b x y h = let e : ◌≡◌ {A = ℕ × ℕ} (a, b) (x, y) = cc in ap (λ p. p.1) e
+
+ok_pair_first : (a b : ℕ) (x y : ℕ) → ◌≡◌ {A = Result (ℕ × ℕ) WireError} (Ok (a, b)) (Ok (x, y)) → a ≡ x
+ok_pair_first a b x y h = let e : ◌≡◌ {A = ℕ × ℕ} (a, b) (x, y) = cc in ap (λ p. p.0) e
+
+pub varint_one : (bytes : List ℕ) (word n : ℕ) → ◌≡◌ {A = Result (ℕ × ℕ) WireError} (Ok (word, n)) (value_at bytes) → IsOne Varint bytes n
+varint_one bytes word n h = of (varint_at bytes) refl h
+  where
+    of : (read : Front (List ℕ)) → varint_at bytes ≡ read → ◌≡◌ {A = Result (ℕ × ℕ) WireError} (Ok (word, n)) (placed 0 (read >>= λ r. Ok (varint_value r.0, length r.0))) → IsOne Varint bytes n
+    of (Err f) is e = absurd (cc)
+    of (Ok r) is e =
+        let taken = varint_at_takes bytes r.0 r.1 is in
+        let len : n ≡ length r.0 = ok_pair_is word n (varint_value r.0) (length r.0) e in
+        let size = length-append r.0 r.1 in
+        let front : take n bytes ≡ r.0 = ap₂ take len taken.1 ∙ take_at r.0 r.1 (length r.0) refl in
+        let back : drop n bytes ≡ r.1 = ap₂ drop len taken.1 ∙ drop_at r.0 r.1 (length r.0) refl in
+        (is ∙ ap₂ (λ x y. Ok (x, y)) (sym front) (sym back), omega (arith, length-IsVarint r.0 taken.0), omega (arith, ap length taken.1))
+
+-- Rows, step by step.
+
+abbrev Shortens : {A : Type 0} → (List ℕ → Front A) → Type 0
+Shortens {A} read = (bytes : List ℕ) (a : A) (rest : List ℕ) → read bytes ≡ Ok (a, rest) → length rest < length bytes
+
+module _ {A : Type 0} (read : List ℕ → Front A) (shortens : Shortens read) where
+  enough : (n m : ℕ) (bytes : List ℕ) → length bytes ≤ n → length bytes ≤ m → row_within n read bytes ≡ row_within m read bytes
+  enough zero zero bytes h k = refl
+  enough zero (suc m) [] h k = refl
+  enough zero (suc m) (b ∷ bytes) h k = absurd (omega arith)
+  enough (suc n) zero [] h k = refl
+  enough (suc n) zero (b ∷ bytes) h k = absurd (omega arith)
+  enough (suc n) (suc m) [] h k = refl
+  enough (suc n) (suc m) (b ∷ bytes) h k = of (λ rest shorter. enough n m rest (omega arith) (omega arith)) (read (b ∷ bytes)) refl
+    where
+      of : ((rest : List ℕ) → length rest < length (b ∷ bytes) → row_within n read rest ≡ row_within m read rest) → (front : Front A) → read (b ∷ bytes) ≡ front
+          → (front >>= λ first. row_within n read first.1 >>= λ others. Ok (first.0 ∷ others)) ≡ (front >>= λ first. row_within m read first.1 >>= λ others. Ok (first.0 ∷ others))
+      of below (Err f) is = refl
+      of below (Ok first) is = ap (λ r. r >>= λ others. Ok (first.0 ∷ others)) (below first.1 (shortens (b ∷ bytes) first.0 first.1 is))
+
+  pub row-step : (bytes : List ℕ) (a : A) (rest : List ℕ) → read bytes ≡ Ok (a, rest) → row read bytes ≡ (row read rest >>= λ others. Ok (a ∷ others))
+  unfolding row
+  row-step [] a rest is = absurd (let shorter = shortens [] a rest is in omega arith)
+  row-step (b ∷ bytes) a rest is =
+      let shorter = shortens (b ∷ bytes) a rest is in
+      enough (length (b ∷ bytes)) (suc (length (b ∷ bytes))) (b ∷ bytes) (omega arith) (omega arith)
+      ∙ ap (λ front. front >>= λ first. row_within (length (b ∷ bytes)) read first.1 >>= λ others. Ok (first.0 ∷ others)) is
+      ∙ ap (λ r. r >>= λ others. Ok (a ∷ others)) (enough (length (b ∷ bytes)) (length rest) rest (omega arith) (omega arith))
+
+  pub row-stop : (bytes : List ℕ) (f : Fault) → 1 ≤ length bytes → read bytes ≡ Err f → row read bytes ≡ Err f
+  unfolding row
+  row-stop [] f some is = absurd (omega arith)
+  row-stop (b ∷ bytes) f some is =
+      enough (length (b ∷ bytes)) (suc (length (b ∷ bytes))) (b ∷ bytes) (omega arith) (omega arith)
+      ∙ ap (λ front. front >>= λ first. row_within (length (b ∷ bytes)) read first.1 >>= λ others. Ok (first.0 ∷ others)) is
+
+  pub row-end : row read [] ≡ Ok []
+  unfolding row
+  row-end = refl
+
+pub element_shortens : (wire : WireType) → Shortens (element_at wire)
+element_shortens Varint bytes a rest h = let taken = varint_at_takes bytes a rest h in omega (arith, ap length taken.1, length-append a rest, length-IsVarint a taken.0)
+element_shortens I64 bytes a rest h = let taken = exactly_takes 8 bytes a rest h in omega (arith, ap length taken.1, length-append a rest, taken.0)
+element_shortens I32 bytes a rest h = let taken = exactly_takes 4 bytes a rest h in omega (arith, ap length taken.1, length-append a rest, taken.0)
+element_shortens Len bytes a rest h = absurd (cc)
+
+-- the items that are read of a packed list up to a place
+pub record RowSoFar (s : Scalar) (body : List ℕ) (start : ℕ) (old now : List ValueRef) : Type 0 where
+  pub inside : start ≤ length body
+  pub done : List (List ℕ)
+  pub values : List ValueRef
+  pub now_is : now ≡ old ++ values
+  pub leaves : all_some (map (leaf_in (scalar_form s)) done) ≡ Some (map leaf_of values)
+  pub items : AllByRecursion (IsItemOf s) values
+  pub row_ok : (others : List (List ℕ)) → row (element_at (form_wire (scalar_form s))) (drop start body) ≡ Ok others → row (element_at (form_wire (scalar_form s))) body ≡ Ok (done ++ others)
+  pub row_err : (f : Fault) → row (element_at (form_wire (scalar_form s))) (drop start body) ≡ Err f → row (element_at (form_wire (scalar_form s))) body ≡ Err f
+
+module _ (s : Scalar) (body : List ℕ) (old : List ValueRef) where
+  pub row_begin : RowSoFar s body 0 old old
+  row_begin = record {
+    inside = omega arith;
+    done = [];
+    values = [];
+    now_is = sym (append-nil old);
+    leaves = refl;
+    items = tt;
+    row_ok = λ others h. h;
+    row_err = λ f h. h;
+  }
+
+  module _ (start : ℕ) (now : List ValueRef) (a : RowSoFar s body start old now) where
+    pub row_done : length body ≤ start → (values : List ValueRef) × (now ≡ old ++ values) × (packed_leaves (scalar_form s) body ≡ Some (map leaf_of values)) × AllByRecursion (IsItemOf s) values
+    row_done end =
+        let none : drop start body ≡ [] = drop_all start body end in
+        let whole = a.row_ok [] (ap (row (element_at (form_wire (scalar_form s)))) none ∙ row-end (element_at (form_wire (scalar_form s))) (element_shortens (form_wire (scalar_form s)))) in
+        (a.values, a.now_is, (ap (λ r. option_and_then (λ bodies. all_some (map (leaf_in (scalar_form s)) bodies)) (option_from r)) whole ∙ ap (λ bs. all_some (map (leaf_in (scalar_form s)) bs)) (append-nil a.done) ∙ a.leaves), a.items)
+
+    pub row_broken : start < length body → (f : Fault) → element_at (form_wire (scalar_form s)) (drop start body) ≡ Err f → row (element_at (form_wire (scalar_form s))) body ≡ Err f
+    row_broken inside f h = a.row_err f (row-stop (element_at (form_wire (scalar_form s))) (element_shortens (form_wire (scalar_form s))) (drop start body) f (omega (arith, length-drop start body)) h)
+
+    pub row_onward : (n : ℕ) (v : ValueRef) → IsOne (form_wire (scalar_form s)) (drop start body) n → leaf_in (scalar_form s) (take n (drop start body)) ≡ Some (leaf_of v) → IsItemOf s v → RowSoFar s body (start + n) old (now ++ v ∷ [])
+    row_onward n v one read item =
+        let rest_is : drop n (drop start body) ≡ drop (start + n) body = drop-drop n start body in
+        let step = row-step (element_at (form_wire (scalar_form s))) (element_shortens (form_wire (scalar_form s))) (drop start body) (take n (drop start body)) (drop n (drop start body)) one.0
+        ∙ ap (λ xs. row (element_at (form_wire (scalar_form s))) xs >>= λ others. Ok (take n (drop start body) ∷ others)) rest_is in
+        record {
+          inside = omega (arith, one.2, length-drop start body);
+          done = a.done ++ take n (drop start body) ∷ [];
+          values = a.values ++ v ∷ [];
+          now_is = ap (λ xs. xs ++ v ∷ []) a.now_is ∙ append_assoc old a.values (v ∷ []);
+          leaves = ap all_some (map-append (leaf_in (scalar_form s)) a.done (take n (drop start body) ∷ []))
+              ∙ all_some-append (map (leaf_in (scalar_form s)) a.done) (leaf_in (scalar_form s) (take n (drop start body))) (map leaf_of a.values) (leaf_of v) a.leaves read
+              ∙ ap (λ xs. Some xs) (sym (map-append leaf_of a.values (v ∷ [])));
+          items = each-append (IsItemOf s) a.values (v ∷ []) a.items (item, tt);
+          row_ok = λ others h.
+              a.row_ok (take n (drop start body) ∷ others) (step ∙ ap (λ r. r >>= λ others. Ok (take n (drop start body) ∷ others)) h)
+              ∙ ap (λ xs. Ok xs) (sym (append_assoc a.done (take n (drop start body) ∷ []) others));
+          row_err = λ f h. a.row_err f (step ∙ ap (λ r. r >>= λ others. Ok (take n (drop start body) ∷ others)) h);
+        }
+
+-- a row that can't be read has no items
+pub row_fault : (s : Scalar) (body : List ℕ) (f : Fault) → row (element_at (form_wire (scalar_form s))) body ≡ Err f → is_some (packed_leaves (scalar_form s) body) ≡ true → ⊥
+row_fault s body f is some = true≢false (sym some ∙ ap (λ r. is_some (option_and_then (λ bodies. all_some (map (leaf_in (scalar_form s)) bodies)) (option_from r))) is)
+
+-- a length that is there, or isn't
+pub if_there : (wire : WireType) (len : ℕ) (bytes : List ℕ) → 1 ≤ len → element_at wire bytes ≡ exactly len bytes → len ≤ length bytes → IsOne wire bytes len
+if_there wire len bytes some is h = (is ∙ exact_ok len bytes h, some, h)
+
+pub if_short : (wire : WireType) (len : ℕ) (bytes : List ℕ) → element_at wire bytes ≡ exactly len bytes → length bytes < len
+    → (fault : Fault) × (element_at wire bytes ≡ Err fault) × (error_at Truncated 0 ≡ error_at fault 0)
+if_short wire len bytes is h = (Truncated, is ∙ exact_err len bytes h, refl)
+
+-- an error of what stands first, that many bytes further
+pub error_after : (f : Fault) (e : WireError) (at : ℕ) → e ≡ error_at f 0 → error_at (fault_of e) (place_of e + at) ≡ error_at f at
+error_after f e at is =
+    let k = fault_of-error_at f 0 in
+    let there : place_of e + at ≡ at = omega (arith, ap place_of is, k.1) in
+    ap₂ error_at (ap fault_of is ∙ k.0) there
+
+pub to_end : (body : List ℕ) (start : ℕ) → take (length body - start) (drop start body) ≡ drop start body
+to_end body start = take_all (length body - start) (drop start body) (omega (arith, length-drop start body))
+
+-- Words at the front.
+
+-- the word at the front is that of the first element
+pub front_word : (bytes : List ℕ) (word n : ℕ) → ◌≡◌ {A = Result (ℕ × ℕ) WireError} (Ok (word, n)) (value_at bytes) → word_in Varint (take n bytes) ≡ word
+unfolding word_in
+front_word bytes word n h = of (varint_at bytes) refl h
+  where
+    of : (read : Front (List ℕ)) → varint_at bytes ≡ read → ◌≡◌ {A = Result (ℕ × ℕ) WireError} (Ok (word, n)) (placed 0 (read >>= λ r. Ok (varint_value r.0, length r.0))) → varint_value (take n bytes) ≡ word
+    of (Err f) is e = absurd (cc)
+    of (Ok r) is e =
+        let taken = varint_at_takes bytes r.0 r.1 is in
+        let len : n ≡ length r.0 = ok_pair_is word n (varint_value r.0) (length r.0) e in
+        let front : take n bytes ≡ r.0 = ap₂ take len taken.1 ∙ take_at r.0 r.1 (length r.0) refl in
+        ap varint_value front ∙ sym (ok_pair_first word n (varint_value r.0) (length r.0) e)
+
+-- a varint that is read is the first element, and its word
+pub varint_is_one : (bytes : List ℕ) (r : Result (ℕ × ℕ) WireError) → r ≡ value_at bytes → IfOk r (λ read. IsOne Varint bytes read.1)
+varint_is_one bytes (Ok read) h = varint_one bytes read.0 read.1 h
+varint_is_one bytes (Err e) h = tt
+
+pub varint_is_word : (bytes : List ℕ) (r : Result (ℕ × ℕ) WireError) → r ≡ value_at bytes → IfOk r (λ read. (word_in Varint (take read.1 bytes) ≡ read.0) × HasBits Varint read.0)
+varint_is_word bytes (Ok read) h = (front_word bytes read.0 read.1 h, tt)
+varint_is_word bytes (Err e) h = tt

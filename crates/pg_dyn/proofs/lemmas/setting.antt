@@ -1,0 +1,11 @@
+pub mod ContentChecks
+pub mod HeldAlone
+pub mod KeySorting
+pub mod LowestFault
+pub mod MembersOut
+pub mod NormalizedLaws
+pub mod PutLaws
+pub mod SetSteps
+pub mod WholeFaults
+pub mod WholeSteps
+pub mod WithoutSiblings

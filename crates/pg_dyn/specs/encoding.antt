@@ -1,0 +1,5 @@
+pub mod Encoding
+pub mod Lending
+pub mod Unshared
+pub mod Writing
+pub mod Written

@@ -1,0 +1,78 @@
+-- A message as a writer goes over it, whoever owns its parts.
+use Rattle.std.specs.Prelude.{◌≡◌, ◌≢◌, ℕ, List, [], flat_map, ⊤, Bool, false, Option, Some, None}
+use Rattle.std.specs.List.{AllByRecursion}
+use Rattle.pg_schema.specs.declared.parts.field.TypeId.{TypeId}
+use Rattle.pg_schema.specs.Shape.{Shape, FieldShape, fields, field_at}
+use Rattle.pg_dyn.specs.declared.encoding.lending.LeafRef.{LeafRef}
+use Rattle.pg_dyn.specs.declared.encoding.lending.LeafRef.TheVariants as leaves
+use Rattle.pg_dyn.specs.declared.message.Value.{Value}
+use Rattle.pg_dyn.specs.declared.message.Value.TheVariants as owned
+use Rattle.pg_dyn.specs.declared.message_ref.ValueRef.{ValueRef}
+use Rattle.pg_dyn.specs.declared.message_ref.ValueRef.TheVariants as lent
+use Rattle.pg_dyn.specs.Borrowed as borrowed
+use Rattle.pg_dyn.specs.Kept.{Kept, KeptItem, Plain, Msg}
+use Rattle.pg_dyn.specs.Message.{Leaf, Int, F32, F64, Bytes, Part}
+use Rattle.pg_dyn.specs.PartsFit.{IsPartOf}
+use Rattle.pg_dyn.specs.Seen.{leaf_of}
+
+-- An item, whether or not it stands in a list.
+pub data Bare : Type 0 where
+  Lone : Leaf → Bare
+  Child : Kept → Bare
+
+abbrev pub IsLone : Bare → Type 0
+IsLone (Lone leaf) = ⊤
+IsLone (Child m) = ⊥
+
+-- the leaf; of a message no bytes
+abbrev pub bare_leaf : Bare → Leaf
+bare_leaf (Lone leaf) = leaf
+bare_leaf (Child m) = Bytes []
+
+abbrev pub bare : KeptItem → Bare
+bare (Plain listed leaf) = Lone leaf
+bare (Msg listed m) = Child m
+
+abbrev pub in_list : Bool → Bare → KeptItem
+in_list listed (Lone leaf) = Plain listed leaf
+in_list listed (Child m) = Msg listed m
+
+abbrev pub owned_item : Value → Bare
+owned_item (owned.Msg child) = Child child.value
+owned_item value = Lone (leaf_of value)
+
+abbrev pub lent_item : ValueRef → Bare
+lent_item (lent.Msg child) = Child child.value
+lent_item value = Lone (borrowed.leaf_of value)
+
+abbrev pub leaf_lent : LeafRef → Leaf
+leaf_lent (leaves.Int n) = Int n
+leaf_lent (leaves.F32 bits) = F32 bits
+leaf_lent (leaves.F64 bits) = F64 bits
+leaf_lent (leaves.Bytes bytes) = Bytes bytes.now
+
+-- an item and an entry as parts of a number, and the parts of all fields
+abbrev pub item_part : {V : Type 0} → (V → Bare) → ℕ → Bool → V → Part KeptItem
+item_part item number listed v = record { number = number; key = None; item = in_list listed (item v) }
+
+abbrev pub entry_part : {V E : Type 0} → (V → Bare) → (E → V) → (E → V) → ℕ → E → Part KeptItem
+entry_part item key value number e = record { number = number; key = Some (bare_leaf (item (key e))); item = in_list false (item (value e)) }
+
+abbrev pub all_parts : {C : Type 0} → (ℕ → C → List (Part KeptItem)) → List (ℕ × C) → List (Part KeptItem)
+all_parts {C} parts cs = flat_map (λ (c : ℕ × C). parts c.0 c.1) cs
+
+-- just the parts of a map have keys
+abbrev pub AreKeyless : List (Part KeptItem) → Type 0
+AreKeyless ps = AllByRecursion (λ (p : Part KeptItem). p.key ≡ None) ps
+
+abbrev pub AreKeyed : List (Part KeptItem) → Type 0
+AreKeyed ps = AllByRecursion (λ (p : Part KeptItem). p.key ≢ None) ps
+
+abbrev pub AreOf : ℕ → List (Part KeptItem) → Type 0
+AreOf number ps = AllByRecursion (λ (p : Part KeptItem). p.number ≡ number) ps
+
+-- the parts are those of the field with the number
+pub record HoldsParts (shape : Shape) (type : TypeId) (number : ℕ) (ps : List (Part KeptItem)) : Type 0 where
+  pub field : FieldShape
+  pub found : field_at (fields shape type) number ≡ Some field
+  pub each : AllByRecursion (IsPartOf shape field) ps

@@ -1,0 +1,15 @@
+pub mod ByFields
+pub mod Content
+pub mod Decoding
+pub mod EntryParts
+pub mod EntrySteps
+pub mod FaultSteps
+pub mod Faults
+pub mod Gathering
+pub mod Held
+pub mod ItemRuns
+pub mod Normalized
+pub mod ReadingOn
+pub mod Refusals
+pub mod Steps
+pub mod TooDeep

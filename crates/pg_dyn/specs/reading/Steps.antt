@@ -1,0 +1,100 @@
+-- What a field holds as parts of a message, why bytes are refused, and where no message stands too deep (Encoding guide, "Message
+-- Structure"). Places are counted from the first byte of what is gone over.
+use Rattle.std.specs.Prelude.{◌≡◌, ◌⊎◌, ℕ, ◌+◌, ⊤, true, false, List, [], ◌++◌, map, Option, Some, None, Err}
+use Rattle.std.specs.List.{AllByRecursion}
+use Rattle.pg_schema.specs.declared.parts.field.Scalar.{Scalar}
+use Rattle.pg_schema.specs.declared.parts.field.Element.{Element}
+use Rattle.pg_schema.specs.Shape.{Shape, FieldShape, field_at, is_map}
+use Rattle.pg_wire.specs.Errors.{error_at, fault_of, place_of}
+use Rattle.pg_wire.specs.Reading.{Fault, row}
+use Rattle.pg_wire.specs.Records.{WireRecord}
+use Rattle.pg_dyn.specs.declared.error.DynError.{DynError}
+use Rattle.pg_dyn.specs.declared.error.DynError.TheVariants as errors
+use Rattle.pg_dyn.specs.declared.message_ref.ContentRef.{ContentRef}
+use Rattle.pg_dyn.specs.declared.message_ref.ValueRef.{ValueRef}
+use Rattle.pg_dyn.specs.Message.{Item, Part}
+use Rattle.pg_dyn.specs.Message as model
+use Rattle.pg_dyn.specs.Coding.{element_at, form_wire, scalar_form}
+use Rattle.pg_dyn.specs.reading.Content.{packed_leaves, takes}
+use Rattle.pg_dyn.specs.BorrowedItems.{IsItemOf}
+use Rattle.pg_dyn.specs.reading.Decoding.{is_readable, dec}
+use Rattle.pg_dyn.specs.Kept.{KeptItem, Plain, Msg, message_of}
+use Rattle.pg_dyn.specs.Borrowed.{HasKeys, IsFilled, content_seen, leaf_of}
+use Rattle.pg_dyn.specs.PartsFit.{FieldHolds}
+use Rattle.pg_dyn.specs.reading.Faults.{Code, Wire, NotUtf8, FaultIn, FaultOf}
+use Rattle.pg_dyn.specs.reading.TooDeep.{TooDeepIn, TooDeepOf}
+
+-- what a field holds, as parts of a message
+abbrev pub item_of : KeptItem → Item
+item_of (Plain listed leaf) = model.Plain leaf
+item_of (Msg listed m) = model.Msg (message_of m)
+
+abbrev pub part_of : Part KeptItem → Part Item
+part_of p = record { number = p.number; key = p.key; item = item_of p.item }
+
+abbrev pub parts_held : ℕ → Option ContentRef → List (Part KeptItem)
+parts_held number None = []
+parts_held number (Some content) = content_seen number content
+
+-- the field holds nothing, or a content of such parts that isn't empty and whose keys are no messages
+abbrev pub HeldFits : Shape → FieldShape → Option ContentRef → Type 0
+HeldFits shape f None = ⊤
+HeldFits shape f (Some content) = FieldHolds shape f (content_seen f.number content) × IsFilled content × HasKeys content
+
+-- Why reading is refused: memory was, or what the error names stands that many bytes behind a place.
+abbrev pub RefusedBy : (Code → ℕ → Type 0) → (ℕ → Type 0) → ℕ → DynError → Type 0
+RefusedBy HasFault IsDeep at errors.Memory = ⊤
+RefusedBy HasFault IsDeep at (errors.NotUtf8 there) = (place : ℕ) × (there ≡ at + place) × HasFault NotUtf8 place
+RefusedBy HasFault IsDeep at (errors.TooDeep there) = (place : ℕ) × (there ≡ at + place) × IsDeep place
+RefusedBy HasFault IsDeep at (errors.Wire e) = (place : ℕ) × (place_of e ≡ at + place) × HasFault (Wire (fault_of e)) place
+RefusedBy HasFault IsDeep at errors.NoSuchField = ⊥
+RefusedBy HasFault IsDeep at errors.WrongKind = ⊥
+RefusedBy HasFault IsDeep at errors.OutOfRange = ⊥
+RefusedBy HasFault IsDeep at errors.OneofTwice = ⊥
+RefusedBy HasFault IsDeep at errors.DuplicateKey = ⊥
+RefusedBy HasFault IsDeep at errors.TooLong = ⊥
+
+-- Of a record that the field takes, of one that some field takes, and of bytes: refused, and no message stands too deep. Below the
+-- message there may be as many levels.
+
+abbrev pub RefusedOf : Shape → ℕ → FieldShape → WireRecord → ℕ → DynError → Type 0
+RefusedOf shape levels f r at e = RefusedBy (FaultOf shape f r) (TooDeepOf shape levels f r) at e
+
+abbrev pub IsShallow : Shape → ℕ → FieldShape → WireRecord → Type 0
+IsShallow shape levels f r = (place : ℕ) → TooDeepOf shape levels f r place → ⊥
+
+-- a field of these that takes the record
+pub record Taken (fs : List FieldShape) (r : WireRecord) (f : FieldShape) : Type 0 where
+  pub found : field_at fs r.number ≡ Some f
+  pub taken : takes f r ≡ true
+
+abbrev pub RefusedRecord : Shape → ℕ → List FieldShape → WireRecord → ℕ → DynError → Type 0
+RefusedRecord shape levels fs r at e =
+    RefusedBy (λ code place. (f : FieldShape) × Taken fs r f × FaultOf shape f r code place) (λ place. (f : FieldShape) × Taken fs r f × TooDeepOf shape levels f r place) at e
+
+abbrev pub IsShallowRecord : Shape → ℕ → List FieldShape → WireRecord → Type 0
+IsShallowRecord shape levels fs r = (f : FieldShape) → Taken fs r f → IsShallow shape levels f r
+
+abbrev pub RefusedIn : Shape → ℕ → List FieldShape → List ℕ → ℕ → DynError → Type 0
+RefusedIn shape limit fs bytes at e = RefusedBy (FaultIn shape fs bytes) (TooDeepIn shape limit fs bytes) at e
+
+abbrev pub IsShallowIn : Shape → ℕ → List FieldShape → List ℕ → Type 0
+IsShallowIn shape limit fs bytes = (place : ℕ) → TooDeepIn shape limit fs bytes place → ⊥
+
+-- of a record of an element's own wire type, whichever field that is no map has the element
+abbrev pub RefusedItem : Shape → ℕ → Element → WireRecord → ℕ → DynError → Type 0
+RefusedItem shape levels element r at e = (f : FieldShape) → is_map f.presence ≡ false → f.element ≡ element → RefusedOf shape levels f r at e
+
+abbrev pub IsShallowItem : Shape → ℕ → Element → WireRecord → Type 0
+IsShallowItem shape levels element r = (f : FieldShape) → is_map f.presence ≡ false → f.element ≡ element → IsShallow shape levels f r
+
+abbrev pub FieldReads : Shape → FieldShape → WireRecord → Type 0
+FieldReads shape f r = is_readable (dec shape) f r ≡ true
+
+-- A packed list is read behind items, and why it isn't.
+abbrev pub RowReads : Scalar → List ℕ → List ValueRef → List ValueRef → Type 0
+RowReads s body old new =
+    (values : List ValueRef) × (new ≡ old ++ values) × (packed_leaves (scalar_form s) body ≡ Some (map leaf_of values)) × AllByRecursion (IsItemOf s) values
+
+abbrev pub RowRefused : Scalar → List ℕ → ℕ → DynError → Type 0
+RowRefused s body at e = (e ≡ errors.Memory) ⊎ ((fault : Fault) × (e ≡ errors.Wire (error_at fault at)) × (row (element_at (form_wire (scalar_form s))) body ≡ Err fault))

@@ -1,0 +1,3 @@
+pub mod ContentFaults
+pub mod Setting
+pub mod Told

@@ -1,0 +1,66 @@
+-- What a test of contents tells: nothing, or of what is wrong the error of the lowest code. A key that stands twice is told by a test of
+-- its own, since two contents of one oneof are told before it.
+use Rattle.std.specs.Prelude.{◌≡◌, ℕ, ◌<◌, ◌⊎◌, Bool, false, length, nat_eq, Some, Result, Ok, Err}
+use Rattle.std.specs.List.{AllByRecursion}
+use Rattle.pg_schema.specs.declared.parts.field.TypeId.{TypeId}
+use Rattle.pg_schema.specs.declared.parts.field.Scalar.{Scalar}
+use Rattle.pg_schema.specs.declared.parts.field.Element.{Element}
+use Rattle.pg_schema.specs.declared.parts.field.Element.TheVariants as elements
+use Rattle.pg_schema.specs.declared.parts.field.Presence.{Presence}
+use Rattle.pg_schema.specs.declared.parts.field.Presence.TheVariants as presences
+use Rattle.pg_schema.specs.Shape.{Shape, FieldShape, fields, field_at}
+use Rattle.pg_dyn.specs.declared.error.DynError.{DynError}
+use Rattle.pg_dyn.specs.declared.message.Content.{Content}
+use Rattle.pg_dyn.specs.declared.message.Content.TheVariants as contents
+use Rattle.pg_dyn.specs.declared.message.Value.{Value}
+use Rattle.pg_dyn.specs.setting.ContentFaults.{ElementFault, code, IsLowest}
+use Rattle.pg_dyn.specs.ContentFits.{ItemFits, is_zero_value}
+use Rattle.pg_dyn.specs.Kept.{KeptItem}
+use Rattle.pg_dyn.specs.Message.{Leaf}
+use Rattle.pg_dyn.specs.Seen.{item_seen, leaf_of}
+use Rattle.pg_dyn.specs.ScalarItems.{IsItemOf}
+
+-- all is right, or the error is the lowest fault, and not that of a key twice
+abbrev pub Tells : Type 0 → (DynError → Type 0) → Result (Unit {0}) DynError → Type 0
+Tells Right Fault (Ok t) = Right
+Tells Right Fault (Err e) = IsLowest Fault e × (code e < 605)
+
+-- the code of what is told; where nothing is, it is above all
+abbrev pub code_told : Result (Unit {0}) DynError → ℕ
+code_told (Ok t) = 1000
+code_told (Err e) = code e
+
+-- an entry of a map
+abbrev pub EntryFits : Shape → Scalar → Element → Value × Value → Type 0
+EntryFits shape key element e = IsItemOf key e.0 × ItemFits shape element e.1
+
+abbrev pub EntryFault : Shape → Scalar → Element → Value × Value → DynError → Type 0
+EntryFault shape key element e error = ElementFault shape (elements.Scalar key) e.0 error ⊎ ElementFault shape element e.1 error
+
+-- the content has the shape of the presence, and each item is one of its element
+abbrev pub ItemsFit : Shape → Presence → Element → Content → Type 0
+ItemsFit shape presences.Implicit element (contents.One value) = ItemFits shape element value
+ItemsFit shape presences.Explicit element (contents.One value) = ItemFits shape element value
+ItemsFit shape (presences.Repeated packed) element (contents.Many vs) = AllByRecursion (ItemFits shape element) vs.items
+ItemsFit shape (presences.Map key) element (contents.Map es) = AllByRecursion (EntryFits shape key element) es.items
+ItemsFit shape presence element content = ⊥
+
+-- the content is one of the field of its number, but for keys twice
+pub record IsTaken (shape : Shape) (type : TypeId) (number : ℕ) (content : Content) (f : FieldShape) : Type 0 where
+  pub found : field_at (fields shape type) number ≡ Some f
+  pub items : ItemsFit shape f.presence f.element content
+
+-- what a map shows of an entry, its key and its item
+abbrev pub entry_seen : Value × Value → Leaf × KeptItem
+entry_seen e = (leaf_of e.0, item_seen false e.1)
+
+-- a field holds nothing of the content
+abbrev pub is_nothing : Presence → Content → Bool
+is_nothing presences.Implicit (contents.One value) = is_zero_value value
+is_nothing presence (contents.One value) = false
+is_nothing presence (contents.Many vs) = nat_eq (length vs.items) 0
+is_nothing presence (contents.Map es) = nat_eq (length es.items) 0
+
+-- the content of a number is one of its field, but for keys twice
+abbrev pub TakesContent : Shape → TypeId → ℕ × Content → Type 0
+TakesContent shape type c = (f : FieldShape) × IsTaken shape type c.0 c.1 f

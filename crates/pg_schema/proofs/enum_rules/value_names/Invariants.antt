@@ -1,7 +1,0 @@
-use Rattle.std.proofs.Common.{◌≡◌, take, map}
-use Rattle.std.specs.String.{string_bytes}
-use Rattle.pg_schema.specs.EnumRules.{value_names}
-use Rattle.pg_schema.proofs.enum_rules.value_names.Given as goal
-
-abbrev pub invariant-loop-value : goal.invariant-loop-value
-invariant-loop-value l = map string_bytes l.names.items ≡ value_names (take l.value-index l.values)

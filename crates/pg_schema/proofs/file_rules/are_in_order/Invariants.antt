@@ -1,8 +1,0 @@
-use Rattle.std.proofs.Common.{◌≡◌, drop, ◌∷◌}
-use Rattle.pg_schema.specs.FileRules.{option_numbers}
-use Rattle.pg_schema.specs.Pairs.{is_rising}
-use Rattle.pg_schema.proofs.file_rules.are_in_order.Given as goal
-
--- all rise exactly where those that are left do
-abbrev pub invariant-loop-option : goal.invariant-loop-option
-invariant-loop-option l = is_rising (l.below ∷ option_numbers (drop l.option-index l.options)) ≡ is_rising (0 ∷ option_numbers l.options)

@@ -1,0 +1,3 @@
+pub mod FieldSearch
+pub mod NameTables
+pub mod TypeSearch

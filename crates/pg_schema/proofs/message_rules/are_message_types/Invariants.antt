@@ -1,7 +1,0 @@
-use Rattle.std.proofs.Common.{◌≡◌, true, take, length}
-use Rattle.std.specs.List.{list_all}
-use Rattle.pg_schema.specs.MessageRules.{is_message_type}
-use Rattle.pg_schema.proofs.message_rules.are_message_types.Given as goal
-
-abbrev pub invariant-loop-message_type : goal.invariant-loop-message_type
-invariant-loop-message_type l = list_all (is_message_type (length l.message_types) l.enums) (take l.message_type-index l.message_types) ≡ true

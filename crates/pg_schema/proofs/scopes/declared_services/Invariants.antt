@@ -1,8 +1,0 @@
-use Rattle.std.proofs.Common.{◌≡◌, take}
-use Rattle.std.specs.List.{flat_map}
-use Rattle.pg_schema.specs.declared.file.File.{File}
-use Rattle.pg_schema.specs.Scopes.{service_places}
-use Rattle.pg_schema.proofs.scopes.declared_services.Given as goal
-
-abbrev pub invariant-loop-file : goal.invariant-loop-file
-invariant-loop-file l = l.places.items ≡ flat_map (λ (f : File). service_places f.services.items) (take l.file-index l.files)

@@ -1,6 +1,0 @@
-use Rattle.std.proofs.Common.{◌≡◌, map, take}
-use Rattle.pg_schema.specs.Scopes.{place_use}
-use Rattle.pg_schema.proofs.scopes.place_uses.Given as goal
-
-abbrev pub invariant-loop-place : goal.invariant-loop-place
-invariant-loop-place l = l.uses.items ≡ map place_use (take l.place-index l.places)

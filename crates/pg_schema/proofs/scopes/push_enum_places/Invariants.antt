@@ -1,6 +1,0 @@
-use Rattle.std.proofs.Common.{◌≡◌, ◌++◌, take}
-use Rattle.pg_schema.specs.Scopes.{enum_places}
-use Rattle.pg_schema.proofs.scopes.push_enum_places.Given as goal
-
-abbrev pub invariant-loop-id : goal.invariant-loop-id
-invariant-loop-id l = l.places.items ≡ l.fn.places.items ++ enum_places (take l.id-index l.ids)

@@ -1,8 +1,0 @@
-use Rattle.std.proofs.Common.{◌≡◌, ◌∷◌, drop}
-use Rattle.pg_schema.specs.Pairs.{all_neighbours}
-use Rattle.pg_schema.specs.UsedNumbers.{comes_before}
-use Rattle.pg_schema.proofs.uses.are_in_order.Given as goal
-
--- all are in order exactly where those that are left are
-abbrev pub invariant-loop-next : goal.invariant-loop-next
-invariant-loop-next l = all_neighbours (comes_before l.aliases) (l.before ∷ drop l.next-index l.others) ≡ all_neighbours (comes_before l.aliases) l.uses

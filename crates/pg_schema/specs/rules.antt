@@ -1,0 +1,13 @@
+pub mod DeclaredNames
+pub mod Enums
+pub mod Examples
+pub mod Fields
+pub mod Files
+pub mod Messages
+pub mod Packages
+pub mod Pairs
+pub mod Scopes
+pub mod Sound
+pub mod TextSets
+pub mod Uses
+pub mod Words

@@ -1,0 +1,279 @@
+//! Where message types, enums and services are declared.
+
+ghost use Rattle.std.specs.Prelude.{◌≡◌, ◌++◌, IfOk, OnOk, length, map, nat_lt};
+ghost use Rattle.std.specs.List.{flat_map, list_all};
+ghost use Rattle.pg_schema.specs.declared.parts.file.File.{File};
+ghost use Rattle.pg_schema.specs.declared.parts.message_type.MessageType.{MessageType};
+ghost use Rattle.pg_schema.specs.rules.Scopes.{are_declared_once, are_each_once, are_enums_in, are_services_in, are_types_in, declared_enums, declared_services, declared_types, enum_places, enum_name, is_dot_and_word, is_file_scope, is_in, is_named_in, is_type_scope, place_use, service_name, type_name, service_places, type_places};
+
+use crate::parts::enum_type::EnumType;
+use crate::parts::field::{EnumId, TypeId};
+use crate::parts::file::File;
+use crate::parts::message_type::MessageType;
+use crate::parts::service::{Service, ServiceId};
+use crate::rules::uses::{Use, is_used_once};
+use crate::rules::words::is_word;
+use std::alloc::{AllocError, Global};
+
+/// The bytes are a dot and a word.
+fn is_dot_and_word(bytes: &[u8]) -> bool
+    ensures { result ≡ is_dot_and_word bytes.now }
+{
+    match bytes {
+        [first, others @ ..] => *first == b'.' && is_word(others),
+        [] => false,
+    }
+}
+
+/// The name is that scope, a dot and a word; a word alone where the scope has no name.
+fn is_in(scope: &[u8], name: &[u8]) -> bool
+    ensures { result ≡ is_in scope.now name.now }
+{
+    if scope.is_empty() {
+        return is_word(name);
+    }
+    if name.len() < scope.len() {
+        return false;
+    }
+    let (front, others) = name.split_at(scope.len());
+    front == scope && is_dot_and_word(others)
+}
+
+/// There is such a message type, and it is in the scope.
+fn is_type_in(types: &[MessageType], scope: &str, id: TypeId) -> bool
+    ensures { result ≡ is_named_in scope.now (type_name types.now id) }
+{
+    match types.get(id.index as usize) {
+        Some(message_type) => is_in(scope.as_bytes(), message_type.name.as_bytes()),
+        None => false,
+    }
+}
+
+/// There is such an enum, and it is in the scope.
+fn is_enum_in(enums: &[EnumType], scope: &str, id: EnumId) -> bool
+    ensures { result ≡ is_named_in scope.now (enum_name enums.now id) }
+{
+    match enums.get(id.index as usize) {
+        Some(enum_type) => is_in(scope.as_bytes(), enum_type.name.as_bytes()),
+        None => false,
+    }
+}
+
+/// There is such a service, and it is in the scope.
+fn is_service_in(services: &[Service], scope: &str, id: ServiceId) -> bool
+    ensures { result ≡ is_named_in scope.now (service_name services.now id) }
+{
+    match services.get(id.index as usize) {
+        Some(service) => is_in(scope.as_bytes(), service.name.as_bytes()),
+        None => false,
+    }
+}
+
+/// The message types at these places are in the scope.
+fn are_types_in(types: &[MessageType], scope: &str, ids: &[TypeId]) -> bool
+    ensures { result ≡ are_types_in types.now scope.now ids.now }
+{
+    for id in ids {
+        if !is_type_in(types, scope, *id) {
+            return false;
+        }
+    }
+    true
+}
+
+/// The enums at these places are in the scope.
+fn are_enums_in(enums: &[EnumType], scope: &str, ids: &[EnumId]) -> bool
+    ensures { result ≡ are_enums_in enums.now scope.now ids.now }
+{
+    for id in ids {
+        if !is_enum_in(enums, scope, *id) {
+            return false;
+        }
+    }
+    true
+}
+
+/// The services at these places are in the scope.
+fn are_services_in(services: &[Service], scope: &str, ids: &[ServiceId]) -> bool
+    ensures { result ≡ are_services_in services.now scope.now ids.now }
+{
+    for id in ids {
+        if !is_service_in(services, scope, *id) {
+            return false;
+        }
+    }
+    true
+}
+
+/// What each message type declares is in it.
+pub(crate) fn are_type_scopes(types: &[MessageType], enums: &[EnumType]) -> bool
+    ensures { result ≡ list_all (is_type_scope types.now enums.now) types.now }
+{
+    for message_type in types {
+        let name = message_type.name.as_str();
+        if !are_types_in(types, name, &message_type.nested_types)
+            || !are_enums_in(enums, name, &message_type.nested_enums)
+        {
+            return false;
+        }
+    }
+    true
+}
+
+/// What each file declares is in its package.
+pub(crate) fn are_file_scopes(
+    files: &[File],
+    types: &[MessageType],
+    enums: &[EnumType],
+    services: &[Service],
+) -> bool
+    ensures { result ≡ list_all (is_file_scope types.now enums.now services.now) files.now }
+{
+    for file in files {
+        let package = file.package.as_str();
+        if !are_types_in(types, package, &file.types)
+            || !are_enums_in(enums, package, &file.enums)
+            || !are_services_in(services, package, &file.services)
+        {
+            return false;
+        }
+    }
+    true
+}
+
+/// Appends the places of these message types.
+fn push_type_places(places: &mut Vec<u32>, ids: &[TypeId]) -> Result<(), AllocError>
+    ensures { OnOk result (places.new.items ≡ places.old.items ++ type_places ids.now) }
+{
+    for id in ids {
+        places.push(id.index)?;
+    }
+    Ok(())
+}
+
+/// Appends the places of these enums.
+fn push_enum_places(places: &mut Vec<u32>, ids: &[EnumId]) -> Result<(), AllocError>
+    ensures { OnOk result (places.new.items ≡ places.old.items ++ enum_places ids.now) }
+{
+    for id in ids {
+        places.push(id.index)?;
+    }
+    Ok(())
+}
+
+/// Appends the places of these services.
+fn push_service_places(places: &mut Vec<u32>, ids: &[ServiceId]) -> Result<(), AllocError>
+    ensures { OnOk result (places.new.items ≡ places.old.items ++ service_places ids.now) }
+{
+    for id in ids {
+        places.push(id.index)?;
+    }
+    Ok(())
+}
+
+/// The places of the message types that files and message types declare.
+fn declared_types(
+    alloc: Global,
+    files: &[File],
+    types: &[MessageType],
+) -> Result<Vec<u32>, AllocError>
+    ensures { IfOk result (λ places. places.items ≡ declared_types files.now types.now) }
+{
+    let mut places = Vec::new(alloc);
+    for file in files {
+        push_type_places(&mut places, &file.types)?;
+    }
+    for message_type in types {
+        push_type_places(&mut places, &message_type.nested_types)?;
+    }
+    Ok(places)
+}
+
+/// The places of the enums that files and message types declare.
+fn declared_enums(
+    alloc: Global,
+    files: &[File],
+    types: &[MessageType],
+) -> Result<Vec<u32>, AllocError>
+    ensures { IfOk result (λ places. places.items ≡ declared_enums files.now types.now) }
+{
+    let mut places = Vec::new(alloc);
+    for file in files {
+        push_enum_places(&mut places, &file.enums)?;
+    }
+    for message_type in types {
+        push_enum_places(&mut places, &message_type.nested_enums)?;
+    }
+    Ok(places)
+}
+
+/// The places of the services that files declare.
+fn declared_services(alloc: Global, files: &[File]) -> Result<Vec<u32>, AllocError>
+    ensures { IfOk result (λ places. places.items ≡ declared_services files.now) }
+{
+    let mut places = Vec::new(alloc);
+    for file in files {
+        push_service_places(&mut places, &file.services)?;
+    }
+    Ok(places)
+}
+
+/// The places are below the count.
+fn are_below(count: usize, places: &[u32]) -> bool
+    ensures { result ≡ list_all (λ place. nat_lt place count) places.now }
+{
+    for place in places {
+        if count <= *place as usize {
+            return false;
+        }
+    }
+    true
+}
+
+/// The places, each as a number that is used.
+fn place_uses(alloc: Global, places: &[u32]) -> Result<Vec<Use>, AllocError>
+    ensures { IfOk result (λ uses. uses.items ≡ map place_use places.now) }
+{
+    let mut uses = Vec::new(alloc);
+    for place in places {
+        uses.push(Use {
+            first: *place,
+            last: *place,
+            is_reserved: false,
+        })?;
+    }
+    Ok(uses)
+}
+
+/// The places are so many, all below that count, and each stands once.
+fn are_each_once(alloc: Global, count: usize, places: &[u32]) -> Result<bool, AllocError>
+    ensures { IfOk result (λ b. b ≡ are_each_once count places.now) }
+{
+    if places.len() != count || !are_below(count, places) {
+        return Ok(false);
+    }
+    let uses = place_uses(alloc, places)?;
+    Ok(is_used_once(false, uses))
+}
+
+/// Each message type, enum and service is declared once.
+pub(crate) fn are_declared_once(
+    alloc: Global,
+    files: &[File],
+    types: &[MessageType],
+    enums: usize,
+    services: usize,
+) -> Result<bool, AllocError>
+    ensures { IfOk result (λ b. b ≡ are_declared_once files.now types.now enums services) }
+{
+    let places = declared_types(alloc, files, types)?;
+    if !are_each_once(alloc, types.len(), &places)? {
+        return Ok(false);
+    }
+    let places = declared_enums(alloc, files, types)?;
+    if !are_each_once(alloc, enums, &places)? {
+        return Ok(false);
+    }
+    let places = declared_services(alloc, files)?;
+    are_each_once(alloc, services, &places)
+}

@@ -1,0 +1,58 @@
+//! Sets of texts.
+
+ghost use Rattle.std.specs.Prelude.{◌≡◌, IfOk, IfSome, is_some, map, not};
+ghost use Rattle.std.specs.BTreeSet.{contains_text};
+ghost use Rattle.std.specs.List.{list_all};
+ghost use Rattle.std.specs.String.{string_bytes};
+ghost use Rattle.pg_schema.specs.rules.Pairs.{are_distinct};
+ghost use Rattle.pg_schema.specs.rules.TextSets.{are_named_once, IsSetOf};
+
+use std::alloc::{AllocError, Global};
+use std::collections::BTreeSet;
+
+/// The set of these texts. `None` where one stands twice.
+pub(crate) fn set_of(
+    alloc: Global,
+    texts: &[String],
+) -> Result<Option<BTreeSet<String>>, AllocError>
+    ensures distinct { IfOk result (λ set. is_some set
+        ≡ are_distinct (map string_bytes texts.now)) }
+    ensures held { IfOk result (λ found. IfSome found (IsSetOf (map string_bytes texts.now))) }
+{
+    let mut set = BTreeSet::new(alloc);
+    for text in texts {
+        let is_new = set.insert(text.clone()?)?;
+        if !is_new {
+            return Ok(None);
+        }
+    }
+    Ok(Some(set))
+}
+
+/// None of the texts is in the set.
+pub(crate) fn holds_none(set: &BTreeSet<String>, texts: &[String]) -> bool
+    ensures { result ≡ list_all (λ text. not (contains_text set.now (string_bytes text)))
+        texts.now }
+{
+    for text in texts {
+        if set.contains(text.as_str()) {
+            return false;
+        }
+    }
+    true
+}
+
+/// Each name stands once, and none is reserved.
+pub(crate) fn are_named_once(
+    alloc: Global,
+    names: &[String],
+    reserved: &[String],
+) -> Result<bool, AllocError>
+    ensures { IfOk result (λ b. b ≡ are_named_once (map string_bytes names.now)
+        (map string_bytes reserved.now)) }
+{
+    match set_of(alloc, names)? {
+        Some(set) => Ok(holds_none(&set, reserved)),
+        None => Ok(false),
+    }
+}

@@ -1,0 +1,130 @@
+//! The numbers that a message type or an enum uses.
+
+ghost use Rattle.std.specs.Prelude.{◌≡◌, IfOk, true};
+ghost use Rattle.std.specs.List.{list_all};
+ghost use Rattle.pg_schema.specs.rules.Pairs.{all_neighbours};
+ghost use Rattle.pg_schema.specs.rules.Uses.{comes_before, enum_uses, from_lowest, is_used_once, is_whole, message_uses, reserved_values_use, value_use};
+
+use crate::parts::enum_type::{EnumValue, ReservedValues};
+use crate::parts::field::Field;
+use crate::parts::message_type::ReservedFields;
+use std::alloc::{AllocError, Global};
+
+/// Numbers that are used, from the first to the last, both of them too.
+#[derive(Clone, Copy, Debug, PartialEq, Eq)]
+pub(crate) struct Use {
+    /// The lowest. Of an enum counted from -2,147,483,648.
+    pub first: u32,
+    /// The highest, counted likewise.
+    pub last: u32,
+    /// Whether the numbers are reserved, and no field's or value's.
+    pub is_reserved: bool,
+}
+
+/// What the fields and the reserved items of a message type use.
+pub(crate) fn message_uses(
+    alloc: Global,
+    fields: &[Field],
+    reserved: &[ReservedFields],
+) -> Result<Vec<Use>, AllocError>
+    ensures { IfOk result (λ uses. uses.items ≡ message_uses fields.now reserved.now) }
+{
+    let mut uses = Vec::new(alloc);
+    for field in fields {
+        uses.push(Use {
+            first: field.number,
+            last: field.number,
+            is_reserved: false,
+        })?;
+    }
+    for range in reserved {
+        uses.push(Use {
+            first: range.first,
+            last: range.last,
+            is_reserved: true,
+        })?;
+    }
+    Ok(uses)
+}
+
+/// The number counted from -2,147,483,648.
+pub(crate) fn from_lowest(number: i32) -> u32
+    ensures { result ≡ from_lowest number }
+{
+    (i64::from(number) + 0x8000_0000) as u32
+}
+
+/// What the value uses.
+fn value_use(value: &EnumValue) -> Use
+    ensures { result ≡ value_use value.now }
+{
+    let number = from_lowest(value.number);
+    Use {
+        first: number,
+        last: number,
+        is_reserved: false,
+    }
+}
+
+/// What the reserved item uses.
+fn reserved_values_use(range: ReservedValues) -> Use
+    ensures { result ≡ reserved_values_use range }
+{
+    Use {
+        first: from_lowest(range.first),
+        last: from_lowest(range.last),
+        is_reserved: true,
+    }
+}
+
+/// What the values and the reserved items of an enum use.
+pub(crate) fn enum_uses(
+    alloc: Global,
+    values: &[EnumValue],
+    reserved: &[ReservedValues],
+) -> Result<Vec<Use>, AllocError>
+    ensures { IfOk result (λ uses. uses.items ≡ enum_uses values.now reserved.now) }
+{
+    let mut uses = Vec::new(alloc);
+    for value in values {
+        uses.push(value_use(value))?;
+    }
+    for range in reserved {
+        uses.push(reserved_values_use(*range))?;
+    }
+    Ok(uses)
+}
+
+/// One use stands before the other, or beside it where aliases are allowed.
+fn comes_before(aliases: bool, one: Use, other: Use) -> bool
+    ensures { result ≡ comes_before aliases one other }
+{
+    one.last < other.first
+        || (aliases && !one.is_reserved && !other.is_reserved && one.last <= other.first)
+}
+
+/// Each use comes before the next.
+fn are_in_order(aliases: bool, uses: &[Use]) -> bool
+    ensures { result ≡ all_neighbours (comes_before aliases) uses.now }
+{
+    let [first, others @ ..] = uses else {
+        return true;
+    };
+    let mut before = *first;
+    for next in others {
+        if !comes_before(aliases, before, *next) {
+            return false;
+        }
+        before = *next;
+    }
+    true
+}
+
+/// No number is used twice, but by two values where aliases are allowed.
+pub(crate) fn is_used_once(aliases: bool, mut uses: Vec<Use>) -> bool
+    requires { list_all is_whole uses.items ≡ true }
+    ensures { result ≡ is_used_once aliases uses.items }
+{
+    uses.sort_unstable_by_key(|one| one.first);
+    are_in_order(aliases, &uses)
+}
