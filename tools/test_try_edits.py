@@ -11,6 +11,7 @@ stands: there no edit counts.
 import contextlib
 import io
 import os
+import shutil
 import subprocess
 import sys
 import tempfile
@@ -158,6 +159,8 @@ FALLS = """
 abbrev pub decreases-{name} : goal.decreases-{name}
 decreases-{name} l = l.number
 """
+# What another run of the script says of the tries of a repository's first crate with edits.
+KEY = "import sys; from try_edits import key_of, load_kit, plan; kit = load_kit(); print(key_of(kit, plan(kit, sys.argv[1])[0]))"
 # By edit: what it turns, and what has to be said of it, or nothing where that is left to rt.
 EDITS = {
     "one_more": ("    u16::from(number) * 2", "    u16::from(number) * 2 + 1", "twice: returns"),
@@ -405,6 +408,23 @@ class Kept(unittest.TestCase):
         self.edit("not_there", "nowhere", "here")
         kept = self.run_with((True, "src/lib.rt twice: returns"))
         self.assertEqual((kept.is_kept, kept.passed(), kept.failed()), (True, 1, 1))
+
+    def key(self, folder, seed):
+        """Returns what a run of its own, with this seed for the order of sets, says that the tries rest on."""
+        how = {"cwd": os.path.dirname(os.path.abspath(__file__)), "env": {**os.environ, "PYTHONHASHSEED": str(seed)}}
+        return subprocess.run([sys.executable, "-Bc", KEY, folder], check=True, capture_output=True, text=True, **how).stdout
+
+    def test_what_is_kept_is_of_just_these_texts_and_no_folder_or_run(self):
+        self.edit("the_end_is_one", "        return 0; // at the end", "        return 1;")
+        write(f"{self.crate}/proofs/down/Answers.antt", "".join(f"pub g{it} : goal.g{it}\ng{it} = one\n" for it in range(8)))
+        first = self.key(self.room.name, 1)
+        with tempfile.TemporaryDirectory() as other:
+            shutil.copytree(self.room.name, f"{other}/copy")
+            self.assertEqual({self.key(f"{other}/copy", it) for it in (2, 3)}, {first})
+        self.edit("the_end_is_one", "        return 0; // at the end", "        return 2;")
+        another_edit = self.key(self.room.name, 1)
+        write(f"{self.crate}/src/halving.rt", HALVING)
+        self.assertEqual(len({first, another_edit, self.key(self.room.name, 1)}), 3)
 
     def test_what_is_kept_is_of_all_edits(self):
         path = f"{self.room.name}/kept"

@@ -186,8 +186,10 @@ def try_each(kit, tries, most):
 
 
 def key_of(kit, tries):
-    """Returns a sum of all that the tries rest on: the kit, these scripts, the crate with its copies, and those below it."""
-    made = hashlib.sha256(repr((kit.kit_sum(), tries.copies, tries.in_place)).encode())
+    """Returns a sum of all that the tries rest on: the kit, these scripts, the crate with its copies, and those below it. Where an edit stands
+    that is tried in place follows from these; and that has sets, which each run lists in another order."""
+    texts = {edit: it.texts for edit, it in tries.in_place.items()}
+    made = hashlib.sha256(repr((kit.kit_sum(), tries.copies, texts)).encode())
     files = {f"tools/{it}": f"{TOP}/tools/{it}" for it in TOOLS}
     for crate in (*tries.crate.below(), tries.crate):
         made.update(repr((crate.name, crate.said)).encode())
@@ -219,7 +221,8 @@ def said_before(path, edits):
 
 
 def try_one(kit, tries, is_anew, most=MOST):
-    """Tries the edits of a crate, copies of so many in a check, or takes what an earlier run passed of the same. What is said already, of edits that can't be tried, stays said."""
+    """Tries the edits of a crate, copies of so many in a check, or takes what an earlier run passed of the same. What is said already, of edits
+    that can't be tried, stays said."""
     at, key = kept_at(kit), key_of(kit, tries)
     edits = {*(it.edit for it in tries.copies), *tries.in_place}
     before = {} if is_anew or not at else said_before(f"{at}/{key}", edits)
