@@ -78,6 +78,28 @@ SOURCES["b.proto"] = 'syntax = "proto3"; message B { }'
 SOURCES["d.proto"] = 'syntax = "proto3"; import public "b.proto"; import public "m.proto"; message D { B b = 1; M m = 2; }'
 
 
+# The names of errors by code (docs/REFUSALS.md): of bytes, of a set, and of the rules that it breaks, which are at no place.
+WIRE_ERRORS = {501: "VarintTooLong", 502: "Truncated", 503: "BadTag", 504: "Group", 505: "BadWireType"}
+BYTES_ERRORS = {604: "NotUtf8", 608: "TooDeep"}
+SET_ERRORS = {702: "NotProto3", 703: "BadType", 704: "BadReference"}
+RULE_ERRORS = {
+    401: "BadNumber", 402: "DuplicateNumber", 403: "ReservedNumber", 404: "ReservedName", 405: "RangeOverlap", 406: "JsonNameClash",
+    407: "BadMapKey", 408: "BadOneofMember", 409: "EnumFirstNotZero", 410: "EnumAlias", 411: "BadOption", 412: "PackedNotAllowed",
+    414: "EnumEmpty", 415: "BadParts",
+}
+
+
+def error_of(code, at):
+    """Returns the whole error of a code, of bytes with the byte that it names, as rows print it."""
+    if code in WIRE_ERRORS:
+        return "Bytes(Wire(%s { at: %d }))" % (WIRE_ERRORS[code], at)
+    if code in BYTES_ERRORS:
+        return "Bytes(%s { at: %d })" % (BYTES_ERRORS[code], at)
+    if code in RULE_ERRORS:
+        return 'Rule(%s(Place { file: "", line: 0, column: 0 }))' % RULE_ERRORS[code]
+    return SET_ERRORS[code]
+
+
 def made(folder, name):
     out = os.path.join(folder, "out.pb")
     subprocess.run(
@@ -227,14 +249,29 @@ def variants(sets):
     return rows
 
 
+def nested(levels):
+    """Returns a set of a message type with as many more in it, each in the one before; a message inside is one level deeper (01 is a name,
+    03 a type inside, 04 a type of the file)."""
+    body = b"\x0a\x01M"
+    for _ in range(levels):
+        body = b"\x0a\x01M" + record(3, body)
+    return record(1, b"\x0a\x07m.proto" + record(4, body) + b"\x62\x06proto3")
+
+
+def record(number, body):
+    """Returns the record of a body of less than 2^14 bytes."""
+    length = bytes([len(body)]) if len(body) < 128 else bytes([len(body) & 127 | 128, len(body) >> 7])
+    return bytes([8 * number + 2]) + length + body
+
+
 def refused(sets):
-    """Sets that are refused, and the code."""
+    """Sets that are refused, the code, and the byte that an error of bytes names."""
     one, two, maps, oneofs = sets["m.proto"], sets["a.proto"], sets["maps.proto"], sets["oneofs.proto"]
     services, enums, public = sets["services.proto"], sets["enums.proto"], sets["d.proto"]
     rows = []
 
     def row(name, code, base, change):
-        rows.append((name, code, changed(base, change).SerializeToString()))
+        rows.append((name, code, changed(base, change).SerializeToString(), 0))
 
     def message(s):
         return s.file[-1].message_type[0]
@@ -243,8 +280,14 @@ def refused(sets):
         return message(s).field[0]
 
     bytes_of_one = one.SerializeToString()
-    rows.append(("a front", 502, bytes_of_one[:-1]))
-    rows.append(("no text", 604, bytes_of_one.replace(b"\x0a\x01M", b"\x0a\x01\xff")))
+    rows.append(("a front", 502, bytes_of_one[:-1], 0))
+    # A fault stands at the first byte of the innermost record that has it: that of the type's name, and what stands behind the file.
+    rows.append(("no text", 604, bytes_of_one.replace(b"\x0a\x01M", b"\x0a\x01\xff"), bytes_of_one.index(b"\x0a\x01M")))
+    for what, code, behind in (("a varint of 11 bytes", 501, b"\x08" + b"\x80" * 11), ("a tag of number 0", 503, b"\x00"),
+                               ("a group behind", 504, b"\x0b"), ("a wire type 6", 505, b"\x0e")):
+        rows.append((what, code, bytes_of_one + behind, len(bytes_of_one)))
+    # The set is at level 1, its file at 2, and the file's type at 3: so the 98th type inside is at level 101.
+    rows.append(("98 types inside each other", 608, nested(98), nested(98).index(record(3, b"\x0a\x01M"))))
     # syntax
     row("proto2", 702, one, lambda s: setattr(s.file[0], "syntax", "proto2"))
     row("no syntax", 702, one, lambda s: s.file[0].ClearField("syntax"))
@@ -341,12 +384,13 @@ def rows_of_sets(sets):
     rows = [("protoc's set of %s" % name, data[name], '"%s"' % printed(data[name])) for name in names]
     for what, read, place in variants(sets):
         rows.append(("changed: " + what, read.SerializeToString(), '"%s"' % printed(data[names[place]])))
-    for what, code, read in refused(sets):
-        rows.append(("refused: " + what, read, "refused E%d" % code))
+    for what, code, read, at in refused(sets):
+        rows.append(("refused: " + what, read, "refused " + error_of(code, at)))
+    rows.append(("97 types inside each other", nested(97), '"%s"' % printed(nested(97))))
     rows.append(("no bytes", b"", '""'))
     one = data["m.proto"]
     for length in range(1, len(one)):
-        rows.append(("cut off behind byte %d" % length, one[:length], "refused E502"))
+        rows.append(("cut off behind byte %d" % length, one[:length], "refused " + error_of(502, 0)))
     return rows
 
 

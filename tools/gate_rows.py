@@ -138,6 +138,36 @@ def deep_chain_rows():
         ANSWERS[what + name] = " | ".join([what + name, *words]), "%s%s | %s" % (what, name, wanted)
 
 
+def answer_row(what, call, *words, wanted):
+    ANSWERS[what] = " | ".join([what, call, *words]), "%s | %s" % (what, wanted)
+
+
+def chain_calls(last):
+    """A number past the sign bit at the end of a chain of types, by the calls: what is found, and what the checker says of its text."""
+    sides = ["C%d: <<%d 0 C# n=1; C#: >>C0 n=1; C0: %s a=1" % (last, last - 1, scalar) for scalar in ("uint32", "int32")]
+    witness, bounds = bytes.fromhex("088080808008"), [6]
+    for _ in range(last):
+        witness = inside(witness)
+        bounds.insert(0, len(witness))
+    table = ", ".join("%d %d %d" % (at, at, bound) for at, bound in enumerate(bounds))
+    found = "0 0 | %s | %s of 0 | at least %d" % (table, witness.hex(), len(witness))
+    what = "a chain of %d types, " % (last + 1)
+    answer_row(what + "what is found", "search", *sides, "0 0", wanted=found)
+    text = certificate("C%d" % last, [("C%d" % (last - at), bound) for at, bound in enumerate(bounds)], witness.hex())
+    answer_row(what + "its text", "text", *sides, printed(text), wanted="breaks | " + printed(text))
+
+
+def forged_calls():
+    """The checker's answer on certificates of other sides, on a bound alone, and on a witness that is longer than a writer writes it."""
+    circle = "N: N next=1, repeated N kids=2"
+    flags = circle + ", bool x=3", circle + ", sint32 x=3"
+    answer_row("a table of two sides that are alike, where a field has changed", "check", *flags, "0 0", "0 0 none",
+               wanted="bound too high 0 0 at 3 2")
+    answer_row("a bound of one byte, where a field has changed", "check", *flags, "0 0", "0 0 1", wanted="at least 1")
+    answer_row("a witness with a varint of two bytes for one", "check", "M: int32 a=1", "M: bool a=1", "0 0", "0 0 2", "088200",
+               wanted="witness not written")
+
+
 def cut_set_rows():
     """A set that is cut off is none; no bytes at all are a set without files."""
     words, whole = "gate --old m.pb --new m.pb --type M", files(("m.pb", SET))
@@ -317,6 +347,8 @@ def main():
     forged_rows_of_two_pairs()
     closing_rows()
     rewrite("gate_rows", ROWS)
+    chain_calls(100)
+    forged_calls()
     deep_chain_rows()
     rewrite("answer_rows", ANSWERS)
 

@@ -1,5 +1,5 @@
 /* Refuses the Nth growth of a program, N from REFUSE_MEMORY: built as a shared library and given by LD_PRELOAD.
-   At the end it says on standard error whether the Nth growth came. */
+   When it does, it says so on standard error, in a line of its own: a program that ends by a signal afterwards has said it. */
 #define _GNU_SOURCE
 #include <dlfcn.h>
 #include <stdlib.h>
@@ -17,11 +17,11 @@ __attribute__((constructor)) static void begin(void) {
     seen = 0;
 }
 
-__attribute__((destructor)) static void end(void) {
-    if (wanted && seen < wanted && write(2, "no such growth\n", 15) < 0) _exit(3);
+static int is_refused(void) {
+    if (!wanted || ++seen != wanted) return 0;
+    if (write(2, "growth refused\n", 15) < 0) _exit(3);
+    return 1;
 }
-
-static int is_refused(void) { return wanted && ++seen == wanted; }
 
 void *malloc(size_t size) {
     if (!real_malloc) real_malloc = dlsym(RTLD_NEXT, "malloc");

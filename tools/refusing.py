@@ -7,6 +7,8 @@ import subprocess
 ROOT = os.path.dirname(os.path.dirname(os.path.abspath(__file__)))
 # How many seconds a run may take.
 LIMIT = 20
+# What the library says on standard error when it refuses.
+REFUSED = b"growth refused\n"
 
 
 def build_library(room):
@@ -22,15 +24,15 @@ def ask_for_stack():
 
 
 def runs_of(library, words, folder=None, stdin=b""):
-    """Runs a program whole, as turn 0, then with each request refused in turn until a run meets none. Gives each turn with the status,
-    what was printed, and the faults."""
+    """Runs a program whole, as turn 0, then with each request refused in turn until a run meets none, however it ends. Gives each turn with
+    the status, what was printed, and the faults."""
     for turn in itertools.count():
         env = {**os.environ, "REFUSE_MEMORY": str(turn), "LD_PRELOAD": library}
         how = {"cwd": folder, "env": env, "input": stdin, "capture_output": True, "timeout": LIMIT, "check": False}
         ended = subprocess.run(words, **how)
-        if b"no such growth" in ended.stderr:
+        if turn and REFUSED not in ended.stderr:
             return
-        yield turn, ended.returncode, ended.stdout, ended.stderr
+        yield turn, ended.returncode, ended.stdout, ended.stderr.replace(REFUSED, b"", 1)
 
 
 def line_of(counts):

@@ -201,7 +201,7 @@ try_refused_memory() {
         turn=$((turn + 1))
         REFUSE_MEMORY=$turn LD_PRELOAD="$room/refuse.so" "$built" "$@" >said 2>faults
         status=$?
-        if grep -q 'no such growth' faults; then
+        if ! grep -qx 'growth refused' faults; then
             break
         elif [ "$status" -eq 3 ] && [ "$(cat said)" = 'refused E001' ]; then
             refused=$((refused + 1))

@@ -27,7 +27,7 @@ try_test() {
         turn=$((turn + 1))
         REFUSE_MEMORY=$turn LD_PRELOAD="$room/refuse.so" "$built" "$1" >"$room/said" 2>"$room/faults"
         status=$?
-        if grep -q 'no such growth' "$room/faults"; then
+        if ! grep -qx "growth refused" "$room/faults"; then
             break
         fi
         # A test that hands want of memory on says so and nothing else; the names of tests and files may hold the word too.
@@ -49,7 +49,7 @@ try_row() {
         turn=$((turn + 1))
         REFUSE_MEMORY=$turn LD_PRELOAD="$room/refuse.so" "$built" <"$room/row" >"$room/said" 2>"$room/faults"
         status=$?
-        if grep -q 'no such growth' "$room/faults"; then
+        if ! grep -qx "growth refused" "$room/faults"; then
             break
         fi
         if [ "$status" -eq 0 ] && cmp -s "$room/said" "$room/wanted"; then

@@ -6,7 +6,8 @@
 //! bound by its pair and a number or `none`, with `, ` between bounds; a choice by its number,
 //! case, part and cost; bytes by hexadecimal digits, and the text of a certificate with escapes.
 //! Words that are left out are zeros, and `-` is no bounds. The words of each call stand at its
-//! function. `rows` says how a line spells a text many times.
+//! function. `rows` says how a line spells a text many times. Of a row that runs out of memory
+//! `Memory` is printed.
 #![tactic(auto)]
 
 mod certificates;
@@ -21,15 +22,18 @@ mod searches;
 mod shown;
 mod spelled;
 
-use rows::{cut, unrolled};
+use rows::cut;
+use std::alloc::AllocError;
 use std::io;
 
 fn main(rt: HostRuntime) -> io::Result<()> {
     for line in rt.lines(rt.alloc()) {
-        let line = unrolled(rt.alloc(), line?.as_str())?;
-        let (shows, row) = cut(line.as_str());
-        let text = row::answer(rt.alloc(), row)?;
-        println!(rt; "{shows} | {text}")?;
+        let line = line?;
+        let (shows, _) = cut(line.as_str());
+        match row::answer(rt.alloc(), line.as_str()) {
+            Ok(text) => println!(rt; "{shows} | {text}")?,
+            Err(AllocError) => println!(rt; "{shows} | Memory")?,
+        }
     }
     Ok(())
 }

@@ -2,7 +2,7 @@
 use crate::{certificates, choices, drawn, enum_view, gaps, messages, returning, searches};
 use pg_pairs::{Names, Numbers, View};
 use pg_schema::Schema;
-use rows::cut;
+use rows::{cut, unrolled};
 use std::alloc::{AllocError, Global};
 use tiny_schemas::schemas;
 
@@ -52,6 +52,8 @@ fn between(
 
 /// What is shown of a row.
 pub(crate) fn answer(alloc: Global, row: &str) -> Result<String, AllocError> {
+    let row = unrolled(alloc, row)?;
+    let (_, row) = cut(&row);
     let (call, words) = cut(row);
     if call == "gaps" {
         return gaps::gaps(alloc, words);

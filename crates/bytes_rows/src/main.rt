@@ -6,7 +6,8 @@
 //! the one is that of the bytes and contents in the lines behind it, and that of the other is what
 //! `fits` and `outside` compare with.
 //!
-//! `rows` says how a line spells a text many times.
+//! `rows` says how a line spells a text many times. Of a row that runs out of memory `Memory` is
+//! printed; in place of it stand what `set` gave back, and the message as it is then.
 #![tactic(auto)]
 
 mod contents;
@@ -17,7 +18,8 @@ mod row;
 mod setting;
 mod types;
 
-use rows::unrolled;
+use rows::cut;
+use std::alloc::AllocError;
 use std::io;
 
 fn main(rt: HostRuntime) -> io::Result<()> {
@@ -25,9 +27,12 @@ fn main(rt: HostRuntime) -> io::Result<()> {
         return Ok(());
     };
     for row in rt.lines(rt.alloc()) {
-        let row = unrolled(rt.alloc(), row?.as_str())?;
-        let text = row::answer(rt.alloc(), &mut types, row.as_str())?;
-        println!(rt; "{text}")?;
+        let row = row?;
+        let (what, _) = cut(row.as_str());
+        match row::answer(rt.alloc(), &mut types, row.as_str()) {
+            Ok(found) => println!(rt; "{what} | {found}")?,
+            Err(AllocError) => println!(rt; "{what} | Memory")?,
+        }
     }
     Ok(())
 }

@@ -6,7 +6,7 @@ use crate::setting::answer_of_contents;
 use crate::types::{Types, put};
 use pg_dyn::DynError;
 use pg_schema::Schema;
-use rows::cut;
+use rows::{cut, unrolled};
 use std::alloc::{AllocError, Global};
 
 // What a call by the type of the rows answers; one that isn't of messages is one of `pg_wire`.
@@ -55,10 +55,10 @@ fn answered(
     }
 }
 
-/// The line that a row is answered with.
+/// What a row is answered with.
 pub(crate) fn answer(alloc: Global, types: &mut Types, row: &str) -> Result<String, AllocError> {
-    let (what, asked) = cut(row);
+    let row = unrolled(alloc, row)?;
+    let (_, asked) = cut(&row);
     let (call, input) = asked.split_once(' ').unwrap_or((asked, ""));
-    let found = answered(alloc, types, call, input)?;
-    format!(in alloc; "{what} | {found}")
+    answered(alloc, types, call, input)
 }

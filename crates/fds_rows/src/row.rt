@@ -24,20 +24,19 @@ fn read_and_written(alloc: Global, bytes: &[u8]) -> Result<Written, FdsError> {
     written(alloc, &schema)
 }
 
-// The bytes that are written of the set that these bytes spell, or its refusal.
+// The bytes that are written of the set that these bytes spell, or the whole error.
 fn told(alloc: Global, bytes: &[u8]) -> Result<String, AllocError> {
     match read_and_written(alloc, bytes) {
         Ok((written, true)) => format!(in alloc; "\"{}\"", written.escape_ascii()),
         Ok((_, false)) => String::from_str(alloc, "not the same again"),
         Err(FdsError::Memory) => Err(AllocError),
-        Err(error) => format!(in alloc; "refused E{}", error.code()),
+        Err(error) => format!(in alloc; "refused {error:?}"),
     }
 }
 
-/// What a row shows, and what is reported of its set.
+/// What is reported of a row's set.
 pub(crate) fn answer(alloc: Global, row: &str) -> Result<String, AllocError> {
-    let (what, spelled) = cut(row);
+    let (_, spelled) = cut(row);
     let bytes = bytes_of(alloc, spelled)?;
-    let told = told(alloc, &bytes)?;
-    format!(in alloc; "{what} | {told}")
+    told(alloc, &bytes)
 }

@@ -1,19 +1,24 @@
 //! Runs the program once for each line of standard input, over the files that the line holds, and
-//! prints its status and text. `rows` says how a line spells a text many times.
+//! prints its status and text, or `Memory` where memory runs out. `rows` says how a line spells a
+//! text many times.
 #![tactic(auto)]
 
 mod files;
 mod parts;
 mod row;
 
-use rows::unrolled;
+use rows::cut;
+use std::alloc::AllocError;
 use std::io;
 
 fn main(rt: HostRuntime) -> io::Result<()> {
     for line in rt.lines(rt.alloc()) {
-        let line = unrolled(rt.alloc(), line?.as_str())?;
-        let text = row::answer(rt.alloc(), line.as_str())?;
-        println!(rt; "{text}")?;
+        let line = line?;
+        let (what, _) = cut(line.as_str());
+        match row::answer(rt.alloc(), line.as_str()) {
+            Ok(text) => println!(rt; "{what} | {text}")?,
+            Err(AllocError) => println!(rt; "{what} | Memory")?,
+        }
     }
     Ok(())
 }

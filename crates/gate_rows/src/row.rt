@@ -5,7 +5,7 @@ use crate::files::{File, files, lent};
 use crate::parts::told;
 use pg_gate::{Buffer, run};
 use pg_link::Listed;
-use rows::cut;
+use rows::{cut, unrolled};
 use std::alloc::{AllocError, Global};
 
 /// The files of the old and of the new side.
@@ -13,6 +13,9 @@ type Sides<'a> = (Vec<File<'a>>, Vec<File<'a>>);
 
 /// The status, and what the program printed.
 type Printed = (u8, Vec<u8>);
+
+/// How many bytes a sink takes without more memory.
+const ROOM: usize = 65_536;
 
 fn words_of(alloc: Global, text: &str) -> Result<Vec<&str>, AllocError> {
     if text.is_empty() {
@@ -27,13 +30,15 @@ fn printed(
     old: &[(&str, &[u8])],
     new: &[(&str, &[u8])],
 ) -> Result<Printed, AllocError> {
-    let mut sink = Buffer::new(alloc);
+    let mut sink = Buffer::from_vec(Vec::with_capacity(alloc, ROOM)?);
     let mut old = Listed { files: old };
     let mut new = Listed { files: new };
-    // Neither such a source nor such a sink fails but where memory runs out.
     match run(alloc, words, &mut old, &mut new, &mut sink) {
         Ok(status) => Ok((status, sink.bytes)),
-        Err(_) => Err(AllocError),
+        // Neither such a source nor such a sink fails but where memory runs out; the sink is left
+        // alone then.
+        Err(_) if sink.bytes.is_empty() => Err(AllocError),
+        Err(_) => Ok((u8::MAX, sink.bytes)),
     }
 }
 
@@ -81,9 +86,10 @@ fn by_names(
     format!(in alloc; " | by names {status} {text}")
 }
 
-/// What a row shows, and the status and the text of its run.
+/// The status and the text of a row's run.
 pub(crate) fn answer(alloc: Global, row: &str) -> Result<String, AllocError> {
-    let (what, rest) = cut(row);
+    let row = unrolled(alloc, row)?;
+    let (_, rest) = cut(&row);
     let (words, rest) = cut(rest);
     let (old, rest) = cut(rest);
     let (new, parts) = cut(rest);
@@ -93,5 +99,5 @@ pub(crate) fn answer(alloc: Global, row: &str) -> Result<String, AllocError> {
         named = by_names(alloc, words, old, new, (status, text.as_str()))?;
     }
     let text = told(alloc, text, parts)?;
-    format!(in alloc; "{what} | {status} {text}{named}")
+    format!(in alloc; "{status} {text}{named}")
 }

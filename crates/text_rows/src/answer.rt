@@ -1,15 +1,13 @@
 //! What is printed of a row.
 use crate::{folder, joined, links, parts, schema, tokens, tree};
 use pg_link::Sources;
-use rows::cut;
+use rows::{cut, unrolled};
 use std::alloc::{AllocError, Global};
 
-/// The answer of the row behind its first part. Only rows of folders ask the source.
-pub fn answer<S: Sources>(
-    alloc: Global,
-    source: &mut S,
-    input: &str,
-) -> Result<String, AllocError> {
+/// The answer of the row. Only rows of folders ask the source.
+pub fn answer<S: Sources>(alloc: Global, source: &mut S, row: &str) -> Result<String, AllocError> {
+    let row = unrolled(alloc, row)?;
+    let (_, input) = cut(&row);
     let (kind, input) = cut(input);
     match kind {
         "tokens" => tokens::answer(alloc, input),

@@ -18,7 +18,7 @@
 //!   with `| message NAME`, `| has PLACE`, `| type PLACE`, `| field PLACE NUMBER` and !   `| enum
 //!   PLACE` what these calls of the schema answer.
 //!
-//! `rows` says how texts and files are spelled.
+//! `rows` says how texts and files are spelled. Of a row that runs out of memory `Memory` is printed.
 #![tactic(auto)]
 
 mod answer;
@@ -32,15 +32,18 @@ mod tokens;
 mod tree;
 
 use pg_link::Folder;
-use rows::{cut, unrolled};
+use rows::cut;
+use std::alloc::AllocError;
 use std::io;
 
 fn main(rt: HostRuntime) -> io::Result<()> {
     for row in rt.lines(rt.alloc()) {
-        let row = unrolled(rt.alloc(), row?.as_str())?;
-        let (what, input) = cut(&row);
-        let answer = answer::answer(rt.alloc(), &mut Folder::new(&rt), input)?;
-        println!(rt; "{what} | {answer}")?;
+        let row = row?;
+        let (what, _) = cut(row.as_str());
+        match answer::answer(rt.alloc(), &mut Folder::new(&rt), row.as_str()) {
+            Ok(answer) => println!(rt; "{what} | {answer}")?,
+            Err(AllocError) => println!(rt; "{what} | Memory")?,
+        }
     }
     Ok(())
 }

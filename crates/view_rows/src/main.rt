@@ -6,18 +6,24 @@
 //! breaks, in hexadecimal digits, or that the types are compatible: by the numbers of enums, and by
 //! their names. Where bytes stand behind the schemas, as ` | DIGITS`, it is what the first type of
 //! the new schema hands on of them; or, of several new schemas with ` > ` between them, what one
-//! hands on to the next.
+//! hands on to the next. Of a row that runs out of memory `Memory` is printed.
 #![tactic(auto)]
 
 mod relaying;
 mod row;
 
+use rows::cut;
+use std::alloc::AllocError;
 use std::io;
 
 fn main(rt: HostRuntime) -> io::Result<()> {
     for line in rt.lines(rt.alloc()) {
-        let text = row::answer(rt.alloc(), line?.as_str())?;
-        println!(rt; "{text}")?;
+        let line = line?;
+        let (shows, _) = cut(line.as_str());
+        match row::answer(rt.alloc(), line.as_str()) {
+            Ok(text) => println!(rt; "{shows} | {text}")?,
+            Err(AllocError) => println!(rt; "{shows} | Memory")?,
+        }
     }
     Ok(())
 }

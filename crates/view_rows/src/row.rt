@@ -36,14 +36,13 @@ fn answered(alloc: Global, old: &str, new: &str) -> Result<String, AllocError> {
     }
 }
 
-/// What a row shows, and the answers by number and by name, or what is handed on.
+/// The answers of a row by number and by name, or what is handed on.
 pub(crate) fn answer(alloc: Global, row: &str) -> Result<String, AllocError> {
-    let (shows, lines) = cut(row);
+    let (_, lines) = cut(row);
     let (old, lines) = cut(lines);
     let (new, digits) = cut(lines);
-    let text = match digits {
-        "" => answered(alloc, old, new)?,
-        _ => handed_on(alloc, old, new, digits)?,
-    };
-    format!(in alloc; "{shows} | {text}")
+    match digits {
+        "" => answered(alloc, old, new),
+        _ => handed_on(alloc, old, new, digits),
+    }
 }
