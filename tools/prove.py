@@ -7,7 +7,7 @@ The gate runs on a copy of the repository, or, where crates are named, of these 
 copy, and tried afterwards over the libraries that `rt ci` built there, those of a crate in one check or a few (try_edits.py); `rt ci` in
 the repository itself tries each alone, and proves each crate that has some a second time. With no names the documents' words, links and
 pictures are compared first, and what was built is put back into the repository and tried last: the program and the libraries' calls with
-each request for memory refused, the program on random inputs, the scripts that call it, and the commands of the documents.
+each request for memory refused, the program on rows and on random inputs, the scripts that call it, and the commands of the documents.
 What earlier runs on this machine passed is taken as it stands; with --anew all is proved and tried again.
 
 Lines of rt stand behind the seconds since the start. The last lines are the processor seconds of each crate by kind: its proof, its edits
@@ -29,9 +29,9 @@ sys.dont_write_bytecode = True
 from try_edits import lanes, load_kit, plan, try_all  # noqa: E402
 
 KINDS = ("proof", "edits", "tests", "programs")
-# What tries what was built: the program and the calls with each request for memory refused, the program on random inputs, and the
-# scripts that call it.
-TESTERS = ("try_program_memory.py", "try_call_memory.py", "fuzz.py", "test_ci.py", "test_packages.py")
+# What tries what was built: the program and the calls with each request for memory refused, the program on rows and on random inputs,
+# and the scripts that call it.
+TESTERS = ("try_program_memory.py", "try_call_memory.py", "try_rows.py", "fuzz.py", "test_ci.py", "test_packages.py")
 # What runs the commands of the documents with the program that was built. It comes last, since some of its waits go by the clock.
 EXAMPLES = ("tools/try_examples.sh", "crates/protogate/out/protogate")
 TICKS = os.sysconf("SC_CLK_TCK")

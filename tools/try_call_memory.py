@@ -3,15 +3,18 @@
 
     tools/try_call_memory.py [--jobs N] [CALL..]
 
-A call is made by a row of data (crates/*_rows/stdin), which the program of rows that `rt ci` built gets twice: where memory is refused
-to the first, the second has it again and gives its answer, the one in crates/*_rows/stdout. A row that lacks memory says so, by its code
-or its name; or the program ends with a fault, and has printed only answers of rows before. A row of `set` also prints the content
-that came back and the message as it is then: what it has to print so at some turn stands here. What rows don't show is a test
-(crates/*_tests): each passes, or hands on that memory was refused.
+A call is made by a row of data (crates/*_rows/stdin), which the program of rows that `rt ci` built gets twice. Where memory is refused
+to the first, it prints `Memory`, and the second has memory again and gives its answer, the one in crates/*_rows/stdout. The program ends
+with 0. A row of `set` or `put` also prints the content that came back and the message as it is then: what it has to print so at some
+turn stands here. What rows don't show is a test (crates/*_tests): where memory is refused, it prints `Memory` and makes the call again,
+over the same arguments, and passes where that gives the answer.
 
-A line is printed for each call: how many requests were refused, how often that was told, how often all answers came all the same, and
-how many runs did neither, which are printed. The last line has the sums; the status is 1 where a run did neither, or where no request
-of a call was told. Wants cc, for the library that refuses (tools/refuse_memory.c).
+Some requests are the program's own, before a row is there or a test has its arguments: reading a line, or making a schema. A program
+that is refused one of these ends with a fault and has printed only answers of rows before. Such turns are counted apart.
+
+A line is printed for each call: how many requests were refused, how often that was reported, how often all answers came all the same,
+how often the request was the program's own, and how many runs did neither, which are printed. The last line has the sums; the status is
+1 where a run did neither, or where no request of a call was reported. Wants cc, for the library that refuses (tools/refuse_memory.c).
 """
 import argparse
 import collections
@@ -23,13 +26,13 @@ import tempfile
 import time
 
 sys.dont_write_bytecode = True
-from refusing import ROOT, ask_for_stack, build_library, line_of, runs_of  # noqa: E402
+from refusing import ROOT, ask_for_stack, build_library, runs_of  # noqa: E402
 
 CRATES = os.path.join(ROOT, "crates")
-# What a row answers that lacks memory, where it doesn't end the program.
-LACKS = re.compile(r"E001|E1 1:1|Memory")
-# How a program or a test ends that hands on want of memory.
-HANDED_ON = re.compile(rb"Error: Kind\(OutOfMemory\)\n|error: (AllocError|AllocFailed \{ \.\. \}|Memory)\n(the test failed: its result gives status 1\n)?")
+# What a row or a test prints that lacks memory.
+LACKS = "Memory"
+# How a program or a test ends where a request of its own was refused.
+OWN = re.compile(rb"Error: Kind\(OutOfMemory\)\n|error: (AllocError|AllocFailed \{ \.\. \}|Memory)\n(the test failed: its result gives status 1\n)?")
 # So many wrong runs of a row or a test are printed.
 MOST_PRINTED = 5
 
@@ -77,6 +80,7 @@ CALLS = [
     Rows("set", "bytes_rows", ["a map that is set by falling keys is written by rising ones"], [lacks("7"), lacks("{3:1 1:0}", record(2, 7))]),
     Rows("set", "bytes_rows", ["the second member is written alone"], [lacks("7")]),
     Rows("set", "bytes_rows", ["a text and bytes are one key"], [lacks("7"), lacks("{'k:# #6b:#}", record(2, 7))]),
+    Rows("put", "bytes_rows", ["a number that is put clears the other member"], [lacks("7")]),
     Rows("decode_unlimited", "bytes_rows", ["a message of all shapes is read without a limit"]),
     Rows("set", "bytes_rows", ["bytes are set as a text"], [lacks("#61")]),
     Rows(
@@ -110,6 +114,11 @@ CALLS = [
     Rows("gate_with", "view_rows", ["a renamed number in a child"]),
     Tests("gate_files", "gate_tests", ["a_gate_over_files_answers_one_of_two", "a_gate_over_files_tells_the_old_side_first"]),
     Tests("Reply::into_text", "gate_tests", ["a_reply_is_a_text"]),
+    # Where `run` lacks memory its sink is left alone: else the row has another status.
+    Rows("run", "gate_rows", ["the set of one message", "two records of one message are merged", "a witness with a zero in front"]),
+    Rows("run", "gate_rows", ["a certificate that holds", "a bound that is too high", "two fields that meet in a new oneof, in both directions"]),
+    Rows("run", "gate_rows", ["a large number inside a message read as a negative one, in both directions"]),
+    Rows("run", "gate_rows", ["a map's key read as a negative one, in both directions"]),
     Rows("relay", "view_rows", ["what the new type lacks is handed on", "what three programs handed on comes home"]),
     Rows(
         "to_text, from_text, check",
@@ -142,32 +151,36 @@ def input_of(crate, row):
 
 
 def kind_of_rows(said, status, faults, wanted, told):
-    """Returns what a run did that should print these lines, and the answer that lacks memory, if there is one."""
+    """Returns what a run did that should print these lines, and the answer that lacks memory, if there is one. One row at most lacks it,
+    and the last has it again."""
     lines = said.decode(errors="replace").splitlines()
     if status:
-        is_handed_on = lines == wanted[:len(lines)] and len(lines) < len(wanted) and HANDED_ON.fullmatch(faults)
-        return "told" if is_handed_on else "wrong", ""
+        is_own = status == 1 and lines == wanted[:len(lines)] and len(lines) < len(wanted) and OWN.fullmatch(faults)
+        return "own" if is_own else "wrong", ""
     others = [(line, want) for line, want in zip(lines, wanted) if line != want]
-    if not others and len(lines) == len(wanted):
+    if faults or len(lines) != len(wanted) or len(others) > 1 or lines[-1] != wanted[-1]:
+        return "wrong", ""
+    if not others:
         return "answered", ""
-    (what, _, answer), (wanted_of, _, _) = (it.partition(" | ") for it in others[0]) if others else (("", "", ""), ("", "", ""))
-    is_lack = answer in told or LACKS.fullmatch(answer)
-    return "told" if is_lack and what == wanted_of and len(others) == 1 and len(lines) == len(wanted) else "wrong", answer
+    (what, _, answer), (wanted_of, _, _) = (it.partition(" | ") for it in others[0])
+    return "told" if what == wanted_of and (answer == LACKS or answer in told) else "wrong", answer
 
 
 def kind_of_test(said, status, faults):
-    if status == 0:
-        return "answered"
-    return "told" if HANDED_ON.fullmatch(faults) else "wrong"
+    """Returns what a test did. One that lacked memory and then had the answer says so, and passes."""
+    if status:
+        return "own" if not said and OWN.fullmatch(faults) else "wrong"
+    return {b"": "answered", LACKS.encode() + b"\n": "told"}.get(said, "wrong")
 
 
 def runs_of_rows(call, row, library):
     """Gives the turns of a row, with what each run did; at the end one more that is wrong for each answer that never came."""
     program = os.path.join(CRATES, call.crate, "out", call.crate)
     before, first, given, wanted = input_of(call.crate, row)
-    stdin, seen = "".join(line + "\n" for line in [*before, given, given]).encode(), set()
+    # A type that lacked memory is put again before the rows come.
+    stdin, seen = "".join(line + "\n" for line in [*before * 2, given, given]).encode(), set()
     for turn, status, said, faults in runs_of(library, [program], None, stdin):
-        kind, answer = kind_of_rows(said, status, faults, [*first, wanted, wanted], call.told)
+        kind, answer = kind_of_rows(said, status, faults, [*first * 2, wanted, wanted], call.told)
         seen.add(answer)
         yield turn, kind, (status, said[-200:], faults[-200:])
     for answer in set(call.told) - seen:
@@ -184,16 +197,20 @@ def runs_of_test(call, test, library):
 
 
 def try_one(call, name, library):
-    """Refuses each request of a row or a test in turn, and returns the counts of refused, told, answered and wrong."""
+    """Refuses each request of a row or a test in turn, and returns the counts of refused, told, answered, own and wrong."""
     counts = collections.Counter()
     runs = runs_of_rows if isinstance(call, Rows) else runs_of_test
     for turn, kind, seen in runs(call, name, library):
-        kind = "wrong" if kind == "told" and not turn else kind
+        kind = "wrong" if kind != "answered" and not turn else kind
         counts["refused"] += turn > 0
         counts[kind] += turn > 0 or kind == "wrong"
         if kind == "wrong" and counts[kind] <= MOST_PRINTED:
             print(f"{call.call}, {name!r}, request {turn}: {seen}", flush=True)
     return counts
+
+
+def line_of(counts):
+    return "{refused} requests refused, {told} reported, {answered} answered, {own} the program's own, {wrong} wrong".format_map(counts)
 
 
 def options_of():

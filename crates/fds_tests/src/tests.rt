@@ -7,7 +7,7 @@ use pg_fds::{FdsError, descriptor_schema, read, read_again, write};
 use pg_link::{LinkError, Linked, Listed, link};
 use pg_schema::{Element, EnumId, Schema, TypeId};
 use pg_wire::WireError;
-use std::alloc::Global;
+use std::alloc::{AllocError, Global};
 use std::test::Fail;
 
 const FILE_SET: TypeId = TypeId { index: 0 };
@@ -92,10 +92,17 @@ fn has_field(schema: &Schema, message: &str, number: u32, name: &str) -> bool {
         .is_some_and(|field| field.name.as_str() == name)
 }
 
+// Where memory runs out that is printed, and the schema is made again.
 #[test]
 fn written_schema(rt: HostRuntime) -> Result<(), Fail> {
     let alloc = rt.alloc();
-    let schema = descriptor_schema(alloc)?;
+    let schema = match descriptor_schema(alloc) {
+        Ok(schema) => schema,
+        Err(AllocError) => {
+            println!(rt; "Memory")?;
+            descriptor_schema(alloc)?
+        }
+    };
     for (message, number, name) in [
         ("FileDescriptorSet", 1, "file"),
         ("FileDescriptorProto", 10, "public_dependency"),

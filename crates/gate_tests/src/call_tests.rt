@@ -1,6 +1,7 @@
 //! The calls of the gate by themselves, beside the runs of the program.
-use pg_gate::{Answer, Finding, GateError, Reply, Side, gate, gate_files};
-use pg_link::Listed;
+use crate::FailingSource;
+use pg_gate::{Answer, Fault, Finding, GateError, LinkError, Reply, Side, gate, gate_files};
+use pg_link::{Listed, Sources};
 use pg_schema::Schema;
 use std::alloc::{AllocError, Global};
 use std::process::Abort;
@@ -78,62 +79,115 @@ fn file_of(alloc: Global, fields: &str) -> Result<String, AllocError> {
     format!(in alloc; "syntax = \"proto3\";\nmessage M {{ {fields} }}\n")
 }
 
-/// The answer over files that hold the message `M` of these fields.
-fn over_files(
+/// The answer over two sources that have a file `m.proto`.
+fn over_sources<S: Sources, T: Sources>(
     alloc: Global,
+    old: &mut S,
+    new: &mut T,
+    root: &str,
+) -> Result<Answer, GateError> {
+    gate_files(alloc, old, new, &["m.proto"], &["m.proto"], root)
+}
+
+/// The answer over files that hold the message `M` of these fields. Where memory runs out that is
+/// printed, and the call is made again over the same sources.
+fn over_files(
+    rt: &HostRuntime,
     old: &str,
     new: &str,
     root: &str,
-) -> Result<Result<Answer, GateError>, AllocError> {
-    let old = file_of(alloc, old)?;
-    let new = file_of(alloc, new)?;
+) -> Result<Result<Answer, GateError>, Fail> {
+    let old = file_of(rt.alloc(), old)?;
+    let new = file_of(rt.alloc(), new)?;
     let mut old = Listed {
         files: &[("m.proto", old.as_bytes())],
     };
     let mut new = Listed {
         files: &[("m.proto", new.as_bytes())],
     };
-    match gate_files(alloc, &mut old, &mut new, &["m.proto"], &["m.proto"], root) {
-        Err(GateError::Memory) => Err(AllocError),
+    match over_sources(rt.alloc(), &mut old, &mut new, root) {
+        Err(GateError::Memory) => {
+            println!(rt; "Memory")?;
+            Ok(over_sources(rt.alloc(), &mut old, &mut new, root))
+        }
         answer => Ok(answer),
     }
 }
 
 #[test]
 fn a_gate_over_files_answers_one_of_two(rt: HostRuntime) -> Result<(), Fail> {
-    let alloc = rt.alloc();
     assert!(rt;
         breaks(
-            &over_files(alloc, "int32 a = 1;", "uint32 a = 1;", "M")?,
+            &over_files(&rt, "int32 a = 1;", "uint32 a = 1;", "M")?,
             &MINUS_ONE
         )
     );
-    assert!(rt; is_compatible(&over_files(alloc, "int32 a = 1;", "int32 a = 1;", "M")?));
+    assert!(rt; is_compatible(&over_files(&rt, "int32 a = 1;", "int32 a = 1;", "M")?));
     Ok(())
 }
 
 /// Of two sides that have a fault the old one's is reported.
 #[test]
 fn a_gate_over_files_tells_the_old_side_first(rt: HostRuntime) -> Result<(), Fail> {
-    let faulty = over_files(rt.alloc(), "int32 a = 0;", "int32 a = 0;", "M")?;
+    let faulty = over_files(&rt, "int32 a = 0;", "int32 a = 0;", "M")?;
     assert!(rt; matches!(faulty, Err(GateError::Compile(Side::Old, _))));
+    Ok(())
+}
+
+/// The answer over two sources of a message, of which each fails at that read.
+fn over_failing(alloc: Global, old_fails: u64, new_fails: u64) -> Result<Answer, GateError> {
+    let text = b"syntax = \"proto3\";\nmessage M { int32 a = 1; }\n".as_slice();
+    let files = [("m.proto", text)];
+    let mut old = FailingSource::new(Listed { files: &files }, old_fails);
+    let mut new = FailingSource::new(Listed { files: &files }, new_fails);
+    over_sources(alloc, &mut old, &mut new, "M")
+}
+
+/// Whether the answer is that the file of this side couldn't be read.
+fn is_failure_of(side: Side, answer: &Result<Answer, GateError>) -> bool {
+    match answer {
+        Err(GateError::Compile(of, Fault::Link(LinkError::SourceFailed(place)))) => {
+            *of == side && place.file == "m.proto"
+        }
+        _ => false,
+    }
+}
+
+#[test]
+fn a_gate_over_files_tells_a_source_that_fails(rt: HostRuntime) -> Result<(), Fail> {
+    assert!(rt; is_failure_of(Side::Old, &over_failing(rt.alloc(), 1, 1)));
+    assert!(rt; is_failure_of(Side::New, &over_failing(rt.alloc(), 2, 1)));
+    assert!(rt; over_failing(rt.alloc(), 2, 2).is_ok());
     Ok(())
 }
 
 #[test]
 fn a_gate_over_files_refuses_a_missing_root(rt: HostRuntime) -> Result<(), Fail> {
-    let missing = over_files(rt.alloc(), "int32 a = 1;", "int32 a = 1;", "N")?;
+    let missing = over_files(&rt, "int32 a = 1;", "int32 a = 1;", "N")?;
     assert!(rt; matches!(missing, Err(GateError::RootMissingOld)));
     Ok(())
 }
 
+/// A reply that a message breaks.
+fn reply_of(alloc: Global) -> Result<Reply, AllocError> {
+    Ok(Reply::Found(Finding::Breaks {
+        witness: Vec::from_slice(alloc, &MINUS_ONE)?,
+        steps: Vec::new(alloc),
+    }))
+}
+
+/// Where memory runs out that is printed, and the text is made of such a reply again.
 #[test]
 fn a_reply_is_a_text(rt: HostRuntime) -> Result<(), Fail> {
-    let reply = Reply::Found(Finding::Breaks {
-        witness: Vec::from_slice(rt.alloc(), &MINUS_ONE)?,
-        steps: Vec::new(rt.alloc()),
-    });
-    let text = reply.into_text(rt.alloc(), "p.M")?;
+    let alloc = rt.alloc();
+    let (first, second) = (reply_of(alloc)?, reply_of(alloc)?);
+    let text = match first.into_text(alloc, "p.M") {
+        Ok(text) => text,
+        Err(AllocError) => {
+            println!(rt; "Memory")?;
+            second.into_text(alloc, "p.M")?
+        }
+    };
     assert!(rt; text.as_slice() == b"breaks p.M 11\nwitness 08ffffffffffffffffff01\n".as_slice());
     Ok(())
 }
