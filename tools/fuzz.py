@@ -12,9 +12,10 @@ too slow for all of them; but where fewer than LEAST of a kind were tried, the r
 Asked of every run: it ends within ten seconds with a status from 0 to 5, by no signal, with nothing on standard error, and prints
 just what docs/USAGE.md and docs/REFUSALS.md say of that subcommand and status. Asked of what is accepted:
 
-- text: what `compile` refuses, `gate` refuses alike; the set that `compile` writes is one for `show`, and for protoc where it is there
-- text, set: the certificate of `gate --cert` passes `verify`, with the same status and length, and names the view that was asked for, by
-  numbers or by names; `--both` begins with the answer; the witness has its length, and the old side reads it and writes it again
+- text: what `compile` refuses, `gate` refuses alike; the set that `compile` writes is one for `show`, or for protoc where it is there
+- text, set: the certificate of `gate --cert` passes `verify`, with the same status and the length of its root, and names the view that was
+  asked for, by numbers or by names. Of one in two `gate` without `--cert` says the same; of one in four `--both` begins with that; the
+  witness has its length, and the old side reads it and writes it again
 - certificate: `gate` answers what `verify` says has been proved
 - message: `show` of what was written again shows the same, and the same bytes again
 
@@ -55,6 +56,7 @@ LEAST_SHARE = 20
 VIEWS = ([], ["--view", "numbers"], ["--view", "names"])
 # Of so many sets one is given to protoc, which takes several times as long as the program.
 PROTOC_SHARE = 4
+PROTOC = shutil.which("protoc")
 # What protoc refuses in a set, and proto3 has no rule against.
 PROTOC_ALONE = re.compile(rb"allow_alias|JSON|json_name|ignore case|is reserved multiple times|LITE_RUNTIME|recursion limit")
 ACCEPTED = {"compile": (0,), "gate": (0, 1), "verify": (0, 1, 5), "show": (0,)}
@@ -77,7 +79,7 @@ class Room:
     """A folder of its own with the files of an input, in which the program runs. It keeps the commands of the input's runs."""
 
     def __init__(self, program):
-        self.program, self.calls, self.env = program, [], dict(os.environb)
+        self.program, self.calls = program, []
         self.path = tempfile.mkdtemp(prefix="protogate-fuzz-", dir="/dev/shm" if os.access("/dev/shm", os.W_OK) else None)
         os.chdir(self.path)
         os.mkdir("old")
@@ -85,12 +87,13 @@ class Room:
         signal.signal(signal.SIGALRM, overdue)
         hard = resource.getrlimit(resource.RLIMIT_STACK)[1]
         resource.setrlimit(resource.RLIMIT_STACK, (hard, hard))
-        to_file = os.O_WRONLY | os.O_CREAT | os.O_TRUNC
-        self.to_files = [(os.POSIX_SPAWN_OPEN, 0, os.devnull, os.O_RDONLY, 0),
-                         (os.POSIX_SPAWN_OPEN, 1, "said", to_file, 0o600), (os.POSIX_SPAWN_OPEN, 2, "faults", to_file, 0o600)]
+        # What a run prints goes to memory, which is emptied for the next: no file is opened for a run.
+        self.said, self.faults = os.memfd_create("said"), os.memfd_create("faults")
+        self.ends = [os.open(os.devnull, os.O_RDONLY), self.said, self.faults]
 
     def clear(self):
         self.calls = []
+        taken(self.said), taken(self.faults)
         for folder in ("old", "new", "."):
             for entry in list(os.scandir(folder)):
                 if entry.is_file():
@@ -111,7 +114,8 @@ class Room:
 
     def status_of(self, words):
         """Runs the program and returns how it ended, below zero by a signal."""
-        pid = os.posix_spawn(self.program, [self.program, *words], self.env, file_actions=self.to_files)
+        as_ends = [(os.POSIX_SPAWN_DUP2, file, end) for end, file in enumerate(self.ends)]
+        pid = os.posix_spawn(self.program, [self.program, *words], {}, file_actions=as_ends)
         signal.setitimer(signal.ITIMER_REAL, LIMIT)
         try:
             _, ended = os.waitpid(pid, 0)
@@ -126,20 +130,26 @@ class Room:
     def run(self, words, wanted=None, keep=None):
         """Runs the program, judges its answer by what such a call may print, and returns its status and what it printed."""
         self.calls.append((words, keep))
-        status, said = self.status_of(words), read("said")
+        status, said, faults = self.status_of(words), taken(self.said), taken(self.faults)
         forms = ANSWERS[wanted or words[0]]
         if status not in forms:
-            raise Failure(f"status {status}: {shlex.join(words)}: {quoted(said)}")
-        if not forms[status].fullmatch(said) or read("faults"):
-            raise Failure(f"printed with status {status}: {shlex.join(words)}: {quoted(said)} {quoted(read('faults'))}")
+            raise Failure(f"status {status}: {shlex.join(words)}: {quoted(said)} {quoted(faults)}")
+        if not forms[status].fullmatch(said) or faults:
+            raise Failure(f"printed with status {status}: {shlex.join(words)}: {quoted(said)} {quoted(faults)}")
         if keep:
-            os.replace("said", keep)
+            self.put(".", {keep: said})
         return status, said
 
 
-def read(path):
-    with open(path, "rb") as file:
-        return file.read()
+def taken(file):
+    """Returns what was written to a file in memory, and empties it."""
+    length = os.lseek(file, 0, os.SEEK_CUR)
+    if not length:
+        return b""
+    data = os.pread(file, length, 0)
+    os.lseek(file, 0, os.SEEK_SET)
+    os.ftruncate(file, 0)
+    return data
 
 
 def expect(is_so, what):
@@ -169,24 +179,40 @@ def view_of(certificate):
     return certificate.split(b"\n")[1].split()[1].decode()
 
 
+def claim_of(certificate):
+    """Returns what `verify` says of a certificate of version 2 that holds: its root with the root's bound."""
+    lines = certificate.split(b"\n")
+    root = lines[2][len(b"root "):]
+    bound = next(it.split()[-1] for it in lines if it.startswith(b"pair %s " % root))
+    name = root.split()[0]
+    return b"compatible %s\n" % name if bound == b"none" else b"breaks %s %s\n" % (name, bound)
+
+
+def judge_answer(room, words, sides, type_, said):
+    """Compares an answer of the gate with that in both directions, and its witness with what the old side makes of it."""
+    both, answers = room.run([*words, "--both"], "both")
+    expect(answers.startswith(b"forward\n" + said), f"gate: {quoted(said)}, with --both: {quoted(answers)}")
+    if said.startswith(b"breaks"):
+        expect(both == 1, f"gate: {quoted(said)}, status {both} with --both")
+        judge_witness(room, sides, type_, said)
+
+
 def judge_gate(room, random_, sides, type_):
-    """Asks the gate of two sides, by one view. Its certificate is checked; one in four times both directions are asked, and the witness
-    shown."""
-    view = random_.choice(VIEWS)
+    """Asks the gate of two sides for its certificate by one view, and checks it. One in two times the answer is asked first, and one in
+    four times also both directions, and the witness is shown. Returns the status and the text of the first of these calls."""
+    view, way = random_.choice(VIEWS), random_.randrange(4)
     words = ["gate", *sides, "--type", type_, *view]
-    status, said = room.run(words)
+    status, said = room.run(words) if way < 2 else room.run([*words, "--cert"], "certificate", keep="c")
     if status not in ACCEPTED["gate"]:
         return status, said
-    certified, certificate = room.run([*words, "--cert"], "certificate", keep="c")
+    certified, certificate = room.run([*words, "--cert"], "certificate", keep="c") if way < 2 else (status, said)
     verified, verdict = room.run(["verify", *sides, "c"])
     expect(certified == verified == status, f"status {status} of gate, {certified} with --cert, {verified} of verify")
-    expect(verdict == said[:said.index(b"\n") + 1], f"gate: {quoted(said)}, verify: {quoted(verdict)}")
+    expect(verdict == claim_of(certificate), f"{quoted(certificate)}, verify: {quoted(verdict)}")
+    expect(way > 1 or said.startswith(verdict), f"gate: {quoted(said)}, verify: {quoted(verdict)}")
     expect(view_of(certificate) == (view or VIEWS[1])[1], f"{shlex.join(words)} --cert: {quoted(certificate)}")
-    if random_.randrange(4) == 0:
-        both, answers = room.run([*words, "--both"], "both")
-        expect(answers.startswith(b"forward\n" + said) and both >= status, f"gate: {quoted(said)}, with --both: {quoted(answers)}")
-        if status:
-            judge_witness(room, sides, type_, said)
+    if way == 0:
+        judge_answer(room, words, sides, type_, said)
     return status, said
 
 
@@ -201,10 +227,11 @@ def judge_compile(room, random_, folder, name, type_):
     """Compiles a text, reads the set that is written, and returns what `compile` said of a text that it refused."""
     status, said = room.run(["compile", "--dir", folder, name], keep="compiled.pb")
     if status in ACCEPTED["compile"]:
-        shown = room.run(["show", "--file", "compiled.pb", "--type", type_, "-"])
-        expect(shown in ((0, b"again -\n"), (2, b"refused E901\n")), f"show of the set: {quoted(shown[1])}")
-        if shutil.which("protoc") and random_.randrange(PROTOC_SHARE) == 0:
+        if PROTOC and random_.randrange(PROTOC_SHARE) == 0:
             judge_protoc("compiled.pb", name)
+        else:
+            shown = room.run(["show", "--file", "compiled.pb", "--type", type_, "-"])
+            expect(shown in ((0, b"again -\n"), (2, b"refused E901\n")), f"show of the set: {quoted(shown[1])}")
         return b""
     return said
 

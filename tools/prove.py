@@ -29,9 +29,11 @@ sys.dont_write_bytecode = True
 from try_edits import lanes, load_kit, plan, try_all  # noqa: E402
 
 KINDS = ("proof", "edits", "tests", "programs")
-# What tries what was built: the program and the calls with each request for memory refused, the program on rows and on random inputs,
-# and the scripts that call it.
-TESTERS = ("try_program_memory.py", "try_call_memory.py", "try_rows.py", "fuzz.py", "test_ci.py", "test_packages.py")
+# What tries what was built: the program and the calls with each request for memory refused, the program on rows, and the scripts that
+# call it.
+TESTERS = ("try_program_memory.py", "try_call_memory.py", "try_rows.py", "test_ci.py", "test_packages.py")
+# What tries the program on random inputs. It comes alone, since it tries as many as it can in its time.
+FUZZER = ("tools/fuzz.py",)
 # What runs the commands of the documents with the program that was built. It comes last, since some of its waits go by the clock.
 EXAMPLES = ("tools/try_examples.sh", "crates/protogate/out/protogate")
 TICKS = os.sysconf("SC_CLK_TCK")
@@ -236,17 +238,19 @@ def documents_agree():
 
 
 def try_program():
-    """Runs the testers of what `rt ci` built side by side, and then the examples. Prints what each said, in that order. Returns which passed,
-    and the processor seconds of all."""
+    """Runs the testers of what `rt ci` built side by side, then the fuzzer, and then the examples. Prints what each said, in that order.
+    Returns which passed, and the processor seconds of all."""
     before = resource.getrusage(resource.RUSAGE_CHILDREN)
     how = {"stdin": subprocess.DEVNULL, "stdout": subprocess.PIPE, "stderr": subprocess.STDOUT, "text": True, "errors": "replace"}
     testers = [subprocess.Popen([f"tools/{it}"], **how) for it in TESTERS]
     for tester in testers:
         print(tester.communicate()[0], end="", flush=True)
-    examples = subprocess.run(EXAMPLES, **how)
-    print(examples.stdout, end="", flush=True)
+    alone = []
+    for words in (FUZZER, EXAMPLES):
+        alone.append(subprocess.run(words, **how))
+        print(alone[-1].stdout, end="", flush=True)
     after = resource.getrusage(resource.RUSAGE_CHILDREN)
-    return [it.returncode == 0 for it in (*testers, examples)], after.ru_utime + after.ru_stime - before.ru_utime - before.ru_stime
+    return [it.returncode == 0 for it in (*testers, *alone)], after.ru_utime + after.ru_stime - before.ru_utime - before.ru_stime
 
 
 def counted(last, passed, failed):
