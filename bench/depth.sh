@@ -17,7 +17,7 @@ case " $* " in
     *" gate "* | *" verify "*) [ -n "${PROTOGATE:-}" ] || "$top/protogate" --help > "$work/help.txt" || true ;;
 esac
 case " $* " in
-    *:*) build_bench "$top" "$work" depth depth_main.rt.txt "pg_wire pg_schema pg_dyn pg_pairs pg_gate anyhow" ;;
+    *:*) build_bench "$top" "$work" depth depth_main.rt.txt "pg_lex pg_syntax pg_link pg_wire pg_schema pg_dyn pg_pairs pg_gate anyhow" ;;
 esac
 ulimit -S -s "$stack"
 
