@@ -5,9 +5,9 @@
 
 A call is made by a row of data (crates/*_rows/stdin), which the program of rows that `rt ci` built gets twice. Where memory is refused
 to the first, it prints `Memory`, and the second has memory again and gives its answer, the one in crates/*_rows/stdout. The program ends
-with 0. A row of `set` or `put` also prints the content that came back and the message as it is then: what it has to print so at some
-turn stands here. What rows don't show is a test (crates/*_tests): where memory is refused, it prints `Memory` and makes the call again,
-over the same arguments, and passes where that gives the answer.
+with 0. A row is done where memory is refused to the second. A row of `set` or `put` also prints the content that came back and the
+message as it is then: what it has to print so at some turn stands here. What rows don't show is a test (crates/*_tests): where memory is
+refused, it prints `Memory` and makes the call again, over the same arguments, and passes where that gives the answer.
 
 Some requests are the program's own, before a row is there or a test has its arguments: reading a line, or making a schema. A program
 that is refused one of these ends with a fault and has printed only answers of rows before. Such turns are counted apart.
@@ -151,19 +151,21 @@ def input_of(crate, row):
 
 
 def kind_of_rows(said, status, faults, wanted, told):
-    """Returns what a run did that should print these lines, and the answer that lacks memory, if there is one. One row at most lacks it,
-    and the last has it again."""
+    """Returns what a run did that should print these lines, and the answer that lacks memory, if there is one. One row at most lacks it;
+    where that is the last row, each request before it has been refused."""
     lines = said.decode(errors="replace").splitlines()
     if status:
         is_own = status == 1 and lines == wanted[:len(lines)] and len(lines) < len(wanted) and OWN.fullmatch(faults)
         return "own" if is_own else "wrong", ""
-    others = [(line, want) for line, want in zip(lines, wanted) if line != want]
-    if faults or len(lines) != len(wanted) or len(others) > 1 or lines[-1] != wanted[-1]:
+    others = [at for at, (line, want) in enumerate(zip(lines, wanted)) if line != want]
+    if faults or len(lines) != len(wanted) or len(others) > 1:
         return "wrong", ""
     if not others:
         return "answered", ""
-    (what, _, answer), (wanted_of, _, _) = (it.partition(" | ") for it in others[0])
-    return "told" if what == wanted_of and (answer == LACKS or answer in told) else "wrong", answer
+    (what, _, answer), (wanted_of, _, _) = (it[others[0]].partition(" | ") for it in (lines, wanted))
+    if what != wanted_of or answer != LACKS and answer not in told:
+        return "wrong", answer
+    return "over" if others == [len(lines) - 1] else "told", answer
 
 
 def kind_of_test(said, status, faults):
@@ -181,6 +183,8 @@ def runs_of_rows(call, row, library):
     stdin, seen = "".join(line + "\n" for line in [*before * 2, given, given]).encode(), set()
     for turn, status, said, faults in runs_of(library, [program], None, stdin):
         kind, answer = kind_of_rows(said, status, faults, [*first * 2, wanted, wanted], call.told)
+        if kind == "over" and turn:
+            break
         seen.add(answer)
         yield turn, kind, (status, said[-200:], faults[-200:])
     for answer in set(call.told) - seen:
