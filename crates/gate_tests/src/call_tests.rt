@@ -147,7 +147,7 @@ fn over_failing(alloc: Global, old_fails: u64, new_fails: u64) -> Result<Answer,
 fn is_failure_of(side: Side, answer: &Result<Answer, GateError>) -> bool {
     match answer {
         Err(GateError::Compile(of, Fault::Link(LinkError::SourceFailed(place)))) => {
-            *of == side && place.file == "m.proto"
+            *of == side && place.file.as_str() == "m.proto"
         }
         _ => false,
     }
