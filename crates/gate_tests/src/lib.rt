@@ -1,14 +1,12 @@
-//! Sources and sinks that fail or go slowly, the runs of the program over them, and the calls of
-//! the gate by themselves. All of it stands in tests: what a library of its own held would be
-//! proved twice.
+//! Sinks that fail or go slowly, the runs of the program over them and over sources that fail, and
+//! the calls of the gate by themselves. All of it stands in tests: what the crate held outside of
+//! them would be proved twice.
 #![tactic(auto)]
 
 #[cfg(test)]
 mod call_tests;
 #[cfg(test)]
 mod failing_sink;
-#[cfg(test)]
-mod failing_source;
 #[cfg(test)]
 mod one_byte;
 #[cfg(test)]
@@ -20,7 +18,5 @@ mod source_tests;
 
 #[cfg(test)]
 use failing_sink::FailingSink;
-#[cfg(test)]
-use failing_source::FailingSource;
 #[cfg(test)]
 use one_byte::OneByte;

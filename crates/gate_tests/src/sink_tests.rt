@@ -45,14 +45,23 @@ fn stops_at<R: Abort + AllocGlobal>(rt: &R, words: &[&str], taken: &[u8]) -> Res
     Ok(())
 }
 
+/// The same at each write of what the call prints.
+fn stops_anywhere<R: Abort + AllocGlobal>(
+    rt: &R,
+    words: &[&str],
+    printed: &[u8],
+) -> Result<(), Fail> {
+    for taken in 0..printed.len() {
+        stops_at(rt, words, &printed[..taken])?;
+    }
+    Ok(())
+}
+
 /// A sink that fails at its write of any number has taken the bytes before.
 #[test]
 fn stops_where_a_sink_fails(rt: HostRuntime) -> Result<(), Fail> {
     for (words, printed, _status) in CALLS {
-        let printed = printed.as_bytes();
-        for taken in 0..printed.len() {
-            stops_at(&rt, words, &printed[..taken])?;
-        }
+        stops_anywhere(&rt, words, printed.as_bytes())?;
     }
     Ok(())
 }

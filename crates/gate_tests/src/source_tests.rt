@@ -1,13 +1,13 @@
 //! Sources that fail, at each read of each subcommand.
-use crate::FailingSource;
 use crate::runs::{FILES, buffer, run_over};
+use failing_source::FailingSource;
 use pg_link::Listed;
 use std::process::Abort;
 use std::test::Fail;
 
 /// Words, the read of the old and of the new side that fails, counted from 1 (0 for none), and what
 /// is printed: the file that couldn't be read, whoever imports it.
-static FAILING: [(&[&str], u64, u64, &str); 14] = [
+static FAILING: [(&[&str], u32, u32, &str); 14] = [
     (
         &["gate", "--old=m.proto", "--new=u.proto", "--type=M"],
         1,
@@ -99,7 +99,7 @@ static FAILING: [(&[&str], u64, u64, &str); 14] = [
 fn tells<R: Abort + AllocGlobal>(
     rt: &R,
     words: &[&str],
-    fails_at: (u64, u64),
+    fails_at: (u32, u32),
     printed: &str,
 ) -> Result<(), Fail> {
     let mut old = FailingSource::new(Listed { files: &FILES }, fails_at.0);

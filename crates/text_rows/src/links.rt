@@ -1,6 +1,5 @@
 //! Linked files.
 mod asked;
-mod failing_source;
 mod options;
 mod shown;
 

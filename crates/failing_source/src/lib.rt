@@ -1,4 +1,5 @@
-//! A source whose read of a given number fails.
+//! A source whose read of a given number fails, for tests and for programs that answer rows.
+#![tactic(auto)]
 
 ghost use Rattle.std.specs.Prelude.{◌≡◌, ◌+◌, Some};
 
