@@ -81,13 +81,19 @@ fn spelled_unknown(alloc: Global, record: &UnknownRecord) -> Result<String, Allo
     format!(in alloc; "?{}:{}", record.number, record.body_start)
 }
 
-/// `NUMBER=CONTENT` for each field, and `?NUMBER:START` for each unknown record; `-` where there
-/// are none.
-pub(crate) fn spelled_message(alloc: Global, message: &Message) -> Result<String, AllocError> {
+// `NUMBER=CONTENT` for each field.
+fn spelled_fields(alloc: Global, message: &Message) -> Result<Vec<String>, AllocError> {
     let mut pieces = Vec::new(alloc);
     for (number, content) in message.contents() {
         pieces.push(spelled_field(alloc, *number, content)?)?;
     }
+    Ok(pieces)
+}
+
+/// `NUMBER=CONTENT` for each field, and `?NUMBER:START` for each unknown record; `-` where there
+/// are none.
+pub(crate) fn spelled_message(alloc: Global, message: &Message) -> Result<String, AllocError> {
+    let mut pieces = spelled_fields(alloc, message)?;
     for record in message.unknown() {
         pieces.push(spelled_unknown(alloc, record)?)?;
     }

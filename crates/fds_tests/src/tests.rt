@@ -116,9 +116,8 @@ fn written_schema(rt: HostRuntime) -> Result<(), Fail> {
         let full = format!(in alloc; "google.protobuf.{message}")?;
         assert!(rt; has_field(&schema, full.as_str(), number, name));
     }
-    for bytes in [ONE_FIELD, ALL_KINDS] {
-        assert!(rt; keeps(alloc, &schema, bytes)?);
-    }
+    assert!(rt; keeps(alloc, &schema, ONE_FIELD)?);
+    assert!(rt; keeps(alloc, &schema, ALL_KINDS)?);
     Ok(())
 }
 
