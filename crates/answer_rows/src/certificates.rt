@@ -62,7 +62,7 @@ pub(crate) fn check_parts(
     }
 }
 
-// The bounds that came back.
+/// The bounds that came back.
 fn back(alloc: Global, bounds: &[PairBound]) -> Result<String, AllocError> {
     let mut list = String::new(alloc);
     for bound in bounds {
@@ -88,7 +88,7 @@ pub(crate) fn table(alloc: Global, words: &str) -> Result<String, AllocError> {
     }
 }
 
-// What the checker says of a text's certificate, and the text that is written of it.
+/// What the checker says of a text's certificate, and the text that is written of it.
 fn read_text(
     alloc: Global,
     old: &Schema,
@@ -116,7 +116,7 @@ pub(crate) fn text(
     read_text(alloc, old, new, &bytes)
 }
 
-// How many of the fronts of the bytes are bad, without the whole.
+/// How many of the fronts of the bytes are bad, without the whole.
 fn bad_fronts(
     alloc: Global,
     old: &Schema,

@@ -32,7 +32,7 @@ pub(crate) fn choices<V: View>(
     list_of(alloc, &choices)
 }
 
-// The choice, and its child where it has one.
+/// The choice, and its child where it has one.
 fn with_child(alloc: Global, choice: &Choice, child: Option<Pair>) -> Result<String, AllocError> {
     let text = shown::choice(alloc, choice)?;
     match child {

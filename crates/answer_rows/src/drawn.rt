@@ -25,7 +25,7 @@ fn pair(number: u32) -> Pair
     }
 }
 
-// An edge to the pair of that number, by the field of that number.
+/// An edge to the pair of that number, by the field of that number.
 fn to(from: Pair, child: u32, number: u32) -> Edge
     ensures { result ≡ to from child number }
 {

@@ -9,7 +9,7 @@ static SCALARS: &[&str] = &[
     "sfixed32", "sfixed64", "float", "double", "string", "bytes",
 ];
 
-// The gap, or `None` where a name is none of a scalar type.
+/// The gap, or `None` where a name is none of a scalar type.
 fn gap_of(old: &str, new: &str) -> Option<Gap> {
     Some(gap(scalar_of(old)?, scalar_of(new)?))
 }

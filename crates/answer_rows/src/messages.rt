@@ -28,7 +28,7 @@ pub(crate) fn spelled(
     }
 }
 
-// Whether the message breaks between the pair's types, in a word.
+/// Whether the message breaks between the pair's types, in a word.
 fn verdict<V: View>(
     alloc: Global,
     view: &V,
@@ -48,7 +48,7 @@ fn verdict<V: View>(
     }
 }
 
-// The message of that type that the bytes spell.
+/// The message of that type that the bytes spell.
 fn read(
     alloc: Global,
     schema: &Schema,
@@ -65,7 +65,7 @@ fn read(
     }
 }
 
-// The same of `TYPE | BYTES`.
+/// The same of `TYPE | BYTES`.
 fn read_words(alloc: Global, schema: &Schema, words: &str) -> Result<Option<Message>, AllocError> {
     let (index, bytes) = cut(words);
     let index = number_at(index, 0);
@@ -73,7 +73,7 @@ fn read_words(alloc: Global, schema: &Schema, words: &str) -> Result<Option<Mess
     read(alloc, schema, TypeId { index }, &bytes)
 }
 
-// The choice, if it is one of the pair's under the table.
+/// The choice, if it is one of the pair's under the table.
 fn chosen<V: View>(
     alloc: Global,
     view: &V,
@@ -95,7 +95,7 @@ fn chosen<V: View>(
     Ok(None)
 }
 
-// The choice's message round the child, where this is a child of the choice.
+/// The choice's message round the child, where this is a child of the choice.
 fn carried<V: View>(
     alloc: Global,
     view: &V,
@@ -120,7 +120,7 @@ fn carried<V: View>(
     }
 }
 
-// What is shown of the choice's message: its bytes, whether it breaks, and what it costs.
+/// What is shown of the choice's message: its bytes, whether it breaks, and what it costs.
 fn with_verdict<V: View>(
     alloc: Global,
     view: &V,
@@ -161,7 +161,7 @@ pub(crate) fn message<V: View>(
     }
 }
 
-// The same of `CHOICE [| TYPE | BYTES]`.
+/// The same of `CHOICE [| TYPE | BYTES]`.
 fn carry_words<V: View>(
     alloc: Global,
     view: &V,

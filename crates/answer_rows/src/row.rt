@@ -6,7 +6,7 @@ use rows::{cut, unrolled};
 use std::alloc::{AllocError, Global};
 use tiny_schemas::schemas;
 
-// The answers of calls that see enums by a view.
+/// The answers of calls that see enums by a view.
 fn seen<V: View>(
     alloc: Global,
     view: &V,

@@ -24,7 +24,7 @@ pub(crate) fn list_of(alloc: Global, bounds: &Bounds) -> Result<String, AllocErr
     Ok(list)
 }
 
-// What the checker says of these bounds alone.
+/// What the checker says of these bounds alone.
 fn alone(
     alloc: Global,
     old: &Schema,
@@ -38,7 +38,7 @@ fn alone(
     }
 }
 
-// The certificate's witness, which has the bytes of the message beside it, and that message's type.
+/// The certificate's witness, which has the bytes of the message beside it, and that message's type.
 fn witness_of(alloc: Global, old: &Schema, found: &Found) -> Result<String, AllocError> {
     let (Some(message), Some(witness)) = (&found.witness, found.certificate.witness()) else {
         let alike = found.witness.is_none() && found.certificate.witness().is_none();
@@ -52,7 +52,7 @@ fn witness_of(alloc: Global, old: &Schema, found: &Found) -> Result<String, Allo
     format!(in alloc; "{bytes} of {}", message.type_id().index)
 }
 
-// What is found beside the certificate.
+/// What is found beside the certificate.
 fn beside(alloc: Global, old: &Schema, new: &Schema, root: Pair) -> Result<String, AllocError> {
     if !old.has(root.old) || !new.has(root.new) {
         return String::from_str(alloc, "no such type");
@@ -81,7 +81,7 @@ pub(crate) fn search_pair(
     format!(in alloc; "{pair} | {list} | {witness} | {verdict}")
 }
 
-// What is found beside the certificate under the view.
+/// What is found beside the certificate under the view.
 fn beside_by<V: View>(
     alloc: Global,
     view: &V,
@@ -117,7 +117,7 @@ pub(crate) fn search_by<V: View>(
     format!(in alloc; "{pair} | {list} | {witness} | {verdict}")
 }
 
-// Each step by its pair and its choice.
+/// Each step by its pair and its choice.
 fn steps_of(alloc: Global, steps: &[Step]) -> Result<String, AllocError> {
     let mut list = String::new(alloc);
     for step in steps {

@@ -64,7 +64,7 @@ pub(crate) fn verdict(alloc: Global, verdict: Verdict) -> Result<String, AllocEr
     }
 }
 
-// The name of a fault that says nothing more.
+/// The name of a fault that says nothing more.
 fn name_of(error: CertError) -> &'static str {
     match error {
         CertError::BadText => "bad text",

@@ -15,8 +15,8 @@ pub(crate) fn name_of(alloc: Global, error: DynError) -> Result<String, AllocErr
     format!(in alloc; "{error:?}")
 }
 
-// An integer, `f` or `d` and the bits of a float or a double, `'` and a text, `#` and bytes, or a
-// message.
+/// An integer, `f` or `d` and the bits of a float or a double, `'` and a text, `#` and bytes, or a
+/// message.
 fn spelled_value(alloc: Global, value: &Value) -> Result<String, AllocError> {
     match value {
         Value::Int(number) => format!(in alloc; "{number}"),
@@ -28,7 +28,7 @@ fn spelled_value(alloc: Global, value: &Value) -> Result<String, AllocError> {
     }
 }
 
-// The pieces with a space between them.
+/// The pieces with a space between them.
 fn joined(alloc: Global, pieces: &[String]) -> Result<String, AllocError> {
     let mut text = String::new(alloc);
     for piece in pieces {
@@ -76,12 +76,12 @@ fn spelled_field(alloc: Global, number: u32, content: &Content) -> Result<String
     format!(in alloc; "{number}={content}")
 }
 
-// An unknown record's number, and where its body begins.
+/// An unknown record's number, and where its body begins.
 fn spelled_unknown(alloc: Global, record: &UnknownRecord) -> Result<String, AllocError> {
     format!(in alloc; "?{}:{}", record.number, record.body_start)
 }
 
-// `NUMBER=CONTENT` for each field.
+/// `NUMBER=CONTENT` for each field.
 fn spelled_fields(alloc: Global, message: &Message) -> Result<Vec<String>, AllocError> {
     let mut pieces = Vec::new(alloc);
     for (number, content) in message.contents() {

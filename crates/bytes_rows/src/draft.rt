@@ -74,7 +74,7 @@ fn value_of(alloc: Global, spelled: &str) -> Result<Value, DynError> {
     }
 }
 
-// Each two values as a key and a value.
+/// Each two values as a key and a value.
 fn paired(alloc: Global, values: Vec<Value>) -> Result<Content, DynError> {
     let mut entries = Vec::new(alloc);
     let mut key = None;
@@ -101,7 +101,7 @@ fn whole(
     Message::whole(alloc, schema, FIRST, vec![in alloc; content]?)
 }
 
-// The content that a word makes of the values.
+/// The content that a word makes of the values.
 fn content(alloc: Global, values: &mut Vec<Value>, spelled: &str) -> Result<Content, DynError> {
     if spelled.ends_with("*") {
         return Ok(Content::Many(replace(values, Vec::new(alloc))));
@@ -147,7 +147,7 @@ fn put_value(alloc: Global, values: &mut Vec<Value>, spelled: &str) -> Result<()
     Ok(values.push(value)?)
 }
 
-// What a word does with the values and the contents that no word has taken yet.
+/// What a word does with the values and the contents that no word has taken yet.
 fn take(
     alloc: Global,
     schema: &Schema,

@@ -36,7 +36,7 @@ pub(crate) fn written(
     Ok(word(alloc, &encode(alloc, schema, message)?)?)
 }
 
-// What is written again of bytes that are read, by a message that borrows from them.
+/// What is written again of bytes that are read, by a message that borrows from them.
 fn rewritten_lent(alloc: Global, schema: &Schema, bytes: &[u8]) -> Result<String, DynError> {
     if !schema.has(FIRST) {
         return Err(DynError::NoSuchField);
@@ -47,7 +47,7 @@ fn rewritten_lent(alloc: Global, schema: &Schema, bytes: &[u8]) -> Result<String
     }
 }
 
-// What is written again of bytes that are read; of a message that borrows from them it is the same.
+/// What is written again of bytes that are read; of a message that borrows from them it is the same.
 fn rewritten(alloc: Global, schema: &Schema, bytes: &[u8]) -> Result<String, DynError> {
     let lent = rewritten_lent(alloc, schema, bytes)?;
     let message = read(alloc, schema, bytes, 100)?;
@@ -58,7 +58,7 @@ fn rewritten(alloc: Global, schema: &Schema, bytes: &[u8]) -> Result<String, Dyn
     Ok(owned)
 }
 
-// The same, or `refused` where the bytes have a fault, whichever it is.
+/// The same, or `refused` where the bytes have a fault, whichever it is.
 fn again(alloc: Global, schema: &Schema, bytes: &[u8]) -> Result<String, DynError> {
     match rewritten(alloc, schema, bytes) {
         Err(DynError::Wire(_) | DynError::NotUtf8 { .. } | DynError::TooDeep { .. }) => {
@@ -68,7 +68,7 @@ fn again(alloc: Global, schema: &Schema, bytes: &[u8]) -> Result<String, DynErro
     }
 }
 
-// The same, or a complaint where it is what another runtime makes of the bytes.
+/// The same, or a complaint where it is what another runtime makes of the bytes.
 fn apart(alloc: Global, schema: &Schema, bytes: &[u8], theirs: &str) -> Result<String, DynError> {
     let found = again(alloc, schema, bytes)?;
     if found.as_str() == theirs {
@@ -77,14 +77,14 @@ fn apart(alloc: Global, schema: &Schema, bytes: &[u8], theirs: &str) -> Result<S
     Ok(found)
 }
 
-// Whether bytes are read within a limit of depth.
+/// Whether bytes are read within a limit of depth.
 fn within(alloc: Global, schema: &Schema, bytes: &[u8], limit: &str) -> Result<String, DynError> {
     let limit = limit.parse::<usize>().unwrap_or(100);
     let _message = read(alloc, schema, bytes, limit)?;
     text(alloc, "read")
 }
 
-// The contents that are read.
+/// The contents that are read.
 fn contents(alloc: Global, schema: &Schema, bytes: &[u8]) -> Result<String, DynError> {
     let message = read(alloc, schema, bytes, 100)?;
     Ok(spelled_message(alloc, &message)?)
@@ -112,13 +112,13 @@ pub(crate) fn copied(
     written(alloc, schema, &copied)
 }
 
-// What is written of the copy of a message.
+/// What is written of the copy of a message.
 fn copied_again(alloc: Global, schema: &Schema, bytes: &[u8]) -> Result<String, DynError> {
     let message = read(alloc, schema, bytes, 100)?;
     copied(alloc, schema, &message)
 }
 
-// What is written again of a message that borrows from bytes, read without a limit of depth.
+/// What is written again of a message that borrows from bytes, read without a limit of depth.
 fn unlimited_lent(alloc: Global, schema: &Schema, bytes: &[u8]) -> Result<String, DynError> {
     if !schema.has(FIRST) {
         return Err(DynError::NoSuchField);
@@ -129,8 +129,8 @@ fn unlimited_lent(alloc: Global, schema: &Schema, bytes: &[u8]) -> Result<String
     }
 }
 
-// What is written of the copy of a message that is read without a limit of depth; of one that
-// borrows from the bytes it is the same.
+/// What is written of the copy of a message that is read without a limit of depth; of one that
+/// borrows from the bytes it is the same.
 fn unlimited(alloc: Global, schema: &Schema, bytes: &[u8]) -> Result<String, DynError> {
     let lent = unlimited_lent(alloc, schema, bytes)?;
     if !schema.has(FIRST) {
@@ -144,7 +144,7 @@ fn unlimited(alloc: Global, schema: &Schema, bytes: &[u8]) -> Result<String, Dyn
     Ok(owned)
 }
 
-// Whether a message is one of the other schema too.
+/// Whether a message is one of the other schema too.
 fn of_both(
     alloc: Global,
     schema: &Schema,
@@ -155,7 +155,7 @@ fn of_both(
     answer(alloc, fits(other, &message))
 }
 
-// What the other type doesn't have of a message.
+/// What the other type doesn't have of a message.
 fn outside(
     alloc: Global,
     schema: &Schema,
@@ -182,7 +182,7 @@ fn shown(alloc: Global, schema: &Schema, bytes: &[u8]) -> Result<String, DynErro
     Ok(format!(in alloc; "{}", text.as_bytes().escape_ascii())?)
 }
 
-// What a call makes of bytes, beside which it has another word or none.
+/// What a call makes of bytes, beside which it has another word or none.
 fn found(
     alloc: Global,
     schema: &Schema,

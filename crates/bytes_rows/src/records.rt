@@ -7,7 +7,7 @@ use pg_wire::{
 };
 use std::alloc::{AllocError, Global};
 
-// The value of a varint and how many bytes it takes.
+/// The value of a varint and how many bytes it takes.
 fn varint(alloc: Global, bytes: &[u8]) -> Result<String, AllocError> {
     match read_varint(bytes) {
         Ok((value, length)) => format!(in alloc; "{value} {length}"),
@@ -15,7 +15,7 @@ fn varint(alloc: Global, bytes: &[u8]) -> Result<String, AllocError> {
     }
 }
 
-// A record's number, wire type and body.
+/// A record's number, wire type and body.
 fn spelled(alloc: Global, record: &Record) -> Result<String, AllocError> {
     let body = word(alloc, record.body)?;
     let whole = word(alloc, record.bytes)?;
@@ -32,7 +32,7 @@ fn spelled_next(alloc: Global, next: Result<Record, WireError>) -> Result<String
     }
 }
 
-// All records, and the fault that ends them.
+/// All records, and the fault that ends them.
 fn records(alloc: Global, bytes: &[u8]) -> Result<String, AllocError> {
     let mut text = String::new(alloc);
     for next in Records::new(bytes) {
@@ -42,7 +42,7 @@ fn records(alloc: Global, bytes: &[u8]) -> Result<String, AllocError> {
     Ok(text)
 }
 
-// The fault of the first record, or none.
+/// The fault of the first record, or none.
 fn fault(alloc: Global, bytes: &[u8]) -> Result<String, AllocError> {
     match Records::new(bytes).next() {
         Some(Err(error)) => format!(in alloc; "{error:?}"),
@@ -50,7 +50,7 @@ fn fault(alloc: Global, bytes: &[u8]) -> Result<String, AllocError> {
     }
 }
 
-// The fault at the end of the records.
+/// The fault at the end of the records.
 fn last_fault(bytes: &[u8]) -> Option<WireError> {
     for next in Records::new(bytes) {
         if let Err(error) = next {
@@ -60,7 +60,7 @@ fn last_fault(bytes: &[u8]) -> Option<WireError> {
     None
 }
 
-// The place of that fault, and the same fault three bytes later.
+/// The place of that fault, and the same fault three bytes later.
 fn place(alloc: Global, bytes: &[u8]) -> Result<String, AllocError> {
     match last_fault(bytes) {
         Some(error) if error.at() < 1_000_000 => {
@@ -81,7 +81,7 @@ fn of_bytes(alloc: Global, call: &str, bytes: &[u8]) -> Result<String, AllocErro
     }
 }
 
-// How many bytes are written in front of others, and all.
+/// How many bytes are written in front of others, and all.
 fn written(alloc: Global, input: &str) -> Result<String, AllocError> {
     let value = input.parse::<u64>().unwrap_or(0);
     let mut out = [0xaa; 10];
@@ -103,7 +103,7 @@ fn length_of_tag(alloc: Global, input: &str) -> Result<String, AllocError> {
     String::from_str(alloc, "no number")
 }
 
-// The word of a number, and the number of that word.
+/// The word of a number, and the number of that word.
 fn zigzag_of(alloc: Global, input: &str) -> Result<String, AllocError> {
     let number = input.parse::<i64>().unwrap_or(0);
     let word = zigzag(number);

@@ -9,7 +9,7 @@ use pg_schema::Schema;
 use rows::{cut, unrolled};
 use std::alloc::{AllocError, Global};
 
-// What a call by the type of the rows answers; one that isn't of messages is one of `pg_wire`.
+/// What a call by the type of the rows answers; one that isn't of messages is one of `pg_wire`.
 fn by_type(
     alloc: Global,
     schema: &Schema,
@@ -34,7 +34,7 @@ fn by_type(
     }
 }
 
-// The answer, or the name of the error.
+/// The answer, or the name of the error.
 fn spelled(alloc: Global, found: Result<String, DynError>) -> Result<String, AllocError> {
     match found {
         Ok(text) => Ok(text),
@@ -42,7 +42,7 @@ fn spelled(alloc: Global, found: Result<String, DynError>) -> Result<String, All
     }
 }
 
-// What a call answers.
+/// What a call answers.
 fn answered(
     alloc: Global,
     types: &mut Types,

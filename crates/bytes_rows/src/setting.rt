@@ -10,7 +10,7 @@ use std::alloc::Global;
 
 const INT32: Element = Element::Scalar(Scalar::Int32);
 
-// Sets a content of a message that fits; of one that doesn't the call answers `TooLong`.
+/// Sets a content of a message that fits; of one that doesn't the call answers `TooLong`.
 fn set(
     schema: &Schema,
     message: &mut Message,
@@ -23,7 +23,7 @@ fn set(
     message.set(schema, number, content)
 }
 
-// Sets the contents in turn, up to one that is refused.
+/// Sets the contents in turn, up to one that is refused.
 fn set_each(
     schema: &Schema,
     message: &mut Message,
@@ -35,8 +35,8 @@ fn set_each(
     Ok(())
 }
 
-// Puts a number under that of a field of the type int32 that has presence; for any other, and where
-// the message doesn't fit, the answer is `TooLong`.
+/// Puts a number under that of a field of the type int32 that has presence; for any other, and where
+/// the message doesn't fit, the answer is `TooLong`.
 fn put(
     schema: &Schema,
     message: &mut Message,
@@ -56,7 +56,7 @@ fn put(
     }
 }
 
-// Puts the numbers that `FIELD=NUMBER FIELD=NUMBER ..` says, in turn, up to one that is refused.
+/// Puts the numbers that `FIELD=NUMBER FIELD=NUMBER ..` says, in turn, up to one that is refused.
 fn put_each(
     schema: &Schema,
     message: &mut Message,
@@ -74,7 +74,7 @@ fn put_each(
     Ok(())
 }
 
-// A refusal, the content that came back, and the bytes of the message as it is.
+/// A refusal, the content that came back, and the bytes of the message as it is.
 fn refused(
     alloc: Global,
     schema: &Schema,
@@ -88,7 +88,7 @@ fn refused(
     Ok(format!(in alloc; "{name} {back} {written}")?)
 }
 
-// The bytes of the message that comes of setting the contents in turn.
+/// The bytes of the message that comes of setting the contents in turn.
 fn written_of(
     alloc: Global,
     schema: &Schema,
@@ -114,7 +114,7 @@ pub(crate) fn answer_of_puts(
     }
 }
 
-// What it holds.
+/// What it holds.
 fn held_of(
     alloc: Global,
     schema: &Schema,
@@ -127,7 +127,7 @@ fn held_of(
     }
 }
 
-// The bytes of the message of just these contents.
+/// The bytes of the message of just these contents.
 fn whole_of(
     alloc: Global,
     schema: &Schema,
@@ -140,7 +140,7 @@ fn whole_of(
     written(alloc, schema, &message)
 }
 
-// The bytes of its copy.
+/// The bytes of its copy.
 fn copy_of(
     alloc: Global,
     schema: &Schema,

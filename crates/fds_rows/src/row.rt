@@ -24,7 +24,7 @@ fn read_and_written(alloc: Global, bytes: &[u8]) -> Result<Written, FdsError> {
     written(alloc, &schema)
 }
 
-// The bytes that are written of the set that these bytes spell, or the whole error.
+/// The bytes that are written of the set that these bytes spell, or the whole error.
 fn told(alloc: Global, bytes: &[u8]) -> Result<String, AllocError> {
     match read_and_written(alloc, bytes) {
         Ok((written, true)) => format!(in alloc; "\"{}\"", written.escape_ascii()),

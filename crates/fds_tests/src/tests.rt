@@ -12,35 +12,35 @@ use std::test::Fail;
 
 const FILE_SET: TypeId = TypeId { index: 0 };
 
-// `syntax = "proto3"; message M { int32 a = 1; }`, by `protoc --descriptor_set_out=m.pb m.proto`.
+/// `syntax = "proto3"; message M { int32 a = 1; }`, by `protoc --descriptor_set_out=m.pb m.proto`.
 const ONE_FIELD: &[u8] =
     b"\x0a\x24\x0a\x07m.proto\x22\x11\x0a\x01M\x12\x0c\x0a\x01a\x18\x01\x20\x01\x28\x05\x52\x01ab\x06proto3";
 
-// The set of this file alone, by `protoc --descriptor_set_out=w.pb w.proto`:
-//
-// syntax = "proto3";
-// package p.q;
-// import public "google/protobuf/empty.proto";
-// option java_package = "j";
-// option optimize_for = CODE_SIZE;
-// option deprecated = false;
-// message M {
-//   reserved 5 to 7, 9;
-//   reserved "old";
-//   oneof _z { N n = 1; E e = 2; }
-//   map<int32, N> m_n = 3;
-//   optional N o = 4 [json_name = "oo"];
-//   repeated int32 r = 8 [packed = false, deprecated = true];
-//   optional int32 z = 20;
-//   optional int32 _w = 12;
-//   message N { option deprecated = true; }
-//   enum E { option allow_alias = true; A = 0; B = 0 [deprecated = true]; C = -1; reserved -5 to
-//   -3, 9; reserved "D"; } }
-// service S {
-//   option deprecated = true;
-//   rpc Call(stream M) returns (stream M.N) { option deprecated = true; }
-//   rpc Ask(M) returns (google.protobuf.Empty);
-// }
+/// The set of this file alone, by `protoc --descriptor_set_out=w.pb w.proto`:
+///
+/// syntax = "proto3";
+/// package p.q;
+/// import public "google/protobuf/empty.proto";
+/// option java_package = "j";
+/// option optimize_for = CODE_SIZE;
+/// option deprecated = false;
+/// message M {
+///   reserved 5 to 7, 9;
+///   reserved "old";
+///   oneof _z { N n = 1; E e = 2; }
+///   map<int32, N> m_n = 3;
+///   optional N o = 4 [json_name = "oo"];
+///   repeated int32 r = 8 [packed = false, deprecated = true];
+///   optional int32 z = 20;
+///   optional int32 _w = 12;
+///   message N { option deprecated = true; }
+///   enum E { option allow_alias = true; A = 0; B = 0 [deprecated = true]; C = -1; reserved -5 to
+///   -3, 9; reserved "D"; } }
+/// service S {
+///   option deprecated = true;
+///   rpc Call(stream M) returns (stream M.N) { option deprecated = true; }
+///   rpc Ask(M) returns (google.protobuf.Empty);
+/// }
 const ALL_KINDS: &[u8] = b"\
     \x0a\x88\x04\x0a\x07w.proto\x12\x03p.q\x1a\x1bgoogle/protobuf/empty.proto\x22\xf2\x02\x0a\
     \x01M\x12\x18\x0a\x01n\x18\x01\x20\x01(\x0b2\x08.p.q.M.NH\x00R\x01n\x12\x18\x0a\x01e\x18\
@@ -58,8 +58,8 @@ const ALL_KINDS: &[u8] = b"\
     M\x1a\x08.p.q.M.N\x22\x03\x88\x02\x01(\x010\x01\x12%\x0a\x03Ask\x12\x06.p.q.M\x1a\x16.goog\
     le.protobuf.Empty\x1a\x03\x88\x02\x01B\x08\x0a\x01jH\x02\xb8\x01\x00P\x00b\x06proto3";
 
-// `protoc --descriptor_set_out=m.pb m.proto` of three texts: what is declared in them, and the
-// bytes.
+/// `protoc --descriptor_set_out=m.pb m.proto` of three texts: what is declared in them, and the
+/// bytes.
 const TEXTS: &[(&str, &[u8])] = &[
     ("message M { int32 a = 1; }", ONE_FIELD),
     (
@@ -75,7 +75,7 @@ const TEXTS: &[(&str, &[u8])] = &[
 const TWO_ENUMS: &[u8] =
     b"\x0aT\x0a\x07m.proto\x225\x0a\x01M\x12\x12\x0a\x01f\x18\x01 \x01(\x0e2\x04.M.FR\x01f\x12\x10\x0a\x01e\x18\x02 \x01(\x0e2\x02.ER\x01e\x22\x0a\x0a\x01F\x12\x05\x0a\x01B\x10\x00*\x0a\x0a\x01E\x12\x05\x0a\x01A\x10\x00b\x06proto3";
 
-// Whether the schema reads the bytes, each record into a field, and writes them again.
+/// Whether the schema reads the bytes, each record into a field, and writes them again.
 fn keeps(alloc: Global, schema: &Schema, bytes: &[u8]) -> Result<bool, Fail> {
     if !schema.has(FILE_SET) {
         return Ok(false);
@@ -121,13 +121,13 @@ fn written_schema(rt: HostRuntime) -> Result<(), Fail> {
     Ok(())
 }
 
-// The links of a file `m.proto` of this text.
+/// The links of a file `m.proto` of this text.
 fn linked(alloc: Global, text: &[u8]) -> Result<Linked, LinkError> {
     let files = [("m.proto", text)];
     link(alloc, &mut Listed { files: &files }, &["m.proto"])
 }
 
-// The schema of a file `m.proto` that declares this.
+/// The schema of a file `m.proto` that declares this.
 fn schema_of(alloc: Global, declared: &str) -> Result<Schema, Fail> {
     let text = format!(in alloc; "syntax = \"proto3\"; {declared}")?;
     let linked = linked(alloc, text.as_bytes())?;
@@ -148,8 +148,8 @@ fn schemas_of_texts(rt: HostRuntime) -> Result<(), Fail> {
     Ok(())
 }
 
-// The enums of the package come before those of message types, in a set and in a text, wherever
-// they stand.
+/// The enums of the package come before those of message types, in a set and in a text, wherever
+/// they stand.
 #[test]
 fn places_of_enums(rt: HostRuntime) -> Result<(), Fail> {
     let alloc = rt.alloc();
@@ -163,15 +163,15 @@ fn places_of_enums(rt: HostRuntime) -> Result<(), Fail> {
     Ok(())
 }
 
-// What is written of the schema that the bytes state, once it was written and read again.
+/// What is written of the schema that the bytes state, once it was written and read again.
 fn written_twice(alloc: Global, bytes: &[u8]) -> Result<Vec<u8>, FdsError> {
     let schema = read(alloc, bytes)?;
     let made = read_again(alloc, &schema)?;
     write(alloc, &made)
 }
 
-// Each growth refused in turn, by `tools/try_memory.sh`; and what a set that is cut off is refused
-// with, to the place.
+/// Each growth refused in turn, by `tools/try_memory.sh`; and what a set that is cut off is refused
+/// with, to the place.
 #[test]
 fn calls_without_memory(rt: HostRuntime) -> Result<(), Fail> {
     let alloc = rt.alloc();

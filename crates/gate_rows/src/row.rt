@@ -57,19 +57,19 @@ fn spelled(alloc: Global, bytes: &[u8]) -> Result<String, AllocError> {
     format!(in alloc; "{}", bytes.escape_ascii())
 }
 
-// The status of a run with these words over these files, and what it printed, spelled.
+/// The status of a run with these words over these files, and what it printed, spelled.
 fn ran(alloc: Global, words: &str, old: &str, new: &str) -> Result<(u8, String), AllocError> {
     let sides = sides(alloc, old, new)?;
     let (status, bytes) = printed_over(alloc, words, &sides)?;
     Ok((status, spelled(alloc, &bytes)?))
 }
 
-// Whether the run was one of `gate` that named no view and wasn't refused for its words.
+/// Whether the run was one of `gate` that named no view and wasn't refused for its words.
 fn has_two_views(words: &str, status: u8) -> bool {
     words.starts_with("gate ") && !words.contains("--view") && status < 4
 }
 
-// What the same run prints by names, where it isn't the same but for the view.
+/// What the same run prints by names, where it isn't the same but for the view.
 fn by_names(
     alloc: Global,
     words: &str,

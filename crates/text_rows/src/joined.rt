@@ -5,7 +5,7 @@ use pg_syntax::{SyntaxError, parse};
 use rows::text_of;
 use std::alloc::{AllocError, Global};
 
-// The path of the first import.
+/// The path of the first import.
 fn first_path(file: &FileTree) -> Option<&Text> {
     for statement in &file.statements {
         if let Statement::Import(import) = statement {

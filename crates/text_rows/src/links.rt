@@ -26,7 +26,7 @@ fn of_links(alloc: Global, source: &mut Source, options: Options) -> Result<Stri
     }
 }
 
-// What a read of the file gives.
+/// What a read of the file gives.
 fn of_read(
     alloc: Global,
     source: &mut Source,
@@ -50,7 +50,7 @@ fn of_reads(alloc: Global, source: &mut Source, options: Options) -> Result<Stri
     Ok(out)
 }
 
-// The place of a byte of the first file.
+/// The place of a byte of the first file.
 fn of_place(alloc: Global, files: &[(&str, &[u8])], at: u32) -> Result<String, AllocError> {
     let Some((path, text)) = files.first() else {
         return String::from_str(alloc, "no file");

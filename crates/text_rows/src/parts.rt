@@ -12,7 +12,7 @@ use rows::cut;
 use std::alloc::{AllocError, Global};
 use types::element_of;
 
-// How many message types the schema has, or the refusal.
+/// How many message types the schema has, or the refusal.
 fn admitted(alloc: Global, parts: Parts) -> Result<String, AllocError> {
     match admit(alloc, parts) {
         Ok(schema) => format!(in alloc; "taken {}", schema.parts().types.len()),
@@ -20,7 +20,7 @@ fn admitted(alloc: Global, parts: Parts) -> Result<String, AllocError> {
     }
 }
 
-// How many message types the schema has, or the error and how many came back.
+/// How many message types the schema has, or the error and how many came back.
 fn made(alloc: Global, parts: Parts) -> Result<String, AllocError> {
     match Schema::from_parts(alloc, parts) {
         Ok(schema) => format!(in alloc; "taken {}", schema.parts().types.len()),

@@ -40,14 +40,14 @@ fn name_of_field(found: Option<&Field>) -> &str {
     }
 }
 
-// The name of the field that `PLACE NUMBER` names.
+/// The name of the field that `PLACE NUMBER` names.
 fn field<'a>(schema: &'a Schema, words: &str) -> &'a str {
     let (place, number) = words.split_once(' ').unwrap_or((words, ""));
     let index = number_of(place);
     name_of_field(schema.field(TypeId { index }, number_of(number)))
 }
 
-// What the schema answers to a call by these words.
+/// What the schema answers to a call by these words.
 fn answered(alloc: Global, schema: &Schema, call: &str, words: &str) -> Result<String, AllocError> {
     let index = number_of(words);
     match call {

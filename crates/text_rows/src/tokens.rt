@@ -4,7 +4,7 @@ use pg_lex::{Kind, LexError, Token, lex, place};
 use rows::{cut, number_of, text_of};
 use std::alloc::{AllocError, Global};
 
-// The code, and the byte at which the fault stands.
+/// The code, and the byte at which the fault stands.
 fn fault(error: LexError) -> (u16, usize) {
     match error {
         LexError::Memory => (1, 0),
@@ -28,7 +28,7 @@ fn value(alloc: Global, kind: &Kind) -> Result<String, AllocError> {
     }
 }
 
-// A token's value and its place, as `a@0-1`.
+/// A token's value and its place, as `a@0-1`.
 fn token(alloc: Global, token: &Token) -> Result<String, AllocError> {
     let value = value(alloc, &token.kind)?;
     format!(in alloc; "{value}@{}-{}", token.span.from, token.span.to)
@@ -54,7 +54,7 @@ fn answer_of(alloc: Global, text: &[u8]) -> Result<String, AllocError> {
     }
 }
 
-// The line and the column of a byte.
+/// The line and the column of a byte.
 fn place_of(alloc: Global, text: &[u8], offset: u32) -> Result<String, AllocError> {
     let (line, column) = place(text, offset as usize);
     format!(in alloc; "{line}:{column}")

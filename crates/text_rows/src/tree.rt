@@ -7,7 +7,7 @@ use pg_lex::{LexError, Token, lex};
 use rows::{cut, text_of, with_word};
 use std::alloc::{AllocError, Global};
 
-// Appends the answer for that text.
+/// Appends the answer for that text.
 fn put(
     alloc: Global,
     out: &mut String,

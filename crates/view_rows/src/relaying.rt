@@ -7,13 +7,13 @@ use pg_schema::{Schema, TypeId};
 use std::alloc::{AllocError, Global};
 use tiny_schemas::schemas;
 
-// The first types.
+/// The first types.
 const FIRST: Pair = Pair {
     old: TypeId { index: 0 },
     new: TypeId { index: 0 },
 };
 
-// The code of the refusal, with the byte that it names.
+/// The code of the refusal, with the byte that it names.
 fn refused(alloc: Global, error: DynError) -> Result<String, AllocError> {
     match error {
         DynError::Memory => Err(AllocError),
@@ -32,7 +32,7 @@ fn relayed(alloc: Global, old: &Schema, new: &Schema, bytes: &[u8]) -> Result<St
     }
 }
 
-// What a program of the new schema hands on of the bytes that the digits spell.
+/// What a program of the new schema hands on of the bytes that the digits spell.
 fn handed_on_by(
     alloc: Global,
     old: &Schema,

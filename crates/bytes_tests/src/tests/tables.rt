@@ -29,7 +29,7 @@ fn table(alloc: Global, bounds: &[PairBound]) -> Result<Bounds, Fail> {
     }
 }
 
-// Whether the table has the two pairs with these bounds, and no other.
+/// Whether the table has the two pairs with these bounds, and no other.
 fn has(table: &Bounds, root: Option<u32>, other: Option<u32>) -> bool {
     let missing = Pair {
         old: M,

@@ -4,7 +4,7 @@ use pg_link::{LinkError, Linked};
 use pg_syntax::tree::{FileTree, Part, Statement, TypeName};
 use std::alloc::{AllocError, Global};
 
-// What the uses in the first file resolve to, by their first bytes.
+/// What the uses in the first file resolve to, by their first bytes.
 fn targets(alloc: Global, linked: &Linked) -> Result<String, AllocError> {
     if linked.files().is_empty() {
         return String::from_str(alloc, "no file");
@@ -13,7 +13,7 @@ fn targets(alloc: Global, linked: &Linked) -> Result<String, AllocError> {
     format!(in alloc; "{found:?}")
 }
 
-// The type of the first field of the only message of a file with a package.
+/// The type of the first field of the only message of a file with a package.
 fn first_type(file: &FileTree) -> Option<&TypeName> {
     let [Statement::Message(message)] = file.packaged.as_ref()?.statements.as_slice() else {
         return None;
@@ -24,7 +24,7 @@ fn first_type(file: &FileTree) -> Option<&TypeName> {
     Some(&field.type_name)
 }
 
-// The full name that it has in a scope of the first file.
+/// The full name that it has in a scope of the first file.
 fn full_name(alloc: Global, linked: &Linked, scope: &[&str]) -> Result<String, LinkError> {
     let Some((_, file)) = linked.files().get_index(0) else {
         return Ok(String::new(alloc));

@@ -18,7 +18,7 @@ pub struct Options<'a> {
     pub asked: &'a str,
 }
 
-// The options with one more.
+/// The options with one more.
 fn with_option<'a>(options: Options<'a>, spelled: &'a str) -> Options<'a> {
     let (word, value) = spelled.split_once(' ').unwrap_or((spelled, ""));
     let mut options = options;

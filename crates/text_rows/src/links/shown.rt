@@ -18,7 +18,7 @@ pub fn refusal(alloc: Global, error: LinkError) -> Result<String, AllocError> {
     }
 }
 
-// A message type or an enum, by a letter and its number.
+/// A message type or an enum, by a letter and its number.
 fn target(alloc: Global, target: &Target) -> Result<String, AllocError> {
     match target {
         Target::Message(number) => format!(in alloc; " m{number}"),
@@ -26,7 +26,7 @@ fn target(alloc: Global, target: &Target) -> Result<String, AllocError> {
     }
 }
 
-// Appends a file's path and what its uses of types resolve to.
+/// Appends a file's path and what its uses of types resolve to.
 fn put_file(
     alloc: Global,
     out: &mut String,
@@ -42,7 +42,7 @@ fn put_file(
     Ok(())
 }
 
-// The files in their order; of more than nine files how many they are.
+/// The files in their order; of more than nine files how many they are.
 fn files(alloc: Global, linked: &Linked) -> Result<String, AllocError> {
     let count = linked.files().len();
     if count > 9 {
@@ -58,7 +58,7 @@ fn files(alloc: Global, linked: &Linked) -> Result<String, AllocError> {
     Ok(out)
 }
 
-// Where a name is declared.
+/// Where a name is declared.
 fn name(alloc: Global, linked: &Linked, name: &str) -> Result<String, AllocError> {
     match linked.place(name) {
         Some((file, line, column)) => format!(in alloc; " | {name} {file}:{line}:{column}"),

@@ -35,7 +35,7 @@ fn import(alloc: Global, path: &str) -> Result<Import, AllocError> {
     })
 }
 
-// Adds an option of the file.
+/// Adds an option of the file.
 fn set_option(file: &mut File, number: u32, value: OptionValue) -> Result<(), AllocError> {
     file.options.push(FileOption { number, value })?;
     Ok(())

@@ -67,7 +67,7 @@ fn add_to_last_enum(
     Ok(())
 }
 
-// Adds a piece where it belongs: nowhere but in one of these.
+/// Adds a piece where it belongs: nowhere but in one of these.
 fn add_piece(
     alloc: Global,
     file: &mut File,

@@ -47,7 +47,7 @@ fn presence_of(word: &str) -> Presence {
     }
 }
 
-// A field without options, in no oneof.
+/// A field without options, in no oneof.
 fn field(
     alloc: Global,
     number: u32,
@@ -70,7 +70,7 @@ fn field(
     })
 }
 
-// The field that `NUMBER NAME PRESENCE TYPE` spells.
+/// The field that `NUMBER NAME PRESENCE TYPE` spells.
 fn field_of(alloc: Global, words: &str) -> Result<Field, AllocError> {
     let (number, words) = words.split_once(' ').unwrap_or((words, ""));
     let (name, words) = words.split_once(' ').unwrap_or((words, ""));
@@ -84,7 +84,7 @@ fn field_of(alloc: Global, words: &str) -> Result<Field, AllocError> {
     )
 }
 
-// The member of the first oneof that `NUMBER NAME` spells.
+/// The member of the first oneof that `NUMBER NAME` spells.
 fn member_of(alloc: Global, words: &str) -> Result<Field, AllocError> {
     let (number, name) = words.split_once(' ').unwrap_or((words, ""));
     let mut field = field(

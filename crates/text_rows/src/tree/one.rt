@@ -5,7 +5,7 @@ use pg_lex::{LexError, Token, lex};
 use pg_syntax::{SyntaxError, parse};
 use std::alloc::{AllocError, Global};
 
-// The code, and the byte at which the fault stands.
+/// The code, and the byte at which the fault stands.
 fn fault(error: SyntaxError) -> (u16, usize) {
     match error {
         SyntaxError::Memory => (1, 0),
