@@ -62,7 +62,7 @@ fn is_bound(bound: Option<u32>) -> bool
     }
 }
 
-// The entries of distinct pairs with bounds in range; `None` where the bounds aren't so.
+/// The entries of distinct pairs with bounds in range; `None` where the bounds aren't so.
 fn entries_of(alloc: Global, bounds: &[PairBound]) -> Result<Entries, BoundsError>
     ensures ok { IfOk result (λ entries. (map bound_of entries.entries ≡ bounds.now)
         × (are_bounds bounds.now ≡ true)) }

@@ -39,7 +39,7 @@ impl Model for Certificate {
         × (is_witness (option_map (λ bytes. bytes.items) c.witness) ≡ true) };
 }
 
-// What holds of every slice of bytes.
+/// What holds of every slice of bytes.
 fn lend(bytes: &[u8]) -> &[u8]
     ensures value { result.now ≡ bytes.now }
     ensures bytes { AreBytes (Some result.now) }

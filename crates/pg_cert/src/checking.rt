@@ -25,7 +25,7 @@ use pg_pairs::{Choice, Names, Numbers, Pair, Table, View, cheapest, children, op
 use pg_schema::Schema;
 use std::alloc::{AllocError, Global};
 
-// The first child of the pair that the table lacks.
+/// The first child of the pair that the table lacks.
 fn missing_child(
     alloc: Global,
     old: &Schema,
@@ -45,7 +45,7 @@ fn missing_child(
     )
 }
 
-// Whether a bound is at most the cost; 'none' is above every cost.
+/// Whether a bound is at most the cost; 'none' is above every cost.
 fn is_within(bound: Option<u32>, cost: u32) -> bool
     ensures { result ≡ is_within bound cost }
 {
@@ -55,7 +55,7 @@ fn is_within(bound: Option<u32>, cost: u32) -> bool
     }
 }
 
-// The choices of the pair under the view.
+/// The choices of the pair under the view.
 fn choices<V: View>(
     alloc: Global,
     view: &V,
@@ -71,7 +71,7 @@ fn choices<V: View>(
     options(alloc, view, old, new, pair, bounds)
 }
 
-// Whether no choice of the pair costs less than its bound, by the cheapest of them.
+/// Whether no choice of the pair costs less than its bound, by the cheapest of them.
 fn is_cheapest_within<V: View>(
     alloc: Global,
     view: &V,
@@ -91,7 +91,7 @@ fn is_cheapest_within<V: View>(
     }
 }
 
-// The first choice of the pair that costs less than its bound, of all of them.
+/// The first choice of the pair that costs less than its bound, of all of them.
 fn first_cheaper<V: View>(
     alloc: Global,
     view: &V,
@@ -113,8 +113,8 @@ fn first_cheaper<V: View>(
     )
 }
 
-// The first choice of the pair that costs less than its bound. All are listed only where there is
-// one: of fields that meet in one oneof there are as many as pairs of them.
+/// The first choice of the pair that costs less than its bound. All are listed only where there is
+/// one: of fields that meet in one oneof there are as many as pairs of them.
 fn cheaper_choice<V: View>(
     alloc: Global,
     view: &V,
@@ -133,7 +133,7 @@ fn cheaper_choice<V: View>(
     first_cheaper(alloc, view, old, new, bounds, line)
 }
 
-// Whether the pair is as a table that covers has it; the fault that it has else.
+/// Whether the pair is as a table that covers has it; the fault that it has else.
 fn check_pair<V: View>(
     alloc: Global,
     view: &V,
@@ -161,7 +161,7 @@ fn check_pair<V: View>(
     }
 }
 
-// Whether each pair is as a table that covers has it; the first fault else.
+/// Whether each pair is as a table that covers has it; the first fault else.
 fn check_pairs<V: View>(
     alloc: Global,
     view: &V,
@@ -183,7 +183,7 @@ fn check_pairs<V: View>(
     Ok(())
 }
 
-// Whether the table covers the root; its first fault else.
+/// Whether the table covers the root; its first fault else.
 fn check_table<V: View>(
     alloc: Global,
     view: &V,
@@ -204,7 +204,7 @@ fn check_table<V: View>(
     check_pairs(alloc, view, old, new, bounds)
 }
 
-// What the root's bound shows.
+/// What the root's bound shows.
 fn bound_verdict(bound: Option<Option<u32>>) -> Verdict
     ensures { result ≡ bound_verdict bound }
 {
@@ -214,7 +214,7 @@ fn bound_verdict(bound: Option<Option<u32>>) -> Verdict
     }
 }
 
-// Whether what the certificate claims holds under the view, which need not be its own.
+/// Whether what the certificate claims holds under the view, which need not be its own.
 fn check_with<V: View>(
     alloc: Global,
     view: &V,
@@ -254,7 +254,7 @@ fn check_with<V: View>(
     }
 }
 
-// The same by the name of the view.
+/// The same by the name of the view.
 fn check_by_name<V: View>(
     alloc: Global,
     view: &V,
@@ -269,7 +269,7 @@ fn check_by_name<V: View>(
     check_with(alloc, view, old, new, certificate)
 }
 
-// Whether what the certificate claims holds under the view of that name.
+/// Whether what the certificate claims holds under the view of that name.
 fn check_under(
     alloc: Global,
     old: &Schema,

@@ -28,7 +28,7 @@ use pg_pairs::Pair;
 use pg_schema::{Schema, TypeId};
 use std::alloc::Global;
 
-// The place of the first such byte.
+/// The place of the first such byte.
 fn place_of(text: &[u8], byte: u8) -> Option<usize>
     ensures place { result ≡ position (λ b. nat_eq b byte) text.now }
     ensures inside { IfSome result (λ at. at < length text.now) }
@@ -36,7 +36,7 @@ fn place_of(text: &[u8], byte: u8) -> Option<usize>
     text.iter().position(|other| *other == byte)
 }
 
-// The word before the first such byte, and what stands behind this.
+/// The word before the first such byte, and what stands behind this.
 fn cut(text: &[u8], byte: u8) -> Option<(&[u8], &[u8])>
     ensures shorter { IfSome result (λ parts. length parts.1.now < length text.now) }
     ensures found { (word rest : List ℕ) → lacks byte word ≡ true → text.now ≡ word ++ byte ∷ rest
@@ -49,7 +49,7 @@ fn cut(text: &[u8], byte: u8) -> Option<(&[u8], &[u8])>
     }
 }
 
-// The type of that name.
+/// The type of that name.
 fn named(schema: &Schema, word: &[u8]) -> Option<TypeId>
     ensures there { IfSome result (λ id. id.index < length schema.now.types.items) }
     ensures found { (id : TypeId) → id.index < length schema.now.types.items
@@ -61,7 +61,7 @@ fn named(schema: &Schema, word: &[u8]) -> Option<TypeId>
     }
 }
 
-// The type whose name stands before the first such blank, and what stands behind this.
+/// The type whose name stands before the first such blank, and what stands behind this.
 fn read_name<'a>(schema: &Schema, text: &'a [u8], blank: u8) -> Option<(TypeId, &'a [u8])>
     requires { IsBlank blank }
     ensures shorter { IfSome result (λ parts. length parts.1.now < length text.now) }
@@ -78,8 +78,8 @@ fn read_name<'a>(schema: &Schema, text: &'a [u8], blank: u8) -> Option<(TypeId, 
     Some((id, rest))
 }
 
-// The types of a pair, whose names stand in front with a space between and that blank behind them,
-// and what stands behind this.
+/// The types of a pair, whose names stand in front with a space between and that blank behind them,
+/// and what stands behind this.
 fn read_pair<'a>(old: &Schema, new: &Schema, text: &'a [u8], blank: u8) -> Option<(Pair, &'a [u8])>
     requires { IsBlank blank }
     ensures shorter { IfSome result (λ parts. length parts.1.now < length text.now) }
@@ -99,7 +99,7 @@ fn read_pair<'a>(old: &Schema, new: &Schema, text: &'a [u8], blank: u8) -> Optio
     Some((pair, rest))
 }
 
-// The bound that a word says.
+/// The bound that a word says.
 fn bound_of(word: &[u8]) -> Option<Option<u32>>
     ensures { (bound : Option ℕ) → is_bound bound ≡ true → word.now ≡ spec.bound_word bound
         → result ≡ Some bound }
@@ -116,7 +116,7 @@ fn bound_of(word: &[u8]) -> Option<Option<u32>>
     }
 }
 
-// The bound in front, which ends its line, and what stands behind this.
+/// The bound in front, which ends its line, and what stands behind this.
 fn read_bound(text: &[u8]) -> Option<(Option<u32>, &[u8])>
     ensures shorter { IfSome result (λ parts. length parts.1.now < length text.now) }
     ensures found { (bound : Option ℕ) (rest : List ℕ) → is_bound bound ≡ true
@@ -129,7 +129,7 @@ fn read_bound(text: &[u8]) -> Option<(Option<u32>, &[u8])>
     Some((bound, rest))
 }
 
-// What stands behind that front.
+/// What stands behind that front.
 fn after<'a>(text: &'a [u8], front: &[u8]) -> Option<&'a [u8]>
     ensures only { IfSome result (λ rest. text.now ≡ front.now ++ rest.now) }
     ensures found { (rest : List ℕ) → text.now ≡ front.now ++ rest
@@ -138,8 +138,8 @@ fn after<'a>(text: &'a [u8], front: &[u8]) -> Option<&'a [u8]>
     text.strip_prefix(front)
 }
 
-// The pair and its bound in a line whose first word is read already, and what stands behind the
-// line.
+/// The pair and its bound in a line whose first word is read already, and what stands behind the
+/// line.
 fn read_line<'a>(old: &Schema, new: &Schema, text: &'a [u8]) -> Option<(PairBound, &'a [u8])>
     ensures shorter { IfSome result (λ parts. length parts.1.now < length text.now) }
     ensures there { IfSome result (λ parts. spec.IsPairOf old.now new.now parts.0.pair) }
@@ -155,7 +155,7 @@ fn read_line<'a>(old: &Schema, new: &Schema, text: &'a [u8]) -> Option<(PairBoun
     Some((PairBound { pair, bound }, rest))
 }
 
-// The pairs and their bounds in the lines in front, and what stands behind these.
+/// The pairs and their bounds in the lines in front, and what stands behind these.
 fn read_lines<'a>(
     alloc: Global,
     old: &Schema,
@@ -181,7 +181,7 @@ fn read_lines<'a>(
     Ok((bounds, left))
 }
 
-// Why hexadecimal digits aren't read.
+/// Why hexadecimal digits aren't read.
 fn hex_fault(error: FromHexError) -> CertError
     ensures { (result ≡ errors.Memory) ↔ (error ≡ OutOfMemory) }
 {
@@ -191,7 +191,7 @@ fn hex_fault(error: FromHexError) -> CertError
     }
 }
 
-// The witness that a word says.
+/// The witness that a word says.
 fn witness_of(alloc: Global, word: &[u8]) -> Result<Option<Vec<u8>>, CertError>
     ensures { (witness : Option (List ℕ)) → AreBytes witness → word.now ≡ spec.witness_word witness
         →
@@ -207,7 +207,7 @@ fn witness_of(alloc: Global, word: &[u8]) -> Result<Option<Vec<u8>>, CertError>
     }
 }
 
-// The witness in the last lines.
+/// The witness in the last lines.
 fn read_last(alloc: Global, text: &[u8]) -> Result<Option<Vec<u8>>, CertError>
     ensures { (witness : Option (List ℕ)) → AreBytes witness → text.now ≡ spec.last_text witness →
         MatchResult result (λ found. option_map (λ bytes. bytes.items) found ≡ witness)
@@ -222,7 +222,7 @@ fn read_last(alloc: Global, text: &[u8]) -> Result<Option<Vec<u8>>, CertError>
     }
 }
 
-// The table of these bounds.
+/// The table of these bounds.
 fn table_of(alloc: Global, bounds: Vec<PairBound>) -> Result<Bounds, CertError>
     ensures table { IfOk result (λ table. table ≡ bounds.items) }
     ensures refused { IfErr result (λ e. e ≡ errors.Memory ⊎ (are_bounds bounds.items ≡ false)) }
@@ -234,7 +234,7 @@ fn table_of(alloc: Global, bounds: Vec<PairBound>) -> Result<Bounds, CertError>
     }
 }
 
-// The certificate of these parts.
+/// The certificate of these parts.
 fn certificate_of(
     view: ViewName,
     root: Pair,
@@ -257,7 +257,7 @@ fn certificate_of(
     }
 }
 
-// What stands behind the heading of version 2 that names the view by names.
+/// What stands behind the heading of version 2 that names the view by names.
 fn read_names(text: &[u8]) -> Option<(Heading, &[u8])>
     ensures { (rest : List ℕ) → text.now ≡ front (headings.Second views.Names) ++ rest
         → option_map {U = Heading × List ℕ} (λ parts. (parts.0, parts.1.now)) result
@@ -269,7 +269,7 @@ fn read_names(text: &[u8]) -> Option<(Heading, &[u8])>
     }
 }
 
-// The heading of version 2 in front, and what stands behind it.
+/// The heading of version 2 in front, and what stands behind it.
 fn read_second(text: &[u8]) -> Option<(Heading, &[u8])>
     ensures { (view : ViewName) (rest : List ℕ) → text.now ≡ front (headings.Second view) ++ rest
         → option_map {U = Heading × List ℕ} (λ parts. (parts.0, parts.1.now)) result
@@ -281,7 +281,7 @@ fn read_second(text: &[u8]) -> Option<(Heading, &[u8])>
     }
 }
 
-// The heading in front, and what stands behind it and the first word of the next line.
+/// The heading in front, and what stands behind it and the first word of the next line.
 fn read_heading(text: &[u8]) -> Option<(Heading, &[u8])>
     ensures { (heading : Heading) (rest : List ℕ) → text.now ≡ front heading ++ rest
         → option_map {U = Heading × List ℕ} (λ parts. (parts.0, parts.1.now)) result
@@ -293,7 +293,7 @@ fn read_heading(text: &[u8]) -> Option<(Heading, &[u8])>
     }
 }
 
-// The certificate of the view whose lines stand behind the heading, if there is one.
+/// The certificate of the view whose lines stand behind the heading, if there is one.
 fn read_behind(
     alloc: Global,
     old: &Schema,
@@ -316,7 +316,7 @@ fn read_behind(
     certificate_of(view, root, bounds, witness)
 }
 
-// The heading and the certificate that the text spells, if it spells one.
+/// The heading and the certificate that the text spells, if it spells one.
 fn read(
     alloc: Global,
     old: &Schema,
@@ -337,7 +337,7 @@ fn read(
     Ok((heading, certificate))
 }
 
-// Why a text is refused: memory was, or the text is no certificate's.
+/// Why a text is refused: memory was, or the text is no certificate's.
 fn text_fault(error: CertError) -> CertError
     ensures { ((error ≡ errors.Memory) × (result ≡ errors.Memory))
         ⊎ ((error ≡ errors.Memory → ⊥) × (result ≡ errors.BadText)) }

@@ -17,7 +17,7 @@ use pg_pairs::{Pair, View, breaks_as_written};
 use pg_schema::Schema;
 use std::alloc::{AllocError, Global};
 
-// The encoding of a message that fits; `None` where it is too long.
+/// The encoding of a message that fits; `None` where it is too long.
 fn encoded(
     alloc: Global,
     old: &Schema,
@@ -38,8 +38,8 @@ fn encoded(
     }
 }
 
-// The message without unknown records that the old writer writes as those bytes, at any depth;
-// `None` where it writes none so.
+/// The message without unknown records that the old writer writes as those bytes, at any depth;
+/// `None` where it writes none so.
 fn read_back<'a>(
     alloc: Global,
     old: &Schema,
@@ -74,7 +74,7 @@ fn read_back<'a>(
     Ok(Some(message))
 }
 
-// Whether the bound is a number, and just so many bytes.
+/// Whether the bound is a number, and just so many bytes.
 fn has_length(bound: Option<Option<u32>>, bytes: &[u8]) -> bool
     ensures { IsTrue result ↔ HasLength bound bytes.now }
 {

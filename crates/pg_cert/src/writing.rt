@@ -13,7 +13,7 @@ use pg_pairs::Pair;
 use pg_schema::{Schema, TypeId};
 use std::alloc::{AllocError, Global};
 
-// The lines of the heading, and the first word of the next.
+/// The lines of the heading, and the first word of the next.
 fn start_text(alloc: Global, heading: Heading) -> Result<String, AllocError>
     ensures { IfOk result (λ text. string_bytes text
         ≡ spec.heading_text heading ++ codes "root") }
@@ -29,7 +29,7 @@ fn start_text(alloc: Global, heading: Heading) -> Result<String, AllocError>
     }
 }
 
-// A space and the full name of the type.
+/// A space and the full name of the type.
 fn push_name(text: &mut String, schema: &Schema, id: TypeId) -> Result<(), AllocError>
     ensures { OnOk result (string_bytes text.new
         ≡ string_bytes text.old ++ spec.spaced_word (spec.names_of schema.now id)) }
@@ -41,7 +41,7 @@ fn push_name(text: &mut String, schema: &Schema, id: TypeId) -> Result<(), Alloc
     }
 }
 
-// The names of both types, each behind a space.
+/// The names of both types, each behind a space.
 fn push_pair(text: &mut String, old: &Schema, new: &Schema, pair: Pair) -> Result<(), AllocError>
     ensures { OnOk result (string_bytes text.new
         ≡ string_bytes text.old ++ spec.pair_words (spec.names_of old.now)
@@ -51,7 +51,7 @@ fn push_pair(text: &mut String, old: &Schema, new: &Schema, pair: Pair) -> Resul
     push_name(text, new, pair.new)
 }
 
-// A bound behind a space, and the line's end.
+/// A bound behind a space, and the line's end.
 fn push_bound(text: &mut String, bound: Option<u32>) -> Result<(), AllocError>
     ensures { OnOk result (string_bytes text.new
         ≡ string_bytes text.old ++ spec.spaced (spec.bound_word bound ∷ [])) }
@@ -67,7 +67,7 @@ fn push_bound(text: &mut String, bound: Option<u32>) -> Result<(), AllocError>
     }
 }
 
-// The line of a pair and its bound.
+/// The line of a pair and its bound.
 fn push_line(
     text: &mut String,
     old: &Schema,
@@ -83,7 +83,7 @@ fn push_line(
     push_bound(text, line.bound)
 }
 
-// The lines of all pairs.
+/// The lines of all pairs.
 fn push_lines(
     text: &mut String,
     old: &Schema,
@@ -102,7 +102,7 @@ fn push_lines(
     Ok(())
 }
 
-// The line of the witness, and the last one.
+/// The line of the witness, and the last one.
 fn push_last(alloc: Global, text: &mut String, witness: Option<&[u8]>) -> Result<(), AllocError>
     ensures { OnOk result (string_bytes text.new
         ≡ string_bytes text.old ++ spec.last_text (option_copied witness.entry)) }

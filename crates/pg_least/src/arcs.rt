@@ -25,7 +25,7 @@ pub(crate) struct Arc {
     pub edge: Edge,
 }
 
-// A place of each pair.
+/// A place of each pair.
 fn places_of(alloc: Global, pairs: &[Pair]) -> Result<BTreeMap<(u32, u32), usize>, AllocError>
     ensures { IfOk result (ArePlaces pairs.now (length pairs.now)) }
 {
@@ -37,7 +37,7 @@ fn places_of(alloc: Global, pairs: &[Pair]) -> Result<BTreeMap<(u32, u32), usize
     Ok(places)
 }
 
-// The place of a pair that has one.
+/// The place of a pair that has one.
 fn place_of(places: &BTreeMap<(u32, u32), usize>, pair: Pair) -> usize
     requires { is_some (get by_indices places.now (pair.old.index, pair.new.index)) ≡ true }
     ensures { get by_indices places.now (pair.old.index, pair.new.index) ≡ Some result }
@@ -49,7 +49,7 @@ fn place_of(places: &BTreeMap<(u32, u32), usize>, pair: Pair) -> usize
     }
 }
 
-// Puts the edges of a place's pair behind the arcs.
+/// Puts the edges of a place's pair behind the arcs.
 fn add_arcs(
     arcs: &mut Vec<Arc>,
     places: &BTreeMap<(u32, u32), usize>,
@@ -77,7 +77,7 @@ fn add_arcs(
     Ok(())
 }
 
-// The edges of those pairs in their order, with the places of the pairs that they lead from and to.
+/// The edges of those pairs in their order, with the places of the pairs that they lead from and to.
 fn arcs_in_order<G: Prices>(
     alloc: Global,
     graph: &G,

@@ -13,7 +13,7 @@ use pg_cert::{Bounds, BoundsError, PairBound};
 use pg_pairs::{Pair, Prices, Work, reached_pairs};
 use std::alloc::{AllocError, Global};
 
-// Puts what the pair costs without a child behind the other costs.
+/// Puts what the pair costs without a child behind the other costs.
 fn add_base<G: Prices>(
     alloc: Global,
     graph: &G,
@@ -32,7 +32,7 @@ fn add_base<G: Prices>(
     Ok(())
 }
 
-// What each pair costs without a child.
+/// What each pair costs without a child.
 fn bases_of<G: Prices>(
     alloc: Global,
     graph: &G,
@@ -51,7 +51,7 @@ fn bases_of<G: Prices>(
     Ok(costs)
 }
 
-// The table of those pairs with those costs.
+/// The table of those pairs with those costs.
 fn table_of(alloc: Global, pairs: &[Pair], costs: &[Option<u32>]) -> Result<Bounds, AllocError>
     requires once { distinct pairs.now ≡ pairs.now }
     requires long { length costs.now ≡ length pairs.now }
@@ -73,7 +73,7 @@ fn table_of(alloc: Global, pairs: &[Pair], costs: &[Option<u32>]) -> Result<Boun
     }
 }
 
-// How many costs are numbers.
+/// How many costs are numbers.
 fn count_numbers(costs: &[Option<u32>]) -> u64
     ensures { result ≡ length (filter is_some costs.now) }
 {

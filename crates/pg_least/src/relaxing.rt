@@ -15,7 +15,7 @@ use crate::queue::Queue;
 use pg_pairs::{Prices, Work};
 use std::alloc::{AllocError, Global};
 
-// Whether there is a number that is no more.
+/// Whether there is a number that is no more.
 fn is_no_more(bound: Option<u32>, cost: u32) -> bool
     ensures no_more { result ≡ true → IsNoMore bound (Some cost) }
     ensures less { result ≡ false → IsLess cost bound }
@@ -26,7 +26,7 @@ fn is_no_more(bound: Option<u32>, cost: u32) -> bool
     }
 }
 
-// Lowers the cost of the arc's place to what the arc costs at that bound, where this is less.
+/// Lowers the cost of the arc's place to what the arc costs at that bound, where this is less.
 fn relax<G: Prices>(
     graph: &G,
     arc: &Arc,
@@ -53,7 +53,7 @@ fn relax<G: Prices>(
     queue.push(cost, arc.from)
 }
 
-// The same for each of those arcs.
+/// The same for each of those arcs.
 fn relax_all<G: Prices>(
     graph: &G,
     arcs: &[Arc],
@@ -81,7 +81,7 @@ fn relax_all<G: Prices>(
     Ok(())
 }
 
-// Whether a place of that cost still waits.
+/// Whether a place of that cost still waits.
 fn is_live(costs: &[Option<u32>], settled: &[bool], cost: u32, at: usize) -> bool
     requires { length settled.now ≡ length costs.now }
     ensures within { result ≡ true → at < length costs.now }
@@ -93,7 +93,7 @@ fn is_live(costs: &[Option<u32>], settled: &[bool], cost: u32, at: usize) -> boo
     at < costs.len() && !settled[at] && costs[at] == Some(cost)
 }
 
-// Takes the place of the least cost out of those that wait.
+/// Takes the place of the least cost out of those that wait.
 fn next_live(queue: &mut Queue, costs: &[Option<u32>], settled: &[bool]) -> Option<(u32, usize)>
     requires { length settled.now ≡ length costs.now }
     ensures within { IfSome result (λ e. e.1 < length costs.now) }
@@ -117,7 +117,7 @@ fn next_live(queue: &mut Queue, costs: &[Option<u32>], settled: &[bool]) -> Opti
     None
 }
 
-// All places that have a cost.
+/// All places that have a cost.
 fn waiting(alloc: Global, costs: &[Option<u32>]) -> Result<Queue, AllocError>
     ensures { IfOk result (λ queue. (i c : ℕ) → cost_at costs.now i ≡ Some c
         → waits (heap_items queue.heap) c i ≡ true) }

@@ -35,7 +35,7 @@ pub struct Found {
     pub witness: Option<Message>,
 }
 
-// The bytes of a message that an encoding has room for.
+/// The bytes of a message that an encoding has room for.
 fn written(alloc: Global, schema: &Schema, message: &Message) -> Result<Vec<u8>, AllocError>
     requires fits { Fits (shape_of schema.now) message.now }
     requires room { length (enc (shape_of schema.now) (type_of message.now)
@@ -50,7 +50,7 @@ fn written(alloc: Global, schema: &Schema, message: &Message) -> Result<Vec<u8>,
     }
 }
 
-// The certificate of a root whose bound is a number.
+/// The certificate of a root whose bound is a number.
 fn broken<V: View>(
     alloc: Global,
     view: &V,
@@ -90,7 +90,7 @@ fn broken<V: View>(
     }
 }
 
-// The certificate of a root that no message breaks.
+/// The certificate of a root that no message breaks.
 fn unbroken<V: View>(view: &V, old: &Schema, new: &Schema, root: Pair, bounds: Bounds) -> Found
     requires table { IsTableOf (seen_by V.View view.now old.now new.now) (shape_of old.now)
         (shape_of new.now) root bounds }
@@ -118,7 +118,7 @@ fn unbroken<V: View>(view: &V, old: &Schema, new: &Schema, root: Pair, bounds: B
     }
 }
 
-// The certificate of a root with that table.
+/// The certificate of a root with that table.
 fn certified<V: View>(
     alloc: Global,
     view: &V,
@@ -144,7 +144,7 @@ fn certified<V: View>(
     }
 }
 
-// The table of the pair under the view, least first, with the work that it took.
+/// The table of the pair under the view, least first, with the work that it took.
 fn settled<V: View>(
     alloc: Global,
     view: &V,
@@ -168,7 +168,7 @@ fn settled<V: View>(
     settle(alloc, &graph, root)
 }
 
-// What a search finds under the view, with the work that its table took.
+/// What a search finds under the view, with the work that its table took.
 fn found_counted<V: View>(
     alloc: Global,
     view: &V,

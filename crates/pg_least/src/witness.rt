@@ -28,7 +28,7 @@ pub struct Step {
     pub choice: Choice,
 }
 
-// The step by the cheapest choice of a pair whose bound is a number.
+/// The step by the cheapest choice of a pair whose bound is a number.
 fn step_at<V: View>(
     alloc: Global,
     view: &V,
@@ -53,7 +53,7 @@ fn step_at<V: View>(
     }
 }
 
-// The steps from a pair down, and the last of them, whose choice has no child.
+/// The steps from a pair down, and the last of them, whose choice has no child.
 fn steps_down<V: View>(
     alloc: Global,
     view: &V,
@@ -84,7 +84,7 @@ fn steps_down<V: View>(
     Ok((steps, last))
 }
 
-// The message of a step's choice, round that of the choice's child. Refused only where memory is.
+/// The message of a step's choice, round that of the choice's child. Refused only where memory is.
 fn carried<V: View>(
     alloc: Global,
     view: &V,
@@ -105,7 +105,7 @@ fn carried<V: View>(
     carry(alloc, view, old, new, step.pair, &step.choice, child)
 }
 
-// The message of the first step's choice, built from the last step's out.
+/// The message of the first step's choice, built from the last step's out.
 fn built<V: View>(
     alloc: Global,
     view: &V,
@@ -156,7 +156,7 @@ pub(crate) fn witness<V: View>(
     built(alloc, view, old, new, steps, last)
 }
 
-// The path of the witness of a certificate that a search under the view answers.
+/// The path of the witness of a certificate that a search under the view answers.
 fn path_with<V: View>(
     alloc: Global,
     view: &V,
@@ -178,7 +178,7 @@ fn path_with<V: View>(
     Ok(steps)
 }
 
-// The same by the name of the view.
+/// The same by the name of the view.
 fn path_by_name<V: View>(
     alloc: Global,
     view: &V,
@@ -197,7 +197,7 @@ fn path_by_name<V: View>(
     path_with(alloc, view, old, new, certificate)
 }
 
-// The path of the witness of a certificate that a search under the view of that name answers.
+/// The path of the witness of a certificate that a search under the view of that name answers.
 fn path_under(
     alloc: Global,
     old: &Schema,

@@ -24,7 +24,7 @@ use pg_schema::{Element, Field, Schema, TypeId};
 use pg_wire::Record;
 use std::alloc::{AllocError, Global};
 
-// Whether the view finds the number alike in the two enums; one that isn't there has no say.
+/// Whether the view finds the number alike in the two enums; one that isn't there has no say.
 fn is_alike<V: View>(sides: &Sides<'_, V>, fields: &Beside<'_>, value: &ValueRef<'_>) -> bool
     requires key { IsKey value.now }
     requires fits { ItemFits (shape_of sides.now.old.now) fields.now.old.now.element value.now }
@@ -43,7 +43,7 @@ fn is_alike<V: View>(sides: &Sides<'_, V>, fields: &Beside<'_>, value: &ValueRef
     }
 }
 
-// Adds the bytes of a record whose number the type hasn't.
+/// Adds the bytes of a record whose number the type hasn't.
 fn push_outside(
     bytes: &mut Vec<u8>,
     schema: &Schema,
@@ -59,7 +59,7 @@ fn push_outside(
     }
 }
 
-// The bytes of the records whose numbers the type of the message hasn't.
+/// The bytes of the records whose numbers the type of the message hasn't.
 fn outside_bytes(
     alloc: Global,
     schema: &Schema,
@@ -78,7 +78,7 @@ fn outside_bytes(
     Ok(bytes)
 }
 
-// Whether the reader keeps just what was written of the fields that its type hasn't.
+/// Whether the reader keeps just what was written of the fields that its type hasn't.
 #[tactic(auto, using(crate::proofs::SameLengths::unshared_within))]
 fn is_same_outside<V: View>(
     alloc: Global,
@@ -102,7 +102,7 @@ fn is_same_outside<V: View>(
     }
 }
 
-// Whether the new field's item is what the old one's means.
+/// Whether the new field's item is what the old one's means.
 #[cycle(same)]
 fn is_same_item<V: View>(
     alloc: Global,
@@ -126,7 +126,7 @@ fn is_same_item<V: View>(
     }
 }
 
-// Whether the new field's content shows what the old one's means.
+/// Whether the new field's content shows what the old one's means.
 #[cycle(same)]
 fn is_same_content<V: View>(
     alloc: Global,
@@ -164,8 +164,8 @@ fn is_same_content<V: View>(
     Ok(true)
 }
 
-// Whether the new type's field of the number shows what the old field means; where there is none,
-// nothing is shown.
+/// Whether the new type's field of the number shows what the old field means; where there is none,
+/// nothing is shown.
 #[cycle(same)]
 fn is_same_field<V: View>(
     alloc: Global,
@@ -202,7 +202,7 @@ fn is_same_field<V: View>(
     }
 }
 
-// Whether each of the old fields is shown as it is meant.
+/// Whether each of the old fields is shown as it is meant.
 #[cycle(same)]
 fn are_same_fields<V: View>(
     alloc: Global,

@@ -23,7 +23,7 @@ pub(crate) fn varint_bytes(value: u64) -> u64
     varint_len(value) as u64
 }
 
-// The bytes of a field's tag.
+/// The bytes of a field's tag.
 fn tag_bytes(number: u32) -> u64
     requires { number < 2 ^ 29 }
     ensures bytes { (wire : WireType) → result ≡ length (tag number wire) }

@@ -12,7 +12,7 @@ use pg_schema::{Element, Field, Presence, Schema, TypeId};
 use std::alloc::{AllocError, Global};
 use std::collections::BTreeSet;
 
-// The pair of two elements that are messages.
+/// The pair of two elements that are messages.
 fn message_pair(old: Element, new: Element) -> Option<Pair>
     ensures pair { result ≡ child_pair old new }
     ensures list { option_to_list result ≡ message_pair old new }
@@ -23,7 +23,7 @@ fn message_pair(old: Element, new: Element) -> Option<Pair>
     }
 }
 
-// The child of two fields: messages in both, in maps under like keys.
+/// The child of two fields: messages in both, in maps under like keys.
 fn field_child(old: &Field, new: &Field) -> Option<Pair>
     ensures { option_to_list result ≡ field_children (field_shape old.now) (field_shape new.now) }
 {
@@ -47,7 +47,7 @@ pub(crate) fn child_beside(new: &Schema, type_id: TypeId, field: &Field) -> Opti
     field_child(field, new.field(type_id, field.number)?)
 }
 
-// The children of those fields, each once, where it first stands.
+/// The children of those fields, each once, where it first stands.
 fn children_of(
     alloc: Global,
     new: &Schema,
@@ -88,8 +88,8 @@ pub fn children(
     }
 }
 
-// Whether a choice of that case and part has a child: an item that is one, or the value of an
-// entry.
+/// Whether a choice of that case and part has a child: an item that is one, or the value of an
+/// entry.
 fn has_child(case: u8, part: u32) -> bool
     ensures { result ≡ has_child case part }
 {

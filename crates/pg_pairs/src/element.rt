@@ -7,7 +7,7 @@ use crate::gap_kind::Gap;
 use crate::scalar_gap::gap;
 use pg_schema::{Element, Scalar};
 
-// Whether the scalars' items are of one kind and stand in one wire type.
+/// Whether the scalars' items are of one kind and stand in one wire type.
 fn scalars_are_like(old: Scalar, new: Scalar) -> bool
     ensures { result ≡ like (Element.Scalar old) (Element.Scalar new) }
 {

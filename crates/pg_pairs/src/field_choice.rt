@@ -28,7 +28,7 @@ pub(crate) fn zero_counts(old: &Field, new: &Field) -> bool
     }
 }
 
-// The least content of unlike fields that isn't kept.
+/// The least content of unlike fields that isn't kept.
 fn unlike_cost(old: &Field, new: &Field) -> u64
     requires { old.now.number < 2 ^ 29 }
     ensures bytes { result ≡ unlike_cost (field_shape old.now) (field_shape new.now) }
@@ -41,7 +41,7 @@ fn unlike_cost(old: &Field, new: &Field) -> u64
     }
 }
 
-// A list where the new type has one item.
+/// A list where the new type has one item.
 fn singular_cost(old: &Field, new: &Field) -> Option<u64>
     requires { old.now.number < 2 ^ 29 }
     ensures bytes { result ≡ singular_cost (field_shape old.now) (field_shape new.now) }
@@ -57,7 +57,7 @@ fn singular_cost(old: &Field, new: &Field) -> Option<u64>
     }
 }
 
-// A content of one item with that body, where there is one.
+/// A content of one item with that body, where there is one.
 fn item_cost(field: &Field, body: Option<u64>) -> Option<u64>
     requires number { field.now.number < 2 ^ 29 }
     requires body { IfSome body (λ body. body < 2 ^ 33) }
@@ -66,7 +66,7 @@ fn item_cost(field: &Field, body: Option<u64>) -> Option<u64>
     Some(one_item(field, body?))
 }
 
-// An entry whose key has that body, where there is one, with a least value.
+/// An entry whose key has that body, where there is one, with a least value.
 fn key_cost(field: &Field, body: Option<u64>) -> Option<u64>
     requires number { field.now.number < 2 ^ 29 }
     requires body { IfSome body (λ body. body < 2 ^ 33) }
@@ -111,7 +111,7 @@ pub(crate) struct Between<'a, V, T> {
     pub new: &'a Schema,
 }
 
-// The choices of a field that is no map in either type.
+/// The choices of a field that is no map in either type.
 fn offer_plain<V: View, T: Table>(
     between: &Between<'_, V, T>,
     choices: &mut Vec<Choice>,
@@ -138,7 +138,7 @@ fn offer_plain<V: View, T: Table>(
     offer(choices, number, 4, 0, singular_cost(old, new))
 }
 
-// The choices of a field that is a map in both types, with those keys.
+/// The choices of a field that is a map in both types, with those keys.
 fn offer_map<V: View, T: Table>(
     between: &Between<'_, V, T>,
     choices: &mut Vec<Choice>,

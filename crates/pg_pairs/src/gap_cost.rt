@@ -18,7 +18,7 @@ use crate::view::View;
 use pg_dyn::complement_64;
 use pg_schema::{Element, EnumId, Scalar, Schema};
 
-// The body of the gap's item between two scalar types.
+/// The body of the gap's item between two scalar types.
 fn scalar_gap_body(old: Scalar, new: Scalar) -> Option<u64>
     ensures body { result ≡ option_map (body_length (scalar_form old))
         (item_of (scalar_form old) (gap old new)) }
@@ -30,7 +30,7 @@ fn scalar_gap_body(old: Scalar, new: Scalar) -> Option<u64>
     }
 }
 
-// The bytes of an enum's number, which are few.
+/// The bytes of an enum's number, which are few.
 fn number_bytes(number: i32) -> u64
     ensures bytes { result ≡ length (varint (twos_complement (2 ^ 64) number)) }
     ensures few { result ≤ 10 }
@@ -38,7 +38,7 @@ fn number_bytes(number: i32) -> u64
     varint_bytes(complement_64(i128::from(number)))
 }
 
-// The body of the least number that isn't alike in two enums.
+/// The body of the least number that isn't alike in two enums.
 #[tactic(auto, unfolding(pg_dyn::specs::Coding::word_bytes))]
 fn enum_gap_body<V: View>(
     view: &V,

@@ -38,7 +38,7 @@ pub(crate) struct Sides<'a, V> {
     pub new: &'a Schema,
 }
 
-// Such an item of bytes, or of a text.
+/// Such an item of bytes, or of a text.
 fn small_bytes(alloc: Global, small: Small) -> Result<Vec<u8>, AllocError>
     ensures { IfOk result (λ bytes. Bytes bytes.items ≡ leaf_by small Raw) }
 {
@@ -107,7 +107,7 @@ pub(crate) fn child_item(
     Ok(Some(Value::Msg(Box::new(alloc, child)?)))
 }
 
-// The item of the gap between two scalar types, where there is one.
+/// The item of the gap between two scalar types, where there is one.
 fn scalar_gap_item(alloc: Global, old: Scalar, new: Scalar) -> Result<Option<Value>, AllocError>
     ensures item { IfOk result (λ item. option_map leaf_of item
         ≡ item_of (scalar_form old) (gap old new)) }
@@ -126,7 +126,7 @@ fn scalar_gap_item(alloc: Global, old: Scalar, new: Scalar) -> Result<Option<Val
     }
 }
 
-// The least number of an old enum that isn't alike in the new one.
+/// The least number of an old enum that isn't alike in the new one.
 fn enum_gap_item<V: View>(
     view: &V,
     old: &Schema,

@@ -17,7 +17,7 @@ use crate::member::same_oneof;
 use pg_schema::Field;
 use std::alloc::AllocError;
 
-// The choice of two fields of one new oneof, which isn't one where they are in one old oneof too.
+/// The choice of two fields of one new oneof, which isn't one where they are in one old oneof too.
 fn offer_meeting(choices: &mut Vec<Choice>, first: &Field, second: &Field) -> Result<(), AllocError>
     requires first { first.now.number < 2 ^ 29 }
     requires second { second.now.number < 2 ^ 29 }
@@ -34,8 +34,8 @@ fn offer_meeting(choices: &mut Vec<Choice>, first: &Field, second: &Field) -> Re
     offer(choices, first.number, 6, second.number, Some(cost))
 }
 
-// The place that a field goes on to behind a later one: where this is in its old oneof, past that
-// oneof.
+/// The place that a field goes on to behind a later one: where this is in its old oneof, past that
+/// oneof.
 fn behind(field: &Field, later: &Field, next: usize, other: usize) -> usize
     ensures { result ≡ (if same_oneof field.now.oneof later.now.oneof then other else next) }
 {

@@ -19,7 +19,7 @@ use pg_schema::{Field, Schema, TypeId};
 use std::alloc::{AllocError, Global};
 use std::collections::HashMap;
 
-// The first of those choices that cost the least.
+/// The first of those choices that cost the least.
 fn first_cheapest(choices: &[Choice]) -> Option<Choice>
     ensures { result ≡ cheapest choices.now }
 {
@@ -33,7 +33,7 @@ fn first_cheapest(choices: &[Choice]) -> Option<Choice>
     found
 }
 
-// A former choice, or a later one that costs less.
+/// A former choice, or a later one that costs less.
 fn first_of(former: Option<Choice>, later: Option<Choice>) -> Option<Choice>
     ensures { result ≡ first_of former later }
 {
@@ -46,8 +46,8 @@ fn first_of(former: Option<Choice>, later: Option<Choice>) -> Option<Choice>
     }
 }
 
-// The cheapest choice of those fields. They are gone through from the last on: of all choices of a
-// field with later ones of its new oneof the cheapest is enough.
+/// The cheapest choice of those fields. They are gone through from the last on: of all choices of a
+/// field with later ones of its new oneof the cheapest is enough.
 fn cheapest_of<V: View, T: Table>(
     alloc: Global,
     between: &Between<'_, V, T>,

@@ -34,7 +34,7 @@ pub(crate) struct Two {
     pub other: Option<Member>,
 }
 
-// What a field is met as.
+/// What a field is met as.
 fn member_of(field: &Field) -> Member
     requires { field.now.number < 2 ^ 29 }
     ensures { result ≡ member_of (field_shape field.now) }
@@ -46,7 +46,7 @@ fn member_of(field: &Field) -> Member
     }
 }
 
-// Of equal costs the former.
+/// Of equal costs the former.
 fn lesser(former: Member, later: Option<Member>) -> Member
     ensures { result ≡ lesser former later }
 {
@@ -56,7 +56,7 @@ fn lesser(former: Member, later: Option<Member>) -> Member
     }
 }
 
-// The one of the two that isn't in that old oneof.
+/// The one of the two that isn't in that old oneof.
 fn beside(two: Option<Two>, oneof: Option<u32>) -> Option<Member>
     ensures { result ≡ beside two oneof }
 {
@@ -67,7 +67,7 @@ fn beside(two: Option<Two>, oneof: Option<u32>) -> Option<Member>
     Some(two.first)
 }
 
-// The two with one more field before the others.
+/// The two with one more field before the others.
 fn with_member(two: Option<Two>, member: Member) -> Two
     ensures met { IsOrdered two → (old : Option ℕ)
         → beside (Some result) old ≡ (if not (same_oneof old member.oneof) then Some
@@ -95,7 +95,7 @@ fn with_member(two: Option<Two>, member: Member) -> Two
     }
 }
 
-// Puts the choice of a field with the one that it meets behind the others, where it meets one.
+/// Puts the choice of a field with the one that it meets behind the others, where it meets one.
 fn offer_with(
     choices: &mut Vec<Choice>,
     member: &Member,

@@ -34,8 +34,8 @@ pub(crate) fn new_oneofs(
     Ok(oneofs)
 }
 
-// The next place in the oneof, of those that `heads` keeps; the oneof's first place is then this
-// one.
+/// The next place in the oneof, of those that `heads` keeps; the oneof's first place is then this
+/// one.
 fn link(
     heads: &mut HashMap<u32, usize>,
     oneof: Option<u32>,
@@ -79,7 +79,7 @@ pub(crate) fn same_oneof(first: Option<u32>, second: Option<u32>) -> bool
     }
 }
 
-// Leads the field at the place past the next one, where this is in its old oneof.
+/// Leads the field at the place past the next one, where this is in its old oneof.
 fn lead_past(others: &mut Vec<usize>, list: &[Field], at: usize)
     requires at { at < length list.now }
     requires long { vec_len others.old ≡ length list.now }

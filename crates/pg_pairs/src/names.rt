@@ -17,14 +17,14 @@ use pg_schema::{EnumType, EnumValue};
 #[derive(Clone, Copy, Debug)]
 pub struct Names;
 
-// The word that stands in messages for the number of an enum.
+/// The word that stands in messages for the number of an enum.
 fn number_word(number: i32) -> u64
     ensures { result ≡ number_word number }
 {
     complement_64(i128::from(number))
 }
 
-// Of two numbers the one with the lesser word, the former where they are equal.
+/// Of two numbers the one with the lesser word, the former where they are equal.
 fn lesser_of(former: Option<i32>, later: Option<i32>) -> Option<i32>
     ensures { result ≡ lesser_of former later }
 {
@@ -37,7 +37,7 @@ fn lesser_of(former: Option<i32>, later: Option<i32>) -> Option<i32>
     }
 }
 
-// Whether one of these values has the number.
+/// Whether one of these values has the number.
 fn has_number(values: &[EnumValue], number: i32) -> bool
     ensures { result ≡ declares (map named values.now) number }
 {
@@ -49,7 +49,7 @@ fn has_number(values: &[EnumValue], number: i32) -> bool
     false
 }
 
-// Whether the value has the number and the name.
+/// Whether the value has the number and the name.
 fn is_named(value: &EnumValue, number: i32, name: &str) -> bool
     ensures { result ≡ (int_eq value.now.number number
         && bytes_eq (string_bytes value.now.name) name.now) }
@@ -57,7 +57,7 @@ fn is_named(value: &EnumValue, number: i32, name: &str) -> bool
     value.number == number && value.name.as_str() == name
 }
 
-// Whether one of these values has the number and the name.
+/// Whether one of these values has the number and the name.
 fn has_name(values: &[EnumValue], number: i32, name: &str) -> bool
     ensures { result ≡ has_name (map named values.now) number name.now }
 {
@@ -69,21 +69,21 @@ fn has_name(values: &[EnumValue], number: i32, name: &str) -> bool
     false
 }
 
-// Whether these values have the number of this one, but not its name for it.
+/// Whether these values have the number of this one, but not its name for it.
 fn is_missing(others: &[EnumValue], value: &EnumValue) -> bool
     ensures { result ≡ is_missing (map named others.now) (named value.now) }
 {
     has_number(others, value.number) && !has_name(others, value.number, &value.name)
 }
 
-// Whether the words of the numbers rise: none is lesser than the one before.
+/// Whether the words of the numbers rise: none is lesser than the one before.
 fn rise_by_word(values: &[EnumValue]) -> bool
     ensures { result ≡ true → RiseByWord values.now }
 {
     values.is_sorted_by_key(|value| number_word(value.number))
 }
 
-// The values with the number of this one, which stand together where the words of the numbers rise.
+/// The values with the number of this one, which stand together where the words of the numbers rise.
 fn values_beside<'a>(values: &'a [EnumValue], value: &EnumValue) -> &'a [EnumValue]
     requires { RiseByWord values.now }
     ensures { is_missing (map named result.now) (named value.now)
@@ -96,7 +96,7 @@ fn values_beside<'a>(values: &'a [EnumValue], value: &EnumValue) -> &'a [EnumVal
     &rest[..count]
 }
 
-// Whether the value at the place has the number.
+/// Whether the value at the place has the number.
 fn has_number_at(values: &[EnumValue], place: usize, number: i32) -> bool {
     match values.get(place) {
         Some(value) => value.number == number,
@@ -104,7 +104,7 @@ fn has_number_at(values: &[EnumValue], place: usize, number: i32) -> bool {
     }
 }
 
-// Whether the value at the place has the number and the name of this one.
+/// Whether the value at the place has the number and the name of this one.
 fn stands_at(others: &[EnumValue], place: usize, value: &EnumValue) -> bool
     ensures { result ≡ true → is_missing (map named others.now) (named value.now) ≡ false }
 {
@@ -114,8 +114,8 @@ fn stands_at(others: &[EnumValue], place: usize, value: &EnumValue) -> bool
     }
 }
 
-// Where the number stands among the values: behind the place if it does, else where it is first.
-// Of a number that they lack this says nothing.
+/// Where the number stands among the values: behind the place if it does, else where it is first.
+/// Of a number that they lack this says nothing.
 fn place_of(values: &[EnumValue], rise: bool, number: i32, place: usize) -> usize {
     let next = place.saturating_add(1);
     if has_number_at(values, next, number) {
@@ -131,8 +131,8 @@ fn place_of(values: &[EnumValue], rise: bool, number: i32, place: usize) -> usiz
         .unwrap_or(place)
 }
 
-// The same as `is_missing`, sought first at the place, and then by halving where the words of the
-// others' numbers rise.
+/// The same as `is_missing`, sought first at the place, and then by halving where the words of the
+/// others' numbers rise.
 fn is_missing_beside(others: &[EnumValue], rise: bool, place: usize, value: &EnumValue) -> bool
     requires { rise ≡ true → RiseByWord others.now }
     ensures { result ≡ is_missing (map named others.now) (named value.now) }
@@ -146,7 +146,7 @@ fn is_missing_beside(others: &[EnumValue], rise: bool, place: usize, value: &Enu
     is_missing(others, value)
 }
 
-// Whether each name that these values give the number is one that the others give it.
+/// Whether each name that these values give the number is one that the others give it.
 fn names_within(values: &[EnumValue], others: &[EnumValue], number: i32) -> bool
     ensures { result ≡ names_within (map named values.now) (map named others.now) number }
 {
@@ -158,7 +158,7 @@ fn names_within(values: &[EnumValue], others: &[EnumValue], number: i32) -> bool
     true
 }
 
-// Whether the number counts: 0 does only where `zero` says so.
+/// Whether the number counts: 0 does only where `zero` says so.
 #[tactic(auto, using(crate::proofs::LeastByName::counts_so))]
 fn counts(number: i32, zero: bool) -> bool
     ensures { result ≡ number_counts zero number }
@@ -166,7 +166,7 @@ fn counts(number: i32, zero: bool) -> bool
     zero || number != 0
 }
 
-// Whether the number would be the lesser one.
+/// Whether the number would be the lesser one.
 fn is_lesser(number: i32, least: Option<i32>) -> bool
     ensures lesser { result ≡ true → lesser_of least (Some number) ≡ Some number }
     ensures other { result ≡ false → lesser_of least (Some number) ≡ least }
@@ -177,9 +177,9 @@ fn is_lesser(number: i32, least: Option<i32>) -> bool
     }
 }
 
-// The least number that counts and that these values give a name that the others don't give it,
-// though they have it. The values of two enums mostly stand in one order, so a name is sought first
-// behind the place of the last one.
+/// The least number that counts and that these values give a name that the others don't give it,
+/// though they have it. The values of two enums mostly stand in one order, so a name is sought first
+/// behind the place of the last one.
 fn least_missing(values: &[EnumValue], others: &[EnumValue], zero: bool) -> Option<i32>
     ensures { result ≡ least_number (missing_numbers zero (map named values.now)
         (map named others.now)) }

@@ -17,7 +17,7 @@ use crate::view::View;
 use pg_schema::{Field, Schema, TypeId};
 use std::alloc::{AllocError, Global};
 
-// The choices of those fields.
+/// The choices of those fields.
 fn choices_of<V: View, T: Table>(
     alloc: Global,
     between: &Between<'_, V, T>,

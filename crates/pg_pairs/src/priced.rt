@@ -46,7 +46,7 @@ impl<'a, V> Priced<'a, V> {
     }
 }
 
-// What of a field with that presence an edge goes by.
+/// What of a field with that presence an edge goes by.
 fn part_of(presence: Presence) -> Part
     ensures { result ≡ part_of presence }
 {
@@ -56,7 +56,7 @@ fn part_of(presence: Presence) -> Part
     }
 }
 
-// The edges of those fields of the pair.
+/// The edges of those fields of the pair.
 fn edges_of(
     alloc: Global,
     new: &Schema,
@@ -82,7 +82,7 @@ fn edges_of(
     Ok(edges)
 }
 
-// What the edge costs at that bound, where an encoding may have so many bytes.
+/// What the edge costs at that bound, where an encoding may have so many bytes.
 fn price(old: &Schema, edge: &Edge, bound: u32) -> Option<u32>
     ensures { result ≡ edge_price (shape_of old.now) edge.now bound }
 {
@@ -96,7 +96,7 @@ fn price(old: &Schema, edge: &Edge, bound: u32) -> Option<u32>
     Some(cost as u32)
 }
 
-// The cost of a choice, where there is one.
+/// The cost of a choice, where there is one.
 fn cost_of(choice: Option<Choice>) -> Option<u32>
     ensures { result ≡ option_map (λ c. c.cost) choice }
 {

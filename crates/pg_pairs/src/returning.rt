@@ -29,7 +29,7 @@ fn is_packed(presence: Presence) -> bool
     }
 }
 
-// Whether the field is singular, and packed in the new type.
+/// Whether the field is singular, and packed in the new type.
 fn becomes_packed(new: &Schema, type_id: TypeId, field: &Field) -> bool
     ensures { result ≡ becomes_packed (field_shape field.now)
         (field_at (fields (shape_of new.now) type_id) field.now.number) }
@@ -40,7 +40,7 @@ fn becomes_packed(new: &Schema, type_id: TypeId, field: &Field) -> bool
     }
 }
 
-// Whether one of those fields is.
+/// Whether one of those fields is.
 fn one_becomes_packed(new: &Schema, type_id: TypeId, list: &[Field]) -> bool
     ensures { result ≡ list_any (λ f. becomes_packed (field_shape f)
         (field_at (fields (shape_of new.now) type_id) f.number)) list.now }
@@ -53,7 +53,7 @@ fn one_becomes_packed(new: &Schema, type_id: TypeId, list: &[Field]) -> bool
     false
 }
 
-// Whether a field of the pair is.
+/// Whether a field of the pair is.
 fn packs(old: &Schema, new: &Schema, pair: Pair) -> bool
     ensures { result ≡ packs (shape_of old.now) (shape_of new.now) pair }
 {
@@ -63,7 +63,7 @@ fn packs(old: &Schema, new: &Schema, pair: Pair) -> bool
     }
 }
 
-// Whether a field of one of those pairs is.
+/// Whether a field of one of those pairs is.
 fn one_packs(old: &Schema, new: &Schema, pairs: &[Pair]) -> bool
     ensures { result ≡ list_any (packs (shape_of old.now) (shape_of new.now)) pairs.now }
 {

@@ -12,7 +12,7 @@ fn least(body: u32, value: i128) -> Gap
     Gap::Least { body, value }
 }
 
-// The table, by what is read otherwise.
+/// The table, by what is read otherwise.
 fn in_table(old: Scalar, new: Scalar) -> Gap
     ensures { result ≡ gap old new }
 {

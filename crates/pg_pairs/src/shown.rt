@@ -16,21 +16,21 @@ use crate::witness_content::Beside;
 use pg_dyn::{ContentRef, ValueRef};
 use pg_schema::{Field, Presence};
 
-// Whether the field holds one item at most.
+/// Whether the field holds one item at most.
 fn is_singular(field: &Field) -> bool
     ensures { result ≡ is_singular field.now.presence }
 {
     matches!(field.presence, Presence::Implicit | Presence::Explicit)
 }
 
-// Whether an item of zero isn't there for the field.
+/// Whether an item of zero isn't there for the field.
 fn is_implicit(field: &Field) -> bool
     ensures { result ≡ is_implicit field.now.presence }
 {
     matches!(field.presence, Presence::Implicit)
 }
 
-// Whether zeros aren't shown between the two fields.
+/// Whether zeros aren't shown between the two fields.
 fn hides_zero(fields: &Beside<'_>) -> bool
     ensures { result ≡ hides_zero (field_shape fields.now.old.now)
         (field_shape fields.now.new.now) }
@@ -40,7 +40,7 @@ fn hides_zero(fields: &Beside<'_>) -> bool
         && (is_implicit(fields.old) || is_implicit(fields.new))
 }
 
-// Whether the item is a zero, as no message is.
+/// Whether the item is a zero, as no message is.
 fn is_zero(value: &ValueRef<'_>) -> bool
     ensures { result ≡ is_zero_value value.now }
 {
@@ -54,7 +54,7 @@ fn is_zero(value: &ValueRef<'_>) -> bool
     }
 }
 
-// The bytes of a text, or bytes; of another item none.
+/// The bytes of a text, or bytes; of another item none.
 fn bytes_of<'b>(value: &'b ValueRef<'_>) -> &'b [u8]
     ensures { result.now ≡ leaf_bytes (leaf_of value.now) }
 {
@@ -65,7 +65,7 @@ fn bytes_of<'b>(value: &'b ValueRef<'_>) -> &'b [u8]
     }
 }
 
-// Whether the bytes of two texts, or two items of bytes, are equal.
+/// Whether the bytes of two texts, or two items of bytes, are equal.
 fn has_same_bytes(first: &ValueRef<'_>, second: &ValueRef<'_>) -> bool
     ensures { result ≡ bytes_eq (leaf_bytes (leaf_of first.now))
         (leaf_bytes (leaf_of second.now)) }

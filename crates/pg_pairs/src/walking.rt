@@ -11,7 +11,7 @@ use crate::prices::Prices;
 use std::alloc::{AllocError, Global};
 use std::collections::BTreeSet;
 
-// Adds those of the pairs found that weren't seen yet, in their order.
+/// Adds those of the pairs found that weren't seen yet, in their order.
 fn add_unseen(
     pairs: &mut Vec<Pair>,
     seen: &mut BTreeSet<(u32, u32)>,

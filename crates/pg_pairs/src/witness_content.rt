@@ -31,7 +31,7 @@ pub(crate) struct Beside<'a> {
     pub new: &'a Field,
 }
 
-// A content of one item, of a field that is no map.
+/// A content of one item, of a field that is no map.
 fn plain_content(alloc: Global, field: &Field, value: Value) -> Result<Content, AllocError>
     ensures seen { IfOk result (λ content. Puts field.now.number content
         (with_part field.now.number None (value_item value))) }
@@ -47,7 +47,7 @@ fn plain_content(alloc: Global, field: &Field, value: Value) -> Result<Content, 
     Ok(Content::One(value))
 }
 
-// A content of one entry.
+/// A content of one entry.
 fn entry_content(alloc: Global, key: Value, value: Value) -> Result<Content, AllocError>
     ensures seen { IfOk result (λ content. (number : ℕ)
         → Puts number content (with_part number (Some (leaf_of key)) (value_item value))) }
@@ -60,7 +60,7 @@ fn entry_content(alloc: Global, key: Value, value: Value) -> Result<Content, All
     Ok(Content::Map(entries))
 }
 
-// A content of one item that is short so, in a map under zero.
+/// A content of one item that is short so, in a map under zero.
 fn small_content(alloc: Global, field: &Field, small: Small) -> Result<Content, AllocError>
     ensures seen { IfOk result (λ content. Puts field.now.number content
         (with_part field.now.number (least_key field.now.presence)
@@ -90,7 +90,7 @@ pub(crate) fn least_content(alloc: Global, field: &Field) -> Result<Content, All
     }
 }
 
-// That of unlike fields; where zero doesn't count an item that isn't zero.
+/// That of unlike fields; where zero doesn't count an item that isn't zero.
 fn unlike_content(alloc: Global, old: &Field, new: &Field) -> Result<Content, AllocError>
     ensures seen { IfOk result (λ content. content_alone old.now.number content
         ≡ unlike_message (field_shape old.now) (field_shape new.now)) }
@@ -106,14 +106,14 @@ fn unlike_content(alloc: Global, old: &Field, new: &Field) -> Result<Content, Al
     small_content(alloc, old, small)
 }
 
-// Whether the field is one of a map.
+/// Whether the field is one of a map.
 fn is_map(field: &Field) -> bool
     ensures { result ≡ is_map field.now.presence }
 {
     matches!(field.presence, Presence::Map { .. })
 }
 
-// A content of that item, where there is one, of a field that is no map.
+/// A content of that item, where there is one, of a field that is no map.
 fn some_content(
     alloc: Global,
     field: &Field,
@@ -138,7 +138,7 @@ fn some_content(
     }
 }
 
-// A content of that child, where it is one of the field's type, of a field that is no map.
+/// A content of that child, where it is one of the field's type, of a field that is no map.
 fn child_content(
     alloc: Global,
     field: &Field,
@@ -164,8 +164,8 @@ fn child_content(
     }
 }
 
-// A list that the new field doesn't keep: two zeros beside an explicit field, of which one is read,
-// else one.
+/// A list that the new field doesn't keep: two zeros beside an explicit field, of which one is read,
+/// else one.
 fn lost_items(alloc: Global, old: &Field, new: &Field) -> Result<Content, AllocError>
     ensures seen { IfOk result (λ content. content_alone old.now.number content
         ≡ lost_onto old.now.number old.now.presence new.now.presence
@@ -186,7 +186,7 @@ fn lost_items(alloc: Global, old: &Field, new: &Field) -> Result<Content, AllocE
     }
 }
 
-// The same, of a field that is no map.
+/// The same, of a field that is no map.
 fn lost_content(alloc: Global, old: &Field, new: &Field) -> Result<Option<Content>, AllocError>
     ensures some { IfOk result (λ found. is_some found ≡ not (is_map old.now.presence)) }
     ensures seen { IfOk result (λ found. IfSome found
@@ -203,7 +203,7 @@ fn lost_content(alloc: Global, old: &Field, new: &Field) -> Result<Option<Conten
     Ok(Some(lost_items(alloc, old, new)?))
 }
 
-// The key of a map; of another field any scalar.
+/// The key of a map; of another field any scalar.
 fn key_of(presence: Presence) -> Scalar
     ensures { result ≡ key_of presence }
 {
@@ -213,7 +213,7 @@ fn key_of(presence: Presence) -> Scalar
     }
 }
 
-// An entry whose key is the gap's item, where there is one.
+/// An entry whose key is the gap's item, where there is one.
 fn key_gap_content<V: View>(
     alloc: Global,
     sides: &Sides<'_, V>,
@@ -242,7 +242,7 @@ fn key_gap_content<V: View>(
     }
 }
 
-// An entry whose value is the child, where it is one of the field's type.
+/// An entry whose value is the child, where it is one of the field's type.
 fn child_entry(
     alloc: Global,
     field: &Field,
@@ -267,7 +267,7 @@ fn child_entry(
     }
 }
 
-// An entry whose value is the gap's item, where there is one.
+/// An entry whose value is the gap's item, where there is one.
 fn value_gap_content<V: View>(
     alloc: Global,
     sides: &Sides<'_, V>,
@@ -295,7 +295,7 @@ fn value_gap_content<V: View>(
     }
 }
 
-// An entry whose value is the child, or else the gap's item, where there is one.
+/// An entry whose value is the child, or else the gap's item, where there is one.
 fn value_content<V: View>(
     alloc: Global,
     sides: &Sides<'_, V>,
@@ -322,7 +322,7 @@ fn value_content<V: View>(
     }
 }
 
-// Zero where the new element is like the old one, else what isn't an integer's default.
+/// Zero where the new element is like the old one, else what isn't an integer's default.
 fn apart_small(old: Element, new: Element) -> Small
     ensures { result ≡ apart_small old new }
 {
@@ -333,7 +333,7 @@ fn apart_small(old: Element, new: Element) -> Small
     }
 }
 
-// An entry whose unlike key or value isn't an integer's default.
+/// An entry whose unlike key or value isn't an integer's default.
 fn apart_content(
     alloc: Global,
     fields: &Beside<'_>,
@@ -355,7 +355,7 @@ fn apart_content(
     entry_content(alloc, key, value)
 }
 
-// The entry of a choice of a map.
+/// The entry of a choice of a map.
 fn broken_entry<V: View>(
     alloc: Global,
     sides: &Sides<'_, V>,

@@ -21,7 +21,7 @@ use pg_dyn::{Content, Message};
 use pg_schema::{Field, Schema, TypeId};
 use std::alloc::{AllocError, Global};
 
-// Sets a content that is one of the field.
+/// Sets a content that is one of the field.
 fn add(
     message: &mut Message,
     schema: &Schema,
@@ -44,7 +44,7 @@ fn add(
     }
 }
 
-// The field of a number that the type has.
+/// The field of a number that the type has.
 fn field_there(schema: &Schema, type_id: TypeId, number: u32) -> &Field
     requires { is_some (field_at (fields (shape_of schema.now) type_id) number) ≡ true }
     ensures { field_at (fields (shape_of schema.now) type_id) number
