@@ -76,7 +76,7 @@ fn key_cost(field: &Field, body: Option<u64>) -> Option<u64>
     Some(entry_cost(field.number, body?, least_body(field.element)))
 }
 
-/// Puts a choice of that cost behind the others, where there is one that an encoding may have.
+/// Appends a choice of that cost, where there is one that an encoding may have.
 pub(crate) fn offer(
     choices: &mut Vec<Choice>,
     number: u32,
@@ -167,7 +167,7 @@ fn offer_map<V: View, T: Table>(
     offer(choices, number, 5, 2, item_cost(old, child))
 }
 
-/// Puts the choices of the field with one number behind the others, by case and part.
+/// Appends the choices of the field with one number, by case and part.
 pub(crate) fn offer_field<V: View, T: Table>(
     between: &Between<'_, V, T>,
     choices: &mut Vec<Choice>,
@@ -192,7 +192,7 @@ pub(crate) fn offer_field<V: View, T: Table>(
     }
 }
 
-/// Puts the choices of a field with the new type's field of its number behind the others.
+/// Appends the choices of a field with the new type's field of its number.
 pub(crate) fn offer_beside<V: View, T: Table>(
     between: &Between<'_, V, T>,
     choices: &mut Vec<Choice>,

@@ -45,9 +45,8 @@ fn behind(field: &Field, later: &Field, next: usize, other: usize) -> usize
     next
 }
 
-/// Puts the choices of a field with each later one of its new oneof behind the others. A link leads
-/// from each field to the next of its new oneof, and `others` to the next that isn't in its old
-/// oneof.
+/// Appends the choices of a field with each later one of its new oneof. A link leads from each
+/// field to the next of its new oneof, and `others` to the next that isn't in its old oneof.
 pub(crate) fn offer_joined(
     choices: &mut Vec<Choice>,
     list: &[Field],

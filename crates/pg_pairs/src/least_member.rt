@@ -95,7 +95,7 @@ fn with_member(two: Option<Two>, member: Member) -> Two
     }
 }
 
-/// Puts the choice of a field with the one that it meets behind the others, where it meets one.
+/// Appends the choice of a field with the one that it meets, where it meets one.
 fn offer_with(
     choices: &mut Vec<Choice>,
     member: &Member,
@@ -116,8 +116,8 @@ fn offer_with(
     )
 }
 
-/// Puts the cheapest choice of a field with a later one of that new oneof behind the others, where
-/// there is one. The field is then one of those that fields before it meet.
+/// Appends the cheapest choice of a field with a later one of that new oneof, where there is one.
+/// The field is then one of those that fields before it meet.
 pub(crate) fn meet(
     choices: &mut Vec<Choice>,
     kept: &mut HashMap<u32, Two>,

@@ -3,27 +3,23 @@
 ghost use Rattle.std.specs.Prelude.{◌≡◌, ◌↔◌, IsTrue, IfOk};
 ghost use Rattle.std.specs.List.{list_any};
 ghost use Rattle.pg_schema.specs.Parts.{field_shape, shape_of};
-ghost use Rattle.pg_schema.specs.Shape.{field_at, fields, is_singular};
+ghost use Rattle.pg_schema.specs.Shape.{field_at, fields};
 ghost use Rattle.pg_pairs.specs.Returns.{Returns, becomes_packed, is_packed, packs};
 
 use crate::choice::Pair;
 use crate::priced::Priced;
 use crate::prices::Prices;
+use crate::shown::is_singular;
 use crate::view::Numbers;
 use crate::walking::reached_pairs;
 use pg_schema::{Field, Presence, Schema, TypeId};
 use std::alloc::{AllocError, Global};
 
-fn is_singular(presence: Presence) -> bool
-    ensures { result ≡ is_singular presence }
+/// Whether the items of the field stand in one record.
+fn is_packed(field: &Field) -> bool
+    ensures { result ≡ is_packed field.now.presence }
 {
-    matches!(presence, Presence::Implicit | Presence::Explicit)
-}
-
-fn is_packed(presence: Presence) -> bool
-    ensures { result ≡ is_packed presence }
-{
-    match presence {
+    match field.presence {
         Presence::Repeated { packed } => packed,
         _ => false,
     }
@@ -35,7 +31,7 @@ fn becomes_packed(new: &Schema, type_id: TypeId, field: &Field) -> bool
         (field_at (fields (shape_of new.now) type_id) field.now.number) }
 {
     match new.field(type_id, field.number) {
-        Some(beside) => is_singular(field.presence) && is_packed(beside.presence),
+        Some(beside) => is_singular(field) && is_packed(beside),
         None => false,
     }
 }

@@ -17,7 +17,7 @@ use pg_dyn::{ContentRef, ValueRef};
 use pg_schema::{Field, Presence};
 
 /// Whether the field holds one item at most.
-fn is_singular(field: &Field) -> bool
+pub(crate) fn is_singular(field: &Field) -> bool
     ensures { result ≡ is_singular field.now.presence }
 {
     matches!(field.presence, Presence::Implicit | Presence::Explicit)
