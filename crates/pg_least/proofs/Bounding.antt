@@ -112,12 +112,6 @@ lines_more [] (d ∷ cs) p c long = absurd (omega arith)
 lines_more (q ∷ ps) [] p c long = absurd (omega arith)
 lines_more (q ∷ ps) (d ∷ cs) p c long = ap (λ bs. record { pair = q; bound = d } ∷ bs) (lines_more ps cs p c (omega arith))
 
-pub one_number : (cs : List (Option ℕ)) (c : Option ℕ) → length (filter is_some (cs ++ c ∷ [])) ≡ length (filter is_some cs) + cond (is_some c) 1 0
-one_number [] None = refl
-one_number [] (Some n) = refl
-one_number (None ∷ cs) c = one_number cs c
-one_number (Some n ∷ cs) c = let rest = one_number cs c in omega arith
-
 -- Bounds of pairs by costs at places.
 
 pub among_map : {A B : Type 0} (f : A → B) (y : B) (xs : List A) → IsAmong y (map f xs) → (x : A) × IsAmong x xs × (f x ≡ y)

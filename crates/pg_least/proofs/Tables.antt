@@ -34,10 +34,6 @@ placed_more pairs at q before after here updates places = record {
     updates_some p false apart (inl same) = absurd (let no : true ≡ false = sym same ∙ apart in cc)
     updates_some p false apart (inr there) = ap is_some (place_after p) ∙ rw apart there
 
-pub each_append : {A : Type 0} (P : A → Type 0) (xs : List A) (x : A) → AllByRecursion P xs → P x → AllByRecursion P (xs ++ x ∷ [])
-each_append P [] x each here = (here, tt)
-each_append P (y ∷ xs) x each here = (each.0, each_append P xs x each.1 here)
-
 pub map-end : {A B : Type 0} (f : A → B) (xs : List A) (x : A) → map f (xs ++ x ∷ []) ≡ map f xs ++ f x ∷ []
 map-end f [] x = refl
 map-end f (y ∷ xs) x = ap (λ zs. f y ∷ zs) (map-end f xs x)

@@ -78,13 +78,6 @@ rising_back k l make keys (h ∷ hs) there rising = (
     same_key_of : (d : Comparand) → d.key ≡ Some (key_of k (writes d)) → key_of l (writes (make d)) ≡ key_of k (writes d)
     same_key_of d has = ap (λ key. unwrap_or key (zero_leaf (form (elements.Scalar l)))) (keys d) ∙ key_with k l d.key has
 
--- a list's presence
-not_singular : (p : Presence) → IsNoMap p → is_singular p ≡ false → is_repeated p ≡ true
-not_singular presences.Implicit no_map h = absurd (cc)
-not_singular presences.Explicit no_map h = absurd (cc)
-not_singular (presences.Repeated w) no_map h = refl
-not_singular (presences.Map k) no_map h = absurd no_map
-
 packed_beside : (p q : Presence) → IsNoMap p → (is_singular p && is_packed q) ≡ false → is_packed q ≡ true → is_repeated p ≡ true
 packed_beside presences.Implicit q no_map h packed = absurd (cc)
 packed_beside presences.Explicit q no_map h packed = absurd (cc)

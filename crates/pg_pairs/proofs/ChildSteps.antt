@@ -13,9 +13,6 @@ use Rattle.pg_pairs.proofs.Choosing.{same_pair-true}
 use Rattle.pg_pairs.proofs.FirstSeen.{has_pair, grown, distinct-grown, row_more}
 use Rattle.pg_dyn.proofs.Lists.{flat_map-map}
 
-abbrev pub indices : Pair → ℕ × ℕ
-indices p = (p.old.index, p.new.index)
-
 abbrev pub Agrees : List Pair → BTreeSet (ℕ × ℕ) → Type 0
 Agrees ps seen = (p : Pair) → contains by_indices seen (p.old.index, p.new.index) ≡ has_pair ps p
 

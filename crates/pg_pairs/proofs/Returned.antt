@@ -74,9 +74,6 @@ written_again new b w n g at hs numbered read =
 
 -- The children of a message of a type, with their type and their lengths.
 
-abbrev GoodPart : Shape → TypeId → Part Item → Type 0
-GoodPart new b p = IsGood new (child_type (fields new b) p.number) p.item
-
 pub good_parts : (new : Shape) (b : TypeId) (n : ℕ) → n ≤ cap → (w : Message) → IsMessage new b w → ChildrenShorter new b n w → AllByRecursion (λ p. IsGood new (child_type (fields new b) p.number) p.item) (parts w)
 good_parts new b n small (ends unknown) is shorter = tt
 good_parts new b n small (holds number key leaf later) is shorter = (tt, good_parts new b n small later is.2 shorter)

@@ -1,10 +1,8 @@
 -- A message shows the same where each shared field does and what its type lacks comes back as it was written.
-use Rattle.std.proofs.Common.{◌≡◌, Bor, ◌<◌, ℕ, ℤ, List, [], ◌∷◌, ◌++◌, map, flat_map, length, get_or, Bool, true, false, ◌&&◌, cond, is_none, Option, Some, None, refl, ap, sym, ◌∙◌, subst, true≢false}
+use Rattle.std.proofs.Common.{◌≡◌, Bor, List, [], ◌∷◌, ◌++◌, map, flat_map, Bool, true, false, ◌&&◌, cond, is_none, Option, Some, None, refl, ap, sym, ◌∙◌, subst}
 use Rattle.std.specs.List.{AllByRecursion, list_all}
 use Rattle.std.specs.Option.{option_copied}
 use Rattle.std.specs.Str.{bytes_eq}
-use Rattle.std.proofs.lemmas.Bool.{false_from_ne_true}
-use Rattle.pg_schema.specs.declared.parts.enum_type.EnumType.{EnumType}
 use Rattle.pg_schema.specs.declared.parts.field.Field.{Field}
 use Rattle.pg_schema.specs.declared.parts.field.TypeId.{TypeId}
 use Rattle.pg_schema.specs.declared.parts.Parts.{Parts}
@@ -21,7 +19,6 @@ use Rattle.pg_pairs.specs.Comparing.{is_same, is_same_beside, outside_record}
 use Rattle.pg_pairs.proofs.ChildSteps.{past}
 use Rattle.pg_pairs.proofs.SameSteps.{list_all-map, each-unmap}
 use Rattle.pg_dyn.proofs.PublicLaws.{fields_are_found, unknown_is_kept}
-use Rattle.pg_dyn.proofs.Lists.{each_at_index, list_all_true}
 
 pub outside_all : (gs : List FieldShape) (us : List Record) → flat_map (outside_record gs) us ≡ bytes_of (records_outside gs (map seen_record us))
 outside_all gs [] = refl
@@ -31,11 +28,6 @@ outside_all gs (u ∷ us) =
       | true ↦ ap (λ bytes. u.bytes.now ++ bytes) rest
       | false ↦ rest
     ]
-
--- one that isn't so makes it false of all
-pub one_false : {A : Type 0} (test : A → Bool) (xs : List A) (i : ℕ) (x : A) → i < length xs → x ≡ get_or xs i x → test x ≡ false → false ≡ list_all test xs
-one_false test xs i x inside is untrue =
-    sym (false_from_ne_true (list_all test xs) (λ e. true≢false (sym (each_at_index (λ y. test y ≡ true) xs xs i x refl inside is (list_all_true test xs e)) ∙ untrue)))
 
 -- the fields of a type are found by their numbers
 pub all_found : (shape : Shape) (type : TypeId) (list : List Field) → IsShape shape → map field_shape list ≡ fields shape type → AllByRecursion (λ f. field_at (fields shape type) f.number ≡ Some (field_shape f)) list

@@ -1,7 +1,6 @@
 -- What two fields show, item by item, and part by part as the definitions see it.
-use Rattle.std.proofs.Common.{◌≡◌, ℕ, zero, suc, ◌+◌, ◌<◌, ◌≤◌, Bor, List, [], ◌∷◌, map, filter, drop, length, slice_get, Bool, true, false, not, ◌&&◌, cond, Option, Some, None, option_map, IfSome, MatchOption, refl, ap, ap₂, sym, ◌∙◌, subst, arith, add-one}
+use Rattle.std.proofs.Common.{◌≡◌, ℕ, zero, suc, ◌+◌, ◌<◌, ◌≤◌, Bor, List, [], ◌∷◌, map, filter, drop, slice_get, Bool, true, false, not, ◌&&◌, cond, Option, Some, None, option_map, IfSome, MatchOption, refl, ap, ap₂, sym, ◌∙◌, subst, arith, add-one}
 use Rattle.std.specs.List.{AllByRecursion, list_all}
-use Rattle.std.proofs.lemmas.List.{drop_all}
 use Rattle.std.specs.Option.{option_copied}
 use lib.Pointwise.{pointwise}
 use Rattle.pg_dyn.specs.declared.message_ref.ContentRef.{ContentRef}
@@ -10,7 +9,7 @@ use Rattle.pg_dyn.specs.declared.message_ref.EntryRef.{EntryRef}
 use Rattle.pg_dyn.specs.declared.message_ref.ValueRef.{ValueRef}
 use Rattle.pg_dyn.specs.declared.message_ref.ValueRef.TheVariants as values
 use Rattle.pg_dyn.specs.Message.{Part, is_of}
-use Rattle.pg_dyn.specs.Kept.{Kept, KeptItem, type_of, message_of, parts_of, of_number, weight}
+use Rattle.pg_dyn.specs.Kept.{Kept, KeptItem, parts_of, of_number, weight}
 use Rattle.pg_dyn.specs.Kept as kept
 use Rattle.pg_dyn.specs.Borrowed.{leaf_of, item_part, entry_part, item_seen, content_seen}
 use Rattle.pg_dyn.specs.BorrowedItems.{is_zero_value}
@@ -30,16 +29,6 @@ next_from xs i x h = drop_here xs i x h ∙ ap (λ n. x ∷ drop n xs) (sym (add
 pub both_go_on : {X : Type 0} (test : X → X → Bool) (xs ys : List X) (i : ℕ) (x y : X) → slice_get xs i ≡ Some x → slice_get ys i ≡ Some y →
     pointwise test (drop i xs) (drop i ys) ≡ (test x y && pointwise test (drop (i + 1) xs) (drop (i + 1) ys))
 both_go_on test xs ys i x y first second = ap₂ (pointwise test) (next_from xs i x first) (next_from ys i y second)
-
-pub both_end : {X : Type 0} (test : X → X → Bool) (xs ys : List X) (i : ℕ) → length xs ≤ i → length ys ≤ i → pointwise test (drop i xs) (drop i ys) ≡ true
-both_end test xs ys i h k = ap₂ (pointwise test) (drop_all i xs h) (drop_all i ys k)
-
-pub other_lengths : {X : Type 0} (test : X → X → Bool) (xs ys : List X) → (length xs ≡ length ys → ⊥) → false ≡ pointwise test xs ys
-other_lengths test [] [] h = absurd (h refl)
-other_lengths test [] (y ∷ ys) h = refl
-other_lengths test (x ∷ xs) [] h = refl
-other_lengths test (x ∷ xs) (y ∷ ys) h =
-    elim (test x y) as (λ b. false ≡ (b && pointwise test xs ys)) [ true ↦ other_lengths test xs ys (λ e. h (ap suc e)) | false ↦ refl ]
 
 pub pointwise-map : {A B C D : Type 0} (test : C → D → Bool) (f : A → C) (g : B → D) (xs : List A) (ys : List B) → pointwise test (map f xs) (map g ys) ≡ pointwise (λ x y. test (f x) (g y)) xs ys
 pointwise-map test f g [] [] = refl

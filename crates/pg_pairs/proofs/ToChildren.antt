@@ -68,9 +68,6 @@ module _ (P : Choice → Type 0) (enum_view : EnumView) (table : Table) (s t : T
   in_field (presences.Repeated p) presences.Explicit has all = (3, 0, in_plain (presences.Repeated p) presences.Explicit all)
   in_field (presences.Repeated p) (presences.Repeated w) has all = (3, 0, in_plain (presences.Repeated p) (presences.Repeated w) all)
 
-child_length : (bytes : List ℕ) → body_length (form (elements.Message (record { index = 0 }))) (Bytes bytes) ≡ with_length (length bytes)
-child_length bytes = length-append (varint (length bytes)) bytes
-
 -- Down to a child, whose bytes a comparand of the field holds.
 module _ (old new : Shape) (shape_old : IsShape old) (shape_new : IsShape new) (a b : TypeId) (n : ℕ) (small : n ≤ cap) (fine : CompatibleTo n old new a b) where
   abbrev pair_of : TypeId → TypeId → Pair
