@@ -20,7 +20,8 @@ use Rattle.pg_pairs.specs.Among.{IsAmong}
 use Rattle.pg_pairs.specs.Likeness.{like}
 use Rattle.pg_pairs.specs.Costs.{least_body, one_item, with_length}
 use Rattle.pg_pairs.specs.Covering.{all_children, children, children_beside, distinct, field_children, message_pair, same_pair}
-use Rattle.pg_pairs.specs.Edges.{ArePriced, child_cost, edge_price, edge_to, edges, is_pair, no_bounds}
+use Rattle.pg_pairs.specs.Edges.{ArePriced, PairsLeadToPairs, child_cost, edge_price, edge_to, edges, is_pair, no_bounds}
+use Rattle.pg_pairs.specs.Reached.{itself, onwards}
 use Rattle.pg_pairs.proofs.Among.{among_each}
 use Rattle.pg_pairs.proofs.LeastCosts.{least_costs_are_lengths}
 
@@ -168,6 +169,10 @@ module _ (old new : Shape) (is_old : IsShape old) (is_new : IsShape new) where
       (each-flat_map (λ p. is_pair old new p ≡ true) (λ (f : FieldShape). children_beside f (field_at gs f.number)) fs
       (each_weaker (IsField (length old)) (λ (f : FieldShape). AllByRecursion (λ p. is_pair old new p ≡ true) (children_beside f (field_at gs f.number))) (λ f is_f. beside_there gs (fields_are_found.0 new pair.new is_new).each f is_f (field_at gs f.number) refl) fs
       (fields_are_found.0 old pair.old is_old).each)))
+
+pub led_to_there : PairsLeadToPairs
+led_to_there old new is_old is_new root pair known itself = known
+led_to_there old new is_old is_new root pair known (onwards above child leads among) = child_there old new is_old is_new above child among
 
 -- Edges.
 

@@ -11,8 +11,7 @@ use Rattle.pg_dyn.specs.reading.Decoding.{Reader, is_readable, all_readable, rea
 use Rattle.pg_dyn.specs.Laws.{of_number}
 use Rattle.pg_dyn.specs.ByComparands.{field_read, all_field_readable}
 use Rattle.pg_dyn.proofs.Lists.{all_some-map, each_weaker, each_of_all, each_swap, filtered_out, list_all_each, list_all_true, list_any_none, after_last_of_none, filter-after_last_of_none, filter-filter_weaker, each_unfiltered}
-use Rattle.pg_dyn.proofs.lemmas.Splitting.{each_found, takes_number}
-use Rattle.pg_dyn.proofs.lemmas.ReadSplits.{reading_of, field_split}
+use Rattle.pg_dyn.proofs.PublicLaws.{fields_are_found, message_splits, records_of_fields}
 
 module _ (child : Reader) (fs : List FieldShape) (rising : Rising fs) (rs : List WireRecord) (own : FieldShape → List WireRecord)
     (numbered : (f : FieldShape) → field_at fs f.number ≡ Some f → filter (of_number f.number) rs ≡ own f)
@@ -21,7 +20,7 @@ module _ (child : Reader) (fs : List FieldShape) (rising : Rising fs) (rs : List
   reads f r = not (takes f r) || is_readable child f r
 
   taken_numbered : (f : FieldShape) → field_at fs f.number ≡ Some f → filter (takes f) rs ≡ filter (takes f) (own f)
-  taken_numbered f found = sym (filter-filter_weaker (of_number f.number) (takes f) (takes_number f) rs) ∙ ap (filter (takes f)) (numbered f found)
+  taken_numbered f found = sym (filter-filter_weaker (of_number f.number) (takes f) (records_of_fields.2 f) rs) ∙ ap (filter (takes f)) (numbered f found)
 
   nothing_taken : (f : FieldShape) → field_at fs f.number ≡ Some f → own f ≡ [] → AllByRecursion (λ r. takes f r ≡ false) rs
   nothing_taken f found none = filtered_out (takes f) rs (taken_numbered f found ∙ ap (filter (takes f)) none)
@@ -40,7 +39,7 @@ module _ (child : Reader) (fs : List FieldShape) (rising : Rising fs) (rs : List
       (apart f h found at sibling))
       (λ no_sibling. each_of_all (λ r. (is_sibling f h && takes h r) ≡ false) (λ r. rw no_sibling) rs)
       (cases_Bool (is_sibling f h)))
-      fs (each_found fs rising))))
+      fs (fields_are_found.2 fs rising))))
 
   counted_is : (f : FieldShape) → field_at fs f.number ≡ Some f → (xs : List WireRecord) → own f ≡ xs → counted fs f rs ≡ filter (takes f) (own f)
   counted_is f found [] none =
@@ -54,7 +53,7 @@ module _ (child : Reader) (fs : List FieldShape) (rising : Rising fs) (rs : List
       (read : (f : FieldShape) → field_at fs f.number ≡ Some f → field_read child f (own f) ≡ Some (made f)) where
     read_by : (f : FieldShape) → field_at fs f.number ≡ Some f → AllByRecursion (λ r. reads f r ≡ true) rs
     read_by f found =
-        each_unfiltered (λ r. reads f r ≡ true) (of_number f.number) (λ r other. rw (false_from_ne_true (takes f r) (λ taken. let own_number = takes_number f r taken in cc))) rs
+        each_unfiltered (λ r. reads f r ≡ true) (of_number f.number) (λ r other. rw (false_from_ne_true (takes f r) (λ taken. let own_number = records_of_fields.2 f r taken in cc))) rs
         (subst (AllByRecursion (λ r. reads f r ≡ true)) (sym (numbered f found)) (list_all_true (reads f) (own f) (readable f found)))
 
     all_read : all_readable child fs rs ≡ true
@@ -62,7 +61,7 @@ module _ (child : Reader) (fs : List FieldShape) (rising : Rising fs) (rs : List
         list_all_each (λ r. list_all (λ f. reads f r) fs) rs
         (each_weaker (λ r. AllByRecursion (λ f. reads f r ≡ true) fs) (λ r. list_all (λ f. reads f r) fs ≡ true) (λ r each. list_all_each (λ f. reads f r) fs each) rs
         (each_swap (λ f r. reads f r ≡ true) fs rs
-        (each_weaker (λ f. field_at fs f.number ≡ Some f) (λ f. AllByRecursion (λ r. reads f r ≡ true) rs) read_by fs (each_found fs rising))))
+        (each_weaker (λ f. field_at fs f.number ≡ Some f) (λ f. AllByRecursion (λ r. reads f r ≡ true) rs) read_by fs (fields_are_found.2 fs rising))))
 
     pub the_message : Message
     the_message = message_from (joined (map made fs)) (filter (is_unknown fs) rs)
@@ -73,11 +72,11 @@ module _ (child : Reader) (fs : List FieldShape) (rising : Rising fs) (rs : List
         rw (
           all_read,
           all_some-map (field_parts child fs rs) made fs
-              (each_weaker (λ f. field_at fs f.number ≡ Some f) _ (λ f found. parts_are f found ∙ read f found) fs (each_found fs rising)),
+              (each_weaker (λ f. field_at fs f.number ≡ Some f) _ (λ f found. parts_are f found ∙ read f found) fs (fields_are_found.2 fs rising)),
         )
 
     pub parts_made : (f : FieldShape) → field_at fs f.number ≡ Some f → filter (is_of f.number) (parts the_message) ≡ made f
     parts_made f found =
-        let split = field_split child fs rs the_message rising (reading_of child fs rs the_message is_read) f.number f found in
+        let split = (message_splits child fs rs the_message rising is_read).0 f.number f found in
         let equal : ◌≡◌ {A = Option (List (Part Item))} (Some (filter (is_of f.number) (parts the_message))) (Some (made f)) = sym split ∙ parts_are f found ∙ read f found in
         cc

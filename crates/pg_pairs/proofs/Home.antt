@@ -9,17 +9,19 @@ use Rattle.pg_dyn.specs.reading.Decoding.{dec}
 use Rattle.pg_dyn.specs.Comparison.{View}
 use Rattle.pg_dyn.specs.Breaking.{Compatible, is_kept}
 use Rattle.pg_pairs.specs.Home.{home, comes_home}
-use Rattle.pg_dyn.proofs.lemmas.ViewNames.{kept_by_number}
+use Rattle.pg_dyn.specs.Laws.{ReadsAgain}
+use Rattle.pg_dyn.specs.ViewNames.{KeptByNumber}
 use Rattle.pg_pairs.proofs.Dearer.{CompatibleTo}
 use Rattle.pg_pairs.proofs.ChildrenHome.{ComesHome, ChildrenComeHome}
 use Rattle.pg_pairs.specs.ComesHome.{MessagesComeHome}
 use Rattle.pg_pairs.proofs.HomeMessage.{comes}
 
-module _ (old new : Shape) (shape_old : IsShape old) (shape_new : IsShape new) where
+module _ (reads_again : ReadsAgain) (old new : Shape) (shape_old : IsShape old) (shape_new : IsShape new) where
   from_children : (v : Message) → ChildrenComeHome old new v → ComesHome old new v
   from_children v come a b fine returns is plain small w read is_new small_new =
       comes old new a b v w
       (record {
+        reads_again = reads_again;
         shape_old = shape_old;
         shape_new = shape_new;
         is_message = is;
@@ -46,8 +48,8 @@ unfolding comes_home
 home_from old new a b v w x read again is_home = rw (read, again) is_home
 
 -- What is compatible under a view is so by number, up to any length.
-by_number : (view : View) (old new : Shape) (a b : TypeId) (n : ℕ) → Compatible view old new a b → CompatibleTo n old new a b
-by_number view old new a b n compatible u breaks =
+by_number : KeptByNumber → (view : View) (old new : Shape) (a b : TypeId) (n : ℕ) → Compatible view old new a b → CompatibleTo n old new a b
+by_number kept_by_number view old new a b n compatible u breaks =
     absurd
     (compatible u (record {
       is_message = breaks.is_message;
@@ -56,7 +58,7 @@ by_number view old new a b n compatible u breaks =
       not_kept = false_from_ne_true (is_kept view old new a b u) (λ kept. true≢false (sym (kept_by_number view old new a b u kept) ∙ breaks.not_kept));
     }))
 
-pub messages_come_home : MessagesComeHome
-messages_come_home view old new pair shape_old shape_new compatible returns v is plain small w read is_new small_new =
-    let (x, again, is_home) = every_message old new shape_old shape_new v pair.old pair.new (by_number view old new pair.old pair.new (length (enc old pair.old v)) compatible) returns is plain small w read is_new small_new in
+pub messages_come_home : ReadsAgain → KeptByNumber → MessagesComeHome
+messages_come_home reads_again kept_by_number view old new pair shape_old shape_new compatible returns v is plain small w read is_new small_new =
+    let (x, again, is_home) = every_message reads_again old new shape_old shape_new v pair.old pair.new (by_number kept_by_number view old new pair.old pair.new (length (enc old pair.old v)) compatible) returns is plain small w read is_new small_new in
     home_from old new pair.old pair.new v w x read again is_home

@@ -1,5 +1,5 @@
 -- One message, whose children come home.
-use Rattle.std.proofs.Common.{◌≡◌, ℕ, ◌^◌, ◌<◌, ◌≤◌, List, [], ◌∷◌, ◌++◌, length, map, filter, Bool, true, false, not, cond, nat_eq, ◌||◌, Option, Some, None, unwrap_or, ◌⊎◌, inl, inr, ⊎_elim, refl, ap, ap₂, sym, ◌∙◌, subst, arith, append-nil, length-append, eqb-true}
+use Rattle.std.proofs.Common.{◌≡◌, ℕ, ◌^◌, ◌<◌, ◌≤◌, List, [], ◌∷◌, ◌++◌, length, map, filter, Bool, true, false, not, cond, nat_eq, Option, Some, None, unwrap_or, ◌⊎◌, inl, inr, ⊎_elim, refl, ap, ap₂, sym, ◌∙◌, subst, arith, append-nil, length-append, eqb-true}
 use Rattle.std.specs.List.{AllByRecursion}
 use Rattle.pg_schema.specs.declared.parts.field.TypeId.{TypeId}
 use Rattle.pg_schema.specs.declared.parts.field.Element.{Element}
@@ -19,7 +19,6 @@ use Rattle.pg_dyn.specs.Comparison.{numbers, Alike, Expected, Comparand, compara
 use Rattle.pg_dyn.specs.ByComparands.{comparands_at, field_read, all_field_readable}
 use Rattle.pg_dyn.specs.Laws.{of_number}
 use Rattle.pg_dyn.proofs.Lists.{each_weaker, each_both, map_map, each-filter, each_filtered, filter_none, filter-map, list_all_each, list_any_at, each_of_all}
-use Rattle.pg_dyn.proofs.lemmas.Splitting.{each_found}
 use Rattle.pg_pairs.specs.Likeness.{like}
 use Rattle.pg_pairs.specs.Edges.{no_bounds}
 use Rattle.pg_pairs.specs.Home.{home, home_content, home_message, homeward}
@@ -385,7 +384,7 @@ module _ (old new : Shape) (a b : TypeId) (v w : Message) (goes : Goes old new a
   all_home : home_message fs gs homing come_home ≡ true
   all_home =
       list_all_each (λ f. home_content f (field_at gs f.number) homing (parts come_home)) fs
-      (each_weaker (λ f. field_at fs f.number ≡ Some f) (λ f. home_content f (field_at gs f.number) homing (parts come_home) ≡ true) each_home fs (each_found fs (fields_are_found.0 old a goes.shape_old).rising))
+      (each_weaker (λ f. field_at fs f.number ≡ Some f) (λ f. home_content f (field_at gs f.number) homing (parts come_home) ≡ true) each_home fs (fields_are_found.2 fs (fields_are_found.0 old a goes.shape_old).rising))
 
   pub comes : Comes old new a b v w
   comes = (come_home, is_read_home, home_as_message old new a b v come_home ∙ all_home)

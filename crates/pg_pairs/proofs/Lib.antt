@@ -64,6 +64,7 @@ pub mod TakenItems
 pub mod CarryContents
 pub mod EdgeCosts
 pub mod EdgeLaws
+pub mod PublicLaws
 pub mod ChoicePlaces
 pub mod SameLengths
 pub mod LeastByName

@@ -1,13 +1,17 @@
 -- Like elements, either way round.
-use Rattle.std.proofs.Common.{◌≡◌, true, refl, subst}
+use Rattle.std.proofs.Common.{◌≡◌, true, refl, subst, eq-eqb}
 use Rattle.pg_schema.specs.declared.parts.field.Element.{Element}
 use Rattle.pg_schema.specs.declared.parts.field.Element.TheVariants as elements
+use Rattle.pg_wire.specs.declared.record.WireType.{WireType}
+use Rattle.pg_wire.specs.Records.{wire_code}
 use Rattle.pg_dyn.specs.Coding.{Form, Integer, Single, Double, Text, Raw, form}
 use Rattle.pg_dyn.specs.reading.Content.{same_wire}
-use Rattle.pg_dyn.proofs.lemmas.Plain.{same_wire_self}
 use Rattle.pg_pairs.specs.Likeness.{like, like_forms}
 use Rattle.pg_pairs.proofs.Likeness.{same_wire-true}
 use Rattle.pg_pairs.proofs.GapItems.{IsLeafy}
+
+same_wire_self : (wire : WireType) → same_wire wire wire ≡ true
+same_wire_self wire = eq-eqb (wire_code wire) (wire_code wire) refl
 
 forms_self : (f : Form) → like_forms f f ≡ true
 forms_self (Integer w) = same_wire_self w.wire

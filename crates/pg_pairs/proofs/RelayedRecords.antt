@@ -1,5 +1,5 @@
 -- The records that a new type writes again of an old type's message, number by number.
-use Rattle.std.proofs.Common.{◌≡◌, ℕ, ◌^◌, ◌<◌, ◌≤◌, List, [], ◌∷◌, ◌++◌, length, map, filter, true, false, not, ◌||◌, Option, Some, None, Ok, ◌⊎◌, inl, inr, ⊎_elim, refl, ap, ap₂, sym, ◌∙◌, subst, arith, append-nil, eqb-true}
+use Rattle.std.proofs.Common.{◌≡◌, ℕ, ◌≤◌, List, [], ◌∷◌, ◌++◌, length, map, filter, true, false, not, ◌||◌, Option, Some, None, Ok, ◌⊎◌, inl, inr, ⊎_elim, refl, ap, ap₂, sym, ◌∙◌, subst, append-nil, eqb-true}
 use Rattle.std.specs.List.{AllByRecursion, list_all}
 use Rattle.std.proofs.lemmas.Bool.{false_from_ne_true}
 use Rattle.pg_schema.specs.declared.parts.field.TypeId.{TypeId}
@@ -13,13 +13,10 @@ use Rattle.pg_dyn.specs.reading.Decoding.{dec, is_readable, read_records}
 use Rattle.pg_dyn.specs.Belonging.{IsMessage}
 use Rattle.pg_dyn.specs.Comparison.{numbers, Expected, Comparand, comparands, writes, expects}
 use Rattle.pg_dyn.specs.ByComparands.{comparands_at, field_read, all_field_readable}
-use Rattle.pg_dyn.specs.Laws.{of_number}
+use Rattle.pg_dyn.specs.Laws.{ReadsAgain, of_number}
 use Rattle.pg_dyn.proofs.Lists.{each_weaker, each_filtered, filter_all, filter-append', filter_swap, filter-map, list_all_each, list_all_true, list_any_none, each_at}
-use Rattle.pg_dyn.proofs.lemmas.Splitting.{each_found, field_records_number, takes_number}
 use Rattle.pg_pairs.specs.Returns.{Returns}
 use Rattle.pg_pairs.specs.Home.{homeward}
-use Rattle.pg_dyn.proofs.lemmas.Again.{reads_again}
-use Rattle.pg_pairs.proofs.Across.{reads}
 use Rattle.pg_pairs.proofs.Messages.{field_written}
 use Rattle.pg_dyn.proofs.PublicLaws.{decoding_is, encoding_spells, fields_are_found, message_splits, one_is_empty, records_of_fields, unknown_is_kept, writing_splits}
 use Rattle.pg_pairs.proofs.Dearer.{CompatibleTo}
@@ -33,6 +30,7 @@ use Rattle.pg_pairs.proofs.Outside.{outside_home}
 
 -- A message that the new type reads and writes again, between types that are compatible up to its length.
 pub record Goes (old new : Shape) (a b : TypeId) (v w : Message) : Type 0 where
+  pub reads_again : ReadsAgain
   pub shape_old : IsShape old
   pub shape_new : IsShape new
   pub is_message : IsMessage old a v
@@ -178,7 +176,7 @@ module _ (old new : Shape) (a b : TypeId) (v w : Message) (goes : Goes old new a
   read_own : read_records (dec old) fs written_old ≡ Some v
   read_own =
       let step : dec old a (enc old a v) ≡ read_records (dec old) fs written_old = rw (decoding_is old a (enc old a v), spelled_old) refl in
-      sym step ∙ (let short = goes.has_encoding in reads_again old a v goes.shape_old goes.is_message (omega arith))
+      sym step ∙ goes.reads_again old a v goes.shape_old goes.is_message goes.has_encoding
 
   own_apart : (f h : FieldShape) → field_at fs f.number ≡ Some f → field_at fs h.number ≡ Some h → is_sibling f h ≡ true → (filter (of_number f.number) written_old ≡ []) ⊎ (filter (of_number h.number) written_old ≡ [])
   own_apart f h found_f found_h sibling =
@@ -213,15 +211,15 @@ module _ (old new : Shape) (a b : TypeId) (v w : Message) (goes : Goes old new a
         ap not (list_any_none (λ g. takes g r) gs
         (each_weaker (λ g. field_at gs g.number ≡ Some g) (λ g. takes g r ≡ false)
         (λ g at. false_from_ne_true (takes g r) (λ taken.
-        let same : r.number ≡ g.number = eqb-true r.number g.number (takes_number g r taken) in
+        let same : r.number ≡ g.number = eqb-true r.number g.number (records_of_fields.2 g r taken) in
         let no : ◌≡◌ {A = Option FieldShape} None (Some g) = sym lacks ∙ ap (field_at gs) (sym number ∙ same) ∙ at in
         absurd (cc)))
-        gs (each_found gs type_new.rising)))
+        gs (fields_are_found.2 gs type_new.rising)))
 
     pub lacked_records : at_number f ≡ own_of f
     lacked_records =
         again_at f found [] ((writing_splits gs (encoded_parts new b w) f.number type_new.rising).1 lacks)
-        ∙ filter_all (is_unknown gs) (own_of f) (each_weaker (λ (r : WireRecord). r.number ≡ f.number) (λ r. is_unknown gs r ≡ true) not_taken (own_of f) (field_records_number f (map writes (comparands_at f.number cs))))
+        ∙ filter_all (is_unknown gs) (own_of f) (each_weaker (λ (r : WireRecord). r.number ≡ f.number) (λ r. is_unknown gs r ≡ true) not_taken (own_of f) (records_of_fields.0 f (map writes (comparands_at f.number cs))))
 
     pub lacked_comes : FieldComes (dec old) f None homing (at_number f)
     lacked_comes = record {

@@ -18,10 +18,17 @@ use Rattle.pg_pairs.specs.Choices.{Table, choice, choices}
 use Rattle.pg_pairs.specs.Covering.{children, children_beside, distinct}
 use Rattle.pg_pairs.specs.LeastCosts.{least_cost}
 use Rattle.pg_pairs.specs.LeastOf.{cost_under, least_of}
+use Rattle.pg_pairs.specs.Reached.{LeadsTo}
 
 -- both types of the pair are there
 abbrev pub is_pair : Shape → Shape → Pair → Bool
 is_pair old new pair = nat_lt pair.old.index (length old) && nat_lt pair.new.index (length new)
+
+-- What a pair of the schemas' types leads to are such pairs, its children among them.
+abbrev pub PairsLeadToPairs : Type 0
+PairsLeadToPairs =
+    (old new : Shape) → IsShape old → IsShape new → (root pair : Pair) → is_pair old new root ≡ true → LeadsTo (children old new) root pair →
+    is_pair old new pair ≡ true
 
 -- of a map the value is the message
 abbrev pub part_of : Presence → Part

@@ -5,7 +5,7 @@ ghost use Rattle.pg_pairs.specs.Carried.{EachChildCostsLess, EachChoiceIsCarried
 ghost use Rattle.pg_pairs.specs.Cheapest.{CheapestIsLeast};
 ghost use Rattle.pg_pairs.specs.ComesHome.{MessagesComeHome};
 ghost use Rattle.pg_pairs.specs.Contents.{ContentsCost};
-ghost use Rattle.pg_pairs.specs.Edges.{ChoicesByEdges, LeastCostsByEdges};
+ghost use Rattle.pg_pairs.specs.Edges.{ChoicesByEdges, LeastCostsByEdges, PairsLeadToPairs};
 ghost use Rattle.pg_pairs.specs.ElementGaps.{ElementGaps, UnseenAreNotZero};
 ghost use Rattle.pg_pairs.specs.FieldCosts.{ChildrenCost, ListsCost, MapsCost, SingleScalarsCost};
 ghost use Rattle.pg_pairs.specs.FirstSeen.{OnePairMore};
@@ -21,6 +21,7 @@ ghost use Rattle.pg_pairs.specs.SeenBy.{seen_by};
 ghost use Rattle.pg_pairs.specs.Views.{NumbersAreAlike};
 
 use crate::view::View;
+use pg_dyn::laws::{kept_by_number, reads_again};
 use pg_schema::Schema;
 
 /// Small pairs of types with all their choices.
@@ -160,6 +161,11 @@ pub fn least_costs_are_exact()
     ensures { LeastCostsAreExact }
 {}
 
+/// The pairs that a pair of two schemas' types leads to are pairs of their types.
+pub fn pairs_lead_to_pairs()
+    ensures { PairsLeadToPairs }
+{}
+
 /// A choice of a pair under a table is one without bounds or that of an edge at its child's bound;
 /// and these are all choices.
 pub fn choices_by_edges()
@@ -182,4 +188,8 @@ pub fn one_pair_more()
 /// home.
 pub fn messages_come_home()
     ensures { MessagesComeHome }
-{}
+{
+    // What a type writes it reads again, and what any view keeps is kept by number.
+    reads_again();
+    kept_by_number();
+}
