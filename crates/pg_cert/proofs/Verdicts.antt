@@ -1,5 +1,5 @@
 -- What a certificate that holds shows is true.
-use Rattle.std.proofs.Common.{◌≡◌, ℕ, List, length, Option, Some, None, is_some, refl, ap, sym, ◌∙◌, subst, true≢false}
+use Rattle.std.proofs.Common.{◌≡◌, ◌⊎◌, inl, inr, ℕ, List, length, true, Option, Some, None, Ok, Err, is_some, refl, ap, sym, ◌∙◌, subst, true≢false}
 use Rattle.pg_schema.specs.Shape.{Shape, IsShape}
 use Rattle.pg_dyn.specs.declared.view_name.ViewName.{ViewName}
 use Rattle.pg_pairs.specs.declared.choice.Pair.{Pair}
@@ -9,9 +9,13 @@ use Rattle.pg_pairs.specs.Laws.{CoveringBounds, NoneIsCompatible}
 use Rattle.pg_cert.specs.declared.bounds.PairBound.{PairBound}
 use Rattle.pg_cert.specs.declared.verdict.Verdict.{Verdict}
 use Rattle.pg_cert.specs.declared.verdict.Verdict.TheVariants as verdicts
-use Rattle.pg_cert.specs.Bounds.{bound_in}
+use Rattle.pg_cert.specs.declared.error.CertError.{CertError}
+use Rattle.pg_cert.specs.declared.error.CertError.TheVariants as errors
+use Rattle.pg_cert.specs.Bounds.{are_bounds, bound_in}
 use Rattle.pg_cert.specs.Certificate.{Claim, Holds, IsWitnessed, IsWitnessedIfThere, bound_verdict, verdict_of}
-use Rattle.pg_cert.specs.Laws.{Says, VerdictsAreTrue}
+use Rattle.pg_cert.specs.Checked.{IsChecked}
+use Rattle.pg_cert.specs.Faults.{WitnessFault, WitnessFaultIfThere, first_fault}
+use Rattle.pg_cert.specs.Laws.{CoversWithoutFault, Says, VerdictsAreTrue, WitnessFaultsAreReal}
 
 module _ (covering : CoveringBounds) (compatible : NoneIsCompatible) (enum_view : EnumView) (old new : Shape) (view : ViewName) (root : Pair) (bounds : List PairBound) (is_enum_view : IsEnumView enum_view) (is_old : IsShape old) (is_new : IsShape new) where
   of_bound : (bound : Option (Option ℕ)) → bound_in bounds root ≡ bound → Covers enum_view old new (bound_in bounds) root → Says enum_view old new (record { view = view; root = root; bounds = bounds; witness = None }) (bound_verdict bound)
@@ -41,32 +45,69 @@ module _ (covering : CoveringBounds) (compatible : NoneIsCompatible) (enum_view 
 pub verdicts_are_true : CoveringBounds → NoneIsCompatible → VerdictsAreTrue
 verdicts_are_true covering compatible enum_view old new claim is_enum_view is_old is_new holds = of_witness covering compatible enum_view old new claim.view claim.root claim.bounds is_enum_view is_old is_new claim.witness holds
 
--- The verdict of a claim without a witness whose table has no fault.
-pub says : VerdictsAreTrue → (enum_view : EnumView) (old new : Shape) (claim : Claim) → IsEnumView enum_view → IsShape old → IsShape new → Covers enum_view old new (bound_in claim.bounds) claim.root → claim.witness ≡ None →
-    (verdict : Verdict) → verdict ≡ bound_verdict (bound_in claim.bounds claim.root) → Says enum_view old new claim verdict
-says true_ enum_view old new claim is_enum_view is_old is_new covers no_witness verdict is =
-    subst (Says enum_view old new claim) (sym (is ∙ without claim.witness no_witness))
-    (true_ enum_view old new claim is_enum_view is_old is_new (record { covers = covers; witnessed = none_there claim.witness no_witness }))
-  where
-    none_there : (witness : Option (List ℕ)) → witness ≡ None → IsWitnessedIfThere enum_view old new claim.root (bound_in claim.bounds claim.root) witness
-    none_there None h = tt
-    none_there (Some bytes) h = absurd (cc)
+-- ---- what a checker answers
 
-    without : (witness : Option (List ℕ)) → witness ≡ None → bound_verdict (bound_in claim.bounds claim.root) ≡ verdict_of (record { view = claim.view; root = claim.root; bounds = claim.bounds; witness = witness })
-    without None h = refl
-    without (Some bytes) h = absurd (cc)
+module _ (enum_view : EnumView) (old new : Shape) (claim : Claim) where
+  abbrev bound : Option (Option ℕ)
+  bound = bound_in claim.bounds claim.root
 
--- That of a claim with a witness: it is a least one.
-pub says_witnessed : VerdictsAreTrue → (enum_view : EnumView) (old new : Shape) (claim : Claim) → IsEnumView enum_view → IsShape old → IsShape new → Covers enum_view old new (bound_in claim.bounds) claim.root → (bytes : List ℕ) → claim.witness ≡ Some bytes →
-    IsWitnessed enum_view old new claim.root (bound_in claim.bounds claim.root) bytes → Says enum_view old new claim verdicts.Breaks
-says_witnessed true_ enum_view old new claim is_enum_view is_old is_new covers bytes is witnessed =
-    subst (Says enum_view old new claim) (with_one claim.witness is)
-    (true_ enum_view old new claim is_enum_view is_old is_new (record { covers = covers; witnessed = there claim.witness is }))
-  where
-    there : (witness : Option (List ℕ)) → witness ≡ Some bytes → IsWitnessedIfThere enum_view old new claim.root (bound_in claim.bounds claim.root) witness
-    there None h = absurd (cc)
-    there (Some xs) h = let same : bytes ≡ xs = cc in subst (IsWitnessed enum_view old new claim.root (bound_in claim.bounds claim.root)) same witnessed
+  found : VerdictsAreTrue → IsEnumView enum_view → IsShape old → IsShape new → Holds enum_view old new claim → (verdict : Verdict) → verdict ≡ verdict_of claim → IsChecked enum_view old new claim (Ok verdict)
+  found true_ is_enum_view is_old is_new holds verdict is = record {
+    holds = holds;
+    verdict = is;
+    says = subst (Says enum_view old new claim) (sym is) (true_ enum_view old new claim is_enum_view is_old is_new holds);
+    first_fault = tt;
+    refused = tt;
+  }
 
-    with_one : (witness : Option (List ℕ)) → witness ≡ Some bytes → verdict_of (record { view = claim.view; root = claim.root; bounds = claim.bounds; witness = witness }) ≡ verdicts.Breaks
-    with_one None h = absurd (cc)
-    with_one (Some xs) h = refl
+  -- a claim without a witness whose table has no fault
+  pub found_alone : VerdictsAreTrue → IsEnumView enum_view → IsShape old → IsShape new → Covers enum_view old new (bound_in claim.bounds) claim.root → claim.witness ≡ None
+      → (verdict : Verdict) → verdict ≡ bound_verdict bound → IsChecked enum_view old new claim (Ok verdict)
+  found_alone true_ is_enum_view is_old is_new covers no_witness verdict is =
+      found true_ is_enum_view is_old is_new
+      (record { covers = covers; witnessed = subst (IsWitnessedIfThere enum_view old new claim.root bound) (sym no_witness) tt }) verdict
+      (is ∙ without claim.witness no_witness)
+    where
+      without : (witness : Option (List ℕ)) → witness ≡ None → bound_verdict bound ≡ verdict_of (record { view = claim.view; root = claim.root; bounds = claim.bounds; witness = witness })
+      without None h = refl
+      without (Some bytes) h = absurd (cc)
+
+  module _ (bytes : List ℕ) (there : claim.witness ≡ Some bytes) where
+    -- one with a witness
+    pub found_witnessed : VerdictsAreTrue → IsEnumView enum_view → IsShape old → IsShape new → Covers enum_view old new (bound_in claim.bounds) claim.root
+        → IsWitnessed enum_view old new claim.root bound bytes → IsChecked enum_view old new claim (Ok verdicts.Breaks)
+    found_witnessed true_ is_enum_view is_old is_new covers witnessed =
+        found true_ is_enum_view is_old is_new
+        (record { covers = covers; witnessed = subst (IsWitnessedIfThere enum_view old new claim.root bound) (sym there) witnessed }) verdicts.Breaks
+        (with_one claim.witness there)
+      where
+        with_one : (witness : Option (List ℕ)) → witness ≡ Some bytes → verdicts.Breaks ≡ verdict_of (record { view = claim.view; root = claim.root; bounds = claim.bounds; witness = witness })
+        with_one None h = absurd (cc)
+        with_one (Some xs) h = refl
+
+    -- one whose witness has a fault
+    pub bad_witness : WitnessFaultsAreReal → first_fault enum_view old new claim.bounds claim.root ≡ None → (e : CertError) → (e ≡ errors.Memory) ⊎ WitnessFault enum_view old new claim.root bound bytes e
+        → IsChecked enum_view old new claim (Err e)
+    bad_witness real faultless e (inl memory) = record { holds = tt; verdict = tt; says = tt; first_fault = inl memory; refused = inl memory }
+    bad_witness real faultless e (inr fault) = record {
+      holds = tt;
+      verdict = tt;
+      says = tt;
+      first_fault = inr (inr (faultless, subst (λ witness. WitnessFaultIfThere enum_view old new claim.root bound witness e) (sym there) fault));
+      refused = inr (λ holds. real enum_view old new claim.root bound bytes e fault (subst (IsWitnessedIfThere enum_view old new claim.root bound) there holds.witnessed));
+    }
+
+  -- one whose table has a fault
+  pub bad_table : CoversWithoutFault → are_bounds claim.bounds ≡ true → (e : CertError) → (e ≡ errors.Memory) ⊎ (first_fault enum_view old new claim.bounds claim.root ≡ Some e)
+      → IsChecked enum_view old new claim (Err e)
+  bad_table covered bounds e (inl memory) = record { holds = tt; verdict = tt; says = tt; first_fault = inl memory; refused = inl memory }
+  bad_table covered bounds e (inr fault) = record {
+    holds = tt;
+    verdict = tt;
+    says = tt;
+    first_fault = inr (inl fault);
+    refused = inr (λ holds. none_there ((covered enum_view old new claim.bounds claim.root bounds).1 holds.covers));
+  }
+    where
+      none_there : first_fault enum_view old new claim.bounds claim.root ≡ None → ⊥
+      none_there none = let no : ◌≡◌ {A = Option CertError} None (Some e) = sym none ∙ fault in cc

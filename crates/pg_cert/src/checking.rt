@@ -7,11 +7,10 @@ ghost use Rattle.pg_pairs.specs.NamedView.{seen_under};
 ghost use Rattle.pg_pairs.specs.SeenBy.{seen_by};
 ghost use Rattle.pg_cert.specs.declared.error.CertError.TheVariants as errors;
 ghost use Rattle.pg_cert.specs.Bounds.{bound_in};
-ghost use Rattle.pg_cert.specs.Certificate.{Holds, bound_verdict, verdict_of};
+ghost use Rattle.pg_cert.specs.Certificate.{bound_verdict, verdict_of};
 ghost use Rattle.pg_cert.specs.ClaimView.{HoldsOf, IsFirstFaultOf, SaysOf};
 ghost use Rattle.pg_cert.specs.Checked.{IsChecked};
-ghost use Rattle.pg_cert.specs.Faults.{IsFirstFault, cheaper_choice, first_fault, first_pair_fault, is_within, missing_child, pair_fault};
-ghost use Rattle.pg_cert.specs.Laws.{Says};
+ghost use Rattle.pg_cert.specs.Faults.{cheaper_choice, first_fault, first_pair_fault, is_within, missing_child, pair_fault};
 
 use crate::bounds::{Bounds, PairBound};
 use crate::certificate::Certificate;
@@ -222,17 +221,8 @@ fn check_with<V: View>(
     new: &Schema,
     certificate: &Certificate,
 ) -> Result<Verdict, CertError>
-    ensures holds { OnOk result (Holds (seen_by V.View view.now old.now new.now)
-        (shape_of old.now) (shape_of new.now) certificate.now) }
-    ensures verdict { IfOk result (λ verdict. verdict ≡ verdict_of certificate.now) }
-    ensures says { IfOk result (λ verdict. Says (seen_by V.View view.now old.now new.now)
-        (shape_of old.now) (shape_of new.now) certificate.now verdict) }
-    ensures first_fault { IfErr result
-        (λ e. (e ≡ errors.Memory) ⊎ IsFirstFault (seen_by V.View view.now old.now new.now)
-        (shape_of old.now) (shape_of new.now) certificate.now e) }
-    ensures refused { IfErr result (λ e. (e ≡ errors.Memory)
-        ⊎ ¬ (Holds (seen_by V.View view.now old.now new.now) (shape_of old.now)
-        (shape_of new.now) certificate.now)) }
+    ensures { IsChecked (seen_by V.View view.now old.now new.now) (shape_of old.now)
+        (shape_of new.now) certificate.now result }
 {
     // What holds of every schema and every view, and what a table without fault shows.
     old.parts();

@@ -6,6 +6,5 @@ use Rattle.pg_cert.proofs.checking.check_by_name.Goals as goal
 
 pub returns : goal.returns
 returns g c =
-    let found = c.check_with.ensures in
     subst (λ enum_view. IsChecked enum_view (shape_of c.args.old.now) (shape_of c.args.new.now) c.args.certificate.now c.check_with.result) c.sees_by_name.ensures
-    (record { holds = found.holds; verdict = found.verdict; says = found.says; first_fault = found.first_fault; refused = found.refused })
+    c.check_with.ensures
