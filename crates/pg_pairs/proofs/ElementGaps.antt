@@ -1,13 +1,13 @@
 -- The gap between elements that are no messages, and which items aren't seen.
-use Rattle.std.proofs.Common.{◌≡◌, Bool, true, false, ◌&&◌, Some, refl, ap, sym, ◌∙◌}
+use Rattle.std.proofs.Common.{◌≡◌, pos, Bool, true, false, Some, refl, ap, sym, subst, ◌∙◌}
 use Rattle.pg_schema.specs.declared.parts.field.Element.{Element}
 use Rattle.pg_schema.specs.declared.parts.field.Element.TheVariants as elements
-use Rattle.pg_dyn.specs.Message.{Leaf, Int, F32, F64, Bytes, is_zero, leaf_eq}
+use Rattle.pg_dyn.specs.Message.{Leaf, Int, is_zero}
 use Rattle.pg_dyn.specs.Coding.{Form, Integer, Single, Double, Text, Raw, form, zero_leaf, InRange}
-use Rattle.pg_dyn.specs.Comparison.{numbers, alike_leaves}
+use Rattle.pg_dyn.specs.Comparison.{View, alike_leaves}
 use Rattle.pg_pairs.specs.Likeness.{like_forms, like}
 use Rattle.pg_pairs.specs.Gaps.{is_seen}
-use Rattle.pg_pairs.specs.ElementGaps.{IsNoMessage, ElementGaps, UnseenAreNotZero}
+use Rattle.pg_pairs.specs.ElementGaps.{IsNoMessage, FindsZeroAlike, ElementGaps, UnseenAreNotZero}
 use Rattle.pg_pairs.proofs.GapItems.{IsLeafy, gap_item_is}
 use Rattle.pg_pairs.proofs.Leaves.{seen_from}
 use Rattle.pg_dyn.proofs.PublicLaws.{equal_leaves}
@@ -41,30 +41,26 @@ forms_like (elements.Scalar s) (elements.Enum t) no_message h = h
 forms_like (elements.Enum s) (elements.Scalar t) no_message h = h
 forms_like (elements.Enum s) (elements.Enum t) no_message h = h
 
-also_true : (b : Bool) → b ≡ true → (b && true) ≡ true
-also_true b h = rw h refl
+-- zero is alike to itself, of two enums where the view says so
+alike_zero : (view : View) (old new : Element) → FindsZeroAlike view old new → alike_leaves view old new (zero_leaf (form new)) (zero_leaf (form new)) ≡ true
+alike_zero view (elements.Enum s) (elements.Enum t) alike = rw alike ((equal_leaves (Int (pos 0)) (Int (pos 0))).1 refl)
+alike_zero view (elements.Enum s) (elements.Scalar t) alike = let zero = zero_leaf (form (elements.Scalar t)) in (equal_leaves zero zero).1 refl
+alike_zero view (elements.Enum s) (elements.Message t) alike = let zero = zero_leaf (form (elements.Message t)) in (equal_leaves zero zero).1 refl
+alike_zero view (elements.Scalar s) new alike = let zero = zero_leaf (form new) in (equal_leaves zero zero).1 refl
+alike_zero view (elements.Message s) new alike = let zero = zero_leaf (form new) in (equal_leaves zero zero).1 refl
 
--- by number an item is alike to itself
-alike_itself : (old new : Element) (item : Leaf) → alike_leaves numbers old new item item ≡ true
-alike_itself (elements.Enum s) (elements.Enum t) (Int n) = also_true (leaf_eq (Int n) (Int n)) ((equal_leaves (Int n) (Int n)).1 refl)
-alike_itself (elements.Enum s) (elements.Enum t) (F32 n) = (equal_leaves (F32 n) (F32 n)).1 refl
-alike_itself (elements.Enum s) (elements.Enum t) (F64 n) = (equal_leaves (F64 n) (F64 n)).1 refl
-alike_itself (elements.Enum s) (elements.Enum t) (Bytes bytes) = (equal_leaves (Bytes bytes) (Bytes bytes)).1 refl
-alike_itself (elements.Enum s) (elements.Scalar t) item = (equal_leaves item item).1 refl
-alike_itself (elements.Enum s) (elements.Message t) item = (equal_leaves item item).1 refl
-alike_itself (elements.Scalar s) new item = (equal_leaves item item).1 refl
-alike_itself (elements.Message s) new item = (equal_leaves item item).1 refl
-
--- like elements have one zero item and write it alike
-zero_seen : (old new : Element) → IsNoMessage old → like old new ≡ true → (item : Leaf) → InRange (form old) item → is_zero item ≡ true → is_seen numbers old new item ≡ true
-zero_seen old new no_message is_like item range zero =
-    let wires = like_wire old new is_like in
-    let same : item ≡ zero_leaf (form new) = zero_by_form (form old) item range zero ∙ like_zeros (form old) (form new) (forms_like old new no_message is_like) in
-    seen_from numbers old new item (zero_across old new item wires range zero ∙ ap Some (sym same)) (alike_itself old new item)
+module _ (view : View) (old new : Element) (alike : FindsZeroAlike view old new) (no_message : IsNoMessage old) (is_like : like old new ≡ true) where
+  -- like elements have one zero item and write it alike
+  zero_seen : (item : Leaf) → InRange (form old) item → is_zero item ≡ true → is_seen view old new item ≡ true
+  zero_seen item range zero =
+      let wires = like_wire old new is_like in
+      let same : item ≡ zero_leaf (form new) = zero_by_form (form old) item range zero ∙ like_zeros (form old) (form new) (forms_like old new no_message is_like) in
+      seen_from view old new item (zero_across old new item wires range zero ∙ ap Some (sym same))
+      (subst (λ i. alike_leaves view old new i i ≡ true) (sym same) (alike_zero view old new alike))
 
 pub unseen_are_not_zero : UnseenAreNotZero
-unseen_are_not_zero old new no_message is_like item range unseen = of (is_zero item) refl
+unseen_are_not_zero view old new alike no_message is_like item range unseen = of (is_zero item) refl
   where
     of : (b : Bool) → is_zero item ≡ b → is_zero item ≡ false
     of false e = e
-    of true e = let seen = zero_seen old new no_message is_like item range e in absurd (cc)
+    of true e = let seen = zero_seen view old new alike no_message is_like item range e in absurd (cc)

@@ -1,10 +1,10 @@
 -- The gap between any two like elements that are no messages, under any view of enum items; and zero, which like elements see.
-use Rattle.std.specs.Prelude.{◌≡◌, ⊤, Bool, true, false}
+use Rattle.std.specs.Prelude.{◌≡◌, ⊤, pos, Bool, true, false}
 use Rattle.pg_schema.specs.declared.parts.field.Element.{Element}
 use Rattle.pg_schema.specs.declared.parts.field.Element.TheVariants as elements
 use Rattle.pg_dyn.specs.Message.{Leaf, is_zero}
 use Rattle.pg_dyn.specs.Coding.{form, InRange}
-use Rattle.pg_dyn.specs.Comparison.{numbers}
+use Rattle.pg_dyn.specs.Comparison.{View}
 use Rattle.pg_pairs.specs.EnumView.{EnumView, IsEnumView}
 use Rattle.pg_pairs.specs.Likeness.{like}
 use Rattle.pg_pairs.specs.Gaps.{is_seen, IsGapItem, gap_item}
@@ -21,8 +21,16 @@ ElementGaps =
     (enum_view : EnumView) → IsEnumView enum_view → (zero : Bool) (old new : Element) → IsNoMessage old → like old new ≡ true →
     IsGapItem enum_view.alike zero old new (gap_item enum_view zero old new)
 
--- By number, zero is seen between any two like elements: an item that isn't seen isn't zero.
+-- of two enums the view finds 0 alike
+abbrev pub FindsZeroAlike : View → Element → Element → Type 0
+FindsZeroAlike view (elements.Enum s) (elements.Enum t) = view s t (pos 0) ≡ true
+FindsZeroAlike view (elements.Enum s) (elements.Scalar t) = ⊤
+FindsZeroAlike view (elements.Enum s) (elements.Message t) = ⊤
+FindsZeroAlike view (elements.Scalar s) new = ⊤
+FindsZeroAlike view (elements.Message s) new = ⊤
+
+-- Zero is seen between any two like elements, under any view, of two enums where it finds 0 alike: an item that isn't seen isn't zero.
 abbrev pub UnseenAreNotZero : Type 0
 UnseenAreNotZero =
-    (old new : Element) → IsNoMessage old → like old new ≡ true → (item : Leaf) → InRange (form old) item →
-    is_seen numbers old new item ≡ false → is_zero item ≡ false
+    (view : View) (old new : Element) → FindsZeroAlike view old new → IsNoMessage old → like old new ≡ true → (item : Leaf) → InRange (form old) item →
+    is_seen view old new item ≡ false → is_zero item ≡ false
