@@ -75,6 +75,7 @@ pub mod Reaching
 pub mod ReturnSteps
 pub mod HomeExamples
 pub mod ReadBack
+pub mod CoversByNumber
 pub mod Dearer
 pub mod KeptUpTo
 pub mod ToChildren

@@ -16,6 +16,7 @@ pub mod CarriedItems
 pub mod Choices
 pub mod Cheapest
 pub mod Covering
+pub mod CoversByNumber
 pub mod Comparing
 pub mod Members
 pub mod LeastMembers

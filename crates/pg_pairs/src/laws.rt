@@ -5,6 +5,7 @@ ghost use Rattle.pg_pairs.specs.Carried.{EachChildCostsLess, EachChoiceIsCarried
 ghost use Rattle.pg_pairs.specs.Cheapest.{CheapestIsLeast};
 ghost use Rattle.pg_pairs.specs.ComesHome.{MessagesComeHome};
 ghost use Rattle.pg_pairs.specs.Contents.{ContentsCost};
+ghost use Rattle.pg_pairs.specs.CoversByNumber.{CoversByNumber};
 ghost use Rattle.pg_pairs.specs.Edges.{ChoicesByEdges, LeastCostsByEdges, PairsLeadToPairs};
 ghost use Rattle.pg_pairs.specs.ElementGaps.{ElementGaps, UnseenAreNotZero};
 ghost use Rattle.pg_pairs.specs.FieldCosts.{ChildrenCost, ListsCost, MapsCost, SingleScalarsCost};
@@ -46,8 +47,8 @@ pub fn element_gaps()
     ensures { ElementGaps }
 {}
 
-/// An item that the reader of a like element doesn't read as the same item isn't zero, where enum
-/// items are compared by their numbers.
+/// An item that the reader of a like element doesn't read as the same item isn't zero, under any
+/// view; of two enums where the view finds 0 alike.
 pub fn unseen_are_not_zero()
     ensures { UnseenAreNotZero }
 {}
@@ -115,6 +116,11 @@ pub fn covering_bounds()
 /// A pair whose bound is 'none' in such a table is compatible.
 pub fn none_is_compatible()
     ensures { NoneIsCompatible }
+{}
+
+/// A table that covers a pair under any view covers it by number.
+pub fn covers_by_number()
+    ensures { CoversByNumber }
 {}
 
 /// Each choice of a pair is the length of a message that breaks, if for each smaller number in the

@@ -1,0 +1,5 @@
+use Rattle.pg_pairs.proofs.CoversByNumber as CoversByNumber
+use Rattle.pg_pairs.proofs.laws.covers_by_number.Goals as goal
+
+pub returns : goal.returns
+returns c = CoversByNumber.covers_by_number
