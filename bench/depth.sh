@@ -8,6 +8,7 @@
 set -eu
 top=$(cd "$(dirname "$0")/.." && pwd)
 work=${1:-$(mktemp -d)}
+mkdir -p "$work"
 stack=${2:-8192}
 shift $(($# < 2 ? $# : 2))
 [ $# -gt 0 ] || set -- {own,lent,relay,breaks}:{fields,lists,maps} gate verify
