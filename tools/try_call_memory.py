@@ -33,6 +33,8 @@ CRATES = os.path.join(ROOT, "crates")
 LACKS = "Memory"
 # How a program or a test ends where a request of its own was refused.
 OWN = re.compile(rb"Error: Kind\(OutOfMemory\)\n|error: (AllocError|AllocFailed \{ \.\. \}|Memory)\n(the test failed: its result gives status 1\n)?")
+# What a test prints last that passes.
+PASSED = b"\ntest result: ok\n"
 # So many wrong runs of a row or a test are printed.
 MOST_PRINTED = 5
 
@@ -172,7 +174,7 @@ def kind_of_test(said, status, faults):
     """Returns what a test did. One that lacked memory and then had the answer says so, and passes."""
     if status:
         return "own" if not said and OWN.fullmatch(faults) else "wrong"
-    return {b"": "answered", LACKS.encode() + b"\n": "told"}.get(said, "wrong")
+    return {b"": "answered", LACKS.encode() + b"\n": "told"}.get(said.removesuffix(PASSED), "wrong")
 
 
 def runs_of_rows(call, row, library):
