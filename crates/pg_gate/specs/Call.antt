@@ -1,5 +1,5 @@
 -- What the words of a command line call for.
-use Rattle.std.specs.Prelude.{◌≡◌, Bool, true, false, List, [], ◌∷◌, Option, Some, None, codes}
+use Rattle.std.specs.Prelude.{◌≡◌, Bool, true, false, List, [], ◌∷◌, ◌++◌, Option, Some, None, codes}
 use Rattle.std.specs.Prelude.{unwrap_or, option_map, if◌then◌else◌}
 use Rattle.std.specs.Borrow.{Bor}
 use Rattle.std.specs.Option.{option_map_or}
@@ -26,6 +26,7 @@ pub data Request : Type 0 where
   gate : (sides : SideTexts) (root : Text) (certificate_only both : Bool) (view : ViewName) → Request
   show : (dir file root word : Text) → Request
   verify : (sides : SideTexts) (certificate : Text) → Request
+  types : (dir : Text) (files : List Text) → Request
 
 abbrev pub sides_of : Sides → SideTexts
 sides_of s = record {
@@ -40,6 +41,7 @@ request_of (call.Compile dir files) = compile dir.now (texts files.items)
 request_of (call.Gate sides root certificate_only both view) = gate (sides_of sides) root.now certificate_only both view
 request_of (call.Show dir file root word) = show dir.now file.now root.now word.now
 request_of (call.Verify sides certificate) = verify (sides_of sides) certificate.now
+request_of (call.Types dir files) = types dir.now (texts files.items)
 
 -- ---- from clap's matches
 
@@ -80,12 +82,17 @@ verify_in rows = verify (sides_in rows) (text_at (codes "CERT") rows)
 abbrev pub show_in : List Row → Request
 show_in rows = show (text_at (codes "dir") rows) (text_at (codes "file") rows) (text_at (codes "type") rows) (text_at (codes "HEX") rows)
 
--- the call of a subcommand and its matches; clap has only these four
+-- the file of `--file`, where it is there, and those that are named without it
+abbrev pub types_in : List Row → Request
+types_in rows = types (text_at (codes "dir") rows) (texts_at (codes "file") rows ++ texts_at (codes "FILE") rows)
+
+-- the call of a subcommand and its matches; clap has only these five
 abbrev pub request_in : Text × List Row → Request
 request_in met =
     if bytes_eq met.0 (codes "compile") then compile_in met.1
     else if bytes_eq met.0 (codes "gate") then gate_in met.1
     else if bytes_eq met.0 (codes "verify") then verify_in met.1
+    else if bytes_eq met.0 (codes "types") then types_in met.1
     else show_in met.1
 
 -- the call of a parse with these faults, at this subcommand

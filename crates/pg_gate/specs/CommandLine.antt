@@ -34,6 +34,10 @@ positional name = record (new_rule name) { required = true }
 abbrev pub positionals : Text → Rule
 positionals name = record (positional name) { action = Some Append }
 
+-- the same of an argument that may be left out
+abbrev pub optional : Rule → Rule
+optional rule = record rule { required = false }
+
 -- `--NAME`
 abbrev pub flag : Text → Rule
 flag name = record (new_rule name) { long = Some name; action = Some SetTrue }
@@ -65,13 +69,21 @@ abbrev pub show_app : App
 show_app = with_rules (new_app (codes "show")) (folder (codes "dir") ∷ named (codes "file") ∷ named (codes "type")
     ∷ positional (codes "HEX") ∷ [])
 
+-- the command without any words asks for help
+abbrev pub needs_words : App → App
+needs_words app = record app { top = record app.top { arg_required_else_help = true } }
+
+abbrev pub types_app : App
+types_app = with_rules (needs_words (new_app (codes "types"))) (folder (codes "dir") ∷ optional (named (codes "file"))
+    ∷ optional (positionals (codes "FILE")) ∷ [])
+
 abbrev pub top_app : App
 top_app = let app = new_app (codes "protogate") in
     record app { top = record app.top { no_binary_name = true; subcommand_required = true; has_version = true } }
 
 abbrev pub whole_app : Bor (List (Bor Text)) → App
-whole_app names = with_subcommand (with_subcommand (with_subcommand (with_subcommand top_app compile_app.top) (gate_app names).top)
-    verify_app.top) show_app.top
+whole_app names = with_subcommand (with_subcommand (with_subcommand (with_subcommand (with_subcommand top_app compile_app.top) (gate_app names).top)
+    verify_app.top) show_app.top) types_app.top
 
 -- a command of this shape, with no argument that is global
 pub record HasApp (app : App) (command : Command) : Type 0 where

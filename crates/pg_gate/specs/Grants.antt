@@ -7,16 +7,17 @@ use Rattle.pg_dyn.specs.declared.view_name.ViewName.{ViewName}
 use Rattle.pg_dyn.specs.Kept.{Kept}
 use Rattle.pg_pairs.specs.NamedView.{seen_under}
 use Rattle.pg_schema.specs.declared.parts.Parts.{Parts}
-use Rattle.pg_gate.specs.Call.{Request, compile, gate, show, verify}
+use Rattle.pg_gate.specs.Call.{Request, compile, gate, show, types, verify}
 use Rattle.pg_link.specs.Walk.{World, world}
 use Rattle.pg_gate.specs.Errors.{IsCallError, IsError, IsMemory}
 use Rattle.pg_gate.specs.Failures.{call_failures_at}
-use Rattle.pg_gate.specs.Files.{IsErrorOf, IsFaultOfSet, IsFaultOfSide, IsSetOf, IsSide}
+use Rattle.pg_gate.specs.Files.{IsErrorOf, IsFaultOfSet, IsFaultOfSide, IsSetOf, IsSide, IsSideError}
 use Rattle.pg_gate.specs.Answer.{IsAnswer, IsBroken, IsCompatible, Lacks, certificate_of}
 use Rattle.pg_gate.specs.declared.answer.gate.Answer.{Answer}
 use Rattle.pg_gate.specs.Refusals.{refusal_for}
 use Rattle.pg_gate.specs.Showing.{IsBadWord, IsRefusedWord, IsShown}
 use Rattle.pg_gate.specs.Steps.{AreSteps}
+use Rattle.pg_gate.specs.TypeNames.{ListsTypes}
 use Rattle.pg_gate.specs.Verified.{IsClaimFault, IsHeldBy}
 use Rattle.pg_gate.specs.ViewAnswer.{IsAnswerUnder}
 use Rattle.pg_gate.specs.declared.call.error.CallError.{CallError}
@@ -208,6 +209,14 @@ IsShowReply w root word (replies.Found finding) = ⊥
 IsShowReply w root word (replies.Both forward backward) = ⊥
 IsShowReply w root word (replies.Refused refusal) = ⊥
 
+-- the full names of the message types of the files, and nothing else
+abbrev pub IsTypesReply : World → Reply → Type 0
+IsTypesReply w (replies.Set bytes) = ⊥
+IsTypesReply w (replies.Shown text) = OfSide w (λ schema. ListsTypes schema (string_bytes text))
+IsTypesReply w (replies.Found finding) = ⊥
+IsTypesReply w (replies.Both forward backward) = ⊥
+IsTypesReply w (replies.Refused refusal) = ⊥
+
 -- what a certificate shows, and nothing else
 abbrev pub IsVerifyReply : Text → World → World → Reply → Type 0
 IsVerifyReply path old new (replies.Set bytes) = ⊥
@@ -224,6 +233,7 @@ IsReplyFor old new (gate sides root certificate_only both view) reply =
 IsReplyFor old new (show dir file root word) reply = IsShowReply (world_of old dir (file ∷ [])) root word reply
 IsReplyFor old new (verify sides certificate) reply =
     IsVerifyReply certificate (world_of old sides.old_dir (sides.old ∷ [])) (world_of new sides.new_dir (sides.new ∷ [])) reply
+IsReplyFor old new (types dir files) reply = IsTypesReply (world_of old dir files) reply
 
 -- an error that no call but `verify` and `show` ends in
 abbrev pub OfGate : (GateError → Type 0) → CallError → Type 0
@@ -237,6 +247,7 @@ IsErrorFor old new (gate sides root certificate_only both view) error =
 IsErrorFor old new (show dir file root word) error = IsShowError (world_of old dir (file ∷ [])) root word error
 IsErrorFor old new (verify sides certificate) error =
     IsVerifyError certificate (world_of old sides.old_dir (sides.old ∷ [])) (world_of new sides.new_dir (sides.new ∷ [])) error
+IsErrorFor old new (types dir files) error = OfGate (IsSideError (world_of old dir files) sides.Old) error
 
 -- each source's count of failures rose by just so much
 pub record Counted (old new : Seen) (failures : Side → ℕ) : Type 0 where

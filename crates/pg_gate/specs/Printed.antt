@@ -3,7 +3,7 @@ use Rattle.std.specs.Prelude.{ℕ, ◌==◌, ◌||◌, [], if◌then◌else◌, 
 use Rattle.clap.specs.Words.{Text}
 use Rattle.pg_cert.specs.declared.verdict.Verdict.{Verdict}
 use Rattle.pg_cert.specs.declared.verdict.Verdict.TheVariants as verdicts
-use Rattle.pg_gate.specs.Call.{Request, compile, gate, show, verify}
+use Rattle.pg_gate.specs.Call.{Request, compile, gate, show, types, verify}
 use Rattle.pg_gate.specs.Text.{both_of, finding_of, refusal_of}
 use Rattle.pg_gate.specs.declared.print.refusal.Refusal.{Refusal}
 use Rattle.pg_gate.specs.declared.print.reply.Finding.{Finding}
@@ -50,12 +50,13 @@ text_of root (reply.Found f) = finding_of root f
 text_of root (reply.Both forward backward) = both_of root forward backward
 text_of root (reply.Refused r) = refusal_of r
 
--- the name of the root types; a certificate has its own, and a set and the lines of a message have none
+-- the name of the root types; a certificate has its own; a set, the lines of a message and the names of types have none
 abbrev pub root_of : Request → Text
 root_of (compile dir files) = []
 root_of (gate sides root certificate_only both view) = root
 root_of (show dir file root word) = []
 root_of (verify sides certificate) = []
+root_of (types dir files) = []
 
 pub record Printed : Type 0 where
   pub text : Text

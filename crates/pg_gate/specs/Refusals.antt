@@ -5,7 +5,7 @@ use Rattle.pg_dyn.specs.Codes.{place_of as message_place}
 use Rattle.pg_fds.specs.ErrorCodes.{place_of as set_place}
 use Rattle.pg_link.specs.Codes.{place_of as link_place}
 use Rattle.pg_link.specs.declared.error.Place.{Place}
-use Rattle.pg_gate.specs.Call.{Request, compile, gate, show, verify}
+use Rattle.pg_gate.specs.Call.{Request, compile, gate, show, types, verify}
 use Rattle.pg_gate.specs.Codes.{call_code}
 use Rattle.pg_gate.specs.declared.call.error.CallError.{CallError}
 use Rattle.pg_gate.specs.declared.call.error.CallError.TheVariants as calls
@@ -85,3 +85,4 @@ refusal_for (compile dir files) error = option_map without_side (refusal_of erro
 refusal_for (gate sides root certificate_only both view) error = refusal_of error
 refusal_for (show dir file root word) error = option_map without_side (refusal_of error)
 refusal_for (verify sides certificate) error = refusal_of error
+refusal_for (types dir files) error = option_map without_side (refusal_of error)

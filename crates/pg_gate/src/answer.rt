@@ -10,5 +10,6 @@ pub(crate) mod sets;
 pub(crate) mod showing;
 pub(crate) mod step;
 pub(crate) mod stepping;
+pub(crate) mod type_names;
 pub(crate) mod verified;
 pub(crate) mod verifying;

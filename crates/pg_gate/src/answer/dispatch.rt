@@ -16,6 +16,7 @@ use crate::answer::compile::Compiled;
 use crate::answer::gate::gate_with;
 use crate::answer::showing::shown;
 use crate::answer::stepping::steps;
+use crate::answer::type_names::type_names;
 use crate::answer::verifying::verify;
 use crate::call::error::CallError;
 use crate::call::{Call, Sides};
@@ -243,6 +244,7 @@ fn reply_to<S: Sources, T: Sources>(
         Call::Verify { sides, certificate } => {
             Ok(Reply::Found(verify(alloc, sides, certificate, old, new)?))
         }
+        Call::Types { dir, files } => Ok(Reply::Shown(type_names(alloc, old, dir, files)?)),
     }
 }
 

@@ -14,7 +14,7 @@ use std::alloc::{AllocError, Global};
 
 /// What help says of the statuses.
 const STATUSES: &str = "Statuses:
-  0  compatible: the new reader sees all that the old writer writes; or a set is written, or a message shown
+  0  compatible: the new reader sees all that the old writer writes; or a set is written, a message shown, or types named
   1  breaks: it doesn't see all of some message, of both directions in either
   2  refused: a fault in a file, a certificate or bytes, or the message type is missing
   3  out of memory, or a file or the output failed
@@ -88,6 +88,17 @@ Statuses:
   4  help, the version, or a bad command line
   5  bound: it holds, and says only how long a message is at least that breaks";
 
+/// What help says of the names of types: what is printed, and the statuses.
+const TYPES_ANSWERS: &str = "Prints lines:
+  NAME                  each message type by its full name, in order of declaration, those of imports too
+  refused CODE PLACE    no names, for a fault at the place; `man protogate` has each code
+
+Statuses:
+  0  each type is named
+  2  refused: a fault in a file
+  3  out of memory, or a file or the output failed
+  4  help, the version, or a bad command line";
+
 /// What follows the program's name with `--version`: its version, and the kit that proves it.
 const VERSION: &str = "unreleased, proved with rattle-kit-13f";
 
@@ -99,7 +110,7 @@ const OLD_FILE: &str = "The old proto3 file, or a descriptor set where F doesn't
 
 const NEW_FILE: &str = "The new proto3 file, or a descriptor set where F doesn't end in .proto";
 
-/// What help says of the file by which a message is shown.
+/// What help says of the file by which a message is shown, or whose types are named.
 const SHOWN_FILE: &str = "The proto3 file, or a descriptor set where F doesn't end in .proto";
 
 /// An option that may be left out, and then has that value.
@@ -170,6 +181,14 @@ fn positionals<'a>(alloc: Global, name: &'a str, help: &'a str) -> Arg<'a>
     ensures local { result.global ≡ false }
 {
     positional(alloc, name, help).action(ArgAction::Append)
+}
+
+/// The same of an argument that may be left out.
+fn optional<'a>(arg: Arg<'a>) -> Arg<'a>
+    ensures rule { rule_of result ≡ command_line.optional (rule_of arg.entry) }
+    ensures local { result.global ≡ arg.entry.global }
+{
+    arg.required(false)
 }
 
 /// An option without a value.
@@ -259,6 +278,22 @@ fn show_command<'a>(alloc: Global) -> Result<Command<'a>, AllocError>
         ))
 }
 
+fn types_command<'a>(alloc: Global) -> Result<Command<'a>, AllocError>
+    ensures { IfOk result (HasApp command_line.types_app) }
+{
+    Command::new(alloc, "types")
+        .about("Name the message types of files and of all that they import")
+        .after_help(TYPES_ANSWERS)
+        .arg_required_else_help(true)
+        .arg(folder(alloc, "dir", "The folder of the files and of their imports"))?
+        .arg(optional(named(alloc, "file", "F", SHOWN_FILE)))?
+        .arg(optional(positionals(
+            alloc,
+            "FILE",
+            "The same without --file; or more proto3 files",
+        )))
+}
+
 /// The whole command line, but for the program's name.
 fn whole_command<'a>(alloc: Global, views: &'a [&'a str]) -> Result<Command<'a>, AllocError>
     ensures { IfOk result (HasApp (command_line.whole_app views.entry)) }
@@ -266,7 +301,7 @@ fn whole_command<'a>(alloc: Global, views: &'a [&'a str]) -> Result<Command<'a>,
     Command::new(alloc, "protogate")
         .bin_name("protogate")?
         .about(
-            "Compare proto3 message types before a changed file is released, write descriptor sets, and show messages",
+            "Compare proto3 message types before a changed file is released, write descriptor sets, show messages, and name types",
         )
         .after_help(STATUSES)
         .version(VERSION)
@@ -275,7 +310,8 @@ fn whole_command<'a>(alloc: Global, views: &'a [&'a str]) -> Result<Command<'a>,
         .subcommand(compile_command(alloc)?)?
         .subcommand(gate_command(alloc, views)?)?
         .subcommand(verify_command(alloc)?)?
-        .subcommand(show_command(alloc)?)
+        .subcommand(show_command(alloc)?)?
+        .subcommand(types_command(alloc)?)
 }
 
 /// The value of an option or of a word.
@@ -377,6 +413,19 @@ fn show_call<'a>(found: &ArgMatches<'a>) -> Call<'a>
     }
 }
 
+fn types_call<'a>(alloc: Global, found: &ArgMatches<'a>) -> Result<Call<'a>, AllocError>
+    ensures { IfOk result (λ call.
+        spec.request_of call ≡ spec.types_in (rows_of (found_of found.now))) }
+{
+    let mut files = texts(alloc, found, "file")?;
+    let more = texts(alloc, found, "FILE")?;
+    files.extend_from_slice(&more)?;
+    Ok(Call::Types {
+        dir: text(found, "dir"),
+        files,
+    })
+}
+
 /// What the subcommand of this name calls for.
 fn call_in<'a>(alloc: Global, name: &str, found: &ArgMatches<'a>) -> Result<Call<'a>, AllocError>
     ensures { IfOk result (λ call.
@@ -386,6 +435,7 @@ fn call_in<'a>(alloc: Global, name: &str, found: &ArgMatches<'a>) -> Result<Call
         "compile" => compile_call(alloc, found),
         "gate" => Ok(gate_call(found)),
         "verify" => Ok(verify_call(found)),
+        "types" => types_call(alloc, found),
         _ => Ok(show_call(found)),
     }
 }

@@ -89,7 +89,9 @@ pub(crate) fn refusal_for(call: &Call<'_>, error: CallError) -> Option<Refusal>
 {
     let refusal = refusal_of(error)?;
     match call {
-        Call::Compile { .. } | Call::Show { .. } => Some(refusal.without_side()),
+        Call::Compile { .. } | Call::Show { .. } | Call::Types { .. } => {
+            Some(refusal.without_side())
+        }
         Call::Gate { .. } | Call::Verify { .. } => Some(refusal),
     }
 }

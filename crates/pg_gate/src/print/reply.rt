@@ -15,7 +15,7 @@ use std::fmt;
 pub enum Reply {
     /// The bytes of a descriptor set.
     Set(Vec<u8>),
-    /// The lines of a message.
+    /// The lines of a message, or the names of message types.
     Shown(String),
     /// What is found in the one direction that is asked for.
     Found(Finding),
