@@ -67,6 +67,7 @@ CALLS = [
     Call("verify, a witness not written", f"verify {SIDES} c", ONE, UNSIGNED, certificate(11, "0800" + MINUS_ONE), 2, "refused E805\n"),
     Call("show", "show --dir old --file m.proto --type M 0A0210050A00", message("M m = 1; int32 a = 2;"), "", "", 0,
          "1 m msg\n  2 a int 5\nagain 0a021005\n"),
+    Call("types", "types --dir old m.proto", message("message N { }"), "", "", 0, "M\nM.N\n"),
 ]
 
 

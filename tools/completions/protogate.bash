@@ -25,7 +25,7 @@ _protogate() {
     local word=${COMP_WORDS[COMP_CWORD]} before=${COMP_WORDS[COMP_CWORD - 1]} command=${COMP_WORDS[1]} options=--help
     COMPREPLY=()
     if ((COMP_CWORD == 1)); then
-        COMPREPLY=($(compgen -W 'compile gate verify show --help --version' -- "$word"))
+        COMPREPLY=($(compgen -W 'compile gate verify show types --help --version' -- "$word"))
         return
     fi
     case $command in
@@ -33,6 +33,7 @@ _protogate() {
         gate) options+=' --old-dir --new-dir --old --new --type --view --both --cert' ;;
         verify) options+=' --old-dir --new-dir --old --new' ;;
         show) options+=' --dir --file --type' ;;
+        types) options+=' --dir --file' ;;
         *) return ;;
     esac
     case $before in
@@ -48,7 +49,7 @@ _protogate() {
         *)
             case $command:$word in
                 *:-*) COMPREPLY=($(compgen -W "$options" -- "$word")) ;;
-                compile:*) _protogate_files "$(_protogate_value --dir .)" "$word" ;;
+                compile:* | types:*) _protogate_files "$(_protogate_value --dir .)" "$word" ;;
                 verify:*) _protogate_files . "$word" ;;
             esac
             ;;

@@ -22,6 +22,7 @@ complete -c protogate -n __fish_use_subcommand -a compile -d 'write the descript
 complete -c protogate -n __fish_use_subcommand -a gate -d 'find whether a changed message type may be released'
 complete -c protogate -n __fish_use_subcommand -a verify -d 'check a certificate'
 complete -c protogate -n __fish_use_subcommand -a show -d 'show what bytes are read as'
+complete -c protogate -n __fish_use_subcommand -a types -d 'name the message types of files'
 complete -c protogate -n __fish_use_subcommand -l version -d 'print the version'
 complete -c protogate -l help -d 'print help'
 for command in gate verify
@@ -35,7 +36,7 @@ complete -c protogate -n '__fish_seen_subcommand_from gate show' -l type -x -d '
 complete -c protogate -n '__fish_seen_subcommand_from gate' -l view -x -a 'numbers names' -d 'how enums are compared'
 complete -c protogate -n '__fish_seen_subcommand_from gate' -l both -d 'ask for both directions'
 complete -c protogate -n '__fish_seen_subcommand_from gate' -l cert -d 'print the certificate'
-complete -c protogate -n '__fish_seen_subcommand_from compile show' -l dir -x -a '(__fish_complete_directories)' -d 'the folder of the files'
-complete -c protogate -n '__fish_seen_subcommand_from show' -l file -x -a '(__protogate_files --dir)' -d 'a text, or a descriptor set'
-complete -c protogate -n '__fish_seen_subcommand_from compile' -a '(__protogate_files --dir)'
+complete -c protogate -n '__fish_seen_subcommand_from compile show types' -l dir -x -a '(__fish_complete_directories)' -d 'the folder of the files'
+complete -c protogate -n '__fish_seen_subcommand_from show types' -l file -x -a '(__protogate_files --dir)' -d 'a text, or a descriptor set'
+complete -c protogate -n '__fish_seen_subcommand_from compile types' -a '(__protogate_files --dir)'
 complete -c protogate -n '__fish_seen_subcommand_from verify' -F

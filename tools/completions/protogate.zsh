@@ -23,6 +23,7 @@ _protogate() {
             'gate:find whether a changed message type may be released'
             'verify:check a certificate'
             'show:show what bytes are read as'
+            'types:name the message types of files'
         )
         _describe command commands
         _arguments '--help[print help]' '--version[print the version]'
@@ -42,6 +43,10 @@ _protogate() {
             _arguments '--help[print help]' '--dir[the folder of the file]:folder:_files -/' \
                 '--file[a text, or a descriptor set]:file:_protogate_files --dir' '--type[the full name of the message type]:type: ' \
                 ':bytes in hexadecimal digits: '
+            ;;
+        types)
+            _arguments '--help[print help]' '--dir[the folder of the files]:folder:_files -/' \
+                '--file[a text, or a descriptor set]:file:_protogate_files --dir' '*:file:_protogate_files --dir'
             ;;
     esac
 }
