@@ -186,7 +186,8 @@ fn least_missing(values: &[EnumValue], others: &[EnumValue], zero: bool) -> Opti
 {
     let rise = rise_by_word(others);
     let mut least = None;
-    let mut place = 0;
+    // No value was found yet: the first is sought from the start.
+    let mut place = usize::MAX;
     for value in values {
         if counts(value.number, zero) && is_lesser(value.number, least) {
             place = place_of(others, rise, value.number, place);
