@@ -5,7 +5,7 @@
 
 A call is made by a row of data (crates/*_rows/stdin), which the program of rows that `rt ci` built gets twice. Where memory is refused
 to the first, it prints `Memory`, and the second has memory again and gives its answer, the one in crates/*_rows/stdout. The program ends
-with 0. A row is done where memory is refused to the second. A row of `set` or `put` also prints the content that came back and the
+with 0. A row is done where memory is refused to the second. A row of `set` also prints the content that came back and the
 message as it is then: what it has to print so at some turn stands here. What rows don't show is a test (crates/*_tests): where memory is
 refused, it prints `Memory` and makes the call again, over the same arguments, and passes where that gives the answer.
 
@@ -82,7 +82,6 @@ CALLS = [
     Rows("set", "bytes_rows", ["a map that is set by falling keys is written by rising ones"], [lacks("7"), lacks("{3:1 1:0}", record(2, 7))]),
     Rows("set", "bytes_rows", ["the second member is written alone"], [lacks("7")]),
     Rows("set", "bytes_rows", ["a text and bytes are one key"], [lacks("7"), lacks("{'k:# #6b:#}", record(2, 7))]),
-    Rows("put", "bytes_rows", ["a number that is put clears the other member"], [lacks("7")]),
     Rows("decode_unlimited", "bytes_rows", ["a message of all shapes is read without a limit"]),
     Rows("set", "bytes_rows", ["bytes are set as a text"], [lacks("#61")]),
     Rows(

@@ -2,7 +2,7 @@
 use crate::contents::name_of;
 use crate::reading::answer_of_bytes;
 use crate::records::answer_of_wire;
-use crate::setting::{answer_of_contents, answer_of_puts};
+use crate::setting::answer_of_contents;
 use crate::types::{Types, put};
 use pg_dyn::DynError;
 use pg_schema::Schema;
@@ -19,7 +19,6 @@ fn by_type(
 ) -> Result<String, DynError> {
     match call {
         "set" | "hold" | "whole" | "copied" => answer_of_contents(alloc, schema, call, input),
-        "put" => answer_of_puts(alloc, schema, input),
         "again"
         | "within"
         | "apart"

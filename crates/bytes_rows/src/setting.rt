@@ -3,12 +3,9 @@ use crate::contents::{name_of, spelled_content, spelled_message};
 use crate::draft::contents_of;
 use crate::reading::{copied, written};
 use crate::types::FIRST;
-use pg_dyn::{Content, DynError, Message, Value, fits};
-use pg_schema::{Element, Presence, Scalar, Schema};
-use rows::number_of;
+use pg_dyn::{Content, DynError, Message, fits};
+use pg_schema::Schema;
 use std::alloc::Global;
-
-const INT32: Element = Element::Scalar(Scalar::Int32);
 
 /// Sets a content of a message that fits; of one that doesn't the call answers `TooLong`.
 fn set(
@@ -35,45 +32,6 @@ fn set_each(
     Ok(())
 }
 
-/// Puts a number under that of a field of the type int32 that has presence; for any other, and where
-/// the message doesn't fit, the answer is `TooLong`.
-fn put(
-    schema: &Schema,
-    message: &mut Message,
-    number: u32,
-    value: i32,
-) -> Result<(), (DynError, Content)> {
-    let content = Content::One(Value::Int(i128::from(value)));
-    let Some(field) = schema.field(message.type_id(), number) else {
-        return Err((DynError::TooLong, content));
-    };
-    if field.presence != Presence::Explicit || field.element != INT32 || !fits(schema, message) {
-        return Err((DynError::TooLong, content));
-    }
-    match message.put(schema, number, content) {
-        Ok(()) => Ok(()),
-        Err(back) => Err((DynError::Memory, back)),
-    }
-}
-
-/// Puts the numbers that `FIELD=NUMBER FIELD=NUMBER ..` says, in turn, up to one that is refused.
-fn put_each(
-    schema: &Schema,
-    message: &mut Message,
-    words: &str,
-) -> Result<(), (DynError, Content)> {
-    for word in words.split(' ') {
-        let (number, value) = word.split_once('=').unwrap_or((word, ""));
-        put(
-            schema,
-            message,
-            number_of(number),
-            value.parse().unwrap_or(0),
-        )?;
-    }
-    Ok(())
-}
-
 /// A refusal, the content that came back, and the bytes of the message as it is.
 fn refused(
     alloc: Global,
@@ -96,19 +54,6 @@ fn written_of(
 ) -> Result<String, DynError> {
     let mut message = Message::empty(alloc, FIRST);
     match set_each(schema, &mut message, contents) {
-        Ok(()) => written(alloc, schema, &message),
-        Err((error, back)) => refused(alloc, schema, &message, error, &back),
-    }
-}
-
-/// The bytes of the message that comes of putting numbers in turn.
-pub(crate) fn answer_of_puts(
-    alloc: Global,
-    schema: &Schema,
-    words: &str,
-) -> Result<String, DynError> {
-    let mut message = Message::empty(alloc, FIRST);
-    match put_each(schema, &mut message, words) {
         Ok(()) => written(alloc, schema, &message),
         Err((error, back)) => refused(alloc, schema, &message, error, &back),
     }
