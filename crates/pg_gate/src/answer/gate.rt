@@ -164,9 +164,10 @@ pub fn gate(alloc: Global, old: &Schema, new: &Schema, root: &str) -> Result<Ans
     gate_with(alloc, old, new, root, ViewName::Numbers)
 }
 
-/// The same over two sources: the schemas are those of the texts at these paths and of all that
-/// they import, each read once, the old side first. A side of one path that doesn't end in `.proto`
-/// is the descriptor set there, and its schema the one that the set states.
+/// The same over two sources: the schemas are those of texts that these may give at the paths, and
+/// of all that they import. A fault of the new side is told only where the old side has a schema. A
+/// side of one path that doesn't end in `.proto` is the descriptor set there, and its schema the
+/// one that the set states.
 ///
 /// Refused are want of memory (`Memory`); a side with its first fault (`Compile`): what its texts
 /// can't be linked for, or the first rule of the language that they break, at its place, or what
