@@ -1,5 +1,5 @@
 //! The calls of the gate by themselves, beside the runs of the program.
-use crate::FailingSource;
+use failing_source::FailingSource;
 use pg_gate::{Answer, Fault, Finding, GateError, LinkError, Reply, Side, gate, gate_files};
 use pg_link::{Listed, Sources};
 use pg_schema::Schema;
@@ -135,7 +135,7 @@ fn a_gate_over_files_tells_the_old_side_first(rt: HostRuntime) -> Result<(), Fai
 }
 
 /// The answer over two sources of a message, of which each fails at that read.
-fn over_failing(alloc: Global, old_fails: u64, new_fails: u64) -> Result<Answer, GateError> {
+fn over_failing(alloc: Global, old_fails: u32, new_fails: u32) -> Result<Answer, GateError> {
     let text = b"syntax = \"proto3\";\nmessage M { int32 a = 1; }\n".as_slice();
     let files = [("m.proto", text)];
     let mut old = FailingSource::new(Listed { files: &files }, old_fails);
