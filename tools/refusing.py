@@ -1,8 +1,11 @@
-"""Runs of a program with its requests for memory refused, one in each run: for try_program_memory.py and try_call_memory.py."""
+"""What the testers of the built program share, and runs of a program with its requests for memory refused, one in each run: for
+try_program_memory.py, try_call_memory.py and try_rows.py."""
+import argparse
 import itertools
 import os
 import resource
 import subprocess
+import sys
 
 ROOT = os.path.dirname(os.path.dirname(os.path.abspath(__file__)))
 # How many seconds a run may take.
@@ -16,6 +19,17 @@ def build_library(room):
     library, source = os.path.join(room, "refuse.so"), os.path.join(ROOT, "tools/refuse_memory.c")
     subprocess.run(["cc", "-O2", "-shared", "-fPIC", "-o", library, source, "-ldl"], check=True)
     return library
+
+
+def options_of(doc):
+    """Returns what a tester with this docstring is asked: how many runs side by side, and of which program. Ends where that isn't there."""
+    parser = argparse.ArgumentParser(description=doc.partition("\n")[0])
+    parser.add_argument("--jobs", type=int, default=len(os.sched_getaffinity(0)))
+    parser.add_argument("program", nargs="?", default=os.path.join(ROOT, "crates/protogate/out/protogate"), type=os.path.abspath)
+    options = parser.parse_args()
+    if not os.access(options.program, os.X_OK):
+        sys.exit(f"no program: {options.program}")
+    return options
 
 
 def ask_for_stack():

@@ -11,7 +11,6 @@ A line is printed for each call: how many requests were refused, how often the p
 same, and how many runs did neither, which are printed. The last line has the sums; the status is 1 where a run did neither, or where
 no refusal of a call was reported. It needs cc, for the library that refuses (tools/refuse_memory.c).
 """
-import argparse
 import collections
 import multiprocessing
 import os
@@ -20,7 +19,7 @@ import tempfile
 import time
 
 sys.dont_write_bytecode = True
-from refusing import ROOT, ask_for_stack, build_library, line_of, runs_of  # noqa: E402
+from refusing import ask_for_stack, build_library, line_of, options_of, runs_of  # noqa: E402
 
 Call = collections.namedtuple("Call", "what words old new certificate status said")
 
@@ -105,17 +104,8 @@ def try_call(program, library, call):
     return counts
 
 
-def options_of():
-    parser = argparse.ArgumentParser(description=__doc__.partition("\n")[0])
-    parser.add_argument("--jobs", type=int, default=len(os.sched_getaffinity(0)))
-    parser.add_argument("program", nargs="?", default=os.path.join(ROOT, "crates/protogate/out/protogate"), type=os.path.abspath)
-    return parser.parse_args()
-
-
 def main():
-    options, begun = options_of(), time.time()
-    if not os.access(options.program, os.X_OK):
-        sys.exit(f"no program: {options.program}")
+    options, begun = options_of(__doc__), time.time()
     ask_for_stack()
     with tempfile.TemporaryDirectory(prefix="protogate-memory-") as room:
         library = build_library(room)

@@ -11,7 +11,6 @@ A file that fails is a folder in its place. An output that fails is a library in
 built by cc, without which these runs are passed over): it takes one byte at a time, and fails at a given one. What was taken has to be
 a beginning of the text, and the status 3. The last line has the counts; the status is 1 where a run failed.
 """
-import argparse
 import collections
 import multiprocessing
 import os
@@ -25,7 +24,7 @@ import time
 sys.dont_write_bytecode = True
 from fuzz_seeds import bytes_of, lines_of  # noqa: E402
 from gate_rows import printed  # noqa: E402
-from refusing import ROOT, ask_for_stack  # noqa: E402
+from refusing import ROOT, ask_for_stack, options_of  # noqa: E402
 
 # How many seconds a run may take.
 LIMIT = 60
@@ -138,17 +137,8 @@ def try_slow_outputs(program):
             yield fault_of(f"an output that fails at byte {at}", (3, text[:at - 1]), seen)
 
 
-def options_of():
-    parser = argparse.ArgumentParser(description=__doc__.partition("\n")[0])
-    parser.add_argument("--jobs", type=int, default=len(os.sched_getaffinity(0)))
-    parser.add_argument("program", nargs="?", default=os.path.join(ROOT, "crates/protogate/out/protogate"), type=os.path.abspath)
-    return parser.parse_args()
-
-
 def main():
-    options, begun = options_of(), time.time()
-    if not os.access(options.program, os.X_OK):
-        sys.exit(f"no program: {options.program}")
+    options, begun = options_of(__doc__), time.time()
     ask_for_stack()
     rows = all_rows()
     with multiprocessing.get_context("fork").Pool(options.jobs) as pool:
