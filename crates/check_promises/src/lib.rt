@@ -2,8 +2,10 @@
 //! answer, and every one must be refused.
 #![tactic(auto)]
 
-ghost use Rattle.std.specs.Prelude.{◌≡◌, IfErr, IfOk, OnOk};
+ghost use Rattle.std.specs.Prelude.{◌≡◌, ◌⊎◌, IfErr, IfOk, OnOk};
 ghost use Rattle.pg_schema.specs.rules.Sound.{IsSound};
+ghost use Rattle.pg_check.specs.BrokenParts.{IsFirstBrokenPart};
+ghost use Rattle.pg_check.specs.BrokenRules.{IsFirstBroken};
 ghost use Rattle.pg_check.specs.Codes as codes;
 ghost use Rattle.pg_check.specs.Declares.{Declares};
 ghost use Rattle.pg_check.specs.Errors as spec;
@@ -12,6 +14,7 @@ ghost use Rattle.pg_check.specs.Sources.{linked_sources};
 ghost use Rattle.pg_check.specs.declared.error.CheckError.TheVariants.{Memory};
 
 use pg_check::CheckError;
+use pg_check::laws::{reported_part_rules, reported_rules};
 use pg_link::{Linked, Place};
 use pg_schema::{Parts, Schema};
 use std::alloc::{AllocError, Global};
@@ -30,6 +33,15 @@ pub fn build_refused(alloc: Global, bad: &Linked) -> Result<Schema, CheckError>
     pg_check::build(alloc, bad)
 }
 
+/// Which rule `build` reports, in the words of the law.
+pub fn build_breaks(alloc: Global, broken: &Linked) -> Result<Schema, CheckError>
+    ensures { IfErr result (λ error. (error ≡ Memory)
+        ⊎ IsFirstBroken (linked_sources broken.now.files) error) }
+{
+    reported_rules();
+    pg_check::build(alloc, broken)
+}
+
 /// What `admit` answers.
 pub fn admit(alloc: Global, parts: Parts) -> Result<Schema, CheckError>
     ensures admitted { IfOk result (λ schema. schema ≡ parts) }
@@ -43,6 +55,16 @@ pub fn admit_refused(alloc: Global, bad: Parts) -> Result<Schema, CheckError>
     ensures { IfErr result (IsRefusedOf bad) }
 {
     pg_check::admit(alloc, bad)
+}
+
+/// Which rule `admit` reports, in the words of the law. E415 aside, of parts that break none.
+#[tactic(auto, using(crate::proofs::Reported::breaks))]
+pub fn admit_breaks(alloc: Global, broken: Parts) -> Result<Schema, CheckError>
+    ensures { IfErr result (λ error. (error ≡ Memory) ⊎ (codes.code_of error ≡ 415)
+        ⊎ IsFirstBrokenPart broken error) }
+{
+    reported_part_rules();
+    pg_check::admit(alloc, broken)
 }
 
 /// What `CheckError::code` answers.
