@@ -10,8 +10,8 @@ pictures are compared first, and what was built is put back into the repository 
 each request for memory refused, the program on rows and on random inputs, the scripts that call it, and the commands of the documents.
 What earlier runs on this machine passed is taken as it stands; with --anew all is proved and tried again.
 
-Lines of rt stand behind the seconds since the start. The last lines are the processor seconds of each crate by kind: its proof, its edits
-(with a second proof where some are left to `rt ci`), its tests, and what builds and runs programs, with what tries the built ones. Without
+Lines of rt stand behind the seconds since the start. The last lines are the processor seconds of each crate by kind: its proof, its seeds (a second
+proof, where edits are left to `rt ci`), its edits, its tests, and what builds and runs programs, with what tries the built ones. Without
 RT_JOBS as many checks run side by side as there are processors, and memory for 5 GB each.
 """
 
@@ -28,7 +28,7 @@ import time
 sys.dont_write_bytecode = True
 from try_edits import lanes, load_kit, plan, try_all  # noqa: E402
 
-KINDS = ("proof", "edits", "tests", "programs")
+KINDS = ("proof", "seeds", "edits", "tests", "programs")
 # What tries what was built: the program and the calls with each request for memory refused, the program on rows, and the scripts that
 # call it.
 TESTERS = ("try_program_memory.py", "try_call_memory.py", "try_rows.py", "test_ci.py", "test_packages.py")
@@ -66,7 +66,7 @@ def kind_of(pid, words):
     """Returns the crate that a check is of, and the kind of work that it is."""
     crate = behind("--crate-name", words)
     if "/rt-edit-" in os.readlink(f"/proc/{pid}/cwd"):
-        return crate, "edits"
+        return crate, "seeds" if os.path.basename(behind("--incremental", words)) == "seed" else "edits"
     if "--crate-checked" in words:
         return crate, "programs"
     return crate, "tests" if "--test" in words else "proof"
