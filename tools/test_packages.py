@@ -144,9 +144,9 @@ class Templates(test_ci.Repository):
         return done.returncode, done.stdout.decode()
 
     def blocks(self, path, key):
-        """The lines of each block or list of a key, by their indentation."""
+        """The lines of each block or list of a key, by their indentation, but for comments."""
         found = re.findall(rf"^( *)(?:- )?{key}:(?: \|)?\n((?:\1 +.*\n)+)", read(path), re.M)
-        return [re.sub(r"^\s*(?:- )?", "", block, flags=re.M) for _, block in found]
+        return [re.sub(r"^\s*(?:- |#.*\n)?", "", block, flags=re.M) for _, block in found]
 
     def test_github(self):
         gates, reports = self.blocks("examples/ci/github.yml", "run")
@@ -157,18 +157,76 @@ class Templates(test_ci.Repository):
         with open(f"{self.clone}/protogate.html", encoding="utf-8") as page:
             self.assertIn("proto breaks old messages", page.read())
 
-    def test_gitlab(self):
+    def gitlab(self, **more):
         (script,), (after,) = (self.blocks("examples/ci/gitlab.yml", it) for it in ("script", "after_script"))
-        self.assertEqual(self.shell(script, RELEASE="v1.4", FOLDER="proto")[0], 1)
-        self.assertEqual(self.shell(after)[0], 0)
+        return self.shell(script, FOLDER="proto", **more)[0], self.shell(after)[0]
+
+    def test_gitlab(self):
+        self.assertEqual(self.gitlab(RELEASE="v1.4"), (1, 0))
         self.assertTrue(os.path.isfile(f"{self.clone}/protogate.html"))
 
-    def test_pre_commit(self):
-        entry = re.search(r"entry: (.*)", read("examples/ci/pre-commit.yaml"))[1]
+    def test_gitlab_without_a_run(self):
+        """Where nothing was gated there is no page, not an empty one."""
+        self.assertNotEqual(self.gitlab(RELEASE="v0")[0], 0)
+        self.assertFalse(os.path.isfile(f"{self.clone}/protogate.html"))
+
+    def test_gitlab_in_a_fork(self):
+        """A fork may lack the release that the project has."""
+        self.git("remote", "set-url", "origin", f"file://{self.room.name}/none", at=self.clone)
+        self.assertEqual(self.gitlab(RELEASE="v1.4", CI_MERGE_REQUEST_PROJECT_URL=f"file://{self.top}")[0], 1)
+
+    def test_releases(self):
+        """A release is a tag, whatever its name, a branch, or a full commit."""
+        commit = self.git("rev-parse", "v1.4")
+        self.git("branch", "release/1.4", "v1.4")
+        self.git("tag", "proto/v1.4", "v1.4")
+        gates, _ = self.blocks("examples/ci/github.yml", "run")
+        for release in ("proto/v1.4", "release/1.4", commit):
+            self.assertEqual(self.shell(gates, RELEASE=release, FOLDER="proto")[0], 1, release)
+            self.assertEqual(self.gitlab(RELEASE=release)[0], 1, release)
+        # What upload-artifact refuses in a name.
+        name = re.search(r"^ +name: (protogate-.*)", read("examples/ci/github.yml"), re.M)[1]
+        self.assertNotIn("matrix.release", name)
+
+    def test_options(self):
+        """A type that is removed on purpose is left out where each template has room for it."""
         self.git("fetch", "-q", "--depth", "1", "origin", "tag", "v1.4", at=self.clone)
-        self.assertEqual(self.shell(entry)[0], 1)
-        pattern = re.search(r"files: (.*)", read("examples/ci/pre-commit.yaml"))[1]
-        self.assertTrue(re.search(pattern, "proto/order.proto"))
+        gates, _ = self.blocks("examples/ci/github.yml", "run")
+        self.assertEqual(self.shell(gates, RELEASE="v1.4", FOLDER="proto", OPTIONS="--skip Order")[0], 0)
+        self.assertEqual(self.gitlab(RELEASE="v1.4", OPTIONS="--skip Order")[0], 0)
+        self.assertEqual(self.shell(f"{self.hook()['entry']} --skip Order")[0], 0)
+        for name in ("github.yml", "gitlab.yml", "pre-commit.yaml", "protogate.mk"):
+            said = read(f"examples/ci/{name}")
+            self.assertTrue("--skip TYPE" in said and "--with-protoc" in said, name)
+
+    def hook(self):
+        """What the hook says under each of its keys."""
+        return dict(re.findall(r"^ +(?:- )?(\w+): (.*)", read("examples/ci/pre-commit.yaml"), re.M))
+
+    def test_pre_commit(self):
+        self.git("fetch", "-q", "--depth", "1", "origin", "tag", "v1.4", at=self.clone)
+        self.assertEqual(self.shell(self.hook()["entry"])[0], 1)
+
+    def test_pre_commit_on_a_removal(self):
+        """pre-commit hands a hook no file that was removed, and skips one that has none, unless it always runs."""
+        self.git("fetch", "-q", "--depth", "1", "origin", "tag", "v1.4", at=self.clone)
+        self.write({"proto/keep.proto": HEAD + "message Keep { }"}, self.clone)
+        self.git("rm", "-q", "proto/order.proto", at=self.clone)
+        hook = self.hook()
+        staged = self.git("diff", "--staged", "--name-only", "--diff-filter=d", at=self.clone).split("\n")
+        handed = [it for it in staged if it and re.search(hook.get("files", ""), it)]
+        self.assertTrue(handed or hook.get("always_run") == "true")
+        self.assertEqual(self.shell(hook["entry"]), (2, "removed Order\nremoved Customer\nadded Keep\n"))
+
+    @unittest.skipUnless(shutil.which("pre-commit"), "there is no pre-commit")
+    def test_pre_commit_itself(self):
+        self.git("fetch", "-q", "--depth", "1", "origin", "tag", "v1.4", at=self.clone)
+        shutil.copy(f"{TOP}/examples/ci/pre-commit.yaml", f"{self.clone}/.pre-commit-config.yaml")
+        self.write({"proto/keep.proto": HEAD + "message Keep { }"}, self.clone)
+        self.git("rm", "-q", "proto/order.proto", at=self.clone)
+        self.git("add", ".pre-commit-config.yaml", at=self.clone)
+        status, said = self.shell("pre-commit run --color never", PRE_COMMIT_HOME=f"{self.room.name}/hooks")
+        self.assertEqual((status, "removed Order" in said), (1, True), said)
 
     @unittest.skipUnless(shutil.which("make"), "there is no make")
     def test_make(self):
