@@ -91,6 +91,21 @@ class Answers(Repository):
         self.assertEqual(self.call("v1", "proto", "Customer"), (0, ["compatible Customer"]))
         self.assertEqual(self.call("v1", "./proto/", "Customer", "Order"), (1, ["compatible Customer", self.breaks]))
 
+    def test_named_types_behind_options(self):
+        self.release_orders()
+        self.assertEqual(self.call("v1", "proto", "--skip", "Draft", "Customer"), (0, ["compatible Customer"]))
+        self.assertEqual(self.call("--view", "numbers", "v1", "--both", "proto", "--skip", "Order", "Customer", "Order")[1],
+                         ["forward compatible Customer", "backward compatible Customer"])
+
+    def test_the_name_that_was_called(self):
+        self.release_orders()
+        for more, name in (({}, "gate.sh"), ({"GATE_NAME": "protogate-ci"}, "protogate-ci")):
+            self.call(**more)
+            self.assertTrue(self.advice.startswith(f"usage: {name} "), self.advice)
+            self.assertTrue(self.advice.endswith("required: REVISION, FOLDER\n"), self.advice)
+        record = self.record("v1", "proto", "Customer", "--skip", "Order", "--view", "names", "--both", "--github", GATE_NAME="protogate-ci")
+        self.assertEqual(record["call"], ["protogate-ci", "--both", "--view", "names", "--skip", "Order", "v1", "proto", "Customer"])
+
     def test_a_type_that_is_skipped(self):
         self.release_orders()
         self.assertEqual(self.call("v1", "proto", "--skip", "Order"), (0, ["compatible Customer"]))
@@ -160,7 +175,8 @@ class Answers(Repository):
         self.release({"a.proto": old}, {"a.proto": new})
         said = ["compatible A", "removed A.B", "removed Draft", "added A.C", "added Drafts"]
         self.assertEqual(self.call("v1", "proto"), (2, said))
-        self.assertIn("Draft was removed; was it renamed to Drafts?", self.advice)
+        self.assertIn("Draft was removed; was it renamed to Drafts? If that is meant: --skip Draft\n", self.advice)
+        self.assertIn("A.B was removed; was it renamed to A.C? If that is meant: --skip A.B\n", self.advice)
         self.assertEqual(self.call("v1", "proto", "--skip", "Draft", "--skip", "A.B")[0], 0)
         self.assertEqual(self.call("v1", "proto", "Drafts"), (0, ["added Drafts"]))
 
@@ -189,7 +205,10 @@ class Answers(Repository):
         sides = [{"a.proto": read(f"examples/changes/number_reused/{side}.proto")} for side in ("old", "new")]
         self.release(*sides)
         self.assertEqual(self.call("v1", "proto"), (0, ["compatible Invoice"]))
-        self.assertEqual(self.call("v1", "proto", "--view", "names")[0], 1)
+        status, said = self.call("v1", "proto", "--view", "names", "--github")
+        self.assertEqual(status, 1)
+        self.assertIn("0801%0ABoth sides read the same numbers in it; the enums give one of them other names.", said[1])
+        self.assertNotIn("misreads", said[1])
 
     def test_annotations(self):
         self.release_orders()
@@ -239,7 +258,7 @@ class Faults(Repository):
         self.release_options()
         said = [f"refused {side} {it}" for side in ("old", "new") for it in ("E205 shop.proto:8:21", "E204 units.proto:7:1")]
         self.assertEqual(self.call("v1", "proto"), (2, said))
-        self.assertIn("use --with-protoc", self.advice)
+        self.assertIn("shop.proto:8:21 isn't taken as a text; protoc may make a set of it: use --with-protoc\n", self.advice)
         # What is refused of the old side has no place in the work tree.
         told = self.call("v1", "proto", "--github")[1][len(said):]
         self.assertEqual([" file=proto/" in it or ",line=" in it for it in told], [False, False, True, True])
@@ -255,7 +274,7 @@ class Faults(Repository):
         text = HEAD + 'import "google/protobuf/timestamp.proto"; message A { google.protobuf.Timestamp a = 1; }'
         self.release({"a.proto": text}, {"a.proto": text})
         self.assertEqual(self.call("v1", "proto"), (2, ["refused old E301 a.proto:2:8", "refused new E301 a.proto:2:8"]))
-        self.assertIn("use --with-protoc", self.advice)
+        self.assertIn("a.proto:2:8 imports a file of the library, which isn't below the folder; protoc brings it: use --with-protoc\n", self.advice)
         self.assertEqual(self.call("v1", "proto", "--with-protoc"), (0, ["compatible A"]))
 
     @NO_PROTOC

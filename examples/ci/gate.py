@@ -37,6 +37,10 @@ SHOWN_DIGITS = 400
 LONGEST_WORD = 131_000
 
 
+# As users call this.
+NAME = os.environ.get("GATE_NAME") or "gate.sh"
+
+
 class Stop(Exception):
     """Nothing can be gated: why, and the status to end with."""
 
@@ -335,6 +339,12 @@ def gate_all(old, new, names, skipped, options):
     return answers, refusals
 
 
+def differs_by_names(answer):
+    """Returns whether both sides show the same numbers in a witness, however their fields are called: then an enum's names differ."""
+    shown = [re.sub(r"^( *\d+) \S+", r"\1", lines, flags=re.M) for lines in answer.get("readings", {}).values()]
+    return len(shown) == 2 and shown[0] == shown[1] and re.search("^again ", shown[0], re.M) is not None
+
+
 # What is printed.
 
 
@@ -363,9 +373,11 @@ def advice_on(it):
     """Returns what may help with a line, or nothing."""
     near = it.get("nearest")
     if it.get("verdict") == "removed":
-        return f"{it['type']} was removed" + (f"; was it renamed to {near}?" if near else "")
+        return f"{it['type']} was removed" + (f"; was it renamed to {near}?" if near else ".") + f" If that is meant: --skip {it['type']}"
     words = [f"did you mean {near}?"] if near else []
-    if it.get("protoc"):
+    if it.get("protoc") and it["code"] == "E301":
+        words.append(f"{it['place']} imports a file of the library, which isn't below the folder; protoc brings it: use --with-protoc")
+    elif it.get("protoc"):
         words.append(f"{it['place']} isn't taken as a text; protoc may make a set of it: use --with-protoc")
     if it.get("protoc_says"):
         words.append(f"protoc refuses it on the {it['side']} side, too: {it['protoc_says']}")
@@ -398,7 +410,12 @@ def annotation_of(answer, top):
     file = path if place == "-" else place.rpartition(":")[0].rpartition(":")[0]
     reads = "\n".join(f"The {side} side reads:\n{lines.strip()}" for side, lines in answer["readings"].items())
     who = "an old" if answer["direction"] == "forward" else "a new"
-    message = f"The shortest message that {who} program writes and the other misreads: {shortened(answer['witness'])}\n{reads}"
+    what = f"The shortest message that {who} program writes and the other"
+    if answer["is_by_names"]:
+        message = (f"{what} takes for something else: {shortened(answer['witness'])}\nBoth sides read the same numbers in it; the enums "
+                   f"give one of them other names.\n{reads}")
+    else:
+        message = f"{what} misreads: {shortened(answer['witness'])}\n{reads}"
     return annotation(title, message, top + file, place)
 
 
@@ -436,17 +453,24 @@ class Parser(argparse.ArgumentParser):
 
 
 def parsed(words):
-    parser = Parser(prog="gate.sh", description=__doc__, formatter_class=argparse.RawDescriptionHelpFormatter, allow_abbrev=False)
+    parser = Parser(prog=NAME, description=__doc__, formatter_class=argparse.RawDescriptionHelpFormatter, allow_abbrev=False)
     parser.add_argument("revision", metavar="REVISION")
     parser.add_argument("folder", metavar="FOLDER", help="below the folder where it is called; imports count from it")
-    parser.add_argument("types", metavar="TYPE", nargs="*", help="the full name of a message type")
+    parser.add_argument("types", metavar="TYPE", nargs="*", default=[], help="the full name of a message type")
     parser.add_argument("--skip", metavar="NAME", action="append", default=[], help="leave out a type, or a file below FOLDER")
     parser.add_argument("--both", action="store_true", help="ask for both directions")
     parser.add_argument("--view", choices=["numbers", "names"], help="compare enums by numbers alone, or by names too")
     parser.add_argument("--with-protoc", action="store_true", help="where a text is refused, gate the set that protoc makes of it")
     parser.add_argument("--github", action="store_true", help="print annotations for GitHub, too")
     parser.add_argument("--record", metavar="FILE", help="write all that was found as JSON, for tools/report.py")
-    return parser.parse_args(words)
+    return parser.parse_intermixed_args(words)
+
+
+def words_of(call):
+    """The words that call for the same answers, without what else is printed or written of them."""
+    options = ["--both"] * call.both + (["--view", call.view] if call.view else []) + ["--with-protoc"] * call.with_protoc
+    skipped = [word for it in call.skip for word in ("--skip", it)]
+    return [NAME, *options, *skipped, call.revision, call.folder, *call.types]
 
 
 def recorded(call, room):
@@ -466,11 +490,13 @@ def recorded(call, room):
             advise(f"--skip {it} names nothing{did_you_mean(it, known)}")
     options = ["--both"] * call.both + (["--view", call.view] if call.view else [])
     answers, refusals = gate_all(old, new, call.types, call.skip, options)
+    for it in answers:
+        it["is_by_names"] = differs_by_names(it)
     prefix = os.fsdecode(git("rev-parse", "--show-prefix")[1]).strip("\n")
     prefix += "" if folder == "." else f"{folder}/"
     commit = os.fsdecode(git("rev-parse", f"{call.revision}^{{commit}}")[1]).strip()
     status = max([it["status"] for it in answers + refusals], default=0)
-    return {"revision": call.revision, "commit": commit, "folder": folder, "prefix": prefix, "both": call.both,
+    return {"call": words_of(call), "revision": call.revision, "commit": commit, "folder": folder, "prefix": prefix, "both": call.both,
             "view": call.view or "numbers", "status": status, "answers": answers, "refusals": refusals}
 
 
