@@ -3,6 +3,8 @@
 
 usage: tools/pictures.py            draws them all
        tools/pictures.py --compare  status 1 where a picture isn't what its text says
+       tools/pictures.py --report [PROGRAM]    takes report.png anew: run it after a change of tools/report.py. It needs git and Chromium;
+                                               what it shows depends on the fonts, so nothing compares it
 
 A text begins with a line 'title ..' and a line that says how the rest is read: 'flow' (a row a line, boxes with calls between them,
 as 'a -> call -> b'), 'table' (a row a line, cells with '|' between them, the first row is the head) or 'graph' ('node NAME PLACE TEXT',
@@ -10,7 +12,10 @@ as 'a -> call -> b'), 'table' (a row a line, cells with '|' between them, the fi
 """
 
 import os
+import shutil
+import subprocess
 import sys
+import tempfile
 from html import escape
 
 TOP = os.path.dirname(os.path.dirname(os.path.realpath(__file__)))
@@ -18,6 +23,8 @@ FOLDER = f"{TOP}/docs/pictures"
 INK, CALL, FILL, HEAD, LAST = "#1f2933", "#0b6bcb", "#eef4fb", "#d9e7f7", "#fdecea"
 # The width of a letter, in the fonts that are asked for.
 LETTER = 7.6
+# The picture of a report, in pixels.
+WIDTH, HEIGHT = 860, 740
 
 
 def text(x, y, words, color=INK, anchor="middle", weight="normal", size=14):
@@ -99,7 +106,39 @@ def drawn(source):
     return "\n".join([head, f"<title>{escape(title)}</title>", tip, page, text(20, 34, title, anchor="start", weight="bold", size=16), *parts, "</svg>", ""])
 
 
+def write_report(room, program):
+    """Writes the page of a run: `examples/old` at the tag v1.4 against `examples/new`, in a repository that is the same each time."""
+    when = "2026-01-01T00:00:00Z"
+    env = {**os.environ, "PROTOGATE": program, "GIT_CONFIG_GLOBAL": "/dev/null", "GIT_CONFIG_NOSYSTEM": "1",
+           "GIT_AUTHOR_DATE": when, "GIT_COMMITTER_DATE": when}
+    git = ["git", "-c", "user.name=nobody", "-c", "user.email=nobody@example.org", "-c", "init.defaultBranch=main"]
+    shutil.copytree(f"{TOP}/examples/old", f"{room}/proto")
+    for words in (["init", "-q"], ["add", "."], ["commit", "-q", "-m", "v1.4"], ["tag", "v1.4"]):
+        subprocess.run([*git, *words], cwd=room, env=env, check=True)
+    shutil.copytree(f"{TOP}/examples/new", f"{room}/proto", dirs_exist_ok=True)
+    subprocess.run([f"{TOP}/examples/ci/gate.sh", "v1.4", "proto", "--record", "run.json"], cwd=room, env=env, stdout=subprocess.DEVNULL)
+    link = "https://example.org/{path}#L{line}"
+    words = [f"{TOP}/tools/report.py", "run.json", "--old-link", link, "--new-link", link]
+    with open(f"{room}/report.html", "wb") as page:
+        subprocess.run(words, cwd=room, check=True, stdout=page)
+
+
+def photograph_report(program):
+    """Takes report.png, as Chromium shows the page."""
+    browser = shutil.which("chromium") or shutil.which("chromium-browser") or shutil.which("google-chrome")
+    if not browser:
+        print("pictures: there is no Chromium", file=sys.stderr)
+        return 3
+    with tempfile.TemporaryDirectory() as room:
+        write_report(room, program)
+        words = ["--headless", "--no-sandbox", "--disable-gpu", "--hide-scrollbars", f"--user-data-dir={room}/profile",
+                 f"--window-size={WIDTH},{HEIGHT}", f"--screenshot={FOLDER}/report.png", f"file://{room}/report.html"]
+        return subprocess.run([browser, *words], stderr=subprocess.DEVNULL).returncode
+
+
 def main(words):
+    if words[:1] == ["--report"]:
+        return photograph_report(os.path.realpath(words[1]) if words[1:] else f"{TOP}/crates/protogate/out/protogate")
     status = 0
     for name in sorted(it[:-4] for it in os.listdir(FOLDER) if it.endswith(".txt")):
         with open(f"{FOLDER}/{name}.txt", encoding="utf-8") as file:

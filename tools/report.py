@@ -18,6 +18,7 @@ import shlex
 import string
 import struct
 import sys
+from collections import Counter
 from urllib.parse import quote
 
 HERE = os.path.dirname(os.path.realpath(__file__))
@@ -25,10 +26,14 @@ REFUSALS = (f"{HERE}/REFUSALS.md", f"{HERE}/../docs/REFUSALS.md")
 # As many bytes of a witness, and lines of a reading, are printed.
 SHOWN = 2000
 SAYS = {"breaks": "breaks", "refused": "refused", "removed": "removed", "added": "new", "compatible": "compatible"}
-MEND = {
-    "forward": "Give the changed field a new number, and keep the old one beside it until no old message is left, or reserve it.",
-    "backward": "This matters where an old program reads what a new one writes: where messages go back, or both run side by side.",
-}
+HEADS = {"forward": "breaks old messages", "backward": "writes messages that old programs misread"}
+MEND = "Give the changed field a new number, and keep the old one beside it until no old message is left, or reserve it."
+MEND_NAMES = ("Give what is meant now a number of its own, and leave the old number its name, or reserve both. Where the two names mean the "
+              "same, compare by numbers alone.")
+MEND_READING = "Leave the field's type as it was, or give the new one a number of its own."
+BACKWARD = "This matters where an old program reads what a new one writes: where messages go back, or both run side by side."
+# What `show` alone refuses: it prints no message that is nested deeper than it goes, or that would be too long.
+NOT_SHOWN = ("E001", "E607", "E608")
 
 STYLE = """
 :root { --ink: #1f2933; --dim: #5f6b76; --page: #fff; --box: #f6f8fa; --rim: #d5dbe1; --link: #0b5cad;
@@ -120,23 +125,36 @@ def readable(item):
     return f"{text(item)} {tag('span', text(spelled), 'dim')}"
 
 
+def unnamed(line):
+    """A line of a reading without the field's name, which says nothing on the wire."""
+    return re.sub(r"^( *\d+) \S+", r"\1", line)
+
+
 def reading(lines, others):
     """The lines of one reading; those that the other reading hasn't are marked."""
-    shown = [tag("span", readable(it), "same" if it in others else "only") for it in lines[:SHOWN]]
+    known = {unnamed(it) for it in others}
+    shown = [tag("span", readable(it), "same" if unnamed(it) in known else "only") for it in lines[:SHOWN]]
     more = tag("span", f"and {len(lines) - SHOWN} more lines", "dim") if len(lines) > SHOWN else ""
     return tag("pre", "".join(shown) + more)
+
+
+def head_of_reading(side, line, mends):
+    """What is said over a reading and below it, by its first line."""
+    if not line.startswith("refused "):
+        return f"The {side} side reads", ""
+    refusal = line.split()[1]
+    meaning = marked(mends.get(refusal, ("",))[0])
+    if refusal in NOT_SHOWN:
+        return f"The {side} side's reading isn't shown", tag("p", meaning, "dim")
+    return f"The {side} side refuses it", tag("p", f"{meaning} {tag('b', 'What to do:')} {MEND_READING}", "dim")
 
 
 def readings(answer, mends):
     lines = {side: it.strip().split("\n") for side, it in answer["readings"].items()}
     boxes = []
     for side, other in (("old", "new"), ("new", "old")):
-        said = lines[side][0]
-        head, why = f"The {side} side reads", ""
-        if said.startswith("refused "):
-            head = f"The {side} side refuses it"
-            why = tag("p", marked(mends.get(said.split()[1], ("",))[0]), "dim")
-        boxes.append(tag("div", tag("h4", head) + reading(lines[side], lines[other]) + why, "side"))
+        head, why = head_of_reading(side, lines[side][0], mends)
+        boxes.append(tag("div", tag("h4", text(head)) + reading(lines[side], lines[other]) + why, "side"))
     return tag("div", "".join(boxes), "sides")
 
 
@@ -145,18 +163,24 @@ def readings(answer, mends):
 
 def step_of(step, record, link):
     """A field on the way, as either side declares it."""
-    number, name = text(step["number"]), code(step["old"])
+    name = f"field {text(step['number'])}, {code(step['old'])}"
     if step["new"] != step["old"]:
-        name += f", now {code(step['new'])}"
+        name += tag("div", f"now {code(step['new'])}")
     sides = []
     for side in ("old", "new"):
         declared = tag("pre", text(step[f"{side}_text"])) if step[f"{side}_text"] else ""
         sides.append(tag("div", tag("h4", f"{side}: {place_of(step[side + '_place'], record['prefix'], link[side])}") + declared, "side"))
-    return tag("li", f"field {number}, {name}{tag('div', ''.join(sides), 'sides')}")
+    return tag("li", f"{name}{tag('div', ''.join(sides), 'sides')}")
 
 
-def head_of(answer, both):
-    way = tag("span", f"{answer['direction']}", "dim") if both and answer["old_file"] and answer["new_file"] else ""
+def way_of(answer, record):
+    """The direction of an answer, where both are asked for."""
+    return answer["direction"] if record["both"] and answer["old_file"] and answer["new_file"] else ""
+
+
+def head_of(answer, record):
+    way = way_of(answer, record)
+    way = tag("span", way, "dim") if way else ""
     return tag("div", f"{tag('span', SAYS[answer['verdict']], 'verdict ' + answer['verdict'])} {tag('h3', code(answer['type']))} {way}", "head")
 
 
@@ -164,15 +188,19 @@ def breaking(answer, record, link, mends):
     writer, reader = ("old", "new") if answer["direction"] == "forward" else ("new", "old")
     witness = answer["witness"] or "-"
     shown = witness if len(witness) <= 2 * SHOWN else f"{witness[:2 * SHOWN]}.."
+    breaks = f"The {writer} side can write this message of {answer['length']} bytes"
+    if answer["is_by_names"]:
+        breaks += ". Both sides read the same numbers in it, but their enums give one of them other names."
+    else:
+        breaks += f", and the {reader} side doesn't read it whole."
     parts = [
-        head_of(answer, record["both"]),
-        tag("p", f"The {writer} side can write this message of {answer['length']} bytes, and the {reader} side doesn't read it whole. "
-                 "None that breaks is shorter."),
+        head_of(answer, record),
+        tag("p", f"{breaks} None that breaks is shorter."),
         tag("pre", text(shown)),
         readings(answer, mends),
         tag("p", "The way to what breaks in it:"),
         tag("ol", "".join(step_of(it, record, link) for it in answer["steps"])),
-        tag("p", MEND[answer["direction"]]),
+        tag("p", BACKWARD if writer == "new" else MEND_NAMES if answer["is_by_names"] else MEND),
     ]
     return tag("article", "".join(parts))
 
@@ -186,7 +214,7 @@ def missing(answer, record, mends):
         words += near + f" If that is meant: {code('--skip ' + answer['type'])}."
     else:
         words = f"{code('refused ' + answer['said'])}{near} {mend_of(answer['said'], mends)}"
-    return tag("article", head_of(answer, record["both"]) + tag("p", words))
+    return tag("article", head_of(answer, record) + tag("p", words))
 
 
 # Refusals.
@@ -210,7 +238,8 @@ def rules_in(page):
 
 
 def marked(words):
-    """Words of a page: code, and links by their words alone."""
+    """Words of a page: code, and links by their words alone, without what leads elsewhere on it."""
+    words = re.sub(r" \(see (below|\[below\]\([^)]*\))\)", "", words)
     words = re.sub(r"\[([^]]*)\]\([^)]*\)", r"\1", words)
     return re.sub(r"`([^`]*)`", lambda it: f"<code>{it[1]}</code>", text(words))
 
@@ -221,19 +250,10 @@ def mend_of(said, mends):
     return f"{marked(meaning)} {tag('b', 'What to do:')} {marked(mend)}" if mend else ""
 
 
-def by_protoc(refusal, record):
-    """The command that makes a set of a text that is refused, and how the set is gated."""
-    folder, side = record["folder"], refusal["side"]
-    other = "new" if side == "old" else "old"
-    file = refusal["texts"][0]
-    others = [it for refused in record["refusals"] if refused["side"] == other for it in refused["texts"]]
-    make = ["protoc", "-I", folder, "--include_imports", f"--descriptor_set_out={side}.pb", file]
-    gate = ["protogate", "gate", f"--{side}", f"{side}.pb"]
-    gate += [f"--{other}", f"{other}.pb"] if file in others else [f"--{other}-dir", folder, f"--{other}", file]
-    lines = [shlex.join(make), f"{shlex.join(gate)} --type TYPE"]
-    where = f", in {folder} as it stood at {record['revision']}" if side == "old" else ""
-    return (tag("p", f"Or gate the set that protoc makes of it{text(where)}; {code('gate.sh --with-protoc')} does so by itself:")
-            + tag("div", tag("pre", text("\n".join(lines))), "side"))
+def by_protoc(record):
+    """The call that gates what protoc makes of the texts that are refused. It is that of the run: no shorter one has the old side."""
+    name, *words = record["call"]
+    return tag("p", "Or gate the set that protoc makes of it:") + tag("div", tag("pre", text(shlex.join([name, "--with-protoc", *words]))), "side")
 
 
 def refused(refusal, record, link, mends):
@@ -245,7 +265,7 @@ def refused(refusal, record, link, mends):
     near = f" Did you mean {code(refusal['nearest'])}?" if refusal.get("nearest") else ""
     parts.append(tag("p", mend_of(refusal["code"], mends) + near))
     if refusal["protoc"]:
-        parts.append(by_protoc(refusal, record))
+        parts.append(by_protoc(record))
     if refusal["protoc_says"]:
         parts.append(tag("p", "protoc refuses it, too:") + tag("div", tag("pre", text(refusal["protoc_says"])), "side"))
     parts.append(tag("p", f"Not gated for it: {', '.join(map(code, refusal['texts']))}", "dim"))
@@ -255,16 +275,23 @@ def refused(refusal, record, link, mends):
 # The page.
 
 
+def headline(record):
+    """What the run says of the folder."""
+    broken = {it["direction"] for it in record["answers"] if it["verdict"] == "breaks"}
+    if broken:
+        return ", and ".join(words for direction, words in HEADS.items() if direction in broken)
+    return "has types without an answer" if record["status"] else "may be released"
+
+
 def summary(record):
-    counts = {it: 0 for it in SAYS}
-    for it in record["answers"] + [{"verdict": "refused"}] * len(record["refusals"]):
-        counts[it["verdict"]] += 1
-    listed = "".join(tag("li", f"{count} {SAYS[it]}", it) for it, count in counts.items() if count)
-    says = "breaks old messages" if counts["breaks"] else "has types without an answer" if record["status"] else "may be released"
+    counts = Counter((it["verdict"], way_of(it, record)) for it in record["answers"])
+    counts["refused", ""] += len(record["refusals"])
+    ways = [(it, way) for it in SAYS for way in ("", "forward", "backward")]
+    listed = "".join(tag("li", f"{counts[it, way]} {SAYS[it]} {way}".strip(), it) for it, way in ways if counts[it, way])
     what = f"{code(record['folder'])} against {code(record['revision'])} ({code(record['commit'][:12])})"
     by = "numbers and names" if record["view"] == "names" else "numbers"
-    return (tag("h1", f"{text(record['folder'])} {says}")
-            + tag("p", f"{what}. Enums are compared by {by}. protogate's status is {record['status']}.", "dim") + tag("ul", listed, "counts"))
+    return (tag("h1", f"{text(record['folder'])} {headline(record)}")
+            + tag("p", f"{what}. Enums are compared by {by}. The run's status is {record['status']}.", "dim") + tag("ul", listed, "counts"))
 
 
 def page_of(record, link, mends):
@@ -277,8 +304,7 @@ def page_of(record, link, mends):
         parts += [missing(it, record, mends) for it in answers["refused"] + answers["removed"]]
     for verdict, head in (("compatible", "Compatible"), ("added", "New types, with nothing to break")):
         if answers[verdict]:
-            way = [f" {it['direction']}" if record["both"] and verdict == "compatible" else "" for it in answers[verdict]]
-            listed = "".join(tag("li", code(it["type"]) + tag("span", w, "dim")) for it, w in zip(answers[verdict], way))
+            listed = "".join(tag("li", f"{code(it['type'])} {tag('span', way_of(it, record), 'dim')}") for it in answers[verdict])
             parts += [tag("h2", head), tag("ul", listed, "types")]
     title = text(f"protogate: {record['folder']} against {record['revision']}")
     return PAGE.substitute(title=title, style=STYLE, body="\n".join(parts))

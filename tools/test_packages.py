@@ -43,7 +43,7 @@ class Page(html.parser.HTMLParser):
 
 class Reports(test_ci.Repository):
     def page(self, *words, **more):
-        self.record(*words)
+        self.record(*words, **more)
         done = subprocess.run([f"{TOP}/tools/report.py", "run.json"], cwd=self.top, env={**self.env, **more}, check=True, stdout=subprocess.PIPE)
         page = Page(done.stdout.decode())
         self.assertEqual(page.open, [])
@@ -56,7 +56,8 @@ class Reports(test_ci.Repository):
     def test_a_change_that_breaks(self):
         self.release_orders()
         page = self.page("v1", "proto")
-        for words in ("proto breaks old messages", "220180", "4 note bytes 80", "refused E604 at 0", "a text that isn't UTF-8",
+        for words in ("proto breaks old messages", "The run's status is 1", "220180", "4 note bytes 80", "refused E604 at 0",
+                      "a text that isn't UTF-8", "What to do: Leave the field's type as it was",
                       "bytes note = 4;", "string note = 4;", "proto/order.proto:7:10", "Customer"):
             self.assertIn(words, page.words)
         self.assertEqual(page.targets, [])
@@ -75,19 +76,46 @@ class Reports(test_ci.Repository):
         self.assertIn("proto may be released", self.page("v1", "proto", "Customer").words)
 
     def test_what_is_refused(self):
+        """The call that gates a set of what is refused is that of the run; no other command knows both sides."""
         self.release({"a.proto": HEAD + "message A { }"}, {"a.proto": HEAD + 'option (x) = "<&>";'})
-        page = self.page("v1", "proto")
+        page = self.page("v1", "proto", "--view", "numbers")
         for words in ("new E205", 'option (x) = "<&>";', "A custom option, in parentheses", "What to do:",
-                      "protoc -I proto --include_imports --descriptor_set_out=new.pb a.proto",
-                      "protogate gate --new new.pb --old-dir proto --old a.proto --type TYPE"):
+                      "gate.sh --with-protoc --view numbers v1 proto"):
             self.assertIn(words, page.words)
+        self.assertNotIn("--old-dir", page.words)
 
     def test_what_is_refused_on_both_sides(self):
-        self.release({"a b.proto": HEAD + "option (x) = 1;"}, {"a b.proto": HEAD + "option (x) = 1;"})
-        page = self.page("v1", "proto")
-        for words in ("protoc -I proto --include_imports --descriptor_set_out=old.pb 'a b.proto'", "in proto as it stood at v1",
-                      "protogate gate --old old.pb --new new.pb --type TYPE"):
+        self.release({"a b.proto": HEAD + "option (x) = 1;"}, {"a b.proto": HEAD + "option (x) = 1;"}, "a folder")
+        page = self.page("v1", "a folder", GATE_NAME="protogate-ci")
+        self.assertIn("protogate-ci --with-protoc v1 'a folder'", page.words)
+
+    def test_words_of_another_page(self):
+        """What leads elsewhere on the page of refusals isn't taken along."""
+        rules = report.rules_in(read("docs/REFUSALS.md"))
+        for code, words in rules.items():
+            self.assertNotRegex(report.mend_of(code, rules), "see below|see <|\\]\\(", code)
+
+    def test_names_of_enums(self):
+        sides = [{"a.proto": read(f"examples/changes/number_reused/{side}.proto")} for side in ("old", "new")]
+        self.release(*sides)
+        page = self.page("v1", "proto", "--view", "names")
+        for words in ("Both sides read the same numbers in it", "Give what is meant now a number of its own"):
             self.assertIn(words, page.words)
+        for words in ("doesn't read it whole", "Give the changed field a new number"):
+            self.assertNotIn(words, page.words)
+
+    def test_a_field_that_was_renamed_too(self):
+        """A name says nothing on the wire, so it marks no line of a reading."""
+        old, new = ["1 a int 1", "2 b int -1", "again 00"], ["1 z int 1", "2 b int 1", "again 01"]
+        marked = re.findall(r'class="only">([^<]*)<', report.reading(old, new) + report.reading(new, old))
+        self.assertEqual(marked, ["2 b int -1", "again 00", "2 b int 1", "again 01"])
+
+    def test_a_witness_that_is_too_deep_to_show(self):
+        """`show` goes down 100 levels: beyond that it refuses what a program reads."""
+        answer = {"readings": {"old": "refused E608 at 200\n", "new": "refused E608 at 200\n"}}
+        page = report.readings(answer, report.rules_in(read("docs/REFUSALS.md")))
+        self.assertIn("The old side&#x27;s reading isn&#x27;t shown", page)
+        self.assertNotIn("refuses it", page)
 
     def test_what_is_missing(self):
         self.release({"a.proto": HEAD + "message Draft { }"}, {"a.proto": HEAD + "message Drafts { }"})
@@ -97,7 +125,15 @@ class Reports(test_ci.Repository):
     def test_both_directions(self):
         self.release({"a.proto": HEAD + "message A { int32 a = 1; }"}, {"a.proto": HEAD + "message A { int64 a = 1; }"})
         page = self.page("v1", "proto", "--both")
-        self.assertIn("The new side can write this message of 6 bytes", page.words)
+        for words in ("The new side can write this message of 6 bytes", "proto writes messages that old programs misread",
+                      "1 breaks backward", "1 compatible forward"):
+            self.assertIn(words, page.words)
+        self.assertNotIn("breaks old messages", page.words)
+
+    def test_both_directions_that_break(self):
+        self.release({"a.proto": HEAD + "message A { int32 a = 1; }"}, {"a.proto": HEAD + "message A { sint32 a = 1; }"})
+        page = self.page("v1", "proto", "--both")
+        self.assertIn("proto breaks old messages, and writes messages that old programs misread", page.words)
 
     def test_no_record(self):
         self.write({"run.json": "no record"})
