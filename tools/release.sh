@@ -2,7 +2,8 @@
 # Makes packages of the built program: a tarball and a Debian package, each with the program, what gates a folder, the page for `man`, and
 # completions. It proves and builds first where it has to, and then tries each package in a root of its own, without the kit.
 # usage: tools/release.sh FOLDER [VERSION]    puts them into FOLDER; without VERSION it is the program's, or that of the commit
-# It takes dpkg-deb, and for the try root's rights or `unshare`. The same commit and program make the same packages, byte for byte.
+# It takes dpkg-deb, and for the try root's rights or `unshare`. Debian wants an address of whoever maintains a package. The project has none:
+# who makes one for others says theirs in MAINTAINER ('A Name <name@host>'). The same commit and program make the same packages, byte for byte.
 set -eu
 root=$(CDPATH= cd -- "$(dirname -- "$0")/.." && pwd -P)
 if [ $# -lt 1 ] || [ $# -gt 2 ]; then
@@ -55,11 +56,11 @@ make_package() {
 Package: protogate
 Version: $version
 Architecture: amd64
-Maintainer: The protogate project <nobody@example.org>
+Maintainer: ${MAINTAINER:-The protogate project <nobody@example.org>}
 Installed-Size: $(du -sk --apparent-size "$room/usr" | cut -f 1)
 Depends: libc6 (>= $(needed_library "$room/usr/libexec/protogate"))
 Recommends: git, python3
-Suggests: protobuf-compiler
+Suggests: protobuf-compiler, libprotobuf-dev
 Section: devel
 Priority: optional
 Description: check a changed .proto file before it is released

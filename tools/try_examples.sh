@@ -1,6 +1,6 @@
 #!/bin/sh
 # Runs the examples and compares what is printed, and each status: the changes below `examples/changes`, each with its certificate
-# and its descriptor sets; the commands of README.md and docs/USAGE.md; the script for continuous integration; what the scripts that
+# and its descriptor sets; the commands of README.md, docs/USAGE.md, docs/REFUSALS.md and the page for `man`; the script for continuous integration; what the scripts that
 # start the program say on a terminal; and what `main` ends with on a full device, on a word that isn't UTF-8, and where memory is
 # refused. The page for `man` has each code of docs/REFUSALS.md.
 # usage: tools/try_examples.sh [PROGRAM]    by default the script `protogate` at the top
@@ -106,6 +106,34 @@ make_release() {
     git -c init.defaultBranch=main init -q && cp -R examples/old proto && git add proto \
         && git -c user.name=nobody -c user.email=nobody@example.org commit -q -m v1.4 && git tag v1.4 \
         && cp examples/new/* proto
+}
+
+# The examples of the page for `man`, as they stand, in a folder that has such files.
+try_manual() {
+    mkdir -p -- "$room/manual/released" && cd -- "$room/manual" || exit 3
+    sed 's/^syntax.*/& package shop;/' "$root/examples/old/order.proto" >released/order.proto
+    sed 's/^syntax.*/& package shop;/' "$root/examples/new/order.proto" >order.proto
+    sed -n '/^\.SH EXAMPLE/,/^\.fi/p' "$root/docs/protogate.1" | sed '/^protogate/!d; s/\\-/-/g; s/$/; echo "status $?"/' >typed
+    compare "docs/protogate.1, EXAMPLE" "$(cat <<'END'
+breaks shop.Order 3
+witness 220180
+step 4 shop.Order.note order.proto:7:9 shop.Order.note order.proto:7:10
+status 1
+status 1
+breaks shop.Order 3
+status 1
+status 0
+compatible shop.Order
+status 0
+4 note text 61
+again 220161
+status 0
+shop.Order
+shop.Customer
+status 0
+END
+)" "$(sh ./typed 2>&1)"
+    cd -- "$room/top" || exit 3
 }
 
 # The status of a call, whatever it prints.
@@ -242,12 +270,15 @@ done
 
 mkdir -- "$room/top" && cp -R -- "$root/examples" "$room/top/examples" && cd -- "$room/top" || exit 3
 printf '#!/bin/sh\nexec "$PROGRAM" "$@"\n' >protogate && chmod 755 protogate || exit 3
+mkdir tools docs && cp -- "$root/tools/report.py" tools && cp -- "$root/docs/REFUSALS.md" docs || exit 3
 PROGRAM=$program
 PATH=$room/top:$PATH
 export PROGRAM PATH
 make_release || exit 3
 try_document "$root/README.md"
 try_document "$root/docs/USAGE.md"
+try_document "$root/docs/REFUSALS.md"
+try_manual
 gate=examples/ci/gate.sh
 try_status 0 "$gate" v1.4 proto Customer
 try_status 1 "$gate" v1.4 proto
