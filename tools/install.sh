@@ -59,6 +59,7 @@ exec "$here/../libexec/protogate" "$@"
 END_OF_SCRIPT
 put 755 examples/ci/gate.sh share/protogate/gate.sh
 put 755 examples/ci/gate.py share/protogate/gate.py
+put 644 examples/ci/sets.py share/protogate/sets.py
 put 755 tools/report.py share/protogate/report.py
 put 644 docs/REFUSALS.md share/protogate/REFUSALS.md
 write_script protogate-ci <<'END_OF_SCRIPT'

@@ -20,6 +20,7 @@ GATE = f"{TOP}/examples/ci/gate.sh"
 PROGRAM = f"{TOP}/crates/protogate/out/protogate"
 sys.path.insert(0, f"{TOP}/examples/ci")
 import gate  # noqa: E402
+import sets  # noqa: E402
 
 HEAD = 'syntax = "proto3";\n'
 NO_PROTOC = unittest.skipUnless(shutil.which("protoc"), "there is no protoc")
@@ -361,13 +362,13 @@ class Sets(unittest.TestCase):
         file = record(1, b"a.proto") + record(2, b"p.q") + record(4, outer) + record(4, record(1, b"Next")) + record(12, b"proto3")
         other = record(1, b"b.proto") + record(4, record(1, b"Bare"))
         made = record(1, other) + record(1, file)
-        self.assertEqual(gate.types_in(made, "a.proto"), ["p.q.Outer", "p.q.Outer.Inner", "p.q.Next"])
-        self.assertEqual(gate.types_in(made, "b.proto"), ["Bare"])
-        self.assertEqual(gate.types_in(made, "c.proto"), [])
+        self.assertEqual(sets.types_in(made, "a.proto"), ["p.q.Outer", "p.q.Outer.Inner", "p.q.Next"])
+        self.assertEqual(sets.types_in(made, "b.proto"), ["Bare"])
+        self.assertEqual(sets.types_in(made, "c.proto"), [])
 
     def test_records(self):
         data = bytes([0x08, 0x96, 0x01, 0x11]) + bytes(8) + bytes([0x1D]) + b"abcd" + bytes([0x22, 0])
-        self.assertEqual(list(gate.records(data)), [(1, 150), (2, bytes(8)), (3, b"abcd"), (4, b"")])
+        self.assertEqual(list(sets.records(data)), [(1, 150), (2, bytes(8)), (3, b"abcd"), (4, b"")])
 
 
 if __name__ == "__main__":

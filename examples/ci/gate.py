@@ -27,6 +27,8 @@ import sys
 import tempfile
 from concurrent.futures import ThreadPoolExecutor
 
+from sets import types_in
+
 # What `--with-protoc` may mend: what stands in a text and is skipped in a set, and imports that protoc brings with it.
 MENDED_BY_PROTOC = ("E107", "E204", "E205", "E301", "E411")
 PLACE = r"(-|.+:\d+:\d+)"
@@ -35,8 +37,6 @@ STEP = re.compile(rf"step (\d+) (\S+) {PLACE} (\S+) {PLACE}")
 SHOWN_DIGITS = 400
 # The system takes no longer word on a command line, in bytes.
 LONGEST_WORD = 131_000
-
-
 # As users call this.
 NAME = os.environ.get("GATE_NAME") or "gate.sh"
 
@@ -82,57 +82,6 @@ def nearest(word, words):
 def did_you_mean(word, words):
     found = nearest(word, words)
     return f"; did you mean {found}?" if found else ""
-
-
-# Descriptor sets.
-
-
-def varint(data, at):
-    """Returns the number that begins there, and where it ends."""
-    value = shift = 0
-    while True:
-        value |= (data[at] & 127) << shift
-        at, shift = at + 1, shift + 7
-        if data[at - 1] < 128:
-            return value, at
-
-
-def records(data):
-    """Yields the number and value of each record: a number, or bytes."""
-    at = 0
-    while at < len(data):
-        tag, at = varint(data, at)
-        if tag & 7 == 0:
-            value, at = varint(data, at)
-        else:
-            size, at = varint(data, at) if tag & 7 == 2 else ({1: 8, 5: 4}[tag & 7], at)
-            value, at = data[at : at + size], at + size
-        yield tag >> 3, value
-
-
-def last(data, number, default=b""):
-    return next((value for one, value in reversed(list(records(data))) if one == number), default)
-
-
-def types_below(message, scope):
-    """Yields the full names of a DescriptorProto and of those in it, but for the entry types of maps."""
-    if last(last(message, 7), 7, 0):
-        return
-    name = f"{scope}{last(message, 1).decode()}"
-    yield name
-    for number, inner in records(message):
-        if number == 3:
-            yield from types_below(inner, f"{name}.")
-
-
-def types_in(descriptor_set, file):
-    """Returns the full names of the message types that a file of a FileDescriptorSet declares, in order of declaration."""
-    for _, descriptor in records(descriptor_set):
-        if last(descriptor, 1) == os.fsencode(file):
-            package = last(descriptor, 2).decode()
-            messages = [value for number, value in records(descriptor) if number == 4]
-            return [it for message in messages for it in types_below(message, f"{package}." if package else "")]
-    return []
 
 
 def types_of(folder, file):
