@@ -1,5 +1,5 @@
 #!/bin/sh
-# Installs the built program, its page, what gates a folder, and completions: tools/install.sh [PREFIX], by default /usr/local. It proves
+# Installs the built program, its page, what gates a folder with the files that one copies for it, and completions: tools/install.sh [PREFIX], by default /usr/local. It proves
 # and builds first where it has to. What is installed names no path, so a folder of it may be moved or packed whole.
 set -eu
 root=$(CDPATH= cd -- "$(dirname -- "$0")/.." && pwd -P)
@@ -69,6 +69,9 @@ END_OF_SCRIPT
 write_script protogate-report <<'END_OF_SCRIPT'
 exec "$here/../share/protogate/report.py" "$@"
 END_OF_SCRIPT
+for file in github.yml gitlab.yml pre-commit.yaml protogate.mk; do
+    put 644 "examples/ci/$file" "share/doc/protogate/examples/$file"
+done
 put 644 docs/protogate.1 share/man/man1/protogate.1
 put 644 tools/completions/protogate.bash share/bash-completion/completions/protogate
 put 644 tools/completions/protogate.zsh share/zsh/site-functions/_protogate

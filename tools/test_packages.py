@@ -340,6 +340,8 @@ class Packages(test_ci.Repository):
         words = [f"{self.room.name}/gate-it", "HEAD", "proto", "--record", "run.json"]
         done = subprocess.run(words, cwd=self.top, env=env, stdout=subprocess.PIPE, check=True)
         self.assertEqual(done.stdout.decode(), "compatible A\n")
+        copied = os.listdir(f"{os.path.dirname(os.path.dirname(tool))}/share/doc/protogate/examples")
+        self.assertEqual(sorted(copied), ["github.yml", "gitlab.yml", "pre-commit.yaml", "protogate.mk"])
         page = subprocess.run([f"{tool}-report", "run.json"], cwd=self.top, env=env, stdout=subprocess.PIPE, check=True)
         self.assertIn("proto may be released", page.stdout.decode())
 
