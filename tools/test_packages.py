@@ -3,7 +3,7 @@
 
 usage: tools/test_packages.py [PROGRAM]    by default the program that was built
 
-Some tests are passed over where a tool isn't there that they take: make, fish, or dpkg-deb with root's rights or `unshare`.
+Some tests are passed over where a tool isn't there that they take: make, fish, pre-commit, or dpkg-deb with root's rights or `unshare`.
 """
 
 import html.parser
