@@ -217,6 +217,8 @@ class Answers(Repository):
         self.assertEqual((status, len(said)), (1, 3))
         self.assertIn("::error file=proto/order.proto,title=protogate%3A breaks Order,line=7,col=10::", said[2])
         self.assertIn("220180%0AThe old side reads:%0A4 note bytes 80%0A", said[2])
+        self.assertIn("%0AThe new side refuses it: E604 at 0 (a text that isn't UTF-8)", said[2])
+        self.assertEqual(gate.reading("old", "refused E608 at 200\n"), "The old side's reading isn't shown: E608 at 200")
         self.assertEqual(gate.annotation("a, b", "50%\n", "c:d.proto", "c:d.proto:1:2"),
                          "::error file=c%3Ad.proto,title=a%2C b,line=1,col=2::50%25%0A")
 
@@ -277,6 +279,16 @@ class Faults(Repository):
         self.assertEqual(self.call("v1", "proto"), (2, ["refused old E301 a.proto:2:8", "refused new E301 a.proto:2:8"]))
         self.assertIn("a.proto:2:8 imports a file of the library, which isn't below the folder; protoc brings it: use --with-protoc\n", self.advice)
         self.assertEqual(self.call("v1", "proto", "--with-protoc"), (0, ["compatible A"]))
+
+    def test_a_protoc_without_the_library(self):
+        """Debian has the library's files in another package than protoc."""
+        text = HEAD + 'import "google/protobuf/timestamp.proto"; message A { }'
+        self.release({"a.proto": text}, {"a.proto": text})
+        says = "google/protobuf/timestamp.proto: File not found."
+        self.write({"tools/protoc": f"#!/bin/sh\necho '{says}' >&2\nexit 1\n"}, self.room.name)
+        os.chmod(f"{self.room.name}/tools/protoc", 0o755)
+        self.assertEqual(self.call("v1", "proto", "--with-protoc", PATH=f"{self.room.name}/tools:{os.environ['PATH']}")[0], 2)
+        self.assertIn(f"too: {says} (Debian has the library's files in libprotobuf-dev)\n", self.advice)
 
     @NO_PROTOC
     def test_one_side_by_protoc(self):

@@ -329,7 +329,9 @@ def advice_on(it):
     elif it.get("protoc"):
         words.append(f"{it['place']} isn't taken as a text; protoc may make a set of it: use --with-protoc")
     if it.get("protoc_says"):
-        words.append(f"protoc refuses it on the {it['side']} side, too: {it['protoc_says']}")
+        lacks = re.search(r"google/protobuf/\S+: File not found", it["protoc_says"])
+        words.append(f"protoc refuses it on the {it['side']} side, too: {it['protoc_says']}"
+                     + " (Debian has the library's files in libprotobuf-dev)" * bool(lacks))
     return " ".join(words)
 
 
@@ -349,6 +351,16 @@ def annotation(title, message, path=None, place=None):
     return f"::error {words}::{escaped(message)}"
 
 
+def reading(side, lines):
+    """A side's reading of a witness, for an annotation. `show` refuses messages that are too deep or too long, which programs read."""
+    refused, _, why = lines.strip().partition("refused ")
+    if refused or not why:
+        return f"The {side} side reads:\n{lines.strip()}"
+    if why.split()[0] in ("E001", "E607", "E608"):
+        return f"The {side} side's reading isn't shown: {why}"
+    return f"The {side} side refuses it: {why}" + " (a text that isn't UTF-8)" * why.startswith("E604 ")
+
+
 def annotation_of(answer, top):
     """The annotation of an answer that is no release, at the new side's last step where it has a place."""
     name, verdict, path = answer["type"], answer["verdict"], answer["new_file"] or answer["old_file"]
@@ -357,7 +369,7 @@ def annotation_of(answer, top):
         return annotation(title, advice_on(answer) or title, path and top + path)
     place = answer["steps"][-1]["new_place"]
     file = path if place == "-" else place.rpartition(":")[0].rpartition(":")[0]
-    reads = "\n".join(f"The {side} side reads:\n{lines.strip()}" for side, lines in answer["readings"].items())
+    reads = "\n".join(reading(side, lines) for side, lines in answer["readings"].items())
     who = "an old" if answer["direction"] == "forward" else "a new"
     what = f"The shortest message that {who} program writes and the other"
     if answer["is_by_names"]:
