@@ -253,7 +253,7 @@ def mend_of(said, mends):
 def by_protoc(record):
     """The call that gates what protoc makes of the texts that are refused. It is that of the run: no shorter one has the old side."""
     name, *words = record["call"]
-    return tag("p", "Or gate the set that protoc makes of it:") + tag("div", tag("pre", text(shlex.join([name, "--with-protoc", *words]))), "side")
+    return tag("p", "This call gates what protoc makes of it:") + tag("div", tag("pre", text(shlex.join([name, "--with-protoc", *words]))), "side")
 
 
 def refused(refusal, record, link, mends):
