@@ -37,8 +37,6 @@ STEP = re.compile(rf"step (\d+) (\S+) {PLACE} (\S+) {PLACE}")
 SHOWN_DIGITS = 400
 # The system takes no longer word on a command line, in bytes.
 LONGEST_WORD = 131_000
-# As users call this.
-NAME = os.environ.get("GATE_NAME") or "gate.sh"
 
 
 class Stop(Exception):
@@ -405,6 +403,9 @@ def print_all(record, github, both):
 
 
 # The call.
+
+# As users call this.
+NAME = os.environ.get("GATE_NAME") or "gate.sh"
 
 
 class Parser(argparse.ArgumentParser):
