@@ -63,7 +63,7 @@ put 644 examples/ci/sets.py share/protogate/sets.py
 put 755 tools/report.py share/protogate/report.py
 put 644 docs/REFUSALS.md share/protogate/REFUSALS.md
 write_script protogate-ci <<'END_OF_SCRIPT'
-export PROTOGATE="${PROTOGATE:-$here/protogate}" GATE_NAME=protogate-ci
+export PROTOGATE="${PROTOGATE:-$here/protogate}" PROTOGATE_CI_NAME=protogate-ci
 exec "$here/../share/protogate/gate.sh" "$@"
 END_OF_SCRIPT
 write_script protogate-report <<'END_OF_SCRIPT'

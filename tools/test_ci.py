@@ -100,11 +100,11 @@ class Answers(Repository):
 
     def test_the_name_that_was_called(self):
         self.release_orders()
-        for more, name in (({}, "gate.sh"), ({"GATE_NAME": "protogate-ci"}, "protogate-ci")):
+        for more, name in (({}, "gate.sh"), ({"PROTOGATE_CI_NAME": "protogate-ci"}, "protogate-ci")):
             self.call(**more)
             self.assertTrue(self.advice.startswith(f"usage: {name} "), self.advice)
             self.assertTrue(self.advice.endswith("required: REVISION, FOLDER\n"), self.advice)
-        record = self.record("v1", "proto", "Customer", "--skip", "Order", "--view", "names", "--both", "--github", GATE_NAME="protogate-ci")
+        record = self.record("v1", "proto", "Customer", "--skip", "Order", "--view", "names", "--both", "--github", PROTOGATE_CI_NAME="protogate-ci")
         self.assertEqual(record["call"], ["protogate-ci", "--both", "--view", "names", "--skip", "Order", "v1", "proto", "Customer"])
 
     def test_a_type_that_is_skipped(self):

@@ -86,7 +86,7 @@ class Reports(test_ci.Repository):
 
     def test_what_is_refused_on_both_sides(self):
         self.release({"a b.proto": HEAD + "option (x) = 1;"}, {"a b.proto": HEAD + "option (x) = 1;"}, "a folder")
-        page = self.page("v1", "a folder", GATE_NAME="protogate-ci")
+        page = self.page("v1", "a folder", PROTOGATE_CI_NAME="protogate-ci")
         self.assertIn("protogate-ci --with-protoc v1 'a folder'", page.words)
 
     def test_words_of_another_page(self):

@@ -405,7 +405,7 @@ def print_all(record, github, both):
 # The call.
 
 # As users call this.
-NAME = os.environ.get("GATE_NAME") or "gate.sh"
+NAME = os.environ.get("PROTOGATE_CI_NAME") or "gate.sh"
 
 
 class Parser(argparse.ArgumentParser):
