@@ -342,6 +342,7 @@ class Packages(test_ci.Repository):
         self.assertEqual(done.stdout.decode(), "compatible A\n")
         copied = os.listdir(f"{os.path.dirname(os.path.dirname(tool))}/share/doc/protogate/examples")
         self.assertEqual(sorted(copied), ["github.yml", "gitlab.yml", "pre-commit.yaml", "protogate.mk"])
+        self.assertIn(b'"call": [\n  "protogate-ci",', open_bytes(f"{self.top}/run.json"))
         page = subprocess.run([f"{tool}-report", "run.json"], cwd=self.top, env=env, stdout=subprocess.PIPE, check=True)
         self.assertIn("proto may be released", page.stdout.decode())
 
