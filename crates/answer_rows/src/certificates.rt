@@ -2,12 +2,24 @@
 use crate::searches::list_of;
 use crate::shown;
 use crate::spelled::{bounds_of, hex_bytes, pair_of, table_of};
-use pg_cert::{Bounds, BoundsError, CertError, Certificate, PairBound, check, from_text, to_text};
+use pg_cert::{
+    Bounds, BoundsError, CertError, Certificate, PairBound, Verdict, check, from_text, to_text,
+};
 use pg_dyn::ViewName;
 use pg_pairs::Pair;
 use pg_schema::Schema;
 use rows::{bytes_of, cut};
 use std::alloc::{AllocError, Global};
+
+pub(crate) fn shown_verdict(
+    alloc: Global,
+    found: Result<Verdict, CertError>,
+) -> Result<String, AllocError> {
+    match found {
+        Ok(verdict) => shown::verdict(alloc, verdict),
+        Err(error) => shown::fault(alloc, error),
+    }
+}
 
 /// What the checker says.
 pub(crate) fn checked(
@@ -16,10 +28,7 @@ pub(crate) fn checked(
     new: &Schema,
     certificate: &Certificate,
 ) -> Result<String, AllocError> {
-    match check(alloc, old, new, certificate) {
-        Ok(verdict) => shown::verdict(alloc, verdict),
-        Err(error) => shown::fault(alloc, error),
-    }
+    shown_verdict(alloc, check(alloc, old, new, certificate))
 }
 
 /// What the checker says of the certificate of these parts.
@@ -38,7 +47,7 @@ pub(crate) fn check_claim(
     }
 }
 
-fn witness_of(alloc: Global, text: &str) -> Result<Option<Vec<u8>>, AllocError> {
+pub(crate) fn witness_of(alloc: Global, text: &str) -> Result<Option<Vec<u8>>, AllocError> {
     if text.is_empty() {
         return Ok(None);
     }
@@ -63,7 +72,7 @@ pub(crate) fn check_parts(
 }
 
 /// The bounds that came back.
-fn back(alloc: Global, bounds: &[PairBound]) -> Result<String, AllocError> {
+pub(crate) fn back(alloc: Global, bounds: &[PairBound]) -> Result<String, AllocError> {
     let mut list = String::new(alloc);
     for bound in bounds {
         let bound = shown::bound(alloc, bound)?;
@@ -75,7 +84,14 @@ fn back(alloc: Global, bounds: &[PairBound]) -> Result<String, AllocError> {
 /// `table | BOUNDS`: the bounds of the table that they make; or why they make none, and the bounds
 /// that came back.
 pub(crate) fn table(alloc: Global, words: &str) -> Result<String, AllocError> {
-    match Bounds::new(alloc, bounds_of(alloc, words)?) {
+    shown_table(alloc, Bounds::new(alloc, bounds_of(alloc, words)?))
+}
+
+pub(crate) fn shown_table(
+    alloc: Global,
+    found: Result<Bounds, (BoundsError, Vec<PairBound>)>,
+) -> Result<String, AllocError> {
+    match found {
         Ok(table) => list_of(alloc, &table),
         Err((BoundsError::Memory, bounds)) => {
             let back = back(alloc, &bounds)?;
@@ -100,8 +116,19 @@ fn read_text(
         Err(error) => return shown::fault(alloc, error),
     };
     let again = to_text(alloc, old, new, &certificate)?;
-    let verdict = checked(alloc, old, new, &certificate)?;
-    format!(in alloc; "{verdict} | {}", again.as_bytes().escape_ascii())
+    shown_text(alloc, old, new, &certificate, &again)
+}
+
+/// What the checker says of a certificate, and the text that is written of it.
+pub(crate) fn shown_text(
+    alloc: Global,
+    old: &Schema,
+    new: &Schema,
+    certificate: &Certificate,
+    text: &str,
+) -> Result<String, AllocError> {
+    let verdict = checked(alloc, old, new, certificate)?;
+    format!(in alloc; "{verdict} | {}", text.as_bytes().escape_ascii())
 }
 
 /// `text | OLD | NEW | TEXT`: why the text is none, or what the checker says of its certificate and

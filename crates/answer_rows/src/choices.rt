@@ -7,7 +7,7 @@ use pg_schema::Schema;
 use rows::cut;
 use std::alloc::{AllocError, Global};
 
-fn list_of(alloc: Global, choices: &[Choice]) -> Result<String, AllocError> {
+pub(crate) fn list_of(alloc: Global, choices: &[Choice]) -> Result<String, AllocError> {
     let mut list = String::new(alloc);
     for choice in choices {
         let choice = shown::choice(alloc, choice)?;
@@ -33,7 +33,7 @@ pub(crate) fn choices<V: View>(
 }
 
 /// The choice, and its child where it has one.
-fn with_child(alloc: Global, choice: &Choice, child: Option<Pair>) -> Result<String, AllocError> {
+pub(crate) fn with_child(alloc: Global, choice: &Choice, child: Option<Pair>) -> Result<String, AllocError> {
     let text = shown::choice(alloc, choice)?;
     match child {
         Some(Pair { old, new }) => { format!(in alloc; "{text} child {} {}", old.index, new.index) }
@@ -61,7 +61,7 @@ pub(crate) fn cheapest_choice<V: View>(
     }
 }
 
-fn list_of_pairs(alloc: Global, pairs: &[Pair]) -> Result<String, AllocError> {
+pub(crate) fn list_of_pairs(alloc: Global, pairs: &[Pair]) -> Result<String, AllocError> {
     let mut list = String::new(alloc);
     for pair in pairs {
         let pair = shown::pair(alloc, *pair)?;

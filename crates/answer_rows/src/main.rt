@@ -6,8 +6,9 @@
 //! bound by its pair and a number or `none`, with `, ` between bounds; a choice by its number,
 //! case, part and cost; bytes by hexadecimal digits, and the text of a certificate with escapes.
 //! Words that are left out are zeros, and `-` is no bounds. The words of each call stand at its
-//! function. `rows` says how a line spells a text many times. Of a row that runs out of memory
-//! `Memory` is printed.
+//! function. With `retry ` in front of the call it is made again where it lacks memory
+//! (`rows::retry`). `rows` says how a line spells a text many times. Of another row that runs out
+//! of memory `Memory` is printed.
 #![tactic(auto)]
 
 mod certificates;
@@ -16,6 +17,7 @@ mod drawn;
 mod enum_view;
 mod gaps;
 mod messages;
+mod retries;
 mod returning;
 mod row;
 mod searches;
@@ -29,7 +31,12 @@ use std::io;
 fn main(rt: HostRuntime) -> io::Result<()> {
     for line in rt.lines(rt.alloc()) {
         let line = line?;
-        let (shows, _) = cut(line.as_str());
+        let (shows, input) = cut(line.as_str());
+        if let Some(input) = input.strip_prefix("retry ") {
+            let answer = retries::answer(&rt, input)?;
+            println!(rt; "{shows} | {answer}")?;
+            continue;
+        }
         match row::answer(rt.alloc(), line.as_str()) {
             Ok(text) => println!(rt; "{shows} | {text}")?,
             Err(AllocError) => println!(rt; "{shows} | Memory")?,

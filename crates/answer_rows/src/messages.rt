@@ -40,7 +40,11 @@ fn verdict<V: View>(
     if !fits(old, message) {
         return Ok("misfit");
     }
-    match breaks(alloc, view, old, new, pair, message) {
+    shown_breaks(breaks(alloc, view, old, new, pair, message))
+}
+
+pub(crate) fn shown_breaks(found: Result<bool, DynError>) -> Result<&'static str, AllocError> {
+    match found {
         Ok(true) => Ok("breaks"),
         Ok(false) => Ok("kept"),
         Err(DynError::Memory) => Err(AllocError),
@@ -66,7 +70,7 @@ fn read(
 }
 
 /// The same of `TYPE | BYTES`.
-fn read_words(alloc: Global, schema: &Schema, words: &str) -> Result<Option<Message>, AllocError> {
+pub(crate) fn read_words(alloc: Global, schema: &Schema, words: &str) -> Result<Option<Message>, AllocError> {
     let (index, bytes) = cut(words);
     let index = number_at(index, 0);
     let bytes = hex_bytes(alloc, bytes)?;
@@ -74,7 +78,7 @@ fn read_words(alloc: Global, schema: &Schema, words: &str) -> Result<Option<Mess
 }
 
 /// The choice, if it is one of the pair's under the table.
-fn chosen<V: View>(
+pub(crate) fn chosen<V: View>(
     alloc: Global,
     view: &V,
     old: &Schema,

@@ -4,7 +4,7 @@ use crate::messages::spelled;
 use crate::shown;
 use crate::shown::add;
 use crate::spelled::{pair_of, table_of};
-use pg_cert::Bounds;
+use pg_cert::{Bounds, Certificate};
 use pg_dyn::ViewName;
 use pg_least::{Found, Step, find, find_with, path, search, search_counted, search_with};
 use pg_pairs::laws::numbers_are_alike;
@@ -39,7 +39,7 @@ fn alone(
 }
 
 /// The certificate's witness, which has the bytes of the message beside it, and that message's type.
-fn witness_of(alloc: Global, old: &Schema, found: &Found) -> Result<String, AllocError> {
+pub(crate) fn witness_of(alloc: Global, old: &Schema, found: &Found) -> Result<String, AllocError> {
     let (Some(message), Some(witness)) = (&found.witness, found.certificate.witness()) else {
         let alike = found.witness.is_none() && found.certificate.witness().is_none();
         return String::from_str(alloc, if alike { "none" } else { "one alone" });
@@ -53,7 +53,7 @@ fn witness_of(alloc: Global, old: &Schema, found: &Found) -> Result<String, Allo
 }
 
 /// What is found beside the certificate.
-fn beside(alloc: Global, old: &Schema, new: &Schema, root: Pair) -> Result<String, AllocError> {
+pub(crate) fn beside(alloc: Global, old: &Schema, new: &Schema, root: Pair) -> Result<String, AllocError> {
     if !old.has(root.old) || !new.has(root.new) {
         return String::from_str(alloc, "no such type");
     }
@@ -74,15 +74,26 @@ pub(crate) fn search_pair(
         return String::from_str(alloc, "no such type");
     }
     let certificate = search(alloc, old, new, root)?;
+    let witness = beside(alloc, old, new, root)?;
+    shown_search(alloc, old, new, &certificate, &witness)
+}
+
+/// What is shown of a certificate by numbers beside its witness.
+pub(crate) fn shown_search(
+    alloc: Global,
+    old: &Schema,
+    new: &Schema,
+    certificate: &Certificate,
+    witness: &str,
+) -> Result<String, AllocError> {
     let list = list_of(alloc, certificate.bounds())?;
     let pair = shown::pair(alloc, certificate.root())?;
-    let witness = beside(alloc, old, new, root)?;
-    let verdict = alone(alloc, old, new, root, &list)?;
+    let verdict = alone(alloc, old, new, certificate.root(), &list)?;
     format!(in alloc; "{pair} | {list} | {witness} | {verdict}")
 }
 
 /// What is found beside the certificate under the view.
-fn beside_by<V: View>(
+pub(crate) fn beside_by<V: View>(
     alloc: Global,
     view: &V,
     old: &Schema,
@@ -110,15 +121,26 @@ pub(crate) fn search_by<V: View>(
         return String::from_str(alloc, "no such type");
     }
     let certificate = search_with(alloc, view, old, new, root)?;
+    let witness = beside_by(alloc, view, old, new, root)?;
+    shown_by(alloc, old, new, &certificate, &witness)
+}
+
+/// What is shown of a certificate by names beside its witness.
+pub(crate) fn shown_by(
+    alloc: Global,
+    old: &Schema,
+    new: &Schema,
+    certificate: &Certificate,
+    witness: &str,
+) -> Result<String, AllocError> {
     let list = list_of(alloc, certificate.bounds())?;
     let pair = shown::pair(alloc, certificate.root())?;
-    let witness = beside_by(alloc, view, old, new, root)?;
-    let verdict = checked(alloc, old, new, &certificate)?;
+    let verdict = checked(alloc, old, new, certificate)?;
     format!(in alloc; "{pair} | {list} | {witness} | {verdict}")
 }
 
 /// Each step by its pair and its choice.
-fn steps_of(alloc: Global, steps: &[Step]) -> Result<String, AllocError> {
+pub(crate) fn steps_of(alloc: Global, steps: &[Step]) -> Result<String, AllocError> {
     let mut list = String::new(alloc);
     for step in steps {
         let step = shown::step(alloc, step)?;
@@ -161,5 +183,5 @@ pub(crate) fn counts(
         return String::from_str(alloc, "no such type");
     }
     let (_, work) = search_counted(alloc, old, new, root)?;
-    format!(in alloc; "{} {} {}", work.settled, work.relaxed, work.opened)
+    shown::work(alloc, &work)
 }

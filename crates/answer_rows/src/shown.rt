@@ -1,7 +1,7 @@
 //! How answers are shown.
 use pg_cert::{CertError, PairBound, Verdict};
 use pg_least::Step;
-use pg_pairs::{Choice, Pair};
+use pg_pairs::{Choice, Pair, Work};
 use std::alloc::{AllocError, Global};
 
 /// Adds an item to the list.
@@ -54,6 +54,11 @@ pub(crate) fn step(alloc: Global, step: &Step) -> Result<String, AllocError> {
         "{} {} by {number} {case} {part} {cost}",
         old.index, new.index
     )
+}
+
+/// The pairs that are settled, the edges that are relaxed and the pairs that are opened.
+pub(crate) fn work(alloc: Global, work: &Work) -> Result<String, AllocError> {
+    format!(in alloc; "{} {} {}", work.settled, work.relaxed, work.opened)
 }
 
 pub(crate) fn verdict(alloc: Global, verdict: Verdict) -> Result<String, AllocError> {

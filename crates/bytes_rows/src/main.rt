@@ -6,7 +6,8 @@
 //! the one is that of the bytes and contents in the lines behind it, and that of the other is what
 //! `fits` and `outside` compare with.
 //!
-//! `rows` says how a line spells a text many times. Of a row that runs out of memory `Memory` is
+//! With `retry ` in front of the call it is made again where it lacks memory (`rows::retry`). `rows`
+//! says how a line spells a text many times. Of another row that runs out of memory `Memory` is
 //! printed; in place of it stand what `set` gave back, and the message as it is then.
 #![tactic(auto)]
 
@@ -14,6 +15,7 @@ mod contents;
 mod draft;
 mod reading;
 mod records;
+mod retries;
 mod row;
 mod setting;
 mod types;
@@ -28,7 +30,12 @@ fn main(rt: HostRuntime) -> io::Result<()> {
     };
     for row in rt.lines(rt.alloc()) {
         let row = row?;
-        let (what, _) = cut(row.as_str());
+        let (what, input) = cut(row.as_str());
+        if let Some(input) = input.strip_prefix("retry ") {
+            let answer = retries::answer(&rt, &types, input)?;
+            println!(rt; "{what} | {answer}")?;
+            continue;
+        }
         match row::answer(rt.alloc(), &mut types, row.as_str()) {
             Ok(found) => println!(rt; "{what} | {found}")?,
             Err(AllocError) => println!(rt; "{what} | Memory")?,

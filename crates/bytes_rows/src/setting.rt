@@ -8,7 +8,7 @@ use pg_schema::Schema;
 use std::alloc::Global;
 
 /// Sets a content of a message that fits; of one that doesn't the call answers `TooLong`.
-fn set(
+pub(crate) fn set(
     schema: &Schema,
     message: &mut Message,
     number: u32,
@@ -21,7 +21,7 @@ fn set(
 }
 
 /// Sets the contents in turn, up to one that is refused.
-fn set_each(
+pub(crate) fn set_each(
     schema: &Schema,
     message: &mut Message,
     contents: Vec<(u32, Content)>,

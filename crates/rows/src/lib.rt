@@ -4,6 +4,7 @@
 
 mod files;
 mod repeats;
+mod retry;
 mod spelled;
 mod texts;
 

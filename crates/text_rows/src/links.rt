@@ -5,35 +5,41 @@ mod shown;
 
 use asked::answer_of;
 use failing_source::FailingSource;
-use options::{Options, options_of};
-use pg_link::{LinkError, Linked, Listed, link_below, place_in, read_file};
+use pg_link::{LinkError, Linked, Listed, Place, link_below, place_in, read_file};
 use rows::{borrowed, cut, files_of, number_of, spelling};
-use shown::{linked_files, refusal};
+use shown::linked_files;
 use std::alloc::{AllocError, Global};
 
-type Source<'a> = FailingSource<Listed<'a>>;
+pub use asked::{first_type, shown_name, shown_targets};
+pub use options::{Options, options_of};
+pub use shown::refusal;
+
+pub type Source<'a> = FailingSource<Listed<'a>>;
 
 fn linked(alloc: Global, source: &mut Source, options: Options) -> Result<Linked, LinkError> {
     let roots: Vec<&str> = options.roots.split(' ').collect(alloc)?;
     link_below(alloc, source, options.folder, &roots)
 }
 
-fn of_links(alloc: Global, source: &mut Source, options: Options) -> Result<String, AllocError> {
-    match linked(alloc, source, options) {
+/// What is shown of linked files, or the refusal.
+pub fn shown_links(
+    alloc: Global,
+    found: Result<Linked, LinkError>,
+    options: Options,
+) -> Result<String, AllocError> {
+    match found {
         Ok(linked) if options.asked.is_empty() => linked_files(alloc, &linked, options.names),
         Ok(linked) => answer_of(alloc, &linked, options.asked),
         Err(error) => refusal(alloc, error),
     }
 }
 
-/// What a read of the file gives.
-fn of_read(
+/// What a read of a file gives, or the refusal.
+pub fn shown_read(
     alloc: Global,
-    source: &mut Source,
-    folder: &str,
-    path: &str,
+    found: Result<Vec<u8>, LinkError>,
 ) -> Result<String, AllocError> {
-    match read_file(alloc, source, folder, path) {
+    match found {
         Ok(bytes) => spelling(alloc, &bytes),
         Err(error) => refusal(alloc, error),
     }
@@ -45,9 +51,15 @@ fn of_reads(alloc: Global, source: &mut Source, options: Options) -> Result<Stri
         if !out.is_empty() {
             out.push_str(", ")?;
         }
-        out.push_str(&of_read(alloc, source, options.folder, path)?)?;
+        let found = read_file(alloc, source, options.folder, path);
+        out.push_str(&shown_read(alloc, found)?)?;
     }
     Ok(out)
+}
+
+/// A place in a file.
+pub fn shown_place(alloc: Global, place: &Place) -> Result<String, AllocError> {
+    format!(in alloc; "{}:{}:{}", place.file, place.line, place.column)
 }
 
 /// The place of a byte of the first file.
@@ -55,8 +67,7 @@ fn of_place(alloc: Global, files: &[(&str, &[u8])], at: u32) -> Result<String, A
     let Some((path, text)) = files.first() else {
         return String::from_str(alloc, "no file");
     };
-    let place = place_in(alloc, path, text, at as usize)?;
-    format!(in alloc; "{}:{}:{}", place.file, place.line, place.column)
+    shown_place(alloc, &place_in(alloc, path, text, at as usize)?)
 }
 
 fn of_files(
@@ -69,7 +80,8 @@ fn of_files(
     }
     let mut source = FailingSource::new(Listed { files }, options.fails_at);
     if options.reads.is_empty() {
-        of_links(alloc, &mut source, options)
+        let found = linked(alloc, &mut source, options);
+        shown_links(alloc, found, options)
     } else {
         of_reads(alloc, &mut source, options)
     }

@@ -18,7 +18,9 @@
 //!   with `| message NAME`, `| has PLACE`, `| type PLACE`, `| field PLACE NUMBER` and !   `| enum
 //!   PLACE` what these calls of the schema answer.
 //!
-//! `rows` says how texts and files are spelled. Of a row that runs out of memory `Memory` is printed.
+//! With `retry ` in front of the second part the row's call is made again where it lacks memory
+//! (`rows::retry`). `rows` says how texts and files are spelled. Of another row that runs out of
+//! memory `Memory` is printed.
 #![tactic(auto)]
 
 mod answer;
@@ -27,6 +29,7 @@ mod joined;
 mod links;
 mod parts;
 mod placed;
+mod retries;
 mod schema;
 mod tokens;
 mod tree;
@@ -39,7 +42,12 @@ use std::io;
 fn main(rt: HostRuntime) -> io::Result<()> {
     for row in rt.lines(rt.alloc()) {
         let row = row?;
-        let (what, _) = cut(row.as_str());
+        let (what, input) = cut(row.as_str());
+        if let Some(input) = input.strip_prefix("retry ") {
+            let answer = retries::answer(&rt, input)?;
+            println!(rt; "{what} | {answer}")?;
+            continue;
+        }
         match answer::answer(rt.alloc(), &mut Folder::new(&rt), row.as_str()) {
             Ok(answer) => println!(rt; "{what} | {answer}")?,
             Err(AllocError) => println!(rt; "{what} | Memory")?,

@@ -2,8 +2,8 @@
 mod code;
 
 pub use code::refusal;
-use pg_check::build;
-use pg_link::{LinkError, Linked, Listed, link};
+use pg_check::{CheckError, build};
+use pg_link::{LinkError, Listed, link};
 use pg_schema::{EnumId, EnumType, Field, MessageType, Parts, Schema, TypeId};
 use rows::{borrowed, cut, files_of, number_of};
 use std::alloc::{AllocError, Global};
@@ -66,8 +66,13 @@ fn of_schema(alloc: Global, schema: &Schema, asked: &str) -> Result<String, Allo
     }
 }
 
-fn of_linked(alloc: Global, linked: &Linked, asked: &str) -> Result<String, AllocError> {
-    match build(alloc, linked) {
+/// What is shown of a schema, or the refusal.
+pub fn shown_schema(
+    alloc: Global,
+    found: Result<Schema, CheckError>,
+    asked: &str,
+) -> Result<String, AllocError> {
+    match found {
         Ok(schema) => of_schema(alloc, &schema, asked),
         Err(error) => refusal(alloc, error),
     }
@@ -76,7 +81,7 @@ fn of_linked(alloc: Global, linked: &Linked, asked: &str) -> Result<String, Allo
 fn of_files(alloc: Global, files: &[(&str, &[u8])], asked: &str) -> Result<String, AllocError> {
     let root = files.first().map_or("", |file| file.0);
     match link(alloc, &mut Listed { files }, &[root]) {
-        Ok(linked) => of_linked(alloc, &linked, asked),
+        Ok(linked) => shown_schema(alloc, build(alloc, &linked), asked),
         Err(LinkError::Memory) => Err(AllocError),
         Err(_) => String::from_str(alloc, "not linked"),
     }

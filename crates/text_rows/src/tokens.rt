@@ -45,8 +45,13 @@ fn tokens(alloc: Global, tokens: &[Token]) -> Result<String, AllocError> {
     Ok(out)
 }
 
-fn answer_of(alloc: Global, text: &[u8]) -> Result<String, AllocError> {
-    match lex(alloc, text) {
+/// What is shown of the tokens of a text, or of its fault.
+pub fn shown_tokens(
+    alloc: Global,
+    text: &[u8],
+    found: Result<Vec<Token<'_>>, LexError>,
+) -> Result<String, AllocError> {
+    match found {
         Ok(found) if found.is_empty() => String::from_str(alloc, "no tokens"),
         Ok(found) => tokens(alloc, &found),
         Err(LexError::Memory) => Err(AllocError),
@@ -66,7 +71,7 @@ pub fn answer(alloc: Global, input: &str) -> Result<String, AllocError> {
     let (spelled, offset) = cut(input);
     let text = text_of(alloc, spelled)?;
     if offset.is_empty() {
-        answer_of(alloc, &text)
+        shown_tokens(alloc, &text, lex(alloc, &text))
     } else {
         place_of(alloc, &text, number_of(offset))
     }

@@ -2,6 +2,7 @@
 mod one;
 mod shown;
 
+pub use one::shown_file;
 use one::answer_of;
 use pg_lex::{LexError, Token, lex};
 use rows::{cut, text_of, with_word};

@@ -1,20 +1,28 @@
 //! What linked files are asked beside their links.
 use super::shown::refusal;
-use pg_link::{LinkError, Linked};
+use pg_link::{LinkError, Linked, Target};
 use pg_syntax::tree::{FileTree, Part, Statement, TypeName};
 use std::alloc::{AllocError, Global};
+use std::collections::BTreeMap;
 
 /// What the uses in the first file resolve to, by their first bytes.
 fn targets(alloc: Global, linked: &Linked) -> Result<String, AllocError> {
     if linked.files().is_empty() {
         return String::from_str(alloc, "no file");
     }
-    let found = linked.targets_by_place(alloc, 0)?;
+    shown_targets(alloc, &linked.targets_by_place(alloc, 0)?)
+}
+
+/// What uses resolve to, by their first bytes.
+pub fn shown_targets(
+    alloc: Global,
+    found: &BTreeMap<usize, Target>,
+) -> Result<String, AllocError> {
     format!(in alloc; "{found:?}")
 }
 
 /// The type of the first field of the only message of a file with a package.
-fn first_type(file: &FileTree) -> Option<&TypeName> {
+pub fn first_type(file: &FileTree) -> Option<&TypeName> {
     let [Statement::Message(message)] = file.packaged.as_ref()?.statements.as_slice() else {
         return None;
     };
@@ -22,6 +30,14 @@ fn first_type(file: &FileTree) -> Option<&TypeName> {
         return None;
     };
     Some(&field.type_name)
+}
+
+/// The full name, or the refusal.
+pub fn shown_name(alloc: Global, found: Result<&str, LinkError>) -> Result<String, AllocError> {
+    match found {
+        Ok(name) => String::from_str(alloc, name),
+        Err(error) => refusal(alloc, error),
+    }
 }
 
 /// The full name that it has in a scope of the first file.

@@ -2,6 +2,7 @@
 use super::shown::first_statement;
 use crate::placed::refusal;
 use pg_lex::{LexError, Token, lex};
+use pg_syntax::tree::FileTree;
 use pg_syntax::{SyntaxError, parse};
 use std::alloc::{AllocError, Global};
 
@@ -19,8 +20,13 @@ fn fault(error: SyntaxError) -> (u16, usize) {
     }
 }
 
-fn of_tokens(alloc: Global, text: &[u8], tokens: &[Token]) -> Result<String, AllocError> {
-    match parse(alloc, tokens, text.len()) {
+/// What is shown of the file of a text, or of its fault.
+pub fn shown_file(
+    alloc: Global,
+    text: &[u8],
+    found: Result<FileTree, SyntaxError>,
+) -> Result<String, AllocError> {
+    match found {
         Ok(file) => first_statement(alloc, &file),
         Err(SyntaxError::Memory) => Err(AllocError),
         Err(error) => refusal(alloc, text, fault(error)),
@@ -30,7 +36,7 @@ fn of_tokens(alloc: Global, text: &[u8], tokens: &[Token]) -> Result<String, All
 /// What a text with these tokens is refused with, or what is shown of it.
 pub fn answer_of(alloc: Global, text: &[u8]) -> Result<String, AllocError> {
     match lex(alloc, text) {
-        Ok(tokens) => of_tokens(alloc, text, &tokens),
+        Ok(tokens) => shown_file(alloc, text, parse(alloc, &tokens, text.len())),
         Err(LexError::Memory) => Err(AllocError),
         Err(_) => String::from_str(alloc, "no tokens"),
     }
