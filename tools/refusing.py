@@ -37,11 +37,11 @@ def ask_for_stack():
     resource.setrlimit(resource.RLIMIT_STACK, (hard, hard))
 
 
-def runs_of(library, words, folder=None, stdin=b""):
-    """Runs a program whole, as turn 0, then with each request refused in turn until a run meets none, however it ends. Gives each turn with
-    the status, what was printed, and the faults."""
+def runs_of(library, words, folder=None, stdin=b"", is_between=False):
+    """Runs a program whole, as turn 0, then with each request refused in turn until a run meets none, however it ends: all of them, or only
+    those between a line `ready` and a line `done` that it prints. Gives each turn with the status, what was printed, and the faults."""
     for turn in itertools.count():
-        env = {**os.environ, "REFUSE_MEMORY": str(turn), "LD_PRELOAD": library}
+        env = {**os.environ, "REFUSE_MEMORY": str(turn), "LD_PRELOAD": library, **({"REFUSE_BETWEEN": "1"} if is_between else {})}
         how = {"cwd": folder, "env": env, "input": stdin, "capture_output": True, "timeout": LIMIT, "check": False}
         ended = subprocess.run(words, **how)
         if turn and REFUSED not in ended.stderr:

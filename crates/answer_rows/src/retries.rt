@@ -20,10 +20,10 @@ fn between(
     match call {
         "carry" | "breaks" | "breaks_as_written" => messages::answer(rt, call, old, new, words),
         "check" | "from_text" | "to_text" => certificates::answer(rt, call, old, new, words),
-        "choices" | "cheapest" | "children" | "reached_pairs" | "returns" => {
-            pairs::answer(rt, call, old, new, words)
+        "search" | "search_with" | "find" | "find_with" | "counts" | "path" => {
+            searches::answer(rt, call, old, new, words)
         }
-        _ => searches::answer(rt, call, old, new, words),
+        _ => pairs::answer(rt, call, old, new, words),
     }
 }
 

@@ -1,7 +1,10 @@
 //! Reads the descriptor set that each line of standard input spells, and prints the set of what it
-//! states, or its refusal. Of a row that runs out of memory `Memory` is printed.
+//! states, or its refusal. With `retry CALL ` in front of the set it is that call's answer, made
+//! again where it lacks memory (`rows::retry`). Of another row that runs out of memory `Memory` is
+//! printed.
 #![tactic(auto)]
 
+mod retries;
 mod row;
 
 use rows::cut;
@@ -11,7 +14,12 @@ use std::io;
 fn main(rt: HostRuntime) -> io::Result<()> {
     for line in rt.lines(rt.alloc()) {
         let line = line?;
-        let (what, _) = cut(line.as_str());
+        let (what, input) = cut(line.as_str());
+        if let Some(input) = input.strip_prefix("retry ") {
+            let answer = retries::answer(&rt, input)?;
+            println!(rt; "{what} | {answer}")?;
+            continue;
+        }
         match row::answer(rt.alloc(), line.as_str()) {
             Ok(text) => println!(rt; "{what} | {text}")?,
             Err(AllocError) => println!(rt; "{what} | Memory")?,

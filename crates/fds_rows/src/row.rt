@@ -5,15 +5,25 @@ use rows::{bytes_of, cut};
 use std::alloc::{AllocError, Global};
 
 /// What is written of a schema, and whether the same schema is read and written of it again.
-type Written = (Vec<u8>, bool);
+pub(crate) type Written = (Vec<u8>, bool);
 
-fn is_same(alloc: Global, schema: &Schema, bytes: &[u8]) -> Result<bool, FdsError> {
-    let made = read_again(alloc, schema)?;
-    let again = write(alloc, &made)?;
+/// Whether this is the schema again, and these bytes are written of it.
+pub(crate) fn is_made_again(
+    alloc: Global,
+    schema: &Schema,
+    made: &Schema,
+    bytes: &[u8],
+) -> Result<bool, FdsError> {
+    let again = write(alloc, made)?;
     Ok(made.parts() == schema.parts() && again.as_slice() == bytes)
 }
 
-fn written(alloc: Global, schema: &Schema) -> Result<Written, FdsError> {
+fn is_same(alloc: Global, schema: &Schema, bytes: &[u8]) -> Result<bool, FdsError> {
+    let made = read_again(alloc, schema)?;
+    is_made_again(alloc, schema, &made, bytes)
+}
+
+pub(crate) fn written(alloc: Global, schema: &Schema) -> Result<Written, FdsError> {
     let bytes = write(alloc, schema)?;
     let is_same = is_same(alloc, schema, &bytes)?;
     Ok((bytes, is_same))
@@ -24,9 +34,12 @@ fn read_and_written(alloc: Global, bytes: &[u8]) -> Result<Written, FdsError> {
     written(alloc, &schema)
 }
 
-/// The bytes that are written of the set that these bytes spell, or the whole error.
-fn told(alloc: Global, bytes: &[u8]) -> Result<String, AllocError> {
-    match read_and_written(alloc, bytes) {
+/// The bytes that are written, or the whole error.
+pub(crate) fn told(
+    alloc: Global,
+    found: Result<Written, FdsError>,
+) -> Result<String, AllocError> {
+    match found {
         Ok((written, true)) => format!(in alloc; "\"{}\"", written.escape_ascii()),
         Ok((_, false)) => String::from_str(alloc, "not the same again"),
         Err(FdsError::Memory) => Err(AllocError),
@@ -38,5 +51,5 @@ fn told(alloc: Global, bytes: &[u8]) -> Result<String, AllocError> {
 pub(crate) fn answer(alloc: Global, row: &str) -> Result<String, AllocError> {
     let (_, spelled) = cut(row);
     let bytes = bytes_of(alloc, spelled)?;
-    told(alloc, &bytes)
+    told(alloc, read_and_written(alloc, &bytes))
 }

@@ -3,6 +3,7 @@ use failing_source::FailingSource;
 use pg_gate::{Answer, Fault, Finding, GateError, LinkError, Reply, Side, gate, gate_files};
 use pg_link::{Listed, Sources};
 use pg_schema::Schema;
+use rows::retry;
 use std::alloc::{AllocError, Global};
 use std::process::Abort;
 use std::test::Fail;
@@ -89,8 +90,8 @@ fn over_sources<S: Sources, T: Sources>(
     gate_files(alloc, old, new, &["m.proto"], &["m.proto"], root)
 }
 
-/// The answer over files that hold the message `M` of these fields. Where memory runs out that is
-/// printed, and the call is made again over the same sources.
+/// The answer over files that hold the message `M` of these fields. Where memory runs out the call
+/// is made again over the same sources.
 fn over_files(
     rt: &HostRuntime,
     old: &str,
@@ -105,13 +106,13 @@ fn over_files(
     let mut new = Listed {
         files: &[("m.proto", new.as_bytes())],
     };
-    match over_sources(rt.alloc(), &mut old, &mut new, root) {
-        Err(GateError::Memory) => {
-            println!(rt; "Memory")?;
-            Ok(over_sources(rt.alloc(), &mut old, &mut new, root))
-        }
-        answer => Ok(answer),
-    }
+    Ok(
+        retry!(
+            rt,
+            Err(GateError::Memory),
+            over_sources(rt.alloc(), &mut old, &mut new, root)
+        ),
+    )
 }
 
 #[test]
@@ -176,11 +177,12 @@ fn reply_of(alloc: Global) -> Result<Reply, AllocError> {
     }))
 }
 
-/// Where memory runs out that is printed, and the text is made of such a reply again.
+/// A reply whose text lacks memory is dropped, so that the text is made of such a reply again.
 #[test]
 fn a_reply_is_a_text(rt: HostRuntime) -> Result<(), Fail> {
     let alloc = rt.alloc();
     let (first, second) = (reply_of(alloc)?, reply_of(alloc)?);
+    println!(rt; "ready")?;
     let text = match first.into_text(alloc, "p.M") {
         Ok(text) => text,
         Err(AllocError) => {
@@ -188,6 +190,7 @@ fn a_reply_is_a_text(rt: HostRuntime) -> Result<(), Fail> {
             second.into_text(alloc, "p.M")?
         }
     };
+    println!(rt; "done")?;
     assert!(rt; text.as_slice() == b"breaks p.M 11\nwitness 08ffffffffffffffffff01\n".as_slice());
     Ok(())
 }

@@ -1,8 +1,9 @@
 //! Sinks that take little, or fail, and memory that is refused: of each subcommand, of refusals and
 //! of usage.
-use crate::runs::{CALLS, buffer, run_files};
+use crate::runs::{CALLS, FILES, buffer, run_files, run_over};
 use crate::{FailingSink, OneByte};
 use pg_gate::GateError;
+use pg_link::Listed;
 use std::process::Abort;
 use std::test::Fail;
 
@@ -66,32 +67,53 @@ fn stops_where_a_sink_fails(rt: HostRuntime) -> Result<(), Fail> {
     Ok(())
 }
 
-/// Whether memory was refused. The run gave its answer, or none and left the sink alone.
-fn wants_memory<R: Abort + AllocGlobal>(rt: &R, words: &[&str], printed: &str, status: u8) -> bool {
-    let Ok(mut sink) = buffer(rt.alloc()) else {
-        return true;
-    };
-    let ended = run_files(rt.alloc(), words, &mut sink);
-    let is_refused = ended.is_err();
-    let (wanted, text) = if is_refused {
-        (Err(GateError::Memory), "")
-    } else {
-        (Ok(status), printed)
-    };
-    assert!(rt; ended == wanted);
-    assert!(rt; sink.bytes.as_slice() == text.as_bytes());
-    is_refused
+/// The run prints this. One that lacks memory leaves its sink alone, and is made again over the same
+/// sources and the same sink.
+fn runs_again(rt: &HostRuntime, words: &[&str], printed: &str, status: u8) -> Result<(), Fail> {
+    let mut old = Listed { files: &FILES };
+    let mut new = Listed { files: &FILES };
+    let mut sink = buffer(rt.alloc())?;
+    println!(rt; "ready")?;
+    let mut ended = run_over(rt.alloc(), words, &mut old, &mut new, &mut sink);
+    if ended == Err(GateError::Memory) {
+        println!(rt; "Memory")?;
+        assert!(rt; sink.bytes.is_empty());
+        ended = run_over(rt.alloc(), words, &mut old, &mut new, &mut sink);
+    }
+    println!(rt; "done")?;
+    assert!(rt; ended == Ok(status));
+    assert!(rt; sink.bytes.as_slice() == printed.as_bytes());
+    Ok(())
 }
 
-/// Any one request for memory may be refused, and one at most: so at most one call runs out of it.
 #[test]
-fn keeps_to_memory(rt: HostRuntime) {
-    let mut was_refused = false;
-    for (words, printed, status) in CALLS {
-        let is_refused = wants_memory(&rt, words, printed, status);
-        assert!(rt; !(was_refused && is_refused));
-        was_refused = was_refused || is_refused;
-    }
+fn compiles_again(rt: HostRuntime) -> Result<(), Fail> {
+    let (words, printed, status) = CALLS[0];
+    runs_again(&rt, words, printed, status)
+}
+
+#[test]
+fn shows_again(rt: HostRuntime) -> Result<(), Fail> {
+    let (words, printed, status) = CALLS[2];
+    runs_again(&rt, words, printed, status)
+}
+
+#[test]
+fn verifies_again(rt: HostRuntime) -> Result<(), Fail> {
+    let (words, printed, status) = CALLS[4];
+    runs_again(&rt, words, printed, status)
+}
+
+#[test]
+fn gates_in_both_directions_again(rt: HostRuntime) -> Result<(), Fail> {
+    let (words, printed, status) = CALLS[9];
+    runs_again(&rt, words, printed, status)
+}
+
+#[test]
+fn gates_a_oneof_again(rt: HostRuntime) -> Result<(), Fail> {
+    let (words, printed, status) = CALLS[13];
+    runs_again(&rt, words, printed, status)
 }
 
 /// Help is said whole, or memory is reported and the sink left alone, where any one request may be

@@ -6,10 +6,13 @@
 //! breaks, in hexadecimal digits, or that the types are compatible: by the numbers of enums, and by
 //! their names. Where bytes stand behind the schemas, as ` | DIGITS`, it is what the first type of
 //! the new schema hands on of them; or, of several new schemas with ` > ` between them, what one
-//! hands on to the next. Of a row that runs out of memory `Memory` is printed.
+//! hands on to the next. With `retry CALL ` in front of the schemas it is that call's answer, made
+//! again where it lacks memory (`rows::retry`). Of another row that runs out of memory `Memory` is
+//! printed.
 #![tactic(auto)]
 
 mod relaying;
+mod retries;
 mod row;
 
 use rows::cut;
@@ -19,7 +22,12 @@ use std::io;
 fn main(rt: HostRuntime) -> io::Result<()> {
     for line in rt.lines(rt.alloc()) {
         let line = line?;
-        let (shows, _) = cut(line.as_str());
+        let (shows, input) = cut(line.as_str());
+        if let Some(input) = input.strip_prefix("retry ") {
+            let answer = retries::answer(&rt, input)?;
+            println!(rt; "{shows} | {answer}")?;
+            continue;
+        }
         match row::answer(rt.alloc(), line.as_str()) {
             Ok(text) => println!(rt; "{shows} | {text}")?,
             Err(AllocError) => println!(rt; "{shows} | Memory")?,

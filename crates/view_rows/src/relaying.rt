@@ -8,7 +8,7 @@ use std::alloc::{AllocError, Global};
 use tiny_schemas::schemas;
 
 /// The first types.
-const FIRST: Pair = Pair {
+pub(crate) const FIRST: Pair = Pair {
     old: TypeId { index: 0 },
     new: TypeId { index: 0 },
 };
@@ -21,15 +21,23 @@ fn refused(alloc: Global, error: DynError) -> Result<String, AllocError> {
     }
 }
 
-fn relayed(alloc: Global, old: &Schema, new: &Schema, bytes: &[u8]) -> Result<String, AllocError> {
-    if !new.has(FIRST.new) {
-        return String::from_str(alloc, "no such type");
-    }
-    match relay(alloc, old, new, FIRST, bytes) {
+/// What is handed on, or the refusal.
+pub(crate) fn shown(
+    alloc: Global,
+    found: Result<Vec<u8>, DynError>,
+) -> Result<String, AllocError> {
+    match found {
         Ok(again) if again.is_empty() => String::from_str(alloc, "nothing"),
         Ok(again) => hex::encode(alloc, &again),
         Err(error) => refused(alloc, error),
     }
+}
+
+fn relayed(alloc: Global, old: &Schema, new: &Schema, bytes: &[u8]) -> Result<String, AllocError> {
+    if !new.has(FIRST.new) {
+        return String::from_str(alloc, "no such type");
+    }
+    shown(alloc, relay(alloc, old, new, FIRST, bytes))
 }
 
 /// What a program of the new schema hands on of the bytes that the digits spell.

@@ -15,12 +15,20 @@ fn shown(alloc: Global, answer: &Answer) -> Result<String, AllocError> {
     }
 }
 
-fn asked(alloc: Global, old: &Schema, new: &Schema, view: ViewName) -> Result<String, AllocError> {
-    match gate_with(alloc, old, new, "M", view) {
+/// What is shown of an answer, or of its refusal.
+pub(crate) fn answered_with(
+    alloc: Global,
+    found: Result<Answer, GateError>,
+) -> Result<String, AllocError> {
+    match found {
         Ok(answer) => shown(alloc, &answer),
         Err(GateError::Memory) => Err(AllocError),
         Err(_) => String::from_str(alloc, "no such type"),
     }
+}
+
+fn asked(alloc: Global, old: &Schema, new: &Schema, view: ViewName) -> Result<String, AllocError> {
+    answered_with(alloc, gate_with(alloc, old, new, "M", view))
 }
 
 fn both(alloc: Global, old: &Schema, new: &Schema) -> Result<String, AllocError> {

@@ -3,8 +3,8 @@ use crate::choices::{list_of, list_of_pairs, with_child};
 use crate::spelled::{pair_of, table_of};
 use pg_cert::Bounds;
 use pg_pairs::{
-    Numbers, Pair, Priced, Prices, cheapest, children, choice_child, options, reached_pairs,
-    returns,
+    Numbers, Pair, Priced, Prices, Work, cheapest, children, choice_child, options,
+    reached_pairs, returns,
 };
 use pg_schema::Schema;
 use rows::{cut, retry};
@@ -40,12 +40,52 @@ fn of_table(
     }
 }
 
-fn reached(rt: &HostRuntime, old: &Schema, new: &Schema, root: Pair) -> io::Result<String> {
-    let graph = Priced::new(&Numbers, old, new);
-    if !graph.knows(root) {
+/// The cost of a pair without a child, and how many pairs were opened.
+fn based<G: Prices>(rt: &HostRuntime, graph: &G, pair: Pair) -> io::Result<String> {
+    if !graph.knows(pair) {
         return Ok(String::from_str(rt.alloc(), "no such pair")?);
     }
-    let found = retry!(rt, Err(AllocError), reached_pairs(rt.alloc(), &graph, root));
+    let mut work = Work {
+        settled: 0,
+        relaxed: 0,
+        opened: 0,
+    };
+    println!(rt; "ready")?;
+    let found = match graph.base(rt.alloc(), pair, &mut work) {
+        Err(AllocError) => {
+            println!(rt; "Memory {}", work.opened)?;
+            graph.base(rt.alloc(), pair, &mut work)
+        }
+        found => found,
+    };
+    println!(rt; "done")?;
+    let cost = found?.unwrap_or(0);
+    Ok(format!(in rt.alloc(); "{cost} {}", work.opened)?)
+}
+
+/// What a graph says of a pair: the children by an edge each, or as pairs, or all pairs that it
+/// leads to.
+fn of_graph<G: Prices>(
+    rt: &HostRuntime,
+    graph: &G,
+    call: &str,
+    pair: Pair,
+) -> io::Result<String> {
+    if !graph.knows(pair) {
+        return Ok(String::from_str(rt.alloc(), "no such pair")?);
+    }
+    if call == "Prices::edges" {
+        let edges = retry!(rt, Err(AllocError), graph.edges(rt.alloc(), pair))?;
+        let mut pairs = Vec::new(rt.alloc());
+        for edge in &edges {
+            pairs.push(edge.child)?;
+        }
+        return Ok(list_of_pairs(rt.alloc(), &pairs)?);
+    }
+    let found = match call {
+        "Prices::children" => retry!(rt, Err(AllocError), graph.children(rt.alloc(), pair)),
+        _ => retry!(rt, Err(AllocError), reached_pairs(rt.alloc(), graph, pair)),
+    };
     Ok(list_of_pairs(rt.alloc(), &found?)?)
 }
 
@@ -61,11 +101,12 @@ fn of_pair(
             let found = retry!(rt, Err(AllocError), children(rt.alloc(), old, new, pair));
             Ok(list_of_pairs(rt.alloc(), &found?)?)
         }
-        "reached_pairs" => reached(rt, old, new, pair),
-        _ => {
+        "returns" => {
             let found = retry!(rt, Err(AllocError), returns(rt.alloc(), old, new, pair));
             Ok(String::from_str(rt.alloc(), if found? { "yes" } else { "no" })?)
         }
+        "Prices::base" => based(rt, &Priced::new(&Numbers, old, new), pair),
+        _ => of_graph(rt, &Priced::new(&Numbers, old, new), call, pair),
     }
 }
 

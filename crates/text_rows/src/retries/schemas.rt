@@ -4,7 +4,7 @@ use crate::parts::{parts_of, shown_admitted, shown_made};
 use crate::schema::shown_schema;
 use pg_check::{CheckError, admit, build};
 use pg_link::{Linked, Listed, link};
-use pg_schema::{Parts, PartsError, Schema, default_json_name};
+use pg_schema::{Parts, PartsError, Schema, default_json_name, entry_name, full_name};
 use rows::{retry, borrowed, cut, files_of};
 use std::alloc::AllocError;
 use std::io;
@@ -54,18 +54,26 @@ fn made(rt: &HostRuntime, parts: Parts) -> io::Result<String> {
     Ok(shown_made(rt.alloc(), found)?)
 }
 
-fn named(rt: &HostRuntime, name: &str) -> io::Result<String> {
-    Ok(retry!(rt, Err(AllocError), default_json_name(rt.alloc(), name))?)
+fn named(rt: &HostRuntime, call: &str, spelled: &str) -> io::Result<String> {
+    let (scope, name) = spelled.split_once(' ').unwrap_or(("", spelled));
+    let found = match call {
+        "json_name" => retry!(rt, Err(AllocError), default_json_name(rt.alloc(), name)),
+        "entry_name" => retry!(rt, Err(AllocError), entry_name(rt.alloc(), name)),
+        _ => retry!(rt, Err(AllocError), full_name(rt.alloc(), scope, name)),
+    };
+    Ok(found?)
 }
 
-/// `parts | admit | PIECES`, `parts | from_parts | PIECES` and `parts | json_name | NAME`: these
-/// calls.
+/// `parts | admit | PIECES`, `parts | from_parts | PIECES`, `parts | json_name | NAME`,
+/// `parts | entry_name | NAME` and `parts | full_name | SCOPE NAME`: these calls.
 pub fn of_parts(rt: &HostRuntime, input: &str) -> io::Result<String> {
     let (call, spelled) = cut(input);
-    let parts = parts_of(rt.alloc(), spelled)?;
-    match call {
-        "admit" => admitted(rt, parts, parts_of(rt.alloc(), spelled)?),
-        "from_parts" => made(rt, parts),
-        _ => named(rt, spelled),
+    if call != "admit" && call != "from_parts" {
+        return named(rt, call, spelled);
     }
+    let parts = parts_of(rt.alloc(), spelled)?;
+    if call == "from_parts" {
+        return made(rt, parts);
+    }
+    admitted(rt, parts, parts_of(rt.alloc(), spelled)?)
 }
