@@ -1,24 +1,27 @@
 #!/usr/bin/env bash
 # How deep messages in messages may be read, tested, written, copied and dropped on a stack of so many KiB: in fields, in lists and in
-# maps; how deep a witness `protogate gate` builds; and how deep a one `protogate verify` reads, behind what it says of the longest chain
-# of types.
+# maps; of how many types in one another a set is written; how deep a witness `protogate gate` builds; and how deep a one `protogate verify`
+# reads, behind what it says of the longest chain of types.
 # usage: bench/depth.sh [FOLDER [KIB [KIND..]]]    FOLDER keeps the built program for the next run; by default the stack has 8,192 KiB.
-# KIND is gate, verify, or CALLS:NEST; by default all. CALLS is own (messages that own their parts), lent (those that borrow them), relay
-# or breaks, NEST is fields, lists or maps. PROTOGATE names the program that gate and verify run; by default it is built.
+# KIND is gate, verify, types, or CALLS:NEST; by default all. CALLS is own (messages that own their parts), lent (those that borrow them),
+# relay, breaks, unshared (what another type lacks of a message) or written (a message beside its bytes), NEST is fields, lists or maps.
+# PROTOGATE names the program that gate and verify run; by default it is built.
 set -eu
 top=$(cd "$(dirname "$0")/.." && pwd)
 work=${1:-$(mktemp -d)}
 mkdir -p "$work"
 stack=${2:-8192}
 shift $(($# < 2 ? $# : 2))
-[ $# -gt 0 ] || set -- {own,lent,relay,breaks}:{fields,lists,maps} gate verify
+[ $# -gt 0 ] || set -- {own,lent,relay,breaks,unshared,written}:{fields,lists,maps} types gate verify
 . "$top/bench/build.sh"
 protogate=${PROTOGATE:-$top/crates/protogate/out/protogate}
 case " $* " in
     *" gate "* | *" verify "*) [ -n "${PROTOGATE:-}" ] || "$top/protogate" --help > "$work/help.txt" || true ;;
 esac
 case " $* " in
-    *:*) build_bench "$top" "$work" depth depth_main.rt.txt "pg_lex pg_syntax pg_link pg_wire pg_schema pg_dyn pg_pairs pg_gate anyhow" ;;
+    *:* | *" types "*)
+        build_bench "$top" "$work" depth depth_main.rt.txt "pg_lex pg_syntax pg_link pg_wire pg_schema pg_dyn pg_fds pg_pairs pg_gate anyhow"
+        ;;
 esac
 ulimit -S -s "$stack"
 
@@ -30,6 +33,7 @@ number() {
 # What is said last of a nest of the kind and as many levels.
 last() {
     case $1 in
+        types) "$work/crates/depth/out/depth" types 1 "$2" 2>&1 || true ;;
         *:*) "$work/crates/depth/out/depth" "${1%:*}" "$(number "${1#*:}")" "$2" 2>&1 || true ;;
         gate)
             python3 "$top/bench/circles.py" "$work/circles" "$2" > "$work/levels.txt"

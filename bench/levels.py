@@ -1,6 +1,7 @@
 #!/usr/bin/env python3
 """Prints how many bytes of stack each call takes for a level of messages in messages: in fields, in lists and in maps. Of texts it prints
-the bytes of stack for message blocks in one another, 64 of them, and for a chain of 1,024 files: as many of each as there may be.
+the bytes of stack for message blocks in one another, 64 of them, and for a chain of 1,024 files: as many of each as there may be; and of
+message types in one another for the 97 of a set that is read, and for the 4,096 that a schema may have.
 
 usage: bench/levels.py PROGRAM [LEVELS]    by default 20,000 levels; PROGRAM is crates/depth/out/depth in the folder of bench/depth.sh
 
@@ -13,9 +14,9 @@ import resource
 import subprocess
 import sys
 
-CALLS = ("own", "lent", "relay", "breaks")
+CALLS = ("own", "lent", "relay", "breaks", "unshared", "written")
 NESTS = {"fields": "1", "lists": "2", "maps": "3"}
-TEXTS = {"parse": 64, "link": 1024}
+TEXTS = (("parse", 64), ("link", 1024), ("types", 97), ("types", 4096))
 
 
 def touched(pid):
@@ -47,7 +48,7 @@ def main(program, levels="20000"):
             found.pop("begin", None)
             found.pop("end", None)
             print(f"{calls}, in {nest}: " + ", ".join(f"{step} {size}" for step, size in found.items()))
-    for calls, most in TEXTS.items():
+    for calls, most in TEXTS:
         found = {step: size for step, size in steps(program, calls, "fields", most) if step not in ("begin", "end")}
         print(f"{calls}, {most} levels whole: " + ", ".join(f"{step} {size}" for step, size in found.items()))
 

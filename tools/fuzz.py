@@ -1,28 +1,29 @@
 #!/usr/bin/env python3
 """Runs the built program on texts, descriptor sets, certificates and messages that are changed at random, and judges its answers.
 
-    tools/fuzz.py [--seed N] [--count N] [--seconds N] [--least N] [--jobs N] [--only KIND:NUMBER] [--folder FOLDER] [PROGRAM]
+    tools/fuzz.py [--seed N] [--count N] [--seconds N] [--jobs N] [--only KIND:NUMBER] [--folder FOLDER] [PROGRAM]
 
-KIND is text, set, certificate or message. Of each kind COUNT inputs are tried (20,000 by default), as far as SECONDS allow (120), by
-as many processes side by side as there are processors. What is changed are the repository's own inputs (tools/fuzz_seeds.py), one to
-four times each (tools/fuzz_changes.py). The input of a kind and number is the same for a seed, however many are tried. A machine may be
-too slow for all of them; but where fewer than LEAST of a kind were tried, the run fails. By default that is a twentieth of COUNT: with
-1,000 inputs nearly every way of changing one comes over fifty times, and a machine that tries fewer in two minutes is stuck, not slow.
+KIND is text, set, certificate or message. Of each kind COUNT inputs are tried (20,000 by default), by as many processes side by side as
+there are processors. That takes some two minutes of four of them. It goes on until all are tried, but fails where that takes more than
+SECONDS (600), and says how many were. What is changed are the repository's own inputs (tools/fuzz_seeds.py), one to four times each
+(tools/fuzz_changes.py). The input of a kind and number is the same for a seed, however many are tried.
 
 Asked of every run: it ends within ten seconds with a status from 0 to 5, by no signal, with nothing on standard error, and prints
 just what docs/USAGE.md and docs/REFUSALS.md say of that subcommand and status. Asked of what is accepted:
 
-- text: what `compile` refuses, `gate` refuses alike; the set that `compile` writes is one for `show`, or for protoc where it is there
 - text, set: the certificate of `gate --cert` passes `verify`, with the same status and the length of its root, and names the view that was
-  asked for, by numbers or by names. Of one in two `gate` without `--cert` says the same; of one in four `--both` begins with that; the
-  witness has its length, and the old side reads it and writes it again
+  asked for, by numbers or by names. Of one in eight `gate` without `--cert` says the same; of one in sixteen `--both` begins with that, the
+  witness has its length, and the old side reads it and writes it again. Of one in eight `types` names the types of the changed side, each
+  by its full name and the one that was asked for among them where the gate answers; it refuses what `gate` refuses of that side
+- text: of one in four, what `compile` refuses, `gate` refuses alike; the set that `compile` writes is one for `show`, or, of one in
+  sixteen, for protoc where it is there
 - certificate: `gate` answers what `verify` says has been proved
 - message: `show` of what was written again shows the same, and the same bytes again
 
 An input that fails is written to a folder below FOLDER (./fuzz-failures), with its files and the commands of its runs, and is printed
 at the end with the command that tries it again, by number and kind, however many processes there were. The last line counts the inputs
-of each kind, how many of them were accepted and how many refused, the failures and the seconds. It says so where not all inputs were
-tried in time. The status is 1 where an input failed, or where too few were tried.
+of each kind, how many of them were accepted and how many refused, the runs, the failures and the seconds. The status is 1 where an input
+failed, or where not all were tried in time.
 """
 import argparse
 import collections
@@ -30,7 +31,6 @@ import itertools
 import multiprocessing
 import os
 import random
-import re
 import resource
 import shlex
 import shutil
@@ -42,7 +42,7 @@ import time
 
 sys.dont_write_bytecode = True
 from fuzz_changes import changed_certificate, changed_message, changed_text  # noqa: E402
-from fuzz_grammar import ANSWERS  # noqa: E402
+from fuzz_grammar import ANSWERS, PROTOC_ALONE  # noqa: E402
 from fuzz_seeds import ROOT, Seed, all_seeds  # noqa: E402
 
 KINDS = ("text", "set", "certificate", "message")
@@ -50,16 +50,14 @@ KINDS = ("text", "set", "certificate", "message")
 LIMIT = 10
 # A share of the inputs ends with as many failures.
 MOST_FAILURES = 10
-# So many times fewer inputs than COUNT are tried even by a slow machine.
-LEAST_SHARE = 20
 # How the view is asked for by which enums are compared; without words it is that by numbers.
 VIEWS = ([], ["--view", "numbers"], ["--view", "names"])
-# Of so many sets one is given to protoc, which takes several times as long as the program.
+# Of so many inputs one is asked further things of: a start of the program takes longer than all else that is done with an input.
+COMPILE_SHARE, TYPES_SHARE, PLAIN_SHARE, BOTH_SHARE = 4, 8, 8, 16
+# Of so many sets that are written of texts one is given to protoc, which takes several times as long as the program.
 PROTOC_SHARE = 4
 PROTOC = shutil.which("protoc")
-# What protoc refuses in a set, and proto3 has no rule against.
-PROTOC_ALONE = re.compile(rb"allow_alias|JSON|json_name|ignore case|is reserved multiple times|LITE_RUNTIME|recursion limit")
-ACCEPTED = {"compile": (0,), "gate": (0, 1), "verify": (0, 1, 5), "show": (0,)}
+ACCEPTED = {"compile": (0,), "gate": (0, 1), "verify": (0, 1, 5), "show": (0,), "types": (0,)}
 
 
 class Failure(Exception):
@@ -79,7 +77,7 @@ class Room:
     """A folder of its own with the files of an input, in which the program runs. It keeps the commands of the input's runs."""
 
     def __init__(self, program):
-        self.program, self.calls = program, []
+        self.program, self.calls, self.runs = program, [], 0
         self.path = tempfile.mkdtemp(prefix="protogate-fuzz-", dir="/dev/shm" if os.access("/dev/shm", os.W_OK) else None)
         os.chdir(self.path)
         os.mkdir("old")
@@ -130,6 +128,7 @@ class Room:
     def run(self, words, wanted=None, keep=None):
         """Runs the program, judges its answer by what such a call may print, and returns its status and what it printed."""
         self.calls.append((words, keep))
+        self.runs += 1
         status, said, faults = self.status_of(words), taken(self.said), taken(self.faults)
         forms = ANSWERS[wanted or words[0]]
         if status not in forms:
@@ -197,47 +196,84 @@ def judge_answer(room, words, sides, type_, said):
         judge_witness(room, sides, type_, said)
 
 
-def judge_gate(room, random_, sides, type_):
-    """Asks the gate of two sides for its certificate by one view, and checks it. One in two times the answer is asked first, and one in
-    four times also both directions, and the witness is shown. Returns the status and the text of the first of these calls."""
-    view, way = random_.choice(VIEWS), random_.randrange(4)
-    words = ["gate", *sides, "--type", type_, *view]
-    status, said = room.run(words) if way < 2 else room.run([*words, "--cert"], "certificate", keep="c")
-    if status not in ACCEPTED["gate"]:
-        return status, said
-    certified, certificate = room.run([*words, "--cert"], "certificate", keep="c") if way < 2 else (status, said)
+def judge_certificate(room, words, sides, status, certificate):
+    """Checks the gate's certificate of these words, and returns what `verify` says."""
     verified, verdict = room.run(["verify", *sides, "c"])
-    expect(certified == verified == status, f"status {status} of gate, {certified} with --cert, {verified} of verify")
+    expect(verified == status, f"status {status} of gate --cert, {verified} of verify")
     expect(verdict == claim_of(certificate), f"{quoted(certificate)}, verify: {quoted(verdict)}")
-    expect(way > 1 or said.startswith(verdict), f"gate: {quoted(said)}, verify: {quoted(verdict)}")
-    expect(view_of(certificate) == (view or VIEWS[1])[1], f"{shlex.join(words)} --cert: {quoted(certificate)}")
-    if way == 0:
-        judge_answer(room, words, sides, type_, said)
+    view = words[words.index("--view") + 1] if "--view" in words else VIEWS[1][1]
+    expect(view_of(certificate) == view, f"{shlex.join(words)} --cert: {quoted(certificate)}")
+    return verdict
+
+
+def judge_gate(room, random_, sides, type_):
+    """Asks the gate of two sides for its certificate by one view, and checks it; of a share also for the answer, and of a part of that for
+    both directions, and the witness is shown. Returns the status and the text of the first of these calls."""
+    words = ["gate", *sides, "--type", type_, *random_.choice(VIEWS)]
+    is_both, is_plain = (random_.randrange(it) == 0 for it in (BOTH_SHARE, PLAIN_SHARE))
+    status, said = room.run([*words, "--cert"], "certificate", keep="c")
+    if status not in ACCEPTED["gate"]:
+        expect(not is_plain or room.run(words) == (status, said), f"gate --cert: {quoted(said)}, without: another answer")
+        return status, said
+    verdict = judge_certificate(room, words, sides, status, said)
+    if is_plain or is_both:
+        plain, answer = room.run(words)
+        expect(plain == status and answer.startswith(verdict), f"gate: {quoted(answer)}, verify: {quoted(verdict)}")
+        if is_both:
+            judge_answer(room, words, sides, type_, answer)
     return status, said
 
 
+def judge_types(room, side, sides, type_, answer):
+    """Asks which types the changed side has, and compares that with the answer of the gate: its status and text."""
+    status, said = answer
+    listed, names = room.run(["types", "--dir", side, sides[sides.index("--" + side) + 1]])
+    if listed not in ACCEPTED["types"]:
+        expect(is_refused_alike(names, said, side), f"types: {quoted(names)}, gate: {quoted(said)}")
+        return
+    is_asked = type_.encode() in names.splitlines()
+    lacks = b"refused E901\n" if side == "old" else b"refused E902\n"
+    expect(not said.startswith(b"refused " + side.encode()), f"types: {quoted(names)}, gate: {quoted(said)}")
+    expect(is_asked if status in ACCEPTED["gate"] else not is_asked or said != lacks, f"types: {quoted(names)}, gate: {quoted(said)}")
+
+
+def is_refused_alike(refused, said, side):
+    """Returns whether the gate says of a side what this refusal says of its files; of a new side the old one's fault comes first."""
+    return said == b"refused " + side.encode() + refused[len(b"refused"):] or side == "new" and said.startswith(b"refused old")
+
+
 def judge_protoc(path, name):
-    """Asks protoc to read a set."""
+    """Asks protoc to read a set. What it alone refuses are whole lines of its own, each of a form that is listed."""
     words = ["protoc", f"--descriptor_set_in={path}", "-o", os.devnull, name]
     run = subprocess.run(words, stdin=subprocess.DEVNULL, capture_output=True, timeout=6 * LIMIT, check=False)
-    expect(run.returncode == 0 or PROTOC_ALONE.search(run.stderr), f"{shlex.join(words)}: {quoted(run.stderr)}")
+    expect(run.returncode == 0 or PROTOC_ALONE.fullmatch(run.stderr), f"{shlex.join(words)}: {quoted(run.stderr)}")
 
 
-def judge_compile(room, random_, folder, name, type_):
-    """Compiles a text, reads the set that is written, and returns what `compile` said of a text that it refused."""
-    status, said = room.run(["compile", "--dir", folder, name], keep="compiled.pb")
-    if status in ACCEPTED["compile"]:
-        if PROTOC and random_.randrange(PROTOC_SHARE) == 0:
-            judge_protoc("compiled.pb", name)
-        else:
-            shown = room.run(["show", "--file", "compiled.pb", "--type", type_, "-"])
-            expect(shown in ((0, b"again -\n"), (2, b"refused E901\n")), f"show of the set: {quoted(shown[1])}")
-        return b""
-    return said
+def judge_compile(room, random_, side, name, type_, answer):
+    """Compiles the text of a side, and reads the set that is written. What is refused `gate` refuses alike."""
+    status, said = room.run(["compile", "--dir", side, name], keep="compiled.pb")
+    if status not in ACCEPTED["compile"]:
+        expect(is_refused_alike(said, answer, side), f"compile: {quoted(said)}, gate: {quoted(answer)}")
+        return
+    expect(not answer.startswith(b"refused " + side.encode()), f"compiled, gate: {quoted(answer)}")
+    if PROTOC and random_.randrange(PROTOC_SHARE) == 0:
+        judge_protoc("compiled.pb", name)
+        return
+    shown = room.run(["show", "--file", "compiled.pb", "--type", type_, "-"])
+    expect(shown in ((0, b"again -\n"), (2, b"refused E901\n")), f"show of the set: {quoted(shown[1])}")
+
+
+def judge_sides(room, random_, seed, side, type_):
+    """Asks the gate of two sides of which one was changed, of a share also which types that has, and returns its status and text."""
+    sides = sides_of(seed)
+    status, said = judge_gate(room, random_, sides, type_)
+    if random_.randrange(TYPES_SHARE) == 0:
+        judge_types(room, side, sides, type_, (status, said))
+    return status, said
 
 
 def try_text(room, random_, seeds):
-    """Changes a text of one side, compiles it and compares it with the other side."""
+    """Changes a text of one side, and compares it with the other side."""
     seed, other = random_.choice(seeds["text"]), random_.choice(seeds["text"])
     side, type_ = random_.choice(("old", "new")), random_.choice(seed.types)
     files = {"old": dict(seed.old_files), "new": dict(seed.new_files)}
@@ -246,11 +282,9 @@ def try_text(room, random_, seeds):
     files[side][changed] = spread(random_, changed_text, files[side][changed], other.old_files[other.old])
     room.put("old", files["old"])
     room.put("new", files["new"])
-    refused = judge_compile(room, random_, side, name, type_)
-    status, said = judge_gate(room, random_, sides_of(seed), type_)
-    begin = b"refused " + side.encode()
-    is_alike = said == begin + refused[len(b"refused"):] if refused else not said.startswith(begin)
-    expect(is_alike, f"compile: {quoted(refused)}, gate: {quoted(said)}")
+    status, said = judge_sides(room, random_, seed, side, type_)
+    if random_.randrange(COMPILE_SHARE) == 0:
+        judge_compile(room, random_, side, name, type_, said)
     return status in ACCEPTED["gate"]
 
 
@@ -267,7 +301,7 @@ def try_set(room, random_, seeds):
     files[side][name] = spread(random_, changed_message, files[side][name], other.old_files[other.old])
     room.put("old", files["old"])
     room.put("new", files["new"])
-    return judge_gate(room, random_, sides_of(seed), random_.choice(seed.types))[0] in ACCEPTED["gate"]
+    return judge_sides(room, random_, seed, side, random_.choice(seed.types))[0] in ACCEPTED["gate"]
 
 
 def in_version_2(certificate):
@@ -365,7 +399,8 @@ def inputs_of(options, share):
 
 
 def try_share(options, seeds, share):
-    """Tries a share of the inputs until the time is over. Returns its counts, and what to print of each failure behind its place in the order."""
+    """Tries a share of the inputs, as far as the time goes. Returns its counts, and what to print of each failure behind its place in the
+    order."""
     room, counts, failures = Room(options.program), collections.Counter(), []
     try:
         for kind, number in inputs_of(options, share):
@@ -376,6 +411,7 @@ def try_share(options, seeds, share):
                 failures.append((number, KINDS.index(kind), failure))
     finally:
         room.remove()
+    counts["runs"] = room.runs
     return counts, failures
 
 
@@ -401,25 +437,12 @@ def options_of():
     parser = argparse.ArgumentParser(description=__doc__.partition("\n")[0])
     parser.add_argument("--seed", type=int, default=1)
     parser.add_argument("--count", type=int, default=20_000)
-    parser.add_argument("--seconds", type=float, default=120)
-    parser.add_argument("--least", type=int)
+    parser.add_argument("--seconds", type=float, default=600)
     parser.add_argument("--jobs", type=int, default=len(os.sched_getaffinity(0)))
     parser.add_argument("--only", metavar="KIND:NUMBER")
     parser.add_argument("--folder", default="fuzz-failures", type=os.path.abspath)
     parser.add_argument("program", nargs="?", default=os.path.join(ROOT, "crates/protogate/out/protogate"), type=os.path.abspath)
-    options = parser.parse_args()
-    if options.least is None:
-        options.least = 0 if options.only else options.count // LEAST_SHARE
-    return options
-
-
-def shortage(options, tried):
-    """Returns what the last line says where fewer inputs were tried than are asked for, or nothing; and whether they are too few."""
-    fewest = min(tried.values())
-    if options.only or fewest >= options.count:
-        return "", False
-    too_few = f", too few: at least {options.least} are wanted" if fewest < options.least else ""
-    return f"not all {options.count} of each were tried in {options.seconds:g} seconds{too_few}; ", bool(too_few)
+    return parser.parse_args()
 
 
 def main():
@@ -439,9 +462,11 @@ def main():
     tried = {kind: sum(counts[kind, it] for it in ("accepted", "refused", "failed")) for kind in KINDS}
     parts = [f"{kind} {tried[kind]} inputs: {counts[kind, 'accepted']} accepted, {counts[kind, 'refused']} refused" for kind in KINDS]
     failed = sum(counts[kind, "failed"] for kind in KINDS)
-    short, is_too_few = shortage(options, tried)
-    print("; ".join([*parts, f"{short}{failed} failures; seed {options.seed}; {time.time() - begun:.0f} seconds"]))
-    return 1 if failed or is_too_few else 0
+    is_short = not options.only and min(tried.values()) < options.count
+    short = f"not all {options.count} of each were tried in {options.seconds:g} seconds; " if is_short else ""
+    end = f"{short}{counts['runs']} runs; {failed} failures; seed {options.seed}; {time.time() - begun:.0f} seconds"
+    print("; ".join([*parts, end]))
+    return 1 if failed or is_short else 0
 
 
 if __name__ == "__main__":

@@ -1,4 +1,5 @@
 """How tools/fuzz.py changes bytes, messages, texts and certificates: each function takes a source of random numbers and what it changes."""
+import functools
 import re
 
 # What is as long is not made longer.
@@ -85,6 +86,11 @@ def body_end(data, at, wire):
     found = read_varint(data, at) if wire in (0, 2) else None
     ends = {0: (at, found and found[1]), 1: (at, at + 8), 2: found and (found[1], found[1] + found[0]), 5: (at, at + 4)}.get(wire)
     return ends if ends and ends[1] and ends[1] <= len(data) else None
+
+
+@functools.lru_cache(1000)
+def tokens_of(text):
+    return tuple(TOKEN.findall(text))
 
 
 def records_of(data):
@@ -226,10 +232,10 @@ TEXT_CHANGES = (change_scalar,) * 6 + (change_label,) * 3 + (change_number,) * 3
 
 def changed_text(random, data, other):
     """Returns a text with one of its tokens or statements changed, seldom with bytes changed."""
-    tokens = TOKEN.findall(data)
+    tokens = list(tokens_of(data))
     if not tokens or random.random() < 0.06:
         return changed_bytes(random, data, other)
-    random.choice(TEXT_CHANGES)(random, tokens, TOKEN.findall(other) or [b";"])
+    random.choice(TEXT_CHANGES)(random, tokens, tokens_of(other) or [b";"])
     return b"".join(tokens)[:LONGEST]
 
 

@@ -50,6 +50,24 @@ FORMS = {
     "verify": {0: COMPATIBLE, 1: rb"breaks %s %s\n" % (NAME, NUMBER), 2: refused(OF_A_SIDE, NOT_PROVED),
                3: refused(FAILED_OF_A_SIDE), 5: rb"bound %s %s\n" % (NAME, NUMBER)},
     "show": {0: rb"(?:%s)*again %s\n" % (SHOWN, BYTES), 2: refused(FAULT, rb"E90[15]"), 3: refused(FAILED)},
+    "types": {0: rb"(?:%s\n)*" % NAME, 2: refused(FAULT), 3: refused(FAILED)},
 }
 
 ANSWERS = {call: {status: re.compile(form) for status, form in forms.items()} for call, forms in FORMS.items()}
+
+# What protoc 3.21 says of a set that proto3 has no rule against: whole lines, each behind the file's name. Names are compared as JSON
+# names in camel case, whichever are given, and values of an enum without its name and in one case. Of a file that has such a fault the
+# files that import it say that, and that its types are not there.
+PROTOC_SAYS = b"|".join([
+    rb'The JSON camel-case name of field "%s" conflicts with field "%s"\. This is not allowed in proto3\.' % (WORD, WORD),
+    rb"Enum name %s has the same name as %s if you ignore case and strip out the enum name prefix \(if any\)\. This is error-prone and can "
+    rb"lead to undefined behavior\. Please avoid doing this\. If you are using allow_alias, please assign the same numeric value to both "
+    rb"enums\." % (WORD, WORD),
+    rb'(?:Field name|Enum value) "[^\n]*" is reserved multiple times\.',
+    rb"Files that do not use optimize_for = LITE_RUNTIME cannot import files which do use this option\.  This file is not lite, but it "
+    rb'imports "[^\n]*" which is\.',
+    rb"Reached maximum recursion limit for nested messages\.",
+    rb"Package name is too long",
+])
+PROTOC_SAYS_AFTER = rb'Import "[^\n]*" was not found or had errors\.|"[\w.]+" is not defined\.'
+PROTOC_ALONE = re.compile(rb"(?:[^\n]+: (?:%s)\n)+(?:[^\n]+: (?:%s)\n)*" % (PROTOC_SAYS, PROTOC_SAYS_AFTER))

@@ -32,7 +32,7 @@ KINDS = ("proof", "seeds", "edits", "tests", "programs")
 # What tries what was built: the program and the calls with each request for memory refused, the program on rows, and the scripts that
 # call it.
 TESTERS = ("try_program_memory.py", "try_call_memory.py", "try_rows.py", "test_ci.py", "test_packages.py")
-# What tries the program on random inputs. It comes alone, since it tries as many as it can in its time.
+# What tries the program on random inputs. It comes alone, since it keeps all processors busy for some minutes.
 FUZZER = ("tools/fuzz.py",)
 # What runs the commands of the documents with the program that was built. It comes last, since some of its waits go by the clock.
 EXAMPLES = ("tools/try_examples.sh", "crates/protogate/out/protogate")
