@@ -21,7 +21,7 @@ just what docs/USAGE.md and docs/REFUSALS.md say of that subcommand and status. 
 - message: `show` of what was written again shows the same, and the same bytes again
 
 An input that fails is written to a folder below FOLDER (./fuzz-failures), with its files and the commands of its runs, and is printed
-at the end with the command that tries it again, by number and kind, however many processes there were. The last line counts the inputs
+at the end with the command that tries it again, by number and kind, however many processes there were. Wants cc. The last line counts the inputs
 of each kind, how many of them were accepted and how many refused, the runs, the failures and the seconds. The status is 1 where an input
 failed, or where not all were tried in time.
 """
@@ -35,6 +35,7 @@ import resource
 import shlex
 import shutil
 import signal
+import struct
 import subprocess
 import sys
 import tempfile
@@ -48,6 +49,8 @@ from fuzz_seeds import ROOT, Seed, all_seeds  # noqa: E402
 KINDS = ("text", "set", "certificate", "message")
 # How many seconds a run may take.
 LIMIT = 10
+# The files by which a starter is asked and answers (tools/start_many.c).
+ASKED, TOLD = 200, 201
 # A share of the inputs ends with as many failures.
 MOST_FAILURES = 10
 # How the view is asked for by which enums are compared; without words it is that by numbers.
@@ -73,21 +76,68 @@ def quoted(data):
     return ascii(data[:200].decode("latin-1"))
 
 
+def build_starter(folder):
+    """Builds the library by which a program is started many times (tools/start_many.c), and returns its path. Wants cc."""
+    library, source = os.path.join(folder, "start.so"), os.path.join(ROOT, "tools/start_many.c")
+    subprocess.run(["cc", "-O2", "-shared", "-fPIC", "-o", library, source, "-ldl"], check=True)
+    return library
+
+
+class Starter:
+    """A process that starts the program, each time in a process of its own: with these ends, in the folder where it was begun."""
+
+    def __init__(self, program, library, ends):
+        requests, answers = os.pipe(), os.pipe()
+        inside = [*enumerate(ends), (ASKED, requests[0]), (TOLD, answers[1])]
+        actions = [(os.POSIX_SPAWN_DUP2, file, end) for end, file in inside]
+        self.pid = os.posix_spawn(program, [program], {"LD_PRELOAD": library}, file_actions=actions)
+        os.close(requests[0]), os.close(answers[1])
+        self.requests, self.answers = requests[1], answers[0]
+        signal.signal(signal.SIGALRM, overdue)
+
+    def start(self, words):
+        """Starts the program and returns its process."""
+        request = b"".join(os.fsencode(it) + b"\0" for it in words)
+        os.write(self.requests, struct.pack("=I", len(request)) + request)
+        return self.answer()
+
+    def answer(self):
+        answer = os.read(self.answers, 4)
+        expect(len(answer) == 4, "the program can't be started")
+        return struct.unpack("=i", answer)[0]
+
+    def status_of(self, words):
+        """Runs the program and returns how it ended, below zero by a signal."""
+        pid = self.start(words)
+        signal.setitimer(signal.ITIMER_REAL, LIMIT)
+        try:
+            return os.waitstatus_to_exitcode(self.answer())
+        except TimeoutError:
+            os.kill(pid, signal.SIGKILL)
+            self.answer()
+            raise Failure(f"more than {LIMIT} seconds: {shlex.join(words)}") from None
+        finally:
+            signal.setitimer(signal.ITIMER_REAL, 0)
+
+    def end(self):
+        os.close(self.requests), os.close(self.answers)
+        os.waitpid(self.pid, 0)
+
+
 class Room:
     """A folder of its own with the files of an input, in which the program runs. It keeps the commands of the input's runs."""
 
-    def __init__(self, program):
+    def __init__(self, program, library):
         self.program, self.calls, self.runs = program, [], 0
         self.path = tempfile.mkdtemp(prefix="protogate-fuzz-", dir="/dev/shm" if os.access("/dev/shm", os.W_OK) else None)
         os.chdir(self.path)
         os.mkdir("old")
         os.mkdir("new")
-        signal.signal(signal.SIGALRM, overdue)
         hard = resource.getrlimit(resource.RLIMIT_STACK)[1]
         resource.setrlimit(resource.RLIMIT_STACK, (hard, hard))
         # What a run prints goes to memory, which is emptied for the next: no file is opened for a run.
         self.said, self.faults = os.memfd_create("said"), os.memfd_create("faults")
-        self.ends = [os.open(os.devnull, os.O_RDONLY), self.said, self.faults]
+        self.starter = Starter(program, library, [os.open(os.devnull, os.O_RDONLY), self.said, self.faults])
 
     def clear(self):
         self.calls = []
@@ -107,29 +157,15 @@ class Room:
                 file.write(data)
 
     def remove(self):
+        self.starter.end()
         os.chdir(ROOT)
         shutil.rmtree(self.path)
-
-    def status_of(self, words):
-        """Runs the program and returns how it ended, below zero by a signal."""
-        as_ends = [(os.POSIX_SPAWN_DUP2, file, end) for end, file in enumerate(self.ends)]
-        pid = os.posix_spawn(self.program, [self.program, *words], {}, file_actions=as_ends)
-        signal.setitimer(signal.ITIMER_REAL, LIMIT)
-        try:
-            _, ended = os.waitpid(pid, 0)
-        except TimeoutError:
-            os.kill(pid, signal.SIGKILL)
-            os.waitpid(pid, 0)
-            raise Failure(f"more than {LIMIT} seconds: {shlex.join(words)}") from None
-        finally:
-            signal.setitimer(signal.ITIMER_REAL, 0)
-        return os.waitstatus_to_exitcode(ended)
 
     def run(self, words, wanted=None, keep=None):
         """Runs the program, judges its answer by what such a call may print, and returns its status and what it printed."""
         self.calls.append((words, keep))
         self.runs += 1
-        status, said, faults = self.status_of(words), taken(self.said), taken(self.faults)
+        status, said, faults = self.starter.status_of(words), taken(self.said), taken(self.faults)
         forms = ANSWERS[wanted or words[0]]
         if status not in forms:
             raise Failure(f"status {status}: {shlex.join(words)}: {quoted(said)} {quoted(faults)}")
@@ -401,7 +437,7 @@ def inputs_of(options, share):
 def try_share(options, seeds, share):
     """Tries a share of the inputs, as far as the time goes. Returns its counts, and what to print of each failure behind its place in the
     order."""
-    room, counts, failures = Room(options.program), collections.Counter(), []
+    room, counts, failures = Room(options.program, options.library), collections.Counter(), []
     try:
         for kind, number in inputs_of(options, share):
             if time.time() > options.end or len(failures) >= MOST_FAILURES:
@@ -415,9 +451,9 @@ def try_share(options, seeds, share):
     return counts, failures
 
 
-def made_seeds(program, seeds):
+def made_seeds(options, seeds):
     """Returns the sets that the program makes of the texts of each change, and the certificates between them, by both views."""
-    room, sets, certificates = Room(program), [], []
+    room, sets, certificates = Room(options.program, options.library), [], []
     for seed in seeds:
         room.clear()
         room.put("old", seed.old_files)
@@ -431,6 +467,15 @@ def made_seeds(program, seeds):
                 certificates.append(seed._replace(types=[type_], data=said))
     room.remove()
     return sets, certificates
+
+
+def try_all(options, seeds):
+    """Tries all inputs, by processes side by side, and returns what each of them returned."""
+    sets, certificates = made_seeds(options, seeds["text"])
+    seeds["set"] += sets
+    seeds["certificate"] += certificates
+    with multiprocessing.get_context("fork").Pool(options.jobs) as pool:
+        return pool.starmap(try_share, [(options, seeds, share) for share in range(options.jobs)], 1)
 
 
 def options_of():
@@ -450,12 +495,9 @@ def main():
     if not os.access(options.program, os.X_OK):
         sys.exit(f"no program: {options.program}")
     options.end = begun + options.seconds
-    seeds = all_seeds()
-    sets, certificates = made_seeds(options.program, seeds["text"])
-    seeds["set"] += sets
-    seeds["certificate"] += certificates
-    with multiprocessing.get_context("fork").Pool(options.jobs) as pool:
-        shares = pool.starmap(try_share, [(options, seeds, share) for share in range(options.jobs)], 1)
+    with tempfile.TemporaryDirectory(prefix="protogate-fuzz-") as folder:
+        options.library = build_starter(folder)
+        shares = try_all(options, all_seeds())
     counts = sum((it for it, _ in shares), collections.Counter())
     for _, _, failure in sorted(it for _, failures in shares for it in failures):
         print(failure)

@@ -6,12 +6,16 @@ import os
 import resource
 import subprocess
 import sys
+import time
 
 ROOT = os.path.dirname(os.path.dirname(os.path.abspath(__file__)))
 # How many seconds a run may take.
 LIMIT = 20
 # What the library says on standard error when it refuses.
 REFUSED = b"growth refused\n"
+# So many requests are refused at most, each in a run of its own: what refuses them to the program and to the calls takes five minutes of a
+# processor in all. The time of a busy machine is only told.
+MOST_REQUESTS = 15_000
 
 
 def build_library(room):
@@ -51,3 +55,13 @@ def runs_of(library, words, folder=None, stdin=b"", is_between=False):
 
 def line_of(counts):
     return "{refused} requests refused, {told} reported, {answered} answered, {wrong} wrong".format_map(counts)
+
+
+def sums_of(counts, begun):
+    """Returns what the last line says of all counts, with the seconds, and whether none was wrong and the requests were not too many."""
+    used = [resource.getrusage(who) for who in (resource.RUSAGE_SELF, resource.RUSAGE_CHILDREN)]
+    seconds = sum(it.ru_utime + it.ru_stime for it in used)
+    is_too_much = counts["refused"] > MOST_REQUESTS
+    limit = f" (more than {MOST_REQUESTS})" if is_too_much else ""
+    said = f"{line_of(counts)}{limit}; {seconds:.0f} processor seconds, {time.time() - begun:.0f} by the clock"
+    return said, not counts["wrong"] and not is_too_much

@@ -13,32 +13,28 @@ call that hands back what it was given, or leaves what it was lent, that line al
 
 The calls are all those of docs/CALLS.md that may report want of memory: one that is tried by no line fails, but for those of NOT_TRIED.
 A line is printed for each call: how many requests were refused, how often that was reported, how often the answer came all the same,
-and how many runs did neither, which are printed. The last line has the sums, and the processor seconds that all took. A run over so many
-requests as MOST says at the least takes five minutes of a processor; more fail, whatever the machine. The status is 1 where a run did
-neither, where no request of a row was reported, where a call is missing, or where there were too many requests. Wants cc, for the library
-that refuses (tools/refuse_memory.c).
+and how many runs did neither, which are printed. The last line has the sums, and the processor seconds that all took. The status is 1
+where a run did neither, where no request of a row was reported, where a call is missing, or where there were more requests than five
+minutes of a processor allow (refusing.py). Wants cc, for the library that refuses (tools/refuse_memory.c).
 """
 import argparse
 import collections
 import multiprocessing
 import os
 import re
-import resource
 import subprocess
 import sys
 import tempfile
 import time
 
 sys.dont_write_bytecode = True
-from refusing import ROOT, ask_for_stack, build_library, runs_of  # noqa: E402
+from refusing import ROOT, ask_for_stack, build_library, line_of, runs_of, sums_of  # noqa: E402
 
 CRATES = os.path.join(ROOT, "crates")
 # What a test prints last that passes.
 PASSED = b"\ntest result: ok\n"
 # So many wrong runs of a row or a test are printed.
 MOST_PRINTED = 5
-# So many requests are refused at most in all: each is a run of some 10 ms, so that all take five minutes of a processor.
-MOST = 30_000
 # Calls that ask for no memory of their own: the buffers of a sink are those of whoever writes it. What `put` makes is tried by the calls
 # that `put` serves (`carry`, `write`, `read_again`): it asks for a proof of its content, which no row has.
 NOT_TRIED = {"read_varint", "Records::next", "Certificate::new", "Sink::write", "write_all", "Message::put", "Sources::read"}
@@ -67,11 +63,11 @@ ALL_SHAPES = [record(1, b""), record(3, b"\x02\x01")]
 ALL_SHAPES += [record(4, record(1, key) + record(2, text)) for key, text in ((1, b"a"), (2, b"b"))] + [record(6, b"c")]
 
 TWO = "M: uint32 a=1; N: N next=1, M m=2 | M: int32 a=1; N: N next=1, M m=2"
-# The message types of descriptor.proto in the order in which it declares them.
-DESCRIPTOR = ("FileDescriptorSet FileDescriptorProto DescriptorProto DescriptorProto.ExtensionRange DescriptorProto.ReservedRange"
-              " ExtensionRangeOptions FieldDescriptorProto OneofDescriptorProto EnumDescriptorProto EnumDescriptorProto.EnumReservedRange"
-              " EnumValueDescriptorProto ServiceDescriptorProto MethodDescriptorProto FileOptions MessageOptions FieldOptions OneofOptions"
-              " EnumOptions EnumValueOptions ServiceOptions MethodOptions").split()
+# The message types that are written of descriptor.proto, in its order.
+DESCRIPTOR = ("FileDescriptorSet FileDescriptorProto DescriptorProto DescriptorProto.ReservedRange FieldDescriptorProto OneofDescriptorProto"
+              " EnumDescriptorProto EnumDescriptorProto.EnumReservedRange EnumValueDescriptorProto ServiceDescriptorProto"
+              " MethodDescriptorProto FileOptions MessageOptions FieldOptions EnumOptions EnumValueOptions ServiceOptions"
+              " MethodOptions").split()
 
 CALLS = [
     Rows("lex", "text_rows", "", ["the escapes of control characters", "a character over two literals", "a float on the second line"]),
@@ -255,10 +251,6 @@ def try_one(call, name, library):
     return counts
 
 
-def line_of(counts):
-    return "{refused} requests refused, {told} reported, {answered} answered, {wrong} wrong".format_map(counts)
-
-
 def options_of():
     parser = argparse.ArgumentParser(description=__doc__.partition("\n")[0])
     parser.add_argument("--jobs", type=int, default=len(os.sched_getaffinity(0)))
@@ -275,11 +267,6 @@ def missing_calls():
     return len(listed ^ tried)
 
 
-def processor_seconds():
-    used = [resource.getrusage(who) for who in (resource.RUSAGE_SELF, resource.RUSAGE_CHILDREN)]
-    return sum(it.ru_utime + it.ru_stime for it in used)
-
-
 def print_sums(tries, found, begun):
     """Prints a line for each call and the sums, and returns whether all is well."""
     sums = collections.defaultdict(collections.Counter)
@@ -287,12 +274,9 @@ def print_sums(tries, found, begun):
         sums[call.call].update(counts)
     for call, counts in sums.items():
         print(f"{call}: {line_of(counts)}")
-    whole = sum(sums.values(), collections.Counter())
-    is_too_much = whole["refused"] > MOST
-    said = f", more than {MOST}" if is_too_much else ""
-    print(f"{len(sums)} calls by {len(tries)} rows and tests: {line_of(whole)}{said};"
-          f" {processor_seconds():.0f} processor seconds, {time.time() - begun:.0f} by the clock")
-    return bool(found) and not whole["wrong"] and not is_too_much
+    said, is_well = sums_of(sum(sums.values(), collections.Counter()), begun)
+    print(f"{len(sums)} calls by {len(tries)} rows and tests: {said}")
+    return bool(found) and is_well
 
 
 def main():

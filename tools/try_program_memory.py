@@ -8,8 +8,9 @@ subcommand, `gate` in both directions over a number of another sign inside a mes
 that holds and of two that don't. Their answers stand here; they follow from the rules of docs/MODEL.md and docs/CERTIFICATES.md.
 
 A line is printed for each call: how many requests were refused, how often the program said so, how often it gave its answer all the
-same, and how many runs did neither, which are printed. The last line has the sums; the status is 1 where a run did neither, or where
-no refusal of a call was reported. It needs cc, for the library that refuses (tools/refuse_memory.c).
+same, and how many runs did neither, which are printed. The last line has the sums, and the processor seconds; the status is 1 where a
+run did neither, where no refusal of a call was reported, or where there were too many requests (refusing.py). It needs cc, for the library
+that refuses (tools/refuse_memory.c).
 """
 import collections
 import multiprocessing
@@ -19,7 +20,7 @@ import tempfile
 import time
 
 sys.dont_write_bytecode = True
-from refusing import ask_for_stack, build_library, line_of, options_of, runs_of  # noqa: E402
+from refusing import ask_for_stack, build_library, line_of, options_of, runs_of, sums_of  # noqa: E402
 
 Call = collections.namedtuple("Call", "what words old new certificate status said")
 
@@ -111,8 +112,11 @@ def main():
         library = build_library(room)
         with multiprocessing.get_context("fork").Pool(options.jobs) as pool:
             found = pool.starmap(try_call, [(options.program, library, call) for call in CALLS], 1)
-    print(f"{len(CALLS)} calls: {line_of(sum(found, collections.Counter()))}; {time.time() - begun:.0f} seconds")
-    return 0 if all(it["told"] and not it["wrong"] for it in found) else 1
+            pool.close()
+            pool.join()
+    said, is_well = sums_of(sum(found, collections.Counter()), begun)
+    print(f"{len(CALLS)} calls: {said}")
+    return 0 if is_well and all(it["told"] for it in found) else 1
 
 
 if __name__ == "__main__":
