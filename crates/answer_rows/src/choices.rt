@@ -33,7 +33,11 @@ pub(crate) fn choices<V: View>(
 }
 
 /// The choice, and its child where it has one.
-pub(crate) fn with_child(alloc: Global, choice: &Choice, child: Option<Pair>) -> Result<String, AllocError> {
+pub(crate) fn with_child(
+    alloc: Global,
+    choice: &Choice,
+    child: Option<Pair>,
+) -> Result<String, AllocError> {
     let text = shown::choice(alloc, choice)?;
     match child {
         Some(Pair { old, new }) => { format!(in alloc; "{text} child {} {}", old.index, new.index) }

@@ -70,7 +70,11 @@ fn read(
 }
 
 /// The same of `TYPE | BYTES`.
-pub(crate) fn read_words(alloc: Global, schema: &Schema, words: &str) -> Result<Option<Message>, AllocError> {
+pub(crate) fn read_words(
+    alloc: Global,
+    schema: &Schema,
+    words: &str,
+) -> Result<Option<Message>, AllocError> {
     let (index, bytes) = cut(words);
     let index = number_at(index, 0);
     let bytes = hex_bytes(alloc, bytes)?;

@@ -53,7 +53,12 @@ pub(crate) fn witness_of(alloc: Global, old: &Schema, found: &Found) -> Result<S
 }
 
 /// What is found beside the certificate.
-pub(crate) fn beside(alloc: Global, old: &Schema, new: &Schema, root: Pair) -> Result<String, AllocError> {
+pub(crate) fn beside(
+    alloc: Global,
+    old: &Schema,
+    new: &Schema,
+    root: Pair,
+) -> Result<String, AllocError> {
     if !old.has(root.old) || !new.has(root.new) {
         return String::from_str(alloc, "no such type");
     }

@@ -35,10 +35,7 @@ fn read_and_written(alloc: Global, bytes: &[u8]) -> Result<Written, FdsError> {
 }
 
 /// The bytes that are written, or the whole error.
-pub(crate) fn told(
-    alloc: Global,
-    found: Result<Written, FdsError>,
-) -> Result<String, AllocError> {
+pub(crate) fn told(alloc: Global, found: Result<Written, FdsError>) -> Result<String, AllocError> {
     match found {
         Ok((written, true)) => format!(in alloc; "\"{}\"", written.escape_ascii()),
         Ok((_, false)) => String::from_str(alloc, "not the same again"),

@@ -106,13 +106,11 @@ fn over_files(
     let mut new = Listed {
         files: &[("m.proto", new.as_bytes())],
     };
-    Ok(
-        retry!(
-            rt,
-            Err(GateError::Memory),
-            over_sources(rt.alloc(), &mut old, &mut new, root)
-        ),
-    )
+    Ok(retry!(
+        rt,
+        Err(GateError::Memory),
+        over_sources(rt.alloc(), &mut old, &mut new, root)
+    ))
 }
 
 #[test]

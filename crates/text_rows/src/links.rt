@@ -4,15 +4,14 @@ mod options;
 mod shown;
 
 use asked::answer_of;
+pub use asked::{first_type, shown_name, shown_targets};
 use failing_source::FailingSource;
+pub use options::{Options, options_of};
 use pg_link::{LinkError, Linked, Listed, Place, link_below, place_in, read_file};
 use rows::{borrowed, cut, files_of, number_of, spelling};
 use shown::linked_files;
-use std::alloc::{AllocError, Global};
-
-pub use asked::{first_type, shown_name, shown_targets};
-pub use options::{Options, options_of};
 pub use shown::refusal;
+use std::alloc::{AllocError, Global};
 
 pub type Source<'a> = FailingSource<Listed<'a>>;
 
@@ -35,10 +34,7 @@ pub fn shown_links(
 }
 
 /// What a read of a file gives, or the refusal.
-pub fn shown_read(
-    alloc: Global,
-    found: Result<Vec<u8>, LinkError>,
-) -> Result<String, AllocError> {
+pub fn shown_read(alloc: Global, found: Result<Vec<u8>, LinkError>) -> Result<String, AllocError> {
     match found {
         Ok(bytes) => spelling(alloc, &bytes),
         Err(error) => refusal(alloc, error),

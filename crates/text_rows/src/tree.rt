@@ -2,8 +2,8 @@
 mod one;
 mod shown;
 
-pub use one::shown_file;
 use one::answer_of;
+pub use one::shown_file;
 use pg_lex::{LexError, Token, lex};
 use rows::{cut, text_of, with_word};
 use std::alloc::{AllocError, Global};

@@ -22,10 +22,7 @@ fn refused(alloc: Global, error: DynError) -> Result<String, AllocError> {
 }
 
 /// What is handed on, or the refusal.
-pub(crate) fn shown(
-    alloc: Global,
-    found: Result<Vec<u8>, DynError>,
-) -> Result<String, AllocError> {
+pub(crate) fn shown(alloc: Global, found: Result<Vec<u8>, DynError>) -> Result<String, AllocError> {
     match found {
         Ok(again) if again.is_empty() => String::from_str(alloc, "nothing"),
         Ok(again) => hex::encode(alloc, &again),

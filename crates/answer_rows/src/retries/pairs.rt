@@ -3,8 +3,8 @@ use crate::choices::{list_of, list_of_pairs, with_child};
 use crate::spelled::{pair_of, table_of};
 use pg_cert::Bounds;
 use pg_pairs::{
-    Numbers, Pair, Priced, Prices, Work, cheapest, children, choice_child, options,
-    reached_pairs, returns,
+    Numbers, Pair, Priced, Prices, Work, cheapest, children, choice_child, options, reached_pairs,
+    returns,
 };
 use pg_schema::Schema;
 use rows::{cut, retry};
@@ -65,12 +65,7 @@ fn based<G: Prices>(rt: &HostRuntime, graph: &G, pair: Pair) -> io::Result<Strin
 
 /// What a graph says of a pair: the children by an edge each, or as pairs, or all pairs that it
 /// leads to.
-fn of_graph<G: Prices>(
-    rt: &HostRuntime,
-    graph: &G,
-    call: &str,
-    pair: Pair,
-) -> io::Result<String> {
+fn of_graph<G: Prices>(rt: &HostRuntime, graph: &G, call: &str, pair: Pair) -> io::Result<String> {
     if !graph.knows(pair) {
         return Ok(String::from_str(rt.alloc(), "no such pair")?);
     }

@@ -81,7 +81,11 @@ fn stepped(rt: &HostRuntime, old: &Schema, new: &Schema, root: Pair) -> io::Resu
     if certificate.witness().is_none() {
         return Ok(String::from_str(rt.alloc(), "no witness")?);
     }
-    let steps = retry!(rt, Err(AllocError), path(rt.alloc(), old, new, &certificate))?;
+    let steps = retry!(
+        rt,
+        Err(AllocError),
+        path(rt.alloc(), old, new, &certificate)
+    )?;
     Ok(steps_of(rt.alloc(), &steps)?)
 }
 

@@ -14,10 +14,7 @@ fn targets(alloc: Global, linked: &Linked) -> Result<String, AllocError> {
 }
 
 /// What uses resolve to, by their first bytes.
-pub fn shown_targets(
-    alloc: Global,
-    found: &BTreeMap<usize, Target>,
-) -> Result<String, AllocError> {
+pub fn shown_targets(alloc: Global, found: &BTreeMap<usize, Target>) -> Result<String, AllocError> {
     format!(in alloc; "{found:?}")
 }
 

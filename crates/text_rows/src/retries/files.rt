@@ -6,7 +6,7 @@ use crate::links::{
 use failing_source::FailingSource;
 use pg_link::{LinkError, Linked, Listed, link, link_below, place_in, read_file};
 use pg_syntax::tree::TypeName;
-use rows::{retry, borrowed, cut, files_of, number_of};
+use rows::{borrowed, cut, files_of, number_of, retry};
 use std::alloc::AllocError;
 use std::io;
 

@@ -5,7 +5,7 @@ use crate::schema::shown_schema;
 use pg_check::{CheckError, admit, build};
 use pg_link::{Linked, Listed, link};
 use pg_schema::{Parts, PartsError, Schema, default_json_name, entry_name, full_name};
-use rows::{retry, borrowed, cut, files_of};
+use rows::{borrowed, cut, files_of, retry};
 use std::alloc::AllocError;
 use std::io;
 

@@ -17,7 +17,11 @@ pub fn lexed(rt: &HostRuntime, spelled: &str) -> io::Result<String> {
 }
 
 fn parsed_of(rt: &HostRuntime, text: &[u8], tokens: &[Token]) -> io::Result<String> {
-    let found = retry!(rt, Err(SyntaxError::Memory), parse(rt.alloc(), tokens, text.len()));
+    let found = retry!(
+        rt,
+        Err(SyntaxError::Memory),
+        parse(rt.alloc(), tokens, text.len())
+    );
     Ok(shown_file(rt.alloc(), text, found)?)
 }
 
