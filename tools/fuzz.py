@@ -274,8 +274,8 @@ def judge_types(room, side, sides, type_, answer):
 
 
 def is_refused_alike(refused, said, side):
-    """Returns whether the gate says of a side what this refusal says of its files; of a new side the old one's fault comes first."""
-    return said == b"refused " + side.encode() + refused[len(b"refused"):] or side == "new" and said.startswith(b"refused old")
+    """Returns whether the gate says of the changed side what this refusal says of its files: the other side has no fault."""
+    return said == b"refused " + side.encode() + refused[len(b"refused"):]
 
 
 def judge_protoc(path, name):
