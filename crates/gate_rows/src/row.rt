@@ -3,7 +3,7 @@
 //! what it prints by names stands behind the rest where it isn't the same but for the view.
 use crate::files::{File, files, lent};
 use crate::parts::told;
-use pg_gate::{Buffer, run};
+use pg_gate::{Buffer, GateError, run};
 use pg_link::Listed;
 use rows::{cut, unrolled};
 use std::alloc::{AllocError, Global};
@@ -35,9 +35,8 @@ fn printed(
     let mut new = Listed { files: new };
     match run(alloc, words, &mut old, &mut new, &mut sink) {
         Ok(status) => Ok((status, sink.bytes)),
-        // Neither such a source nor such a sink fails but where memory runs out; the sink is left
-        // alone then.
-        Err(_) if sink.bytes.is_empty() => Err(AllocError),
+        Err(GateError::Memory) => Err(AllocError),
+        // A sink that refuses the text: its room was too small.
         Err(_) => Ok((u8::MAX, sink.bytes)),
     }
 }
