@@ -37,8 +37,8 @@ pub(crate) enum Call<'a> {
         sides: Sides<'a>,
         certificate: &'a str,
     },
-    /// The full names of the message types of the files at these paths below the folder: texts, with
-    /// all that they import, or one descriptor set.
+    /// The full names of the message types of the files at these paths below the folder: texts,
+    /// with all that they import, or one descriptor set.
     Types {
         dir: &'a str,
         files: Vec<&'a str>,
