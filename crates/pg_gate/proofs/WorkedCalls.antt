@@ -5,7 +5,7 @@ use Rattle.std.specs.Borrow.{Bor}
 use Rattle.clap.proofs.OnLiterals.{clap_on_literals}
 use Rattle.clap.specs.Words.{Text}
 use Rattle.pg_dyn.specs.declared.view_name.ViewName.TheVariants as views
-use Rattle.pg_gate.specs.Call.{CallsFor, IsNoCall, Request, call_with}
+use Rattle.pg_gate.specs.Call.{CallsFor, Request, call_with, types}
 use Rattle.pg_gate.specs.WorkedCalls.{WorkedCalls, gate_by, gate_words}
 
 -- some reference to the names of the views
@@ -51,6 +51,14 @@ twice : call_with names (gate_words (codes "--view" ∷ codes "names" ∷ codes 
 unfolding clap_on_literals
 twice = refl
 
+types_of_a_file : call_with names (codes "types" ∷ codes "--file" ∷ codes "f" ∷ codes "--dir" ∷ codes "d" ∷ []) ≡ Some (types (codes "d") (codes "f" ∷ []))
+unfolding clap_on_literals
+types_of_a_file = refl
+
+types_of_no_file : call_with names (codes "types" ∷ codes "--dir" ∷ codes "d" ∷ []) ≡ None
+unfolding clap_on_literals
+types_of_no_file = refl
+
 pub worked_calls : WorkedCalls
 worked_calls = record {
   by_numbers = calls _ _ by_numbers;
@@ -62,4 +70,6 @@ worked_calls = record {
   empty_word = calls _ _ empty_word;
   no_word = calls _ _ no_word;
   twice = calls _ _ twice;
+  types_of_a_file = calls _ _ types_of_a_file;
+  types_of_no_file = calls _ _ types_of_no_file;
 }

@@ -1,6 +1,6 @@
 -- What the words of a command line call for.
 use Rattle.std.specs.Prelude.{◌≡◌, Bool, true, false, List, [], ◌∷◌, ◌++◌, Option, Some, None, codes}
-use Rattle.std.specs.Prelude.{unwrap_or, option_map, if◌then◌else◌}
+use Rattle.std.specs.Prelude.{unwrap_or, option_and_then, if◌then◌else◌}
 use Rattle.std.specs.Borrow.{Bor}
 use Rattle.std.specs.Option.{option_map_or}
 use Rattle.std.specs.Str.{bytes_eq}
@@ -82,25 +82,30 @@ verify_in rows = verify (sides_in rows) (text_at (codes "CERT") rows)
 abbrev pub show_in : List Row → Request
 show_in rows = show (text_at (codes "dir") rows) (text_at (codes "file") rows) (text_at (codes "type") rows) (text_at (codes "HEX") rows)
 
--- the file of `--file`, where it is there, and those that are named without it
-abbrev pub types_in : List Row → Request
-types_in rows = types (text_at (codes "dir") rows) (texts_at (codes "file") rows ++ texts_at (codes "FILE") rows)
+-- at least one file
+abbrev pub types_of : Text → List Text → Option Request
+types_of dir [] = None
+types_of dir (file ∷ files) = Some (types dir (file ∷ files))
 
--- the call of a subcommand and its matches; clap has only these five
-abbrev pub request_in : Text × List Row → Request
+-- the file of `--file`, where it is there, and those that are named without it
+abbrev pub types_in : List Row → Option Request
+types_in rows = types_of (text_at (codes "dir") rows) (texts_at (codes "file") rows ++ texts_at (codes "FILE") rows)
+
+-- the call of a subcommand and its matches, if they are one; clap has only these five
+abbrev pub request_in : Text × List Row → Option Request
 request_in met =
-    if bytes_eq met.0 (codes "compile") then compile_in met.1
-    else if bytes_eq met.0 (codes "gate") then gate_in met.1
-    else if bytes_eq met.0 (codes "verify") then verify_in met.1
+    if bytes_eq met.0 (codes "compile") then Some (compile_in met.1)
+    else if bytes_eq met.0 (codes "gate") then Some (gate_in met.1)
+    else if bytes_eq met.0 (codes "verify") then Some (verify_in met.1)
     else if bytes_eq met.0 (codes "types") then types_in met.1
-    else show_in met.1
+    else Some (show_in met.1)
 
 -- the call of a parse with these faults, at this subcommand
 abbrev pub call_by : Kinds → Option (Text × List Row) → Option Request
-call_by [] met = option_map request_in met
+call_by [] met = option_and_then request_in met
 call_by (kind ∷ kinds) met = None
 
--- what the words call for, where clap takes them, by a command that has the views' names from this reference
+-- what the words call for, where clap takes them and they are a call, by a command that has the views' names from this reference
 abbrev pub call_with : Bor (List (Bor Text)) → List Text → Option Request
 call_with names words = call_by (fault_of (whole_app names) words) (subcommand_of (whole_app names) words)
 
@@ -116,7 +121,7 @@ pub record CallsFor (words : List Text) (called : Option Request) : Type 0 where
 abbrev pub OneCall : Type 0
 OneCall = (words : List Text) (a b : Option Request) → CallsFor words a → CallsFor words b → a ≡ b
 
--- clap doesn't take the words
+-- clap doesn't take the words, or `types` stands without a file
 abbrev pub IsNoCall : List Text → Type 0
 IsNoCall words = CallsFor words None
 

@@ -3,7 +3,7 @@ use Rattle.std.specs.Prelude.{false, List, [], ◌∷◌, Some, codes}
 use Rattle.clap.specs.Words.{Text}
 use Rattle.pg_dyn.specs.declared.view_name.ViewName.{ViewName}
 use Rattle.pg_dyn.specs.declared.view_name.ViewName.TheVariants as views
-use Rattle.pg_gate.specs.Call.{CallsFor, IsNoCall, Request, gate}
+use Rattle.pg_gate.specs.Call.{CallsFor, IsNoCall, Request, gate, types}
 
 -- `gate` for a type M of two files, and further words
 abbrev pub gate_words : List Text → List Text
@@ -22,3 +22,5 @@ pub record WorkedCalls : Type 0 where
   pub empty_word : IsNoCall (gate_words (codes "--view" ∷ [] ∷ []))
   pub no_word : IsNoCall (gate_words (codes "--view" ∷ []))
   pub twice : IsNoCall (gate_words (codes "--view" ∷ codes "names" ∷ codes "--view" ∷ codes "names" ∷ []))
+  pub types_of_a_file : CallsFor (codes "types" ∷ codes "--file" ∷ codes "f" ∷ codes "--dir" ∷ codes "d" ∷ []) (Some (types (codes "d") (codes "f" ∷ [])))
+  pub types_of_no_file : IsNoCall (codes "types" ∷ codes "--dir" ∷ codes "d" ∷ [])

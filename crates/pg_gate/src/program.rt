@@ -15,7 +15,7 @@ use clap::error::ErrorKind;
 use pg_link::Sources;
 use std::alloc::Global;
 
-/// The status of words that `clap` does not take, and of help.
+/// The status of words that are no call, and of help.
 const USAGE: u8 = 4;
 
 impl Call<'_> {
@@ -31,7 +31,7 @@ impl Call<'_> {
     }
 }
 
-/// Writes what `clap` says of words that it does not take.
+/// Writes why words are no call, as `clap` says it.
 fn usage<W: Sink>(alloc: Global, error: &clap::Error, sink: &mut W) -> Result<u8, GateError>
     ensures usage { IfOk result (λ status.
         (status ≡ USAGE) × (kind_of error.now ≢ ErrorKind.OutOfMemory)) }
@@ -65,7 +65,7 @@ pub fn run<S: Sources, T: Sources, W: Sink>(
     new: &mut T,
     sink: &mut W,
 ) -> Result<u8, GateError>
-    // Only words that `clap` does not take end with the status of usage.
+    // Only words that are no call end with the status of usage.
     ensures usage { IfOk result (λ status. status ≡ USAGE → IsNoCall (texts words.now)) }
 
     // Else the sink took exactly the text of the words' call and an answer granted to it.
@@ -75,8 +75,8 @@ pub fn run<S: Sources, T: Sources, W: Sink>(
         (seen (T.may_give new.old) (T.may_lack new.old) (T.failures new.old) (T.failures new.new)))
         (texts words.now) status (W.taken sink.old) (W.taken sink.new)) }
 
-    // A sink that fails took a beginning of it; or `clap` does not take the words, and the sources
-    // are as they were. Memory that fails leaves the sink alone.
+    // A sink that fails took a beginning of it; or the words are no call, and the sources are as
+    // they were. Memory that fails leaves the sink alone.
     ensures begun { IsErrOf result GateError.WriteFailed → Begins
         (Grants (seen (S.may_give old.old) (S.may_lack old.old)
         (S.failures old.old) (S.failures old.new))

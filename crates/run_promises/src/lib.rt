@@ -39,7 +39,7 @@ pub fn run_usage<S: Sources, T: Sources, W: Sink>(
     new: &mut T,
     sink: &mut W,
 ) -> Result<u8, GateError>
-    // Only words that `clap` does not take end with it.
+    // Only words that are no call end with it.
     ensures usage { IfOk result (λ status. status ≡ 4 → IsNoCall (texts said.now)) }
 {
     pg_gate::run(alloc, said, old, new, sink)
@@ -76,8 +76,8 @@ pub fn run_failed<S: Sources, T: Sources, W: Sink>(
     new: &mut T,
     sink: &mut W,
 ) -> Result<u8, GateError>
-    // A sink that fails took a beginning of the text; or `clap` does not take the words, and the
-    // sources are as they were. Memory that fails leaves the sink alone.
+    // A sink that fails took a beginning of the text; or the words are no call, and the sources are
+    // as they were. Memory that fails leaves the sink alone.
     ensures begun { IsErrOf result GateError.WriteFailed → Begins
         (Grants (seen (S.may_give old.old) (S.may_lack old.old)
         (S.failures old.old) (S.failures old.new))

@@ -1,5 +1,5 @@
 //! The command line, read with `clap`.
-ghost use Rattle.std.specs.Prelude.{◌≡◌, ◌≢◌, Some, false, IfErr, IfOk};
+ghost use Rattle.std.specs.Prelude.{◌≡◌, ◌≢◌, Some, None, false, option_map, IfErr, IfOk};
 ghost use Rattle.clap.specs.Walk.{texts};
 ghost use Rattle.clap.specs.Words.{found_of, kind_of, rows_of, rule_of};
 ghost use Rattle.pg_gate.specs.CommandLine.{HasApp};
@@ -413,34 +413,66 @@ fn show_call<'a>(found: &ArgMatches<'a>) -> Call<'a>
     }
 }
 
-fn types_call<'a>(alloc: Global, found: &ArgMatches<'a>) -> Result<Call<'a>, AllocError>
+/// The call of `types`, where a file is named.
+fn types_call<'a>(alloc: Global, found: &ArgMatches<'a>) -> Result<Option<Call<'a>>, AllocError>
     ensures { IfOk result (λ call.
-        spec.request_of call ≡ spec.types_in (rows_of (found_of found.now))) }
+        option_map spec.request_of call ≡ spec.types_in (rows_of (found_of found.now))) }
 {
     let mut files = texts(alloc, found, "file")?;
     let more = texts(alloc, found, "FILE")?;
     files.extend_from_slice(&more)?;
-    Ok(Call::Types {
+    if files.is_empty() {
+        return Ok(None);
+    }
+    Ok(Some(Call::Types {
         dir: text(found, "dir"),
         files,
-    })
+    }))
 }
 
-/// What the subcommand of this name calls for.
-fn call_in<'a>(alloc: Global, name: &str, found: &ArgMatches<'a>) -> Result<Call<'a>, AllocError>
-    ensures { IfOk result (λ call.
-        spec.request_of call ≡ spec.request_in (name.now, rows_of (found_of found.now))) }
+/// What the subcommand of this name calls for. `types` without a file is no call.
+fn call_in<'a>(
+    alloc: Global,
+    name: &str,
+    found: &ArgMatches<'a>,
+) -> Result<Option<Call<'a>>, AllocError>
+    ensures { IfOk result (λ call. option_map spec.request_of call
+        ≡ spec.request_in (name.now, rows_of (found_of found.now))) }
 {
     match name {
-        "compile" => compile_call(alloc, found),
-        "gate" => Ok(gate_call(found)),
-        "verify" => Ok(verify_call(found)),
+        "compile" => Ok(Some(compile_call(alloc, found)?)),
+        "gate" => Ok(Some(gate_call(found))),
+        "verify" => Ok(Some(verify_call(found))),
         "types" => types_call(alloc, found),
-        _ => Ok(show_call(found)),
+        _ => Ok(Some(show_call(found))),
     }
 }
 
-/// What the words after the program's name call for, or why `clap` does not take them.
+/// Why `types` without a file is no call: `clap` has no rule that wants one of two arguments, by
+/// which it can be told beforehand what words are refused.
+fn no_file(alloc: Global) -> Result<Error, AllocError>
+    ensures { IfOk result (λ error. kind_of error ≡ ErrorKind.MissingRequiredArgument) }
+{
+    types_command(alloc)?.bin_name("protogate types")?.error(
+        ErrorKind::MissingRequiredArgument,
+        "a file is wanted: FILE, or --file <F>",
+    )
+}
+
+/// The call of the subcommand of this name, or why there is none.
+fn call_met<'a>(alloc: Global, name: &str, found: &ArgMatches<'a>) -> Result<Call<'a>, Error>
+    ensures call { IfOk result (λ call. spec.request_in (name.now, rows_of (found_of found.now))
+        ≡ Some (spec.request_of call)) }
+    ensures refused { IfErr result (λ error. kind_of error ≢ ErrorKind.OutOfMemory
+        → spec.request_in (name.now, rows_of (found_of found.now)) ≡ None) }
+{
+    match call_in(alloc, name, found)? {
+        Some(call) => Ok(call),
+        None => Err(no_file(alloc)?),
+    }
+}
+
+/// What the words after the program's name call for, or why they are no call.
 pub(crate) fn call_of<'a>(alloc: Global, words: &'a [&'a str]) -> Result<Call<'a>, Error>
     ensures call { IfOk result (λ call.
         spec.CallsFor (texts words.entry.now) (Some (spec.request_of call))) }
@@ -450,5 +482,5 @@ pub(crate) fn call_of<'a>(alloc: Global, words: &'a [&'a str]) -> Result<Call<'a
     let command = whole_command(alloc, VIEW_NAMES.as_slice())?;
     let matches = command.try_get_matches_from(words)?;
     let (name, found) = matches.subcommand().unwrap();
-    Ok(call_in(alloc, name, found)?)
+    call_met(alloc, name, found)
 }
