@@ -5,8 +5,8 @@ use Rattle.std.specs.Prelude.{IsTrue}
 use Rattle.clap.specs.Words.{Text}
 use Rattle.pg_cert.specs.Bounds.{bound_in}
 use Rattle.pg_cert.specs.Certificate.{Claim}
-use Rattle.pg_cert.specs.ClaimView.{view_in}
-use Rattle.pg_cert.specs.Faults.{IsFirstFault, WitnessFaultIfThere, cheaper_choice, first_fault, first_pair_fault, missing_child, root_fault, too_high}
+use Rattle.pg_cert.specs.ClaimView.{IsFirstFaultOf, view_in}
+use Rattle.pg_cert.specs.Faults.{WitnessFaultIfThere, cheaper_choice, first_fault, first_pair_fault, missing_child, root_fault, too_high}
 use Rattle.pg_cert.specs.Text.{Certifies, names_of}
 use Rattle.pg_cert.specs.declared.bounds.PairBound.{PairBound}
 use Rattle.pg_cert.specs.declared.error.CertError.{CertError}
@@ -24,7 +24,7 @@ use Rattle.pg_gate.specs.Answer.{IsNamed}
 use Rattle.pg_gate.specs.Failures.{call_failures_at}
 use Rattle.pg_gate.specs.Files.{IsSide}
 use Rattle.pg_gate.specs.Grants.{IsSidesFault, IsUngiven, IsVerified, IsVerifyError}
-use Rattle.pg_gate.specs.Verified.{HasFirstFault, IsClaimError, IsClaimFault, IsFaultOfClaim, IsHeldBy, IsPlaceOf}
+use Rattle.pg_gate.specs.Verified.{HasFirstFault, IsClaimError, IsClaimFault, IsFaultOfClaim, IsHeldBy, IsPlaceOf, IsWhy}
 use Rattle.pg_gate.specs.declared.call.error.CallError.{CallError}
 use Rattle.pg_gate.specs.declared.call.error.CallError.TheVariants as calls
 use Rattle.pg_gate.specs.declared.call.error.CertificateFault.TheVariants as certificates
@@ -99,42 +99,43 @@ no_bad_witness enum_view old new claim None is = is
 -- ---- why bytes are refused
 
 module _ (old new : Parts) (bytes : Text) where
-  pub claim_fault : (error : CertError) (fault : ClaimFault) → fault.error ≡ error → IsPlaceOf old new error fault.location → IsFaultOfClaim old new bytes error
+  -- what is reported of an error that is why they are refused
+  pub claim_fault : (error : CertError) (fault : ClaimFault) → fault.error ≡ error → IsPlaceOf old new error fault.location → (error ≡ checks.Memory → ⊥) → IsWhy old new bytes error
       → IsClaimFault old new bytes fault
-  claim_fault error fault same placed is = record {
+  claim_fault error fault same placed other (inl memory) = absurd (other memory)
+  claim_fault error fault same placed other (inr is) = record {
     is_fault = subst (λ e. IsFaultOfClaim old new bytes e) (sym same) is;
     is_place = subst (λ e. IsPlaceOf old new e fault.location) (sym same) placed;
   }
 
   -- a text that isn't read certifies nothing
-  pub text_fault : (error : CertError) → (error ≡ checks.Memory → ⊥)
-      → (error ≡ checks.Memory) ⊎ ((error ≡ checks.BadText) × ((claim : Claim) → Certifies old new bytes claim → ⊥)) → IsFaultOfClaim old new bytes error
-  text_fault error other (inl memory) = absurd (other memory)
-  text_fault error other (inr bad) = subst (λ e. IsFaultOfClaim old new bytes e) (sym bad.0) bad.1
+  pub text_fault : (error : CertError) → (error ≡ checks.Memory) ⊎ ((error ≡ checks.BadText) × ((claim : Claim) → Certifies old new bytes claim → ⊥)) → IsWhy old new bytes error
+  text_fault error (inl memory) = inl memory
+  text_fault error (inr bad) = inr (subst (λ e. IsFaultOfClaim old new bytes e) (sym bad.0) bad.1)
 
   module _ (claim : Claim) (certifies : Certifies old new bytes claim) where
     abbrev IsCheckFault : CertError → Type 0
-    IsCheckFault error = (error ≡ checks.Memory) ⊎ IsFirstFault (view_in old new claim) (shape_of old) (shape_of new) claim error
-
-    has_first : (error : CertError) → (error ≡ checks.Memory → ⊥) → IsCheckFault error → HasFirstFault old new bytes error
-    has_first error other (inl memory) = absurd (other memory)
-    has_first error other (inr first) = record { claim = claim; certifies = certifies; is_first = first }
+    IsCheckFault error = (error ≡ checks.Memory) ⊎ IsFirstFaultOf old new claim error
 
     no_bad_check : IsCheckFault checks.BadText → ⊥
     no_bad_check (inl memory) = cc
     no_bad_check (inr (inl first)) = no_bad_text (view_in old new claim) (shape_of old) (shape_of new) claim.bounds claim.root first
     no_bad_check (inr (inr witness)) = no_bad_witness (view_in old new claim) (shape_of old) (shape_of new) claim claim.witness witness.1
 
+    by_first : (error : CertError) → (HasFirstFault old new bytes error → IsFaultOfClaim old new bytes error) → IsCheckFault error → IsWhy old new bytes error
+    by_first error says (inl memory) = inl memory
+    by_first error says (inr first) = inr (says (record { claim = claim; certifies = certifies; is_first = first }))
+
     -- the checker's error is the first fault
-    pub check_fault : (error : CertError) → (error ≡ checks.Memory → ⊥) → IsCheckFault error → IsFaultOfClaim old new bytes error
-    check_fault checks.Memory other is = absurd (other refl)
-    check_fault checks.BadText other is = absurd (no_bad_check is)
-    check_fault checks.RootMissing other is = has_first checks.RootMissing other is
-    check_fault (checks.PairMissing pair) other is = has_first (checks.PairMissing pair) other is
-    check_fault (checks.BoundTooHigh pair number case) other is = has_first (checks.BoundTooHigh pair number case) other is
-    check_fault checks.WitnessNotWritten other is = has_first checks.WitnessNotWritten other is
-    check_fault checks.WitnessLength other is = has_first checks.WitnessLength other is
-    check_fault checks.WitnessKeeps other is = has_first checks.WitnessKeeps other is
+    pub check_fault : (error : CertError) → IsCheckFault error → IsWhy old new bytes error
+    check_fault checks.Memory is = inl refl
+    check_fault checks.BadText is = absurd (no_bad_check is)
+    check_fault checks.RootMissing is = by_first checks.RootMissing (λ first. first) is
+    check_fault (checks.PairMissing pair) is = by_first (checks.PairMissing pair) (λ first. first) is
+    check_fault (checks.BoundTooHigh pair number case) is = by_first (checks.BoundTooHigh pair number case) (λ first. first) is
+    check_fault checks.WitnessNotWritten is = by_first checks.WitnessNotWritten (λ first. first) is
+    check_fault checks.WitnessLength is = by_first checks.WitnessLength (λ first. first) is
+    check_fault checks.WitnessKeeps is = by_first checks.WitnessKeeps (λ first. first) is
 
 -- ---- sides
 

@@ -1,5 +1,5 @@
 -- What a certificate's bytes show of two schemas, and why they are refused. What contracts see of a certificate is a claim.
-use Rattle.std.specs.Prelude.{◌≡◌, ℕ, List, length, Option, Some, None, string_bytes}
+use Rattle.std.specs.Prelude.{◌≡◌, ◌⊎◌, ℕ, List, length, Option, Some, None, string_bytes}
 use Rattle.clap.specs.Words.{Text}
 use Rattle.pg_cert.specs.Certificate.{Claim, verdict_of}
 use Rattle.pg_cert.specs.ClaimView.{HoldsOf, IsFirstFaultOf, SaysOf}
@@ -71,6 +71,10 @@ IsFaultOfClaim old new bytes (checks.BoundTooHigh pair number case) = HasFirstFa
 IsFaultOfClaim old new bytes checks.WitnessNotWritten = HasFirstFault old new bytes checks.WitnessNotWritten
 IsFaultOfClaim old new bytes checks.WitnessLength = HasFirstFault old new bytes checks.WitnessLength
 IsFaultOfClaim old new bytes checks.WitnessKeeps = HasFirstFault old new bytes checks.WitnessKeeps
+
+-- a checker's error is why the bytes are refused, or says that memory ran out
+abbrev pub IsWhy : Parts → Parts → Text → CertError → Type 0
+IsWhy old new bytes error = (error ≡ checks.Memory) ⊎ IsFaultOfClaim old new bytes error
 
 -- the pair that a fault is of
 abbrev pub pair_of : CertError → Option Pair

@@ -1,11 +1,9 @@
 //! What a certificate shows of two sides.
 ghost use Rattle.std.specs.Prelude.{◌≡◌, ◌+◌, List, ℕ, [], ◌∷◌, IfErr, IfOk, IsTrue, OnOk, string_bytes};
-ghost use Rattle.pg_cert.specs.Certificate.{Holds, verdict_of};
-ghost use Rattle.pg_cert.specs.ClaimView.{view_in};
-ghost use Rattle.pg_cert.specs.Laws.{Says};
+ghost use Rattle.pg_cert.specs.Certificate.{verdict_of};
+ghost use Rattle.pg_cert.specs.ClaimView.{HoldsOf, SaysOf};
 ghost use Rattle.pg_cert.specs.Text.{Certifies, names_of};
 ghost use Rattle.pg_link.specs.Walk.{world};
-ghost use Rattle.pg_schema.specs.Parts.{shape_of};
 ghost use Rattle.pg_gate.specs.Failures.{call_failures};
 ghost use Rattle.pg_gate.specs.Grants.{IsUngiven, IsVerified, IsVerifyError};
 ghost use Rattle.pg_gate.specs.Verified as spec;
@@ -32,7 +30,7 @@ fn read<S: Sources>(alloc: Global, source: &mut S, path: &str) -> Result<Vec<u8>
     ensures same_given { S.may_give source.new ≡ S.may_give source.old }
     ensures same_lacked { S.may_lack source.new ≡ S.may_lack source.old }
 {
-    // A fault is told by the path; room for it is taken before the source can fail.
+    // A fault names the path; room for it is taken before the source can fail.
     let file = String::from_str(alloc, path)?;
     match source.read(alloc, path) {
         Ok(bytes) => Ok(bytes),
@@ -112,6 +110,20 @@ fn fault_of(
     Ok(ClaimFault { error, location })
 }
 
+/// What a checker's error is reported as: where it is why bytes are refused, so is that.
+fn reported(alloc: Global, old: &Schema, new: &Schema, error: CertError) -> CallError
+    ensures { (bytes : List ℕ) → spec.IsWhy old.now new.now bytes error
+        → spec.IsClaimError old.now new.now bytes result }
+{
+    if let CertError::Memory = error {
+        return CallError::Gate(GateError::Memory);
+    }
+    match fault_of(alloc, old, new, error) {
+        Ok(fault) => CallError::Certificate(CertificateFault::Refused(fault)),
+        Err(_) => CallError::Gate(GateError::Memory),
+    }
+}
+
 /// The certificate that the bytes spell.
 fn spelled(
     alloc: Global,
@@ -124,11 +136,7 @@ fn spelled(
 {
     match from_text(alloc, old, new, bytes) {
         Ok(certificate) => Ok(certificate),
-        Err(CertError::Memory) => Err(CallError::Gate(GateError::Memory)),
-        Err(error) => {
-            let fault = fault_of(alloc, old, new, error)?;
-            Err(CallError::Certificate(CertificateFault::Refused(fault)))
-        }
+        Err(error) => Err(reported(alloc, old, new, error)),
     }
 }
 
@@ -139,22 +147,16 @@ fn checked(
     new: &Schema,
     certificate: &Certificate,
 ) -> Result<Verdict, CallError>
-    ensures holds { OnOk result (Holds (view_in old.now new.now certificate.now)
-        (shape_of old.now) (shape_of new.now) certificate.now) }
+    ensures holds { OnOk result (HoldsOf old.now new.now certificate.now) }
     ensures verdict { IfOk result (λ verdict. verdict ≡ verdict_of certificate.now) }
-    ensures says { IfOk result (Says (view_in old.now new.now certificate.now)
-        (shape_of old.now) (shape_of new.now) certificate.now) }
+    ensures says { IfOk result (SaysOf old.now new.now certificate.now) }
     ensures refused { IfErr result (λ error. (bytes : List ℕ)
         → Certifies old.now new.now bytes certificate.now
         → spec.IsClaimError old.now new.now bytes error) }
 {
     match check(alloc, old, new, certificate) {
         Ok(verdict) => Ok(verdict),
-        Err(CertError::Memory) => Err(CallError::Gate(GateError::Memory)),
-        Err(error) => {
-            let fault = fault_of(alloc, old, new, error)?;
-            Err(CallError::Certificate(CertificateFault::Refused(fault)))
-        }
+        Err(error) => Err(reported(alloc, old, new, error)),
     }
 }
 
