@@ -47,12 +47,12 @@ pub record IsCompiled (w : World) (schema : Parts) : Type 0 where
   pub settled : IsSettled files
   pub declared : Declares (linked_sources files) schema
 
--- the files can't be linked for this reason, which isn't want of memory
+-- the files can't be linked for this reason, which isn't `Memory`
 pub record IsLinkFault (w : World) (error : LinkError) : Type 0 where
   pub is_told : error ≡ links.Memory → ⊥
   pub refuses : LinkRefuses w error
 
--- the files break this rule, and the error isn't want of memory
+-- the files break this rule, and the error isn't `Memory`
 pub record IsRuleFault (files : List Entry) (error : CheckError) : Type 0 where
   pub is_told : error ≡ checks.Memory → ⊥
   pub refuses : IsRefused (linked_sources files) error
@@ -79,7 +79,7 @@ IsOfRules files (faults.Link error) = ⊥
 IsOfRules files (faults.Check error) = IsRuleFault files error
 IsOfRules files (faults.Set error) = ⊥
 
--- a side ends in want of memory, or in a fault
+-- a side ends out of memory, or in a fault
 abbrev pub IsErrorOf : (Fault → Type 0) → Side → GateError → Type 0
 IsErrorOf fault side = IsError ⊥ ⊥ ⊥ (λ of found. (of ≡ side) × fault found)
 
@@ -101,7 +101,7 @@ pub record IsNotGiven (lack : Text → Bool) (folder path : Text) (error : LinkE
   pub is_told : error ≡ links.Memory → ⊥
   pub not_read : IsReadFault lack folder None path error
 
--- bytes are refused as a set for this reason, which isn't want of memory, and state no schema where it is one that says so
+-- bytes are refused as a set for this reason, which isn't `Memory`, and state no schema where it is one that says so
 pub record IsNoSet (bytes : Text) (error : FdsError) : Type 0 where
   pub is_told : error ≡ sets.Memory → ⊥
   pub refuses : MayRefuseSet bytes error

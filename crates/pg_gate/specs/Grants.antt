@@ -9,6 +9,7 @@ use Rattle.pg_pairs.specs.NamedView.{seen_under}
 use Rattle.pg_schema.specs.declared.parts.Parts.{Parts}
 use Rattle.pg_gate.specs.Call.{Request, compile, gate, show, types, verify}
 use Rattle.pg_link.specs.Walk.{World, world}
+use Rattle.pg_link.specs.declared.sources.Sources.{Ghosts}
 use Rattle.pg_gate.specs.Errors.{IsCallError, IsError, IsMemory}
 use Rattle.pg_gate.specs.Failures.{call_failures_at}
 use Rattle.pg_gate.specs.Files.{IsErrorOf, IsFaultOfSet, IsFaultOfSide, IsSetOf, IsSide, IsSideError}
@@ -55,7 +56,7 @@ abbrev pub IsSidesFault : World → World → Side → Fault → Type 0
 IsSidesFault old new sides.Old fault = IsFaultOfSide old fault
 IsSidesFault old new sides.New fault = OfSide old (λ schema. IsFaultOfSide new fault)
 
--- two sides end in want of memory, or in a fault of either
+-- two sides end out of memory, or in a fault of either
 abbrev pub IsSidesError : World → World → GateError → Type 0
 IsSidesError old new = IsError ⊥ ⊥ ⊥ (IsSidesFault old new)
 
@@ -182,12 +183,13 @@ pub record Seen : Type 0 where
   pub before : ℕ
   pub after : ℕ
 
-abbrev pub seen : (Text → Text → Bool) → (Text → Bool) → ℕ → ℕ → Seen
-seen give lack before after = record {
-  may_give = give;
-  may_lack = lack;
-  before = before;
-  after = after;
+-- of a source, before the run and after it; a clause has the members of the source as S.Sources
+abbrev pub seen : {S : Type 0} → Ghosts S → S → S → Seen
+seen members old new = record {
+  may_give = members.may_give old;
+  may_lack = members.may_lack old;
+  before = members.failures old;
+  after = members.failures new;
 }
 
 abbrev pub world_of : Seen → Text → List Text → World

@@ -57,7 +57,7 @@ location_of_certificate (certificates.Refused fault) = fault.location
 abbrev pub refusal_by : Option Side → ℕ → Location → Refusal
 refusal_by side code location = record { side = side; code = code; location = location }
 
--- of an error of the gate with this code; want of memory and a sink that failed aren't printed
+-- of an error of the gate with this code; out of memory and a sink that failed aren't printed
 abbrev pub refusal_of_gate : ℕ → GateError → Option Refusal
 refusal_of_gate code Memory = None
 refusal_of_gate code RootMissingOld = Some (refusal_by None code Nowhere)

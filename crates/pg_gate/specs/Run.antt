@@ -30,7 +30,7 @@ pub record Keeps (old new : Text) : Type 0 where
   pub more : Text
   pub is : new ≡ old ++ more
 
--- The sources of a run that ends in want of memory: none failed; or their counts are those of an answer that is granted to the words'
+-- The sources of a run that ends out of memory: none failed; or their counts are those of an answer that is granted to the words'
 -- call.
 pub data MayLack (granted : Request → Reply → Type 0) (words : List Text) (none_failed : Type 0) : Type 0 where
   unfailed : none_failed → MayLack granted words none_failed

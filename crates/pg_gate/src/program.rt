@@ -70,17 +70,13 @@ pub fn run<S: Sources, T: Sources, W: Sink>(
 
     // Else the sink took exactly the text of the words' call and an answer granted to it.
     ensures printed { IfOk result (λ status. status ≢ USAGE → Prints
-        (Grants (seen (S.may_give old.old) (S.may_lack old.old)
-        (S.failures old.old) (S.failures old.new))
-        (seen (T.may_give new.old) (T.may_lack new.old) (T.failures new.old) (T.failures new.new)))
+        (Grants (seen S.Sources old.old old.new) (seen T.Sources new.old new.new))
         (texts words.now) status (W.taken sink.old) (W.taken sink.new)) }
 
     // A sink that fails took a beginning of it; or the words are no call, and the sources are as
     // they were. Memory that fails leaves the sink alone.
     ensures begun { IsErrOf result GateError.WriteFailed → Begins
-        (Grants (seen (S.may_give old.old) (S.may_lack old.old)
-        (S.failures old.old) (S.failures old.new))
-        (seen (T.may_give new.old) (T.may_lack new.old) (T.failures new.old) (T.failures new.new)))
+        (Grants (seen S.Sources old.old old.new) (seen T.Sources new.old new.new))
         (texts words.now) (W.taken sink.old) (W.taken sink.new)
         ⊎ (IsNoCall (texts words.now) × (old.new ≡ old.old) × (new.new ≡ new.old)) }
     ensures only { IfErr result IsRunError }
@@ -94,9 +90,7 @@ pub fn run<S: Sources, T: Sources, W: Sink>(
         → (old.new ≡ old.old) × (new.new ≡ new.old)) }
     ensures uncalled { ¬ (IsCall (texts words.now)) → (old.new ≡ old.old) × (new.new ≡ new.old) }
     ensures lacking { IsErrOf result GateError.Memory → MayLack
-        (Grants (seen (S.may_give old.old) (S.may_lack old.old)
-        (S.failures old.old) (S.failures old.new))
-        (seen (T.may_give new.old) (T.may_lack new.old) (T.failures new.old) (T.failures new.new)))
+        (Grants (seen S.Sources old.old old.new) (seen T.Sources new.old new.new))
         (texts words.now) ((S.failures old.new ≡ S.failures old.old)
         × (T.failures new.new ≡ T.failures new.old)) }
 

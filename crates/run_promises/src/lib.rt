@@ -23,9 +23,7 @@ pub fn run<S: Sources, T: Sources, W: Sink>(
 ) -> Result<u8, GateError>
     // The sink took exactly the text of the words' call and an answer granted to it.
     ensures printed { IfOk result (λ status. status ≢ 4 → Prints
-        (Grants (seen (S.may_give old.old) (S.may_lack old.old)
-        (S.failures old.old) (S.failures old.new))
-        (seen (T.may_give new.old) (T.may_lack new.old) (T.failures new.old) (T.failures new.new)))
+        (Grants (seen S.Sources old.old old.new) (seen T.Sources new.old new.new))
         (texts words.now) status (W.taken sink.old) (W.taken sink.new)) }
 {
     pg_gate::run(alloc, words, old, new, sink)
@@ -59,9 +57,7 @@ pub fn run_unanswered<S: Sources, T: Sources, W: Sink>(
     ensures uncalled { ¬ (IsCall (texts given.now)) → (old.new ≡ old.old) × (new.new ≡ new.old) }
     // Where memory runs out, no source failed, or as an answer reports that is granted.
     ensures lacking { IsErrOf result GateError.Memory → MayLack
-        (Grants (seen (S.may_give old.old) (S.may_lack old.old)
-        (S.failures old.old) (S.failures old.new))
-        (seen (T.may_give new.old) (T.may_lack new.old) (T.failures new.old) (T.failures new.new)))
+        (Grants (seen S.Sources old.old old.new) (seen T.Sources new.old new.new))
         (texts given.now) ((S.failures old.new ≡ S.failures old.old)
         × (T.failures new.new ≡ T.failures new.old)) }
 {
@@ -79,9 +75,7 @@ pub fn run_failed<S: Sources, T: Sources, W: Sink>(
     // A sink that fails took a beginning of the text; or the words are no call, and the sources are
     // as they were. Memory that fails leaves the sink alone.
     ensures begun { IsErrOf result GateError.WriteFailed → Begins
-        (Grants (seen (S.may_give old.old) (S.may_lack old.old)
-        (S.failures old.old) (S.failures old.new))
-        (seen (T.may_give new.old) (T.may_lack new.old) (T.failures new.old) (T.failures new.new)))
+        (Grants (seen S.Sources old.old old.new) (seen T.Sources new.old new.new))
         (texts asked.now) (W.taken sink.old) (W.taken sink.new)
         ⊎ (IsNoCall (texts asked.now) × (old.new ≡ old.old) × (new.new ≡ new.old)) }
     ensures only { IfErr result IsRunError }

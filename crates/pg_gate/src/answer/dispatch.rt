@@ -40,8 +40,7 @@ struct Asked<'a> {
     view: ViewName,
 }
 
-/// What is told of an answer with this certificate: its witness's bytes and steps, where it has
-/// one.
+/// What is reported of the answer with this certificate: the witness's bytes and steps, if any.
 fn told(
     alloc: Global,
     old: &Compiled,
@@ -77,7 +76,7 @@ fn certified(
     })
 }
 
-/// What is told of the answer with this certificate: the certificate alone where that is asked for.
+/// What is reported of the answer with this certificate: on request the certificate alone.
 fn finding_of(
     alloc: Global,
     old: &Compiled,
@@ -203,13 +202,9 @@ fn reply_to<S: Sources, T: Sources>(
     new: &mut T,
 ) -> Result<Reply, CallError>
     ensures answered { IfOk result (IsReplyFor
-        (seen (S.may_give old.old) (S.may_lack old.old) (S.failures old.old) (S.failures old.new))
-        (seen (T.may_give new.old) (T.may_lack new.old) (T.failures new.old) (T.failures new.new))
-        (request_of call.now)) }
+        (seen S.Sources old.old old.new) (seen T.Sources new.old new.new) (request_of call.now)) }
     ensures refused { IfErr result (IsErrorFor
-        (seen (S.may_give old.old) (S.may_lack old.old) (S.failures old.old) (S.failures old.new))
-        (seen (T.may_give new.old) (T.may_lack new.old) (T.failures new.old) (T.failures new.new))
-        (request_of call.now)) }
+        (seen S.Sources old.old old.new) (seen T.Sources new.old new.new) (request_of call.now)) }
     ensures old_counted { S.failures old.new ≡ S.failures old.old + call_failures Side.Old result }
     ensures new_counted { T.failures new.new ≡ T.failures new.old + call_failures Side.New result }
     ensures old_given { S.may_give old.new ≡ S.may_give old.old }
@@ -256,9 +251,7 @@ pub(crate) fn answer<S: Sources, T: Sources>(
     new: &mut T,
 ) -> Result<Reply, AllocError>
     ensures granted { IfOk result (Grants
-        (seen (S.may_give old.old) (S.may_lack old.old) (S.failures old.old) (S.failures old.new))
-        (seen (T.may_give new.old) (T.may_lack new.old) (T.failures new.old) (T.failures new.new))
-        (request_of call.now)) }
+        (seen S.Sources old.old old.new) (seen T.Sources new.old new.new) (request_of call.now)) }
     ensures lacking { OnErr result ((S.failures old.new ≡ S.failures old.old)
         × (T.failures new.new ≡ T.failures new.old)) }
     ensures old_given { S.may_give old.new ≡ S.may_give old.old }

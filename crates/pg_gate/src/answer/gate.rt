@@ -116,8 +116,8 @@ fn found_under(
 /// view of that name, which stands in the certificate: under `Names` a number that both enums
 /// declare is another item where they give it other names.
 ///
-/// Refused are want of memory (`Memory`), an old schema without the name (`RootMissingOld`), and
-/// else a new one without it (`RootMissingNew`).
+/// Refuses an old schema without the name (`RootMissingOld`), and else a new one without it
+/// (`RootMissingNew`). `Memory` is out of memory.
 pub fn gate_with(
     alloc: Global,
     old: &Schema,
@@ -150,8 +150,8 @@ pub fn gate_with(
 /// either with the certificate of the two types, which a checker takes. Enums are compared by their
 /// numbers alone, as `gate_with` does under `Numbers`.
 ///
-/// Refused are want of memory (`Memory`), an old schema without the name (`RootMissingOld`), and
-/// else a new one without it (`RootMissingNew`).
+/// Refuses an old schema without the name (`RootMissingOld`), and else a new one without it
+/// (`RootMissingNew`). `Memory` is out of memory.
 pub fn gate(alloc: Global, old: &Schema, new: &Schema, root: &str) -> Result<Answer, GateError>
     ensures answer { IfOk result (IsAnswer old.now new.now root.now) }
     ensures old_missing { Lacks old.now root.now → result ≡ Err errors.RootMissingOld }
@@ -169,9 +169,9 @@ pub fn gate(alloc: Global, old: &Schema, new: &Schema, root: &str) -> Result<Ans
 /// side of one path that doesn't end in `.proto` is the descriptor set there, and its schema the
 /// one that the set states.
 ///
-/// Refused are want of memory (`Memory`); a side with its first fault (`Compile`): what its texts
-/// can't be linked for, or the first rule of the language that they break, at its place, or what
-/// its set is refused for; and a missing root, as `gate` refuses it.
+/// Refuses a side with its first fault (`Compile`): what its texts can't be linked for, or the
+/// first rule of the language that they break, at its place, or what its set is refused for; and a
+/// missing root, as `gate` does. `Memory` is out of memory.
 pub fn gate_files<S: Sources, T: Sources>(
     alloc: Global,
     old: &mut S,

@@ -88,7 +88,7 @@ fn step_of(
     })
 }
 
-/// Puts the steps of a choice behind the others: of two fields that meet in a oneof one for each.
+/// Appends the steps of a choice: of two fields that meet in a oneof one for each.
 fn add_steps(
     alloc: Global,
     steps: &mut Vec<Step>,

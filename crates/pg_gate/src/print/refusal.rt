@@ -46,7 +46,7 @@ fn alone(code: u16, location: Location) -> Refusal
     }
 }
 
-/// The refusal that is printed for an error of the gate with this code. Want of memory and a sink
+/// The refusal that is printed for an error of the gate with this code. Out of memory and a sink
 /// that failed have none.
 fn refusal_of_gate(code: u16, error: GateError) -> Option<Refusal>
     ensures { result ≡ refusals.refusal_of_gate code error }
