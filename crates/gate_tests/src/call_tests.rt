@@ -172,6 +172,7 @@ fn reply_of(alloc: Global) -> Result<Reply, AllocError> {
     Ok(Reply::Found(Finding::Breaks {
         witness: Vec::from_slice(alloc, &MINUS_ONE)?,
         steps: Vec::new(alloc),
+        readings: None,
     }))
 }
 

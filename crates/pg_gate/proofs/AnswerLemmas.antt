@@ -180,18 +180,18 @@ searched_by view old new root (answers.Breaks witness certificate) is =
 -- ---- what is told of an answer
 
 -- what is told of an answer's certificate is what is found
-pub found_by : (view : ViewName) (old new : Parts) (root : Text) (answer : Answer) (certificate_only : Bool) (finding : Finding) → IsAnswerUnder view old new root answer
-    → Tells old new (certificate_of answer) certificate_only finding → IsFindingOf view old new root certificate_only finding
-found_by view old new root (answers.Compatible certificate) false findings.Compatible is tells = record { certificate = certificate; named = is.0; compatible = is.1 }
-found_by view old new root (answers.Breaks message certificate) false findings.Compatible is tells = absurd (let no : ◌≡◌ {A = Option (List ℕ)} None (Some _) = sym tells ∙ is.1.bytes_are in cc)
-found_by view old new root (answers.Compatible certificate) false (findings.Breaks bytes steps) is tells = absurd (let no : ◌≡◌ {A = Option (List ℕ)} None (Some bytes.items) = sym is.1.no_witness ∙ tells.0 in cc)
-found_by view old new root (answers.Breaks message certificate) false (findings.Breaks bytes steps) is tells = record { message = message; certificate = certificate; named = is.0; broken = is.1; bytes_are = tells.0; are_steps = tells.1 }
-found_by view old new root answer false (findings.Certified text breaks) is tells = absurd tells
-found_by view old new root answer true findings.Compatible is tells = absurd tells
-found_by view old new root answer true (findings.Breaks bytes steps) is tells = absurd tells
-found_by view old new root answer true (findings.Certified text breaks) is tells = record { answer = answer; is_answer = is; certifies = tells.0; is_second = tells.1; breaks_is = tells.2 }
-found_by view old new root answer false (findings.Verified verified) is tells = absurd tells
-found_by view old new root answer true (findings.Verified verified) is tells = absurd tells
+pub found_by : (view : ViewName) (old new : Parts) (root : Text) (answer : Answer) (certificate_only explain : Bool) (finding : Finding) → IsAnswerUnder view old new root answer
+    → Tells old new (certificate_of answer) certificate_only explain finding → IsFindingOf view old new root certificate_only explain finding
+found_by view old new root (answers.Compatible certificate) false explain findings.Compatible is tells = record { certificate = certificate; named = is.0; compatible = is.1 }
+found_by view old new root (answers.Breaks message certificate) false explain findings.Compatible is tells = absurd (let no : ◌≡◌ {A = Option (List ℕ)} None (Some _) = sym tells ∙ is.1.bytes_are in cc)
+found_by view old new root (answers.Compatible certificate) false explain (findings.Breaks bytes steps readings) is tells = absurd (let no : ◌≡◌ {A = Option (List ℕ)} None (Some bytes.items) = sym is.1.no_witness ∙ tells.0 in cc)
+found_by view old new root (answers.Breaks message certificate) false explain (findings.Breaks bytes steps readings) is tells = record { message = message; certificate = certificate; named = is.0; broken = is.1; bytes_are = tells.0; are_steps = tells.1; explained = tells.2 }
+found_by view old new root answer false explain (findings.Certified text breaks) is tells = absurd tells
+found_by view old new root answer true explain findings.Compatible is tells = absurd tells
+found_by view old new root answer true explain (findings.Breaks bytes steps readings) is tells = absurd tells
+found_by view old new root answer true explain (findings.Certified text breaks) is tells = record { answer = answer; is_answer = is; certifies = tells.0; is_second = tells.1; breaks_is = tells.2 }
+found_by view old new root answer false explain (findings.Verified verified) is tells = absurd tells
+found_by view old new root answer true explain (findings.Verified verified) is tells = absurd tells
 
 -- ---- sides
 
@@ -216,9 +216,9 @@ module _ (root : Text) (old new : World) (a b : Parts) (of_old : IsSide old a) (
   pub answer_of_files : (answer : Answer) → IsAnswer a b root answer → IsAnswerOfFiles root old new answer
   answer_of_files answer is = record { old_schema = a; new_schema = b; of_old = of_old; of_new = of_new; so = is }
 
-  pub reply_of_files : (view : ViewName) (certificate_only both : Bool) (reply : Reply) → IsGateReply view a b root certificate_only both reply
-      → Between old new (λ a b. IsGateReply view a b root certificate_only both reply)
-  reply_of_files view certificate_only both reply is = record { old_schema = a; new_schema = b; of_old = of_old; of_new = of_new; so = is }
+  pub reply_of_files : (view : ViewName) (certificate_only both explain : Bool) (reply : Reply) → IsGateReply view a b root certificate_only both explain reply
+      → Between old new (λ a b. IsGateReply view a b root certificate_only both explain reply)
+  reply_of_files view certificate_only both explain reply is = record { old_schema = a; new_schema = b; of_old = of_old; of_new = of_new; so = is }
 
   pub refused_of_files : (error : GateError) → IsRefusedRoot a b root error → IsGateError root old new error
   refused_of_files error is =

@@ -14,9 +14,12 @@ from_some : {X Y : Type 0} (f : X → Y) (o : Option X) (y : Y) → option_map f
 from_some f None y mapped = absurd (cc)
 from_some f (Some x) y mapped = (x, cc)
 
+-- a type's place is one of the shape
+pub type_there : (parts : Parts) (id : TypeId) → id.index < length parts.types.items → id.index < length (shape_of parts)
+type_there parts id within = rw (length-map parts.types.items (λ (t : MessageType). map field_shape t.fields.items)) within
+
 -- a type that has a name is there
 pub named_there : (parts : Parts) (name : Text) (id : TypeId) → IsNamed parts name id → id.index < length (shape_of parts)
 named_there parts name id named =
     let found = from_some (λ (t : MessageType). string_bytes t.name) _ name named in
-    let within = slice_get_within parts.types.items id.index found.0 found.1 in
-    rw (length-map parts.types.items (λ (t : MessageType). map field_shape t.fields.items)) within
+    type_there parts id (slice_get_within parts.types.items id.index found.0 found.1)

@@ -23,7 +23,7 @@ pub record SideTexts : Type 0 where
 -- a call, as texts
 pub data Request : Type 0 where
   compile : (dir : Text) (files : List Text) → Request
-  gate : (sides : SideTexts) (root : Text) (certificate_only both : Bool) (view : ViewName) → Request
+  gate : (sides : SideTexts) (root : Text) (certificate_only both explain : Bool) (view : ViewName) → Request
   show : (dir file root word : Text) → Request
   verify : (sides : SideTexts) (certificate : Text) → Request
   types : (dir : Text) (files : List Text) → Request
@@ -38,7 +38,7 @@ sides_of s = record {
 
 abbrev pub request_of : Call → Request
 request_of (call.Compile dir files) = compile dir.now (texts files.items)
-request_of (call.Gate sides root certificate_only both view) = gate (sides_of sides) root.now certificate_only both view
+request_of (call.Gate sides root certificate_only both explain view) = gate (sides_of sides) root.now certificate_only both explain view
 request_of (call.Show dir file root word) = show dir.now file.now root.now word.now
 request_of (call.Verify sides certificate) = verify (sides_of sides) certificate.now
 request_of (call.Types dir files) = types dir.now (texts files.items)
@@ -74,7 +74,8 @@ abbrev pub compile_in : List Row → Request
 compile_in rows = compile (text_at (codes "dir") rows) (texts_at (codes "FILE") rows)
 
 abbrev pub gate_in : List Row → Request
-gate_in rows = gate (sides_in rows) (text_at (codes "type") rows) (flag_at (codes "cert") rows) (flag_at (codes "both") rows) (view_at (codes "view") rows)
+gate_in rows = gate (sides_in rows) (text_at (codes "type") rows) (flag_at (codes "cert") rows) (flag_at (codes "both") rows) (flag_at (codes "explain") rows)
+    (view_at (codes "view") rows)
 
 abbrev pub verify_in : List Row → Request
 verify_in rows = verify (sides_in rows) (text_at (codes "CERT") rows)

@@ -59,7 +59,7 @@ view_names = codes "numbers" ∷ codes "names" ∷ []
 abbrev pub gate_app : Bor (List (Bor Text)) → App
 gate_app names = with_rules (new_app (codes "gate")) (folder (codes "old-dir") ∷ folder (codes "new-dir")
     ∷ named (codes "old") ∷ named (codes "new") ∷ named (codes "type") ∷ flag (codes "cert")
-    ∷ flag (codes "both") ∷ among (codes "view") names (codes "numbers") ∷ [])
+    ∷ flag (codes "both") ∷ flag (codes "explain") ∷ among (codes "view") names (codes "numbers") ∷ [])
 
 abbrev pub verify_app : App
 verify_app = with_rules (new_app (codes "verify")) (folder (codes "old-dir") ∷ folder (codes "new-dir")

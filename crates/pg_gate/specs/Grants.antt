@@ -1,5 +1,5 @@
 -- What a call may be answered, by what its sources may give and lack.
-use Rattle.std.specs.Prelude.{◌≡◌, ◌+◌, ◌&&◌, ℕ, Bool, true, false, not, List, [], ◌∷◌, Some, None, is_some, string_bytes, IsTrue}
+use Rattle.std.specs.Prelude.{◌≡◌, ◌+◌, ◌&&◌, ℕ, Bool, true, false, not, List, [], ◌∷◌, Option, Some, None, is_some, string_bytes, IsTrue}
 use Rattle.clap.specs.Words.{Text}
 use Rattle.pg_cert.specs.Certificate.{Claim}
 use Rattle.pg_cert.specs.Text.{Certifies, IsSecondText}
@@ -11,6 +11,7 @@ use Rattle.pg_gate.specs.Call.{Request, compile, gate, show, types, verify}
 use Rattle.pg_link.specs.Walk.{World, world}
 use Rattle.pg_link.specs.declared.sources.Sources.{Ghosts}
 use Rattle.pg_gate.specs.Errors.{IsCallError, IsError, IsMemory}
+use Rattle.pg_gate.specs.Explained.{IsExplained}
 use Rattle.pg_gate.specs.Failures.{call_failures_at}
 use Rattle.pg_gate.specs.Files.{IsErrorOf, IsFaultOfSet, IsFaultOfSide, IsSetOf, IsSide, IsSideError}
 use Rattle.pg_gate.specs.Answer.{IsAnswer, IsBroken, IsCompatible, Lacks, certificate_of}
@@ -31,6 +32,7 @@ use Rattle.pg_gate.specs.declared.error.Side.TheVariants as sides
 use Rattle.pg_gate.specs.declared.print.refusal.Refusal.{Refusal}
 use Rattle.pg_gate.specs.declared.print.reply.Finding.{Finding}
 use Rattle.pg_gate.specs.declared.print.reply.Finding.TheVariants as findings
+use Rattle.pg_gate.specs.declared.print.reply.Readings.{Readings}
 use Rattle.pg_gate.specs.declared.print.reply.Reply.{Reply}
 use Rattle.pg_gate.specs.declared.print.reply.Reply.TheVariants as replies
 use Rattle.pg_gate.specs.declared.answer.step.Step.{Step}
@@ -74,14 +76,15 @@ pub record IsShownCompatible (view : ViewName) (old new : Parts) (root : Text) :
   pub compatible : IsCompatible (seen_under view old new) old new root certificate
 
 -- The bytes are those of a message that breaks under the view, and no message that breaks has fewer, as some certificate shows. The steps
--- are those of the certificate's witness.
-pub record IsLeastWitness (view : ViewName) (old new : Parts) (root : Text) (bytes : List ℕ) (steps : List Step) : Type 0 where
+-- are those of the certificate's witness. Where it is asked for, the readings are those of the bytes by the root types.
+pub record IsLeastWitness (view : ViewName) (old new : Parts) (root : Text) (explain : Bool) (bytes : List ℕ) (steps : List Step) (readings : Option Readings) : Type 0 where
   pub message : Kept
   pub certificate : Claim
   pub named : certificate.view ≡ view
   pub broken : IsBroken (seen_under view old new) old new root message certificate
   pub bytes_are : certificate.witness ≡ Some bytes
   pub are_steps : AreSteps old new certificate steps
+  pub explained : IsExplained explain old new certificate.root bytes readings
 
 -- the text is that of the certificate of an answer under the view, in version 2, and this is whether a message breaks
 pub record IsCertificateText (view : ViewName) (old new : Parts) (root text : Text) (breaks : Bool) : Type 0 where
@@ -92,42 +95,45 @@ pub record IsCertificateText (view : ViewName) (old new : Parts) (root text : Te
   pub breaks_is : breaks ≡ is_some (certificate_of answer).witness
 
 -- what the gate finds of the types of that name under the view; the certificate where that is asked for, and nowhere else
-abbrev pub IsFindingOf : ViewName → Parts → Parts → Text → Bool → Finding → Type 0
-IsFindingOf view old new root false findings.Compatible = IsShownCompatible view old new root
-IsFindingOf view old new root false (findings.Breaks witness steps) = IsLeastWitness view old new root witness.items steps.items
-IsFindingOf view old new root false (findings.Certified text breaks) = ⊥
-IsFindingOf view old new root false (findings.Verified verified) = ⊥
-IsFindingOf view old new root true findings.Compatible = ⊥
-IsFindingOf view old new root true (findings.Breaks witness steps) = ⊥
-IsFindingOf view old new root true (findings.Certified text breaks) = IsCertificateText view old new root (string_bytes text) breaks
-IsFindingOf view old new root true (findings.Verified verified) = ⊥
+abbrev pub IsFindingOf : ViewName → Parts → Parts → Text → (certificate_only explain : Bool) → Finding → Type 0
+IsFindingOf view old new root false explain findings.Compatible = IsShownCompatible view old new root
+IsFindingOf view old new root false explain (findings.Breaks witness steps readings) = IsLeastWitness view old new root explain witness.items steps.items readings
+IsFindingOf view old new root false explain (findings.Certified text breaks) = ⊥
+IsFindingOf view old new root false explain (findings.Verified verified) = ⊥
+IsFindingOf view old new root true explain findings.Compatible = ⊥
+IsFindingOf view old new root true explain (findings.Breaks witness steps readings) = ⊥
+IsFindingOf view old new root true explain (findings.Certified text breaks) = IsCertificateText view old new root (string_bytes text) breaks
+IsFindingOf view old new root true explain (findings.Verified verified) = ⊥
 
 -- What the gate answers of the types of that name: what it finds from the old to the new one; where both directions are asked for, and
 -- not the certificate alone, also what it finds from the new to the old one. Both are found under the same view.
-abbrev pub IsGateReply : ViewName → Parts → Parts → Text → (certificate_only both : Bool) → Reply → Type 0
-IsGateReply view old new root certificate_only both (replies.Set bytes) = ⊥
-IsGateReply view old new root certificate_only both (replies.Shown text) = ⊥
-IsGateReply view old new root certificate_only both (replies.Found finding) = ((both && not certificate_only) ≡ false) × IsFindingOf view old new root certificate_only finding
-IsGateReply view old new root certificate_only both (replies.Both forward backward) = ((both && not certificate_only) ≡ true) × IsFindingOf view old new root false forward × IsFindingOf view new old root false backward
-IsGateReply view old new root certificate_only both (replies.Refused refusal) = ⊥
+abbrev pub IsGateReply : ViewName → Parts → Parts → Text → (certificate_only both explain : Bool) → Reply → Type 0
+IsGateReply view old new root certificate_only both explain (replies.Set bytes) = ⊥
+IsGateReply view old new root certificate_only both explain (replies.Shown text) = ⊥
+IsGateReply view old new root certificate_only both explain (replies.Found finding) =
+    ((both && not certificate_only) ≡ false) × IsFindingOf view old new root certificate_only explain finding
+IsGateReply view old new root certificate_only both explain (replies.Both forward backward) =
+    ((both && not certificate_only) ≡ true) × IsFindingOf view old new root false explain forward × IsFindingOf view new old root false explain backward
+IsGateReply view old new root certificate_only both explain (replies.Refused refusal) = ⊥
 
--- a finding tells a certificate's witness and its steps, or that it has none
-abbrev pub TellsAnswer : Parts → Parts → Claim → Finding → Type 0
-TellsAnswer old new certificate findings.Compatible = certificate.witness ≡ None
-TellsAnswer old new certificate (findings.Breaks witness steps) = (certificate.witness ≡ Some witness.items) × AreSteps old new certificate steps.items
-TellsAnswer old new certificate (findings.Certified text breaks) = ⊥
-TellsAnswer old new certificate (findings.Verified verified) = ⊥
+-- a finding tells a certificate's witness, its steps and, where they are asked for, its readings; or that it has none
+abbrev pub TellsAnswer : Parts → Parts → Claim → (explain : Bool) → Finding → Type 0
+TellsAnswer old new certificate explain findings.Compatible = certificate.witness ≡ None
+TellsAnswer old new certificate explain (findings.Breaks witness steps readings) =
+    (certificate.witness ≡ Some witness.items) × AreSteps old new certificate steps.items × IsExplained explain old new certificate.root witness.items readings
+TellsAnswer old new certificate explain (findings.Certified text breaks) = ⊥
+TellsAnswer old new certificate explain (findings.Verified verified) = ⊥
 
 -- a finding tells a certificate's text in version 2, and whether it has a witness
 abbrev pub TellsCertificate : Parts → Parts → Claim → Finding → Type 0
 TellsCertificate old new certificate findings.Compatible = ⊥
-TellsCertificate old new certificate (findings.Breaks witness steps) = ⊥
+TellsCertificate old new certificate (findings.Breaks witness steps readings) = ⊥
 TellsCertificate old new certificate (findings.Certified text breaks) = Certifies old new (string_bytes text) certificate × IsSecondText old new (string_bytes text) certificate × (breaks ≡ is_some certificate.witness)
 TellsCertificate old new certificate (findings.Verified verified) = ⊥
 
-abbrev pub Tells : Parts → Parts → Claim → Bool → Finding → Type 0
-Tells old new certificate false finding = TellsAnswer old new certificate finding
-Tells old new certificate true finding = TellsCertificate old new certificate finding
+abbrev pub Tells : Parts → Parts → Claim → (certificate_only explain : Bool) → Finding → Type 0
+Tells old new certificate false explain finding = TellsAnswer old new certificate explain finding
+Tells old new certificate true explain finding = TellsCertificate old new certificate finding
 
 -- ---- certificates that are checked
 
@@ -230,8 +236,8 @@ IsVerifyReply path old new (replies.Refused refusal) = ⊥
 -- what is answered to a call, where nothing is refused
 abbrev pub IsReplyFor : Seen → Seen → Request → Reply → Type 0
 IsReplyFor old new (compile dir files) reply = IsSetReply (world_of old dir files) reply
-IsReplyFor old new (gate sides root certificate_only both view) reply =
-    Between (world_of old sides.old_dir (sides.old ∷ [])) (world_of new sides.new_dir (sides.new ∷ [])) (λ a b. IsGateReply view a b root certificate_only both reply)
+IsReplyFor old new (gate sides root certificate_only both explain view) reply =
+    Between (world_of old sides.old_dir (sides.old ∷ [])) (world_of new sides.new_dir (sides.new ∷ [])) (λ a b. IsGateReply view a b root certificate_only both explain reply)
 IsReplyFor old new (show dir file root word) reply = IsShowReply (world_of old dir (file ∷ [])) root word reply
 IsReplyFor old new (verify sides certificate) reply =
     IsVerifyReply certificate (world_of old sides.old_dir (sides.old ∷ [])) (world_of new sides.new_dir (sides.new ∷ [])) reply
@@ -244,7 +250,7 @@ OfGate is = IsCallError is (λ fault. ⊥) (λ error. ⊥)
 -- why nothing is answered to a call
 abbrev pub IsErrorFor : Seen → Seen → Request → CallError → Type 0
 IsErrorFor old new (compile dir files) error = OfGate (IsSetError (world_of old dir files)) error
-IsErrorFor old new (gate sides root certificate_only both view) error =
+IsErrorFor old new (gate sides root certificate_only both explain view) error =
     OfGate (IsGateError root (world_of old sides.old_dir (sides.old ∷ [])) (world_of new sides.new_dir (sides.new ∷ []))) error
 IsErrorFor old new (show dir file root word) error = IsShowError (world_of old dir (file ∷ [])) root word error
 IsErrorFor old new (verify sides certificate) error =

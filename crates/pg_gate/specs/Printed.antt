@@ -22,7 +22,7 @@ verdict_status (verdicts.AtLeast n) = 5
 -- 0 compatible, 1 breaks; a certificate that is written has its answer's, one that is checked its verdict's
 abbrev pub finding_status : Finding → ℕ
 finding_status finding.Compatible = 0
-finding_status (finding.Breaks witness steps) = 1
+finding_status (finding.Breaks witness steps readings) = 1
 finding_status (finding.Certified text breaks) = if breaks then 1 else 0
 finding_status (finding.Verified verified) = verdict_status verified.verdict
 
@@ -53,7 +53,7 @@ text_of root (reply.Refused r) = refusal_of r
 -- the name of the root types; a certificate has its own; a set, the lines of a message and the names of types have none
 abbrev pub root_of : Request → Text
 root_of (compile dir files) = []
-root_of (gate sides root certificate_only both view) = root
+root_of (gate sides root certificate_only both explain view) = root
 root_of (show dir file root word) = []
 root_of (verify sides certificate) = []
 root_of (types dir files) = []

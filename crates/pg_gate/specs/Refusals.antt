@@ -1,7 +1,8 @@
 -- The refusal that is printed for an error: its code, and where the fault is.
 use Rattle.std.specs.Prelude.{ℕ, Bool, true, false, nat_eq, Option, Some, None, option_map}
 use Rattle.pg_check.specs.Codes.{place_of as rule_place}
-use Rattle.pg_dyn.specs.Codes.{place_of as message_place}
+use Rattle.pg_dyn.specs.declared.error.DynError.{DynError}
+use Rattle.pg_dyn.specs.Codes.{code_of as message_code, place_of as message_place}
 use Rattle.pg_fds.specs.ErrorCodes.{place_of as set_place}
 use Rattle.pg_link.specs.Codes.{place_of as link_place}
 use Rattle.pg_link.specs.declared.error.Place.{Place}
@@ -72,6 +73,10 @@ refusal_with code (calls.Gate error) = refusal_of_gate code error
 refusal_with code (calls.Certificate fault) = Some (refusal_by None code (location_of_certificate fault))
 refusal_with code (calls.Bytes error) = Some (refusal_by None code (location_of (message_place error)))
 
+-- of bytes, as `show` prints it
+abbrev pub refusal_of_bytes : DynError → Refusal
+refusal_of_bytes error = refusal_by None (message_code error) (location_of (message_place error))
+
 abbrev pub refusal_of : CallError → Option Refusal
 refusal_of error = refusal_with (call_code error) error
 
@@ -82,7 +87,7 @@ without_side refusal = refusal_by None refusal.code refusal.location
 -- the refusal that is printed for an error of a call
 abbrev pub refusal_for : Request → CallError → Option Refusal
 refusal_for (compile dir files) error = option_map without_side (refusal_of error)
-refusal_for (gate sides root certificate_only both view) error = refusal_of error
+refusal_for (gate sides root certificate_only both explain view) error = refusal_of error
 refusal_for (show dir file root word) error = option_map without_side (refusal_of error)
 refusal_for (verify sides certificate) error = refusal_of error
 refusal_for (types dir files) error = option_map without_side (refusal_of error)

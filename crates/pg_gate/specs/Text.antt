@@ -14,6 +14,7 @@ use Rattle.pg_gate.specs.declared.print.location.Location.TheVariants as locatio
 use Rattle.pg_gate.specs.declared.print.refusal.Refusal.{Refusal}
 use Rattle.pg_gate.specs.declared.print.reply.Finding.{Finding}
 use Rattle.pg_gate.specs.declared.print.reply.Finding.TheVariants as finding
+use Rattle.pg_gate.specs.declared.print.reply.Readings.{Readings}
 use Rattle.pg_gate.specs.declared.answer.step.NamedField.{NamedField}
 use Rattle.pg_gate.specs.declared.answer.step.Step.{Step}
 use Rattle.pg_gate.specs.declared.answer.verified.Verified.{Verified}
@@ -70,12 +71,18 @@ shown_of name witness (verdicts.AtLeast n) = codes "bound " ++ (name ++ (codes "
 abbrev pub verified_of : Verified → Text
 verified_of verified = shown_of (string_bytes verified.name) verified.length verified.verdict
 
--- `compatible NAME`; `breaks NAME LENGTH`, `witness HEX` and the steps; a certificate's text alone; or what a certificate shows
+-- `old` and the lines of the reading by the old type, and then `new` and those by the new one
+abbrev pub readings_of : Option Readings → Text
+readings_of (Some readings) = (codes "old" ++ line_end) ++ (string_bytes readings.old ++ ((codes "new" ++ line_end) ++ string_bytes readings.new))
+readings_of None = []
+
+-- `compatible NAME`; `breaks NAME LENGTH`, `witness HEX`, the steps, and the two readings where they are asked for; a certificate's text
+-- alone; or what a certificate shows
 abbrev pub finding_of : Text → Finding → Text
 finding_of root finding.Compatible = codes "compatible " ++ (root ++ line_end)
-finding_of root (finding.Breaks witness steps) =
+finding_of root (finding.Breaks witness steps readings) =
     codes "breaks " ++ (root ++ (codes " " ++ (decimal (length witness.items) ++ (line_end
-    ++ (codes "witness " ++ (hex_of witness.items ++ (line_end ++ steps_of steps.items)))))))
+    ++ (codes "witness " ++ (hex_of witness.items ++ (line_end ++ (steps_of steps.items ++ readings_of readings))))))))
 finding_of root (finding.Certified text breaks) = string_bytes text
 finding_of root (finding.Verified verified) = verified_of verified
 

@@ -44,7 +44,7 @@ pub record IsHeld (old new : Parts) (bytes : Text) (verified : Verified) : Type 
 -- what is found of a certificate's bytes
 abbrev pub IsHeldBy : Parts → Parts → Text → Finding → Type 0
 IsHeldBy old new bytes findings.Compatible = ⊥
-IsHeldBy old new bytes (findings.Breaks witness steps) = ⊥
+IsHeldBy old new bytes (findings.Breaks witness steps readings) = ⊥
 IsHeldBy old new bytes (findings.Certified text breaks) = ⊥
 IsHeldBy old new bytes (findings.Verified verified) = IsHeld old new bytes verified
 

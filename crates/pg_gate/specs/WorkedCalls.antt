@@ -10,7 +10,7 @@ abbrev pub gate_words : List Text → List Text
 gate_words more = codes "gate" ∷ codes "--old" ∷ codes "o" ∷ codes "--new" ∷ codes "n" ∷ codes "--type" ∷ codes "M" ∷ more
 
 abbrev pub gate_by : ViewName → Request
-gate_by view = gate (record { old_dir = codes "."; new_dir = codes "."; old = codes "o"; new = codes "n" }) (codes "M") false false view
+gate_by view = gate (record { old_dir = codes "."; new_dir = codes "."; old = codes "o"; new = codes "n" }) (codes "M") false false false view
 
 pub record WorkedCalls : Type 0 where
   pub by_numbers : CallsFor (gate_words (codes "--view" ∷ codes "numbers" ∷ [])) (Some (gate_by views.Numbers))

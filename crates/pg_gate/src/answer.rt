@@ -4,6 +4,7 @@ pub(crate) mod both_sides;
 pub(crate) mod compile;
 pub(crate) mod cursor;
 pub(crate) mod dispatch;
+pub(crate) mod explaining;
 pub(crate) mod gate;
 pub(crate) mod places;
 pub(crate) mod sets;

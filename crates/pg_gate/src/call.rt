@@ -16,12 +16,13 @@ pub(crate) enum Call<'a> {
     },
     /// What a reader of the new type sees of the messages that a writer of the old one writes, with
     /// enums compared by the view; the certificate alone where that is asked for, and else both
-    /// directions where these are.
+    /// directions where these are, and what breaks explained where that is.
     Gate {
         sides: Sides<'a>,
         root: &'a str,
         certificate_only: bool,
         both: bool,
+        explain: bool,
         view: ViewName,
     },
     /// The message that the bytes of this word are read as, by the type of this full name in the

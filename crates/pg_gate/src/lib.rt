@@ -20,7 +20,7 @@ pub use pg_link::{LinkError, Listed, Place, SourceError, Sources};
 pub use print::buffer::Buffer;
 pub use print::location::Location;
 pub use print::refusal::Refusal;
-pub use print::reply::{Finding, Reply};
+pub use print::reply::{Finding, Readings, Reply};
 pub use print::sink::{Sink, SinkError, write_all};
 pub use print::standard_output::StandardOutput;
 pub use program::run;

@@ -13,6 +13,7 @@ ghost use Rattle.pg_link.specs.Walk.{world};
 
 use crate::answer::both_sides::{SideFiles, compile_both};
 use crate::answer::compile::Compiled;
+use crate::answer::explaining::explained;
 use crate::answer::gate::gate_with;
 use crate::answer::showing::shown;
 use crate::answer::stepping::steps;
@@ -37,25 +38,34 @@ struct Asked<'a> {
     root: &'a str,
     certificate_only: bool,
     both: bool,
+    explain: bool,
     view: ViewName,
 }
 
-/// What is reported of the answer with this certificate: the witness's bytes and steps, if any.
+/// What is reported of the answer with this certificate: the witness's bytes and steps, if any, and
+/// on request its readings.
 fn told(
     alloc: Global,
     old: &Compiled,
     new: &Compiled,
     certificate: &Certificate,
+    explain: bool,
 ) -> Result<Finding, AllocError>
-    requires { IsSearched (view_in old.now.schema new.now.schema certificate.now)
+    requires searched { IsSearched (view_in old.now.schema new.now.schema certificate.now)
         (shape_of old.now.schema) (shape_of new.now.schema) certificate.now.root certificate.now }
-    ensures { IfOk result (TellsAnswer old.now.schema new.now.schema certificate.now) }
+    requires claim { IsClaimOf old.now.schema new.now.schema certificate.now }
+    ensures { IfOk result (TellsAnswer old.now.schema new.now.schema certificate.now explain) }
 {
     match certificate.witness() {
-        Some(bytes) => Ok(Finding::Breaks {
-            witness: Vec::from_slice(alloc, bytes)?,
-            steps: steps(alloc, old, new, certificate)?,
-        }),
+        Some(bytes) => {
+            let root = certificate.root();
+            let readings = explained(alloc, &old.schema, &new.schema, root, bytes, explain)?;
+            Ok(Finding::Breaks {
+                witness: Vec::from_slice(alloc, bytes)?,
+                steps: steps(alloc, old, new, certificate)?,
+                readings,
+            })
+        }
         None => Ok(Finding::Compatible),
     }
 }
@@ -83,16 +93,18 @@ fn finding_of(
     new: &Compiled,
     certificate: &Certificate,
     certificate_only: bool,
+    explain: bool,
 ) -> Result<Finding, AllocError>
     requires searched { IsSearched (view_in old.now.schema new.now.schema certificate.now)
         (shape_of old.now.schema) (shape_of new.now.schema) certificate.now.root certificate.now }
     requires claim { IsClaimOf old.now.schema new.now.schema certificate.now }
-    ensures { IfOk result (Tells old.now.schema new.now.schema certificate.now certificate_only) }
+    ensures { IfOk result (Tells old.now.schema new.now.schema certificate.now certificate_only
+        explain) }
 {
     if certificate_only {
         certified(alloc, &old.schema, &new.schema, certificate)
     } else {
-        told(alloc, old, new, certificate)
+        told(alloc, old, new, certificate, explain)
     }
 }
 
@@ -103,17 +115,19 @@ fn one_way(
     new: &Compiled,
     root: &str,
     certificate_only: bool,
+    explain: bool,
     view: ViewName,
 ) -> Result<Finding, GateError>
     ensures found { IfOk result (IsFindingOf view old.now.schema new.now.schema root.now
-        certificate_only) }
+        certificate_only explain) }
     ensures refused { IfErr result (IsRefusedRoot old.now.schema new.now.schema root.now) }
 {
     // What holds of every schema.
     old.schema.parts();
     new.schema.parts();
     let answer = gate_with(alloc, &old.schema, &new.schema, root, view)?;
-    let finding = finding_of(alloc, old, new, answer.certificate(), certificate_only)?;
+    let certificate = answer.certificate();
+    let finding = finding_of(alloc, old, new, certificate, certificate_only, explain)?;
     Ok(finding)
 }
 
@@ -126,17 +140,18 @@ fn between(
     root: &str,
     certificate_only: bool,
     both: bool,
+    explain: bool,
     view: ViewName,
 ) -> Result<Reply, GateError>
     ensures found { IfOk result (IsGateReply view old.now.schema new.now.schema root.now
-        certificate_only both) }
+        certificate_only both explain) }
     ensures refused { IfErr result (IsRefusedRoot old.now.schema new.now.schema root.now) }
 {
-    let forward = one_way(alloc, old, new, root, certificate_only, view)?;
+    let forward = one_way(alloc, old, new, root, certificate_only, explain, view)?;
     if certificate_only || !both {
         return Ok(Reply::Found(forward));
     }
-    let backward = one_way(alloc, new, old, root, false, view)?;
+    let backward = one_way(alloc, new, old, root, false, explain, view)?;
     Ok(Reply::Both { forward, backward })
 }
 
@@ -153,7 +168,7 @@ fn find<S: Sources, T: Sources>(
         (world (T.may_give new.old) (T.may_lack new.old)
         asked.now.sides.now.new_dir.now (asked.now.sides.now.new.now ∷ []))
         (λ a b. IsGateReply asked.now.view a b asked.now.root.now asked.now.certificate_only
-        asked.now.both reply)) }
+        asked.now.both asked.now.explain reply)) }
     ensures refused { IfErr result (IsGateError asked.now.root.now
         (world (S.may_give old.old) (S.may_lack old.old)
         asked.now.sides.now.old_dir.now (asked.now.sides.now.old.now ∷ []))
@@ -190,6 +205,7 @@ fn find<S: Sources, T: Sources>(
         asked.root,
         asked.certificate_only,
         asked.both,
+        asked.explain,
         asked.view,
     )
 }
@@ -219,6 +235,7 @@ fn reply_to<S: Sources, T: Sources>(
             root,
             certificate_only,
             both,
+            explain,
             view,
         } => {
             let asked = Asked {
@@ -226,6 +243,7 @@ fn reply_to<S: Sources, T: Sources>(
                 root,
                 certificate_only: *certificate_only,
                 both: *both,
+                explain: *explain,
                 view: *view,
             };
             Ok(find(alloc, &asked, old, new)?)

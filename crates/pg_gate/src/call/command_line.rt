@@ -38,6 +38,8 @@ const GATE_ANSWERS: &str = "Prints lines:
   witness HEX           one of these, behind breaks
   step NUMBER OLDFIELD OLDPLACE NEWFIELD NEWPLACE
                         each field on the way to what breaks in it
+  old, new              with --explain, behind these: before the lines of `show` for HEX by the type
+                        of that side, or its refusal's
   forward, backward     with --both, before the lines of either direction
   refused SIDE CODE PLACE
                         no answer, for a fault of the old or the new side; `man protogate` has each code
@@ -233,6 +235,11 @@ fn gate_command<'a>(alloc: Global, views: &'a [&'a str]) -> Result<Command<'a>, 
             "both",
             "Ask for both directions; with --cert it does nothing",
         ))?
+        .arg(flag(
+            alloc,
+            "explain",
+            "Show what breaks as both sides read it; with --cert it does nothing",
+        ))?
         .arg(among(
             alloc,
             "view",
@@ -389,6 +396,7 @@ fn gate_call<'a>(found: &ArgMatches<'a>) -> Call<'a>
         root: text(found, "type"),
         certificate_only: is_set(found, "cert"),
         both: is_set(found, "both"),
+        explain: is_set(found, "explain"),
         view: view(found, "view"),
     }
 }

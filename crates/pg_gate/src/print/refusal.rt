@@ -9,6 +9,7 @@ use crate::call::Call;
 use crate::call::error::{CallError, SOURCE_FAILED};
 use crate::error::{GateError, Side};
 use crate::print::location::{Location, location_of, location_of_certificate, location_of_fault};
+use pg_dyn::DynError;
 use std::fmt;
 
 /// A refusal: the side that was compiled, the code's number, and where the fault is.
@@ -74,6 +75,13 @@ fn refusal_with(code: u16, error: CallError) -> Option<Refusal>
         CallError::Certificate(fault) => Some(alone(code, location_of_certificate(fault))),
         CallError::Bytes(error) => Some(alone(code, location_of(error.at()))),
     }
+}
+
+/// The refusal that is printed for bytes that aren't shown.
+pub(crate) fn refusal_of_bytes(error: DynError) -> Refusal
+    ensures { result ≡ refusals.refusal_of_bytes error }
+{
+    alone(error.code(), location_of(error.at()))
 }
 
 /// The refusal that is printed for an error of a call, if any is.

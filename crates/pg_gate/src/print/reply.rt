@@ -30,13 +30,31 @@ pub enum Finding {
     /// No message breaks.
     Compatible,
     /// The bytes of a message that breaks, and the fields on its path, root first. None that breaks
-    /// has fewer.
-    Breaks { witness: Vec<u8>, steps: Vec<Step> },
+    /// has fewer. Where that is asked for, as both sides read it.
+    Breaks {
+        witness: Vec<u8>,
+        steps: Vec<Step>,
+        readings: Option<Readings>,
+    },
     /// The text of the certificate, and whether a message breaks.
-    Certified { text: String, breaks: bool },
+    Certified {
+        text: String,
+        breaks: bool,
+    },
     /// What a certificate shows.
     Verified(Verified),
 }
+
+/// What `show` prints of a message's bytes by the old and by the new type: its lines, or a refusal.
+#[derive(Debug, Drop)]
+pub struct Readings {
+    pub old: String,
+    pub new: String,
+}
+
+/// The lines of readings, where there are some.
+#[derive(Clone, Copy)]
+struct ReadingLines<'a>(&'a Option<Readings>);
 
 /// What is found of the types of this name. A certificate names its own.
 #[derive(Clone, Copy)]
@@ -131,6 +149,17 @@ impl Finding {
     }
 }
 
+impl fmt::Display for ReadingLines<'_> {
+    ghost output = { λ it. Some (spec.readings_of it.0.now) };
+
+    fn fmt<W: fmt::Write>(&self, f: &mut fmt::Formatter<W>) -> fmt::Result {
+        match self.0 {
+            Some(readings) => write!(f, "old\n{}new\n{}", readings.old, readings.new),
+            None => Ok(()),
+        }
+    }
+}
+
 impl fmt::Display for Report<'_> {
     ghost output = { λ it. Some (spec.finding_of it.root.now it.finding.now) };
 
@@ -138,13 +167,18 @@ impl fmt::Display for Report<'_> {
         let root = self.root;
         match self.finding {
             Finding::Compatible => writeln!(f, "compatible {root}"),
-            Finding::Breaks { witness, steps } => {
+            Finding::Breaks {
+                witness,
+                steps,
+                readings,
+            } => {
                 let length = witness.len();
                 let witness = Hex(witness);
                 let steps = Steps(steps);
+                let readings = ReadingLines(readings);
                 writeln!(f, "breaks {root} {length}")?;
                 writeln!(f, "witness {witness}")?;
-                write!(f, "{steps}")
+                write!(f, "{steps}{readings}")
             }
             Finding::Certified { text, .. } => write!(f, "{text}"),
             Finding::Verified(verified) => write!(f, "{verified}"),

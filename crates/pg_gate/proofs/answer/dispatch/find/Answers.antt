@@ -33,7 +33,7 @@ returns-clause-found g c =
     let old = world (g.S.Sources.may_give c.args.old.now) (g.S.Sources.may_lack c.args.old.now) c.args.asked.now.sides.now.old_dir.now (c.args.asked.now.sides.now.old.now ∷ []) in
     let new = world (g.T.Sources.may_give c.args.new.now) (g.T.Sources.may_lack c.args.new.now) c.args.asked.now.sides.now.new_dir.now (c.args.asked.now.sides.now.new.now ∷ []) in
     let both = c.in_ok-both.both in
-    IfOk-weaker c.between.result _ _ (λ reply is. reply_of_files c.args.asked.now.root.now old new both.old.schema both.new.schema c.in_ok-both.ensures.old_compiled c.in_ok-both.ensures.new_compiled c.args.asked.now.view c.args.asked.now.certificate_only c.args.asked.now.both reply is) c.between.ensures.found
+    IfOk-weaker c.between.result _ _ (λ reply is. reply_of_files c.args.asked.now.root.now old new both.old.schema both.new.schema c.in_ok-both.ensures.old_compiled c.in_ok-both.ensures.new_compiled c.args.asked.now.view c.args.asked.now.certificate_only c.args.asked.now.both c.args.asked.now.explain reply is) c.between.ensures.found
 
 pub returns-clause-refused : goal.returns-clause-refused
 returns-clause-refused g c =

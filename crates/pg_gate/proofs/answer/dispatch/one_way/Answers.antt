@@ -12,19 +12,19 @@ pub finding_of-requires-clause-searched : goal.finding_of-requires-clause-search
 finding_of-requires-clause-searched c =
     let old = c.args.old.now.schema in
     let new = c.args.new.now.schema in
-    subst (λ (claim : Claim). IsSearched (view_in old new claim) (shape_of old) (shape_of new) claim.root claim) (sym c.certificate.ensures)
+    subst (λ (claim : Claim). IsSearched (view_in old new claim) (shape_of old) (shape_of new) claim.root claim) (sym c.certificate-certificate.ensures)
     (searched_by c.args.view old new c.args.root.now c.in_ok-answer.answer c.in_ok-answer.ensures.answer)
 
 pub finding_of-requires-clause-claim : goal.finding_of-requires-clause-claim
 finding_of-requires-clause-claim c =
     let old = c.args.old.now.schema in
     let new = c.args.new.now.schema in
-    subst (λ (claim : Claim). IsClaimOf old new claim) (sym c.certificate.ensures)
+    subst (λ (claim : Claim). IsClaimOf old new claim) (sym c.certificate-certificate.ensures)
     (claim_of_answer c.args.view old new c.args.root.now c.parts.ensures.checked.shape c.parts-2.ensures.checked.shape c.in_ok-answer.answer c.in_ok-answer.ensures.answer)
 
 pub returns-clause-found : goal.returns-clause-found
 returns-clause-found c =
     let old = c.args.old.now.schema in
     let new = c.args.new.now.schema in
-    found_by c.args.view old new c.args.root.now c.in_ok-answer.answer c.args.certificate_only c.in_ok-finding.finding c.in_ok-answer.ensures.answer
-    (subst (λ (claim : Claim). Tells old new claim c.args.certificate_only c.in_ok-finding.finding) c.certificate.ensures c.in_ok-finding.ensures)
+    found_by c.args.view old new c.args.root.now c.in_ok-answer.answer c.args.certificate_only c.args.explain c.in_ok-finding.finding c.in_ok-answer.ensures.answer
+    (subst (λ (claim : Claim). Tells old new claim c.args.certificate_only c.args.explain c.in_ok-finding.finding) c.certificate-certificate.ensures c.in_ok-finding.ensures)

@@ -17,4 +17,5 @@ returns c =
     let with_5 = with_arg c.in_ok-arg-5.field-0 with_4 c.named-3.ensures.rule c.named-3.ensures.local (c.in_ok-arg-5.ensures.shape c.named-3.ensures.local) c.in_ok-arg-5.ensures.globals in
     let with_6 = with_arg c.in_ok-arg-6.field-0 with_5 c.flag.ensures.rule c.flag.ensures.local (c.in_ok-arg-6.ensures.shape c.flag.ensures.local) c.in_ok-arg-6.ensures.globals in
     let with_7 = with_arg c.in_ok-arg-7.field-0 with_6 c.flag-2.ensures.rule c.flag-2.ensures.local (c.in_ok-arg-7.ensures.shape c.flag-2.ensures.local) c.in_ok-arg-7.ensures.globals in
-    IfOk-weaker c.arg-8.result _ _ (λ r adds. with_arg r with_7 c.among.ensures.rule c.among.ensures.local (adds.shape c.among.ensures.local) adds.globals) c.arg-8.ensures
+    let with_8 = with_arg c.in_ok-arg-8.field-0 with_7 c.flag-3.ensures.rule c.flag-3.ensures.local (c.in_ok-arg-8.ensures.shape c.flag-3.ensures.local) c.in_ok-arg-8.ensures.globals in
+    IfOk-weaker c.arg-9.result _ _ (λ r adds. with_arg r with_8 c.among.ensures.rule c.among.ensures.local (adds.shape c.among.ensures.local) adds.globals) c.arg-9.ensures
