@@ -106,6 +106,20 @@ def chain(scalar, last):
     return lines("message C0 { %s a = 1; }" % scalar, *holders)
 
 
+def chain_readings(last, witness):
+    """How both sides read the witness of such a chain: as 2^31 and as -2^31, or neither where the number stands deeper than 100 levels."""
+    if last >= 100:
+        # The fault stands at the innermost message's record, of eight bytes.
+        refused = "refused E608 at %d\n" % (len(witness) - 8)
+        return "old\n%snew\n%s" % (refused, refused)
+    again = b"\x08" + varint(2**64 - 2**31)
+    for _ in range(last):
+        again = inside(again)
+    opened = "".join("  " * depth + "1 n msg\n" for depth in range(last))
+    old, new = (opened + "  " * last + "1 a int %d\nagain %s\n" % (it, written.hex()) for it, written in ((2**31, witness), (-(2**31), again)))
+    return "old\n%snew\n%s" % (old, new)
+
+
 def chain_rows(last):
     """A number past the sign bit at the end of a chain."""
     old, new, root = chain("uint32", last), chain("int32", last), "C%d" % last
@@ -121,6 +135,8 @@ def chain_rows(last):
     what = "a chain of %d messages" % (last + 1)
     row(what, "gate %s --type %s" % (TEXTS, root), *sides, 1, breaks + "witness %s\n" % witness.hex() + steps)
     row(what + ", its table", "gate %s --type %s --cert" % (TEXTS, root), *sides, 1, written)
+    row(what + ", explained", "gate %s --type %s --explain" % (TEXTS, root), *sides, 1,
+        breaks + "witness %s\n" % witness.hex() + steps + chain_readings(last, witness))
     row(what + ", its table checked", "verify %s c" % TEXTS, files(("m.proto", old), ("c", written)), sides[1], 1, breaks)
 
 
