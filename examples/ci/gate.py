@@ -35,8 +35,6 @@ PLACE = r"(-|.+:\d+:\d+)"
 STEP = re.compile(rf"step (\d+) (\S+) {PLACE} (\S+) {PLACE}")
 # As many hexadecimal digits of a witness are printed; the record has them all.
 SHOWN_DIGITS = 400
-# The system takes no longer word on a command line, in bytes.
-LONGEST_WORD = 131_000
 
 
 class Stop(Exception):
@@ -188,13 +186,17 @@ def lay_out(revision, folder, room):
 
 def answers_in(said, status):
     """Returns what the gate says: of each direction its verdict, or the line of a refusal. Lines that aren't whole are no answer."""
-    answers, direction = [], "forward"
+    answers, direction, reading = [], "forward", None
     statuses = {"compatible": 0, "breaks": 1, "refused": status}
     for line in said.split("\n"):
         first, _, rest = line.partition(" ")
         step = STEP.fullmatch(line)
         if line in ("forward", "backward"):
-            direction = line
+            direction, reading = line, None
+        elif line in ("old", "new") and answers:
+            reading = answers[-1].setdefault("readings", {}).setdefault(line, [])
+        elif reading is not None:
+            reading.append(line)
         elif first in ("compatible", "breaks", "refused"):
             answers.append({"direction": direction, "verdict": first, "said": rest, "steps": [], "status": statuses[first]})
         elif first == "witness":
@@ -202,32 +204,26 @@ def answers_in(said, status):
         elif step:
             names = ("number", "old", "old_place", "new", "new_place")
             answers[-1]["steps"].append(dict(zip(names, step.groups())))
-    is_whole = all(it["verdict"] != "breaks" or it["steps"] and "witness" in it for it in answers)
+    is_whole = all(it["verdict"] != "breaks" or it["steps"] and "witness" in it and len(it.get("readings", "")) == 2 for it in answers)
     if not is_whole or max([it["status"] for it in answers], default=None) != status:
         raise Stop(3, f"protogate ended with {status}, and it isn't clear what its lines say: {said[:500]}")
     return answers
-
-
-def shown(side, file, name, witness):
-    """Returns the lines by which a side's type reads the witness."""
-    if len(witness) > LONGEST_WORD:
-        return "the witness is too long for a command line"
-    _, said = protogate("show", *side.words(file, "--dir", "--file"), "--type", name, witness or "-")
-    return os.fsdecode(said)
 
 
 def gate_type(name, old, new, files, options):
     """Returns the answers for a type: one, or with --both one a direction, with the witness as each side reads it."""
     old_file, new_file = files
     sides = old.words(old_file, "--old-dir", "--old") + new.words(new_file, "--new-dir", "--new")
-    status, said = protogate("gate", *sides, "--type", name, *options)
+    status, said = protogate("gate", *sides, "--type", name, "--explain", *options)
     answers = answers_in(os.fsdecode(said), status)
     for answer in answers:
         answer.update({"type": name, "old_file": old_file, "new_file": new_file})
         if answer["verdict"] == "breaks":
             answer["length"] = int(answer["said"].split()[-1])
-            answer["readings"] = {it.name: shown(it, file, name, answer["witness"]) for it, file in zip((old, new), files)}
-        # Backward the sides of a step are exchanged: here 'old' is always the old side's field.
+            answer["readings"] = {side: "".join(f"{it}\n" for it in lines if it) for side, lines in answer["readings"].items()}
+        # Backward the sides are exchanged: here 'old' is always the old side's reading and field.
+        if answer["verdict"] == "breaks" and answer["direction"] == "backward":
+            answer["readings"] = dict(old=answer["readings"]["new"], new=answer["readings"]["old"])
         for step in answer["steps"]:
             if answer["direction"] == "backward":
                 step.update(old=step["new"], new=step["old"], old_place=step["new_place"], new_place=step["old_place"])
