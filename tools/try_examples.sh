@@ -252,7 +252,7 @@ try_memory() {
     "$program" gate $sides --type Order --cert >Order.cert
     try_refused_memory compile --dir examples/new order.proto
     try_refused_memory gate $sides --type Order
-    try_refused_memory gate $sides --type Order --both
+    try_refused_memory gate $sides --type Order --both --explain
     try_refused_memory gate $sides --type Order --cert
     try_refused_memory gate $sides --type Nothing
     try_refused_memory verify $sides Order.cert

@@ -62,6 +62,8 @@ CALLS = [
     Call("gate, a sign inside a message", BOTH + "N", nested("uint32 a = 1;"), nested("int32 a = 1;"), "", 1, SIGNED_INSIDE),
     Call("gate, a oneof", BOTH + "M", message("int32 a = 1; int32 b = 2;"), message("oneof k { int32 a = 1; int32 b = 2; }"), "", 1, ONEOF),
     Call("gate, a map", BOTH + "M", message("map<uint32, string> a = 1;"), message("map<int32, string> a = 1;"), "", 1, MAP),
+    Call("gate, explained", f"gate {SIDES} --explain --type M", message("bytes a = 1;"), message("string a = 1;"), "", 1,
+         "breaks M 3\nwitness 0a0180\n" + step(1, "M.a", "2:19", "2:20") + "old\n1 a bytes 80\nagain 0a0180\nnew\nrefused E604 at 0\n"),
     Call("verify, it holds", f"verify {SIDES} c", ONE, UNSIGNED, certificate(11, MINUS_ONE), 1, "breaks M 11\n"),
     Call("verify, a bound too high", f"verify {SIDES} c", ONE, UNSIGNED, certificate(12, MINUS_ONE), 2, "refused E804 M M 1 2\n"),
     Call("verify, a witness not written", f"verify {SIDES} c", ONE, UNSIGNED, certificate(11, "0800" + MINUS_ONE), 2, "refused E805\n"),

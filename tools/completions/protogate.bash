@@ -30,7 +30,7 @@ _protogate() {
     fi
     case $command in
         compile) options+=' --dir' ;;
-        gate) options+=' --old-dir --new-dir --old --new --type --view --both --cert' ;;
+        gate) options+=' --old-dir --new-dir --old --new --type --view --both --cert --explain' ;;
         verify) options+=' --old-dir --new-dir --old --new' ;;
         show) options+=' --dir --file --type' ;;
         types) options+=' --dir --file' ;;

@@ -35,6 +35,7 @@ end
 complete -c protogate -n '__fish_seen_subcommand_from gate show' -l type -x -d 'the full name of the message type'
 complete -c protogate -n '__fish_seen_subcommand_from gate' -l view -x -a 'numbers names' -d 'how enums are compared'
 complete -c protogate -n '__fish_seen_subcommand_from gate' -l both -d 'ask for both directions'
+complete -c protogate -n '__fish_seen_subcommand_from gate' -l explain -d 'show what breaks as both sides read it'
 complete -c protogate -n '__fish_seen_subcommand_from gate' -l cert -d 'print the certificate'
 complete -c protogate -n '__fish_seen_subcommand_from compile show types' -l dir -x -a '(__fish_complete_directories)' -d 'the folder of the files'
 complete -c protogate -n '__fish_seen_subcommand_from show types' -l file -x -a '(__protogate_files --dir)' -d 'a text, or a descriptor set'

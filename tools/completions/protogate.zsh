@@ -36,7 +36,8 @@ _protogate() {
         compile) _arguments '--help[print help]' '--dir[the folder of the files]:folder:_files -/' '*:file:_protogate_files --dir' ;;
         gate)
             _arguments '--help[print help]' $old_and_new '--type[the full name of the message type]:type: ' \
-                '--view[how enums are compared]:view:(numbers names)' '--both[ask for both directions]' '--cert[print the certificate]'
+                '--view[how enums are compared]:view:(numbers names)' '--both[ask for both directions]' '--cert[print the certificate]' \
+                '--explain[show what breaks as both sides read it]'
             ;;
         verify) _arguments '--help[print help]' $old_and_new ':certificate:_files' ;;
         show)
