@@ -1,7 +1,13 @@
 //! The calls of searches.
+ghost use Rattle.std.specs.Prelude.{◌≡◌, is_some, true};
+ghost use Rattle.pg_schema.specs.Parts.{shape_of};
+ghost use Rattle.pg_cert.specs.ClaimView.{view_in};
+ghost use Rattle.pg_least.specs.Exact.{IsSearched};
+
 use crate::searches::{beside, beside_by, shown_by, shown_search, steps_of, witness_of};
 use crate::shown;
 use crate::spelled::pair_of;
+use pg_cert::Certificate;
 use pg_least::{find, find_with, path, search, search_counted, search_with};
 use pg_pairs::laws::numbers_are_alike;
 use pg_pairs::{Names, Pair};
@@ -71,6 +77,21 @@ fn counted(rt: &HostRuntime, old: &Schema, new: &Schema, root: Pair) -> io::Resu
     Ok(shown::work(rt.alloc(), &work)?)
 }
 
+/// The steps of a certificate that was searched and has a witness.
+fn steps_again(
+    rt: &HostRuntime,
+    old: &Schema,
+    new: &Schema,
+    certificate: &Certificate,
+) -> io::Result<String>
+    requires searched { IsSearched (view_in old.now new.now certificate.now) (shape_of old.now)
+        (shape_of new.now) certificate.now.root certificate.now }
+    requires breaks { is_some certificate.now.witness ≡ true }
+{
+    let steps = retry!(rt, Err(AllocError), path(rt.alloc(), old, new, certificate))?;
+    Ok(steps_of(rt.alloc(), &steps)?)
+}
+
 fn stepped(rt: &HostRuntime, old: &Schema, new: &Schema, root: Pair) -> io::Result<String> {
     if !old.has(root.old) || !new.has(root.new) {
         return Ok(String::from_str(rt.alloc(), "no such type")?);
@@ -81,12 +102,7 @@ fn stepped(rt: &HostRuntime, old: &Schema, new: &Schema, root: Pair) -> io::Resu
     if certificate.witness().is_none() {
         return Ok(String::from_str(rt.alloc(), "no witness")?);
     }
-    let steps = retry!(
-        rt,
-        Err(AllocError),
-        path(rt.alloc(), old, new, &certificate)
-    )?;
-    Ok(steps_of(rt.alloc(), &steps)?)
+    steps_again(rt, old, new, &certificate)
 }
 
 /// Each call is named as it is, of which `search_with` and `find_with` are by names; `counts` is
