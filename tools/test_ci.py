@@ -199,6 +199,7 @@ class Answers(Repository):
         status, said = self.call("v1", "proto", "--both", "--github")
         self.assertEqual((status, said[:2]), (1, says))
         self.assertIn("file=proto/a.proto,title=protogate%3A breaks A,line=3,col=8::", said[2])
+        self.assertIn("The old side reads:%0A1 a int -2147483648", said[2])
 
     def test_names_of_enums(self):
         if b"--view" not in subprocess.run([PROGRAM, "gate", "--help"], stdout=subprocess.PIPE).stdout:

@@ -118,6 +118,11 @@ try_manual() {
 breaks shop.Order 3
 witness 220180
 step 4 shop.Order.note order.proto:7:9 shop.Order.note order.proto:7:10
+old
+4 note bytes 80
+again 220180
+new
+refused E604 at 0
 status 1
 status 1
 breaks shop.Order 3
