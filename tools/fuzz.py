@@ -13,7 +13,7 @@ just what docs/USAGE.md and docs/REFUSALS.md say of that subcommand and status. 
 
 - text, set: the certificate of `gate --cert` passes `verify`, with the same status and the length of its root, and names the view that was
   asked for, by numbers or by names. Of one in eight `gate` without `--cert` says the same; of one in sixteen `--both` begins with that, the
-  witness has its length, and the old side reads it and writes it again. Of one in eight `types` names the types of the changed side, each
+  witness has its length, the old side reads it and writes it again, and `--explain` says what `show` says of it. Of one in eight `types` names the types of the changed side, each
   by its full name and the one that was asked for among them where the gate answers; it refuses what `gate` refuses of that side
 - text: of one in four, what `compile` refuses, `gate` refuses alike; the set that `compile` writes is one for `show`, or, of one in
   sixteen, for protoc where it is there
@@ -199,14 +199,21 @@ def spread(random_, change, data, other):
     return data
 
 
-def judge_witness(room, sides, type_, said):
-    """Compares a witness with its length, and asks that the old side reads it and writes it again, where it isn't too deep for `show`."""
-    words = said.split()
-    length, witness = int(words[2]), words[4]
+def shown_by(room, sides, side, type_, witness):
+    """Returns what `show` prints of bytes by the type of a side."""
+    return room.run(["show", "--dir", side, "--file", sides[sides.index(f"--{side}") + 1], "--type", type_, witness.decode()])[1]
+
+
+def judge_witness(room, words, sides, type_, said):
+    """Compares a witness with its length, asks that the old side reads it and writes it again, where it isn't too deep for `show`, and
+    compares what `--explain` prints with `show` by both sides."""
+    length, witness = int(said.split()[2]), said.split()[4]
     expect(len(witness) == 2 * length, f"length and witness: {quoted(said)}")
-    shown = room.run(["show", "--dir", "old", "--file", sides[sides.index("--old") + 1], "--type", type_, witness.decode()])[1]
-    is_deep = shown.startswith(b"refused E608")
-    expect(is_deep or shown.endswith(b"again %s\n" % witness) and b"unknown" not in shown, f"{quoted(said)} shown: {quoted(shown)}")
+    old, new = (shown_by(room, sides, it, type_, witness) for it in ("old", "new"))
+    is_deep = old.startswith(b"refused E608")
+    expect(is_deep or old.endswith(b"again %s\n" % witness) and b"unknown" not in old, f"{quoted(said)} shown: {quoted(old)}")
+    explained = room.run([*words, "--explain"], "explained")[1]
+    expect(explained == said + b"old\n" + old + b"new\n" + new, f"explained: {quoted(explained)}, shown: {quoted(old)} {quoted(new)}")
 
 
 def view_of(certificate):
@@ -224,12 +231,12 @@ def claim_of(certificate):
 
 
 def judge_answer(room, words, sides, type_, said):
-    """Compares an answer of the gate with that in both directions, and its witness with what the old side makes of it."""
+    """Compares an answer of the gate with that in both directions, and its witness with what both sides make of it."""
     both, answers = room.run([*words, "--both"], "both")
     expect(answers.startswith(b"forward\n" + said), f"gate: {quoted(said)}, with --both: {quoted(answers)}")
     if said.startswith(b"breaks"):
         expect(both == 1, f"gate: {quoted(said)}, status {both} with --both")
-        judge_witness(room, sides, type_, said)
+        judge_witness(room, words, sides, type_, said)
 
 
 def judge_certificate(room, words, sides, status, certificate):

@@ -26,6 +26,9 @@ BREAKS = rb"breaks %s %s\nwitness %s\n(?:%s)+" % (NAME, NUMBER, HEX, STEP)
 ITEM = rb"(?:int -?\d+|f32 [0-9a-f]{8}|f64 [0-9a-f]{16}|(?:text|bytes) %s|msg)" % BYTES
 SHOWN = rb"(?:  )*(?:%s %s (?:key %s value )?%s|unknown %s)\n" % (NUMBER, WORD, ITEM, ITEM, HEX)
 
+# What `show` prints of bytes, or the refusal of their reader.
+READING = rb"(?:(?:%s)*again %s\n|refused (?:%s)\n)" % (SHOWN, BYTES, BYTES_FAULT)
+
 CERTIFICATE = rb"protogate-certificate 2\nview (?:numbers|names)\nroot %s %s\n(?:pair %s %s (?:none|%s)\n)+" % (NAME, NAME, NAME, NAME, NUMBER)
 
 
@@ -47,6 +50,7 @@ FORMS = {
                     2: refused(OF_A_SIDE, NO_ROOT), 3: refused(FAILED_OF_A_SIDE)},
     "both": {0: rb"forward\n%sbackward\n%s" % (COMPATIBLE, COMPATIBLE),
              1: rb"forward\n(?:%s|%s)backward\n(?:%s|%s)" % (COMPATIBLE, BREAKS, COMPATIBLE, BREAKS)},
+    "explained": {1: BREAKS + rb"old\n%snew\n%s" % (READING, READING)},
     "verify": {0: COMPATIBLE, 1: rb"breaks %s %s\n" % (NAME, NUMBER), 2: refused(OF_A_SIDE, NOT_PROVED),
                3: refused(FAILED_OF_A_SIDE), 5: rb"bound %s %s\n" % (NAME, NUMBER)},
     "show": {0: rb"(?:%s)*again %s\n" % (SHOWN, BYTES), 2: refused(FAULT, rb"E90[15]"), 3: refused(FAILED)},
