@@ -9,11 +9,15 @@ use rows::{retry, text_of};
 use std::alloc::AllocError;
 use std::io;
 
+fn lexed_of(rt: &HostRuntime, text: &[u8]) -> io::Result<String> {
+    let found = retry!(rt, Err(LexError::Memory), lex(rt.alloc(), text));
+    Ok(shown_tokens(rt.alloc(), text, found)?)
+}
+
 /// `tokens | TEXT`: `lex`.
 pub fn lexed(rt: &HostRuntime, spelled: &str) -> io::Result<String> {
     let text = text_of(rt.alloc(), spelled)?;
-    let found = retry!(rt, Err(LexError::Memory), lex(rt.alloc(), &text));
-    Ok(shown_tokens(rt.alloc(), &text, found)?)
+    lexed_of(rt, &text)
 }
 
 fn parsed_of(rt: &HostRuntime, text: &[u8], tokens: &[Token]) -> io::Result<String> {
