@@ -32,7 +32,11 @@ fn encoded(rt: &HostRuntime, schema: &Schema, message: &Message) -> io::Result<S
     if !fits(schema, message) {
         return told(rt, Err(DynError::WrongKind));
     }
-    let found = retry!(rt, Err(DynError::Memory), encode(rt.alloc(), schema, message));
+    let found = retry!(
+        rt,
+        Err(DynError::Memory),
+        encode(rt.alloc(), schema, message)
+    );
     match found {
         Ok(bytes) => Ok(word(rt.alloc(), &bytes)?),
         Err(error) => told(rt, Err(error)),
@@ -43,7 +47,11 @@ fn shown(rt: &HostRuntime, schema: &Schema, bytes: &[u8]) -> io::Result<String> 
     if !schema.has(FIRST) {
         return told(rt, Err(DynError::NoSuchField));
     }
-    let found = retry!(rt, Err(DynError::Memory), show(rt.alloc(), schema, FIRST, bytes));
+    let found = retry!(
+        rt,
+        Err(DynError::Memory),
+        show(rt.alloc(), schema, FIRST, bytes)
+    );
     match found {
         Ok(text) => Ok(format!(in rt.alloc(); "{}", text.as_bytes().escape_ascii())?),
         Err(error) => told(rt, Err(error)),
