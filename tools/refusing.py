@@ -13,9 +13,9 @@ ROOT = os.path.dirname(os.path.dirname(os.path.abspath(__file__)))
 LIMIT = 20
 # What the library says on standard error when it refuses.
 REFUSED = b"growth refused\n"
-# So many requests are refused at most, each in a run of its own: what refuses them to the program and to the calls takes five minutes of a
-# processor in all. The time of a busy machine is only told.
-MOST_REQUESTS = 15_000
+# So many requests are refused at most by one script, each in a run of its own of some two milliseconds: so both scripts take less than five
+# minutes of a processor. The time of a busy machine is only told.
+MOST_REQUESTS = 60_000
 
 
 def build_library(room):

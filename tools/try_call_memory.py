@@ -112,7 +112,7 @@ CALLS = [
     Line("bytes_of_hex", "bytes_rows", "hex 0805120178", "0805120178"),
     Rows("options", "answer_rows", "choices", ["choices of two fields that meet beside a child"]),
     Rows("children", "answer_rows", "children", ["children beside two fields that meet"]),
-    Rows("cheapest", "answer_rows", "cheapest", ["the cheapest of two choices", "no cheapest of no choice"]),
+    Rows("cheapest", "answer_rows", "cheapest", ["the cheapest of two choices", "the cheapest two members of different old oneofs"]),
     Line("reached_pairs", "answer_rows", f"reached_pairs | {TWO} | 1 1", "1 1, 0 0"),
     Line("Prices::children", "answer_rows", f"Prices::children | {TWO} | 1 1", "1 1, 0 0"),
     Line("Prices::edges", "answer_rows", f"Prices::edges | {TWO} | 1 1", "1 1, 0 0"),
