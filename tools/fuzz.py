@@ -4,7 +4,7 @@
     tools/fuzz.py [--seed N] [--count N] [--seconds N] [--jobs N] [--only KIND:NUMBER] [--folder FOLDER] [PROGRAM]
 
 KIND is text, set, certificate or message. Of each kind COUNT inputs are tried (20,000 by default), by as many processes side by side as
-there are processors. That takes some two minutes of four of them. It goes on until all are tried, but fails where that takes more than
+there are processors. That takes a minute or two of four of them. It goes on until all are tried, but fails where that takes more than
 SECONDS (600), and says how many were. What is changed are the repository's own inputs (tools/fuzz_seeds.py), one to four times each
 (tools/fuzz_changes.py). The input of a kind and number is the same for a seed, however many are tried.
 
@@ -15,8 +15,8 @@ just what docs/USAGE.md and docs/REFUSALS.md say of that subcommand and status. 
   asked for, by numbers or by names. Of one in eight `gate` without `--cert` says the same; of one in sixteen `--both` begins with that, the
   witness has its length, the old side reads it and writes it again, and `--explain` says what `show` says of it. Of one in eight `types` names the types of the changed side, each
   by its full name and the one that was asked for among them where the gate answers; it refuses what `gate` refuses of that side
-- text: of one in four, what `compile` refuses, `gate` refuses alike; the set that `compile` writes is one for `show`, or, of one in
-  sixteen, for protoc where it is there
+- text: what `compile` refuses, `gate` refuses alike; the set that `compile` writes is one for protoc, where it is there, and, of one in
+  four, for `show`
 - certificate: `gate` answers what `verify` says has been proved
 - message: `show` of what was written again shows the same, and the same bytes again
 
@@ -56,9 +56,7 @@ MOST_FAILURES = 10
 # How the view is asked for by which enums are compared; without words it is that by numbers.
 VIEWS = ([], ["--view", "numbers"], ["--view", "names"])
 # Of so many inputs one is asked further things of: a start of the program takes longer than all else that is done with an input.
-COMPILE_SHARE, TYPES_SHARE, PLAIN_SHARE, BOTH_SHARE = 4, 8, 8, 16
-# Of so many sets that are written of texts one is given to protoc, which takes several times as long as the program.
-PROTOC_SHARE = 4
+SHOW_SHARE, TYPES_SHARE, PLAIN_SHARE, BOTH_SHARE = 4, 8, 8, 16
 PROTOC = shutil.which("protoc")
 ACCEPTED = {"compile": (0,), "gate": (0, 1), "verify": (0, 1, 5), "show": (0,), "types": (0,)}
 
@@ -299,11 +297,11 @@ def judge_compile(room, random_, side, name, type_, answer):
         expect(is_refused_alike(said, answer, side), f"compile: {quoted(said)}, gate: {quoted(answer)}")
         return
     expect(not answer.startswith(b"refused " + side.encode()), f"compiled, gate: {quoted(answer)}")
-    if PROTOC and random_.randrange(PROTOC_SHARE) == 0:
+    if PROTOC:
         judge_protoc("compiled.pb", name)
-        return
-    shown = room.run(["show", "--file", "compiled.pb", "--type", type_, "-"])
-    expect(shown in ((0, b"again -\n"), (2, b"refused E901\n")), f"show of the set: {quoted(shown[1])}")
+    if random_.randrange(SHOW_SHARE) == 0:
+        shown = room.run(["show", "--file", "compiled.pb", "--type", type_, "-"])
+        expect(shown in ((0, b"again -\n"), (2, b"refused E901\n")), f"show of the set: {quoted(shown[1])}")
 
 
 def judge_sides(room, random_, seed, side, type_):
@@ -326,8 +324,7 @@ def try_text(room, random_, seeds):
     room.put("old", files["old"])
     room.put("new", files["new"])
     status, said = judge_sides(room, random_, seed, side, type_)
-    if random_.randrange(COMPILE_SHARE) == 0:
-        judge_compile(room, random_, side, name, type_, said)
+    judge_compile(room, random_, side, name, type_, said)
     return status in ACCEPTED["gate"]
 
 

@@ -11,7 +11,7 @@ where it gives them back. Then the answer is printed, which has to be the row's 
 So each run either says `Memory`, once and between the two lines, and then gives the answer; or it gives the answer all the same. Of a
 call that hands back what it was given, or leaves what it was lent, that line also says what came back, which stands here.
 
-The calls are all those of docs/CALLS.md that may report want of memory: one that is tried by no line fails, but for those of NOT_TRIED.
+The calls are all those of docs/CALLS.md that may run out of memory: one that is tried by no line fails, but for those of NOT_TRIED.
 A line is printed for each call: how many requests were refused, how often that was reported, how often the answer came all the same,
 and how many runs did neither, which are printed. The last line has the sums, and the processor seconds that all took. The status is 1
 where a run did neither, where no request of a row was reported, where a call is missing, or where there were more requests than five
