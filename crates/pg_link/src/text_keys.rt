@@ -13,6 +13,9 @@ pub(crate) struct TextKeys {
     texts: DefaultHasher,
 }
 
+/// What fills a text up to whole words, so that the names behind the texts are hashed by words too.
+const FILLING: [u8; 8] = [0; 8];
+
 impl TextKeys {
     /// The keys that the files' texts make.
     pub(crate) fn of(files: &IndexMap<String, SourceFile>) -> TextKeys {
@@ -20,6 +23,7 @@ impl TextKeys {
         for number in 0..files.len() {
             if let Some((_, file)) = files.get_index(number) {
                 texts.write(&file.bytes);
+                texts.write(&FILLING[file.bytes.len() % 8..]);
             }
         }
         TextKeys { texts }
