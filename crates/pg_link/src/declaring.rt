@@ -1,6 +1,7 @@
 //! The names of files, put into an index one by one.
-ghost use Rattle.std.specs.Prelude.{◌≡◌, ◌+◌, IfErr, IfOk, IfSome, OnOk, Some, None, length};
+ghost use Rattle.std.specs.Prelude.{◌≡◌, ◌+◌, IfErr, IfOk, IfSome, OnOk, Some, None, false, length};
 ghost use Rattle.pg_link.specs.Files.{Declared};
+ghost use Rattle.pg_link.specs.Names.{is_package};
 ghost use Rattle.pg_link.specs.Outline.{declared_of};
 ghost use Rattle.pg_link.specs.Standing as spec;
 ghost use Rattle.pg_link.specs.Targets.{is_enum, is_message};
@@ -106,8 +107,8 @@ impl Index {
         }
     }
 
-    /// Appends a name that a file declares. False where the name stands twice.
-    pub(crate) fn add(
+    /// Appends a part of a package. False where the name stands twice.
+    fn add_part(
         &mut self,
         alloc: Global,
         file: usize,
@@ -125,6 +126,46 @@ impl Index {
         self.names.insert(declared.name, named)?;
         self.count(kind, place)?;
         Ok(true)
+    }
+
+    /// Appends a name that no other may share, so that it is hashed once. False where it stands
+    /// twice.
+    fn add_alone(
+        &mut self,
+        alloc: Global,
+        file: usize,
+        declared: DeclaredName,
+    ) -> Result<bool, AllocError>
+        requires { is_package declared.kind ≡ false }
+        ensures { IfOk result (λ may. spec.Adds self.old self.new
+            (spec.standing file (declared_of declared)) may) }
+    {
+        let kind = declared.kind;
+        let number = self.next_number(kind);
+        let named = first(alloc, file, &declared, number);
+        let place = self.names.len();
+        match self.names.insert(declared.name, named)? {
+            Some(_) => return Ok(false),
+            None => self.count(kind, place)?,
+        }
+        Ok(true)
+    }
+
+    /// Appends a name that a file declares. False where the name stands twice.
+    pub(crate) fn add(
+        &mut self,
+        alloc: Global,
+        file: usize,
+        declared: DeclaredName,
+    ) -> Result<bool, AllocError>
+        ensures { IfOk result (λ may. spec.Adds self.old self.new
+            (spec.standing file (declared_of declared)) may) }
+    {
+        if declared.kind.is_package() {
+            self.add_part(alloc, file, declared)
+        } else {
+            self.add_alone(alloc, file, declared)
+        }
     }
 }
 

@@ -9,7 +9,7 @@ use Rattle.pg_link.specs.Outline.{declared_of}
 use Rattle.pg_link.specs.Standing.{Joins, Standing, standing}
 use Rattle.pg_link.proofs.NumberLaws.{numbered_more}
 use Rattle.pg_link.proofs.StandingLaws.{holds_more}
-use Rattle.pg_link.proofs.index.Index.add.Goals as goal
+use Rattle.pg_link.proofs.index.Index.add_part.Goals as goal
 
 pub returns : goal.returns
 returns c = λ all lists.
