@@ -19,6 +19,9 @@ part_words = map (λ part. string_bytes part.text)
 abbrev pub reference : tree.TypeName.TypeName → Reference
 reference name = record { is_full = name.is_full; first = string_bytes name.path.first.text; more = part_words name.path.more.items }
 
+abbrev pub word_alone : Text → Reference
+word_alone word = record { is_full = false; first = word; more = [] }
+
 -- the scope of these words and those around it, innermost first
 abbrev pub scopes : List Text → List (List Text)
 scopes [] = [] ∷ []

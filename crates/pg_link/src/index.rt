@@ -1,7 +1,7 @@
 //! The names of all files, by their full names.
 ghost use Rattle.std.specs.HashMap.{get_by_text};
-ghost use Rattle.std.specs.Prelude.{◌≡◌, ◌++◌, IfOk, IfSome, List, OnOk, Some, None, [], ◌∷◌, string_bytes, true, ℕ};
-ghost use Rattle.std.specs.Option.{option_map};
+ghost use Rattle.std.specs.Prelude.{◌≡◌, ◌++◌, IfOk, IfSome, List, OnOk, Some, None, [], ◌∷◌, string_bytes, false, true, ℕ};
+ghost use Rattle.std.specs.Option.{option_map, option_map_or};
 ghost use Rattle.pg_link.specs.Index as spec;
 ghost use Rattle.pg_link.specs.Names as names;
 ghost use Rattle.pg_link.specs.Resolves as resolves;
@@ -112,6 +112,26 @@ fn push_name(text: &mut String, name: &TypeName) -> Result<(), AllocError>
     Ok(())
 }
 
+/// The word of a name that is one word with no dot.
+fn only_word(name: &TypeName) -> Option<&str>
+    ensures { IfSome result (λ word. resolves.reference name.now ≡ resolves.word_alone word.now) }
+{
+    if name.is_full || !name.path.more.is_empty() {
+        return None;
+    }
+    Some(name.path.first.text.as_str())
+}
+
+/// Whether the search for a word ends at what was found.
+fn ends_word(found: &Option<(&str, &Named)>) -> bool
+    ensures { result ≡ option_map_or (λ f. names.ends_word f.1.now.kind) found.now false }
+{
+    match found {
+        Some((_, named)) => named.kind.ends_word(),
+        None => false,
+    }
+}
+
 /// The names of all files, in the order in which they were first declared, and the places among
 /// them of the message types and of the enums.
 #[derive(Debug, Drop)]
@@ -202,7 +222,40 @@ impl Index {
         self.innermost(alloc, visible, &path.more, path.first.text.as_str(), scope)
     }
 
-    /// What a name names in a scope, of the files that are seen.
+    /// What a word names in a scope, of the files that are seen: what the search for it ends at.
+    fn found_word(
+        &self,
+        alloc: Global,
+        visible: Option<Visible<'_>>,
+        scope: &[&str],
+        word: &str,
+    ) -> Result<Option<(&str, &Named)>, AllocError>
+        ensures found { IfOk result (λ f. option_map (λ f. (f.0.now, f.1.now.kind)) f
+            ≡ resolves.found
+            (spec.names_seen self.now.names (spec.visible_of visible.entry))
+            (spec.texts scope.now) (resolves.word_alone word.now)) }
+        ensures held { IfOk result (λ f. IfSome f
+            (λ f. get_by_text self.now.names f.0.now ≡ Some f.1.now)) }
+    {
+        let mut full = called(alloc, scope)?;
+        let mut len = scope.len();
+        'scopes: loop {
+            push_word(&mut full, word)?;
+            let found = self.seen(visible, full.as_str());
+            pop_word(&mut full, word);
+            if ends_word(&found) {
+                return Ok(found);
+            }
+            if len == 0 {
+                return Ok(None);
+            }
+            len -= 1;
+            pop_word(&mut full, scope[len]);
+        }
+    }
+
+    /// What a name names in a scope, of the files that are seen. A word alone is looked for but
+    /// once in each scope.
     pub(crate) fn found(
         &self,
         alloc: Global,
@@ -217,6 +270,9 @@ impl Index {
         ensures held { IfOk result (λ f. IfSome f
             (λ f. get_by_text self.now.names f.0.now ≡ Some f.1.now)) }
     {
+        if let Some(word) = only_word(name) {
+            return self.found_word(alloc, visible, scope, word);
+        }
         let Some(mut full) = self.scope_of(alloc, visible, scope, name)? else {
             return Ok(None);
         };

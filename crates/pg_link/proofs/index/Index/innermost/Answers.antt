@@ -1,17 +1,9 @@
-use Rattle.std.proofs.Common.{◌≡◌, ◌∷◌, ◌++◌, [], ◌∙◌, ◌+◌, ◌-◌, ◌≤◌, ◌≢◌, ℕ, List, ap, length, sym, subst, take, true, false, string_bytes, slice_index_or, arith}
-use Rattle.std.specs.Borrow.{Bor}
+use Rattle.std.proofs.Common.{◌≡◌, ◌∷◌, ◌++◌, [], ◌∙◌, ◌-◌, ap, sym, subst, take, true, false, string_bytes, arith}
 use Rattle.pg_link.specs.Index.{texts, names_seen, visible_of}
 use Rattle.pg_link.specs.Names.{Text, called, bears}
 use Rattle.pg_link.specs.Resolves.{sought_among, part_words}
-use Rattle.pg_link.proofs.ResolvesLaws.{called-more, ends_here, goes_outwards}
+use Rattle.pg_link.proofs.ResolvesLaws.{ends_here, goes_outwards, last_word}
 use Rattle.pg_link.proofs.index.Index.innermost.Goals as goal
-
--- the full name of a scope ends in its last word
-last_word : (scope : List (Bor Text)) (len : ℕ) (text : Text) → len ≤ length scope → len ≢ 0 → text ≡ called (texts (take len scope))
-    → text ≡ called (texts (take (len - 1) scope)) ++ called ((slice_index_or scope (len - 1) (record { ref_ptr = (0, 0); now = [] })).now ∷ [])
-last_word scope len text within some is =
-    let next : (len - 1) + 1 ≡ len = omega arith in
-    is ∙ (ap (λ (n : ℕ). called (texts (take n scope))) (sym next) ∙ called-more (λ (w : Bor Text). w.now) scope (len - 1) (record { ref_ptr = (0, 0); now = [] }) (omega arith))
 
 pub pop_word-requires-in-scopes : goal.pop_word-requires-in-scopes
 pop_word-requires-in-scopes c = (
