@@ -90,11 +90,6 @@ one_more scope declares splits xs i x old mid new inside is added before =
     ap (λ l. l ++ names_in scope rest) added ∙ (append_assoc mid (names_in scope (declares x Done)) (names_in scope rest)
     ∙ (ap (λ l. mid ++ l) (sym whole) ∙ before))
 
--- a name, and then what is in it
-pub behind_name : {X : Type 0} (old mid new inner : List X) (x : X) → mid ≡ old ++ x ∷ [] → new ≡ mid ++ inner → new ≡ old ++ x ∷ (inner ++ [])
-behind_name old mid new inner x first then =
-    then ∙ (ap (λ l. l ++ inner) first ∙ (append_assoc old (x ∷ []) inner ∙ ap (λ l. old ++ x ∷ l) (sym (append-nil inner))))
-
 -- ---- packages
 
 pub scope_more : (first : tree.Name.Name) (words : List tree.Name.Name) (i : ℕ) (d : tree.Name.Name) → i < length words

@@ -33,10 +33,6 @@ any_paths : (test : Text → Bool) (files : List File) → list_any test (paths_
 any_paths test [] = refl
 any_paths test (f ∷ files) = ap (λ b. test f.path || b) (any_paths test files)
 
-any_imports : (path : Text) (lines : List Import) → list_any (bytes_eq path) (import_paths lines) ≡ list_any (λ l. bytes_eq path l.path) lines
-any_imports path [] = refl
-any_imports path (l ∷ lines) = ap (λ b. bytes_eq path l.path || b) (any_imports path lines)
-
 same_text : (a b : Text) → a ≡ b → bytes_eq a b ≡ true
 same_text a b is = (bytes_eq-Decides a b).1 is
 

@@ -20,10 +20,6 @@ use Rattle.pg_link.proofs.VisibleLaws.{first_among, same_text, text_same}
 use Rattle.pg_link.proofs.StandingLaws.{none_held, one_held}
 use Rattle.pg_link.proofs.UseFaultLaws.{among_at}
 
-pub head_of : (xs : List ℕ) (n : ℕ) → Some n ≡ slice_get xs 0 → (others : List ℕ) × (xs ≡ n ∷ others)
-head_of [] n is = absurd (none_some n (sym is))
-head_of (x ∷ xs) n is = (xs, ap (λ (y : ℕ). y ∷ xs) (same_Some x n (sym is)))
-
 pub if_some : {X : Type 0} (P Q : X → Type 0) (o : Option X) → ((x : X) → P x → Q x) → IfSome o P → IfSome o Q
 if_some P Q None more is = is
 if_some P Q (Some x) more is = more x is
@@ -128,6 +124,3 @@ has_first index es name n lists held =
 pub if_none : {X : Type 0} (P Q : Type 0) (o : Option X) → (P → Q) → IfNone o P → IfNone o Q
 if_none P Q None more is = more is
 if_none P Q (Some x) more is = is
-
-pub no_head : (xs : List ℕ) (n : ℕ) (others : List ℕ) → None ≡ slice_get xs 0 → xs ≡ n ∷ others → ⊥
-no_head xs n others none is = none_some n (none ∙ ap (λ (l : List ℕ). slice_get l 0) is)

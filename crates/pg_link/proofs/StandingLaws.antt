@@ -1,6 +1,6 @@
 -- One more name behind the others.
-use Rattle.std.proofs.Common.{◌≡◌, ◌∙◌, ℕ, Bool, true, false, cond, List, [], ◌∷◌, ◌++◌, Some, None, String, map, refl, sym, ap, subst, true≢false, append_assoc, take, drop, length, slice_index_or, slice_get, is_some, zero, suc, ◌<◌, ◌+◌, arith}
-use Rattle.std.proofs.lemmas.List.{map-append, map_more, reverse-append, reverse-reverse, append-nil}
+use Rattle.std.proofs.Common.{◌≡◌, ◌∙◌, ℕ, Bool, true, false, cond, List, [], ◌∷◌, ◌++◌, Some, None, String, map, refl, sym, ap, subst, true≢false, append_assoc, take, slice_get, is_some, zero, suc, ◌+◌, arith}
+use Rattle.std.proofs.lemmas.List.{map-append, reverse-append, reverse-reverse, append-nil}
 use Rattle.std.proofs.lemmas.List.Elements.{filter-append}
 use Rattle.std.proofs.lemmas.Slice.Eq.{bytes_eq-Decides}
 use Rattle.std.specs.Global.{Global}
@@ -17,7 +17,6 @@ use Rattle.pg_link.specs.declared.error.LinkError as errors
 use Rattle.pg_link.specs.declared.error.LinkError.TheVariants as error
 use Rattle.pg_link.specs.Walk.{Entry, IsPlace, path_of}
 use Rattle.std.proofs.lemmas.Option.{same_Some}
-use Rattle.pg_link.proofs.WalkLaws.{split_at}
 use Rattle.pg_link.specs.Standing.{Standing, Bearer, bearers, bearer, first_of, added, MayStand, Adds, AddsAll, NoneTwice, AllMayStand, StandsTwice, Holds, Lists, standing, standings, standings_from, all_standings, IsTwice, IsTwiceIn, view}
 
 bearers-push : (all : List Standing) (s : Standing) (full : Text) → bearers (all ++ s ∷ []) full ≡ bearers all full ++ bearers (s ∷ []) full
@@ -98,22 +97,9 @@ pub map-twice : (file : ℕ) (ds : List made.DeclaredName) → map (standing fil
 map-twice file [] = refl
 map-twice file (d ∷ ds) = ap (λ l. standing_of file d ∷ l) (map-twice file ds)
 
-pub one_standing : (file : ℕ) (ds : List made.DeclaredName) (i : ℕ) (d : made.DeclaredName) → i < length ds → d ≡ slice_index_or ds i d
-    → map (standing_of file) (take (i + 1) ds) ≡ map (standing_of file) (take i ds) ++ standing_of file d ∷ []
-one_standing file ds i d inside is =
-    map_more (standing_of file) ds i d inside ∙ ap (λ x. map (standing_of file) (take i ds) ++ standing_of file x ∷ []) (sym is)
-
-pub adds_none : (index : indexes.Index) → AddsAll index index []
-adds_none index = λ all holds. (subst (Lists index) (sym (append-nil all)) holds, λ none. subst NoneTwice (sym (append-nil all)) none)
-
 pub stands_twice : (old mid new : indexes.Index) (front : List Standing) (s : Standing) → AddsAll old mid front
     → Adds mid new s false → (all : List Standing) → Lists old all → StandsTwice (all ++ front) s × (NoneTwice all → NoneTwice (all ++ front))
 stands_twice old mid new front s before adds = λ all holds. let h = before all holds in (adds (all ++ front) h.0, h.1)
-
-pub split_standings : (file : ℕ) (ds : List made.DeclaredName) (i : ℕ) (d : made.DeclaredName) → i < length ds → d ≡ slice_index_or ds i d
-    → map (standing_of file) ds ≡ map (standing_of file) (take i ds) ++ standing_of file d ∷ map (standing_of file) (drop (i + 1) ds)
-split_standings file ds i d inside is =
-    split_at (standing_of file) ds i d inside ∙ ap (λ x. map (standing_of file) (take i ds) ++ standing_of file x ∷ map (standing_of file) (drop (i + 1) ds)) (sym is)
 
 -- ---- file by file
 

@@ -1,5 +1,5 @@
 -- What the uses of files resolve to, and which are at fault: through the index, and by the files.
-use Rattle.std.proofs.Common.{◌≡◌, ◌∙◌, inl, inr, ℕ, ◌+◌, ◌<◌, Bool, List, [], ◌∷◌, ◌++◌, map, length, slice_get, get_or, take, drop, suc, Option, add-one, arith, drop-cons, refl, sym, ap, subst, Some, None, Vec, Err}
+use Rattle.std.proofs.Common.{◌≡◌, ◌∙◌, ℕ, ◌+◌, ◌<◌, Bool, List, [], ◌∷◌, ◌++◌, map, length, slice_get, get_or, take, drop, suc, Option, add-one, arith, drop-cons, refl, sym, ap, subst, Some, None, Vec}
 use Rattle.std.proofs.lemmas.List.{map-append, take-append-drop}
 use Rattle.std.proofs.lemmas.List.Elements.{All-cons, All-head, All-tail}
 use Rattle.std.proofs.lemmas.Option.{slice_get-map, slice_get_read, slice_get_within, get_or_from_slice_get}
@@ -17,12 +17,12 @@ use Rattle.pg_link.specs.Index.{names_seen}
 use Rattle.pg_link.specs.Names.{Text, Names}
 use Rattle.pg_link.specs.Outline.{file_names}
 use Rattle.pg_link.specs.VisibleFiles.{AreVisibleFiles, IsMask, Marks}
-use Rattle.pg_link.specs.Standing.{IsNumbered, IsTwiceIn, Lists, NoneTwice, Standing, all_standings, declared_in, standing, standings, standings_from}
+use Rattle.pg_link.specs.Standing.{IsNumbered, Lists, NoneTwice, Standing, all_standings, declared_in, standing, standings, standings_from}
 use Rattle.pg_link.specs.Targets.{Resolution, all_declared, file_targets, target_in}
 use Rattle.pg_link.specs.Unresolved.{RefusesUse}
-use Rattle.pg_link.specs.UseFaults.{IsNameFault, IsUseFault, IsUseFaultIn, Says}
+use Rattle.pg_link.specs.UseFaults.{IsUseFault, IsUseFaultIn, Says}
 use Rattle.pg_link.specs.Uses.{Use, file_uses}
-use Rattle.pg_link.specs.Walk.{Entry, failures_of, outlines, path_of}
+use Rattle.pg_link.specs.Walk.{Entry, outlines, path_of}
 use Rattle.pg_link.proofs.BridgeLaws.{known_names, seen_names}
 
 -- ---- one use
@@ -158,38 +158,3 @@ its_marks es visible_files i e v marks are at within is same =
     are i marks e (slice_get-map (λ (m : Vec Bool Global). m.items) visible_files i
     ∙ (ap (option_map (λ (m : Vec Bool Global). m.items)) (slice_get_read visible_files (length visible_files) i v refl within is) ∙ ap (λ (l : List Bool). Some l) (sym same))) at in
     m.is_marked
-
--- ---- no failure of a source
-
-pub twice_counts : (X : Type 0) (es : List Entry) (e : errors.LinkError) → IsTwiceIn es e → failures_of {X = X} (Err e) ≡ 0
-twice_counts X es (error.DuplicateName place) fault = refl
-twice_counts X es error.Memory fault = refl
-twice_counts X es (error.UnknownName place) fault = refl
-twice_counts X es (error.NotAType place) fault = refl
-twice_counts X es (error.NotImported place) fault = refl
-twice_counts X es (error.MissingFile place) fault = refl
-twice_counts X es (error.ImportCycle place) fault = refl
-twice_counts X es (error.DuplicateImport place) fault = refl
-twice_counts X es (error.TooManyFiles place) fault = refl
-twice_counts X es (error.SourceFailed place) fault = absurd fault
-twice_counts X es (error.Lex f place) fault = refl
-twice_counts X es (error.Syntax f place) fault = refl
-
-use_counts : (X : Type 0) (resolve : Resolution) (visible all : Names) (path text : Text) (file : tree.FileTree.FileTree) (e : errors.LinkError) → IsUseFault resolve visible all path text file e
-    → failures_of {X = X} (Err e) ≡ 0
-use_counts X resolve visible all path text file (error.DuplicateName place) fault = refl
-use_counts X resolve visible all path text file error.Memory fault = refl
-use_counts X resolve visible all path text file (error.UnknownName place) fault = refl
-use_counts X resolve visible all path text file (error.NotAType place) fault = refl
-use_counts X resolve visible all path text file (error.NotImported place) fault = refl
-use_counts X resolve visible all path text file (error.MissingFile place) fault = refl
-use_counts X resolve visible all path text file (error.ImportCycle place) fault = refl
-use_counts X resolve visible all path text file (error.DuplicateImport place) fault = refl
-use_counts X resolve visible all path text file (error.TooManyFiles place) fault = refl
-use_counts X resolve visible all path text file (error.SourceFailed place) fault = absurd fault
-use_counts X resolve visible all path text file (error.Lex f place) fault = refl
-use_counts X resolve visible all path text file (error.Syntax f place) fault = refl
-
-pub fault_counts : (X : Type 0) (es : List Entry) (e : errors.LinkError) → IsNameFault es e → failures_of {X = X} (Err e) ≡ 0
-fault_counts X es e (inl twice) = twice_counts X es e twice
-fault_counts X es e (inr (once, f)) = use_counts X _ _ _ _ _ _ e f.fault

@@ -92,9 +92,6 @@ pub masks_more : (es : List Entry) (paths : Text → List Text) (masks : List (L
     → ((a : Entry) → slice_get es (length masks) ≡ Some a → IsMask es (paths (path_of a)) m) → AreMasks es paths (masks ++ m ∷ [])
 masks_more es paths masks m before here = λ i marks e at there. masks_by es paths masks m i marks e before here there (push_cases masks m i marks at)
 
-pub no_masks : (es : List Entry) (paths : Text → List Text) (masks : List (List Bool)) → masks ≡ [] → AreMasks es paths masks
-no_masks es paths masks none = λ i marks e at there. absurd (none_some marks (ap (λ (ms : List (List Bool)). slice_get ms i) (sym none) ∙ at))
-
 pub handed_mask : (es : List Entry) (i : ℕ) (e : Entry) (lines : List made.ImportLine) (marks : List Bool) → InOrder (outlines es) → Differ (paths_of (outlines es))
     → slice_get es i ≡ Some e → map line_of lines ≡ file_imports e.1.tree
     → IsMask es (path_of e ∷ flat_map (handed_on (outlines es)) (taken false (map line_of lines))) marks → IsMask es (handed_on (outlines es) (path_of e)) marks
