@@ -75,7 +75,7 @@ IsNameFault files e = (IsTwiceIn files e) ⊎ (NoneTwice (all_standings files) �
 abbrev pub LinkRefuses : World → errors.LinkError → Type 0
 LinkRefuses w e = (Refuses w e) ⊎ ((files : List Entry) × IsLinked w files × IsNameFault files e)
 
--- A name in a scope of the file of this path doesn't resolve; told of the file as a whole.
+-- A name in a scope of the file of this path doesn't resolve; this is reported of the file as a whole.
 abbrev pub IsNoName : Names → Names → List Text → Reference → Text → errors.LinkError → Type 0
 IsNoName visible all scope name path (error.UnknownName place) = IsWhole place path × IsUnknown visible all scope name
 IsNoName visible all scope name path (error.NotAType place) = IsWhole place path × NamesNoType visible scope name

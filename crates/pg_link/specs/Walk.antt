@@ -219,11 +219,11 @@ syntax_place (syntax.CustomOption at) = at
 syntax_place (syntax.WeakImport at) = at
 syntax_place (syntax.NestedTooDeep at) = at
 
--- the text has no tokens, for this reason; want of memory is none
+-- the text has no tokens, for this reason; that memory ran out is none
 abbrev pub HasNoTokens : LexError → Text → Type 0
 HasNoTokens e text = (e ≡ lex.Memory → ⊥) × LexRefuses e text
 
--- no tree spells the text's tokens, for this reason; want of memory is none
+-- no tree spells the text's tokens, for this reason; that memory ran out is none
 abbrev pub HasNoTree : SyntaxError → Text → Type 0
 HasNoTree e text = (e ≡ syntax.Memory → ⊥) × ((tokens : List Placed) × lexes text tokens × Tells (grammar.file 64) (length text) tokens e)
 
