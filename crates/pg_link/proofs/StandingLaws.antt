@@ -1,5 +1,5 @@
 -- One more name behind the others.
-use Rattle.std.proofs.Common.{◌≡◌, ◌∙◌, ℕ, Bool, true, false, cond, List, [], ◌∷◌, ◌++◌, Some, None, String, map, refl, sym, ap, subst, true≢false, append_assoc, take, slice_get, is_some, zero, suc, ◌+◌, arith}
+use Rattle.std.proofs.Common.{◌≡◌, ◌∙◌, ℕ, Bool, true, false, cond, List, [], ◌∷◌, ◌++◌, Option, Some, None, String, map, refl, sym, ap, subst, true≢false, append_assoc, take, slice_get, is_some, zero, suc, ◌+◌, arith}
 use Rattle.std.proofs.lemmas.List.{map-append, reverse-append, reverse-reverse, append-nil}
 use Rattle.std.proofs.lemmas.List.Elements.{filter-append}
 use Rattle.std.proofs.lemmas.Slice.Eq.{bytes_eq-Decides}
@@ -79,6 +79,17 @@ none_held index all full holds none = sym (holds full) ∙ ap (option_map view) 
 pub one_held : {S : Type 0} (index : HashMap (String Global) nameds.Named S) (all : List Standing) (full : Text) (n : nameds.Named) → Holds index all
     → get_by_text index full ≡ Some n → bearer all full ≡ Some (view n)
 one_held index all full n holds some = sym (holds full) ∙ ap (option_map view) some
+
+-- what is put under a name over what was just put there
+over : {X : Type 0} (b : Bool) (first second : Option X) (before : Option X) → cond b second (cond b first before) ≡ cond b second before
+over true first second before = refl
+over false first second before = refl
+
+pub put_over : {X : Type 0} (old mid new : Text → Option X) (name : Text) (first second : Option X)
+    → ((cs : Text) → mid cs ≡ update bytes_eq old name first cs) → ((cs : Text) → new cs ≡ update bytes_eq mid name second cs)
+    → (cs : Text) → new cs ≡ update bytes_eq old name second cs
+put_over {X = X} old mid new name first second before now cs =
+    now cs ∙ (ap (λ (o : Option X). cond (bytes_eq name cs) second o) (before cs) ∙ over (bytes_eq name cs) first second (old cs))
 
 -- ---- the names of a file, one by one
 

@@ -31,12 +31,12 @@ fn first(alloc: Global, file: usize, declared: &DeclaredName, number: usize) -> 
 }
 
 /// What stands under a name once this file declares it too.
-fn again(alloc: Global, file: usize, named: &Named, number: usize) -> Result<Named, AllocError>
+fn again(file: usize, named: Named, number: usize) -> Result<Named, AllocError>
     ensures added { IfOk result (λ n. (d : Declared)
-        → spec.view n ≡ spec.added (spec.standing file d) (Some (spec.view named.now))) }
+        → spec.view n ≡ spec.added (spec.standing file d) (Some (spec.view named))) }
     ensures number { IfOk result (λ n. n.number ≡ number) }
 {
-    let mut others = Vec::from_slice(alloc, &named.others)?;
+    let mut others = named.others;
     others.push(file)?;
     Ok(Named {
         kind: named.kind,
@@ -83,31 +83,8 @@ impl Index {
         Ok(())
     }
 
-    /// What is to stand under a name once this file declares it. None where the name stands twice.
-    fn joined(
-        &self,
-        alloc: Global,
-        file: usize,
-        declared: &DeclaredName,
-        number: usize,
-    ) -> Result<Option<Named>, AllocError>
-        ensures joins { IfOk result (λ n. spec.Joins self.now.names
-            (spec.standing file (declared_of declared.now)) n) }
-        ensures number { IfOk result (λ n. IfSome n (λ named. named.number ≡ number)) }
-    {
-        match self.names.get(declared.name.as_str()) {
-            None => Ok(Some(first(alloc, file, declared, number))),
-            Some(named) => {
-                if !may_share(named.kind, declared.kind) {
-                    return Ok(None);
-                }
-                let more = again(alloc, file, named, number)?;
-                Ok(Some(more))
-            }
-        }
-    }
-
-    /// Appends a part of a package. False where the name stands twice.
+    /// Appends a part of a package. The list of its files stays where it is and grows, however many
+    /// share the name. False where the name stands twice.
     fn add_part(
         &mut self,
         alloc: Global,
@@ -119,13 +96,24 @@ impl Index {
     {
         let kind = declared.kind;
         let number = self.next_number(kind);
-        let Some(named) = self.joined(alloc, file, &declared, number)? else {
-            return Ok(false);
-        };
         let place = self.names.len();
-        self.names.insert(declared.name, named)?;
-        self.count(kind, place)?;
-        Ok(true)
+        let name = declared.name.clone()?;
+        let alone = first(alloc, file, &declared, number);
+        match self.names.insert(name, alone)? {
+            None => {
+                self.count(kind, place)?;
+                Ok(true)
+            }
+            Some(named) => {
+                if !may_share(named.kind, kind) {
+                    return Ok(false);
+                }
+                let more = again(file, named, number)?;
+                self.names.insert(declared.name, more)?;
+                self.count(kind, place)?;
+                Ok(true)
+            }
+        }
     }
 
     /// Appends a name that no other may share, so that it is hashed once. False where it stands
