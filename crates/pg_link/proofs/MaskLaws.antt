@@ -1,12 +1,14 @@
 -- Masks of files: which places they mark, and what one import adds.
-use Rattle.std.proofs.Common.{◌≡◌, ◌∙◌, ℕ, zero, suc, ◌<◌, ◌+◌, Bool, true, false, ◌||◌, cond, List, [], ◌∷◌, ◌++◌, map, flat_map, take, reverse, length, get_or, slice_index_or, append_assoc, slice_get, refl, sym, ap, subst, true≢false, nat_eq, arith, Some, None, is_some, String, string_bytes, position}
-use Rattle.std.proofs.lemmas.Bool.{lt-ltb, eq-eqb, ne_eqb}
-use Rattle.std.proofs.lemmas.Grind.{flat_map-append}
-use Rattle.std.proofs.lemmas.List.{map-append, map_more, append-nil, reverse-append}
+use Rattle.std.proofs.Common.{◌≡◌, ◌∙◌, ◌⊎◌, inl, inr, ℕ, zero, suc, ◌<◌, ◌≤◌, ◌+◌, Bool, true, false, ◌||◌, cond, List, [], ◌∷◌, ◌++◌, map, flat_map, take, reverse, length, get_or, slice_index_or, append_assoc, slice_get, refl, sym, ap, subst, true≢false, nat_eq, arith, Some, None, is_some, String, string_bytes, position}
+use Rattle.std.proofs.Math.ListN.{set}
+use Rattle.std.proofs.lemmas.Bool.{lt-ltb, eq-eqb, ne_eqb, cases_lt}
+use Rattle.std.proofs.lemmas.Bool.Decides.{Decides-eqb}
+use Rattle.std.proofs.lemmas.Grind.{flat_map-append, get_or-set_at}
+use Rattle.std.proofs.lemmas.List.{get_or-set_other, take_more, map-append, map_more, append-nil, reverse-append}
 use Rattle.std.proofs.lemmas.List.Folds.{list_any-append}
 use Rattle.std.proofs.lemmas.Option.{slice_get_within, slice_get-map, same_Some}
 use Rattle.std.specs.Global.{Global}
-use Rattle.std.specs.List.{list_any, position_or_len}
+use Rattle.std.specs.List.{All, list_any, position_or_len}
 use Rattle.std.specs.Map.{keys_of}
 use Rattle.std.specs.Option.{option_map}
 use Rattle.std.specs.Str.{bytes_eq}
@@ -14,7 +16,7 @@ use Rattle.pg_link.specs.declared.imports.ImportLine as made
 use Rattle.pg_link.specs.Files.{File, Import, Differ, is_path_of, paths_of, public_paths, handed_on}
 use Rattle.pg_link.specs.Imports.{line_of}
 use Rattle.pg_link.specs.Names.{Text}
-use Rattle.pg_link.specs.VisibleFiles.{Marks, IsMask, AreHanded, taken}
+use Rattle.pg_link.specs.VisibleFiles.{Marks, IsMask, AreHanded, AreNumbers, is_numbered, taken}
 use Rattle.pg_link.specs.Walk.{Entry, outline, outlines, path_of}
 use Rattle.pg_link.proofs.PathLaws.{among_entries, any-reverse}
 use Rattle.pg_link.proofs.VisibleLaws.{same_text, text_same}
@@ -93,17 +95,96 @@ number_of es n path has =
       has_path = ap string_bytes e.2 ∙ sym (same_text path (string_bytes f.item) f.passes);
     }
 
+-- ---- numbers of files
+
+-- a number is none of those that are below it
+pub none_beyond : (numbers : List ℕ) (k : ℕ) → All (λ n. n < k) numbers → is_numbered numbers k ≡ false
+none_beyond [] k below = refl
+none_beyond (n ∷ numbers) k below =
+    let less : n < k = below 0 n (omega arith) in
+    let other : nat_eq k n ≡ false = ne_eqb k n (λ (same : k ≡ n). omega (arith, same, less)) in
+    rw other (none_beyond numbers k (λ j d within. below (suc j) d (omega (arith, within))))
+
+numbered_push : (numbers : List ℕ) (n k : ℕ) → is_numbered (numbers ++ n ∷ []) k ≡ (is_numbered numbers k || (nat_eq k n || false))
+numbered_push numbers n k = list_any-append (nat_eq k) numbers (n ∷ [])
+
+or_none : (a b : Bool) → b ≡ false → (a || (b || false)) ≡ a
+or_none true b is = refl
+or_none false true is = is
+or_none false false is = refl
+
+or_last : (a b : Bool) → b ≡ true → (a || (b || false)) ≡ true
+or_last true b is = refl
+or_last false true is = refl
+or_last false false is = is
+
+or_true : (a b : Bool) → b ≡ true → (a || b) ≡ true
+or_true true b is = refl
+or_true false b is = is
+
+-- the marks of the numbers so far, and of one more
+pub one_more_mark : (old mid : List Bool) (numbers : List ℕ) (i n : ℕ) → i < length numbers → n ≡ get_or numbers i 0 → n < length mid
+    → ((k : ℕ) → get_or mid k false ≡ (get_or old k false || is_numbered (take i numbers) k))
+    → (k : ℕ) → get_or (set mid n true) k false ≡ (get_or old k false || is_numbered (take (i + 1) numbers) k)
+one_more_mark old mid numbers i n inside is within so_far k = by (nat_eq k n) refl
+  where
+    whole : is_numbered (take (i + 1) numbers) k ≡ (is_numbered (take i numbers) k || (nat_eq k n || false))
+    whole =
+        ap (λ (l : List ℕ). is_numbered l k) (take_more numbers i 0 inside ∙ ap (λ (m : ℕ). take i numbers ++ m ∷ []) (sym is)) ∙ numbered_push (take i numbers) n k
+
+    by : (b : Bool) → nat_eq k n ≡ b → get_or (set mid n true) k false ≡ (get_or old k false || is_numbered (take (i + 1) numbers) k)
+    by true same =
+        let at : k ≡ n = (Decides-eqb k n).0 same in
+        get_or-set_at mid n k true false at within
+        ∙ sym (or_true (get_or old k false) (is_numbered (take (i + 1) numbers) k) (whole ∙ or_last (is_numbered (take i numbers) k) (nat_eq k n) same))
+    by false other =
+        get_or-set_other mid n k true false (λ (same : k ≡ n). true≢false (sym (eq-eqb k n same) ∙ other))
+        ∙ (so_far k ∙ sym (ap (λ b. get_or old k false || b) (whole ∙ or_none (is_numbered (take i numbers) k) (nat_eq k n) other)))
+
+-- the numbers of the marks so far, where the next is set
+pub one_more_number : (marks : List Bool) (numbers : List ℕ) (i : ℕ) → get_or marks i false ≡ true
+    → ((k : ℕ) → k < i → is_numbered numbers k ≡ get_or marks k false) → (k : ℕ) → k < i + 1 → is_numbered (numbers ++ i ∷ []) k ≡ get_or marks k false
+one_more_number marks numbers i marked so_far k within = by (cases_lt k i)
+  where
+    by : (k < i) ⊎ (i ≤ k) → is_numbered (numbers ++ i ∷ []) k ≡ get_or marks k false
+    by (inl less) =
+        numbered_push numbers i k ∙ (or_none (is_numbered numbers k) (nat_eq k i) (ne_eqb k i (λ (same : k ≡ i). omega (arith, same, less))) ∙ so_far k less)
+    by (inr more) =
+        let at : k ≡ i = omega (arith, within, more) in
+        numbered_push numbers i k ∙ (or_last (is_numbered numbers k) (nat_eq k i) (eq-eqb k i at) ∙ sym (ap (λ (n : ℕ). get_or marks n false) at ∙ marked))
+
+-- and where it isn't
+pub no_more_number : (marks : List Bool) (numbers : List ℕ) (i : ℕ) → get_or marks i false ≡ false → All (λ n. n < i) numbers
+    → ((k : ℕ) → k < i → is_numbered numbers k ≡ get_or marks k false) → (k : ℕ) → k < i + 1 → is_numbered numbers k ≡ get_or marks k false
+no_more_number marks numbers i unmarked below so_far k within = by (cases_lt k i)
+  where
+    by : (k < i) ⊎ (i ≤ k) → is_numbered numbers k ≡ get_or marks k false
+    by (inl less) = so_far k less
+    by (inr more) =
+        let at : k ≡ i = omega (arith, within, more) in
+        ap (is_numbered numbers) at ∙ (none_beyond numbers i below ∙ sym (ap (λ (n : ℕ). get_or marks n false) at ∙ unmarked))
+
+pub below_more : (numbers : List ℕ) (i : ℕ) → All (λ n. n < i) numbers → All (λ n. n < i + 1) numbers
+below_more numbers i below = λ k d within. let less = below k d within in omega (arith, less)
+
+pub numbers_are : (es : List Entry) (paths : List Text) (marks : List Bool) (numbers : List ℕ) → IsMask es paths marks → All (λ n. n < length marks) numbers
+    → ((k : ℕ) → k < length marks → is_numbered numbers k ≡ get_or marks k false) → AreNumbers es paths numbers
+numbers_are es paths marks numbers mask within each = record {
+  within = subst (λ (n : ℕ). All (λ m. m < n) numbers) mask.same_length within;
+  are_theirs = λ i e at. each i (omega (arith, mask.same_length, slice_get_within es i e at)) ∙ mask.is_marked i e at;
+}
+
 -- ---- what an import adds
 
-pub import_mask : (es : List Entry) (handed : List (List Bool)) (path : Text) (number : ℕ) (marks : List Bool) → AreHanded es handed
-    → (e : Entry) × (slice_get es number ≡ Some e) × (path_of e ≡ path) → slice_get handed number ≡ Some marks → IsMask es (handed_on (outlines es) path) marks
-import_mask es handed path number marks ready (e, there, is) at =
-    subst (λ (p : Text). IsMask es (handed_on (outlines es) p) marks) is (ready number marks e at there)
+pub import_numbers : (es : List Entry) (handed : List (List ℕ)) (path : Text) (number : ℕ) (numbers : List ℕ) → AreHanded es handed
+    → (e : Entry) × (slice_get es number ≡ Some e) × (path_of e ≡ path) → slice_get handed number ≡ Some numbers → AreNumbers es (handed_on (outlines es) path) numbers
+import_numbers es handed path number numbers ready (e, there, is) at =
+    subst (λ (p : Text). AreNumbers es (handed_on (outlines es) p) numbers) is (ready number numbers e at there)
 
-pub marks_both : (es : List Entry) (ps qs : List Text) (old other new : List Bool) → Marks es ps old → Marks es qs other
-    → ((k : ℕ) → get_or new k false ≡ (get_or old k false || get_or other k false)) → Marks es (ps ++ qs) new
-marks_both es ps qs old other new first second both = λ i e at.
-    both i ∙ (ap (λ b. b || get_or other i false) (first i e at) ∙ (ap (λ b. is_path_of ps (path_of e) || b) (second i e at)
+pub marks_both : (es : List Entry) (ps qs : List Text) (old : List Bool) (numbers : List ℕ) (new : List Bool) → Marks es ps old → AreNumbers es qs numbers
+    → ((k : ℕ) → get_or new k false ≡ (get_or old k false || is_numbered numbers k)) → Marks es (ps ++ qs) new
+marks_both es ps qs old numbers new first second both = λ i e at.
+    both i ∙ (ap (λ b. b || is_numbered numbers i) (first i e at) ∙ (ap (λ b. is_path_of ps (path_of e) || b) (second.are_theirs i e at)
     ∙ sym (list_any-append (bytes_eq (path_of e)) ps qs)))
 
 -- ---- the imports that count

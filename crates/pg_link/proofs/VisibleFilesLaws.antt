@@ -9,7 +9,7 @@ use Rattle.pg_link.specs.Files.{File, Import, InOrder, Differ, is_path_of, paths
 use Rattle.pg_link.specs.Imports.{line_of}
 use Rattle.pg_link.specs.Names.{Text}
 use Rattle.pg_link.specs.Outline.{file_imports}
-use Rattle.pg_link.specs.VisibleFiles.{IsMask, AreMasks, AreHanded, AreVisibleFiles, taken}
+use Rattle.pg_link.specs.VisibleFiles.{IsMask, AreMasks, AreNumbers, AreHanded, AreVisibleFiles, taken}
 use Rattle.pg_link.specs.Walk.{Entry, outline, outlines, path_of}
 use Rattle.pg_link.proofs.MaskLaws.{none_some}
 use Rattle.pg_link.proofs.VisibleLaws.{Each, each_of, first_among, later_among, handed_on_is, seen_paths_is}
@@ -92,13 +92,24 @@ pub masks_more : (es : List Entry) (paths : Text → List Text) (masks : List (L
     → ((a : Entry) → slice_get es (length masks) ≡ Some a → IsMask es (paths (path_of a)) m) → AreMasks es paths (masks ++ m ∷ [])
 masks_more es paths masks m before here = λ i marks e at there. masks_by es paths masks m i marks e before here there (push_cases masks m i marks at)
 
-pub handed_mask : (es : List Entry) (i : ℕ) (e : Entry) (lines : List made.ImportLine) (marks : List Bool) → InOrder (outlines es) → Differ (paths_of (outlines es))
+numbers_by : (es : List Entry) (handed : List (List ℕ)) (own : List ℕ) (i : ℕ) (numbers : List ℕ) (e : Entry)
+    → AreHanded es handed → ((a : Entry) → slice_get es (length handed) ≡ Some a → AreNumbers es (handed_on (outlines es) (path_of a)) own)
+    → slice_get es i ≡ Some e → (slice_get handed i ≡ Some numbers) ⊎ ((i ≡ length handed) × (own ≡ numbers)) → AreNumbers es (handed_on (outlines es) (path_of e)) numbers
+numbers_by es handed own i numbers e before here there (inl at) = before i numbers e at there
+numbers_by es handed own i numbers e before here there (inr (same, is)) =
+    subst (AreNumbers es (handed_on (outlines es) (path_of e))) is (here e (subst (λ (n : ℕ). slice_get es n ≡ Some e) same there))
+
+numbers_more : (es : List Entry) (handed : List (List ℕ)) (own : List ℕ) → AreHanded es handed
+    → ((a : Entry) → slice_get es (length handed) ≡ Some a → AreNumbers es (handed_on (outlines es) (path_of a)) own) → AreHanded es (handed ++ own ∷ [])
+numbers_more es handed own before here = λ i numbers e at there. numbers_by es handed own i numbers e before here there (push_cases handed own i numbers at)
+
+pub handed_numbers : (es : List Entry) (i : ℕ) (e : Entry) (lines : List made.ImportLine) (numbers : List ℕ) → InOrder (outlines es) → Differ (paths_of (outlines es))
     → slice_get es i ≡ Some e → map line_of lines ≡ file_imports e.1.tree
-    → IsMask es (path_of e ∷ flat_map (handed_on (outlines es)) (taken false (map line_of lines))) marks → IsMask es (handed_on (outlines es) (path_of e)) marks
-handed_mask es i e lines marks order apart at own mask =
-    subst (λ (ps : List Text). IsMask es ps marks)
+    → AreNumbers es (path_of e ∷ flat_map (handed_on (outlines es)) (taken false (map line_of lines))) numbers → AreNumbers es (handed_on (outlines es) (path_of e)) numbers
+handed_numbers es i e lines numbers order apart at own theirs =
+    subst (λ (ps : List Text). AreNumbers es ps numbers)
     (ap (λ (ls : List Import). path_of e ∷ flat_map (handed_on (outlines es)) (public_paths ls)) own
-    ∙ sym (handed_on_is (outlines es) order apart (outline e) (among_outlines es i e at))) mask
+    ∙ sym (handed_on_is (outlines es) order apart (outline e) (among_outlines es i e at))) theirs
 
 pub seen_mask : (es : List Entry) (i : ℕ) (e : Entry) (lines : List made.ImportLine) (marks : List Bool) → InOrder (outlines es) → Differ (paths_of (outlines es))
     → slice_get es i ≡ Some e → map line_of lines ≡ file_imports e.1.tree
@@ -113,6 +124,12 @@ Mask = Vec Bool Global
 
 abbrev pub marks_in : Mask → List Bool
 marks_in m = m.items
+
+abbrev pub Numbers : Type 0
+Numbers = Vec ℕ Global
+
+abbrev pub numbers_in : Numbers → List ℕ
+numbers_in v = v.items
 
 -- ---- one file more
 
@@ -130,20 +147,20 @@ its_imports es i e a lines shown at there own same =
     ap (map line_of) same ∙ (own ∙ ap (λ (x : Entry). file_imports x.1.tree) (same_Some e a (sym at ∙ there)))
 
 -- the same number, counted by masks
-counted : (es : List Entry) (old : List Mask) (i : ℕ) (a : Entry) → length old ≡ i → slice_get es (length (map marks_in old)) ≡ Some a → slice_get es i ≡ Some a
-counted es old i a many at = subst (λ (n : ℕ). slice_get es n ≡ Some a) (length-map old marks_in ∙ many) at
+counted : {X Y : Type 0} (f : X → Y) (es : List Entry) (old : List X) (i : ℕ) (a : Entry) → length old ≡ i → slice_get es (length (map f old)) ≡ Some a → slice_get es i ≡ Some a
+counted f es old i a many at = subst (λ (n : ℕ). slice_get es n ≡ Some a) (length-map old f ∙ many) at
 
-pub handed_more : (es : List Entry) (old new : List Mask) (v : Mask) (lines shown : List made.ImportLine) (count i : ℕ) (e : Entry)
+pub handed_more : (es : List Entry) (old new : List Numbers) (v : Numbers) (lines shown : List made.ImportLine) (count i : ℕ) (e : Entry)
     → InOrder (outlines es) → Differ (paths_of (outlines es)) → slice_get es i ≡ Some e → map line_of lines ≡ file_imports e.1.tree → shown ≡ lines
-    → count ≡ i → length old ≡ i → new ≡ old ++ v ∷ [] → AreHanded es (map marks_in old)
-    → ((a : Entry) → slice_get es count ≡ Some a → IsMask es (path_of a ∷ flat_map (handed_on (outlines es)) (taken false (map line_of shown))) v.items)
-    → AreHanded es (map marks_in new)
-handed_more es old new v lines shown count i e order apart at own same number many is before mask =
-    subst (AreHanded es) (sym (ap (map marks_in) is ∙ map-append marks_in old (v ∷ [])))
-    (masks_more es (handed_on (outlines es)) (map marks_in old) v.items before (λ a there.
-    let here : slice_get es i ≡ Some a = counted es old i a many there in
-    handed_mask es i a shown v.items order apart here (its_imports es i e a lines shown at here own same)
-    (mask a (subst (λ (n : ℕ). slice_get es n ≡ Some a) (sym number) here))))
+    → count ≡ i → length old ≡ i → new ≡ old ++ v ∷ [] → AreHanded es (map numbers_in old)
+    → ((a : Entry) → slice_get es count ≡ Some a → AreNumbers es (path_of a ∷ flat_map (handed_on (outlines es)) (taken false (map line_of shown))) v.items)
+    → AreHanded es (map numbers_in new)
+handed_more es old new v lines shown count i e order apart at own same number many is before theirs =
+    subst (AreHanded es) (sym (ap (map numbers_in) is ∙ map-append numbers_in old (v ∷ [])))
+    (numbers_more es (map numbers_in old) v.items before (λ a there.
+    let here : slice_get es i ≡ Some a = counted numbers_in es old i a many there in
+    handed_numbers es i a shown v.items order apart here (its_imports es i e a lines shown at here own same)
+    (theirs a (subst (λ (n : ℕ). slice_get es n ≡ Some a) (sym number) here))))
 
 pub visible_more : (es : List Entry) (old new : List Mask) (v : Mask) (lines shown : List made.ImportLine) (count i : ℕ) (e : Entry)
     → InOrder (outlines es) → Differ (paths_of (outlines es)) → slice_get es i ≡ Some e → map line_of lines ≡ file_imports e.1.tree → shown ≡ lines
@@ -153,6 +170,6 @@ pub visible_more : (es : List Entry) (old new : List Mask) (v : Mask) (lines sho
 visible_more es old new v lines shown count i e order apart at own same number many is before mask =
     subst (AreVisibleFiles es) (sym (ap (map marks_in) is ∙ map-append marks_in old (v ∷ [])))
     (masks_more es (seen_paths (outlines es)) (map marks_in old) v.items before (λ a there.
-    let here : slice_get es i ≡ Some a = counted es old i a many there in
+    let here : slice_get es i ≡ Some a = counted marks_in es old i a many there in
     seen_mask es i a shown v.items order apart here (its_imports es i e a lines shown at here own same)
     (mask a (subst (λ (n : ℕ). slice_get es n ≡ Some a) (sym number) here))))

@@ -1,5 +1,6 @@
 -- Which files each file sees, as marks.
-use Rattle.std.specs.Prelude.{◌≡◌, ℕ, Bool, false, List, get_or, length, slice_get, Some, if◌then◌else◌}
+use Rattle.std.specs.Prelude.{◌≡◌, ◌<◌, ℕ, Bool, false, List, get_or, length, slice_get, nat_eq, Some, if◌then◌else◌}
+use Rattle.std.specs.List.{All, list_any}
 use Rattle.pg_link.specs.Files.{Import, import_paths, public_paths, is_path_of, handed_on, seen_paths}
 use Rattle.pg_link.specs.Names.{Text}
 use Rattle.pg_link.specs.Walk.{Entry, outlines, path_of}
@@ -18,9 +19,19 @@ abbrev pub AreMasks : List Entry → (Text → List Text) → List (List Bool) �
 AreMasks files paths masks = (i : ℕ) (marks : List Bool) (e : Entry) → slice_get masks i ≡ Some marks → slice_get files i ≡ Some e
     → IsMask files (paths (path_of e)) marks
 
+-- the number is among these
+abbrev pub is_numbered : List ℕ → ℕ → Bool
+is_numbered numbers k = list_any (nat_eq k) numbers
+
+-- the numbers of just the files that have one of these paths
+pub record AreNumbers (files : List Entry) (paths : List Text) (numbers : List ℕ) : Type 0 where
+  pub within : All (λ n. n < length files) numbers
+  pub are_theirs : (i : ℕ) (e : Entry) → slice_get files i ≡ Some e → is_numbered numbers i ≡ is_path_of paths (path_of e)
+
 -- what the first files hand on
-abbrev pub AreHanded : List Entry → List (List Bool) → Type 0
-AreHanded files = AreMasks files (handed_on (outlines files))
+abbrev pub AreHanded : List Entry → List (List ℕ) → Type 0
+AreHanded files handed = (i : ℕ) (numbers : List ℕ) (e : Entry) → slice_get handed i ≡ Some numbers → slice_get files i ≡ Some e
+    → AreNumbers files (handed_on (outlines files) (path_of e)) numbers
 
 -- what the first files see
 abbrev pub AreVisibleFiles : List Entry → List (List Bool) → Type 0

@@ -11,16 +11,32 @@ use crate::walk::SourceFile;
 use indexmap::IndexMap;
 use std::alloc::{AllocError, Global};
 
-/// Marks what the other marks too.
-fn mark_all(marks: &mut Vec<bool>, other: &[bool])
-    requires { length marks.old.items ≡ length other.now }
+/// Marks the files of these numbers.
+fn mark_each(marks: &mut Vec<bool>, numbers: &[usize])
+    requires { All (λ n. n < length marks.old.items) numbers.now }
     ensures same_length { length marks.new.items ≡ length marks.old.items }
     ensures both { (k : ℕ) → get_or marks.new.items k false
-        ≡ (get_or marks.old.items k false || get_or other.now k false) }
+        ≡ (get_or marks.old.items k false || spec.is_numbered numbers.now k) }
 {
-    for index in 0..other.len() {
-        marks[index] |= other[index];
+    for number in numbers {
+        marks[*number] = true;
     }
+}
+
+/// The numbers of the files that are marked.
+fn numbers_of(alloc: Global, marks: &[bool]) -> Result<Vec<usize>, AllocError>
+    ensures within { IfOk result (λ numbers. All (λ n. n < length marks.now) numbers.items) }
+    ensures each { IfOk result (λ numbers. (k : ℕ) → k < length marks.now
+        → spec.is_numbered numbers.items k ≡ get_or marks.now k false) }
+{
+    let mut numbers = Vec::new(alloc);
+    for (number, mark) in marks.iter().enumerate() {
+        if !*mark {
+            continue;
+        }
+        numbers.push(number)?;
+    }
+    Ok(numbers)
 }
 
 /// A mark at this place, of so many.
@@ -47,7 +63,7 @@ fn number_of(files: &IndexMap<String, SourceFile>, count: usize, path: &str) -> 
 /// Marks what the file of this path hands on.
 fn add_import(
     files: &IndexMap<String, SourceFile>,
-    handed: &[Vec<bool>],
+    handed: &[Vec<usize>],
     marks: &mut Vec<bool>,
     path: &str,
 )
@@ -61,7 +77,7 @@ fn add_import(
         marks.new.items }
 {
     let other = &handed[number_of(files, handed.len(), path)];
-    mark_all(marks, other);
+    mark_each(marks, other);
 }
 
 /// Whether an import counts, where all or the public ones do.
@@ -74,7 +90,7 @@ fn is_taken(line: &ImportLine, all: bool) -> bool
 /// Marks what an import hands on, where it counts.
 fn add_line(
     files: &IndexMap<String, SourceFile>,
-    handed: &[Vec<bool>],
+    handed: &[Vec<usize>],
     marks: &mut Vec<bool>,
     line: &ImportLine,
     all: bool,
@@ -98,7 +114,7 @@ fn add_line(
 /// Marks what the imports hand on, all of them or the public ones.
 fn add_imports(
     files: &IndexMap<String, SourceFile>,
-    handed: &[Vec<bool>],
+    handed: &[Vec<usize>],
     marks: &mut Vec<bool>,
     lines: &[ImportLine],
     all: bool,
@@ -123,7 +139,7 @@ fn add_imports(
 fn marks_of(
     alloc: Global,
     files: &IndexMap<String, SourceFile>,
-    handed: &[Vec<bool>],
+    handed: &[Vec<usize>],
     lines: &[ImportLine],
     all: bool,
 ) -> Result<Vec<bool>, AllocError>
@@ -142,6 +158,31 @@ fn marks_of(
     let mut marks = one_mark(alloc, files.len(), handed.len())?;
     add_imports(files, handed, &mut marks, lines, all);
     Ok(marks)
+}
+
+/// The numbers of the files that a file hands on: itself and what its public imports hand on. Most
+/// files hand on themselves alone, so these are few.
+fn handed_of(
+    alloc: Global,
+    files: &IndexMap<String, SourceFile>,
+    handed: &[Vec<usize>],
+    lines: &[ImportLine],
+) -> Result<Vec<usize>, AllocError>
+    requires ready { spec.AreHanded files.now.entries (map (λ m. m.items) handed.now) }
+    requires within { length handed.now < length files.now.entries }
+    requires apart { Differ (paths_of (outlines files.now.entries)) }
+    requires there { All (λ l. is_path_of
+        (paths_of (outlines (take (length handed.now) files.now.entries))) (line_of l).path ≡ true)
+        lines.now }
+    ensures { IfOk result (λ numbers. (e : Entry)
+        → slice_get files.now.entries (length handed.now) ≡ Some e
+        → spec.AreNumbers files.now.entries
+        (path_of e ∷ flat_map (handed_on (outlines files.now.entries))
+        (spec.taken false (map line_of lines.now))) numbers.items) }
+{
+    let marks = marks_of(alloc, files, handed, lines, false)?;
+    let numbers = numbers_of(alloc, &marks)?;
+    Ok(numbers)
 }
 
 /// For each file, by its number, which files it sees: itself, its imports, and onwards by `import
@@ -166,7 +207,7 @@ pub(crate) fn visible_files_of(
         };
         let lines = imports_of(alloc, &file.tree)?;
         let seen = marks_of(alloc, files, &handed, &lines, true)?;
-        let onwards = marks_of(alloc, files, &handed, &lines, false)?;
+        let onwards = handed_of(alloc, files, &handed, &lines)?;
         visible_files.push(seen)?;
         handed.push(onwards)?;
     }

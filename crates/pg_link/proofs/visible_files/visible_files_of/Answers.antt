@@ -1,10 +1,10 @@
 use Rattle.std.proofs.Common.{◌≡◌, ◌∙◌, ◌+◌, ◌++◌, ◌∷◌, [], ℕ, List, Some, length, slice_get, ap, sym, arith}
 use Rattle.std.proofs.lemmas.List.{length-append}
 use Rattle.pg_link.specs.Walk.{Entry}
-use Rattle.pg_link.proofs.VisibleFilesLaws.{Mask, handed_more, visible_more, there_of}
+use Rattle.pg_link.proofs.VisibleFilesLaws.{handed_more, visible_more, there_of}
 use Rattle.pg_link.proofs.visible_files.visible_files_of.Goals as goal
 
-one_longer : (old new : List Mask) (v : Mask) (i : ℕ) → length old ≡ i → new ≡ old ++ v ∷ [] → length new ≡ i + 1
+one_longer : {X : Type 0} (old new : List X) (v : X) (i : ℕ) → length old ≡ i → new ≡ old ++ v ∷ [] → length new ≡ i + 1
 one_longer old new v i many is = ap length is ∙ omega (arith, many, length-append old (v ∷ []))
 
 pub marks_of-requires-clause-there : goal.marks_of-requires-clause-there
@@ -13,8 +13,8 @@ marks_of-requires-clause-there c =
     there_of c.args.files.now.entries c.loop-number.number (length c.deref.result.now) e c.in_ok-lines.lines.items c.deref-in-loop-number.result.now c.requires.in_order
     (sym c.in-Some.ensures.entry) c.in_ok-lines.ensures c.deref-in-loop-number.ensures.value (ap length c.deref.ensures.value ∙ c.loop-number.invariant.handed_length)
 
-pub marks_of-requires-in-loop-number-clause-there : goal.marks_of-requires-in-loop-number-clause-there
-marks_of-requires-in-loop-number-clause-there c =
+pub handed_of-requires-clause-there : goal.handed_of-requires-clause-there
+handed_of-requires-clause-there c =
     let e : Entry = (c.in-Some.field-0-0.now, c.in-Some.file.now) in
     there_of c.args.files.now.entries c.loop-number.number (length c.deref-in-loop-number-2.result.now) e c.in_ok-lines.lines.items c.deref-in-loop-number-3.result.now c.requires.in_order
     (sym c.in-Some.ensures.entry) c.in_ok-lines.ensures c.deref-in-loop-number-3.ensures.value (ap length c.deref-in-loop-number-2.ensures.value ∙ c.loop-number.invariant.handed_length)
