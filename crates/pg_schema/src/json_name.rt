@@ -15,7 +15,7 @@ pub(crate) fn in_camel_case(
 ) -> Result<String, AllocError>
     ensures { IfOk result (λ text. string_bytes text ≡ in_camel_case is_behind name.now) }
 {
-    let mut text = String::new(alloc);
+    let mut text = String::with_capacity(alloc, name.len())?;
     let mut behind = is_behind;
     for character in name.chars() {
         if character == '_' {

@@ -15,7 +15,7 @@ written behind text rest before after all c other split grown inv =
 
 pub loop-character-init : goal.loop-character-init
 loop-character-init c =
-    ap (λ bs. bs ++ in_camel_case c.args.is_behind c.into_iter-character-iterator.result.rest.now) c.new-text.ensures.bytes
+    ap (λ bs. bs ++ in_camel_case c.args.is_behind c.into_iter-character-iterator.result.rest.now) c.in_ok-text.ensures.bytes
     ∙ ap (in_camel_case c.args.is_behind) (ap (λ (s : Chars). s.rest.now) c.into_iter-character-iterator.ensures.into_iter_gives ∙ c.chars-character-items.ensures.rest)
 
 pub loop-character-preserved-then-character-eq95 :
