@@ -4,6 +4,11 @@ use Rattle.pg_schema.specs.declared.parts.field.Field.{Field}
 use Rattle.pg_schema.proofs.lemmas.schema.FieldSearch.{searchable, found_at, none_found, equal_number, apart}
 use Rattle.pg_schema.proofs.schema.field_in.Goals as goal
 
+pub returns-then-field-number : goal.returns-then-field-number
+returns-then-field-number c =
+    sym (found_at c.args.number c.saturating_sub-counted.result c.args.fields.now c.index-fields-counted.result c.requires c.if-counted-fields.true c.index-fields-counted.is
+    c.if-field-number.true)
+
 pub returns-in-Ok : goal.returns-in-Ok
 returns-in-Ok c =
     let equal = c.in-Ok.ensures.position (λ (f : Field). f.number) (answers_always _ _ _ (λ f a r g called. search rules)) in
