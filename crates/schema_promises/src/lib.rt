@@ -35,6 +35,16 @@ pub fn from_parts_refused(alloc: Global, bad: Parts) -> Result<Schema, (PartsErr
     Schema::from_parts(alloc, bad)
 }
 
+/// What `Schema::of_sound` answers. Only an edit takes the other parts.
+pub fn of_sound(alloc: Global, parts: Parts, other: Parts) -> Result<Schema, AllocError>
+    requires sound { IsSound parts }
+    requires other { IsSound other }
+    ensures { IfOk result (λ schema. schema ≡ parts) }
+{
+    let _other = other;
+    Schema::of_sound(alloc, parts)
+}
+
 /// What `Schema::parts` answers. Only an edit reads the other schema.
 pub fn parts<'a>(schema: &'a Schema, _other: &'a Schema) -> &'a Parts
     ensures parts { result.now ≡ schema.now }
