@@ -71,11 +71,24 @@ enum_places ids = map (λ (id : EnumId). id.index) ids
 abbrev pub service_places : List ServiceId → List ℕ
 service_places ids = map (λ (id : ServiceId). id.index) ids
 
+-- the places of what files declare, and of what message types do
+abbrev pub file_types : List File → List ℕ
+file_types files = flat_map (λ (f : File). type_places f.types.items) files
+
+abbrev pub nested_types : List MessageType → List ℕ
+nested_types types = flat_map (λ (t : MessageType). type_places t.nested_types.items) types
+
 abbrev pub declared_types : List File → List MessageType → List ℕ
-declared_types files types = flat_map (λ (f : File). type_places f.types.items) files ++ flat_map (λ (t : MessageType). type_places t.nested_types.items) types
+declared_types files types = file_types files ++ nested_types types
+
+abbrev pub file_enums : List File → List ℕ
+file_enums files = flat_map (λ (f : File). enum_places f.enums.items) files
+
+abbrev pub nested_enums : List MessageType → List ℕ
+nested_enums types = flat_map (λ (t : MessageType). enum_places t.nested_enums.items) types
 
 abbrev pub declared_enums : List File → List MessageType → List ℕ
-declared_enums files types = flat_map (λ (f : File). enum_places f.enums.items) files ++ flat_map (λ (t : MessageType). enum_places t.nested_enums.items) types
+declared_enums files types = file_enums files ++ nested_enums types
 
 abbrev pub declared_services : List File → List ℕ
 declared_services files = flat_map (λ (f : File). service_places f.services.items) files

@@ -1,10 +1,8 @@
 //! Where message types, enums and services are declared.
 
 ghost use Rattle.std.specs.Prelude.{◌≡◌, ◌++◌, IfOk, OnOk, length, map, nat_lt};
-ghost use Rattle.std.specs.List.{flat_map, list_all};
-ghost use Rattle.pg_schema.specs.declared.parts.file.File.{File};
-ghost use Rattle.pg_schema.specs.declared.parts.message_type.MessageType.{MessageType};
-ghost use Rattle.pg_schema.specs.rules.Scopes.{are_declared_once, are_each_once, are_enums_in, are_services_in, are_types_in, declared_enums, declared_services, declared_types, enum_places, enum_name, is_dot_and_word, is_file_scope, is_in, is_named_in, is_type_scope, place_use, service_name, type_name, service_places, type_places};
+ghost use Rattle.std.specs.List.{list_all};
+ghost use Rattle.pg_schema.specs.rules.Scopes.{are_declared_once, are_each_once, are_enums_in, are_services_in, are_types_in, declared_enums, declared_services, declared_types, enum_places, enum_name, file_enums, file_types, is_dot_and_word, is_file_scope, is_in, is_named_in, is_type_scope, nested_enums, nested_types, place_use, service_name, type_name, service_places, type_places};
 
 use crate::parts::enum_type::EnumType;
 use crate::parts::field::{EnumId, TypeId};
@@ -171,6 +169,26 @@ fn push_service_places(places: &mut Vec<u32>, ids: &[ServiceId]) -> Result<(), A
     Ok(())
 }
 
+/// Appends the places of the message types that files declare.
+fn push_file_types(places: &mut Vec<u32>, files: &[File]) -> Result<(), AllocError>
+    ensures { OnOk result (places.new.items ≡ places.old.items ++ file_types files.now) }
+{
+    for file in files {
+        push_type_places(places, &file.types)?;
+    }
+    Ok(())
+}
+
+/// Appends the places of the message types that message types declare.
+fn push_nested_types(places: &mut Vec<u32>, types: &[MessageType]) -> Result<(), AllocError>
+    ensures { OnOk result (places.new.items ≡ places.old.items ++ nested_types types.now) }
+{
+    for message_type in types {
+        push_type_places(places, &message_type.nested_types)?;
+    }
+    Ok(())
+}
+
 /// The places of the message types that files and message types declare.
 fn declared_types(
     alloc: Global,
@@ -180,13 +198,29 @@ fn declared_types(
     ensures { IfOk result (λ places. places.items ≡ declared_types files.now types.now) }
 {
     let mut places = Vec::new(alloc);
-    for file in files {
-        push_type_places(&mut places, &file.types)?;
-    }
-    for message_type in types {
-        push_type_places(&mut places, &message_type.nested_types)?;
-    }
+    push_file_types(&mut places, files)?;
+    push_nested_types(&mut places, types)?;
     Ok(places)
+}
+
+/// Appends the places of the enums that files declare.
+fn push_file_enums(places: &mut Vec<u32>, files: &[File]) -> Result<(), AllocError>
+    ensures { OnOk result (places.new.items ≡ places.old.items ++ file_enums files.now) }
+{
+    for file in files {
+        push_enum_places(places, &file.enums)?;
+    }
+    Ok(())
+}
+
+/// Appends the places of the enums that message types declare.
+fn push_nested_enums(places: &mut Vec<u32>, types: &[MessageType]) -> Result<(), AllocError>
+    ensures { OnOk result (places.new.items ≡ places.old.items ++ nested_enums types.now) }
+{
+    for message_type in types {
+        push_enum_places(places, &message_type.nested_enums)?;
+    }
+    Ok(())
 }
 
 /// The places of the enums that files and message types declare.
@@ -198,12 +232,8 @@ fn declared_enums(
     ensures { IfOk result (λ places. places.items ≡ declared_enums files.now types.now) }
 {
     let mut places = Vec::new(alloc);
-    for file in files {
-        push_enum_places(&mut places, &file.enums)?;
-    }
-    for message_type in types {
-        push_enum_places(&mut places, &message_type.nested_enums)?;
-    }
+    push_file_enums(&mut places, files)?;
+    push_nested_enums(&mut places, types)?;
     Ok(places)
 }
 

@@ -1,9 +1,9 @@
 //! The numbers that a message type or an enum uses.
 
-ghost use Rattle.std.specs.Prelude.{◌≡◌, IfOk, true};
+ghost use Rattle.std.specs.Prelude.{◌≡◌, ◌++◌, IfOk, OnOk, map, true};
 ghost use Rattle.std.specs.List.{list_all};
 ghost use Rattle.pg_schema.specs.rules.Pairs.{all_neighbours};
-ghost use Rattle.pg_schema.specs.rules.Uses.{comes_before, enum_uses, from_lowest, is_used_once, is_whole, message_uses, reserved_values_use, value_use};
+ghost use Rattle.pg_schema.specs.rules.Uses.{comes_before, enum_uses, field_use, from_lowest, is_used_once, is_whole, message_uses, reserved_use, reserved_values_use, value_use};
 
 use crate::parts::enum_type::{EnumValue, ReservedValues};
 use crate::parts::field::Field;
@@ -21,6 +21,38 @@ pub(crate) struct Use {
     pub is_reserved: bool,
 }
 
+/// What the field uses.
+fn field_use(field: &Field) -> Use
+    ensures { result ≡ field_use field.now }
+{
+    Use {
+        first: field.number,
+        last: field.number,
+        is_reserved: false,
+    }
+}
+
+/// What the reserved item of a message type uses.
+fn reserved_use(range: ReservedFields) -> Use
+    ensures { result ≡ reserved_use range }
+{
+    Use {
+        first: range.first,
+        last: range.last,
+        is_reserved: true,
+    }
+}
+
+/// Appends what the fields use.
+fn push_field_uses(uses: &mut Vec<Use>, fields: &[Field]) -> Result<(), AllocError>
+    ensures { OnOk result (uses.new.items ≡ uses.old.items ++ map field_use fields.now) }
+{
+    for field in fields {
+        uses.push(field_use(field))?;
+    }
+    Ok(())
+}
+
 /// What the fields and the reserved items of a message type use.
 pub(crate) fn message_uses(
     alloc: Global,
@@ -30,19 +62,9 @@ pub(crate) fn message_uses(
     ensures { IfOk result (λ uses. uses.items ≡ message_uses fields.now reserved.now) }
 {
     let mut uses = Vec::new(alloc);
-    for field in fields {
-        uses.push(Use {
-            first: field.number,
-            last: field.number,
-            is_reserved: false,
-        })?;
-    }
+    push_field_uses(&mut uses, fields)?;
     for range in reserved {
-        uses.push(Use {
-            first: range.first,
-            last: range.last,
-            is_reserved: true,
-        })?;
+        uses.push(reserved_use(*range))?;
     }
     Ok(uses)
 }
@@ -77,6 +99,16 @@ fn reserved_values_use(range: ReservedValues) -> Use
     }
 }
 
+/// Appends what the values use.
+fn push_value_uses(uses: &mut Vec<Use>, values: &[EnumValue]) -> Result<(), AllocError>
+    ensures { OnOk result (uses.new.items ≡ uses.old.items ++ map value_use values.now) }
+{
+    for value in values {
+        uses.push(value_use(value))?;
+    }
+    Ok(())
+}
+
 /// What the values and the reserved items of an enum use.
 pub(crate) fn enum_uses(
     alloc: Global,
@@ -86,9 +118,7 @@ pub(crate) fn enum_uses(
     ensures { IfOk result (λ uses. uses.items ≡ enum_uses values.now reserved.now) }
 {
     let mut uses = Vec::new(alloc);
-    for value in values {
-        uses.push(value_use(value))?;
-    }
+    push_value_uses(&mut uses, values)?;
     for range in reserved {
         uses.push(reserved_values_use(*range))?;
     }
