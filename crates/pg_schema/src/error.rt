@@ -1,7 +1,7 @@
 //! Why parts are no valid schema.
 
 ghost use Rattle.std.specs.Prelude.{Some};
-ghost use Rattle.pg_schema.specs.Told.{told};
+ghost use Rattle.pg_schema.specs.ErrorText.{error_text};
 
 use std::error::Error;
 use std::fmt;
@@ -32,7 +32,7 @@ impl PartsError {
 }
 
 impl fmt::Display for PartsError {
-    ghost output = { λ e. Some (told e) };
+    ghost output = { λ e. Some (error_text e) };
 
     fn fmt<W: fmt::Write>(&self, f: &mut fmt::Formatter<W>) -> fmt::Result {
         match self {

@@ -14,7 +14,7 @@ ghost use Rattle.pg_schema.specs.JsonName.{default_json_name};
 ghost use Rattle.pg_schema.specs.Parts.{enum_at, field_of, field_shape, name_at, shape_of, type_at};
 ghost use Rattle.pg_schema.specs.Shape.{field_at, fields, is_packable};
 ghost use Rattle.pg_schema.specs.rules.Sound.{IsSound};
-ghost use Rattle.pg_schema.specs.Told as spec;
+ghost use Rattle.pg_schema.specs.ErrorText as spec;
 
 use pg_schema::{Element, EnumId, EnumType, Field, MessageType, Parts, PartsError, Schema, TypeId};
 use std::alloc::{AllocError, Global};
@@ -129,8 +129,8 @@ pub fn code(error: PartsError) -> Option<u16>
 }
 
 /// What the `Display` of `PartsError` writes.
-pub fn told(alloc: Global, error: PartsError) -> Result<String, AllocError>
-    ensures { IfOk result (λ text. string_bytes text ≡ spec.told error) }
+pub fn error_text(alloc: Global, error: PartsError) -> Result<String, AllocError>
+    ensures { IfOk result (λ text. string_bytes text ≡ spec.error_text error) }
 {
     format!(in alloc; "{error}")
 }

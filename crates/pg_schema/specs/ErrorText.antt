@@ -3,6 +3,6 @@ use Rattle.std.specs.Prelude.{ℕ, List, codes}
 use Rattle.pg_schema.specs.declared.error.PartsError.{PartsError}
 use Rattle.pg_schema.specs.declared.error.PartsError.TheVariants.{Memory, Invariant}
 
-abbrev pub told : PartsError → List ℕ
-told Memory = codes "Out of memory."
-told Invariant = codes "The parts are not a valid schema."
+abbrev pub error_text : PartsError → List ℕ
+error_text Memory = codes "Out of memory."
+error_text Invariant = codes "The parts are not a valid schema."
