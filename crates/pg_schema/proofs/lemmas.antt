@@ -1,3 +1,4 @@
 pub mod rules
 pub mod schema
 pub mod JsonNames
+pub mod Texts

@@ -12,11 +12,14 @@ ghost use Rattle.pg_schema.specs.rules.DeclaredNames.{entry_name, within};
 ghost use Rattle.pg_schema.specs.Invariant.{IsSchema};
 ghost use Rattle.pg_schema.specs.JsonName.{default_json_name};
 ghost use Rattle.pg_schema.specs.Parts.{enum_at, field_of, field_shape, name_at, shape_of, type_at};
+ghost use Rattle.pg_schema.specs.ScalarWords.{scalar_of};
 ghost use Rattle.pg_schema.specs.Shape.{field_at, fields, is_packable};
 ghost use Rattle.pg_schema.specs.rules.Sound.{IsSound};
 ghost use Rattle.pg_schema.specs.ErrorText as spec;
 
-use pg_schema::{Element, EnumId, EnumType, Field, MessageType, Parts, PartsError, Schema, TypeId};
+use pg_schema::{
+    Element, EnumId, EnumType, Field, MessageType, Parts, PartsError, Scalar, Schema, TypeId,
+};
 use std::alloc::{AllocError, Global};
 
 /// What `Schema::from_parts` answers.
@@ -91,6 +94,13 @@ pub fn field(schema: &Schema, id: TypeId, number: u32) -> Option<&Field>
         ≡ field_at (fields (shape_of schema.now) id) number }
 {
     schema.field(id, number)
+}
+
+/// What `Scalar::named` answers.
+pub fn scalar_named(word: &str) -> Option<Scalar>
+    ensures { result ≡ scalar_of word.now }
+{
+    Scalar::named(word)
 }
 
 /// What `Element::is_packable` answers.

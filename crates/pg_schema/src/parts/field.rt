@@ -1,6 +1,7 @@
 //! Fields of a message type, with the words that say what they hold.
 
 ghost use Rattle.std.specs.Prelude.{◌≡◌};
+ghost use Rattle.pg_schema.specs.ScalarWords.{scalar_of};
 ghost use Rattle.pg_schema.specs.Shape.{is_packable};
 
 use crate::parts::options::FieldOptions;
@@ -52,6 +53,33 @@ pub enum Scalar {
     String,
     /// `bytes`: any bytes.
     Bytes,
+}
+
+impl Scalar {
+    /// The scalar type of that word. `None` where it is the word of none (proto3 language guide,
+    /// "Scalar Value Types").
+    pub fn named(word: &str) -> Option<Self>
+        ensures { result ≡ scalar_of word.now }
+    {
+        match word {
+            "double" => Some(Scalar::Double),
+            "float" => Some(Scalar::Float),
+            "int32" => Some(Scalar::Int32),
+            "int64" => Some(Scalar::Int64),
+            "uint32" => Some(Scalar::Uint32),
+            "uint64" => Some(Scalar::Uint64),
+            "sint32" => Some(Scalar::Sint32),
+            "sint64" => Some(Scalar::Sint64),
+            "fixed32" => Some(Scalar::Fixed32),
+            "fixed64" => Some(Scalar::Fixed64),
+            "sfixed32" => Some(Scalar::Sfixed32),
+            "sfixed64" => Some(Scalar::Sfixed64),
+            "bool" => Some(Scalar::Bool),
+            "string" => Some(Scalar::String),
+            "bytes" => Some(Scalar::Bytes),
+            _ => None,
+        }
+    }
 }
 
 /// What a field's items are. Of a map field: what its values are.
