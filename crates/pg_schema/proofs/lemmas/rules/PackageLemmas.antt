@@ -30,11 +30,6 @@ front_take (n ∷ ns) [] h = absurd (false≢true h)
 front_take (n ∷ ns) (c ∷ cs) h =
     ap (λ x. x ∷ take (length ns) cs) (sym (same_number n c (and_left _ _ h))) ∙ ap (λ xs. n ∷ xs) (front_take ns cs (and_right (nat_eq n c) _ h))
 
-front_short : (name text : List ℕ) → is_front name text ≡ true → length name ≤ length text
-front_short [] text h = omega arith
-front_short (n ∷ ns) [] h = absurd (false≢true h)
-front_short (n ∷ ns) (c ∷ cs) h = let le = front_short ns cs (and_right (nat_eq n c) _ h) in omega (arith, le)
-
 front_dot : (name text : List ℕ) → is_front name text ≡ true → length name < length text → get_or text (length name) 0 ≡ 46
 front_dot [] [] h lt = absurd (omega (arith, lt))
 front_dot [] (c ∷ cs) h lt = same_number c 46 h

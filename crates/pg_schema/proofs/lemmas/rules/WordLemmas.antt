@@ -40,7 +40,3 @@ step false false c cs = next_byte c (parts_at_dots cs)
 pub words_step : (begins : Bool) (c : ℕ) (cs : List ℕ) → words_from begins (c ∷ cs) ≡ (may_stand begins c && words_from (eqb c 46) cs)
 words_step true c cs = step true (eqb c 46) c cs
 words_step false c cs = step false (eqb c 46) c cs
-
-pub words_end : (begins : Bool) → words_from begins [] ≡ not begins
-words_end true = refl
-words_end false = refl

@@ -19,11 +19,6 @@ fields_at [] i t is = absurd (none-some t is)
 fields_at (s ∷ types) zero t is = subst (λ u. shape_in s ≡ shape_in u) (same_Some s t is) refl
 fields_at (s ∷ types) (suc i) t is = fields_at types i t is
 
-pub no_fields_at : (types : List MessageType) (i : ℕ) → slice_get types i ≡ None → get_or (map shape_in types) i [] ≡ []
-no_fields_at [] i is = refl
-no_fields_at (s ∷ types) zero is = absurd (none-some s (sym is))
-no_fields_at (s ∷ types) (suc i) is = no_fields_at types i is
-
 each_at : (P : List FieldShape → Type 0) (types : List MessageType) (i : ℕ) (t : MessageType) → AllByRecursion P (map shape_in types) → slice_get types i ≡ Some t → P (shape_in t)
 each_at P [] i t all is = absurd (none-some t is)
 each_at P (s ∷ types) zero t all is = subst (λ u. P (shape_in u)) (same_Some s t is) all.0
