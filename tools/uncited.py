@@ -36,22 +36,26 @@ def is_goal(path):
 
 
 class Unit:
-    """A lemma, a definition, or a module with all that stands in it: where it begins, its names, and the words of its text."""
+    """A lemma, a definition, or a module or mutual block with all that stands in it: where it begins, its names, and its words."""
 
     def __init__(self, path, line, lines):
         self.path, self.line, self.crate = path, line, path.split("/")[1]
-        is_module = lines[0].lstrip("pub ").startswith("module ")
+        is_module = lines[0].lstrip("pub ").startswith("module ") or lines[0] == "mutual"
         found = [it for it in map(ITEM.match, lines if is_module else lines[:1]) if it and len(it[1]) <= 6]
         self.names = [it[2] for it in found]
         self.words = {word for line in lines for word in WORD.findall(line)}
         self.is_public = "pub " in lines[0] or is_module
 
 
+def is_head(line):
+    """Returns whether a unit begins at the line."""
+    return line[:1].strip() != "" and (ITEM.match(line) is not None or "module " in line or line == "mutual")
+
+
 def units_of(path, text):
     """Returns the units of a file of definitions or lemmas."""
     lines = [COMMENT.sub("", it) for it in text.split("\n")]
-    heads = [at for at, line in enumerate(lines) if line and not line[0].isspace() and (ITEM.match(line) or "module " in line)]
-    heads = [at for at in heads if not re.match(r"(pub )?(use|mod) ", lines[at])]
+    heads = [at for at, line in enumerate(lines) if is_head(line) and not re.match(r"(pub )?(use|mod) ", line)]
     return [Unit(path, at + 1, lines[at:end]) for at, end in zip(heads, [*heads[1:], len(lines)])]
 
 
