@@ -2,6 +2,7 @@
 -- every construct are shown by tests: their trees are long to write out.
 use Rattle.std.specs.Prelude.{◌≡◌, ◌≤◌, ℕ, Bool, true, false, List, [], ◌∷◌, ◌++◌, codes, length, Option, Some, None}
 use Rattle.pg_schema.specs.JsonName.{default_json_name}
+use Rattle.pg_schema.specs.ScalarWords.{scalar_of}
 use Rattle.pg_check.specs.declared.fault.Fault.{Fault}
 use Rattle.pg_check.specs.declared.fault.Rule.{Rule}
 use Rattle.pg_check.specs.declared.fault.Rule.TheVariants as rules
@@ -21,7 +22,7 @@ use Rattle.pg_check.specs.declared.options.Owner.{Owner}
 use Rattle.pg_check.specs.Options.{OptionAt, an_option, first_bad, in_brackets, in_line, is_of, is_of_kind, option_named}
 use Rattle.pg_check.specs.Outline.{Message}
 use Rattle.pg_check.specs.ReservedItems.{numbers_of}
-use Rattle.pg_check.specs.Types.{is_key_scalar, is_packable, scalar_of}
+use Rattle.pg_check.specs.Types.{is_key_scalar, is_packable}
 use Rattle.pg_syntax.specs.declared.tree as tree
 use Rattle.pg_syntax.specs.declared.tree.Value.TheVariants as values
 use Rattle.std.specs.Prelude.{pos, negsuc}

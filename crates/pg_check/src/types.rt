@@ -34,36 +34,12 @@ impl Targets<'_> {
     }
 }
 
-/// The scalar type of this word (proto3 language guide, "Scalar Value Types").
-fn scalar_of(word: &str) -> Option<Scalar>
-    ensures { result ≡ spec.scalar_of word.now }
-{
-    match word {
-        "double" => Some(Scalar::Double),
-        "float" => Some(Scalar::Float),
-        "int32" => Some(Scalar::Int32),
-        "int64" => Some(Scalar::Int64),
-        "uint32" => Some(Scalar::Uint32),
-        "uint64" => Some(Scalar::Uint64),
-        "sint32" => Some(Scalar::Sint32),
-        "sint64" => Some(Scalar::Sint64),
-        "fixed32" => Some(Scalar::Fixed32),
-        "fixed64" => Some(Scalar::Fixed64),
-        "sfixed32" => Some(Scalar::Sfixed32),
-        "sfixed64" => Some(Scalar::Sfixed64),
-        "bool" => Some(Scalar::Bool),
-        "string" => Some(Scalar::String),
-        "bytes" => Some(Scalar::Bytes),
-        _ => None,
-    }
-}
-
 /// The scalar type that the name is, which then is one word without a dot.
 pub(crate) fn scalar_named(name: &TypeName) -> Option<Scalar>
     ensures { result ≡ spec.scalar_named name.now }
 {
     if !name.is_full && name.path.more.is_empty() {
-        scalar_of(&name.path.first.text)
+        Scalar::named(&name.path.first.text)
     } else {
         None
     }
