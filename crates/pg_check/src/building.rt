@@ -15,7 +15,7 @@ use crate::error::{CheckError, error_of};
 use crate::made_parts::Source;
 use crate::types::Targets;
 use pg_link::{Linked, place_in};
-use pg_schema::{PartsError, Schema};
+use pg_schema::Schema;
 use std::alloc::{AllocError, Global};
 
 /// The linked files in their order, each with what its type names name.
@@ -73,11 +73,7 @@ fn schema_of(alloc: Global, files: &[Source<'_>]) -> Result<Schema, CheckError>
         Err(Refusal::Memory) => return Err(CheckError::Memory),
         Err(Refusal::Broken(found)) => return Err(told(alloc, files, found)?),
     };
-    match Schema::from_parts(alloc, parts) {
-        Ok(schema) => Ok(schema),
-        Err((PartsError::Memory, _)) => Err(CheckError::Memory),
-        Err((PartsError::Invariant, _)) => unreachable!(),
-    }
+    Ok(Schema::of_sound(alloc, parts)?)
 }
 
 /// The schema that linked files declare: they keep to the rules of the language, and the schema has
