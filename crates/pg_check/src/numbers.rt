@@ -1,6 +1,6 @@
 //! Numbers of fields and values, and those that are reserved.
 
-ghost use Rattle.std.specs.Prelude.{◌≡◌, ◌<◌, ◌^◌, IfOk};
+ghost use Rattle.std.specs.Prelude.{◌≡◌, ◌<◌, ◌^◌, IfOk, None, true};
 ghost use Rattle.std.specs.List.Sorted.{IsNonDecreasingBy, IsPermutation};
 ghost use Rattle.pg_check.specs.declared.numbers.Numbers.{Numbers};
 ghost use Rattle.pg_check.specs.Numbers as spec;
@@ -97,10 +97,27 @@ pub(crate) fn first_outside(lowest: u128, highest: u128, keys: &[Keyed]) -> Opti
     None
 }
 
+/// Whether each number lies above the one before, as most stand. Then none stands twice.
+fn rise(keys: &[Keyed]) -> bool
+    ensures { result ≡ true → spec.first_twice keys.now ≡ None }
+{
+    let mut below = 0;
+    for one in keys {
+        if one.key <= below {
+            return false;
+        }
+        below = one.key;
+    }
+    true
+}
+
 /// The place of the first number that stood before.
 pub(crate) fn first_twice(alloc: Global, keys: &[Keyed]) -> Result<Option<usize>, AllocError>
     ensures { IfOk result (λ place. place ≡ spec.first_twice keys.now) }
 {
+    if rise(keys) {
+        return Ok(None);
+    }
     let mut seen = BTreeSet::new(alloc);
     for one in keys {
         if !seen.insert(one.key)? {
