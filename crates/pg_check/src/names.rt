@@ -56,7 +56,7 @@ pub(crate) fn first_twice(alloc: Global, texts: &[Titled]) -> Result<Option<usiz
 {
     let mut seen = BTreeSet::new(alloc);
     for one in texts {
-        if !seen.insert(one.text.clone()?)? {
+        if !seen.insert(one.text.as_str())? {
             return Ok(Some(one.at));
         }
     }
