@@ -1,6 +1,7 @@
 //! What a field declares, as a schema has it.
 
-ghost use Rattle.std.specs.Prelude.{◌≡◌, IfOk, None, map, option_map};
+ghost use Rattle.std.specs.Prelude.{◌≡◌, ℕ, IfOk, None, Option, map, option_map};
+ghost use Rattle.pg_link.specs.declared.target.Target.{Target};
 ghost use Rattle.pg_check.specs.EnumPlaces.{target_in};
 ghost use Rattle.pg_check.specs.MadeFields as spec;
 ghost use Rattle.pg_check.specs.MadeNumbers.{index_of};
@@ -85,15 +86,16 @@ fn labelled(
     }
 }
 
-/// How often the member's items stand.
-fn presence(targets: &Targets<'_>, one: &DeclaredField<'_>) -> Presence
-    ensures { result ≡ spec.presence (target_in targets.now) (member one.now) }
+/// How often the member's items stand, which are of this element.
+fn presence(one: &DeclaredField<'_>, element: Element) -> Presence
+    ensures { (targets : ℕ → Option Target) → element ≡ spec.element_in targets (member one.now)
+        → result ≡ spec.presence targets (member one.now) }
 {
     match one {
         DeclaredField::Field(field, oneof) => labelled(
             field.label,
             oneof.is_some(),
-            element(targets, &field.type_name),
+            element,
             bracket_flag("packed", &field.settings),
         ),
         DeclaredField::Map(map, _) => Presence::Map {
@@ -144,11 +146,12 @@ fn made_field(
 {
     let name = String::from_str(alloc, &one.name().text)?;
     let json_name = json_name(alloc, *one)?;
+    let element = element_in(targets, one);
     Ok(Field {
         number: made_number(one),
         name,
-        presence: presence(targets, one),
-        element: element_in(targets, one),
+        presence: presence(one, element),
+        element,
         oneof: oneof_of(one),
         json_name,
         states_optional: states_optional(one),
@@ -165,7 +168,7 @@ pub(crate) fn made_fields(
     ensures { IfOk result (λ fields. map spec.field fields.items
         ≡ map (spec.made_field (target_in targets.now)) (map member list.now)) }
 {
-    let mut fields = Vec::new(alloc);
+    let mut fields = Vec::with_capacity(alloc, list.len())?;
     for one in list {
         fields.push(made_field(alloc, targets, one)?)?;
     }
@@ -179,7 +182,7 @@ pub(crate) fn made_numbers(
 ) -> Result<Vec<u32>, AllocError>
     ensures { IfOk result (λ numbers. numbers.items ≡ map spec.made_number (map member list.now)) }
 {
-    let mut numbers = Vec::new(alloc);
+    let mut numbers = Vec::with_capacity(alloc, list.len())?;
     for one in list {
         numbers.push(made_number(one))?;
     }
