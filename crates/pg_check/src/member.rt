@@ -77,7 +77,7 @@ pub(crate) fn members<'a>(
 ) -> Result<Vec<DeclaredField<'a>>, AllocError>
     ensures { IfOk result (λ members. map spec.member members.items ≡ spec.members body.now) }
 {
-    let mut members = Vec::new(alloc);
+    let mut members = Vec::with_capacity(alloc, body.len())?;
     let mut oneofs = 0;
     for part in body {
         match part {
@@ -101,7 +101,7 @@ pub(crate) fn members<'a>(
 pub(crate) fn keys(alloc: Global, members: &[DeclaredField<'_>]) -> Result<Vec<Keyed>, AllocError>
     ensures { IfOk result (λ keys. keys.items ≡ map spec.key_of (map spec.member members.now)) }
 {
-    let mut keys = Vec::new(alloc);
+    let mut keys = Vec::with_capacity(alloc, members.len())?;
     for member in members {
         keys.push(Keyed {
             key: rank(false, member.number()),
@@ -119,7 +119,7 @@ pub(crate) fn names_of<'a>(
     ensures { IfOk result (λ list. map names.called list.items
         ≡ map spec.named (map spec.member members.now)) }
 {
-    let mut list = Vec::new(alloc);
+    let mut list = Vec::with_capacity(alloc, members.len())?;
     for member in members {
         let name = member.name();
         list.push(Called {
@@ -190,7 +190,7 @@ pub(crate) fn json_names(
     ensures { IfOk result (λ list. map names.titled list.items
         ≡ map spec.json_named (map spec.member members.now)) }
 {
-    let mut list = Vec::new(alloc);
+    let mut list = Vec::with_capacity(alloc, members.len())?;
     for member in members {
         let text = json_name(alloc, *member)?;
         list.push(Titled {
