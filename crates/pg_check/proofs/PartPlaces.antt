@@ -124,9 +124,6 @@ pub record IsUnder (scope full : List ℕ) : Type 0 where
 named_under : (scope full : List ℕ) (o : Option (List ℕ)) → o ≡ Some full → IsUnder scope full → is_named_in scope o ≡ true
 named_under scope full o at u = ap (is_named_in scope) (at ∙ ap (λ (t : List ℕ). Some t) u.is) ∙ in_scope scope u.word u.is_a_word
 
-all_names : (s : Source) → List (List ℕ)
-all_names s = map full_of (file_messages s.tree)
-
 tree_names : (d : Declared) (ss : List Source) → map (λ (w : TypeTree). w.full) (with_files d ss).types ≡ map (λ (w : TypeTree). w.full) d.types ++ map full_of (flat_map source_messages ss)
 tree_names d [] = sym (append-nil (map (λ (w : TypeTree). w.full) d.types))
 tree_names d (s ∷ ss) =

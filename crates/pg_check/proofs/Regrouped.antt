@@ -55,22 +55,6 @@ placed_total g before (s ∷ ss) few =
     small : (n : ℕ) → n < 2 ^ 32 → cond (nat_lt n (2 ^ 32)) n 0 ≡ n
     small n h = grind (arith, nat_tests)
 
-pub count_joined : (g : ℕ → ℕ) (before m n : ℕ) → total g (count_from before (m + n)) ≡ total g (count_from before m) + total g (count_from (before + m) n)
-count_joined g before zero n =
-    let zeroth : zero + n ≡ n = omega arith in
-    let here : before + zero ≡ before = omega arith in
-    ap (λ k. total g (count_from before k)) zeroth ∙ (sym (ap (λ k. total g (count_from k n)) here) ∙ first (total g (count_from (before + zero) n)))
-  where
-    first : (k : ℕ) → k ≡ 0 + k
-    first k = omega arith
-count_joined g before (suc m) n =
-    let next : suc m + n ≡ suc (m + n) = omega arith in
-    let rest : total g (count_from (before + 1) (m + n)) ≡ total g (count_from (before + 1) m) + total g (count_from ((before + 1) + m) n) = count_joined g (before + 1) m n in
-    let here : (before + 1) + m ≡ before + suc m = omega arith in
-    let moved : total g (count_from ((before + 1) + m) n) ≡ total g (count_from (before + suc m) n) = ap (λ k. total g (count_from k n)) here in
-    let unfolded : total g (count_from before (suc m + n)) ≡ g before + total g (count_from (before + 1) (m + n)) = ap (λ k. total g (count_from before k)) next in
-    omega (arith, rest, moved, unfolded)
-
 -- ---- each place once
 
 abbrev as_one : Bool → ℕ

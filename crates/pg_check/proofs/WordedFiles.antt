@@ -180,9 +180,6 @@ all_enums_good scope (s ∷ ss) h = joined_all IsGoodEnum (statement_enums scope
 abbrev are_words : List ℕ → Bool
 are_words text = list_all is_word (parts_at_dots text)
 
-front_joined : (b : ℕ) (ps qs : List (List ℕ)) (p : List ℕ) → before_first b ((p ∷ ps) ++ qs) ≡ before_first b (p ∷ ps) ++ qs
-front_joined b ps qs p = refl
-
 pub record HasFirst (ps : List (List ℕ)) : Type 0 where
   pub first : List ℕ
   pub others : List (List ℕ)
