@@ -18,8 +18,8 @@ use Rattle.pg_check.specs.Names as names
 use Rattle.pg_check.specs.Numbers as numbers
 use Rattle.pg_check.specs.Options.{first_bad}
 use Rattle.pg_check.specs.ReservedItems.{items_fault}
-use Rattle.pg_check.proofs.BrokenMessages.{bad_there, bad_told, items_found, items_meet}
-use Rattle.pg_check.proofs.FirstFaults.{IsFound, Meets, again_there, again_told, broken_found, broken_meets, earlier_meets, first_found, first_meets, found_left, found_right, none_meets, such_there, such_told, told_found, told_meets}
+use Rattle.pg_check.proofs.BrokenMessages.{bad_there, bad_reported, items_found, items_meet}
+use Rattle.pg_check.proofs.FirstFaults.{IsFound, Meets, again_there, again_reported, broken_found, broken_meets, earlier_meets, first_found, first_meets, found_left, found_right, none_meets, such_there, such_reported, declared_found, declared_meets}
 use Rattle.pg_check.proofs.KeepingFiles.{method_keeps, value_keeps}
 use Rattle.pg_check.proofs.NoneLaws.{not_not}
 use Rattle.pg_syntax.specs.declared.tree as tree
@@ -28,23 +28,23 @@ use Rattle.pg_syntax.specs.declared.tree.ServicePart.TheVariants as service_part
 
 -- ---- enums: what is reported
 
-zero_told : (P : ℕ → Type 0) (keys : List Keyed) → ((k : Keyed) (more : List Keyed) → keys ≡ k ∷ more → nat_eq k.key (numbers.rank false 0) ≡ false → P k.at)
+zero_reported : (P : ℕ → Type 0) (keys : List Keyed) → ((k : Keyed) (more : List Keyed) → keys ≡ k ∷ more → nat_eq k.key (numbers.rank false 0) ≡ false → P k.at)
     → (n : ℕ) → enums.first_not_zero keys ≡ Some n → P n
-zero_told P [] k n h = absurd (cc (h))
-zero_told P (x ∷ xs) k n h = by (nat_eq x.key (numbers.rank false 0)) refl h
+zero_reported P [] k n h = absurd (cc (h))
+zero_reported P (x ∷ xs) k n h = by (nat_eq x.key (numbers.rank false 0)) refl h
   where
     by : (b : Bool) → nat_eq x.key (numbers.rank false 0) ≡ b → cond b None (Some x.at) ≡ Some n → P n
     by true e g = absurd (cc (g))
     by false e g = let same : x.at ≡ n = cc (g) in subst P same (k x xs refl e)
 
-alias_told : (P : ℕ → Type 0) (aliases : Bool) (keys : List Keyed) → ((k : Keyed) → aliases ≡ false → IsFirstAgain numbers.is_same keys k → P k.at)
+alias_reported : (P : ℕ → Type 0) (aliases : Bool) (keys : List Keyed) → ((k : Keyed) → aliases ≡ false → IsFirstAgain numbers.is_same keys k → P k.at)
     → (n : ℕ) → enums.first_alias aliases keys ≡ Some n → P n
-alias_told P true keys k n h = absurd (cc (h))
-alias_told P false keys k n h = again_told P numbers.is_same numbers.at keys (λ x first. k x refl first) n h
+alias_reported P true keys k n h = absurd (cc (h))
+alias_reported P false keys k n h = again_reported P numbers.is_same numbers.at keys (λ x first. k x refl first) n h
 
-empty_told : (P : ℕ → Type 0) (at : ℕ) (keys : List Keyed) → (has_some keys ≡ false → P at) → (n : ℕ) → enums.empty_at at keys ≡ Some n → P n
-empty_told P at [] k n h = let same : at ≡ n = cc (h) in subst P same (k refl)
-empty_told P at (x ∷ xs) k n h = absurd (cc (h))
+empty_reported : (P : ℕ → Type 0) (at : ℕ) (keys : List Keyed) → (has_some keys ≡ false → P at) → (n : ℕ) → enums.empty_at at keys ≡ Some n → P n
+empty_reported P at [] k n h = let same : at ≡ n = cc (h) in subst P same (k refl)
+empty_reported P at (x ∷ xs) k n h = absurd (cc (h))
 
 abbrev pub TellsEnum : tree.Enum.Enum → Place → Fault → Type 0
 TellsEnum e place f = BreaksEnum e place (error_of f.rule place) (order f.rule) f.declared f.at
@@ -57,22 +57,22 @@ values_meet e place =
     let taken = enums.items body in
     earlier_meets P (broken rules.BadNumber (numbers.first_outside numbers.lowest_value numbers.highest_value keys)) _
     (broken_meets P rules.BadNumber (numbers.first_outside numbers.lowest_value numbers.highest_value keys)
-    (such_told (λ n. P (broken_at rules.BadNumber n)) (λ (k : Keyed). not (has_value_number k)) has_value_number numbers.at (λ k. not_not (has_value_number k)) keys (λ k first. bad_value_number k first)))
+    (such_reported (λ n. P (broken_at rules.BadNumber n)) (λ (k : Keyed). not (has_value_number k)) has_value_number numbers.at (λ k. not_not (has_value_number k)) keys (λ k first. bad_value_number k first)))
     (earlier_meets P (broken rules.ReservedNumber (numbers.first_reserved taken keys)) _
     (broken_meets P rules.ReservedNumber (numbers.first_reserved taken keys)
-    (such_told (λ n. P (broken_at rules.ReservedNumber n)) (λ (k : Keyed). numbers.is_reserved taken k.key) (is_free taken) numbers.at (λ k. refl) keys (λ k first. reserved_value_number k first)))
+    (such_reported (λ n. P (broken_at rules.ReservedNumber n)) (λ (k : Keyed). numbers.is_reserved taken k.key) (is_free taken) numbers.at (λ k. refl) keys (λ k first. reserved_value_number k first)))
     (earlier_meets P (broken rules.EnumFirstNotZero (enums.first_not_zero keys)) (broken rules.EnumAlias (enums.first_alias (enums.has_aliases body) keys))
-    (broken_meets P rules.EnumFirstNotZero (enums.first_not_zero keys) (zero_told (λ n. P (broken_at rules.EnumFirstNotZero n)) keys (λ k more is fails. first_not_zero k more is fails)))
+    (broken_meets P rules.EnumFirstNotZero (enums.first_not_zero keys) (zero_reported (λ n. P (broken_at rules.EnumFirstNotZero n)) keys (λ k more is fails. first_not_zero k more is fails)))
     (broken_meets P rules.EnumAlias (enums.first_alias (enums.has_aliases body) keys)
-    (alias_told (λ n. P (broken_at rules.EnumAlias n)) (enums.has_aliases body) keys (λ k denied first. alias k denied first)))))
+    (alias_reported (λ n. P (broken_at rules.EnumAlias n)) (enums.has_aliases body) keys (λ k denied first. alias k denied first)))))
 
 value_meets : (e : tree.Enum.Enum) (place : Place) (p : enums.Part) → IsBehind (λ p. OptionsKeep (value_options p)) e.parts.items p → Meets (TellsEnum e place) (enums.part_option p)
 value_meets e place (enum_parts.Empty span) behind = none_meets (TellsEnum e place)
 value_meets e place (enum_parts.Option o) behind = none_meets (TellsEnum e place)
 value_meets e place (enum_parts.Reserved r) behind = none_meets (TellsEnum e place)
 value_meets e place (enum_parts.Value v) behind =
-    told_meets (TellsEnum e place) rules.BadOption v.name.span.from (first_bad (value_options (enum_parts.Value v)))
-    (λ n h. bad_value_option v n behind (bad_told (value_options (enum_parts.Value v)) n h))
+    declared_meets (TellsEnum e place) rules.BadOption v.name.span.from (first_bad (value_options (enum_parts.Value v)))
+    (λ n h. bad_value_option v n behind (bad_reported (value_options (enum_parts.Value v)) n h))
 
 pub enum_meets : (e : tree.Enum.Enum) (place : Place) → Meets (TellsEnum e place) (enums.enum_fault e)
 enum_meets e place =
@@ -81,16 +81,16 @@ enum_meets e place =
     let names_at = names.first_among (enums.reserved_names body) (enums.value_names body) in
     earlier_meets P (broken rules.EnumEmpty (enums.empty_at e.name.span.from (enums.keys body))) (enums.body_fault body)
     (broken_meets P rules.EnumEmpty (enums.empty_at e.name.span.from (enums.keys body))
-    (empty_told (λ n. P (broken_at rules.EnumEmpty n)) e.name.span.from (enums.keys body) (λ none. empty_enum none)))
+    (empty_reported (λ n. P (broken_at rules.EnumEmpty n)) e.name.span.from (enums.keys body) (λ none. empty_enum none)))
     (earlier_meets P (enums.numbers_fault body) _ (values_meet e place)
     (earlier_meets P (enums.names_fault body) _
     (broken_meets P rules.ReservedName names_at
-    (such_told (λ n. P (broken_at rules.ReservedName n)) (λ (n : names.Named). is_among (enums.reserved_names body) n.text) (is_free_name (enums.reserved_names body)) names.at (λ n. refl) (enums.value_names body)
+    (such_reported (λ n. P (broken_at rules.ReservedName n)) (λ (n : names.Named). is_among (enums.reserved_names body) n.text) (is_free_name (enums.reserved_names body)) names.at (λ n. refl) (enums.value_names body)
     (λ n first. reserved_value_name n first)))
     (earlier_meets P (items_fault numbers.lowest_value numbers.highest_value (enums.items body)) (enums.options_fault body)
     (items_meet P numbers.lowest_value numbers.highest_value (enums.items body) place (λ rule at h. bad_value_item (error_of rule place) (order rule) at h))
     (earlier_meets P (broken rules.BadOption (first_bad (enums.lines body))) (first_fault enums.part_option body)
-    (broken_meets P rules.BadOption (first_bad (enums.lines body)) (λ n h. bad_enum_option n (bad_told (enums.lines body) n h)))
+    (broken_meets P rules.BadOption (first_bad (enums.lines body)) (λ n h. bad_enum_option n (bad_reported (enums.lines body) n h)))
     (first_meets P enums.part_option (λ p. OptionsKeep (value_options p)) (λ p h. (value_keeps p).0 h) body (value_meets e place))))))
 
 -- ---- enums: what is broken
@@ -161,7 +161,7 @@ enum_found e place error c d a (bad_value_option v at behind first) =
     let at_name = v.name.span.from in
     in_options e at_name 411 (found_right (broken rules.BadOption (first_bad (enums.lines e.parts.items))) (first_fault enums.part_option e.parts.items) at_name 411
     (first_found enums.part_option (λ p. OptionsKeep (value_options p)) (λ p k. (value_keeps p).1 k) e.parts.items (enum_parts.Value v) at_name 411 behind
-    (told_found rules.BadOption at_name (first_bad (value_options (enum_parts.Value v))) at (bad_there (value_options (enum_parts.Value v)) at first))))
+    (declared_found rules.BadOption at_name (first_bad (value_options (enum_parts.Value v))) at (bad_there (value_options (enum_parts.Value v)) at first))))
 enum_found e place error c d a (empty_enum none) =
     let at_name = e.name.span.from in
     found_left (broken rules.EnumEmpty (enums.empty_at at_name (enums.keys e.parts.items))) (enums.body_fault e.parts.items) at_name 414
@@ -177,14 +177,14 @@ method_meets body place (service_parts.Empty span) behind = none_meets (TellsSer
 method_meets body place (service_parts.Option o) behind = none_meets (TellsService body place)
 method_meets body place (service_parts.Rpc r) behind =
     broken_meets (TellsService body place) rules.BadOption (first_bad (files.rpc_lines (files.rpc_body r.body)))
-    (λ n h. bad_method_option r n behind (bad_told (files.rpc_lines (files.rpc_body r.body)) n h))
+    (λ n h. bad_method_option r n behind (bad_reported (files.rpc_lines (files.rpc_body r.body)) n h))
 
 pub service_meets : (s : tree.Service.Service) (place : Place) → Meets (TellsService s.parts.items place) (files.service_fault s)
 service_meets s place =
     let body = s.parts.items in
     let P = TellsService body place in
     earlier_meets P (broken rules.BadOption (first_bad (files.service_lines body))) (first_fault files.part_fault body)
-    (broken_meets P rules.BadOption (first_bad (files.service_lines body)) (λ n h. bad_service_option n (bad_told (files.service_lines body) n h)))
+    (broken_meets P rules.BadOption (first_bad (files.service_lines body)) (λ n h. bad_service_option n (bad_reported (files.service_lines body) n h)))
     (first_meets P files.part_fault (λ p. OptionsKeep (method_options p)) (λ p h. (method_keeps p).0 h) body (method_meets body place))
 
 pub service_found : (s : tree.Service.Service) (place : Place) (error : CheckError) (c d a : ℕ) → BreaksService s.parts.items place error c d a → IsFound (files.service_fault s) d c

@@ -16,7 +16,7 @@ use Rattle.pg_check.specs.MadeParts.{Source}
 use Rattle.pg_check.specs.Options.{first_bad}
 use Rattle.pg_check.specs.Outline.{Message, file_enums, file_messages, statements_behind}
 use Rattle.pg_check.proofs.BrokenEnums.{enum_found, enum_meets, service_found, service_meets}
-use Rattle.pg_check.proofs.BrokenMessages.{bad_there, bad_told, message_found, message_meets}
+use Rattle.pg_check.proofs.BrokenMessages.{bad_there, bad_reported, message_found, message_meets}
 use Rattle.pg_check.proofs.FirstFaults.{IsFound, Meets, broken_found, broken_meets, earlier_meets, earliest_found, earliest_meets, first_found, first_meets, found_left, found_right, none_meets}
 use Rattle.pg_check.proofs.KeepingFiles.{in_file_none, none_broken, statement_keeps}
 use Rattle.pg_syntax.specs.declared.tree as tree
@@ -24,12 +24,12 @@ use Rattle.pg_syntax.specs.declared.tree.Statement.TheVariants as statements
 
 -- ---- the message type behind so many
 
-many_told : (P : ℕ → Type 0) (left : ℕ) (ms : List Message) → ((m : Message) (before after : List Message) → ms ≡ before ++ m ∷ after → length before ≡ left → P m.name.span.from)
+many_reported : (P : ℕ → Type 0) (left : ℕ) (ms : List Message) → ((m : Message) (before after : List Message) → ms ≡ before ++ m ∷ after → length before ≡ left → P m.name.span.from)
     → (n : ℕ) → files.too_many left ms ≡ Some n → P n
-many_told P left [] k n h = absurd (cc (h))
-many_told P zero (m ∷ ms) k n h = let same : m.name.span.from ≡ n = cc (h) in subst P same (k m [] ms refl refl)
-many_told P (suc left) (m ∷ ms) k n h =
-    many_told P left ms (λ x before after is many. k x (m ∷ before) after (ap (λ ys. m ∷ ys) is) (ap suc many)) n h
+many_reported P left [] k n h = absurd (cc (h))
+many_reported P zero (m ∷ ms) k n h = let same : m.name.span.from ≡ n = cc (h) in subst P same (k m [] ms refl refl)
+many_reported P (suc left) (m ∷ ms) k n h =
+    many_reported P left ms (λ x before after is many. k x (m ∷ before) after (ap (λ ys. m ∷ ys) is) (ap suc many)) n h
 
 many_at : (before after : List Message) (m : Message) → files.too_many (length before) (before ++ m ∷ after) ≡ Some m.name.span.from
 many_at [] after m = refl
@@ -66,7 +66,7 @@ types_meet s left place =
     let es = file_enums s.tree in
     earlier_meets P (broken rules.TooManyTypes (files.too_many left ms)) _
     (broken_meets P rules.TooManyTypes (files.too_many left ms)
-    (many_told (λ n. P (broken_at rules.TooManyTypes n)) left ms (λ m before after is many. too_many_types m before after is many)))
+    (many_reported (λ n. P (broken_at rules.TooManyTypes n)) left ms (λ m before after is many. too_many_types m before after is many)))
     (earlier_meets P (earliest (files.message_fault s.targets) None ms) (earliest files.found_fault None es)
     (earliest_meets P (files.message_fault s.targets) None ms (none_meets P)
     (λ m one f h. in_message m (error_of f.rule place) (order f.rule) f.declared f.at one (message_meets s.targets m.body place f h)))
@@ -81,7 +81,7 @@ file_meets s left place =
     let back = first_fault files.statement_fault (statements_behind s.tree.packaged) in
     earlier_meets P (files.types_fault s.targets left (file_messages s.tree) (file_enums s.tree)) (files.statements_fault s.tree) (types_meet s left place)
     (earlier_meets P (broken rules.BadOption (first_bad lines)) _
-    (broken_meets P rules.BadOption (first_bad lines) (λ n h. bad_file_option n (bad_told lines n h)))
+    (broken_meets P rules.BadOption (first_bad lines) (λ n h. bad_file_option n (bad_reported lines n h)))
     (earlier_meets P front back
     (first_meets P files.statement_fault StatementKeeps (λ p h. (statement_keeps p).0 h) s.tree.statements.items (front_meets s left place))
     (first_meets P files.statement_fault StatementKeeps (λ p h. (statement_keeps p).0 h) (statements_behind s.tree.packaged) (back_meets s left place))))

@@ -12,7 +12,7 @@ use Rattle.pg_check.specs.declared.numbers.Keyed.{Keyed}
 use Rattle.pg_check.specs.declared.numbers.Numbers.{Numbers}
 use Rattle.pg_check.specs.BrokenRules.{BreaksItems, BreaksMessage, IsBadOption, IsFirstBadOption, again, bad_field_item, bad_field_number, bad_field_option, bad_map_key, bad_message_option, bad_oneof_member, beyond, duplicate_number, empty_oneof, falling, json_name_clash, oneof_option, overlapping, packed_not_allowed, reserved_field_name, reserved_field_number, wrong}
 use Rattle.pg_check.specs.Errors.{error_of}
-use Rattle.pg_check.specs.Faults.{broken, broken_at, first_fault, option_fault, or_else, order, told_at}
+use Rattle.pg_check.specs.Faults.{broken, broken_at, first_fault, option_fault, or_else, order, declared_fault}
 use Rattle.pg_check.specs.Firsts.{IsBehind, IsFirst, IsFirstAgain}
 use Rattle.pg_check.specs.KeepsRules.{OptionsKeep, has_field_number, has_key, is_free, is_free_name, is_no_option, is_packed_rightly, is_right, lies_within, may_be_member, member_options, oneof_keeps, rises}
 use Rattle.pg_check.specs.Members.{DeclaredField, json_named, key_of, members, named, place_of, settings, settings_of}
@@ -21,7 +21,7 @@ use Rattle.pg_check.specs.Names as names
 use Rattle.pg_check.specs.Numbers as numbers
 use Rattle.pg_check.specs.Options.{OptionAt, first_bad, first_wrong, name_of}
 use Rattle.pg_check.specs.ReservedItems as reserved
-use Rattle.pg_check.proofs.FirstFaults.{IsFound, Meets, again_there, again_told, broken_found, broken_meets, earlier_meets, first_found, first_meets, found_left, found_right, none_meets, such_there, such_told, told_found, told_meets}
+use Rattle.pg_check.proofs.FirstFaults.{IsFound, Meets, again_there, again_reported, broken_found, broken_meets, earlier_meets, first_found, first_meets, found_left, found_right, none_meets, such_there, such_reported, declared_found, declared_meets}
 use Rattle.pg_check.proofs.Keeping.{field_options_keep, no_option, oneof_is, packed_keeps}
 use Rattle.pg_check.proofs.NoneLaws.{least_none, not_not}
 use Rattle.pg_syntax.specs.declared.tree as tree
@@ -31,9 +31,9 @@ use Rattle.pg_syntax.specs.declared.tree.Part.TheVariants as parts
 
 -- ---- options
 
-option_told : (options : List OptionAt) (n : ℕ) → (first_wrong options ≡ Some n) ⊎ (names.first_twice (map name_of options) ≡ Some n) → IsBadOption options n
-option_told options n (inl h) = such_told (IsBadOption options) (λ (o : OptionAt). not o.is_right) is_right (λ (o : OptionAt). o.at) (λ o. not_not o.is_right) options (λ o first. wrong o first) n h
-option_told options n (inr h) = again_told (IsBadOption options) names.is_same names.at (map name_of options) (λ o first. again o first) n h
+option_reported : (options : List OptionAt) (n : ℕ) → (first_wrong options ≡ Some n) ⊎ (names.first_twice (map name_of options) ≡ Some n) → IsBadOption options n
+option_reported options n (inl h) = such_reported (IsBadOption options) (λ (o : OptionAt). not o.is_right) is_right (λ (o : OptionAt). o.at) (λ o. not_not o.is_right) options (λ o first. wrong o first) n h
+option_reported options n (inr h) = again_reported (IsBadOption options) names.is_same names.at (map name_of options) (λ o first. again o first) n h
 
 option_there : (options : List OptionAt) (n : ℕ) → IsBadOption options n → (first_wrong options ≡ Some n) ⊎ (names.first_twice (map name_of options) ≡ Some n)
 option_there options n (wrong o first) = inl (such_there (λ (o : OptionAt). not o.is_right) is_right (λ (o : OptionAt). o.at) (λ o. not_not o.is_right) options o first)
@@ -63,9 +63,9 @@ least_below (Some a) (Some b) at n h k = below k (cond (nat_lt b a) b a) refl
     below (inl i) c e = let less = (low c e).0 in let same : at ≡ c = cc (h, e) in let is : a ≡ n = cc (i) in omega (arith, same, is, less)
     below (inr i) c e = let less = (low c e).1 in let same : at ≡ c = cc (h, e) in let is : b ≡ n = cc (i) in omega (arith, same, is, less)
 
-pub bad_told : (options : List OptionAt) (at : ℕ) → first_bad options ≡ Some at → IsFirstBadOption options at
-bad_told options at h = record {
-  is = option_told options at (least_is (first_wrong options) (names.first_twice (map name_of options)) at h);
+pub bad_reported : (options : List OptionAt) (at : ℕ) → first_bad options ≡ Some at → IsFirstBadOption options at
+bad_reported options at h = record {
+  is = option_reported options at (least_is (first_wrong options) (names.first_twice (map name_of options)) at h);
   is_first = λ n bad. least_below (first_wrong options) (names.first_twice (map name_of options)) at n h (option_there options n bad);
 }
 
@@ -79,7 +79,7 @@ bad_there options at h = by (first_bad options) refl
     by : (o : Option ℕ) → first_bad options ≡ o → first_bad options ≡ Some at
     by None e = absurd (none_bad (first_wrong options) (names.first_twice (map name_of options)) at e (option_there options at h.is))
     by (Some n) e =
-        let first = bad_told options n e in
+        let first = bad_reported options n e in
         let above : n ≤ at = first.is_first at h.is in
         let below : at ≤ n = h.is_first n first.is in
         let same : n ≡ at = omega (arith, above, below) in
@@ -93,13 +93,13 @@ pub items_meet : (P : Fault → Type 0) (lowest highest : ℕ) (items : List Num
 items_meet P lowest highest items place k =
     earlier_meets P (broken rules.BadNumber (reserved.first_beyond lowest highest items)) _
     (broken_meets P rules.BadNumber (reserved.first_beyond lowest highest items)
-    (such_told (λ n. P (broken_at rules.BadNumber n)) (λ (r : Numbers). not (lies_within lowest highest r)) (lies_within lowest highest) reserved.at (λ r. not_not (lies_within lowest highest r)) items
+    (such_reported (λ n. P (broken_at rules.BadNumber n)) (λ (r : Numbers). not (lies_within lowest highest r)) (lies_within lowest highest) reserved.at (λ r. not_not (lies_within lowest highest r)) items
     (λ r first. k rules.BadNumber r.at (beyond r first))))
     (earlier_meets P (broken rules.RangeOverlap (reserved.first_falling items)) (broken rules.RangeOverlap (reserved.first_overlapping items))
     (broken_meets P rules.RangeOverlap (reserved.first_falling items)
-    (such_told (λ n. P (broken_at rules.RangeOverlap n)) (λ (r : Numbers). nat_lt r.last r.first) rises reserved.at (λ r. refl) items (λ r first. k rules.RangeOverlap r.at (falling r first))))
+    (such_reported (λ n. P (broken_at rules.RangeOverlap n)) (λ (r : Numbers). nat_lt r.last r.first) rises reserved.at (λ r. refl) items (λ r first. k rules.RangeOverlap r.at (falling r first))))
     (broken_meets P rules.RangeOverlap (reserved.first_overlapping items)
-    (again_told (λ n. P (broken_at rules.RangeOverlap n)) reserved.overlap reserved.at items (λ r first. k rules.RangeOverlap r.at (overlapping r first)))))
+    (again_reported (λ n. P (broken_at rules.RangeOverlap n)) reserved.overlap reserved.at items (λ r first. k rules.RangeOverlap r.at (overlapping r first)))))
 
 pub items_found : (lowest highest : ℕ) (items : List Numbers) (place : Place) (e : CheckError) (c a : ℕ) → BreaksItems lowest highest items place e c a → IsFound (reserved.items_fault lowest highest items) a c
 items_found lowest highest items place e c a (beyond r first) =
@@ -127,14 +127,14 @@ numbers_meet targets body place =
     let taken = messages.items body in
     earlier_meets P (broken rules.BadNumber (messages.first_bad_number keys)) _
     (broken_meets P rules.BadNumber (messages.first_bad_number keys)
-    (such_told (λ n. P (broken_at rules.BadNumber n)) (λ (k : Keyed). not (numbers.is_field_number k.key)) has_field_number numbers.at (λ k. not_not (numbers.is_field_number k.key)) keys
+    (such_reported (λ n. P (broken_at rules.BadNumber n)) (λ (k : Keyed). not (numbers.is_field_number k.key)) has_field_number numbers.at (λ k. not_not (numbers.is_field_number k.key)) keys
     (λ k first. bad_field_number k first)))
     (earlier_meets P (broken rules.DuplicateNumber (numbers.first_twice keys)) _
     (broken_meets P rules.DuplicateNumber (numbers.first_twice keys)
-    (again_told (λ n. P (broken_at rules.DuplicateNumber n)) numbers.is_same numbers.at keys (λ k first. duplicate_number k first)))
+    (again_reported (λ n. P (broken_at rules.DuplicateNumber n)) numbers.is_same numbers.at keys (λ k first. duplicate_number k first)))
     (earlier_meets P (broken rules.ReservedNumber (numbers.first_reserved taken keys)) _
     (broken_meets P rules.ReservedNumber (numbers.first_reserved taken keys)
-    (such_told (λ n. P (broken_at rules.ReservedNumber n)) (λ (k : Keyed). numbers.is_reserved taken k.key) (is_free taken) numbers.at (λ k. refl) keys (λ k first. reserved_field_number k first)))
+    (such_reported (λ n. P (broken_at rules.ReservedNumber n)) (λ (k : Keyed). numbers.is_reserved taken k.key) (is_free taken) numbers.at (λ k. refl) keys (λ k first. reserved_field_number k first)))
     (items_meet P numbers.lowest_field numbers.highest_field taken place (λ rule at h. bad_field_item (error_of rule place) (order rule) at h))))
 
 names_meet : (targets : ℕ → Option Target) (body : List Part) (place : Place) → Meets (Tells targets body place) (messages.names_fault (messages.reserved_names body) (members body))
@@ -145,22 +145,22 @@ names_meet targets body place =
     let js = map json_named (members body) in
     earlier_meets P (broken rules.ReservedName (names.first_among taken ns)) (broken rules.JsonNameClash (names.first_twice js))
     (broken_meets P rules.ReservedName (names.first_among taken ns)
-    (such_told (λ n. P (broken_at rules.ReservedName n)) (λ (n : names.Named). is_among taken n.text) (is_free_name taken) names.at (λ n. refl) ns (λ n first. reserved_field_name n first)))
+    (such_reported (λ n. P (broken_at rules.ReservedName n)) (λ (n : names.Named). is_among taken n.text) (is_free_name taken) names.at (λ n. refl) ns (λ n first. reserved_field_name n first)))
     (broken_meets P rules.JsonNameClash (names.first_twice js)
-    (again_told (λ n. P (broken_at rules.JsonNameClash n)) names.is_same names.at js (λ n first. json_name_clash n first)))
+    (again_reported (λ n. P (broken_at rules.JsonNameClash n)) names.is_same names.at js (λ n first. json_name_clash n first)))
 
 option_meets : (targets : ℕ → Option Target) (body : List Part) (place : Place) (m : DeclaredField) → IsBehind (λ m. OptionsKeep (member_options m)) (members body) m → Meets (Tells targets body place) (messages.member_option m)
 option_meets targets body place m behind =
-    told_meets (Tells targets body place) rules.BadOption (place_of m) (first_bad (member_options m)) (λ n h. bad_field_option m n behind (bad_told (member_options m) n h))
+    declared_meets (Tells targets body place) rules.BadOption (place_of m) (first_bad (member_options m)) (λ n h. bad_field_option m n behind (bad_reported (member_options m) n h))
 
 packed_meets : (targets : ℕ → Option Target) (body : List Part) (place : Place) (m : DeclaredField) → IsBehind (λ m. is_packed_rightly targets m ≡ true) (members body) m → Meets (Tells targets body place) (messages.member_packed targets m)
 packed_meets targets body place m behind = by (messages.may_be_packed targets m) refl
   where
-    by : (b : Bool) → messages.may_be_packed targets m ≡ b → Meets (Tells targets body place) (cond b None (told_at rules.PackedNotAllowed (place_of m) (messages.first_packed (settings (settings_of m)))))
+    by : (b : Bool) → messages.may_be_packed targets m ≡ b → Meets (Tells targets body place) (cond b None (declared_fault rules.PackedNotAllowed (place_of m) (messages.first_packed (settings (settings_of m)))))
     by true e = none_meets (Tells targets body place)
     by false e =
-        told_meets (Tells targets body place) rules.PackedNotAllowed (place_of m) (messages.first_packed (settings (settings_of m)))
-        (such_told (λ n. Tells targets body place (option_fault rules.PackedNotAllowed (place_of m) n)) messages.states_packed (λ s. not (messages.states_packed s)) (λ (s : tree.Setting.Setting). s.span.from) (λ s. refl)
+        declared_meets (Tells targets body place) rules.PackedNotAllowed (place_of m) (messages.first_packed (settings (settings_of m)))
+        (such_reported (λ n. Tells targets body place (option_fault rules.PackedNotAllowed (place_of m) n)) messages.states_packed (λ s. not (messages.states_packed s)) (λ (s : tree.Setting.Setting). s.span.from) (λ s. refl)
         (settings (settings_of m)) (λ s first. packed_not_allowed m s behind e first))
 
 shapes_meet : (targets : ℕ → Option Target) (body : List Part) (place : Place) → Meets (Tells targets body place) (messages.shapes_fault targets (members body))
@@ -169,10 +169,10 @@ shapes_meet targets body place =
     let ms = members body in
     earlier_meets P (broken rules.BadMapKey (messages.first_member messages.has_bad_key ms)) _
     (broken_meets P rules.BadMapKey (messages.first_member messages.has_bad_key ms)
-    (such_told (λ n. P (broken_at rules.BadMapKey n)) messages.has_bad_key has_key place_of (λ m. refl) ms (λ m first. bad_map_key m first)))
+    (such_reported (λ n. P (broken_at rules.BadMapKey n)) messages.has_bad_key has_key place_of (λ m. refl) ms (λ m first. bad_map_key m first)))
     (earlier_meets P (broken rules.BadOneofMember (messages.first_member messages.is_bad_member ms)) _
     (broken_meets P rules.BadOneofMember (messages.first_member messages.is_bad_member ms)
-    (such_told (λ n. P (broken_at rules.BadOneofMember n)) messages.is_bad_member may_be_member place_of (λ m. refl) ms (λ m first. bad_oneof_member m first)))
+    (such_reported (λ n. P (broken_at rules.BadOneofMember n)) messages.is_bad_member may_be_member place_of (λ m. refl) ms (λ m first. bad_oneof_member m first)))
     (earlier_meets P (first_fault messages.member_option ms) (first_fault (messages.member_packed targets) ms)
     (first_meets P messages.member_option (λ m. OptionsKeep (member_options m)) (λ m h. (field_options_keep m).0 h) ms (option_meets targets body place))
     (first_meets P (messages.member_packed targets) (λ m. is_packed_rightly targets m ≡ true) (λ m h. (packed_keeps targets m).0 h) ms (packed_meets targets body place))))
@@ -212,7 +212,7 @@ message_meets targets body place =
     (earlier_meets P (messages.names_fault (messages.reserved_names body) (members body)) _ (names_meet targets body place)
     (earlier_meets P (messages.shapes_fault targets (members body)) (messages.parts_fault body) (shapes_meet targets body place)
     (earlier_meets P (broken rules.BadOption (first_bad (messages.lines body))) (first_fault messages.part_oneof body)
-    (broken_meets P rules.BadOption (first_bad (messages.lines body)) (λ n h. bad_message_option n (bad_told (messages.lines body) n h)))
+    (broken_meets P rules.BadOption (first_bad (messages.lines body)) (λ n h. bad_message_option n (bad_reported (messages.lines body) n h)))
     (first_meets P messages.part_oneof (λ p. oneof_keeps p ≡ true) (λ p h. (oneof_is p).0 h) body (part_meets targets body place)))))
 
 -- ---- a message: what it breaks
@@ -257,8 +257,8 @@ oneof_option_found o line some inside =
 packed_found : (targets : ℕ → Option Target) (m : DeclaredField) (s : tree.Setting.Setting) → messages.may_be_packed targets m ≡ false
     → IsFirst (λ s. not (messages.states_packed s)) (settings (settings_of m)) s → IsFound (messages.member_packed targets m) (place_of m) 412
 packed_found targets m s not_so first =
-    subst (λ b. IsFound (cond b None (told_at rules.PackedNotAllowed (place_of m) (messages.first_packed (settings (settings_of m))))) (place_of m) 412) (sym not_so)
-    (told_found rules.PackedNotAllowed (place_of m) (messages.first_packed (settings (settings_of m))) s.span.from
+    subst (λ b. IsFound (cond b None (declared_fault rules.PackedNotAllowed (place_of m) (messages.first_packed (settings (settings_of m))))) (place_of m) 412) (sym not_so)
+    (declared_found rules.PackedNotAllowed (place_of m) (messages.first_packed (settings (settings_of m))) s.span.from
     (such_there messages.states_packed (λ s. not (messages.states_packed s)) (λ (s : tree.Setting.Setting). s.span.from) (λ s. refl) (settings (settings_of m)) s first))
 
 number_found : (targets : ℕ → Option Target) (body : List Part) (k : Keyed) → IsFirst has_field_number (map key_of (members body)) k → IsFound (messages.body_fault targets body) k.at 401
@@ -328,7 +328,7 @@ message_found targets body place e c d a (bad_field_option m at behind first) =
     (found_right (broken rules.BadOneofMember (messages.first_member messages.is_bad_member ms)) _ (place_of m) 411
     (found_left (first_fault messages.member_option ms) (first_fault (messages.member_packed targets) ms) (place_of m) 411
     (first_found messages.member_option (λ m. OptionsKeep (member_options m)) (λ m k. (field_options_keep m).1 k) ms m (place_of m) 411 behind
-    (told_found rules.BadOption (place_of m) (first_bad (member_options m)) at (bad_there (member_options m) at first))))))
+    (declared_found rules.BadOption (place_of m) (first_bad (member_options m)) at (bad_there (member_options m) at first))))))
 message_found targets body place e c d a (packed_not_allowed m s behind not_so first) =
     let ms = members body in
     in_shapes targets body (place_of m) 412 (found_right (broken rules.BadMapKey (messages.first_member messages.has_bad_key ms)) _ (place_of m) 412

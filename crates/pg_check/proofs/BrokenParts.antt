@@ -78,11 +78,11 @@ rule_meets B place rule o good h k = broken_meets (At B place) rule o (λ n e. (
 rule_found : (rule : Rule) (o : Option ℕ) (good : Bool) → Breaking o good → good ≡ false → IsFound (broken rule o) 0 (order rule)
 rule_found rule o good h fails = broken_found rule o 0 (there_of o good h.iff h.zero fails)
 
-test_meets : (B : CheckError → ℕ → Type 0) (place : Place) (rule : Rule) (b : Bool) → (b ≡ true → B (error_of rule place) (order rule)) → Meets (At B place) (faults.told rule b)
+test_meets : (B : CheckError → ℕ → Type 0) (place : Place) (rule : Rule) (b : Bool) → (b ≡ true → B (error_of rule place) (order rule)) → Meets (At B place) (faults.fault_if rule b)
 test_meets B place rule true k = broken_meets (At B place) rule (Some 0) (λ n e. let same : 0 ≡ n = cc (e) in (sym same, k refl))
 test_meets B place rule false k = broken_meets (At B place) rule None (λ n e. absurd (cc (e)))
 
-test_found : (rule : Rule) (b : Bool) → b ≡ true → IsFound (faults.told rule b) 0 (order rule)
+test_found : (rule : Rule) (b : Bool) → b ≡ true → IsFound (faults.fault_if rule b) 0 (order rule)
 test_found rule b h = broken_found rule (faults.where_broken b) 0 (ap faults.where_broken h)
 
 -- ---- the rules of fields, values and reserved items
@@ -183,9 +183,9 @@ type_meets t place =
     (earlier_meets P (broken rules.ReservedName taken) (broken rules.JsonNameClash json)
     (rule_meets B place rules.ReservedName taken _ (of_field_names t) reserved_name)
     (rule_meets B place rules.JsonNameClash json _ (of_json_names t) json_name_clash))
-    (earlier_meets P (faults.told rules.BadMapKey (list_any faults.field_has_bad_key t.fields.items)) _
+    (earlier_meets P (faults.fault_if rules.BadMapKey (list_any faults.field_has_bad_key t.fields.items)) _
     (test_meets B place rules.BadMapKey (list_any faults.field_has_bad_key t.fields.items) bad_map_key)
-    (earlier_meets P (faults.told rules.BadOneofMember (faults.has_bad_oneof t)) (faults.told rules.PackedNotAllowed (list_any faults.field_badly_packed t.fields.items))
+    (earlier_meets P (faults.fault_if rules.BadOneofMember (faults.has_bad_oneof t)) (faults.fault_if rules.PackedNotAllowed (list_any faults.field_badly_packed t.fields.items))
     (test_meets B place rules.BadOneofMember (faults.has_bad_oneof t) bad_oneof_member)
     (test_meets B place rules.PackedNotAllowed (list_any faults.field_badly_packed t.fields.items) packed_not_allowed))))
 
@@ -227,14 +227,14 @@ type_found t place e c (json_name_clash h) =
     in_names t 406 (found_right (broken rules.ReservedName (names.first_among (map string_bytes t.reserved_names.items) (map faults.name_of t.fields.items))) _ 0 406
     (rule_found rules.JsonNameClash (names.first_twice (map faults.json_name_of t.fields.items)) _ (of_json_names t) h))
 type_found t place e c (bad_map_key h) =
-    in_shapes t 407 (found_left (faults.told rules.BadMapKey (list_any faults.field_has_bad_key t.fields.items)) _ 0 407
+    in_shapes t 407 (found_left (faults.fault_if rules.BadMapKey (list_any faults.field_has_bad_key t.fields.items)) _ 0 407
     (test_found rules.BadMapKey (list_any faults.field_has_bad_key t.fields.items) h))
 type_found t place e c (bad_oneof_member h) =
-    in_shapes t 408 (found_right (faults.told rules.BadMapKey (list_any faults.field_has_bad_key t.fields.items)) _ 0 408
-    (found_left (faults.told rules.BadOneofMember (faults.has_bad_oneof t)) _ 0 408 (test_found rules.BadOneofMember (faults.has_bad_oneof t) h)))
+    in_shapes t 408 (found_right (faults.fault_if rules.BadMapKey (list_any faults.field_has_bad_key t.fields.items)) _ 0 408
+    (found_left (faults.fault_if rules.BadOneofMember (faults.has_bad_oneof t)) _ 0 408 (test_found rules.BadOneofMember (faults.has_bad_oneof t) h)))
 type_found t place e c (packed_not_allowed h) =
-    in_shapes t 412 (found_right (faults.told rules.BadMapKey (list_any faults.field_has_bad_key t.fields.items)) _ 0 412
-    (found_right (faults.told rules.BadOneofMember (faults.has_bad_oneof t)) _ 0 412
+    in_shapes t 412 (found_right (faults.fault_if rules.BadMapKey (list_any faults.field_has_bad_key t.fields.items)) _ 0 412
+    (found_right (faults.fault_if rules.BadOneofMember (faults.has_bad_oneof t)) _ 0 412
     (test_found rules.PackedNotAllowed (list_any faults.field_badly_packed t.fields.items) h)))
 
 -- ---- enums
@@ -328,15 +328,15 @@ enum_type_found e place error c (no_value h) =
 file_part_meets : (f : File) (place : Place) → Meets (At (BreaksFilePart f place) place) (faults.file_fault f)
 file_part_meets f place =
     let B = BreaksFilePart f place in
-    earlier_meets (At B place) (faults.told rules.BadOption (list_any faults.is_bad_option f.options.items)) _
+    earlier_meets (At B place) (faults.fault_if rules.BadOption (list_any faults.is_bad_option f.options.items)) _
     (test_meets B place rules.BadOption (list_any faults.is_bad_option f.options.items) bad_option)
     (rule_meets B place rules.BadOption (numbers.first_twice (map faults.option_key f.options.items)) _ (of_same faults.option_key (λ o. refl) f.options.items) option_again)
 
 file_part_found : (f : File) (place : Place) (error : CheckError) (c : ℕ) → BreaksFilePart f place error c → IsFound (faults.file_fault f) 0 c
 file_part_found f place error c (bad_option h) =
-    found_left (faults.told rules.BadOption (list_any faults.is_bad_option f.options.items)) _ 0 411 (test_found rules.BadOption (list_any faults.is_bad_option f.options.items) h)
+    found_left (faults.fault_if rules.BadOption (list_any faults.is_bad_option f.options.items)) _ 0 411 (test_found rules.BadOption (list_any faults.is_bad_option f.options.items) h)
 file_part_found f place error c (option_again h) =
-    found_right (faults.told rules.BadOption (list_any faults.is_bad_option f.options.items)) _ 0 411
+    found_right (faults.fault_if rules.BadOption (list_any faults.is_bad_option f.options.items)) _ 0 411
     (rule_found rules.BadOption (numbers.first_twice (map faults.option_key f.options.items)) _ (of_same faults.option_key (λ o. refl) f.options.items) h)
 
 code_low : (declared code other : ℕ) → declared ≡ 0 → IsNotAfter declared code 0 other → code ≤ other
@@ -397,7 +397,7 @@ parts_meet parts place = by (not (nat_le (length parts.types.items) 4096)) refl
     rest = or_else (first_fault faults.enum_fault parts.enums.items) (first_fault faults.file_fault parts.files.items)
 
     by : (b : Bool) → not (nat_le (length parts.types.items) 4096) ≡ b
-        → Meets (Tells parts place) (or_else (or_else (faults.told rules.TooManyTypes b) (first_fault faults.message_fault parts.types.items)) rest)
+        → Meets (Tells parts place) (or_else (or_else (faults.fault_if rules.TooManyTypes b) (first_fault faults.message_fault parts.types.items)) rest)
     by true e = λ f h. let same : broken_at rules.TooManyTypes 0 ≡ f = cc (h) in subst (Tells parts place) same (too_many_types (many (length parts.types.items) e))
     by false e =
         let small = few (length parts.types.items) e in
@@ -414,23 +414,23 @@ reported_part parts e h = record {
   breaks = subst (BreaksFirst parts h.place) (sym h.is) (parts_meet parts h.place h.fault h.is_first);
 }
 
--- ---- parts that no rule is told of
+-- ---- parts of which no rule is reported
 
 or_none : (a b : Option Fault) → or_else a b ≡ None → (a ≡ None) × (b ≡ None)
 or_none None b h = (refl, h)
 or_none (Some f) b h = absurd (cc)
 
-told_none : (rule : Rule) (b : Bool) → faults.told rule b ≡ None → b ≡ false
-told_none rule true h = absurd (cc)
-told_none rule false h = refl
+fault_if_none : (rule : Rule) (b : Bool) → faults.fault_if rule b ≡ None → b ≡ false
+fault_if_none rule true h = absurd (cc)
+fault_if_none rule false h = refl
 
 pub none_broken : (parts : Parts) → faults.parts_fault parts ≡ None → KeepsAll parts
 none_broken parts none =
     let (of_types, others) = or_none (faults.types_fault parts.types.items) _ none in
-    let (of_count, each_type) = or_none (faults.told rules.TooManyTypes (not (nat_le (length parts.types.items) 4096))) (first_fault faults.message_fault parts.types.items) of_types in
+    let (of_count, each_type) = or_none (faults.fault_if rules.TooManyTypes (not (nat_le (length parts.types.items) 4096))) (first_fault faults.message_fault parts.types.items) of_types in
     let (each_enum, each_file) = or_none (first_fault faults.enum_fault parts.enums.items) (first_fault faults.file_fault parts.files.items) others in
     record {
-      few_types = few (length parts.types.items) (told_none rules.TooManyTypes (not (nat_le (length parts.types.items) 4096)) of_count);
+      few_types = few (length parts.types.items) (fault_if_none rules.TooManyTypes (not (nat_le (length parts.types.items) 4096)) of_count);
       types = all_keep _ KeepsType type_keeps parts.types.items ((first_fault_none faults.message_fault parts.types.items).0 each_type);
       enums = all_keep _ KeepsEnumType enum_type_keeps parts.enums.items ((first_fault_none faults.enum_fault parts.enums.items).0 each_enum);
       files = all_keep _ KeepsFilePart file_part_keeps parts.files.items ((first_fault_none faults.file_fault parts.files.items).0 each_file);

@@ -33,10 +33,10 @@ next_file left place next files i x f whole h is of none goes before =
     ∙ (ap (λ g. in_file place g (files_fault (left - length (file_messages (source x).tree)) (place + 1) (map source (drop (i + 1) files)))) (sym none)
     ∙ step left place files i x f whole h is of before)
 
--- the file that is told is one of them
-pub told_within : (left place : ℕ) (ss : List Source) (f : FileFault) → files_fault left place ss ≡ Some f → f.file < place + length ss
-told_within left place [] f h = absurd (cc (h))
-told_within left place (s ∷ ss) f h = by (file_fault s.targets left s.tree) h (told_within (left - length (file_messages s.tree)) (place + 1) ss f)
+-- the file whose fault is reported is one of them
+pub fault_within : (left place : ℕ) (ss : List Source) (f : FileFault) → files_fault left place ss ≡ Some f → f.file < place + length ss
+fault_within left place [] f h = absurd (cc (h))
+fault_within left place (s ∷ ss) f h = by (file_fault s.targets left s.tree) h (fault_within (left - length (file_messages s.tree)) (place + 1) ss f)
   where
     by : (o : Option Fault) → in_file place o (files_fault (left - length (file_messages s.tree)) (place + 1) ss) ≡ Some f
         → (files_fault (left - length (file_messages s.tree)) (place + 1) ss ≡ Some f → f.file < place + 1 + length ss) → f.file < place + suc (length ss)

@@ -6,7 +6,7 @@ use Rattle.std.proofs.lemmas.Bool.Decides.{nat_tests}
 use Rattle.std.proofs.lemmas.List.{append-nil, append_assoc}
 use Rattle.pg_check.specs.declared.fault.Fault.{Fault}
 use Rattle.pg_check.specs.declared.fault.Rule.{Rule}
-use Rattle.pg_check.specs.Faults.{broken, broken_at, chosen, earlier, earliest, first_fault, is_before, option_fault, or_else, order, told_at}
+use Rattle.pg_check.specs.Faults.{broken, broken_at, chosen, earlier, earliest, first_fault, is_before, option_fault, or_else, order, declared_fault}
 use Rattle.pg_check.specs.Firsts.{IsBehind, IsFirst, IsFirstAgain, IsNotAfter, IsOneOf}
 use Rattle.pg_check.specs.Numbers.{first_again, first_such}
 use Rattle.pg_check.proofs.FirstLaws.{new_item, old_item}
@@ -33,9 +33,9 @@ pub broken_meets : (P : Fault → Type 0) (rule : Rule) (o : Option ℕ) → ((n
 broken_meets P rule None k f h = absurd (cc (h))
 broken_meets P rule (Some n) k f h = let same : broken_at rule n ≡ f = cc (h) in subst P same (k n refl)
 
-pub told_meets : (P : Fault → Type 0) (rule : Rule) (declared : ℕ) (o : Option ℕ) → ((n : ℕ) → o ≡ Some n → P (option_fault rule declared n)) → Meets P (told_at rule declared o)
-told_meets P rule declared None k f h = absurd (cc (h))
-told_meets P rule declared (Some n) k f h = let same : option_fault rule declared n ≡ f = cc (h) in subst P same (k n refl)
+pub declared_meets : (P : Fault → Type 0) (rule : Rule) (declared : ℕ) (o : Option ℕ) → ((n : ℕ) → o ≡ Some n → P (option_fault rule declared n)) → Meets P (declared_fault rule declared o)
+declared_meets P rule declared None k f h = absurd (cc (h))
+declared_meets P rule declared (Some n) k f h = let same : option_fault rule declared n ≡ f = cc (h) in subst P same (k n refl)
 
 behind_more : {X : Type 0} (Keeps : X → Type 0) (x : X) (xs : List X) (y : X) → Keeps x → IsBehind Keeps xs y → IsBehind Keeps (x ∷ xs) y
 behind_more Keeps x xs y keeps h = record { before = x ∷ h.before; after = h.after; is = ap (λ ys. x ∷ ys) h.is; before_keep = (keeps, h.before_keep) }
@@ -99,8 +99,8 @@ found_right (Some f) (Some g) d c h = by (is_before f g) refl
 pub broken_found : (rule : Rule) (o : Option ℕ) (n : ℕ) → o ≡ Some n → IsFound (broken rule o) n (order rule)
 broken_found rule o n h = subst (λ p. IsFound (broken rule p) n (order rule)) (sym h) (inr (refl, omega arith))
 
-pub told_found : (rule : Rule) (declared : ℕ) (o : Option ℕ) (n : ℕ) → o ≡ Some n → IsFound (told_at rule declared o) declared (order rule)
-told_found rule declared o n h = subst (λ p. IsFound (told_at rule declared p) declared (order rule)) (sym h) (inr (refl, omega arith))
+pub declared_found : (rule : Rule) (declared : ℕ) (o : Option ℕ) (n : ℕ) → o ≡ Some n → IsFound (declared_fault rule declared o) declared (order rule)
+declared_found rule declared o n h = subst (λ p. IsFound (declared_fault rule declared p) declared (order rule)) (sym h) (inr (refl, omega arith))
 
 or_else_found : (a b : Option Fault) (d c : ℕ) → IsFound a d c → IsFound (or_else a b) d c
 or_else_found None b d c h = absurd h
@@ -135,10 +135,10 @@ earliest_found fault found xs x d c b h = subst (λ ys. IsFound (earliest fault 
 first_more : {X : Type 0} (keeps : X → Bool) (x : X) (xs : List X) (y : X) → keeps x ≡ true → IsFirst keeps xs y → IsFirst keeps (x ∷ xs) y
 first_more keeps x xs y pass h = record { before = x ∷ h.before; after = h.after; is = ap (λ ys. x ∷ ys) h.is; before_pass = and_both _ _ pass h.before_pass; fails = h.fails }
 
-pub such_told : {X : Type 0} (P : ℕ → Type 0) (test keeps : X → Bool) (place : X → ℕ) → ((x : X) → not (test x) ≡ keeps x) → (xs : List X)
+pub such_reported : {X : Type 0} (P : ℕ → Type 0) (test keeps : X → Bool) (place : X → ℕ) → ((x : X) → not (test x) ≡ keeps x) → (xs : List X)
     → ((x : X) → IsFirst keeps xs x → P (place x)) → (n : ℕ) → first_such test place xs ≡ Some n → P n
-such_told P test keeps place iff [] k n h = absurd (cc (h))
-such_told P test keeps place iff (x ∷ xs) k n h = by (test x) (iff x) h (such_told P test keeps place iff xs)
+such_reported P test keeps place iff [] k n h = absurd (cc (h))
+such_reported P test keeps place iff (x ∷ xs) k n h = by (test x) (iff x) h (such_reported P test keeps place iff xs)
   where
     by : (b : Bool) → not b ≡ keeps x → cond b (Some (place x)) (first_such test place xs) ≡ Some n
         → (((y : _) → IsFirst keeps xs y → P (place y)) → (m : ℕ) → first_such test place xs ≡ Some m → P m) → P n
@@ -184,9 +184,9 @@ again_from P same place front (x ∷ xs) k n h = by (list_any (same x) front) re
         (new_item same place front x before e ∙ none)
         (subst (λ ys. list_any (same y) ys ≡ true) (append_assoc front (x ∷ []) before) any)) n g
 
-pub again_told : {X : Type 0} (P : ℕ → Type 0) (same : X → X → Bool) (place : X → ℕ) (xs : List X)
+pub again_reported : {X : Type 0} (P : ℕ → Type 0) (same : X → X → Bool) (place : X → ℕ) (xs : List X)
     → ((x : X) → IsFirstAgain same xs x → P (place x)) → (n : ℕ) → first_again same place [] xs ≡ Some n → P n
-again_told P same place xs k n h =
+again_reported P same place xs k n h =
     again_from P same place [] xs (λ before after x is none any. k x (record {
       before = before;
       after = after;

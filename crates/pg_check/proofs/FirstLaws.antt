@@ -31,7 +31,7 @@ again_found same place xs i d whole h old left =
     sym (old_item same place (take i xs) (get_or xs i d) (drop (i + 1) xs) old)
     ∙ (ap (first_again same place (take i xs)) (sym (item_and_rest xs i d h)) ∙ left)
 
--- a set told that the item is new, or that it isn't
+-- a set answered that the item is new, or that it isn't
 pub was_new : (b held among : Bool) → b ≡ not held → held ≡ among → b ≡ true → among ≡ false
 was_new true false among h e t = sym e
 was_new true true among h e t = absurd (cc (h))

@@ -1,4 +1,4 @@
--- No rule is told of a message exactly where it keeps to the rules.
+-- No rule is reported of a message exactly where it keeps to the rules.
 use Rattle.std.proofs.Common.{◌≡◌, ◌↔◌, ℕ, Bool, true, false, cond, not, nat_lt, ◌||◌, List, map, Option, Some, None, refl}
 use Rattle.std.specs.List.{list_all, AllByRecursion}
 use Rattle.std.proofs.lemmas.Bool.{false≢true}
@@ -9,7 +9,7 @@ use Rattle.pg_check.specs.declared.fault.Rule.{Rule}
 use Rattle.pg_check.specs.declared.fault.Rule.TheVariants as rules
 use Rattle.pg_check.specs.declared.numbers.Keyed.{Keyed}
 use Rattle.pg_check.specs.declared.numbers.Numbers.{Numbers}
-use Rattle.pg_check.specs.Faults.{broken, earlier, first_fault, told_at}
+use Rattle.pg_check.specs.Faults.{broken, earlier, first_fault, declared_fault}
 use Rattle.pg_check.specs.KeepsRules.{ItemsKeep, MessageKeeps, OptionsKeep, are_apart, has_field_number, has_key, is_free, is_free_name, is_no_option, is_packed_rightly, is_right, lies_within, may_be_member, member_options, oneof_keeps, rises}
 use Rattle.pg_check.specs.Members.{DeclaredField, json_named, key_of, members, named, place_of, settings, settings_of}
 use Rattle.pg_check.specs.Messages as messages
@@ -17,7 +17,7 @@ use Rattle.pg_check.specs.Names as names
 use Rattle.pg_check.specs.Numbers as numbers
 use Rattle.pg_check.specs.Options.{OptionAt, first_bad, first_wrong, name_of}
 use Rattle.pg_check.specs.ReservedItems as reserved
-use Rattle.pg_check.proofs.NoneLaws.{all_iff, and_both, and_left, and_right, broken_none, earlier_none, first_fault_none, least_none, none_again, not_not, or_else_none, such_kept, tests_iff, told_none}
+use Rattle.pg_check.proofs.NoneLaws.{all_iff, and_both, and_left, and_right, broken_none, earlier_none, first_fault_none, least_none, none_again, not_not, or_else_none, such_kept, tests_iff, declared_none}
 use Rattle.pg_syntax.specs.declared.tree as tree
 use Rattle.pg_syntax.specs.declared.tree.OneofPart.TheVariants as oneof_parts
 use Rattle.pg_syntax.specs.declared.tree.Part.{Part}
@@ -95,18 +95,18 @@ packed_keeps targets m = by (messages.may_be_packed targets m)
     none : (messages.first_packed (settings (settings_of m)) ≡ None) ↔ (list_all (λ s. not (messages.states_packed s)) (settings (settings_of m)) ≡ true)
     none = such_kept messages.states_packed (λ s. not (messages.states_packed s)) (λ (s : tree.Setting.Setting). s.span.from) (λ s. refl) (settings (settings_of m))
 
-    by : (b : Bool) → (cond b None (told_at rules.PackedNotAllowed (place_of m) (messages.first_packed (settings (settings_of m)))) ≡ None)
+    by : (b : Bool) → (cond b None (declared_fault rules.PackedNotAllowed (place_of m) (messages.first_packed (settings (settings_of m)))) ≡ None)
         ↔ ((b || list_all (λ s. not (messages.states_packed s)) (settings (settings_of m))) ≡ true)
     by true = ((λ h. refl), λ h. refl)
     by false =
-        let told = told_none rules.PackedNotAllowed (place_of m) (messages.first_packed (settings (settings_of m))) in
-        ((λ h. none.0 (told.0 h)), λ h. told.1 (none.1 h))
+        let reported = declared_none rules.PackedNotAllowed (place_of m) (messages.first_packed (settings (settings_of m))) in
+        ((λ h. none.0 (reported.0 h)), λ h. reported.1 (none.1 h))
 
 pub field_options_keep : (m : DeclaredField) → (messages.member_option m ≡ None) ↔ OptionsKeep (member_options m)
 field_options_keep m =
-    let told = told_none rules.BadOption (place_of m) (first_bad (member_options m)) in
+    let reported = declared_none rules.BadOption (place_of m) (first_bad (member_options m)) in
     let all = options_keep (member_options m) in
-    ((λ h. all.0 (told.0 h)), λ k. told.1 (all.1 k))
+    ((λ h. all.0 (reported.0 h)), λ k. reported.1 (all.1 k))
 
 abbrev ShapesKeep : (ℕ → Option Target) → List DeclaredField → Type 0
 ShapesKeep targets ms = (list_all has_key ms ≡ true) × ((list_all may_be_member ms ≡ true) × (AllByRecursion (λ m. OptionsKeep (member_options m)) ms × (list_all (is_packed_rightly targets) ms ≡ true)))
@@ -120,12 +120,12 @@ shapes_keep targets ms =
     let third = earlier_none (first_fault messages.member_option ms) packed_fault in
     let keys = such_kept messages.has_bad_key has_key place_of (λ m. refl) ms in
     let inside = such_kept messages.is_bad_member may_be_member place_of (λ m. refl) ms in
-    let told = first_fault_none messages.member_option ms in
+    let reported = first_fault_none messages.member_option ms in
     let right = all_iff (λ m. messages.member_option m ≡ None) (λ m. OptionsKeep (member_options m)) field_options_keep ms in
     let unpacked = first_fault_none (messages.member_packed targets) ms in
     let packed = tests_iff (λ m. messages.member_packed targets m ≡ None) (is_packed_rightly targets) (packed_keeps targets) ms in (
-      (λ h. let a = first.0 h in let b = second.0 a.1 in let c = third.0 b.1 in (keys.0 a.0, (inside.0 b.0, (right.0 (told.0 c.0), packed.0 (unpacked.0 c.1))))),
-      λ k. first.1 (keys.1 k.0, second.1 (inside.1 k.1.0, third.1 (told.1 (right.1 k.1.1.0), unpacked.1 (packed.1 k.1.1.1)))),
+      (λ h. let a = first.0 h in let b = second.0 a.1 in let c = third.0 b.1 in (keys.0 a.0, (inside.0 b.0, (right.0 (reported.0 c.0), packed.0 (unpacked.0 c.1))))),
+      λ k. first.1 (keys.1 k.0, second.1 (inside.1 k.1.0, third.1 (reported.1 (right.1 k.1.1.0), unpacked.1 (packed.1 k.1.1.1)))),
     )
 
 -- ---- oneofs
@@ -147,10 +147,10 @@ oneof_is (parts.Enum e) = ((λ h. refl), λ h. refl)
 oneof_is (parts.Oneof o) =
     let two = or_else_none (messages.empty_oneof o) (first_fault messages.oneof_option o.parts.items) in
     let one = member_there (messages.has_member o.parts.items) o.name.span.from in
-    let told = first_fault_none messages.oneof_option o.parts.items in
+    let reported = first_fault_none messages.oneof_option o.parts.items in
     let none = tests_iff (λ p. messages.oneof_option p ≡ None) is_no_option no_option o.parts.items in (
-      (λ h. let e = two.0 h in and_both _ _ (one.0 e.0) (none.0 (told.0 e.1))),
-      λ h. two.1 (one.1 (and_left _ _ h), told.1 (none.1 (and_right (messages.has_member o.parts.items) _ h))),
+      (λ h. let e = two.0 h in and_both _ _ (one.0 e.0) (none.0 (reported.0 e.1))),
+      λ h. two.1 (one.1 (and_left _ _ h), reported.1 (none.1 (and_right (messages.has_member o.parts.items) _ h))),
     )
 oneof_is (parts.Option o) = ((λ h. refl), λ h. refl)
 oneof_is (parts.Reserved r) = ((λ h. refl), λ h. refl)
@@ -172,7 +172,7 @@ message_keeps targets body =
     let w = names_keep (messages.reserved_names body) ms in
     let s = shapes_keep targets ms in
     let o = options_keep (messages.lines body) in
-    let told = first_fault_none messages.part_oneof body in
+    let reported = first_fault_none messages.part_oneof body in
     let each = tests_iff (λ p. messages.part_oneof p ≡ None) oneof_keeps oneof_is body in (
       (λ h. let a = first.0 h in let b = second.0 a.1 in let c = third.0 b.1 in let d = fourth.0 c.1 in
           let ns = n.0 a.0 in let ws = w.0 b.0 in let ss = s.0 c.0 in record {
@@ -184,7 +184,7 @@ message_keeps targets body =
             json_names_once = ws.1;
             map_keys = ss.0;
             oneof_members = ss.1.0;
-            oneofs = each.0 (told.0 d.1);
+            oneofs = each.0 (reported.0 d.1);
             options = o.0 d.0;
             field_options = ss.1.1.0;
             packed = ss.1.1.1;
@@ -195,7 +195,7 @@ message_keeps targets body =
           w.1 (k.names_free, k.json_names_once),
           third.1 (
             s.1 (k.map_keys, (k.oneof_members, (k.field_options, k.packed))),
-            fourth.1 (o.1 k.options, told.1 (each.1 k.oneofs)),
+            fourth.1 (o.1 k.options, reported.1 (each.1 k.oneofs)),
           ),
         ),
       ),

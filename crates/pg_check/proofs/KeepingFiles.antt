@@ -1,4 +1,4 @@
--- No rule is told of files exactly where they keep to the rules.
+-- No rule is reported of files exactly where they keep to the rules.
 use Rattle.std.proofs.Common.{◌≡◌, ◌↔◌, ◌+◌, ◌-◌, ◌≤◌, ℕ, zero, suc, Bool, true, false, cond, not, nat_eq, ◌||◌, List, [], ◌∷◌, ◌++◌, length, flat_map, Option, Some, None, sym, subst, refl, arith, length-append}
 use Rattle.std.specs.List.{list_all, AllByRecursion}
 use Rattle.std.proofs.lemmas.Bool.{false≢true}
@@ -19,7 +19,7 @@ use Rattle.pg_check.specs.Options.{first_bad, in_settings}
 use Rattle.pg_check.specs.Outline.{Enum, Message, file_enums, file_messages, statements_behind}
 use Rattle.pg_check.specs.ReservedItems.{items_fault}
 use Rattle.pg_check.proofs.Keeping.{free_names, free_numbers, items_keep, message_keeps, options_keep, rule_then}
-use Rattle.pg_check.proofs.NoneLaws.{all_iff, broken_none, earlier_none, earliest_none, first_fault_none, none_again, not_not, such_kept, told_none}
+use Rattle.pg_check.proofs.NoneLaws.{all_iff, broken_none, earlier_none, earliest_none, first_fault_none, none_again, not_not, such_kept, declared_none}
 use Rattle.pg_syntax.specs.declared.tree as tree
 use Rattle.pg_syntax.specs.declared.tree.EnumPart.TheVariants as enum_parts
 use Rattle.pg_syntax.specs.declared.tree.ServicePart.TheVariants as service_parts
@@ -48,9 +48,9 @@ value_keeps (enum_parts.Empty span) = ((λ h. record { right = refl; once = refl
 value_keeps (enum_parts.Option o) = ((λ h. record { right = refl; once = refl }), λ h. refl)
 value_keeps (enum_parts.Reserved r) = ((λ h. record { right = refl; once = refl }), λ h. refl)
 value_keeps (enum_parts.Value v) =
-    let told = told_none rules.BadOption v.name.span.from (first_bad (in_settings owners.EnumValue v.settings)) in
+    let reported = declared_none rules.BadOption v.name.span.from (first_bad (in_settings owners.EnumValue v.settings)) in
     let all = options_keep (in_settings owners.EnumValue v.settings) in
-    ((λ h. all.0 (told.0 h)), λ k. told.1 (all.1 k))
+    ((λ h. all.0 (reported.0 h)), λ k. reported.1 (all.1 k))
 
 abbrev ValuesKeep : List enums.Part → Type 0
 ValuesKeep body = (list_all has_value_number (enums.keys body) ≡ true) × ((list_all (is_free (enums.items body)) (enums.keys body) ≡ true)
@@ -88,7 +88,7 @@ enum_keeps e =
     let ws = free_names (enums.reserved_names body) (enums.value_names body) in
     let is = items_keep numbers.lowest_value numbers.highest_value (enums.items body) in
     let os = options_keep (enums.lines body) in
-    let told = first_fault_none enums.part_option body in
+    let reported = first_fault_none enums.part_option body in
     let each = all_iff (λ p. enums.part_option p ≡ None) (λ p. OptionsKeep (value_options p)) value_keeps body in (
       (λ h. let t = top.0 h in let a = first.0 t.1 in let b = second.0 a.1 in let c = third.0 b.1 in let d = fourth.0 c.1 in let v = vs.0 a.0 in record {
         has_values = some.0 t.0;
@@ -99,13 +99,13 @@ enum_keeps e =
         reserved = is.0 c.0;
         aliases = v.1.1.1;
         options = os.0 d.0;
-        value_options = each.0 (told.0 d.1);
+        value_options = each.0 (reported.0 d.1);
       }),
       λ k. top.1 (
         some.1 k.has_values,
         first.1 (
           vs.1 (k.numbers_fit, (k.numbers_free, (k.first_value, k.aliases))),
-          second.1 (ws.1 k.names_free, third.1 (is.1 k.reserved, fourth.1 (os.1 k.options, told.1 (each.1 k.value_options)))),
+          second.1 (ws.1 k.names_free, third.1 (is.1 k.reserved, fourth.1 (os.1 k.options, reported.1 (each.1 k.value_options)))),
         ),
       ),
     )
@@ -116,17 +116,17 @@ pub method_keeps : (p : tree.ServicePart.ServicePart) → (files.part_fault p �
 method_keeps (service_parts.Empty span) = ((λ h. record { right = refl; once = refl }), λ h. refl)
 method_keeps (service_parts.Option o) = ((λ h. record { right = refl; once = refl }), λ h. refl)
 method_keeps (service_parts.Rpc r) =
-    let told = broken_none rules.BadOption (first_bad (files.rpc_lines (files.rpc_body r.body))) in
+    let reported = broken_none rules.BadOption (first_bad (files.rpc_lines (files.rpc_body r.body))) in
     let all = options_keep (files.rpc_lines (files.rpc_body r.body)) in
-    ((λ h. all.0 (told.0 h)), λ k. told.1 (all.1 k))
+    ((λ h. all.0 (reported.0 h)), λ k. reported.1 (all.1 k))
 
 service_keeps : (s : tree.Service.Service) → (files.service_fault s ≡ None) ↔ ServiceKeeps s.parts.items
 service_keeps s =
     let two = rule_then rules.BadOption (first_bad (files.service_lines s.parts.items)) (first_fault files.part_fault s.parts.items) in
     let all = options_keep (files.service_lines s.parts.items) in
-    let told = first_fault_none files.part_fault s.parts.items in
+    let reported = first_fault_none files.part_fault s.parts.items in
     let each = all_iff (λ p. files.part_fault p ≡ None) (λ p. OptionsKeep (method_options p)) method_keeps s.parts.items in
-    ((λ h. let e = two.0 h in record { options = all.0 e.0; method_options = each.0 (told.0 e.1) }), λ k. two.1 (all.1 k.options, told.1 (each.1 k.method_options)))
+    ((λ h. let e = two.0 h in record { options = all.0 e.0; method_options = each.0 (reported.0 e.1) }), λ k. two.1 (all.1 k.options, reported.1 (each.1 k.method_options)))
 
 pub statement_keeps : (s : tree.Statement.Statement) → (files.statement_fault s ≡ None) ↔ StatementKeeps s
 statement_keeps (statements.Empty span) = ((λ h. tt), λ h. refl)
@@ -138,9 +138,9 @@ statement_keeps (statements.Service s) = service_keeps s
 
 all_keep : (list : List tree.Statement.Statement) → (first_fault files.statement_fault list ≡ None) ↔ AllByRecursion StatementKeeps list
 all_keep list =
-    let told = first_fault_none files.statement_fault list in
+    let reported = first_fault_none files.statement_fault list in
     let each = all_iff (λ s. files.statement_fault s ≡ None) StatementKeeps statement_keeps list in
-    ((λ h. each.0 (told.0 h)), λ k. told.1 (each.1 k))
+    ((λ h. each.0 (reported.0 h)), λ k. reported.1 (each.1 k))
 
 -- ---- files
 

@@ -5,7 +5,7 @@ use Rattle.std.proofs.lemmas.Bool.{false≢true}
 use Rattle.std.proofs.lemmas.List.Folds.{list_any-append}
 use Rattle.pg_check.specs.declared.fault.Fault.{Fault}
 use Rattle.pg_check.specs.declared.fault.Rule.{Rule}
-use Rattle.pg_check.specs.Faults.{broken, earlier, earliest, first_fault, or_else, told_at}
+use Rattle.pg_check.specs.Faults.{broken, earlier, earliest, first_fault, or_else, declared_fault}
 use Rattle.pg_check.specs.KeepsRules.{are_apart}
 use Rattle.pg_check.specs.Numbers.{first_again, first_such, least}
 
@@ -42,9 +42,9 @@ pub broken_none : (rule : Rule) (o : Option ℕ) → (broken rule o ≡ None) �
 broken_none rule None = ((λ h. refl), λ h. refl)
 broken_none rule (Some n) = ((λ h. absurd (cc (h))), λ h. absurd (cc (h)))
 
-pub told_none : (rule : Rule) (declared : ℕ) (o : Option ℕ) → (told_at rule declared o ≡ None) ↔ (o ≡ None)
-told_none rule declared None = ((λ h. refl), λ h. refl)
-told_none rule declared (Some n) = ((λ h. absurd (cc (h))), λ h. absurd (cc (h)))
+pub declared_none : (rule : Rule) (declared : ℕ) (o : Option ℕ) → (declared_fault rule declared o ≡ None) ↔ (o ≡ None)
+declared_none rule declared None = ((λ h. refl), λ h. refl)
+declared_none rule declared (Some n) = ((λ h. absurd (cc (h))), λ h. absurd (cc (h)))
 
 pub least_none : (a b : Option ℕ) → (least a b ≡ None) ↔ ((a ≡ None) × (b ≡ None))
 least_none None b = ((λ h. (refl, h)), λ h. h.1)

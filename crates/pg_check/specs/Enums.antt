@@ -6,7 +6,7 @@ use Rattle.pg_check.specs.declared.fault.Rule.TheVariants as rules
 use Rattle.pg_check.specs.declared.numbers.Keyed.{Keyed}
 use Rattle.pg_check.specs.declared.numbers.Numbers.{Numbers}
 use Rattle.pg_check.specs.declared.options.Owner.TheVariants as owners
-use Rattle.pg_check.specs.Faults.{broken, told_at, earlier, first_fault}
+use Rattle.pg_check.specs.Faults.{broken, declared_fault, earlier, first_fault}
 use Rattle.pg_check.specs.Names as names
 use Rattle.pg_check.specs.Numbers as numbers
 use Rattle.pg_check.specs.Options.{OptionAt, in_line, in_settings, is_word, first_bad}
@@ -105,7 +105,7 @@ empty_at place [] = Some place
 empty_at place (k ∷ ks) = None
 
 abbrev pub value_option : tree.EnumValue.EnumValue → Option Fault
-value_option v = told_at rules.BadOption v.name.span.from (first_bad (in_settings owners.EnumValue v.settings))
+value_option v = declared_fault rules.BadOption v.name.span.from (first_bad (in_settings owners.EnumValue v.settings))
 
 abbrev pub part_option : Part → Option Fault
 part_option (parts.Empty span) = None

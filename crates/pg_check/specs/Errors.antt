@@ -1,4 +1,4 @@
--- How a broken rule is told.
+-- How a broken rule is reported.
 use Rattle.std.specs.Prelude.{◌≡◌, List, Some, slice_get}
 use Rattle.pg_link.specs.declared.error.Place.{Place}
 use Rattle.pg_link.specs.Walk.{IsPlace}
@@ -26,7 +26,7 @@ error_of rules.PackedNotAllowed place = errors.PackedNotAllowed place
 error_of rules.TooManyTypes place = errors.TooManyTypes place
 error_of rules.EnumEmpty place = errors.EnumEmpty place
 
--- the first rule that the files break is told at its place
+-- the first rule that the files break is reported at its place
 pub record IsTold (files : List Source) (e : CheckError) : Type 0 where
   pub fault : FileFault
   pub is_first : first_broken files ≡ Some fault

@@ -39,23 +39,23 @@ name text at = record { text = text; at = at }
 abbrev pub stated : List ℕ → Bool → ℕ → OptionAt
 stated text is_right at = record { name = text; is_right = is_right; at = at }
 
-abbrev pub told : Rule → ℕ → Option Fault
-told rule at = Some (broken_at rule at)
+abbrev pub reported : Rule → ℕ → Option Fault
+reported rule at = Some (broken_at rule at)
 
 pub record WorkedRules : Type 0 where
   pub highest_number : is_field_number (rank false 536870911) ≡ true
   pub zero_is_none : is_field_number (rank false 0) ≡ false
   pub kept_by_the_runtime : is_field_number (rank false 19000) ≡ false
-  pub beyond : messages.numbers_fault (field 536870912 18 ∷ []) [] ≡ told rules.BadNumber 18
-  pub number_twice : messages.numbers_fault (field 1 24 ∷ field 1 31 ∷ []) [] ≡ told rules.DuplicateNumber 31
-  pub reserved_number : messages.numbers_fault (field 3 35 ∷ []) (item 2 4 21 ∷ []) ≡ told rules.ReservedNumber 35
-  pub ends_are_reserved : messages.numbers_fault (field 4 35 ∷ []) (item 2 4 21 ∷ []) ≡ told rules.ReservedNumber 35
+  pub beyond : messages.numbers_fault (field 536870912 18 ∷ []) [] ≡ reported rules.BadNumber 18
+  pub number_twice : messages.numbers_fault (field 1 24 ∷ field 1 31 ∷ []) [] ≡ reported rules.DuplicateNumber 31
+  pub reserved_number : messages.numbers_fault (field 3 35 ∷ []) (item 2 4 21 ∷ []) ≡ reported rules.ReservedNumber 35
+  pub ends_are_reserved : messages.numbers_fault (field 4 35 ∷ []) (item 2 4 21 ∷ []) ≡ reported rules.ReservedNumber 35
   pub beside_the_item : messages.numbers_fault (field 5 35 ∷ []) (item 2 4 21 ∷ []) ≡ None
-  pub reserved_behind : messages.numbers_fault (field 3 18 ∷ []) (item 2 4 30 ∷ []) ≡ told rules.ReservedNumber 18
-  pub overlapping : messages.numbers_fault [] (item 1 3 21 ∷ item 3 3 29 ∷ []) ≡ told rules.RangeOverlap 29
-  pub falling : messages.numbers_fault [] (item 5 2 21 ∷ []) ≡ told rules.RangeOverlap 21
-  pub falling_holds_none : messages.numbers_fault (field 3 18 ∷ []) (item 5 2 30 ∷ []) ≡ told rules.RangeOverlap 30
-  pub lowest_code : messages.numbers_fault (field 0 24 ∷ field 0 31 ∷ []) [] ≡ told rules.BadNumber 24
+  pub reserved_behind : messages.numbers_fault (field 3 18 ∷ []) (item 2 4 30 ∷ []) ≡ reported rules.ReservedNumber 18
+  pub overlapping : messages.numbers_fault [] (item 1 3 21 ∷ item 3 3 29 ∷ []) ≡ reported rules.RangeOverlap 29
+  pub falling : messages.numbers_fault [] (item 5 2 21 ∷ []) ≡ reported rules.RangeOverlap 21
+  pub falling_holds_none : messages.numbers_fault (field 3 18 ∷ []) (item 5 2 30 ∷ []) ≡ reported rules.RangeOverlap 30
+  pub lowest_code : messages.numbers_fault (field 0 24 ∷ field 0 31 ∷ []) [] ≡ reported rules.BadNumber 24
   pub reserved_name : names.first_among (codes "a" ∷ []) (name (codes "b") 20 ∷ name (codes "a") 32 ∷ []) ≡ Some 32
   pub json_name : default_json_name (codes "foo_bar") ≡ codes "fooBar"
   pub json_name_twice : names.first_twice (name (codes "fooBar") 18 ∷ name (codes "fooBar") 37 ∷ []) ≡ Some 37
@@ -80,7 +80,7 @@ pub record WorkedRules : Type 0 where
   pub packed_text : is_packable (scalar_of (codes "string")) None ≡ false
   pub packed_numbers : is_packable (scalar_of (codes "sint32")) None ≡ true
   pub option_before_packed : earlier (Some (option_fault rules.PackedNotAllowed 19 26)) (Some (option_fault rules.BadOption 19 41)) ≡ Some (option_fault rules.BadOption 19 41)
-  pub first_in_text : earlier (told rules.BadOption 12) (told rules.BadNumber 30) ≡ told rules.BadOption 12
+  pub first_in_text : earlier (reported rules.BadOption 12) (reported rules.BadNumber 30) ≡ reported rules.BadOption 12
   pub made_number : field_number (rank false 7) ≡ 7
   pub lowest_value : value_number (rank true 2147483648) ≡ negsuc 2147483647
   pub highest_value : value_number (rank false 2147483647) ≡ pos 2147483647

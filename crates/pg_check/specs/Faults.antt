@@ -1,4 +1,4 @@
--- Rules that are broken, and which of them is told. That the first in the text is told, and of one declaration the one that
+-- Rules that are broken, and which of them is reported. That it is the first in the text, and of one declaration the one that
 -- comes first among the rules, is this profile's choice.
 use Rattle.std.specs.Prelude.{ℕ, Bool, true, false, nat_lt, nat_le, nat_eq, ◌&&◌, ◌||◌, List, [], ◌∷◌, Option, Some, None}
 use Rattle.std.specs.Option.{option_map}
@@ -48,8 +48,8 @@ broken rule place = option_map (broken_at rule) place
 abbrev pub option_fault : Rule → ℕ → ℕ → Fault
 option_fault rule declared at = record { rule = rule; declared = declared; at = at }
 
-abbrev pub told_at : Rule → ℕ → Option ℕ → Option Fault
-told_at rule declared place = option_map (option_fault rule declared) place
+abbrev pub declared_fault : Rule → ℕ → Option ℕ → Option Fault
+declared_fault rule declared place = option_map (option_fault rule declared) place
 
 abbrev pub or_else : Option Fault → Option Fault → Option Fault
 or_else None other = other

@@ -8,7 +8,7 @@ use Rattle.pg_check.specs.declared.numbers.Numbers.{Numbers}
 use Rattle.pg_check.specs.declared.options.Owner.TheVariants as owners
 use Rattle.pg_link.specs.declared.target.Target.{Target}
 use Rattle.pg_check.specs.Enums.{is_true}
-use Rattle.pg_check.specs.Faults.{broken, told_at, earlier, or_else, first_fault}
+use Rattle.pg_check.specs.Faults.{broken, declared_fault, earlier, or_else, first_fault}
 use Rattle.pg_check.specs.Members.{DeclaredField, Plain, Mapped, members, key_of, named, json_named, place_of, settings, settings_of}
 use Rattle.pg_check.specs.Names as names
 use Rattle.pg_check.specs.Numbers as numbers
@@ -120,7 +120,7 @@ abbrev pub first_member : (DeclaredField → Bool) → List DeclaredField → Op
 first_member test ms = numbers.first_such test place_of ms
 
 abbrev pub member_option : DeclaredField → Option Fault
-member_option m = told_at rules.BadOption (place_of m) (first_bad (in_settings owners.Field (settings_of m)))
+member_option m = declared_fault rules.BadOption (place_of m) (first_bad (in_settings owners.Field (settings_of m)))
 
 abbrev pub is_repeated : Option Label → Bool
 is_repeated None = false
@@ -141,7 +141,7 @@ first_packed list = numbers.first_such states_packed (λ (s : tree.Setting.Setti
 
 abbrev pub member_packed : (ℕ → Option Target) → DeclaredField → Option Fault
 member_packed targets m = if may_be_packed targets m then None
-    else told_at rules.PackedNotAllowed (place_of m) (first_packed (settings (settings_of m)))
+    else declared_fault rules.PackedNotAllowed (place_of m) (first_packed (settings (settings_of m)))
 
 -- ---- the body
 

@@ -1,4 +1,4 @@
--- How a rule is told that parts break which come from no text.
+-- How a rule is reported that parts break which come from no text.
 use Rattle.std.specs.Prelude.{◌≡◌, [], Some, None, string_bytes}
 use Rattle.pg_link.specs.declared.error.Place.{Place}
 use Rattle.pg_schema.specs.declared.parts.Parts.{Parts}
@@ -23,8 +23,8 @@ pub record IsFirstOf (parts : Parts) (e : CheckError) : Type 0 where
   pub is_nowhere : IsNowhere place
   pub is : e ≡ error_of fault.rule place
 
--- want of memory; of parts that are none of a schema the first rule that they break; or, at no place, parts that break none, and yet
--- are none of a schema
+-- out of memory; or, of parts that are none of a schema, the first rule that they break; or, at no place, that they break none and
+-- are none of a schema all the same
 pub data IsRefusedOf (parts : Parts) : CheckError → Type 0 where
   lacking : IsRefusedOf parts Memory
   first : (e : CheckError) → IsFirstOf parts e → (IsSound parts → ⊥) → IsRefusedOf parts e

@@ -1,6 +1,6 @@
--- The rules that parts break which come from no text: those of files, all of them at no place. Told is of the message types in
--- their order, then the enums and the files, the first that breaks one, and of it the rule of the lowest code; more message
--- types than may be come before them. That is this profile's choice.
+-- The rules that parts break which come from no text: those of files, all of them at no place. Reported is the first that breaks
+-- one of the message types in their order, then the enums and the files, and of it the rule of the lowest code. More message
+-- types than may be come before all. That is this profile's choice.
 use Rattle.std.specs.Prelude.{◌≡◌, ℕ, suc, ℤ, pos, negsuc, Bool, true, false, not, nat_le, ◌&&◌, ◌||◌, List, map, length, Option, Some, None, is_some, string_bytes}
 use Rattle.std.specs.BTreeSet.{BTreeSet, contains}
 use Rattle.std.specs.List.{list_any}
@@ -39,8 +39,8 @@ abbrev pub where_broken : Bool → Option ℕ
 where_broken true = Some 0
 where_broken false = None
 
-abbrev pub told : Rule → Bool → Option Fault
-told rule is_broken = broken rule (where_broken is_broken)
+abbrev pub fault_if : Rule → Bool → Option Fault
+fault_if rule is_broken = broken rule (where_broken is_broken)
 
 -- ---- message types
 
@@ -105,8 +105,8 @@ has_bad_oneof t = list_any is_bad_member t.fields.items || not (have_members (le
 
 abbrev pub shapes_fault : MessageType → Option Fault
 shapes_fault t =
-    earlier (told rules.BadMapKey (list_any field_has_bad_key t.fields.items))
-    (earlier (told rules.BadOneofMember (has_bad_oneof t)) (told rules.PackedNotAllowed (list_any field_badly_packed t.fields.items)))
+    earlier (fault_if rules.BadMapKey (list_any field_has_bad_key t.fields.items))
+    (earlier (fault_if rules.BadOneofMember (has_bad_oneof t)) (fault_if rules.PackedNotAllowed (list_any field_badly_packed t.fields.items)))
 
 abbrev pub message_fault : MessageType → Option Fault
 message_fault t = earlier (numbers_fault t) (earlier (names_fault t) (shapes_fault t))
@@ -150,12 +150,12 @@ is_bad_option o = not (is_file_option o)
 -- an option that is unknown, of a wrong kind, or given twice
 abbrev pub file_fault : File → Option Fault
 file_fault f =
-    earlier (told rules.BadOption (list_any is_bad_option f.options.items)) (broken rules.BadOption (numbers.first_twice (map option_key f.options.items)))
+    earlier (fault_if rules.BadOption (list_any is_bad_option f.options.items)) (broken rules.BadOption (numbers.first_twice (map option_key f.options.items)))
 
 -- ---- all parts
 
 abbrev pub types_fault : List MessageType → Option Fault
-types_fault types = or_else (told rules.TooManyTypes (not (nat_le (length types) 4096))) (first_fault message_fault types)
+types_fault types = or_else (fault_if rules.TooManyTypes (not (nat_le (length types) 4096))) (first_fault message_fault types)
 
 -- the first rule that the parts break
 abbrev pub parts_fault : Parts → Option Fault

@@ -1,4 +1,4 @@
--- The code in the fact that a rule is broken is the code that users are told.
+-- The code in the fact that a rule is broken is the code that is printed.
 use Rattle.std.specs.Prelude.{◌≡◌, ℕ}
 use Rattle.pg_link.specs.declared.error.Place.{Place}
 use Rattle.pg_schema.specs.declared.parts.enum_type.EnumType.{EnumType}

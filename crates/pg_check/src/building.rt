@@ -50,7 +50,11 @@ fn sources_of<'a>(
 }
 
 /// The error of the first rule that files break.
-fn told(alloc: Global, files: &[Source<'_>], found: FileFault) -> Result<CheckError, AllocError>
+fn first_error(
+    alloc: Global,
+    files: &[Source<'_>],
+    found: FileFault,
+) -> Result<CheckError, AllocError>
     requires first { first_broken (map source files.now) ≡ Some found }
     requires within { found.file < length files.now }
     ensures { IfOk result (spec.IsTold (map source files.now)) }
@@ -71,7 +75,7 @@ fn schema_of(alloc: Global, files: &[Source<'_>]) -> Result<Schema, CheckError>
     let parts = match declare(alloc, files) {
         Ok(parts) => parts,
         Err(Refusal::Memory) => return Err(CheckError::Memory),
-        Err(Refusal::Broken(found)) => return Err(told(alloc, files, found)?),
+        Err(Refusal::Broken(found)) => return Err(first_error(alloc, files, found)?),
     };
     Ok(Schema::of_sound(alloc, parts)?)
 }

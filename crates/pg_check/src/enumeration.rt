@@ -6,7 +6,7 @@ ghost use Rattle.pg_check.specs.Faults.{first_fault};
 ghost use Rattle.pg_check.specs.Names.{called};
 ghost use Rattle.pg_check.specs.Options.{stated};
 
-use crate::fault::{Fault, Rule, broken, earlier, told_at};
+use crate::fault::{Fault, Rule, broken, declared_fault, earlier};
 use crate::names::{Called, first_among};
 use crate::numbers::{
     HIGHEST_VALUE, Keyed, LOWEST_VALUE, Numbers, ZERO, first_outside, first_reserved, first_twice,
@@ -172,7 +172,7 @@ fn value_option(alloc: Global, value: &EnumValue) -> Result<Option<Fault>, Alloc
 {
     let options = in_settings(alloc, Owner::EnumValue, &value.settings)?;
     let place = first_bad(alloc, &options)?;
-    Ok(told_at(Rule::BadOption, value.name.span.from, place))
+    Ok(declared_fault(Rule::BadOption, value.name.span.from, place))
 }
 
 /// The first rule that the values' options break.

@@ -110,8 +110,8 @@ pub(crate) fn broken(rule: Rule, place: Option<usize>) -> Option<Fault>
 }
 
 /// The fault of a rule that a declaration breaks at an option of it.
-pub(crate) fn told_at(rule: Rule, declared: usize, place: Option<usize>) -> Option<Fault>
-    ensures { result ≡ spec.told_at rule declared place }
+pub(crate) fn declared_fault(rule: Rule, declared: usize, place: Option<usize>) -> Option<Fault>
+    ensures { result ≡ spec.declared_fault rule declared place }
 {
     match place {
         Some(at) => Some(Fault { rule, declared, at }),

@@ -9,7 +9,7 @@ ghost use Rattle.pg_check.specs.Messages as spec;
 ghost use Rattle.pg_check.specs.Options.{stated};
 
 use crate::enumeration::is_true;
-use crate::fault::{Fault, Rule, broken, earlier, told_at};
+use crate::fault::{Fault, Rule, broken, declared_fault, earlier};
 use crate::member::{DeclaredField, json_names, keys, members, names_of};
 use crate::names;
 use crate::numbers::{
@@ -174,7 +174,7 @@ fn member_option(alloc: Global, one: DeclaredField<'_>) -> Result<Option<Fault>,
 {
     let options = in_settings(alloc, Owner::Field, one.settings())?;
     let place = first_bad(alloc, &options)?;
-    Ok(told_at(Rule::BadOption, one.name().span.from, place))
+    Ok(declared_fault(Rule::BadOption, one.name().span.from, place))
 }
 
 /// The first rule that the members' options break.
@@ -246,7 +246,7 @@ fn member_packed(targets: &Targets<'_>, one: &DeclaredField<'_>) -> Option<Fault
         return None;
     }
     let place = first_packed(one.settings());
-    told_at(Rule::PackedNotAllowed, one.name().span.from, place)
+    declared_fault(Rule::PackedNotAllowed, one.name().span.from, place)
 }
 
 /// The first member that states `packed = true` and may not.

@@ -20,8 +20,8 @@ use pg_schema::{
 use std::alloc::{AllocError, Global};
 
 /// The fault of a rule that is broken at no place.
-fn told(rule: Rule, is_broken: bool) -> Option<Fault>
-    ensures { result ≡ spec.told rule is_broken }
+fn fault_if(rule: Rule, is_broken: bool) -> Option<Fault>
+    ensures { result ≡ spec.fault_if rule is_broken }
 {
     if is_broken {
         broken(rule, Some(0))
@@ -175,9 +175,9 @@ fn shapes_fault(alloc: Global, one: &MessageType) -> Result<Option<Fault>, Alloc
 {
     let has_members = have_members(alloc, &one.fields, one.oneofs.as_slice().len())?;
     let has_bad_oneof = have_bad_member(&one.fields) || !has_members;
-    let members = told(Rule::BadOneofMember, has_bad_oneof);
-    let packed = told(Rule::PackedNotAllowed, have_badly_packed(&one.fields));
-    let of_keys = told(Rule::BadMapKey, have_bad_key(&one.fields));
+    let members = fault_if(Rule::BadOneofMember, has_bad_oneof);
+    let packed = fault_if(Rule::PackedNotAllowed, have_badly_packed(&one.fields));
+    let of_keys = fault_if(Rule::BadMapKey, have_bad_key(&one.fields));
     Ok(earlier(of_keys, earlier(members, packed)))
 }
 
@@ -264,7 +264,7 @@ fn file_fault(alloc: Global, file: &File) -> Result<Option<Fault>, AllocError>
 {
     let keys = option_keys(alloc, &file.options)?;
     let twice = numbers::first_twice(alloc, &keys)?;
-    let bad = told(Rule::BadOption, have_bad_option(&file.options));
+    let bad = fault_if(Rule::BadOption, have_bad_option(&file.options));
     Ok(earlier(bad, broken(Rule::BadOption, twice)))
 }
 

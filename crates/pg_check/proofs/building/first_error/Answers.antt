@@ -1,7 +1,7 @@
 use Rattle.std.proofs.Common.{Some, sym, ◌∙◌, ap, option_map}
 use Rattle.std.proofs.lemmas.Option.{slice_get-get_or, slice_get-map}
 use Rattle.pg_check.specs.Sources.{source}
-use Rattle.pg_check.proofs.building.told.Goals as goal
+use Rattle.pg_check.proofs.building.first_error.Goals as goal
 
 pub returns : goal.returns
 returns c = record {
