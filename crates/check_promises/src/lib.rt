@@ -9,8 +9,8 @@ ghost use Rattle.pg_check.specs.BrokenRules.{IsFirstBroken};
 ghost use Rattle.pg_check.specs.Codes as codes;
 ghost use Rattle.pg_check.specs.Declares.{Declares};
 ghost use Rattle.pg_check.specs.Errors as spec;
-ghost use Rattle.pg_check.specs.PartErrors.{IsRefusedOf};
-ghost use Rattle.pg_check.specs.Sources.{linked_sources};
+ghost use Rattle.pg_check.specs.admitting.PartErrors.{IsRefusedOf};
+ghost use Rattle.pg_check.specs.parts.Sources.{linked_sources};
 ghost use Rattle.pg_check.specs.declared.error.CheckError.TheVariants.{Memory};
 
 use pg_check::CheckError;

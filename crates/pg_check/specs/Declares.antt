@@ -4,10 +4,10 @@ use Rattle.pg_schema.specs.declared.parts.Parts.{Parts}
 use Rattle.pg_check.specs.declared.declare.FileFault.{FileFault}
 use Rattle.pg_check.specs.declared.declare.Refusal.{Refusal}
 use Rattle.pg_check.specs.declared.declare.Refusal.TheVariants.{Memory, Broken}
-use Rattle.pg_check.specs.declared.fault.Fault.{Fault}
-use Rattle.pg_check.specs.Files.{file_fault}
-use Rattle.pg_check.specs.MadeParts.{ArePartsOf, Source}
-use Rattle.pg_check.specs.Outline.{file_messages}
+use Rattle.pg_check.specs.declared.rules.fault.Fault.{Fault}
+use Rattle.pg_check.specs.rules.Files.{file_fault}
+use Rattle.pg_check.specs.parts.MadeParts.{ArePartsOf, Source}
+use Rattle.pg_check.specs.rules.Outline.{file_messages}
 
 -- a fault of the file in that place comes before those of others
 abbrev pub in_file : ℕ → Option Fault → Option FileFault → Option FileFault

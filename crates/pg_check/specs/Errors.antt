@@ -5,10 +5,10 @@ use Rattle.pg_link.specs.Walk.{IsPlace}
 use Rattle.pg_check.specs.declared.declare.FileFault.{FileFault}
 use Rattle.pg_check.specs.declared.error.CheckError.{CheckError}
 use Rattle.pg_check.specs.declared.error.CheckError.TheVariants as errors
-use Rattle.pg_check.specs.declared.fault.Rule.{Rule}
-use Rattle.pg_check.specs.declared.fault.Rule.TheVariants as rules
+use Rattle.pg_check.specs.declared.rules.fault.Rule.{Rule}
+use Rattle.pg_check.specs.declared.rules.fault.Rule.TheVariants as rules
 use Rattle.pg_check.specs.Declares.{first_broken}
-use Rattle.pg_check.specs.MadeParts.{Source}
+use Rattle.pg_check.specs.parts.MadeParts.{Source}
 
 abbrev pub error_of : Rule → Place → CheckError
 error_of rules.BadNumber place = errors.BadNumber place

@@ -3,26 +3,26 @@
 use Rattle.std.specs.Prelude.{◌≡◌, ◌≤◌, ℕ, Bool, true, false, List, [], ◌∷◌, ◌++◌, codes, length, Option, Some, None}
 use Rattle.pg_schema.specs.JsonName.{default_json_name}
 use Rattle.pg_schema.specs.ScalarWords.{scalar_of}
-use Rattle.pg_check.specs.declared.fault.Fault.{Fault}
-use Rattle.pg_check.specs.declared.fault.Rule.{Rule}
-use Rattle.pg_check.specs.declared.fault.Rule.TheVariants as rules
-use Rattle.pg_check.specs.declared.numbers.Keyed.{Keyed}
-use Rattle.pg_check.specs.declared.numbers.Numbers.{Numbers}
-use Rattle.pg_check.specs.declared.options.Kind.TheVariants as kinds
-use Rattle.pg_check.specs.declared.options.Owner.TheVariants as owners
-use Rattle.pg_check.specs.Enums as enums
-use Rattle.pg_check.specs.Faults.{broken_at, earlier, option_fault}
-use Rattle.pg_check.specs.Files.{too_many}
-use Rattle.pg_check.specs.MadeNumbers.{field_number, value_number}
-use Rattle.pg_check.specs.Members as members
-use Rattle.pg_check.specs.Messages as messages
-use Rattle.pg_check.specs.Names as names
-use Rattle.pg_check.specs.Numbers.{rank, is_field_number}
-use Rattle.pg_check.specs.declared.options.Owner.{Owner}
-use Rattle.pg_check.specs.Options.{OptionAt, an_option, first_bad, in_brackets, in_line, is_of, is_of_kind, option_named}
-use Rattle.pg_check.specs.Outline.{Message}
-use Rattle.pg_check.specs.ReservedItems.{numbers_of}
-use Rattle.pg_check.specs.Types.{is_key_scalar, is_packable}
+use Rattle.pg_check.specs.declared.rules.fault.Fault.{Fault}
+use Rattle.pg_check.specs.declared.rules.fault.Rule.{Rule}
+use Rattle.pg_check.specs.declared.rules.fault.Rule.TheVariants as rules
+use Rattle.pg_check.specs.declared.rules.numbers.Keyed.{Keyed}
+use Rattle.pg_check.specs.declared.rules.numbers.Numbers.{Numbers}
+use Rattle.pg_check.specs.declared.rules.options.Kind.TheVariants as kinds
+use Rattle.pg_check.specs.declared.rules.options.Owner.TheVariants as owners
+use Rattle.pg_check.specs.rules.Enums as enums
+use Rattle.pg_check.specs.rules.Faults.{broken_at, earlier, option_fault}
+use Rattle.pg_check.specs.rules.Files.{too_many}
+use Rattle.pg_check.specs.parts.MadeNumbers.{field_number, value_number}
+use Rattle.pg_check.specs.rules.Members as members
+use Rattle.pg_check.specs.rules.Messages as messages
+use Rattle.pg_check.specs.rules.Names as names
+use Rattle.pg_check.specs.rules.Numbers.{rank, is_field_number}
+use Rattle.pg_check.specs.declared.rules.options.Owner.{Owner}
+use Rattle.pg_check.specs.rules.Options.{OptionAt, an_option, first_bad, in_brackets, in_line, is_of, is_of_kind, option_named}
+use Rattle.pg_check.specs.rules.Outline.{Message}
+use Rattle.pg_check.specs.rules.ReservedItems.{numbers_of}
+use Rattle.pg_check.specs.rules.Types.{is_key_scalar, is_packable}
 use Rattle.pg_syntax.specs.declared.tree as tree
 use Rattle.pg_syntax.specs.declared.tree.Value.TheVariants as values
 use Rattle.std.specs.Prelude.{pos, negsuc}

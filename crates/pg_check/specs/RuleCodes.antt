@@ -4,10 +4,10 @@ use Rattle.pg_link.specs.declared.error.Place.{Place}
 use Rattle.pg_schema.specs.declared.parts.enum_type.EnumType.{EnumType}
 use Rattle.pg_schema.specs.declared.parts.file.File.{File}
 use Rattle.pg_schema.specs.declared.parts.message_type.MessageType.{MessageType}
-use Rattle.pg_check.specs.BrokenParts.{BreaksEnumType, BreaksFilePart, BreaksType}
-use Rattle.pg_check.specs.BrokenRules.{BreaksFile}
+use Rattle.pg_check.specs.admitting.BrokenParts.{BreaksEnumType, BreaksFilePart, BreaksType}
+use Rattle.pg_check.specs.rules.BrokenRules.{BreaksFile}
 use Rattle.pg_check.specs.Codes.{code_of}
-use Rattle.pg_check.specs.MadeParts.{Source}
+use Rattle.pg_check.specs.parts.MadeParts.{Source}
 use Rattle.pg_check.specs.declared.error.CheckError.{CheckError}
 
 pub record AreRuleCodes : Type 0 where

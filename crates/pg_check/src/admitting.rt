@@ -1,11 +1,15 @@
 //! From parts that come from no text to a checked schema.
 
+mod enum_part_faults;
+mod oneof_members;
+mod part_faults;
+
 ghost use Rattle.std.specs.Prelude.{◌≡◌, IfErr, IfOk, OnOk};
 ghost use Rattle.pg_schema.specs.rules.Sound.{IsSound};
-ghost use Rattle.pg_check.specs.PartErrors.{IsRefusedOf};
+ghost use Rattle.pg_check.specs.admitting.PartErrors.{IsRefusedOf};
 
+use crate::admitting::part_faults::parts_fault;
 use crate::error::{CheckError, error_of};
-use crate::part_faults::parts_fault;
 use pg_link::Place;
 use pg_schema::{Parts, PartsError, Schema};
 use std::alloc::Global;

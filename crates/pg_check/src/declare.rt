@@ -2,15 +2,15 @@
 
 ghost use Rattle.std.specs.Prelude.{◌≡◌, ◌-◌, IfErr, IfOk, length, map};
 ghost use Rattle.pg_check.specs.Declares as spec;
-ghost use Rattle.pg_check.specs.EnumPlaces.{target_in};
-ghost use Rattle.pg_check.specs.Files as files;
-ghost use Rattle.pg_check.specs.Outline.{file_messages};
-ghost use Rattle.pg_check.specs.Sources.{source};
+ghost use Rattle.pg_check.specs.parts.EnumPlaces.{target_in};
+ghost use Rattle.pg_check.specs.rules.Files as files;
+ghost use Rattle.pg_check.specs.rules.Outline.{file_messages};
+ghost use Rattle.pg_check.specs.parts.Sources.{source};
 
-use crate::fault::Fault;
-use crate::file::file_fault;
-use crate::made_parts::{Source, parts_of};
-use crate::outline::{file_enums, file_messages};
+use crate::parts::made_parts::{Source, parts_of};
+use crate::rules::fault::Fault;
+use crate::rules::file::file_fault;
+use crate::rules::outline::{file_enums, file_messages};
 use pg_schema::{MAX_MESSAGE_TYPES, Parts};
 use std::alloc::{AllocError, Global};
 

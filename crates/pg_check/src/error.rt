@@ -3,7 +3,7 @@
 ghost use Rattle.std.specs.Prelude.{◌≡◌};
 ghost use Rattle.pg_check.specs.Errors as spec;
 
-use crate::fault::Rule;
+use crate::rules::fault::Rule;
 use pg_link::Place;
 use std::alloc::{AllocError, Global};
 use thiserror::Error;

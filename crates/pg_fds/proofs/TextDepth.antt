@@ -16,12 +16,12 @@ use Rattle.pg_link.specs.declared.target.Target.{Target}
 use Rattle.pg_link.specs.Linked.{IsLinkedUp, LinkedFiles}
 use Rattle.pg_link.specs.Walk.{Entry, IsParsed}
 use Rattle.pg_check.specs.Declares.{Declares}
-use Rattle.pg_check.specs.ByScope.{Placed, placed_from, type_id, types_in}
-use Rattle.pg_check.specs.MadeNumbers.{index_of}
-use Rattle.pg_check.specs.MadeParts.{Declared, EachIs, FileShape, IsFileOf, IsTypeOf, Source, TypeTree, file_shape, nothing, placed_enums, placed_messages, type_tree, type_trees, with_file, with_files}
-use Rattle.pg_check.specs.Outline.{Message, file_messages, message_scope, package_of}
-use Rattle.pg_check.specs.Sources.{linked_source, linked_sources}
-use Rattle.pg_check.proofs.WordTrees.{file_good}
+use Rattle.pg_check.specs.parts.ByScope.{Placed, placed_from, type_id, types_in}
+use Rattle.pg_check.specs.parts.MadeNumbers.{index_of}
+use Rattle.pg_check.specs.parts.MadeParts.{Declared, EachIs, FileShape, IsFileOf, IsTypeOf, Source, TypeTree, file_shape, nothing, placed_enums, placed_messages, type_tree, type_trees, with_file, with_files}
+use Rattle.pg_check.specs.rules.Outline.{Message, file_messages, message_scope, package_of}
+use Rattle.pg_check.specs.parts.Sources.{linked_source, linked_sources}
+use Rattle.pg_check.proofs.lemmas.parts.WordTrees.{file_good}
 use Rattle.pg_fds.specs.Again.{are_shallow, holds_inside, nest_within}
 use Rattle.pg_fds.proofs.TextLevels.{AreLevelled, file_levelled, words_in}
 use Rattle.pg_fds.proofs.TextPlaces.{index_is}

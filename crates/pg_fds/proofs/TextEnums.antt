@@ -17,11 +17,11 @@ use Rattle.pg_schema.specs.rules.Sound.{IsSound}
 use Rattle.pg_schema.specs.rules.TextSets.{is_among}
 use Rattle.pg_schema.proofs.lemmas.rules.PairLemmas.{and_both, and_left, and_right}
 use Rattle.pg_link.specs.declared.target.Target.{Target}
-use Rattle.pg_check.specs.ByScope.{Placed, enum_id, placed_from, places_in}
-use Rattle.pg_check.specs.MadeEnums.{enumeration, made_enum}
-use Rattle.pg_check.specs.MadeNumbers.{index_of}
-use Rattle.pg_check.specs.MadeParts.{ArePartsOf, Declared, EachIs, IsFileOf, IsTypeOf, Source, TypeTree, file_shape, nothing, placed_enums, placed_messages, type_tree, type_trees, with_file, with_files}
-use Rattle.pg_check.specs.Outline.{Enum, Message, enum_in, enum_scope, enum_stated, file_messages, own_enums, package_enums, package_of, scoped_enums, statements_behind}
+use Rattle.pg_check.specs.parts.ByScope.{Placed, enum_id, placed_from, places_in}
+use Rattle.pg_check.specs.parts.MadeEnums.{enumeration, made_enum}
+use Rattle.pg_check.specs.parts.MadeNumbers.{index_of}
+use Rattle.pg_check.specs.parts.MadeParts.{ArePartsOf, Declared, EachIs, IsFileOf, IsTypeOf, Source, TypeTree, file_shape, nothing, placed_enums, placed_messages, type_tree, type_trees, with_file, with_files}
+use Rattle.pg_check.specs.rules.Outline.{Enum, Message, enum_in, enum_scope, enum_stated, file_messages, own_enums, package_enums, package_of, scoped_enums, statements_behind}
 use Rattle.pg_syntax.specs.declared.tree as tree
 use Rattle.pg_syntax.specs.declared.tree.Part.{Part}
 use Rattle.pg_syntax.specs.declared.tree.Part.TheVariants as parts

@@ -17,10 +17,10 @@ use Rattle.pg_link.specs.Linked.{IsLinkedUp, LinkedFiles}
 use Rattle.pg_link.specs.Outline.{file_imports, imports_in, statements_behind as linked_behind}
 use Rattle.pg_link.specs.Walk.{Entry, outline, path_of}
 use Rattle.pg_check.specs.Declares.{Declares}
-use Rattle.pg_check.specs.MadeFiles.{MadeImport, file_import, import_in, made_imports}
-use Rattle.pg_check.specs.MadeParts.{Declared, EachIs, FileShape, IsFileOf, Source, file_shape, nothing, with_file, with_files}
-use Rattle.pg_check.specs.Outline.{statements_behind}
-use Rattle.pg_check.specs.Sources.{linked_source, linked_sources}
+use Rattle.pg_check.specs.parts.MadeFiles.{MadeImport, file_import, import_in, made_imports}
+use Rattle.pg_check.specs.parts.MadeParts.{Declared, EachIs, FileShape, IsFileOf, Source, file_shape, nothing, with_file, with_files}
+use Rattle.pg_check.specs.rules.Outline.{statements_behind}
+use Rattle.pg_check.specs.parts.Sources.{linked_source, linked_sources}
 use Rattle.pg_syntax.specs.declared.tree as tree
 use Rattle.pg_syntax.specs.declared.tree.Statement.TheVariants as statements
 use Rattle.pg_fds.specs.Again.{imports_apart}

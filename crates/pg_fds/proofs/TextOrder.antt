@@ -2,7 +2,7 @@
 use Rattle.std.proofs.Common.{◌≡◌, ℕ, ◌^◌, ◌≤◌, true, List, length}
 use Rattle.pg_schema.specs.declared.parts.Parts.{Parts}
 use Rattle.pg_schema.specs.rules.Sound.{IsSound}
-use Rattle.pg_check.specs.MadeParts.{ArePartsOf, Source}
+use Rattle.pg_check.specs.parts.MadeParts.{ArePartsOf, Source}
 use Rattle.pg_fds.specs.Again.{are_shallow}
 use Rattle.pg_fds.specs.InOrder.{StandInOrder}
 use Rattle.pg_fds.specs.StatesFiles.{most_deep}

@@ -6,9 +6,9 @@ use Rattle.std.specs.Str.{bytes_eq}
 use Rattle.std.proofs.lemmas.Bool.Decides.{nat_tests}
 use Rattle.std.proofs.lemmas.List.{append-nil}
 use Rattle.std.proofs.lemmas.Slice.Eq.{bytes_eq-Decides}
-use Rattle.pg_check.specs.ByScope.{Placed, placed_from, places_in}
-use Rattle.pg_check.specs.MadeNumbers.{index_of}
-use Rattle.pg_check.specs.Outline.{Message, message_scope}
+use Rattle.pg_check.specs.parts.ByScope.{Placed, placed_from, places_in}
+use Rattle.pg_check.specs.parts.MadeNumbers.{index_of}
+use Rattle.pg_check.specs.rules.Outline.{Message, message_scope}
 use Rattle.pg_fds.proofs.TextTrees.{Trees, Bare, Grown, IsIn, flat}
 
 abbrev pub size : Trees → ℕ

@@ -8,9 +8,9 @@ use Rattle.pg_schema.specs.declared.parts.file.File.{File}
 use Rattle.pg_schema.specs.declared.parts.Parts.{Parts}
 use Rattle.pg_schema.specs.rules.Scopes.{declared_services, service_places}
 use Rattle.pg_schema.specs.rules.Sound.{IsSound}
-use Rattle.pg_check.specs.MadeNumbers.{index_of}
-use Rattle.pg_check.specs.MadeParts.{ArePartsOf, Declared, EachIs, FileShape, IsFileOf, Source, file_services, file_shape, nothing, with_file, with_files}
-use Rattle.pg_check.specs.MadeServices.{MadeService, service, service_ids}
+use Rattle.pg_check.specs.parts.MadeNumbers.{index_of}
+use Rattle.pg_check.specs.parts.MadeParts.{ArePartsOf, Declared, EachIs, FileShape, IsFileOf, Source, file_services, file_shape, nothing, with_file, with_files}
+use Rattle.pg_check.specs.parts.MadeServices.{MadeService, service, service_ids}
 use Rattle.pg_fds.specs.Walks.{places_from}
 use Rattle.pg_fds.proofs.PlacesOnce.{at_most}
 use Rattle.pg_fds.proofs.SoundPlaces.{services_once}

@@ -2,7 +2,7 @@
 use Rattle.std.proofs.Common.{◌≡◌, ◌∙◌, ℕ, List, [], ◌∷◌, ◌++◌, flat_map, refl, sym, ap, ap₂}
 use Rattle.std.specs.Bool.{⊤}
 use Rattle.std.proofs.lemmas.List.{append-nil, append_assoc}
-use Rattle.pg_check.specs.Outline.{Message, all_messages, file_messages, full_name, messages_in, messages_of, package_of, row_list, row_messages, statement_messages, statements_behind}
+use Rattle.pg_check.specs.rules.Outline.{Message, all_messages, file_messages, full_name, messages_in, messages_of, package_of, row_list, row_messages, statement_messages, statements_behind}
 use Rattle.pg_syntax.specs.declared.tree as tree
 use Rattle.pg_syntax.specs.declared.tree.Part.{Part, Row_of-Part, end_of-Part, more_of-Part}
 use Rattle.pg_syntax.specs.declared.tree.Part.TheVariants as parts

@@ -11,9 +11,9 @@ use Rattle.pg_schema.specs.rules.Sound.{IsSound}
 use Rattle.pg_schema.specs.rules.TextSets.{is_among}
 use Rattle.pg_schema.proofs.lemmas.rules.PairLemmas.{and_left, and_right}
 use Rattle.pg_link.specs.declared.target.Target.{Target}
-use Rattle.pg_check.specs.ByScope.{Placed}
-use Rattle.pg_check.specs.MadeParts.{ArePartsOf, Declared, EachIs, FileShape, IsFileOf, IsTypeOf, Source, TypeTree, file_shape, nothing, placed_enums, placed_messages, type_tree, type_trees, with_file, with_files}
-use Rattle.pg_check.specs.Outline.{Message, file_messages, package_of}
+use Rattle.pg_check.specs.parts.ByScope.{Placed}
+use Rattle.pg_check.specs.parts.MadeParts.{ArePartsOf, Declared, EachIs, FileShape, IsFileOf, IsTypeOf, Source, TypeTree, file_shape, nothing, placed_enums, placed_messages, type_tree, type_trees, with_file, with_files}
+use Rattle.pg_check.specs.rules.Outline.{Message, file_messages, package_of}
 use Rattle.pg_fds.specs.Again.{nest_within}
 use Rattle.pg_fds.specs.InOrder.{types_below}
 use Rattle.pg_fds.specs.Walks.{places_from}

@@ -11,8 +11,8 @@ use Rattle.pg_schema.specs.declared.parts.message_type.MessageType.{MessageType}
 use Rattle.pg_schema.specs.rules.Pairs.{are_distinct, differ}
 use Rattle.pg_schema.specs.rules.TextSets.{is_among}
 use Rattle.pg_schema.proofs.lemmas.rules.PairLemmas.{and_left, and_right}
-use Rattle.pg_check.specs.ByScope.{Placed, placed_from, places_in, type_id}
-use Rattle.pg_check.specs.Outline.{Message, message_scope}
+use Rattle.pg_check.specs.parts.ByScope.{Placed, placed_from, places_in, type_id}
+use Rattle.pg_check.specs.rules.Outline.{Message, message_scope}
 use Rattle.pg_fds.specs.Again.{holds_inside, nest_within}
 use Rattle.pg_fds.specs.InOrder.{inner_types, types_below}
 use Rattle.pg_fds.specs.Walks.{places_from}

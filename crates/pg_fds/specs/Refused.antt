@@ -6,7 +6,7 @@ use Rattle.pg_schema.specs.declared.parts.Parts.{Parts}
 use Rattle.pg_schema.specs.rules.Sound.{IsSound}
 use Rattle.pg_check.specs.declared.error.CheckError.{CheckError}
 use Rattle.pg_check.specs.declared.error.CheckError.TheVariants as rules
-use Rattle.pg_check.specs.PartErrors.{IsRefusedOf}
+use Rattle.pg_check.specs.admitting.PartErrors.{IsRefusedOf}
 use Rattle.pg_dyn.specs.reading.Decoding.{dec}
 use Rattle.pg_dyn.specs.Message.{Message}
 use Rattle.pg_dyn.specs.declared.error.DynError.TheVariants as messages

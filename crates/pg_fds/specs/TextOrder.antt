@@ -2,7 +2,7 @@
 use Rattle.pg_schema.specs.declared.parts.Parts.{Parts}
 use Rattle.pg_link.specs.Linked.{IsLinkedUp, LinkedFiles}
 use Rattle.pg_check.specs.Declares.{Declares}
-use Rattle.pg_check.specs.Sources.{linked_sources}
+use Rattle.pg_check.specs.parts.Sources.{linked_sources}
 use Rattle.pg_fds.specs.ReadAgain.{IsReadAgain}
 
 -- the set of each schema that linked files declare is read as that schema

@@ -5,7 +5,7 @@ use Rattle.std.specs.Borrow.{Bor}
 use Rattle.clap.specs.Words.{Text}
 use Rattle.pg_check.specs.Declares.{Declares}
 use Rattle.pg_check.specs.Errors.{IsRefused}
-use Rattle.pg_check.specs.Sources.{linked_sources}
+use Rattle.pg_check.specs.parts.Sources.{linked_sources}
 use Rattle.pg_check.specs.declared.error.CheckError.{CheckError}
 use Rattle.pg_check.specs.declared.error.CheckError.TheVariants as checks
 use Rattle.pg_dyn.specs.declared.error.DynError.TheVariants as messages

@@ -3,7 +3,7 @@ ghost use Rattle.std.specs.Prelude.{◌≡◌, ◌+◌, IfErr, IfOk};
 ghost use Rattle.pg_link.specs.Linked.{IsLinkedUp};
 ghost use Rattle.pg_link.specs.Walk.{IsLinked, world};
 ghost use Rattle.pg_check.specs.Declares.{Declares};
-ghost use Rattle.pg_check.specs.Sources.{linked_sources};
+ghost use Rattle.pg_check.specs.parts.Sources.{linked_sources};
 ghost use Rattle.pg_gate.specs.Failures.{source_failures};
 ghost use Rattle.pg_gate.specs.Files.{IsCompiled, IsErrorOf, IsFaultOf, IsFaultOfRead, IsOfLink, IsOfRules, IsRead, IsSide, IsSideError, paths_of};
 

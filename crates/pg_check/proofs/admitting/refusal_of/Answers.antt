@@ -1,6 +1,6 @@
 use Rattle.std.proofs.Common.{◌∙◌, refl, sym}
 use Rattle.pg_link.specs.declared.error.Place.{Place}
-use Rattle.pg_check.specs.PartErrors.{bad, first, lacking}
+use Rattle.pg_check.specs.admitting.PartErrors.{bad, first, lacking}
 use Rattle.pg_check.proofs.admitting.refusal_of.Goals as goal
 
 pub returns-in-Ok-Some : goal.returns-in-Ok-Some

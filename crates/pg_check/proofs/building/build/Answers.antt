@@ -1,8 +1,8 @@
 use Rattle.std.proofs.Common.{◌≡◌, ◌∙◌, List, map, ap, subst}
 use Rattle.pg_check.specs.Declares.{Declares}
-use Rattle.pg_check.specs.MadeParts.{Source}
-use Rattle.pg_check.specs.Sources.{linked_sources, source}
-use Rattle.pg_check.proofs.SoundParts.{linked_sound}
+use Rattle.pg_check.specs.parts.MadeParts.{Source}
+use Rattle.pg_check.specs.parts.Sources.{linked_sources, source}
+use Rattle.pg_check.proofs.lemmas.parts.SoundParts.{linked_sound}
 use Rattle.pg_check.proofs.building.build.Goals as goal
 
 pub schema_of-requires : goal.schema_of-requires

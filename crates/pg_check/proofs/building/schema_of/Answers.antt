@@ -1,8 +1,8 @@
 use Rattle.std.proofs.Common.{◌≡◌, ◌+◌, ◌<◌, Some, length, map, subst, arith}
 use Rattle.std.proofs.lemmas.List.{length-map}
 use Rattle.pg_check.specs.Declares.{IsBroken, first_broken}
-use Rattle.pg_check.specs.Sources.{source}
-use Rattle.pg_check.proofs.FileFaults.{fault_within}
+use Rattle.pg_check.specs.parts.Sources.{source}
+use Rattle.pg_check.proofs.lemmas.rules.FileFaults.{fault_within}
 use Rattle.pg_check.proofs.building.schema_of.Goals as goal
 
 pub first_error-requires-clause-within : goal.first_error-requires-clause-within

@@ -2,8 +2,8 @@ use Rattle.std.proofs.Common.{◌≡◌, ◌∙◌, ℕ, List, Some, slice_get, 
 use Rattle.std.specs.BTreeMap.{get}
 use Rattle.std.specs.Ordering.{nat_cmp}
 use Rattle.pg_link.specs.Walk.{Entry}
-use Rattle.pg_check.specs.EnumPlaces.{by_scope, enum_places}
-use Rattle.pg_check.proofs.Linking.{one_more_source, scoped}
+use Rattle.pg_check.specs.parts.EnumPlaces.{by_scope, enum_places}
+use Rattle.pg_check.proofs.lemmas.parts.Linking.{one_more_source, scoped}
 use Rattle.pg_check.proofs.building.sources_of.Goals as goal
 
 pub loop-number-preserved : goal.loop-number-preserved

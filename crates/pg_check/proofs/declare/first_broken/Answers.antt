@@ -1,4 +1,4 @@
-use Rattle.pg_check.proofs.FileFaults.{found_fault, next_file}
+use Rattle.pg_check.proofs.lemmas.rules.FileFaults.{found_fault, next_file}
 use Rattle.pg_check.proofs.declare.first_broken.Goals as goal
 
 pub returns-in-Some : goal.returns-in-Some

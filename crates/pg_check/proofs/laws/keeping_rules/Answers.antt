@@ -1,4 +1,4 @@
-use Rattle.pg_check.proofs.KeepingFiles.{none_broken}
+use Rattle.pg_check.proofs.lemmas.rules.KeepingFiles.{none_broken}
 use Rattle.pg_check.proofs.laws.keeping_rules.Goals as goal
 
 pub returns : goal.returns

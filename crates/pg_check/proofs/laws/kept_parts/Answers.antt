@@ -1,4 +1,4 @@
-use Rattle.pg_check.proofs.KeptFiles as kept
+use Rattle.pg_check.proofs.lemmas.parts.KeptFiles as kept
 use Rattle.pg_check.proofs.laws.kept_parts.Goals as goal
 
 pub returns : goal.returns

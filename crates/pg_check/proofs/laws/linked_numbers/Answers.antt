@@ -1,4 +1,4 @@
-use Rattle.pg_check.proofs.NumberedNames.{are_numbered}
+use Rattle.pg_check.proofs.lemmas.parts.NumberedNames.{are_numbered}
 use Rattle.pg_check.proofs.laws.linked_numbers.Goals as goal
 
 pub returns : goal.returns

@@ -1,4 +1,4 @@
-use Rattle.pg_check.proofs.SoundParts.{linked_sound}
+use Rattle.pg_check.proofs.lemmas.parts.SoundParts.{linked_sound}
 use Rattle.pg_check.proofs.laws.linked_parts.Goals as goal
 
 pub returns : goal.returns

@@ -1,5 +1,5 @@
-use Rattle.pg_check.proofs.KeptFiles as kept
-use Rattle.pg_check.proofs.Wholes.{sound_from}
+use Rattle.pg_check.proofs.lemmas.parts.KeptFiles as kept
+use Rattle.pg_check.proofs.lemmas.parts.Wholes.{sound_from}
 use Rattle.pg_check.proofs.laws.named_parts.Goals as goal
 
 pub returns : goal.returns

@@ -1,4 +1,4 @@
-use Rattle.pg_check.proofs.BrokenParts.{none_broken, reported_part}
+use Rattle.pg_check.proofs.lemmas.admitting.BrokenParts.{none_broken, reported_part}
 use Rattle.pg_check.proofs.laws.reported_part_rules.Goals as goal
 
 pub returns-clause-first : goal.returns-clause-first

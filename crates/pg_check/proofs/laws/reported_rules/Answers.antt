@@ -1,4 +1,4 @@
-use Rattle.pg_check.proofs.BrokenFiles.{reported}
+use Rattle.pg_check.proofs.lemmas.rules.BrokenFiles.{reported}
 use Rattle.pg_check.proofs.laws.reported_rules.Goals as goal
 
 pub returns : goal.returns

@@ -1,4 +1,4 @@
-use Rattle.pg_check.proofs.RuleCodes.{file_code, file_part_code, enum_type_code, type_code}
+use Rattle.pg_check.proofs.lemmas.RuleCodes.{file_code, file_part_code, enum_type_code, type_code}
 use Rattle.pg_check.proofs.laws.rule_codes.Goals as goal
 
 pub returns : goal.returns

@@ -1,8 +1,8 @@
 use Rattle.std.proofs.Common.{◌≡◌, ◌≤◌, ℕ, zero, suc, List, [], ◌∷◌, ◌++◌, length, Some, None, refl, arith}
 use Rattle.pg_schema.specs.ScalarWords.{scalar_of}
-use Rattle.pg_check.specs.Files.{too_many}
-use Rattle.pg_check.specs.Options.{option_named}
-use Rattle.pg_check.specs.Outline.{Message}
+use Rattle.pg_check.specs.rules.Files.{too_many}
+use Rattle.pg_check.specs.rules.Options.{option_named}
+use Rattle.pg_check.specs.rules.Outline.{Message}
 use Rattle.pg_check.proofs.laws.worked_rules.Goals as goal
 
 so_many_types : (left : ℕ) (ms : List Message) → length ms ≤ left → too_many left ms ≡ None

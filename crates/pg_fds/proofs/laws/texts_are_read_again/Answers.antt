@@ -1,5 +1,5 @@
-use Rattle.pg_check.specs.Sources.{linked_sources}
-use Rattle.pg_check.proofs.CountableParts.{countable}
+use Rattle.pg_check.specs.parts.Sources.{linked_sources}
+use Rattle.pg_check.proofs.lemmas.parts.CountableParts.{countable}
 use Rattle.pg_fds.proofs.TextDepth.{texts_are_shallow}
 use Rattle.pg_fds.proofs.TextFiles.{texts_import_once, texts_stand_behind}
 use Rattle.pg_fds.proofs.TextOrder.{stand_in_order}

@@ -1,6 +1,0 @@
-use Rattle.std.proofs.Common.{◌≡◌, map, take}
-use Rattle.pg_check.specs.PartFaults.{value_item}
-use Rattle.pg_check.proofs.enum_part_faults.items_of.Given as goal
-
-abbrev pub invariant-loop-range : goal.invariant-loop-range
-invariant-loop-range l = l.items.items ≡ map value_item (take l.range-index l.ranges)

@@ -1,7 +1,0 @@
-use Rattle.std.proofs.Common.{◌≡◌, map, take}
-use Rattle.pg_check.specs.Names.{called}
-use Rattle.pg_check.specs.Enums.{value_names}
-use Rattle.pg_check.proofs.enumeration.value_names.Given as goal
-
-abbrev pub invariant-loop-part : goal.invariant-loop-part
-invariant-loop-part l = map called l.names.items ≡ value_names (take l.part-index l.body)

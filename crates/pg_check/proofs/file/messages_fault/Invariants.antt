@@ -1,9 +1,0 @@
-use Rattle.std.proofs.Common.{◌≡◌, None, map, drop}
-use Rattle.pg_check.specs.Faults.{earliest}
-use Rattle.pg_check.specs.Files.{message_fault}
-use Rattle.pg_check.specs.Outline.{message}
-use Rattle.pg_check.proofs.file.messages_fault.Given as goal
-use Rattle.pg_check.specs.EnumPlaces.{target_in}
-
-abbrev pub invariant-loop-found : goal.invariant-loop-found
-invariant-loop-found l = earliest (message_fault (target_in l.targets)) l.fault (map message (drop l.found-index l.messages)) ≡ earliest (message_fault (target_in l.targets)) None (map message l.messages)

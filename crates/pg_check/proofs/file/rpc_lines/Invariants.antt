@@ -1,7 +1,0 @@
-use Rattle.std.proofs.Common.{◌≡◌, map, take}
-use Rattle.pg_check.specs.Options.{stated}
-use Rattle.pg_check.specs.Files.{rpc_lines}
-use Rattle.pg_check.proofs.file.rpc_lines.Given as goal
-
-abbrev pub invariant-loop-part : goal.invariant-loop-part
-invariant-loop-part l = map stated l.lines.items ≡ rpc_lines (take l.part-index l.body)

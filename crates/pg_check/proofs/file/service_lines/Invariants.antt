@@ -1,7 +1,0 @@
-use Rattle.std.proofs.Common.{◌≡◌, map, take}
-use Rattle.pg_check.specs.Options.{stated}
-use Rattle.pg_check.specs.Files.{service_lines}
-use Rattle.pg_check.proofs.file.service_lines.Given as goal
-
-abbrev pub invariant-loop-part : goal.invariant-loop-part
-invariant-loop-part l = map stated l.lines.items ≡ service_lines (take l.part-index l.body)

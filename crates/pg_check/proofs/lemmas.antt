@@ -1,0 +1,4 @@
+pub mod rules
+pub mod parts
+pub mod admitting
+pub mod RuleCodes

@@ -1,0 +1,2 @@
+pub mod BrokenParts
+pub mod PartMembers

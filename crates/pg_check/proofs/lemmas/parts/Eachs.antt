@@ -1,0 +1,33 @@
+-- Two lists, item by item.
+use Rattle.std.proofs.Common.{◌≡◌, ◌∙◌, ℕ, suc, ◌+◌, ◌<◌, List, [], ◌∷◌, ◌++◌, map, take, get_or, length, sym, subst, ap, refl}
+use Rattle.std.specs.List.{AllByRecursion}
+use Rattle.std.proofs.lemmas.List.{map-append}
+use Rattle.pg_check.specs.parts.MadeParts.{EachIs}
+use Rattle.pg_check.proofs.lemmas.rules.FirstLaws.{take_item}
+
+pub joined_all : {X : Type 0} (P : X → Type 0) (xs ys : List X) → AllByRecursion P xs → AllByRecursion P ys → AllByRecursion P (xs ++ ys)
+joined_all P [] ys h k = k
+joined_all P (x ∷ xs) ys h k = (h.0, joined_all P xs ys h.1 k)
+
+pub each-append : {A B : Type 0} (is : A → B → Type 0) (xs : List A) (ys : List B) (vs : List A) (ws : List B) → EachIs is xs ys → EachIs is vs ws → EachIs is (xs ++ vs) (ys ++ ws)
+each-append is [] [] vs ws h k = k
+each-append is [] (y ∷ ys) vs ws h k = absurd h
+each-append is (x ∷ xs) [] vs ws h k = absurd h
+each-append is (x ∷ xs) (y ∷ ys) vs ws h k = (h.0, each-append is xs ys vs ws h.1 k)
+
+pub each-length : {A B : Type 0} (is : A → B → Type 0) (xs : List A) (ys : List B) → EachIs is xs ys → length xs ≡ length ys
+each-length is [] [] h = refl
+each-length is [] (y ∷ ys) h = absurd h
+each-length is (x ∷ xs) [] h = absurd h
+each-length is (x ∷ xs) (y ∷ ys) h = ap suc (each-length is xs ys h.1)
+
+-- one more item of a list that is looked at, made from it
+pub each-more : {A M W T : Type 0} (is : W → T → Type 0) (make : M → W) (view : A → M) (xs : List A) (i : ℕ) (x : A) (made new : List T) (t : T) → i < length xs → x ≡ get_or xs i x
+    → new ≡ made ++ t ∷ [] → is (make (view x)) t → EachIs is (map make (map view (take i xs))) made → EachIs is (map make (map view (take (i + 1) xs))) new
+each-more is make view xs i x made new t h at added one before =
+    let front = map make (map view (take i xs)) in
+    let item : take (i + 1) xs ≡ take i xs ++ x ∷ [] = take_item xs i x h ∙ ap (λ y. take i xs ++ y ∷ []) (sym at) in
+    let step : map make (map view (take (i + 1) xs)) ≡ front ++ make (view x) ∷ [] =
+    ap (λ ys. map make (map view ys)) item ∙ (ap (map make) (map-append view (take i xs) (x ∷ [])) ∙ map-append make (map view (take i xs)) (view x ∷ [])) in
+    subst (λ ws. EachIs is ws new) (sym step) (subst (EachIs is (front ++ make (view x) ∷ [])) (sym added)
+    (each-append is front made (make (view x) ∷ []) (t ∷ []) before (one, tt)))

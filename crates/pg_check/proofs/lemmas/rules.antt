@@ -1,0 +1,16 @@
+pub mod FirstLaws
+pub mod Texts
+pub mod TextSets
+pub mod Titles
+pub mod Outlines
+pub mod FileFaults
+pub mod FirstFaults
+pub mod BrokenMessages
+pub mod BrokenEnums
+pub mod BrokenFiles
+pub mod Reach
+pub mod NoneLaws
+pub mod Keeping
+pub mod KeepingFiles
+pub mod Halves
+pub mod InARow

@@ -1,8 +1,0 @@
-use Rattle.std.proofs.Common.{◌≡◌, map, take}
-use Rattle.pg_check.specs.Members.{member}
-use Rattle.pg_check.specs.MadeFields.{field, made_field}
-use Rattle.pg_check.proofs.made_field.made_fields.Given as goal
-use Rattle.pg_check.specs.EnumPlaces.{target_in}
-
-abbrev pub invariant-loop-one : goal.invariant-loop-one
-invariant-loop-one l = map field l.fields.items ≡ map (made_field (target_in l.targets)) (map member (take l.one-index l.list))

@@ -1,6 +1,0 @@
-use Rattle.std.proofs.Common.{◌≡◌, drop}
-use Rattle.pg_check.specs.MadeMessages.{deprecated}
-use Rattle.pg_check.proofs.made_message.deprecated.Given as goal
-
-abbrev pub invariant-loop-part : goal.invariant-loop-part
-invariant-loop-part l = deprecated (drop l.part-index l.body) ≡ deprecated l.body

@@ -1,7 +1,0 @@
-use Rattle.std.proofs.Common.{map, take}
-use Rattle.pg_check.specs.MadeParts.{ArePartsOf}
-use Rattle.pg_check.specs.Sources.{source}
-use Rattle.pg_check.proofs.made_parts.parts_of.Given as goal
-
-abbrev pub invariant-loop-file : goal.invariant-loop-file
-invariant-loop-file l = ArePartsOf (map source (take l.file-index l.files)) l.parts

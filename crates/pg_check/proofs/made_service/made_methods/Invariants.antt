@@ -1,7 +1,0 @@
-use Rattle.std.proofs.Common.{◌≡◌, map, take}
-use Rattle.pg_check.specs.MadeServices.{made_methods, method}
-use Rattle.pg_check.proofs.made_service.made_methods.Given as goal
-use Rattle.pg_check.specs.EnumPlaces.{target_in}
-
-abbrev pub invariant-loop-part : goal.invariant-loop-part
-invariant-loop-part l = map method l.methods.items ≡ made_methods (target_in l.targets) (take l.part-index l.body)

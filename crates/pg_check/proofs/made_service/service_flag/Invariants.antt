@@ -1,6 +1,0 @@
-use Rattle.std.proofs.Common.{◌≡◌, drop}
-use Rattle.pg_check.specs.MadeServices.{service_flag}
-use Rattle.pg_check.proofs.made_service.service_flag.Given as goal
-
-abbrev pub invariant-loop-part : goal.invariant-loop-part
-invariant-loop-part l = service_flag (drop l.part-index l.body) ≡ service_flag l.body

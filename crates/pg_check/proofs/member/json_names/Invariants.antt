@@ -1,7 +1,0 @@
-use Rattle.std.proofs.Common.{◌≡◌, map, take}
-use Rattle.pg_check.specs.Names.{titled}
-use Rattle.pg_check.specs.Members.{json_named, member}
-use Rattle.pg_check.proofs.member.json_names.Given as goal
-
-abbrev pub invariant-loop-member : goal.invariant-loop-member
-invariant-loop-member l = map titled l.list.items ≡ map json_named (map member (take l.member-index l.members))

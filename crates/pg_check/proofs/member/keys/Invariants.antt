@@ -1,6 +1,0 @@
-use Rattle.std.proofs.Common.{◌≡◌, map, take}
-use Rattle.pg_check.specs.Members.{key_of, member}
-use Rattle.pg_check.proofs.member.keys.Given as goal
-
-abbrev pub invariant-loop-member : goal.invariant-loop-member
-invariant-loop-member l = l.keys.items ≡ map key_of (map member (take l.member-index l.members))

@@ -1,7 +1,0 @@
-use Rattle.std.proofs.Common.{◌≡◌, map, take}
-use Rattle.pg_check.specs.Names.{called}
-use Rattle.pg_check.specs.Members.{member, named}
-use Rattle.pg_check.proofs.member.names_of.Given as goal
-
-abbrev pub invariant-loop-member : goal.invariant-loop-member
-invariant-loop-member l = map called l.list.items ≡ map named (map member (take l.member-index l.members))

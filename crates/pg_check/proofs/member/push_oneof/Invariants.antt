@@ -1,6 +1,0 @@
-use Rattle.std.proofs.Common.{◌≡◌, ◌++◌, map, take}
-use Rattle.pg_check.specs.Members.{member, oneof_members}
-use Rattle.pg_check.proofs.member.push_oneof.Given as goal
-
-abbrev pub invariant-loop-part : goal.invariant-loop-part
-invariant-loop-part l = map member l.members.items ≡ map member l.fn.members.items ++ oneof_members l.place (take l.part-index l.body)

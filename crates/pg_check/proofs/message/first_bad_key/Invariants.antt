@@ -1,7 +1,0 @@
-use Rattle.std.proofs.Common.{◌≡◌, map, drop}
-use Rattle.pg_check.specs.Members.{member}
-use Rattle.pg_check.specs.Messages.{first_member, has_bad_key}
-use Rattle.pg_check.proofs.message.first_bad_key.Given as goal
-
-abbrev pub invariant-loop-one : goal.invariant-loop-one
-invariant-loop-one l = first_member has_bad_key (map member (drop l.one-index l.list)) ≡ first_member has_bad_key (map member l.list)

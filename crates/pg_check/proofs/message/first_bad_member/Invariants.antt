@@ -1,7 +1,0 @@
-use Rattle.std.proofs.Common.{◌≡◌, map, drop}
-use Rattle.pg_check.specs.Members.{member}
-use Rattle.pg_check.specs.Messages.{first_member, is_bad_member}
-use Rattle.pg_check.proofs.message.first_bad_member.Given as goal
-
-abbrev pub invariant-loop-one : goal.invariant-loop-one
-invariant-loop-one l = first_member is_bad_member (map member (drop l.one-index l.list)) ≡ first_member is_bad_member (map member l.list)

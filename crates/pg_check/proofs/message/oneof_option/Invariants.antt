@@ -1,7 +1,0 @@
-use Rattle.std.proofs.Common.{◌≡◌, drop}
-use Rattle.pg_check.specs.Faults.{first_fault}
-use Rattle.pg_check.specs.Messages.{oneof_option}
-use Rattle.pg_check.proofs.message.oneof_option.Given as goal
-
-abbrev pub invariant-loop-part : goal.invariant-loop-part
-invariant-loop-part l = first_fault oneof_option (drop l.part-index l.body) ≡ first_fault oneof_option l.body

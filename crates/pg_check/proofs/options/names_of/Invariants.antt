@@ -1,7 +1,0 @@
-use Rattle.std.proofs.Common.{◌≡◌, map, take}
-use Rattle.pg_check.specs.Names.{titled}
-use Rattle.pg_check.specs.Options.{name_of, stated}
-use Rattle.pg_check.proofs.options.names_of.Given as goal
-
-abbrev pub invariant-loop-option : goal.invariant-loop-option
-invariant-loop-option l = map titled l.names.items ≡ map name_of (map stated (take l.option-index l.options))

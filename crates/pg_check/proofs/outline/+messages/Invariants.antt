@@ -1,6 +1,0 @@
-use Rattle.std.proofs.Common.{◌≡◌, ◌++◌, flat_map, map, take}
-use Rattle.pg_check.specs.Outline.{message, messages_in}
-use Rattle.pg_check.proofs.outline.+messages.Given as goal
-
-abbrev pub invariant-push_parts-loop-part : goal.invariant-push_parts-loop-part
-invariant-push_parts-loop-part l = map message l.found.items ≡ map message l.fn.found.items ++ flat_map (messages_in l.scope) (take l.part-index l.body)

@@ -1,0 +1,7 @@
+use Rattle.std.proofs.Common.{◌≡◌, ◌+◌, ◌++◌, map, drop}
+use Rattle.pg_check.specs.parts.ByScope.{placed, placed_from}
+use Rattle.pg_check.specs.rules.Outline.{enumeration, enum_scope}
+use Rattle.pg_check.proofs.parts.by_scope.placed_enums.Given as goal
+
+abbrev pub invariant-loop-index : goal.invariant-loop-index
+invariant-loop-index l = map placed l.list.items ++ placed_from (l.before + l.index) (map enum_scope (map enumeration (drop l.index l.found))) ≡ placed_from l.before (map enum_scope (map enumeration l.found))

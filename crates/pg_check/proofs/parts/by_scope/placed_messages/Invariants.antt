@@ -1,0 +1,7 @@
+use Rattle.std.proofs.Common.{◌≡◌, ◌+◌, ◌++◌, map, drop}
+use Rattle.pg_check.specs.parts.ByScope.{placed, placed_from}
+use Rattle.pg_check.specs.rules.Outline.{message, message_scope}
+use Rattle.pg_check.proofs.parts.by_scope.placed_messages.Given as goal
+
+abbrev pub invariant-loop-index : goal.invariant-loop-index
+invariant-loop-index l = map placed l.list.items ++ placed_from (l.before + l.index) (map message_scope (map message (drop l.index l.found))) ≡ placed_from l.before (map message_scope (map message l.found))

@@ -1,0 +1,7 @@
+use Rattle.std.proofs.Common.{◌≡◌, map, take}
+use Rattle.pg_check.specs.rules.Options.{stated}
+use Rattle.pg_check.specs.rules.Enums.{lines}
+use Rattle.pg_check.proofs.rules.enumeration.lines.Given as goal
+
+abbrev pub invariant-loop-part : goal.invariant-loop-part
+invariant-loop-part l = map stated l.lines.items ≡ lines (take l.part-index l.body)

@@ -1,0 +1,8 @@
+use Rattle.std.proofs.Common.{◌≡◌, None, map, drop}
+use Rattle.pg_check.specs.rules.Faults.{earliest}
+use Rattle.pg_check.specs.rules.Files.{found_fault}
+use Rattle.pg_check.specs.rules.Outline.{enumeration}
+use Rattle.pg_check.proofs.rules.file.enums_fault.Given as goal
+
+abbrev pub invariant-loop-found : goal.invariant-loop-found
+invariant-loop-found l = earliest found_fault l.fault (map enumeration (drop l.found-index l.enums)) ≡ earliest found_fault None (map enumeration l.enums)

@@ -1,0 +1,7 @@
+use Rattle.std.proofs.Common.{◌≡◌, map, take}
+use Rattle.pg_check.specs.rules.Names.{called}
+use Rattle.pg_check.specs.rules.Members.{member, named}
+use Rattle.pg_check.proofs.rules.member.names_of.Given as goal
+
+abbrev pub invariant-loop-member : goal.invariant-loop-member
+invariant-loop-member l = map called l.list.items ≡ map named (map member (take l.member-index l.members))

@@ -1,0 +1,8 @@
+use Rattle.std.proofs.Common.{◌≡◌, map, drop}
+use Rattle.pg_check.specs.rules.Faults.{first_fault}
+use Rattle.pg_check.specs.rules.Members.{member}
+use Rattle.pg_check.specs.rules.Messages.{member_option}
+use Rattle.pg_check.proofs.rules.message.member_options.Given as goal
+
+abbrev pub invariant-loop-one : goal.invariant-loop-one
+invariant-loop-one l = first_fault member_option (map member (drop l.one-index l.list)) ≡ first_fault member_option (map member l.list)

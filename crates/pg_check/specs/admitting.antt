@@ -1,0 +1,3 @@
+pub mod PartFaults
+pub mod PartErrors
+pub mod BrokenParts

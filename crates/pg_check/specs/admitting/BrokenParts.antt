@@ -1,0 +1,103 @@
+-- What each error says of parts that come from no text: the fact that doesn't hold, by the words of the rules that files keep to.
+-- Parts have no places, so of each message type, enum and file the lowest code is reported (proto3 language guide, "Assigning Field
+-- Numbers", "Reserved Fields", "Enumerations", "Oneof", "Maps", "JSON Mapping"; proto3 language specification, "Option").
+use Rattle.std.specs.Prelude.{◌≡◌, ◌≤◌, ◌<◌, ℕ, true, false, ◌||◌, List, map, length, string_bytes}
+use Rattle.std.specs.List.{list_all, list_any, AllByRecursion}
+use Rattle.pg_link.specs.declared.error.Place.{Place}
+use Rattle.pg_schema.specs.declared.parts.enum_type.EnumType.{EnumType}
+use Rattle.pg_schema.specs.declared.parts.file.File.{File}
+use Rattle.pg_schema.specs.declared.parts.message_type.MessageType.{MessageType}
+use Rattle.pg_schema.specs.declared.parts.Parts.{Parts}
+use Rattle.pg_schema.specs.rules.Fields.{stated_or}
+use Rattle.pg_check.specs.declared.error.CheckError.{CheckError}
+use Rattle.pg_check.specs.declared.error.CheckError.TheVariants as errors
+use Rattle.pg_check.specs.declared.rules.numbers.Keyed.{Keyed}
+use Rattle.pg_check.specs.declared.rules.numbers.Numbers.{Numbers}
+use Rattle.pg_check.specs.rules.Firsts.{IsBehind}
+use Rattle.pg_check.specs.rules.KeepsRules.{are_apart, begins_with_zero, has_field_number, has_some, is_free, is_free_name, lies_within, rises}
+use Rattle.pg_check.specs.rules.Names as names
+use Rattle.pg_check.specs.rules.Numbers as numbers
+use Rattle.pg_check.specs.admitting.PartErrors.{IsNowhere}
+use Rattle.pg_check.specs.admitting.PartFaults as faults
+use Rattle.pg_check.specs.rules.ReservedItems.{overlap}
+
+-- ---- message types
+
+abbrev pub keys_of : MessageType → List Keyed
+keys_of t = map faults.key_of t.fields.items
+
+abbrev pub items_of : MessageType → List Numbers
+items_of t = map faults.item_of t.reserved_numbers.items
+
+pub data BreaksType (t : MessageType) (place : Place) : CheckError → (code : ℕ) → Type 0 where
+  bad_number : list_all has_field_number (keys_of t) ≡ false → BreaksType t place (errors.BadNumber place) 401
+  duplicate_number : are_apart numbers.is_same (keys_of t) ≡ false → BreaksType t place (errors.DuplicateNumber place) 402
+  reserved_number : list_all (is_free (items_of t)) (keys_of t) ≡ false → BreaksType t place (errors.ReservedNumber place) 403
+  reserved_name : list_all (is_free_name (map string_bytes t.reserved_names.items)) (map faults.name_of t.fields.items) ≡ false →
+      BreaksType t place (errors.ReservedName place) 404
+  item_beyond : list_all (lies_within numbers.lowest_field numbers.highest_field) (items_of t) ≡ false → BreaksType t place (errors.BadNumber place) 401
+  item_falling : list_all rises (items_of t) ≡ false → BreaksType t place (errors.RangeOverlap place) 405
+  items_overlapping : are_apart overlap (items_of t) ≡ false → BreaksType t place (errors.RangeOverlap place) 405
+  json_name_clash : are_apart names.is_same (map faults.json_name_of t.fields.items) ≡ false → BreaksType t place (errors.JsonNameClash place) 406
+  bad_map_key : list_any faults.field_has_bad_key t.fields.items ≡ true → BreaksType t place (errors.BadMapKey place) 407
+  bad_oneof_member : faults.has_bad_oneof t ≡ true → BreaksType t place (errors.BadOneofMember place) 408
+  packed_not_allowed : list_any faults.field_badly_packed t.fields.items ≡ true → BreaksType t place (errors.PackedNotAllowed place) 412
+
+abbrev pub KeepsType : MessageType → Type 0
+KeepsType t = (place : Place) (e : CheckError) (code : ℕ) → BreaksType t place e code → ⊥
+
+-- ---- enums and files
+
+abbrev pub value_keys : EnumType → List Keyed
+value_keys e = map faults.value_key e.values.items
+
+abbrev pub value_items : EnumType → List Numbers
+value_items e = map faults.value_item e.reserved_numbers.items
+
+pub data BreaksEnumType (e : EnumType) (place : Place) : CheckError → (code : ℕ) → Type 0 where
+  reserved_value_number : list_all (is_free (value_items e)) (value_keys e) ≡ false → BreaksEnumType e place (errors.ReservedNumber place) 403
+  reserved_value_name : list_all (is_free_name (map string_bytes e.reserved_names.items)) (map faults.value_name e.values.items) ≡ false →
+      BreaksEnumType e place (errors.ReservedName place) 404
+  value_item_beyond : list_all (lies_within numbers.lowest_value numbers.highest_value) (value_items e) ≡ false → BreaksEnumType e place (errors.BadNumber place) 401
+  value_item_falling : list_all rises (value_items e) ≡ false → BreaksEnumType e place (errors.RangeOverlap place) 405
+  value_items_overlapping : are_apart overlap (value_items e) ≡ false → BreaksEnumType e place (errors.RangeOverlap place) 405
+  first_not_zero : begins_with_zero (value_keys e) ≡ false → BreaksEnumType e place (errors.EnumFirstNotZero place) 409
+  alias : (stated_or e.options.allow_alias false || are_apart numbers.is_same (value_keys e)) ≡ false → BreaksEnumType e place (errors.EnumAlias place) 410
+  no_value : has_some (value_keys e) ≡ false → BreaksEnumType e place (errors.EnumEmpty place) 414
+
+abbrev pub KeepsEnumType : EnumType → Type 0
+KeepsEnumType n = (place : Place) (e : CheckError) (code : ℕ) → BreaksEnumType n place e code → ⊥
+
+pub data BreaksFilePart (f : File) (place : Place) : CheckError → (code : ℕ) → Type 0 where
+  bad_option : list_any faults.is_bad_option f.options.items ≡ true → BreaksFilePart f place (errors.BadOption place) 411
+  option_again : are_apart numbers.is_same (map faults.option_key f.options.items) ≡ false → BreaksFilePart f place (errors.BadOption place) 411
+
+abbrev pub KeepsFilePart : File → Type 0
+KeepsFilePart f = (place : Place) (e : CheckError) (code : ℕ) → BreaksFilePart f place e code → ⊥
+
+-- ---- all parts
+
+-- More message types than may be come first; then of the message types, the enums and the files the first that breaks a rule, and of
+-- it the lowest code.
+pub data BreaksFirst (parts : Parts) (place : Place) : CheckError → Type 0 where
+  too_many_types : 4096 < length parts.types.items → BreaksFirst parts place (errors.TooManyTypes place)
+  in_type : (t : MessageType) (e : CheckError) (code : ℕ) → length parts.types.items ≤ 4096 → IsBehind KeepsType parts.types.items t →
+      BreaksType t place e code → ((other : CheckError) (c : ℕ) → BreaksType t place other c → code ≤ c) → BreaksFirst parts place e
+  in_enum : (n : EnumType) (e : CheckError) (code : ℕ) → length parts.types.items ≤ 4096 → AllByRecursion KeepsType parts.types.items →
+      IsBehind KeepsEnumType parts.enums.items n →
+      BreaksEnumType n place e code → ((other : CheckError) (c : ℕ) → BreaksEnumType n place other c → code ≤ c) → BreaksFirst parts place e
+  in_file : (f : File) (e : CheckError) (code : ℕ) → length parts.types.items ≤ 4096 → AllByRecursion KeepsType parts.types.items →
+      AllByRecursion KeepsEnumType parts.enums.items → IsBehind KeepsFilePart parts.files.items f → BreaksFilePart f place e code → BreaksFirst parts place e
+
+-- No part breaks a rule, and there are no more message types than may be.
+pub record KeepsAll (parts : Parts) : Type 0 where
+  pub few_types : length parts.types.items ≤ 4096
+  pub types : AllByRecursion KeepsType parts.types.items
+  pub enums : AllByRecursion KeepsEnumType parts.enums.items
+  pub files : AllByRecursion KeepsFilePart parts.files.items
+
+-- the error names the first rule that the parts break, at no place
+pub record IsFirstBrokenPart (parts : Parts) (e : CheckError) : Type 0 where
+  pub place : Place
+  pub is_nowhere : IsNowhere place
+  pub breaks : BreaksFirst parts place e

@@ -1,0 +1,13 @@
+pub mod MadeNumbers
+pub mod MadeOptions
+pub mod MadeEnums
+pub mod MadeFields
+pub mod MadeMessages
+pub mod ByScope
+pub mod MadeServices
+pub mod MadeFiles
+pub mod MadeParts
+pub mod EnumPlaces
+pub mod Sources
+pub mod KeptParts
+pub mod NamedParts

@@ -1,0 +1,16 @@
+pub mod Faults
+pub mod Numbers
+pub mod Tops
+pub mod Names
+pub mod ReservedItems
+pub mod Options
+pub mod Enums
+pub mod Types
+pub mod Members
+pub mod Messages
+pub mod Outline
+pub mod Files
+pub mod KeepsRules
+pub mod Firsts
+pub mod Rows
+pub mod BrokenRules

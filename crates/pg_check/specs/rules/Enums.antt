@@ -1,0 +1,138 @@
+-- Enums (proto3 language specification, "Enum definition"; proto3 language guide, "Enumerations", "Reserved Values").
+use Rattle.std.specs.Prelude.{ℕ, Bool, true, false, nat_eq, ◌&&◌, List, [], ◌∷◌, map, flat_map, codes, Option, Some, None, string_bytes, if◌then◌else◌}
+use Rattle.std.specs.List.{list_any}
+use Rattle.pg_check.specs.declared.rules.fault.Fault.{Fault}
+use Rattle.pg_check.specs.declared.rules.fault.Rule.TheVariants as rules
+use Rattle.pg_check.specs.declared.rules.numbers.Keyed.{Keyed}
+use Rattle.pg_check.specs.declared.rules.numbers.Numbers.{Numbers}
+use Rattle.pg_check.specs.declared.rules.options.Owner.TheVariants as owners
+use Rattle.pg_check.specs.rules.Faults.{broken, declared_fault, earlier, first_fault}
+use Rattle.pg_check.specs.rules.Names as names
+use Rattle.pg_check.specs.rules.Numbers as numbers
+use Rattle.pg_check.specs.rules.Options.{OptionAt, in_line, in_settings, is_word, first_bad}
+use Rattle.pg_check.specs.rules.ReservedItems.{numbers_in, names_in, items_fault}
+use Rattle.pg_syntax.specs.declared.tree as tree
+use Rattle.pg_syntax.specs.declared.tree.EnumPart.TheVariants as parts
+use Rattle.pg_syntax.specs.declared.tree.Value.TheVariants as values
+
+abbrev pub Part : Type 0
+Part = tree.EnumPart.EnumPart
+
+abbrev pub value_in : Part → List tree.EnumValue.EnumValue
+value_in (parts.Empty span) = []
+value_in (parts.Option o) = []
+value_in (parts.Reserved r) = []
+value_in (parts.Value v) = v ∷ []
+
+abbrev pub key_of : tree.EnumValue.EnumValue → Keyed
+key_of v = record { key = numbers.rank_of v.number; at = v.name.span.from }
+
+abbrev pub name_of : tree.EnumValue.EnumValue → names.Named
+name_of v = record { text = string_bytes v.name.text; at = v.name.span.from }
+
+-- the values' numbers and names, in order of declaration
+abbrev pub keys_in : Part → List Keyed
+keys_in p = map key_of (value_in p)
+
+abbrev pub keys : List Part → List Keyed
+keys body = flat_map keys_in body
+
+abbrev pub value_names_in : Part → List names.Named
+value_names_in p = map name_of (value_in p)
+
+abbrev pub value_names : List Part → List names.Named
+value_names body = flat_map value_names_in body
+
+-- what is reserved
+abbrev pub items_in : Part → List Numbers
+items_in (parts.Empty span) = []
+items_in (parts.Option o) = []
+items_in (parts.Reserved r) = numbers_in numbers.highest_value r.items
+items_in (parts.Value v) = []
+
+abbrev pub items : List Part → List Numbers
+items body = flat_map items_in body
+
+abbrev pub reserved_names_in : Part → List (List ℕ)
+reserved_names_in (parts.Empty span) = []
+reserved_names_in (parts.Option o) = []
+reserved_names_in (parts.Reserved r) = names_in r.items
+reserved_names_in (parts.Value v) = []
+
+abbrev pub reserved_names : List Part → List (List ℕ)
+reserved_names body = flat_map reserved_names_in body
+
+-- the option statements
+abbrev pub lines_in : Part → List OptionAt
+lines_in (parts.Empty span) = []
+lines_in (parts.Option o) = in_line owners.Enum o ∷ []
+lines_in (parts.Reserved r) = []
+lines_in (parts.Value v) = []
+
+abbrev pub lines : List Part → List OptionAt
+lines body = flat_map lines_in body
+
+-- `allow_alias = true` is stated
+abbrev pub is_true : tree.Value.Value → Bool
+is_true (values.Name d) = is_word (codes "true") d
+is_true (values.Text t) = false
+is_true (values.Number n) = false
+
+abbrev pub allows_alias : Part → Bool
+allows_alias (parts.Empty span) = false
+allows_alias (parts.Option o) = is_word (codes "allow_alias") o.setting.name && is_true o.setting.value
+allows_alias (parts.Reserved r) = false
+allows_alias (parts.Value v) = false
+
+abbrev pub has_aliases : List Part → Bool
+has_aliases body = list_any allows_alias body
+
+-- ---- rules
+
+-- the first value, where it isn't 0
+abbrev pub first_not_zero : List Keyed → Option ℕ
+first_not_zero [] = None
+first_not_zero (k ∷ ks) = if nat_eq k.key (numbers.rank false 0) then None else Some k.at
+
+-- the first value with the number of one before it
+abbrev pub first_alias : Bool → List Keyed → Option ℕ
+first_alias true ks = None
+first_alias false ks = numbers.first_twice ks
+
+-- the enum itself, where it has no value
+abbrev pub empty_at : ℕ → List Keyed → Option ℕ
+empty_at place [] = Some place
+empty_at place (k ∷ ks) = None
+
+abbrev pub value_option : tree.EnumValue.EnumValue → Option Fault
+value_option v = declared_fault rules.BadOption v.name.span.from (first_bad (in_settings owners.EnumValue v.settings))
+
+abbrev pub part_option : Part → Option Fault
+part_option (parts.Empty span) = None
+part_option (parts.Option o) = None
+part_option (parts.Reserved r) = None
+part_option (parts.Value v) = value_option v
+
+abbrev pub numbers_fault : List Part → Option Fault
+numbers_fault body =
+    earlier (broken rules.BadNumber (numbers.first_outside numbers.lowest_value numbers.highest_value (keys body)))
+    (earlier (broken rules.ReservedNumber (numbers.first_reserved (items body) (keys body)))
+    (earlier (broken rules.EnumFirstNotZero (first_not_zero (keys body)))
+    (broken rules.EnumAlias (first_alias (has_aliases body) (keys body)))))
+
+abbrev pub names_fault : List Part → Option Fault
+names_fault body = broken rules.ReservedName (names.first_among (reserved_names body) (value_names body))
+
+abbrev pub options_fault : List Part → Option Fault
+options_fault body = earlier (broken rules.BadOption (first_bad (lines body))) (first_fault part_option body)
+
+abbrev pub body_fault : List Part → Option Fault
+body_fault body =
+    earlier (numbers_fault body)
+    (earlier (names_fault body)
+    (earlier (items_fault numbers.lowest_value numbers.highest_value (items body))
+    (options_fault body)))
+
+-- the first rule that an enum breaks
+abbrev pub enum_fault : tree.Enum.Enum → Option Fault
+enum_fault e = earlier (broken rules.EnumEmpty (empty_at e.name.span.from (keys e.parts.items))) (body_fault e.parts.items)

@@ -1,0 +1,112 @@
+//! What stands in which scope.
+
+ghost use Rattle.std.specs.Prelude.{◌≡◌, ℕ, List, IfOk, map};
+ghost use Rattle.pg_check.specs.parts.ByScope as spec;
+ghost use Rattle.pg_check.specs.rules.Outline as outline;
+
+use crate::parts::made_number::index_of;
+use crate::rules::outline::{FoundEnum, FoundMessage};
+use pg_schema::{EnumId, TypeId};
+use std::alloc::{AllocError, Global};
+use std::collections::BTreeMap;
+
+/// The places of what each scope declares.
+pub(crate) type ByScope = BTreeMap<String, Vec<u32>>;
+
+/// The scopes of message types, with their places; so many stand before.
+pub(crate) fn placed_messages(
+    alloc: Global,
+    before: usize,
+    found: &[FoundMessage<'_>],
+) -> Result<Vec<(String, u32)>, AllocError>
+    ensures { IfOk result (λ list. map spec.placed list.items
+        ≡ spec.placed_from before (map outline.message_scope (map outline.message found.now))) }
+{
+    let mut list = Vec::new(alloc);
+    for (index, one) in found.iter().enumerate() {
+        let place = index_of(before as u128 + index as u128);
+        list.push((one.scope.clone()?, place))?;
+    }
+    Ok(list)
+}
+
+/// The scopes of enums, with their places; so many stand before.
+pub(crate) fn placed_enums(
+    alloc: Global,
+    before: usize,
+    found: &[FoundEnum<'_>],
+) -> Result<Vec<(String, u32)>, AllocError>
+    ensures { IfOk result (λ list. map spec.placed list.items
+        ≡ spec.placed_from before (map outline.enum_scope (map outline.enumeration found.now))) }
+{
+    let mut list = Vec::new(alloc);
+    for (index, one) in found.iter().enumerate() {
+        let place = index_of(before as u128 + index as u128);
+        list.push((one.scope.clone()?, place))?;
+    }
+    Ok(list)
+}
+
+/// The places by their scopes.
+pub(crate) fn grouped(alloc: Global, list: &[(String, u32)]) -> Result<ByScope, AllocError>
+    ensures { IfOk result (λ by_scope. (scope : List ℕ)
+        → spec.in_scope by_scope scope ≡ spec.places_in scope (map spec.placed list.now)) }
+{
+    let mut by_scope: ByScope = BTreeMap::new(alloc);
+    for (scope, place) in list {
+        by_scope.entry(scope.clone()?)?.or_default().push(*place)?;
+    }
+    Ok(by_scope)
+}
+
+/// The message types at these places.
+fn type_ids(alloc: Global, places: &[u32]) -> Result<Vec<TypeId>, AllocError>
+    ensures { IfOk result (λ ids. ids.items ≡ map spec.type_id places.now) }
+{
+    let mut ids = Vec::new(alloc);
+    for place in places {
+        ids.push(TypeId { index: *place })?;
+    }
+    Ok(ids)
+}
+
+/// The enums at these places.
+fn enum_ids(alloc: Global, places: &[u32]) -> Result<Vec<EnumId>, AllocError>
+    ensures { IfOk result (λ ids. ids.items ≡ map spec.enum_id places.now) }
+{
+    let mut ids = Vec::new(alloc);
+    for place in places {
+        ids.push(EnumId { index: *place })?;
+    }
+    Ok(ids)
+}
+
+/// The message types that the scope declares.
+pub(crate) fn types_in(
+    alloc: Global,
+    by_scope: &ByScope,
+    scope: &str,
+) -> Result<Vec<TypeId>, AllocError>
+    ensures { IfOk result (λ ids. ids.items
+        ≡ map spec.type_id (spec.in_scope by_scope.now scope.now)) }
+{
+    match by_scope.get(scope) {
+        Some(places) => type_ids(alloc, places),
+        None => Ok(Vec::new(alloc)),
+    }
+}
+
+/// The enums that the scope declares.
+pub(crate) fn enums_in(
+    alloc: Global,
+    by_scope: &ByScope,
+    scope: &str,
+) -> Result<Vec<EnumId>, AllocError>
+    ensures { IfOk result (λ ids. ids.items
+        ≡ map spec.enum_id (spec.in_scope by_scope.now scope.now)) }
+{
+    match by_scope.get(scope) {
+        Some(places) => enum_ids(alloc, places),
+        None => Ok(Vec::new(alloc)),
+    }
+}
